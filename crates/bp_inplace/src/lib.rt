@@ -1,0 +1,20 @@
+//! The commit of one word in its place.
+#![tactic(auto)]
+
+ghost use Rattle.std.specs.Prelude.{ℕ, ◌<◌, ◌≤◌, length};
+ghost use Rattle.pm_epochs.specs.Crash.{commit};
+ghost use Rattle.pm_region.specs.Memory.{room_in, Adds};
+
+use pm_region::Region;
+
+/// Stores one word alone in its epoch: all stores before it are written back before it, and it before all later ones.
+/// The word is a place in the region, in words. It takes room for three events.
+pub fn commit_word<R: Region>(region: &mut R, word: u32, value: u64)
+    requires in_range { word < length (R.memory region.old).base }
+    requires room { 3 ≤ room_in (R.memory region.old) }
+    ensures { Adds (R.memory region.old) (R.memory region.new) (commit word value) }
+{
+    region.barrier();
+    region.store(word, value);
+    region.barrier();
+}

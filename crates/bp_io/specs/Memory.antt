@@ -1,0 +1,74 @@
+-- What the sources, sinks and files in memory hold.
+use Rattle.std.specs.Prelude.{◌/◌, length, Bool, if◌then◌else◌, List, ℕ, Option, Some, None}
+use Rattle.bp_io.specs.Plans.{Plan}
+use Rattle.bp_io.specs.declared.faults.CallPlan.{CallPlan}
+use Rattle.bp_io.specs.declared.memory_streams.FairSource.{FairSource}
+use Rattle.bp_io.specs.declared.memory_streams.MemSource.{MemSource}
+use Rattle.bp_io.specs.declared.memory_streams.MemSink.{MemSink}
+use Rattle.bp_io.specs.declared.memory_streams.NullSink.{NullSink}
+use Rattle.bp_io.specs.declared.fair_files.FairFiles.{FairFiles}
+use Rattle.bp_io.specs.declared.mem_files.MemFiles.{MemFiles}
+
+-- a plan as the program keeps it
+abbrev pub plan_of : CallPlan → Plan
+plan_of p = record { fail_at = p.fail_at.now; next = p.next }
+
+-- the bytes that are left
+abbrev pub fair_left : FairSource → List ℕ
+fair_left s = s.rest.now
+
+-- the bytes that are left
+abbrev pub mem_left : MemSource → List ℕ
+mem_left s = s.rest.now
+
+-- the most bytes of one piece
+abbrev pub source_most : MemSource → ℕ
+source_most s = s.most
+
+abbrev pub source_plan : MemSource → Plan
+source_plan s = plan_of s.plan
+
+abbrev pub source_faults : MemSource → ℕ
+source_faults s = s.plan.faults
+
+-- the bytes that it took
+abbrev pub mem_taken : MemSink → List ℕ
+mem_taken s = s.bytes.items
+
+-- how many bytes it can still take
+abbrev pub sink_room : MemSink → ℕ
+sink_room s = s.room
+
+abbrev pub sink_plan : MemSink → Plan
+sink_plan s = plan_of s.plan
+
+abbrev pub sink_faults : MemSink → ℕ
+sink_faults s = s.plan.faults
+
+-- how many bytes it took
+abbrev pub null_count : NullSink → ℕ
+null_count s = s.count
+
+-- the bytes of the file of every name
+abbrev pub fair_image : FairFiles → List ℕ
+fair_image s = s.image.bytes.items
+
+abbrev pub fair_attached : FairFiles → Bool
+fair_attached s = s.attached
+
+-- the bytes of the file of every name, where there is one
+abbrev pub mem_image : MemFiles → Option (List ℕ)
+mem_image s = if s.is_there then Some s.image.bytes.items else None
+
+abbrev pub mem_attached : MemFiles → Bool
+mem_attached s = s.is_attached
+
+-- how many whole blocks the attached file has; 0 where none is
+abbrev pub mem_blocks : MemFiles → ℕ
+mem_blocks s = if s.is_attached then length s.image.bytes.items / 4096 else 0
+
+abbrev pub files_plan : MemFiles → Plan
+files_plan s = plan_of s.plan
+
+abbrev pub files_faults : MemFiles → ℕ
+files_faults s = s.plan.faults

@@ -1,0 +1,71 @@
+// The bytes of a file in memory.
+ghost use Rattle.std.specs.Prelude.{◌≡◌, ◌≤◌, ◌<◌, ◌*◌, ◌/◌, vec_capacity, vec_len, length, IfOk};
+ghost use Rattle.bp_io.specs.Files.{block_of, with_block, resized};
+
+use crate::MOST_BLOCKS;
+use std::alloc::{AllocError, Global};
+
+// The bytes of a block.
+const BLOCK: usize = 4096;
+
+// The bytes of the most blocks.
+const ROOM: usize = BLOCK * MOST_BLOCKS as usize;
+
+// A file's bytes, with room for the most blocks from the start, so that no change wants memory.
+#[derive(Drop)]
+pub(crate) struct Image {
+    bytes: Vec<u8>,
+    ghost room: { 67108864 ≤ vec_capacity bytes },
+    ghost fits: { vec_len bytes ≤ 67108864 },
+}
+
+impl Image {
+    pub(crate) fn new(alloc: Global, from: &[u8]) -> Result<Self, AllocError>
+        requires { length from.now ≤ 67108864 }
+        ensures { IfOk result (λ image. image.bytes.items ≡ from.now) }
+    {
+        let mut bytes = Vec::with_capacity(alloc, ROOM)?;
+        bytes.extend_from_slice(from)?;
+        Ok(Image { bytes })
+    }
+
+    pub(crate) fn bytes(&self) -> &[u8]
+        ensures { result.now ≡ self.now.bytes.items }
+    {
+        &self.bytes
+    }
+
+    pub(crate) fn length(&self) -> u64
+        ensures { result ≡ length self.now.bytes.items }
+    {
+        self.bytes.len() as u64
+    }
+
+    pub(crate) fn read_block(&self, i: u32, into: &mut [u8; 4096])
+        requires { i < length self.now.bytes.items / 4096 }
+        ensures { into.new ≡ block_of self.now.bytes.items i }
+    {
+        let at = BLOCK * i as usize;
+        into.copy_from_slice(&self.bytes[at..at + BLOCK]);
+    }
+
+    pub(crate) fn write_block(&mut self, i: u32, from: &[u8; 4096])
+        requires { i < length self.old.bytes.items / 4096 }
+        ensures block { self.new.bytes.items ≡ with_block i from.now self.old.bytes.items }
+        ensures length { length self.new.bytes.items ≡ length self.old.bytes.items }
+    {
+        let at = BLOCK * i as usize;
+        self.bytes[at..at + BLOCK].copy_from_slice(from);
+    }
+
+    pub(crate) fn set_blocks(&mut self, n: u32)
+        requires { n ≤ MOST_BLOCKS }
+        ensures bytes { self.new.bytes.items ≡ resized (4096 * n) self.old.bytes.items }
+        ensures length { length self.new.bytes.items ≡ 4096 * n }
+    {
+        match self.bytes.resize(BLOCK * n as usize, 0) {
+            Ok(()) => (),
+            Err(_) => unreachable!(),
+        }
+    }
+}

@@ -1,0 +1,25 @@
+//! The outside of the file system: where bytes come from (`Source`), where they go (`Sink`), and files
+//! of blocks of 4,096 bytes (`Files`), each with implementations over memory and over std.
+#![tactic(auto)]
+
+mod disk_files;
+mod fair_files;
+mod faults;
+mod files;
+mod image;
+mod mem_files;
+mod memory_streams;
+mod std_streams;
+mod streams;
+
+pub use disk_files::DiskFiles;
+pub use fair_files::FairFiles;
+pub use faults::Failed;
+pub use files::{Files, MOST_BLOCKS};
+pub use mem_files::MemFiles;
+pub use memory_streams::{FairSource, MemSink, MemSource, NullSink};
+pub use std_streams::{StdSink, StdSource};
+pub use streams::{Sink, Source};
+
+#[cfg(test)]
+mod tests;

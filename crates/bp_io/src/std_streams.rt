@@ -1,0 +1,103 @@
+// Readers and writers of std as sources and sinks.
+ghost use Rattle.std.specs.Prelude.{◌≡◌};
+ghost use Rattle.std.specs.Io.{ReadsAtMost, WritesAtMost};
+ghost use Rattle.std.specs.Io.KnownBytes.{ReadConsumes, WriteAppends};
+
+use crate::faults::raise;
+use crate::{Failed, Sink, Source};
+use std::io;
+use std::io::{ErrorKind, Read, Write};
+
+/// A reader of std as a source, as standard input or a file. It tells the bytes that the reader tells;
+/// standard input and files tell none, and that their bytes come in order is trusted, and tested.
+#[derive(Drop)]
+pub struct StdSource<R: Read> {
+    reader: R,
+    faults: u64,
+}
+
+impl<R: Read> StdSource<R> {
+    /// A source over this reader, from where it stands.
+    pub fn new(reader: R) -> Self
+        ensures left { ⟦<StdSource<R> as Source>⟧.left result ≡ R.remaining reader }
+        ensures faults { ⟦<StdSource<R> as Source>⟧.faults result ≡ 0 }
+    {
+        StdSource { reader, faults: 0 }
+    }
+}
+
+// The first answer that is not a signal's interruption.
+fn read_retrying<R: Read>(reader: &mut R, into: &mut [u8]) -> io::Result<usize>
+    ensures bound { ReadsAtMost result into.new }
+    ensures bytes { ReadConsumes (R.remaining reader.old) (R.remaining reader.new) result into.new }
+{
+    for _tries in 1..u64::MAX {
+        match reader.read(into) {
+            Err(e) if e.kind() == ErrorKind::Interrupted => {}
+            answer => return answer,
+        }
+    }
+    reader.read(into)
+}
+
+/// One read of the reader for each call, repeated where a signal interrupted it. Every other error
+/// of the reader is a fault.
+impl<R: Read> Source for StdSource<R> {
+    ghost left = { λ s. R.remaining s.reader };
+
+    ghost faults = { λ s. s.faults };
+
+    fn read(&mut self, into: &mut [u8]) -> Result<usize, Failed> {
+        match read_retrying(&mut self.reader, into) {
+            Ok(count) => Ok(count),
+            Err(_) => Err(raise(&mut self.faults)),
+        }
+    }
+}
+
+/// A writer of std as a sink, as standard output or a file. It tells the bytes that the writer tells;
+/// standard output and files tell none, and that all bytes go there is trusted, and tested.
+#[derive(Drop)]
+pub struct StdSink<W: Write> {
+    writer: W,
+    faults: u64,
+}
+
+impl<W: Write> StdSink<W> {
+    /// A sink over this writer, from where it stands.
+    pub fn new(writer: W) -> Self
+        ensures taken { ⟦<StdSink<W> as Sink>⟧.taken result ≡ W.contents writer }
+        ensures faults { ⟦<StdSink<W> as Sink>⟧.faults result ≡ 0 }
+    {
+        StdSink { writer, faults: 0 }
+    }
+}
+
+// The first answer that is not a signal's interruption.
+fn write_retrying<W: Write>(writer: &mut W, piece: &[u8]) -> io::Result<usize>
+    ensures bound { WritesAtMost result piece.now }
+    ensures bytes { WriteAppends (W.contents writer.old) (W.contents writer.new) result piece.now }
+{
+    for _tries in 1..u64::MAX {
+        match writer.write(piece) {
+            Err(e) if e.kind() == ErrorKind::Interrupted => {}
+            answer => return answer,
+        }
+    }
+    writer.write(piece)
+}
+
+/// One write of the writer for each call, repeated where a signal interrupted it. Every other error
+/// of the writer is a fault, and so is that it takes no byte of a piece that is not empty.
+impl<W: Write> Sink for StdSink<W> {
+    ghost taken = { λ s. W.contents s.writer };
+
+    ghost faults = { λ s. s.faults };
+
+    fn write(&mut self, piece: &[u8]) -> Result<usize, Failed> {
+        match write_retrying(&mut self.writer, piece) {
+            Ok(count) if count > 0 || piece.is_empty() => Ok(count),
+            _ => Err(raise(&mut self.faults)),
+        }
+    }
+}

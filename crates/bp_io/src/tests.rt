@@ -1,0 +1,233 @@
+// What no clause says: the edge to std, and each call once on its happy path.
+use super::*;
+use std::io::{ErrorKind, Read, Write};
+use std::test::Fail;
+use std::{fs, io};
+
+#[test]
+fn disk_files_keep_blocks(rt: HostRuntime) -> Result<(), Fail> {
+    let mut files = DiskFiles::new(&rt);
+    assert_eq!(rt; files.attach("disk.img", false), Ok(None));
+    assert_eq!(rt; files.attach("disk.img", true), Ok(Some(0)));
+    assert_eq!(rt; files.set_blocks(8), Ok(()));
+    let block = [77u8; 4096];
+    assert_eq!(rt; files.write_block(3, &block), Ok(()));
+    assert_eq!(rt; files.flush(), Ok(()));
+    let bytes = fs::read(&rt, "disk.img")?;
+    assert_eq!(rt; bytes.len(), 32_768);
+    for (at, want) in [(12_287, 0), (12_288, 77), (16_383, 77), (16_384, 0)] {
+        assert_eq!(rt; bytes.get(at).copied(), Some(want), "at {at}");
+    }
+    let mut again = DiskFiles::new(&rt);
+    assert_eq!(rt; again.attach("disk.img", false), Ok(Some(32_768)));
+    let mut read = [1u8; 4096];
+    assert_eq!(rt; again.read_block(3, &mut read), Ok(()));
+    assert!(rt; read == block);
+    assert_eq!(rt; again.read_block(4, &mut read), Ok(()));
+    assert!(rt; read == [0u8; 4096]);
+    assert_eq!(rt; again.attach("disk.img", false), Ok(Some(32_768)));
+    assert_eq!(rt; again.set_blocks(2), Ok(()));
+    assert_eq!(rt; fs::read(&rt, "disk.img")?.len(), 8192);
+    fs::remove_file(&rt, "disk.img")?;
+    Ok(())
+}
+
+#[test]
+fn disk_files_report_faults(rt: HostRuntime) {
+    for (name, make) in [
+        ("no/such/disk.img", true),
+        (".", false),
+        ("/dev/null", false),
+        ("/dev/full", true),
+    ] {
+        let mut files = DiskFiles::new(&rt);
+        assert_eq!(rt; files.attach(name, make), Err(Failed), "at {name}");
+    }
+}
+
+#[test]
+fn disk_files_miss_a_lost_block(rt: HostRuntime) -> Result<(), Fail> {
+    fs::write(&rt, "short.img", [5u8; 8192].as_slice())?;
+    let mut files = DiskFiles::new(&rt);
+    let length = files.attach("short.img", false);
+    fs::write(&rt, "short.img", [5u8; 5000].as_slice())?;
+    fs::remove_file(&rt, "short.img")?;
+    assert_eq!(rt; length, Ok(Some(8192)));
+    let mut read = [0u8; 4096];
+    assert_eq!(rt; files.read_block(1, &mut read), Err(Failed));
+    Ok(())
+}
+
+// A signal interrupts the first calls; then it gives and takes one byte at a time.
+#[derive(Drop)]
+struct Interrupted {
+    signals: u32,
+}
+
+impl Interrupted {
+    fn signal(&mut self) -> io::Result<()> {
+        if self.signals == 0 {
+            return Ok(());
+        }
+        self.signals -= 1;
+        Err(ErrorKind::Interrupted.into())
+    }
+}
+
+impl Read for Interrupted {
+    fn read(&mut self, into: &mut [u8]) -> io::Result<usize> {
+        match (self.signal(), into.first_mut()) {
+            (Err(e), _) => Err(e),
+            (Ok(()), None) => Ok(0),
+            (Ok(()), Some(first)) => {
+                *first = 7;
+                Ok(1)
+            }
+        }
+    }
+}
+
+impl Write for Interrupted {
+    fn write(&mut self, piece: &[u8]) -> io::Result<usize> {
+        match self.signal() {
+            Ok(()) => Ok(piece.len().min(1)),
+            Err(e) => Err(e),
+        }
+    }
+
+    fn flush(&mut self) -> io::Result<()> {
+        Ok(())
+    }
+}
+
+// It takes no byte.
+#[derive(Drop)]
+struct Stuck;
+
+impl Write for Stuck {
+    fn write(&mut self, _piece: &[u8]) -> io::Result<usize> {
+        Ok(0)
+    }
+
+    fn flush(&mut self) -> io::Result<()> {
+        Ok(())
+    }
+}
+
+#[test]
+fn std_source_reads_a_file(rt: HostRuntime) -> Result<(), Fail> {
+    fs::write(&rt, "in", "hello")?;
+    let mut source = StdSource::new(fs::open(&rt, "in")?);
+    let mut into = [0u8; 3];
+    assert_eq!(rt; source.read(&mut into), Ok(3));
+    assert!(rt; into == *b"hel");
+    assert_eq!(rt; source.read(&mut into), Ok(2));
+    assert!(rt; into == *b"lol");
+    assert_eq!(rt; source.read(&mut into), Ok(0));
+    fs::remove_file(&rt, "in")?;
+    let mut folder = StdSource::new(fs::open(&rt, ".")?);
+    assert_eq!(rt; folder.read(&mut into), Err(Failed));
+    let mut interrupted = StdSource::new(Interrupted { signals: 3 });
+    assert_eq!(rt; interrupted.read(&mut into), Ok(1));
+    assert!(rt; into == [7, b'o', b'l']);
+    Ok(())
+}
+
+#[test]
+fn std_sink_writes_a_file(rt: HostRuntime) -> Result<(), Fail> {
+    let mut sink = StdSink::new(fs::create(&rt, "replies")?);
+    assert_eq!(rt; sink.write(b"ok\n"), Ok(3));
+    assert_eq!(rt; sink.write(b""), Ok(0));
+    assert_eq!(rt; fs::read(&rt, "replies")?.as_slice(), b"ok\n".as_slice());
+    fs::remove_file(&rt, "replies")?;
+    let mut full = StdSink::new(fs::create(&rt, "/dev/full")?);
+    assert_eq!(rt; full.write(b"ok\n"), Err(Failed));
+    let mut interrupted = StdSink::new(Interrupted { signals: 3 });
+    assert_eq!(rt; interrupted.write(b"ok\n"), Ok(1));
+    let mut stuck = StdSink::new(Stuck);
+    assert_eq!(rt; stuck.write(b""), Ok(0));
+    assert_eq!(rt; stuck.write(b"ok\n"), Err(Failed));
+    Ok(())
+}
+
+#[test]
+fn memory_sources_give_pieces(rt: HostRuntime) {
+    let mut into = [0u8; 9];
+    let mut fair = FairSource::new(b"hello world");
+    assert_eq!(rt; fair.read(&mut into), Ok(9));
+    assert!(rt; into == *b"hello wor");
+    assert_eq!(rt; fair.read(&mut into), Ok(2));
+    assert_eq!(rt; fair.read(&mut into), Ok(0));
+    for (most, first, second) in [(1, 1, 1), (7, 7, 4)] {
+        let mut source = MemSource::new(b"hello world", most, &[1]);
+        assert_eq!(rt; source.read(&mut into), Ok(first), "pieces of {most}");
+        assert_eq!(rt; source.read(&mut into), Err(Failed), "pieces of {most}");
+        assert_eq!(rt; source.read(&mut into), Ok(second), "pieces of {most}");
+    }
+}
+
+#[test]
+fn memory_sinks_take_pieces(rt: HostRuntime) -> Result<(), Fail> {
+    let mut sink = MemSink::new(rt.alloc(), 9, &[1])?;
+    assert_eq!(rt; sink.write(b"h"), Ok(1));
+    assert_eq!(rt; sink.write(b"lost"), Err(Failed));
+    assert_eq!(rt; sink.write(b"ello wo"), Ok(7));
+    assert_eq!(rt; sink.write(b"rld"), Ok(1));
+    assert_eq!(rt; sink.write(b"ld"), Err(Failed));
+    assert_eq!(rt; sink.write(b""), Ok(0));
+    assert_eq!(rt; sink.bytes(), b"hello wor".as_slice());
+    let mut null = NullSink::new();
+    assert_eq!(rt; null.write(b"ok\n"), Ok(3));
+    assert_eq!(rt; null.write(b"ok\n"), Ok(3));
+    assert_eq!(rt; null.count(), 6);
+    Ok(())
+}
+
+#[test]
+fn memory_files_keep_blocks(rt: HostRuntime) -> Result<(), Fail> {
+    let mut fair = FairFiles::new(rt.alloc(), &[5; 5000])?;
+    assert_eq!(rt; fair.attach("disk.img", false), Ok(Some(5000)));
+    assert_eq!(rt; fair.set_blocks(2), Ok(()));
+    assert_eq!(rt; fair.attach("disk.img", false), Ok(Some(8192)));
+    let mut read = [1u8; 4096];
+    assert_eq!(rt; fair.read_block(1, &mut read), Ok(()));
+    assert!(rt; read.starts_with(&[5; 904]));
+    assert!(rt; read.ends_with(&[0; 3192]));
+    assert_eq!(rt; fair.attach("disk.img", false), Ok(Some(8192)));
+    assert_eq!(rt; fair.write_block(0, &read), Ok(()));
+    assert_eq!(rt; fair.flush(), Ok(()));
+    assert!(rt; fair.image().starts_with(&read));
+    assert_eq!(rt; fair.image().len(), 8192);
+    Ok(())
+}
+
+#[test]
+fn memory_files_fail_as_planned(rt: HostRuntime) -> Result<(), Fail> {
+    let mut files = MemFiles::new(rt.alloc(), None, &[1, 3])?;
+    assert_eq!(rt; files.attach("disk.img", false), Ok(None));
+    assert_eq!(rt; files.attach("disk.img", true), Err(Failed));
+    assert!(rt; files.image().is_none());
+    assert_eq!(rt; files.attach("disk.img", true), Ok(Some(0)));
+    assert_eq!(rt; files.set_blocks(1), Err(Failed));
+    assert_eq!(rt; files.set_blocks(1), Ok(()));
+    assert_eq!(rt; files.image(), Some([0u8; 4096].as_slice()));
+    Ok(())
+}
+
+#[test]
+fn blocks_fail_as_planned(rt: HostRuntime) -> Result<(), Fail> {
+    let block = [77u8; 4096];
+    let mut files = MemFiles::new(rt.alloc(), Some(&[0; 4096]), &[1, 4, 7])?;
+    assert_eq!(rt; files.attach("disk.img", false), Ok(Some(4096)));
+    assert_eq!(rt; files.write_block(0, &block), Err(Failed));
+    assert_eq!(rt; files.write_block(0, &block), Ok(()));
+    assert_eq!(rt; files.attach("disk.img", false), Ok(Some(4096)));
+    let mut read = [1u8; 4096];
+    assert_eq!(rt; files.read_block(0, &mut read), Err(Failed));
+    assert_eq!(rt; files.read_block(0, &mut read), Ok(()));
+    assert!(rt; read == block);
+    assert_eq!(rt; files.attach("disk.img", false), Ok(Some(4096)));
+    assert_eq!(rt; files.flush(), Err(Failed));
+    assert_eq!(rt; files.flush(), Ok(()));
+    Ok(())
+}

@@ -1,0 +1,31 @@
+-- Stores of values that may stand at their words, and stores of which a crash may keep any.
+use Rattle.std.specs.Prelude.{◌≡◌, ◌⊎◌, ℕ, List, [], ◌∷◌, length, slice_index, slice_set}
+use Rattle.pm_epochs.specs.declared.event.Event.{Event}
+use Rattle.pm_epochs.specs.declared.event.Event.TheVariants.{Store, Barrier, Mark}
+use Rattle.pm_epochs.specs.Crash.{Likeness}
+
+-- each store of the log puts a value that may stand at its word
+abbrev pub StoresMay : (ℕ → ℕ → Type 0) → List Event → Type 0
+StoresMay May [] = Unit {0}
+StoresMay May (Store word value ∷ events) = May word value × StoresMay May events
+StoresMay May (Barrier ∷ events) = StoresMay May events
+StoresMay May (Mark ∷ events) = StoresMay May events
+
+-- any value may stand at these words
+abbrev pub AnyAt : (ℕ → Type 0) → ℕ → ℕ → Type 0
+AnyAt Inside word value = Inside word
+
+-- as many words, and each is as before or has a value that may stand there
+pub record EachMay (May : ℕ → ℕ → Type 0) (old new : List ℕ) : Type 0 where
+  pub size : length new ≡ length old
+  pub each : (word : ℕ) → (slice_index new word ≡ slice_index old word) ⊎ May word (slice_index new word)
+
+-- the stores of these values at these words, in a row
+abbrev pub links_of : List (ℕ × ℕ) → List Event
+links_of [] = []
+links_of (link ∷ links) = Store link.0 link.1 ∷ links_of links
+
+-- whichever of the links are done over these words, the base is like what they make
+abbrev pub AnyOf : Likeness → List ℕ → List ℕ → List (ℕ × ℕ) → Type 0
+AnyOf Same base words [] = Same base words
+AnyOf Same base words (link ∷ links) = AnyOf Same base words links × AnyOf Same base (slice_set words link.0 link.1) links

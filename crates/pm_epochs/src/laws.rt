@@ -1,0 +1,78 @@
+ghost use Rattle.std.specs.Prelude.{◌≡◌, ℕ, ◌⊎◌, Bool, IsTrue, List, [], ◌∷◌, ◌++◌};
+ghost use Rattle.pm_epochs.specs.declared.event.Event.{Event};
+ghost use Rattle.pm_epochs.specs.declared.event.Event.TheVariants.{Store, Barrier, Mark};
+ghost use Rattle.pm_epochs.specs.Log.{words_after, marks, IsClosed};
+ghost use Rattle.pm_epochs.specs.Replay.{Cut, IsRight, IsReplay, kept_calls, IsGreatestKept};
+ghost use Rattle.pm_epochs.specs.Crash.{CrashRight, IsQuiet, commit};
+ghost use Rattle.pm_epochs.specs.May.{StoresMay, EachMay, links_of, AnyOf};
+
+/// A relation between the words of two memories, as "they stand for the same tree". Words that are like themselves are
+/// well formed.
+pub trait Likeness {
+    ghost same: { List ℕ → List ℕ → Type 0 };
+
+    ghost symmetric: { (first second : List ℕ) → same first second → same second first };
+
+    ghost transitive: { (first second third : List ℕ) → same first second → same second third → same first third };
+}
+
+/// The kept calls of a right cut are as many as have each store before their mark kept.
+pub fn kept_calls_are_greatest()
+    ensures { (events : List Event) (cut : Cut) → IsRight events cut → IsGreatestKept events cut (kept_calls events cut) }
+{}
+
+/// Where each store of the first log has a barrier behind it, a replay of two logs in a row is one of the
+/// first, or one of the second over the words that the first leaves.
+pub fn replays_of_joined_logs()
+    ensures { (base : List ℕ) (first rest : List Event) → IsClosed first → (image : List ℕ) → IsReplay base (first ++ rest) image →
+        IsReplay base first image ⊎ IsReplay (words_after base first) rest image }
+{}
+
+/// Quiet pieces, the first of them closed, are quiet together.
+pub fn quiet_pieces<L: Likeness>()
+    ensures { (base : List ℕ) (first rest : List Event) → IsClosed first → IsQuiet L.same base first →
+        IsQuiet L.same (words_after base first) rest → IsQuiet L.same base (first ++ rest) }
+{}
+
+/// Stores of values that may stand at their words are quiet where nobody sees the difference.
+pub fn quiet_where_nobody_looks<L: Likeness>()
+    ensures { (base : List ℕ) (events : List Event) (may : ℕ → ℕ → Bool) →
+        ((image : List ℕ) → EachMay (λ word value. IsTrue (may word value)) base image → L.same base image) →
+        StoresMay (λ word value. IsTrue (may word value)) events → IsQuiet L.same base events }
+{}
+
+/// Links in one epoch are quiet where nobody sees which of them are done.
+pub fn quiet_whichever_is_kept<L: Likeness>()
+    ensures { (base : List ℕ) (links : List (ℕ × ℕ)) → AnyOf L.same base base links → IsQuiet L.same base (links_of links ++ Barrier ∷ []) }
+{}
+
+/// A quiet preparation with one store alone in its epoch is quiet where that leaves words like those before.
+pub fn quiet_commit<L: Likeness>()
+    ensures { (base : List ℕ) (prepared : List Event) (word value : ℕ) → IsQuiet L.same base prepared →
+        L.same (words_after base (prepared ++ commit word value)) base → IsQuiet L.same base (prepared ++ commit word value) }
+{}
+
+/// A log that is right and closed may go on with one that is right over the words that the first leaves.
+pub fn right_logs_in_a_row<L: Likeness>()
+    ensures { (base : List ℕ) (first rest : List Event) → IsClosed first → CrashRight L.same base first →
+        CrashRight L.same (words_after base first) rest → CrashRight L.same base (first ++ rest) }
+{}
+
+/// A call that prepares quietly and then commits by one store alone in its epoch is right.
+pub fn committed_call<L: Likeness>()
+    ensures right { (base : List ℕ) (prepared : List Event) (word value : ℕ) → marks prepared ≡ 0 → IsQuiet L.same base prepared →
+        let new = words_after base (prepared ++ commit word value) in
+        L.same new new → CrashRight L.same base (prepared ++ commit word value ++ Mark ∷ []) }
+    ensures closed { (prepared : List Event) (word value : ℕ) → IsClosed (prepared ++ commit word value ++ Mark ∷ []) }
+{}
+
+/// A call without a store is right, and so is no call.
+pub fn call_without_store<L: Likeness>()
+    ensures mark { (base : List ℕ) → L.same base base → CrashRight L.same base (Mark ∷ []) }
+    ensures nothing { (base : List ℕ) → L.same base base → CrashRight L.same base [] }
+{}
+
+/// What a crash may leave in the middle of a call it may leave at the call's end.
+pub fn replays_of_a_front()
+    ensures { (base : List ℕ) (front rest : List Event) (image : List ℕ) → IsReplay base front image → IsReplay base (front ++ rest) image }
+{}

@@ -1,0 +1,255 @@
+ghost use Rattle.std.specs.Prelude.{◌≡◌, ℕ, ◌<◌, ◌≤◌, ◌↔◌, [], ◌∷◌, ◌++◌, IsOk, IfOk, MatchOption, List, slice_index, length};
+ghost use Rattle.pm_epochs.specs.Log.{word_after, barriers, marks, epoch_stores};
+ghost use Rattle.pm_epochs.specs.Replay.{IsRight, stores_of, replay, marks_of, kept_calls as kept_calls_of};
+ghost use Rattle.pm_epochs.specs.Keeping.{keeps, epoch_behind, mask_behind};
+
+use super::choice::{BadChoice, Choice};
+use super::event::Event;
+
+/// How many calls a crash kept whole, and how many there were.
+#[derive(Clone, Copy, Debug, PartialEq, Eq)]
+pub struct Kept {
+    /// Calls that are kept.
+    pub c: usize,
+    /// Calls in the log: its marks.
+    pub n: usize,
+}
+
+/// Goes through a log, and says of each event whether it is a store that is kept.
+#[derive(Drop)]
+pub struct Keeper<'a> {
+    /// How many barriers are still to come before the epoch that the mask is for.
+    pub epoch: usize,
+    /// Which stores of that epoch are kept, of those still to come. None where it has ended.
+    pub mask: &'a [bool],
+}
+
+impl Keeper<'_> {
+    /// Takes the next event, and says whether it is a store that is kept.
+    pub fn keeps(&mut self, event: Event) -> bool
+        ensures kept { result ≡ keeps self.old.epoch self.old.mask.now event }
+        ensures epoch { self.new.epoch ≡ epoch_behind self.old.epoch event }
+        ensures mask { self.new.mask.now ≡ mask_behind self.old.epoch self.old.mask.now event }
+    {
+        match event {
+            Event::Store { .. } => {
+                if self.epoch > 0 {
+                    return true;
+                }
+                match self.mask.split_first() {
+                    Some((keep, mask)) => {
+                        self.mask = mask;
+                        *keep
+                    }
+                    None => false,
+                }
+            }
+            Event::Barrier => {
+                if self.epoch > 0 {
+                    self.epoch -= 1;
+                } else {
+                    self.mask = &[];
+                }
+                false
+            }
+            Event::Mark => false,
+        }
+    }
+}
+
+/// How many stores an epoch has, or none where there are fewer barriers.
+fn epoch_len(events: &[Event], epoch: usize) -> Option<usize>
+    ensures { MatchOption result (barriers events.now < epoch) (λ count. (epoch ≤ barriers events.now) × (count ≡ epoch_stores epoch events.now)) }
+{
+    let mut left = epoch;
+    let mut count = 0;
+    for event in events {
+        match event {
+            Event::Store { .. } => {
+                if left == 0 {
+                    count += 1;
+                }
+            }
+            Event::Barrier => {
+                if left == 0 {
+                    return Some(count);
+                }
+                left -= 1;
+            }
+            Event::Mark => {}
+        }
+    }
+    if left == 0 { Some(count) } else { None }
+}
+
+/// One word after the stores that are kept.
+fn word_of(base: u64, events: &[Event], epoch: usize, mask: &[bool], word: u32) -> u64
+    ensures { result ≡ word_after base (stores_of epoch mask.now events.now) word }
+{
+    let mut keeper = Keeper { epoch, mask };
+    let mut now = base;
+    for event in events {
+        let kept = keeper.keeps(*event);
+        match *event {
+            Event::Store { word: place, value } => {
+                if kept && place == word {
+                    now = value;
+                }
+            }
+            Event::Barrier => {}
+            Event::Mark => {}
+        }
+    }
+    now
+}
+
+/// The marks before the first store that is not kept.
+fn calls_of(events: &[Event], epoch: usize, mask: &[bool]) -> usize
+    ensures { result ≡ marks_of epoch mask.now events.now }
+{
+    let mut keeper = Keeper { epoch, mask };
+    let mut calls = 0;
+    for event in events {
+        let kept = keeper.keeps(*event);
+        match event {
+            Event::Store { .. } => {
+                if !kept {
+                    return calls;
+                }
+            }
+            Event::Barrier => {}
+            Event::Mark => calls += 1,
+        }
+    }
+    calls
+}
+
+fn mark_count(events: &[Event]) -> usize
+    ensures { result ≡ marks events.now }
+{
+    let mut count = 0;
+    for event in events {
+        if let Event::Mark = event {
+            count += 1;
+        }
+    }
+    count
+}
+
+/// Whether a choice is right for a log. `BadChoice` is the answer where it is not.
+pub fn check_choice(events: &[Event], choice: &Choice) -> Result<(), BadChoice>
+    ensures { IsOk result ↔ IsRight events.now choice.now.cut }
+{
+    if choice.moment() > events.len() {
+        return Err(BadChoice);
+    }
+    match epoch_len(&events[..choice.moment()], choice.epoch()) {
+        Some(count) if choice.mask().len() <= count => Ok(()),
+        _ => Err(BadChoice),
+    }
+}
+
+/// What a crash leaves of the word at place `word`, in any memory that had `base` there before the log. `BadChoice` is the
+/// answer where the choice is not right for the log.
+pub fn replay_word(
+    base: u64,
+    events: &[Event],
+    choice: &Choice,
+    word: u32,
+) -> Result<u64, BadChoice>
+    ensures right { IsOk result ↔ IsRight events.now choice.now.cut }
+    ensures value { IfOk result (λ value. (words : List ℕ) → word < length words → slice_index words word ≡ base →
+        slice_index (replay words events.now choice.now.cut) word ≡ value) }
+{
+    check_choice(events, choice)?;
+    Ok(word_of(
+        base,
+        &events[..choice.moment()],
+        choice.epoch(),
+        choice.mask(),
+        word,
+    ))
+}
+
+/// How many calls a crash keeps: those each of whose stores, and each store before them, is kept. `BadChoice` is the answer
+/// where the choice is not right for the log.
+pub fn kept_calls(events: &[Event], choice: &Choice) -> Result<Kept, BadChoice>
+    ensures right { IsOk result ↔ IsRight events.now choice.now.cut }
+    ensures kept { IfOk result (λ kept. kept.c ≡ kept_calls_of events.now choice.now.cut) }
+    ensures of { IfOk result (λ kept. kept.n ≡ marks events.now) }
+{
+    check_choice(events, choice)?;
+    Ok(Kept {
+        c: calls_of(events, choice.epoch(), choice.mask()),
+        n: mark_count(events),
+    })
+}
+
+#[cfg(test)]
+mod tests {
+    use super::*;
+    use std::alloc::{AllocError, Global};
+    use std::test::Fail;
+
+    fn chosen(
+        alloc: Global,
+        moment: usize,
+        epoch: usize,
+        mask: &[bool],
+    ) -> Result<Choice, AllocError> {
+        let mut choice = Choice::new(alloc, 8)?;
+        choice.start(moment, epoch);
+        for keep in mask {
+            if choice.mask().len() < choice.room() {
+                choice.push(*keep);
+            }
+        }
+        Ok(choice)
+    }
+
+    #[test]
+    fn replays_of_two_epochs(rt: HostRuntime) -> Result<(), Fail> {
+        let events = [
+            Event::Store { word: 0, value: 1 },
+            Event::Store { word: 1, value: 2 },
+            Event::Store { word: 0, value: 3 },
+            Event::Barrier,
+            Event::Store { word: 2, value: 4 },
+        ];
+        let right: [(usize, &[bool], [u64; 3]); 4] = [
+            (0, &[false, false, true], [3, 0, 0]),
+            (0, &[false, true, false], [0, 2, 0]),
+            (1, &[], [3, 2, 0]),
+            (1, &[true], [3, 2, 4]),
+        ];
+        for (epoch, mask, words) in &right {
+            let choice = chosen(rt.alloc(), 5, *epoch, *mask)?;
+            for word in 0..3u32 {
+                let value = replay_word(0, &events, &choice, word).ok();
+                assert_eq!(rt; value, Some(words[word as usize]), "{epoch} {word}");
+            }
+        }
+        let bad: [(usize, usize, &[bool]); 3] = [(2, 1, &[]), (5, 1, &[true, true]), (6, 0, &[])];
+        for (moment, epoch, mask) in &bad {
+            let choice = chosen(rt.alloc(), *moment, *epoch, *mask)?;
+            assert_eq!(rt; check_choice(&events, &choice), Err(BadChoice));
+        }
+        Ok(())
+    }
+
+    #[test]
+    fn calls_without_a_store_are_kept(rt: HostRuntime) -> Result<(), Fail> {
+        let events = [
+            Event::Mark,
+            Event::Store { word: 0, value: 1 },
+            Event::Barrier,
+            Event::Mark,
+            Event::Mark,
+        ];
+        let none = chosen(rt.alloc(), 0, 0, &[])?;
+        assert_eq!(rt; kept_calls(&events, &none).ok(), Some(Kept { c: 1, n: 3 }));
+        let all = chosen(rt.alloc(), 5, 1, &[])?;
+        assert_eq!(rt; kept_calls(&events, &all).ok(), Some(Kept { c: 3, n: 3 }));
+        Ok(())
+    }
+}

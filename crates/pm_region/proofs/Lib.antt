@@ -1,0 +1,4 @@
+pub mod MemoryLaws
+pub mod SafeLaws
+pub mod MayLaws
+mod PutBack

@@ -1,0 +1,63 @@
+-- Memories to whose logs events are added, and memories that are drained.
+use Rattle.std.proofs.Common.{◌≡◌, ℕ, ◌+◌, ◌-◌, ◌≤◌, true, false, Bool, List, [], ◌∷◌, ◌++◌, length, drop, refl, sym, ◌∙◌, ap, arith}
+use Rattle.std.specs.Prelude.{nat_lt, if◌then◌else◌}
+use Rattle.std.proofs.lemmas.Bool.{ltb-false}
+use Rattle.std.proofs.lemmas.List.{append_assoc, append-nil, length-append}
+use Rattle.pm_epochs.specs.declared.event.Event.{Event}
+use Rattle.pm_epochs.specs.Log.{words_after, IsPiece}
+use Rattle.pm_epochs.proofs.CrashLaws.{words_after-append, length-words_after}
+use Rattle.pm_epochs.proofs.PieceLaws.{length-piece}
+use Rattle.pm_region.specs.Memory.{Memory, current_words, room_in, Adds, events_between, drained, with_room}
+
+pub adds_none : (memory : Memory) → Adds memory memory []
+adds_none memory = ap (λ es. record memory { events = es }) (sym (append-nil memory.events))
+
+-- events are added one after another
+pub adds_both : (first second third : Memory) (xs ys : List Event) → Adds first second xs → Adds second third ys → Adds first third (xs ++ ys)
+adds_both first second third xs ys added more =
+    more ∙ ap (λ (m : Memory). record m { events = m.events ++ ys }) added
+    ∙ ap (λ es. record first { events = es }) (append_assoc first.events xs ys)
+
+module _ (old new : Memory) (more : List Event) where
+  pub base-adds : Adds old new more → new.base ≡ old.base
+  base-adds added = ap (λ (m : Memory). m.base) added
+
+  pub capacity-adds : Adds old new more → new.capacity ≡ old.capacity
+  capacity-adds added = ap (λ (m : Memory). m.capacity) added
+
+  pub current_words-adds : Adds old new more → current_words new ≡ words_after (current_words old) more
+  current_words-adds added = ap current_words added ∙ words_after-append old.base old.events more
+
+  pub room_in-adds : Adds old new more → room_in new ≡ room_in old - length more
+  room_in-adds added = ap room_in added ∙ omega (arith, length-append old.events more)
+
+  -- the events that are added are those behind the old log
+  pub events_between-adds : Adds old new more → events_between old new ≡ more
+  events_between-adds added = ap (events_between old) added ∙ drop_front old.events
+    where
+      drop_front : (front : List Event) → drop (length front) (front ++ more) ≡ more
+      drop_front [] = refl
+      drop_front (event ∷ front) = drop_front front
+
+-- there are as many words as at the last drain
+pub length-current_words : (memory : Memory) → length (current_words memory) ≡ length memory.base
+length-current_words memory = length-words_after memory.base memory.events
+
+-- the room that a part of a call leaves
+pub room_in-piece : (most_barriers most_stores : ℕ) (old new : Memory) (more : List Event) → Adds old new more → IsPiece most_barriers most_stores more → room_in old ≤ room_in new + (most_barriers + most_stores)
+room_in-piece most_barriers most_stores old new more added piece = omega (arith, room_in-adds old new more added, length-piece most_barriers most_stores more piece)
+
+-- ## Room for a call
+
+pub current_words-with_room : (wanted : ℕ) (memory : Memory) → current_words (with_room wanted memory) ≡ current_words memory
+current_words-with_room wanted memory = elim (nat_lt (room_in memory) wanted) as (λ full. current_words (if full then drained memory else memory) ≡ current_words memory) [
+  | true ↦ refl
+  | false ↦ refl
+]
+
+pub room_in-with_room : (wanted : ℕ) (memory : Memory) → wanted ≤ memory.capacity → wanted ≤ room_in (with_room wanted memory)
+room_in-with_room wanted memory fits = go (nat_lt (room_in memory) wanted) refl
+  where
+    go : (full : Bool) → nat_lt (room_in memory) wanted ≡ full → wanted ≤ room_in (if full then drained memory else memory)
+    go true e = omega arith
+    go false e = omega (arith, ltb-false _ _ e)

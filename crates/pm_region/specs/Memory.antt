@@ -1,0 +1,35 @@
+-- What a region of persistent memory is: the words at the last drain, and what was done since.
+use Rattle.std.specs.Prelude.{◌≡◌, ℕ, ◌+◌, ◌-◌, ◌^◌, min, nat_lt, if◌then◌else◌, List, [], ◌++◌, length, drop}
+use Rattle.pm_epochs.specs.declared.event.Event.{Event}
+use Rattle.pm_epochs.specs.Log.{words_after}
+
+-- The words at the last drain, the events since, how many events the log can hold, and how often it was drained.
+pub record Memory : Type 0 where
+  pub base : List ℕ
+  pub events : List Event
+  pub capacity : ℕ
+  pub drains : ℕ
+
+-- the words as the processor sees them
+abbrev pub current_words : Memory → List ℕ
+current_words memory = words_after memory.base memory.events
+
+-- how many more events the log can take
+abbrev pub room_in : Memory → ℕ
+room_in memory = memory.capacity - length memory.events
+
+-- the new memory is the old one with these events at the end of its log
+abbrev pub Adds : Memory → Memory → List Event → Type 0
+Adds old new more = new ≡ record old { events = old.events ++ more }
+
+-- what one memory's log has behind another's
+abbrev pub events_between : Memory → Memory → List Event
+events_between old new = drop (length old.events) new.events
+
+-- with all written back; the count of drains stays at its last value
+abbrev pub drained : Memory → Memory
+drained memory = record memory { base = current_words memory; events = []; drains = min (memory.drains + 1) (2 ^ 64 - 1) }
+
+-- drained where so many events might not fit
+abbrev pub with_room : ℕ → Memory → Memory
+with_room wanted memory = if nat_lt (room_in memory) wanted then drained memory else memory

@@ -1,0 +1,79 @@
+ghost use Rattle.std.specs.Prelude.{◌≡◌, ℕ, ◌<◌, ◌↔◌, [], ◌∷◌, ◌++◌, length, slice_get, slice_index, slice_index_or, slice_set, Some, IsOk, IfOk, OnOk, OnErr};
+ghost use Rattle.pm_epochs.specs.declared.event.Event.TheVariants.{Store, Barrier, Mark};
+ghost use Rattle.pm_epochs.specs.Log.{marks};
+ghost use Rattle.pm_epochs.specs.Replay.{IsRight, replay, kept_calls};
+ghost use Rattle.pm_region.specs.Memory.{Memory, current_words, room_in, drained, Adds};
+
+use pm_epochs::{BadChoice, Choice, Event, Kept};
+
+/// Words of 8 bytes that outlive a crash, with the log of what was done to them since the last drain. Places and sizes are
+/// in words.
+pub trait Region {
+    ghost memory: { Self → Memory };
+
+    /// How many words there are.
+    fn words(&self) -> u32
+        ensures { result ≡ length (memory self.now).base };
+
+    /// A word as the processor sees it.
+    fn load(&self, word: u32) -> u64
+        requires { word < length (memory self.now).base }
+        ensures { result ≡ slice_index (current_words (memory self.now)) word };
+
+    /// Sets a word, and writes that to the log.
+    fn store(&mut self, word: u32, value: u64)
+        requires in_range { word < length (memory self.old).base }
+        requires room { 0 < room_in (memory self.old) }
+        ensures { Adds (memory self.old) (memory self.new) (Store word value ∷ []) };
+
+    /// The stores before it are written back before those after it. It takes one place of the log.
+    fn barrier(&mut self)
+        requires { 0 < room_in (memory self.old) }
+        ensures { Adds (memory self.old) (memory self.new) (Barrier ∷ []) };
+
+    /// A call ends. It takes one place of the log.
+    fn mark(&mut self)
+        requires { 0 < room_in (memory self.old) }
+        ensures { Adds (memory self.old) (memory self.new) (Mark ∷ []) };
+
+    /// Waits until each store is written back, and empties the log.
+    fn drain(&mut self)
+        ensures { memory self.new ≡ drained (memory self.old) };
+
+    /// How many more events the log can take.
+    fn room(&self) -> usize
+        ensures { result ≡ room_in (memory self.now) };
+
+    /// How many events the log has.
+    fn event_count(&self) -> usize
+        ensures { result ≡ length (memory self.now).events };
+
+    /// An event of the log, by its number from 0.
+    fn event(&self, i: usize) -> Event
+        requires { i < length (memory self.now).events }
+        ensures get { slice_get (memory self.now).events i ≡ Some result }
+        ensures value { result ≡ slice_index_or (memory self.now).events i result };
+
+    /// A word at the last drain.
+    fn base_word(&self, word: u32) -> u64
+        requires { word < length (memory self.now).base }
+        ensures { result ≡ slice_index (memory self.now).base word };
+
+    /// Crashes, and goes on with what the choice leaves, with an empty log. `BadChoice` is the answer where the choice is not
+    /// right for the log, and then nothing changes.
+    fn crash_to(&mut self, choice: &Choice) -> Result<Kept, BadChoice>
+        ensures right { IsOk result ↔ IsRight (memory self.old).events choice.now.cut }
+        ensures left { OnOk result (memory self.new ≡ record (memory self.old) {
+          base = replay (memory self.old).base (memory self.old).events choice.now.cut;
+          events = [];
+        }) }
+        ensures kept { IfOk result (λ kept. kept.c ≡ kept_calls (memory self.old).events choice.now.cut) }
+        ensures of { IfOk result (λ kept. kept.n ≡ marks (memory self.old).events) }
+        ensures err { OnErr result (memory self.new ≡ memory self.old) };
+
+    /// Sets a word of a region whose log is empty, as a word that was there at the last drain.
+    fn adopt_word(&mut self, word: u32, value: u64)
+        requires in_range { word < length (memory self.old).base }
+        requires drained { (memory self.old).events ≡ [] }
+        ensures { memory self.new ≡ record (memory self.old) { base = slice_set (memory self.old).base word value } };
+}

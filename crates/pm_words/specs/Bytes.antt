@@ -1,0 +1,11 @@
+-- A word of 64 bits as eight bytes, the lowest first.
+use Rattle.std.specs.Prelude.{ℕ, ◌+◌, ◌*◌, ◌/◌, ◌%◌, ◌^◌, List, [], ◌∷◌}
+
+-- the bytes of a word
+abbrev pub word_bytes : ℕ → List ℕ
+word_bytes word = word % 256 ∷ word / 256 % 256 ∷ word / 256 ^ 2 % 256 ∷ word / 256 ^ 3 % 256 ∷ word / 256 ^ 4 % 256 ∷ word / 256 ^ 5 % 256 ∷ word / 256 ^ 6 % 256 ∷ word / 256 ^ 7 % 256 ∷ []
+
+-- the number that bytes spell in base 256
+abbrev pub word_of : List ℕ → ℕ
+word_of [] = 0
+word_of (byte ∷ bytes) = byte + 256 * word_of bytes

@@ -1,0 +1,18 @@
+//! Laws of words and bytes. Each is the contract of a function that does nothing.
+
+ghost use Rattle.pm_words.specs.Bytes.{word_bytes, word_of};
+ghost use Rattle.std.specs.Prelude.{◌≡◌};
+
+/// The bytes of a word spell that word.
+#[tactic(auto, using(crate::proofs::Bytes::word_of_bytes))]
+pub fn word_from_bytes(_word: u64)
+    ensures { word_of (word_bytes _word) ≡ _word }
+{}
+
+/// Eight bytes are those of the word that they spell.
+#[tactic(auto, using(crate::proofs::Bytes::bytes_word_of))]
+pub fn bytes_from_word(bytes: &[u8; 8])
+    ensures { word_bytes (word_of bytes.now) ≡ bytes.now }
+{
+    let _word = u64::from_le_bytes(*bytes);
+}

@@ -1,0 +1,50 @@
+//! Words of 64 bits: their bytes, the block of a pointer, the digits of a leaf's number.
+#![tactic(auto)]
+
+ghost use Rattle.pm_words.specs.Bytes.{word_bytes, word_of};
+ghost use Rattle.pm_words.specs.Digits.{digit};
+ghost use Rattle.std.specs.Prelude.{◌*◌, ◌/◌, ◌^◌, ◌≡◌, ◌≤◌};
+
+pub mod laws;
+#[cfg(test)]
+mod tests;
+
+/// The word whose bytes these are, the lowest first.
+#[tactic(auto, using(crate::proofs::Bytes::eight_of))]
+pub fn read_word(bytes: &[u8; 8]) -> u64
+    ensures { result ≡ word_of bytes.now }
+{
+    u64::from_le_bytes(*bytes)
+}
+
+/// The bytes of a word, the lowest first.
+pub fn write_word(word: u64) -> [u8; 8]
+    ensures { result ≡ word_bytes word }
+{
+    word.to_le_bytes()
+}
+
+/// The number of the block to which a pointer points, 0 where it is null: its bits 12 to 63.
+pub fn block_of(pointer: u64) -> u64
+    ensures { result ≡ pointer / 4096 }
+{
+    pointer >> 12
+}
+
+/// How many bytes a node of a tree covers that stands `level` above the leaves.
+#[tactic(auto, using(crate::proofs::Digits::shifted_span))]
+pub fn span(level: u32) -> u64
+    requires { level ≤ 3 }
+    ensures { result ≡ 4096 * 512 ^ level }
+{
+    4096 << (9 * level)
+}
+
+/// The slot through which the way to leaf `leaf` goes, in the block of the node that stands `level + 1` above the leaves: a digit of `leaf` in base 512.
+#[tactic(auto, using(crate::proofs::Digits::shifted_digit))]
+pub fn digit(leaf: u64, level: u32) -> u16
+    requires { level ≤ 2 }
+    ensures { result ≡ digit leaf level }
+{
+    ((leaf >> (9 * level)) % 512) as u16
+}

@@ -1,0 +1,24 @@
+// Values from outside.
+use super::*;
+
+#[test]
+fn words_and_bytes(rt: HostRuntime) {
+    assert_eq!(rt; read_word(b"BPFSRS01"), 0x3130_5352_5346_5042);
+    assert_eq!(rt; write_word(0x0102_0304_0506_0708), [8, 7, 6, 5, 4, 3, 2, 1]);
+}
+
+#[test]
+fn blocks_and_digits(rt: HostRuntime) {
+    assert_eq!(rt; block_of(0x5003), 5);
+    for (level, want) in [
+        (0, 4096),
+        (1, 2_097_152),
+        (2, 1_073_741_824),
+        (3, 549_755_813_888),
+    ] {
+        assert_eq!(rt; span(level), want, "at {level}");
+    }
+    for (level, want) in [(0, 5), (1, 3), (2, 1)] {
+        assert_eq!(rt; digit(512 * 512 + 3 * 512 + 5, level), want, "at {level}");
+    }
+}

@@ -5,8 +5,8 @@ ghost use Rattle.std.specs.Prelude.{◌≡◌};
 
 /// The bytes of a word spell that word.
 #[tactic(auto, using(crate::proofs::Bytes::word_of_bytes))]
-pub fn word_from_bytes(_word: u64)
-    ensures { word_of (word_bytes _word) ≡ _word }
+pub fn word_from_bytes(word: u64)
+    ensures { word_of (word_bytes word) ≡ word }
 {}
 
 /// Eight bytes are those of the word that they spell.

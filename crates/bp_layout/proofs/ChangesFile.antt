@@ -1,0 +1,128 @@
+-- Two images that differ in the bytes of one file: the theorem behind every write and truncate.
+use Rattle.std.proofs.Common.{◌≡◌, ◌≢◌, ◌==◌, Bool, true, false, Option, None, Some, ℕ, suc, ◌+◌, ◌*◌, ◌/◌, ◌%◌, ◌<◌, ◌≤◌, length, refl, sym, ◌∙◌, ap, arith}
+use Rattle.std.proofs.lemmas.List.FromFn.{length-map-range_with_len}
+use Rattle.bp_layout.specs.Words.{Image, word, byte_of}
+use Rattle.bp_layout.specs.Tree.{byte, content, HasBlock, IsSound, IsFull}
+use Rattle.bp_layout.specs.Inode.{kind_of, root_of, size_of}
+use Rattle.bp_layout.specs.Directory.{EntryNames, IsName, name_at, inumber_at, entry_word, entry_count}
+use Rattle.bp_layout.specs.Reached.{IsReached}
+use Rattle.bp_layout.specs.Reached.IsReached.{inode_file, root_directory, named}
+use Rattle.bp_layout.specs.WellFormed.{IsWellFormed}
+use Rattle.bp_layout.specs.Lookup.{Path, lookup, node_of, shown}
+use Rattle.bp_layout.specs.Lookup.Node.{file}
+use Rattle.std.specs.Option.{option_map}
+use Rattle.std.proofs.lemmas.Bool.{eqb-true}
+use Rattle.bp_layout.proofs.Finding.{map-same}
+use Rattle.bp_layout.proofs.View.{SameDirectories, lookup_from-same, lookup_from-reached}
+
+-- what the trees that the first image reaches are in the second, where the bytes of file x may be others
+pub record ChangesFile (old new : Image) (x : ℕ) : Type 0 where
+  pub reached : IsReached old x
+  pub is_file : kind_of old x ≡ 1
+  pub whole : length new ≡ length old
+  pub marked : word new 0 ≡ word old 0
+  pub counted : word new 1 ≡ word old 1
+  pub kind : (t : ℕ) → IsReached old t → kind_of new t ≡ kind_of old t
+  pub size : (t : ℕ) → IsReached old t → t ≢ x → size_of new t ≡ size_of old t
+  pub inumber : (i s : ℕ) → IsReached old i → kind_of old i ≡ 2 → s < entry_count old i → inumber_at new i s ≡ inumber_at old i s
+  pub entry : (i s j f : ℕ) → IsReached old i → EntryNames old i s j → f < 32 → entry_word new i s f ≡ entry_word old i s f
+  pub bytes : (i o : ℕ) → IsReached old i → i ≢ x → kind_of old i ≡ 1 → o < size_of old i → byte new (root_of new i) o ≡ byte old (root_of old i) o
+  pub sound : (t : ℕ) → IsReached old t → IsSound new (root_of new t) (size_of new t)
+  pub apart : (t u b : ℕ) → IsReached old t → IsReached old u →
+      HasBlock new (root_of new t) (size_of new t) b → HasBlock new (root_of new u) (size_of new u) b → t ≡ u
+  pub full_inode_file : IsFull new (root_of new 0) (size_of new 0)
+  pub full_directories : (i : ℕ) → IsReached old i → kind_of old i ≡ 2 → IsFull new (root_of new i) (size_of new i)
+
+module _ (old new : Image) (x : ℕ) (wf : IsWellFormed old) (same : ChangesFile old new x) where
+  not_zero : 0 ≢ x
+  not_zero e = let one : kind_of old 0 ≡ 1 = (rw (← e) at same.is_file) in absurd (omega (arith, one))
+
+  not_directory : (i : ℕ) → kind_of old i ≡ 2 → i ≢ x
+  not_directory i kind e = let two : kind_of old x ≡ 2 = (rw e at kind) in absurd (omega (arith, two, same.is_file))
+
+  directory_size : (i : ℕ) → IsReached old i → kind_of old i ≡ 2 → size_of new i ≡ size_of old i
+  directory_size i reached kind = same.size i reached (not_directory i kind)
+
+  name_byte-same : (i slot j o : ℕ) → IsReached old i → EntryNames old i slot j → o < 240 →
+      byte new (root_of new i) (256 * slot + 16 + o) ≡ byte old (root_of old i) (256 * slot + 16 + o)
+  name_byte-same i slot j o reached names low =
+      let number : (256 * slot + 16 + o) / 8 ≡ 32 * slot + (2 + o / 8) = omega arith in
+      rw number (ap (λ w. byte_of w ((256 * slot + 16 + o) % 8)) (same.entry i slot j (2 + o / 8) reached names (omega (arith, low))))
+
+  name-same : (i slot j : ℕ) → IsReached old i → EntryNames old i slot j → name_at new i slot ≡ name_at old i slot
+  name-same i slot j reached names =
+      let form : IsName (name_at old i slot) = wf.names i slot j reached names in
+      let short : entry_word old i slot 1 ≤ 240 = (rw length-map-range_with_len at form.short) in
+      rw (same.entry i slot j 1 reached names (omega arith))
+      (map-same _ _ 0 (entry_word old i slot 1) (λ o low high. name_byte-same i slot j o reached names (omega (arith, high, short))))
+
+  pub directories-same : SameDirectories old new
+  directories-same = record {
+    kind = same.kind;
+    count = λ i reached kind. ap (λ s. s / 256) (directory_size i reached kind);
+    inumber = same.inumber;
+    name = name-same;
+  }
+
+  names-back : (i s j : ℕ) → IsReached old i → EntryNames new i s j → EntryNames old i s j
+  names-back i s j reached n =
+      let kind : kind_of old i ≡ 2 = sym (same.kind i reached) ∙ n.directory in
+      let in_size : s < entry_count old i = rw (directory_size i reached kind) at n.in_size in
+      record { directory = kind; in_size = in_size; inumber = sym (same.inumber i s reached kind in_size) ∙ n.inumber; not_empty = n.not_empty }
+
+  pub reached-back : (t : ℕ) → IsReached new t → IsReached old t
+  reached-back _ inode_file = inode_file
+  reached-back _ root_directory = root_directory
+  reached-back _ (named {i} {j} slot r n) = named slot (reached-back i r) (names-back i slot j (reached-back i r) n)
+
+  pub well_formed-same : IsWellFormed new
+  well_formed-same =
+      let inodes : size_of new 0 ≡ size_of old 0 = same.size 0 inode_file not_zero in
+      record {
+        whole = rw same.whole wf.whole;
+        at_least = rw same.whole wf.at_least;
+        at_most = rw same.whole wf.at_most;
+        marked = same.marked ∙ wf.marked;
+        counted = same.counted ∙ rw same.whole wf.counted;
+        sound = λ t r. same.sound t (reached-back t r);
+        apart = λ t u b r q has also. same.apart t u b (reached-back t r) (reached-back u q) has also;
+        full_inode_file = same.full_inode_file;
+        full_directories = λ i r kind. same.full_directories i (reached-back i r) (sym (same.kind i (reached-back i r)) ∙ kind);
+        inode_blocks = rw inodes wf.inode_blocks;
+        some_inodes = rw inodes wf.some_inodes;
+        inumbers = λ i s j r n. rw inodes (wf.inumbers i s j (reached-back i r) (names-back i s j (reached-back i r) n));
+        not_root = λ i s j r n. wf.not_root i s j (reached-back i r) (names-back i s j (reached-back i r) n);
+        named_once = λ i s k q j r p n m. wf.named_once i s k q j (reached-back i r) (reached-back k p) (names-back i s j (reached-back i r) n) (names-back k q j (reached-back k p) m);
+        kinds = λ i r. rw (same.kind (suc i) (reached-back (suc i) r)) (wf.kinds i (reached-back (suc i) r));
+        root_kind = same.kind 1 root_directory ∙ wf.root_kind;
+        directory_sizes = λ i r kind.
+            let before : kind_of old i ≡ 2 = sym (same.kind i (reached-back i r)) ∙ kind in
+            rw (directory_size i (reached-back i r) before) (wf.directory_sizes i (reached-back i r) before);
+        names = λ i s j r n. rw (name-same i s j (reached-back i r) (names-back i s j (reached-back i r) n)) (wf.names i s j (reached-back i r) (names-back i s j (reached-back i r) n));
+        names_once = λ i s q j k r n m e. wf.names_once i s q j k (reached-back i r) (names-back i s j (reached-back i r) n) (names-back i q k (reached-back i r) m)
+            (sym (name-same i s j (reached-back i r) (names-back i s j (reached-back i r) n)) ∙ e ∙ name-same i q k (reached-back i r) (names-back i q k (reached-back i r) m));
+      }
+
+  pub lookup-same : (path : Path) → lookup new path ≡ lookup old path
+  lookup-same path = lookup_from-same old new directories-same 1 path root_directory
+
+  node_of_other : (u : ℕ) → IsReached old u → u ≢ x → node_of new u ≡ node_of old u
+  node_of_other u reached other = go (kind_of old u == 1) refl
+    where
+      go : (b : Bool) → (kind_of old u == 1) ≡ b → node_of new u ≡ node_of old u
+      go true e =
+          rw (same.kind u reached, e, same.size u reached other) (ap file (map-same _ _ 0 (size_of old u) (λ o low high. same.bytes u o reached other (eqb-true _ _ e) (omega (arith, high)))))
+      go false e = rw (same.kind u reached, e) refl
+
+  pub node_of_file : node_of new x ≡ file (content new (root_of new x) (size_of new x))
+  node_of_file = rw (same.kind x same.reached, same.is_file) refl
+
+  pub shown_file : (path : Path) → lookup old path ≡ Some x → shown new path ≡ Some (file (content new (root_of new x) (size_of new x)))
+  shown_file path at = rw (lookup-same path, at) (ap Some node_of_file)
+
+  pub shown_other : (path : Path) → (lookup old path ≡ Some x → ⊥) → shown new path ≡ shown old path
+  shown_other path other = rw (lookup-same path) (go (lookup old path) refl)
+    where
+      go : (found : Option ℕ) → lookup old path ≡ found → option_map (node_of new) found ≡ option_map (node_of old) found
+      go None e = refl
+      go (Some u) e = ap Some (node_of_other u (lookup_from-reached old 1 u path root_directory e) (λ same. other (e ∙ ap Some same)))

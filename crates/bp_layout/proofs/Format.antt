@@ -1,0 +1,158 @@
+-- A formatted image is well-formed and shows the root directory alone.
+use Rattle.std.proofs.Common.{◌≡◌, ◌⊎◌, ℕ, suc, ◌+◌, ◌*◌, ◌%◌, ◌<◌, ◌≤◌, [], ◌∷◌, length, None, Some, refl, sym, ◌∙◌, ap, subst, suc-ne-zero, arith, inl, inr}
+use Rattle.bp_layout.specs.Words.{Image, word, block_count, block_of, slot_word}
+use Rattle.bp_layout.specs.Tree.{HasBlock, IsSound}
+use Rattle.bp_layout.specs.Inode.{kind_of, root_of, size_of, inode_word}
+use Rattle.bp_layout.specs.Directory.{EntryNames, Name, lookup_in, entry_count}
+use Rattle.bp_layout.specs.Reached.{IsReached}
+use Rattle.bp_layout.specs.Reached.IsReached.{inode_file, root_directory, named}
+use Rattle.bp_layout.specs.WellFormed.{IsWellFormed}
+use Rattle.bp_layout.specs.Limits.{magic}
+use Rattle.bp_layout.specs.Lookup.{Path, shown}
+use Rattle.bp_layout.specs.Lookup.Node.{dir}
+use Rattle.bp_layout.specs.Format.{format_stores, formatted}
+use Rattle.bp_layout.proofs.LastValue.{AllWithinImage, length-after_stores, word-after_stores}
+use Rattle.bp_layout.proofs.SmallTrees.{none_live, empty_sound, empty_has_none, content_word-leaf, leaf_sound, leaf_full}
+
+-- what the words of a format say, for any image that has them
+pub record HasFormat (image : Image) : Type 0 where
+  pub marked : word image 0 ≡ magic
+  pub counted : word image 1 ≡ block_count image
+  pub root : word image 2 ≡ 4096
+  pub size : word image 3 ≡ 4096
+  pub root_kind : word image 520 ≡ 2
+  pub root_root : word image 521 ≡ 0
+  pub root_size : word image 522 ≡ 0
+
+pub formatted_words : (image : Image) (blocks : ℕ) → length image ≡ 512 * blocks → 8 ≤ blocks → HasFormat (formatted image blocks)
+formatted_words image blocks whole least =
+    let within : AllWithinImage (length image) (format_stores blocks) =
+    omega arith in
+    let same : length (formatted image blocks) ≡ length image = length-after_stores image (format_stores blocks) in
+    let stored = λ (place : ℕ). word-after_stores image (format_stores blocks) place within in
+    let number : blocks ≡ block_count (formatted image blocks) = omega (arith, same) in
+    record {
+      marked = stored 0;
+      counted = stored 1 ∙ number;
+      root = stored 2;
+      size = stored 3;
+      root_kind = stored 520;
+      root_root = stored 521;
+      root_size = stored 522;
+    }
+
+module _ (image : Image) (has : HasFormat image) where
+  inode_file_root : root_of image 0 ≡ 4096
+  inode_file_root = has.root
+
+  inode_file_size : size_of image 0 ≡ 4096
+  inode_file_size = has.size
+
+  inode_word-is : (f : ℕ) → f < 3 → inode_word image 1 f ≡ word image (520 + f)
+  inode_word-is f few =
+      let column : (8 * 1 + f) % 512 ≡ 8 + f = omega (arith, few) in
+      let root : slot_word image (block_of (word image 2)) (8 + f) ≡ word image (512 + (8 + f)) = rw has.root refl in
+      let place : 512 + (8 + f) ≡ 520 + f = omega arith in
+      content_word-leaf image (word image 2) (8 * 1 + f) (rw has.root refl) ∙ rw column root ∙ ap (word image) place
+
+  root_kind-is : kind_of image 1 ≡ 2
+  root_kind-is = inode_word-is 0 (omega arith) ∙ has.root_kind
+
+  pub root_size-is : size_of image 1 ≡ 0
+  root_size-is = inode_word-is 2 (omega arith) ∙ has.root_size
+
+  none_named : (i s j : ℕ) → EntryNames image i s j → (i ≡ 0) ⊎ (i ≡ 1) → ⊥
+  none_named i s j n (inl e) = let two : kind_of image 0 ≡ 2 = (rw e at n.directory) in absurd (omega (arith, two))
+  none_named i s j n (inr e) =
+      let in_size : s < entry_count image 1 = (rw e at n.in_size) in
+      omega (arith, in_size, root_size-is)
+
+  pub two_reached : (t : ℕ) → IsReached image t → (t ≡ 0) ⊎ (t ≡ 1)
+  two_reached _ inode_file = inl refl
+  two_reached _ root_directory = inr refl
+  two_reached _ (named {i} {j} slot r n) = absurd (none_named i slot j n (two_reached i r))
+
+  no_name : (i s j : ℕ) → IsReached image i → EntryNames image i s j → ⊥
+  no_name i s j r n = none_named i s j n (two_reached i r)
+
+  each_tree : (P : ℕ → Type 0) → P 0 → P 1 → (t : ℕ) → IsReached image t → P t
+  each_tree P zeroth first t reached = go (two_reached t reached)
+    where
+      go : (t ≡ 0) ⊎ (t ≡ 1) → P t
+      go (inl e) = subst P (sym e) zeroth
+      go (inr e) = subst P (sym e) first
+
+  inode_file_sound : 8 ≤ block_count image → IsSound image (root_of image 0) (size_of image 0)
+  inode_file_sound least = leaf_sound image (word image 2) (word image 3) (rw has.root refl) (rw has.root (omega arith)) (rw has.size (omega arith))
+
+  root_sound : IsSound image (root_of image 1) (size_of image 1)
+  root_sound = rw root_size-is (empty_sound image (root_of image 1))
+
+  root_has_none : (b : ℕ) → HasBlock image (root_of image 1) (size_of image 1) b → ⊥
+  root_has_none b has_block = empty_has_none image (root_of image 1) b (rw root_size-is at has_block)
+
+  blocks_apart : (t u b : ℕ) → (t ≡ 0) ⊎ (t ≡ 1) → (u ≡ 0) ⊎ (u ≡ 1) →
+      HasBlock image (root_of image t) (size_of image t) b → HasBlock image (root_of image u) (size_of image u) b → t ≡ u
+  blocks_apart t u b (inl e) (inl f) one two = e ∙ sym f
+  blocks_apart t u b (inr e) f one two = absurd (root_has_none b (subst (λ x. HasBlock image (root_of image x) (size_of image x) b) e one))
+  blocks_apart t u b (inl e) (inr f) one two = absurd (root_has_none b (subst (λ x. HasBlock image (root_of image x) (size_of image x) b) f two))
+
+  size_is : (i : ℕ) → IsReached image i → kind_of image i ≡ 2 → size_of image i ≡ 0
+  size_is i r kind = go (two_reached i r)
+    where
+      go : (i ≡ 0) ⊎ (i ≡ 1) → size_of image i ≡ 0
+      go (inl e) = let two : kind_of image 0 ≡ 2 = (rw e at kind) in absurd (omega (arith, two))
+      go (inr e) = rw e root_size-is
+
+  kind_is : (i : ℕ) → IsReached image (suc i) → kind_of image (suc i) ≡ 2
+  kind_is i r = go (two_reached (suc i) r)
+    where
+      go : (suc i ≡ 0) ⊎ (suc i ≡ 1) → kind_of image (suc i) ≡ 2
+      go (inl e) = absurd (suc-ne-zero i e)
+      go (inr e) = let zeroth : i ≡ 0 = omega (arith, e) in subst (λ (n : ℕ). kind_of image (suc n) ≡ 2) (sym zeroth) root_kind-is
+
+  pub format_well_formed : length image ≡ 512 * block_count image → 8 ≤ block_count image → block_count image ≤ 16384 → IsWellFormed image
+  format_well_formed whole least most = record {
+    whole = whole;
+    at_least = least;
+    at_most = most;
+    marked = has.marked;
+    counted = has.counted;
+    sound = each_tree (λ t. IsSound image (root_of image t) (size_of image t)) (inode_file_sound least) root_sound;
+    apart = λ t u b r q one two. blocks_apart t u b (two_reached t r) (two_reached u q) one two;
+    full_inode_file = leaf_full image (word image 2) (word image 3) (rw has.root refl) (rw has.root (omega arith)) (rw has.size (omega arith));
+    full_directories = λ i r kind d k live. absurd (none_live (root_of image i) d k (rw (size_is i r kind) at live));
+    inode_blocks = rw has.size refl;
+    some_inodes = rw has.size (omega arith);
+    inumbers = λ i s j r n. absurd (no_name i s j r n);
+    not_root = λ i s j r n. absurd (no_name i s j r n);
+    named_once = λ i s k q j r p n m. absurd (no_name i s j r n);
+    kinds = λ i r. rw (kind_is i r) (omega arith, omega arith);
+    root_kind = root_kind-is;
+    directory_sizes = λ i r kind. rw (size_is i r kind) refl;
+    names = λ i s j r n. absurd (no_name i s j r n);
+    names_once = λ i s q j k r n m e. absurd (no_name i s j r n);
+  }
+
+  finds_none : (name : Name) → lookup_in image 1 name ≡ None
+  finds_none name = rw (root_kind-is, root_size-is) refl
+
+  shows_root : shown image [] ≡ Some dir
+  shows_root = rw root_kind-is refl
+
+  shows_no_name : (name : Name) (path : Path) → shown image (name ∷ path) ≡ None
+  shows_no_name name path = rw (finds_none name) refl
+
+module _ (image : Image) (blocks : ℕ) (whole : length image ≡ 512 * blocks) (least : 8 ≤ blocks) (most : blocks ≤ 16384) where
+  -- a format over any words is well formed
+  pub formatted_well_formed : IsWellFormed (formatted image blocks)
+  formatted_well_formed =
+      let same : length (formatted image blocks) ≡ length image = length-after_stores image (format_stores blocks) in
+      format_well_formed (formatted image blocks) (formatted_words image blocks whole least) (omega (arith, same)) (omega (arith, same)) (omega (arith, same))
+
+  -- and shows the root directory alone
+  pub shown_formatted_root : shown (formatted image blocks) [] ≡ Some dir
+  shown_formatted_root = shows_root (formatted image blocks) (formatted_words image blocks whole least)
+
+  pub shown_formatted_else : (name : Name) (path : Path) → shown (formatted image blocks) (name ∷ path) ≡ None
+  shown_formatted_else = shows_no_name (formatted image blocks) (formatted_words image blocks whole least)

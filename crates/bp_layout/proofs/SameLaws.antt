@@ -1,0 +1,15 @@
+-- `Same` is an equivalence of well-formed images.
+use Rattle.std.proofs.Common.{refl, sym, ◌∙◌}
+use Rattle.bp_layout.specs.Words.{Image}
+use Rattle.bp_layout.specs.WellFormed.{IsWellFormed}
+use Rattle.bp_layout.specs.Same.{Same}
+
+pub same_self : (image : Image) → IsWellFormed image → Same image image
+same_self image wf = record { old_well_formed = wf; new_well_formed = wf; shows = λ path. refl }
+
+-- for the laws on crashes, which have the replay first
+pub same_symmetric : (first second : Image) → Same first second → Same second first
+same_symmetric first second same = record { old_well_formed = same.new_well_formed; new_well_formed = same.old_well_formed; shows = λ path. sym (same.shows path) }
+
+pub same_transitive : (first second third : Image) → Same first second → Same second third → Same first third
+same_transitive first second third one two = record { old_well_formed = one.old_well_formed; new_well_formed = two.new_well_formed; shows = λ path. two.shows path ∙ one.shows path }

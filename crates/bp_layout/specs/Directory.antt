@@ -1,0 +1,77 @@
+-- A directory is a row of entries of 32 words: an inumber, 0 where the entry is empty, the length of a name, and its bytes.
+use Rattle.std.specs.Prelude.{◌≡◌, ◌≢◌, ℕ, ◌+◌, ◌*◌, ◌/◌, ◌<◌, ◌≤◌, List, [], ◌∷◌, map, length, All, Bool, not, ◌&&◌, ◌==◌, bytes_eq, Option, None, find, option_map, if◌then◌else◌}
+use Rattle.std.specs.List.{range_with_len}
+use Rattle.bp_layout.specs.Words.{Image}
+use Rattle.bp_layout.specs.Tree.{content_word, byte}
+use Rattle.bp_layout.specs.Limits.{max_name}
+use Rattle.bp_layout.specs.Inode.{kind_of, root_of, size_of}
+
+abbrev pub Name : Type 0
+Name = List ℕ
+
+-- a byte or more, of which none is 0 or `/`, and neither `.` nor `..`
+pub record IsName (name : Name) : Type 0 where
+  pub not_empty : 1 ≤ length name
+  pub short : length name ≤ max_name
+  pub plain : All (λ b. (b ≢ 0) × (b ≢ 47)) name
+  pub not_dot : name ≢ 46 ∷ []
+  pub not_dot_dot : name ≢ 46 ∷ 46 ∷ []
+
+-- ---- the entries of a tree
+
+abbrev pub word_in : Image → ℕ → ℕ → ℕ → ℕ
+word_in image root slot f = content_word image root (32 * slot + f)
+
+abbrev pub inumber_in : Image → ℕ → ℕ → ℕ
+inumber_in image root slot = word_in image root slot 0
+
+abbrev pub name_in : Image → ℕ → ℕ → Name
+name_in image root slot = map (λ o. byte image root (256 * slot + 16 + o)) (range_with_len 0 (word_in image root slot 1))
+
+-- the slots whose entries lie below the size
+abbrev pub slots : ℕ → List ℕ
+slots size = range_with_len 0 (size / 256)
+
+-- the least slot that is empty, and the least with a name
+abbrev pub empty_slot_in : Image → ℕ → ℕ → Option ℕ
+empty_slot_in image root size = find (λ slot. inumber_in image root slot == 0) (slots size)
+
+abbrev pub is_named_in : Image → ℕ → Name → ℕ → Bool
+is_named_in image root name slot = not (inumber_in image root slot == 0) && bytes_eq (name_in image root slot) name
+
+abbrev pub slot_named_in : Image → ℕ → ℕ → Name → Option ℕ
+slot_named_in image root size name = find (is_named_in image root name) (slots size)
+
+-- ---- the entries of an inode's tree
+
+abbrev pub entry_word : Image → ℕ → ℕ → ℕ → ℕ
+entry_word image i slot f = word_in image (root_of image i) slot f
+
+abbrev pub entry_count : Image → ℕ → ℕ
+entry_count image i = size_of image i / 256
+
+abbrev pub inumber_at : Image → ℕ → ℕ → ℕ
+inumber_at image i slot = inumber_in image (root_of image i) slot
+
+abbrev pub name_at : Image → ℕ → ℕ → Name
+name_at image i slot = name_in image (root_of image i) slot
+
+abbrev pub is_named : Image → ℕ → Name → ℕ → Bool
+is_named image i name slot = is_named_in image (root_of image i) name slot
+
+abbrev pub slot_named : Image → ℕ → Name → Option ℕ
+slot_named image i name = slot_named_in image (root_of image i) (size_of image i) name
+
+abbrev pub empty_slot : Image → ℕ → Option ℕ
+empty_slot image i = empty_slot_in image (root_of image i) (size_of image i)
+
+-- directory i names inode j at this slot
+pub record EntryNames (image : Image) (i slot j : ℕ) : Type 0 where
+  pub directory : kind_of image i ≡ 2
+  pub in_size : slot < entry_count image i
+  pub inumber : inumber_at image i slot ≡ j
+  pub not_empty : j ≢ 0
+
+-- the inode that a name stands for in a directory
+abbrev pub lookup_in : Image → ℕ → Name → Option ℕ
+lookup_in image i name = if kind_of image i == 2 then option_map (inumber_at image i) (slot_named image i name) else None

@@ -1,0 +1,42 @@
+-- What the words of an image's fields say.
+use Rattle.std.specs.Prelude.{◌≡◌, ℕ, ◌+◌, ◌*◌, ◌/◌, ◌%◌, ◌≤◌, List, [], ◌∷◌, map, slice_index}
+use Rattle.std.specs.List.{range_with_len}
+use Rattle.bp_layout.specs.Words.{byte_of, height_of}
+use Rattle.bp_layout.specs.Limits.{max_height}
+use Rattle.bp_layout.specs.declared.fields.Kind.{Kind}
+use Rattle.bp_layout.specs.declared.fields.Kind.TheVariants.{File, Dir}
+use Rattle.bp_layout.specs.declared.fields.Super.{Super}
+use Rattle.bp_layout.specs.declared.fields.Inode.{Inode}
+
+-- A root word has a height in bits 0 to 2, and a block in bits 12 to 63. Bits 3 to 11 are zero.
+abbrev pub IsRootWord : ℕ → Type 0
+IsRootWord word = (height_of word ≤ max_height) × (word / 8 % 512 ≡ 0)
+
+abbrev pub root_word : ℕ → ℕ → ℕ
+root_word height block = 4096 * block + height
+
+-- A pointer has a block in bits 12 to 63. Bits 0 to 11 are zero.
+abbrev pub IsPointerWord : ℕ → Type 0
+IsPointerWord word = word % 4096 ≡ 0
+
+abbrev pub pointer_word : ℕ → ℕ
+pointer_word block = 4096 * block
+
+-- the first word of an inode
+abbrev pub kind_word : Kind → ℕ
+kind_word File = 1
+kind_word Dir = 2
+
+-- the first words of a superblock and of an inode
+abbrev pub super_words : Super → List ℕ
+super_words super = super.magic ∷ super.blocks ∷ super.root ∷ super.size ∷ []
+
+abbrev pub inode_words : Inode → List ℕ
+inode_words inode = kind_word inode.kind ∷ inode.root ∷ inode.size ∷ []
+
+-- a byte of the name in the words of an entry, and the name: as many bytes as word 1 says, from word 2 on
+abbrev pub name_byte : List ℕ → ℕ → ℕ
+name_byte words offset = byte_of (slice_index words (2 + offset / 8)) (offset % 8)
+
+abbrev pub name_of : List ℕ → List ℕ
+name_of words = map (name_byte words) (range_with_len 0 (slice_index words 1))

@@ -1,0 +1,24 @@
+-- The trees of an image have numbers: 0 is the inode file, and any other number is an inode's.
+use Rattle.std.specs.Prelude.{ℕ, zero, suc, ◌+◌, ◌*◌, ◌/◌}
+use Rattle.bp_layout.specs.Words.{Image, word}
+use Rattle.bp_layout.specs.Tree.{content_word}
+
+-- word f of inode i, a word of the inode file's content
+abbrev pub inode_word : Image → ℕ → ℕ → ℕ
+inode_word image i f = content_word image (word image 2) (8 * i + f)
+
+-- 1 is a file and 2 a directory
+abbrev pub kind_of : Image → ℕ → ℕ
+kind_of image zero = 0
+kind_of image (suc i) = inode_word image (suc i) 0
+
+abbrev pub root_of : Image → ℕ → ℕ
+root_of image zero = word image 2
+root_of image (suc i) = inode_word image (suc i) 1
+
+abbrev pub size_of : Image → ℕ → ℕ
+size_of image zero = word image 3
+size_of image (suc i) = inode_word image (suc i) 2
+
+abbrev pub inode_count : Image → ℕ
+inode_count image = size_of image 0 / 64

@@ -1,0 +1,154 @@
+-- What a change touches, and how many blocks it needs.
+use Rattle.std.specs.Prelude.{ℕ, suc, ◌+◌, ◌-◌, ◌*◌, ◌/◌, min, max, List, [], ◌∷◌, ◌++◌, length, take, drop, map, filter, flat_map, Bool, false, not, ◌&&◌, ◌||◌, ◌==◌, nat_lt, nat_le, bytes_eq, Option, None, Some, if◌then◌else◌, fold}
+use Rattle.std.specs.List.{range_with_len, list_any}
+use Rattle.bp_layout.specs.Words.{Image, height_of}
+use Rattle.bp_layout.specs.Nodes.{TreeNode, is_present, height_with, nodes_for}
+use Rattle.bp_layout.specs.Inode.{root_of, size_of}
+use Rattle.bp_layout.specs.Directory.{empty_slot}
+use Rattle.bp_layout.specs.WordPaths.{WordPath, inode_path, tree_path}
+
+-- a change of an image, by inodes and slots
+pub data Change : Type 0 where
+  -- inode, offset, length
+  writes : ℕ → ℕ → ℕ → Change
+  -- inode, size
+  resizes : ℕ → ℕ → Change
+  -- directory; whether an inode is free
+  enters : ℕ → Bool → Change
+  -- directory, slot
+  leaves : ℕ → ℕ → Change
+  -- the source's directory and slot, the target's directory and slot
+  replaces : ℕ → ℕ → ℕ → ℕ → Change
+  -- the source's directory and slot, the target's directory
+  moves : ℕ → ℕ → ℕ → Change
+  -- directory, slot, length of the new name
+  respells : ℕ → ℕ → ℕ → Change
+
+-- ---- preparation
+
+-- The bytes at and past the old size for which a tree is prepared, from the first to one past the last. Where these are one, only its height is raised.
+pub record Beyond : Type 0 where
+  pub tree : ℕ
+  pub from : ℕ
+  pub to : ℕ
+
+abbrev pub new_entry : Image → ℕ → Option ℕ → List Beyond
+new_entry image i None = record { tree = i; from = size_of image i; to = size_of image i + 256 } ∷ []
+new_entry image i (Some slot) = []
+
+abbrev pub beyond : Image → Change → List Beyond
+beyond image (writes i off len) = if nat_lt (size_of image i) (off + len) then record { tree = i; from = max off (size_of image i); to = off + len } ∷ [] else []
+beyond image (resizes i size) = if nat_lt (size_of image i) size then record { tree = i; from = size; to = size } ∷ [] else []
+beyond image (enters i free) = new_entry image i (empty_slot image i)
+beyond image (moves i s j) = new_entry image j (empty_slot image j)
+beyond image _ = []
+
+-- the inode file grows by a leaf
+abbrev pub growth : Image → Change → List Beyond
+growth image (enters i false) = record { tree = 0; from = size_of image 0; to = size_of image 0 + 4096 } ∷ []
+growth image _ = []
+
+-- the nodes that are made, each with its tree
+abbrev pub prepared_for : Image → Beyond → List (ℕ × TreeNode)
+prepared_for image b = map (λ n. (b.tree, n)) (nodes_for image (root_of image b.tree) (size_of image b.tree) b.from b.to)
+
+abbrev pub prepared : Image → Change → List (ℕ × TreeNode)
+prepared image change = flat_map (prepared_for image) (beyond image change ++ growth image change)
+
+-- ---- touched words
+
+-- the height of a tree after the preparation
+abbrev pub height_after : Image → Change → ℕ → ℕ
+height_after image change t =
+    fold (λ h b. if b.tree == t then height_with (root_of image t) (size_of image t) b.to else h) (height_of (root_of image t)) (beyond image change ++ growth image change)
+
+abbrev pub inode_word_path : Image → Change → ℕ → ℕ → WordPath
+inode_word_path image change i f = inode_path (height_after image change 0) i f
+
+abbrev pub content_path : Image → Change → ℕ → ℕ → WordPath
+content_path image change t index = tree_path (height_after image change 0) t (suc (height_after image change t)) index
+
+abbrev pub entry_path : Image → Change → ℕ → ℕ → ℕ → WordPath
+entry_path image change i slot f = content_path image change i (32 * slot + f)
+
+abbrev pub entered : Image → Change → ℕ → Option ℕ → WordPath
+entered image change i None = inode_word_path image change i 2
+entered image change i (Some slot) = entry_path image change i slot 0
+
+abbrev pub touched : Image → Change → List WordPath
+touched image (writes i off len) =
+    map (content_path image (writes i off len) i)
+    (if nat_lt off (size_of image i) then range_with_len (off / 8) (suc ((min (off + len) (size_of image i) - 1) / 8 - off / 8)) else [])
+    ++ (if nat_lt (size_of image i) (off + len) then inode_word_path image (writes i off len) i 2 ∷ [] else [])
+touched image (resizes i size) = inode_word_path image (resizes i size) i 2 ∷ []
+touched image (enters i free) = entered image (enters i free) i (empty_slot image i) ∷ []
+touched image (leaves i s) = entry_path image (leaves i s) i s 0 ∷ []
+touched image (replaces i s j r) = entry_path image (replaces i s j r) i s 0 ∷ entry_path image (replaces i s j r) j r 0 ∷ []
+touched image (moves i s j) = entered image (moves i s j) j (empty_slot image j) ∷ entry_path image (moves i s j) i s 0 ∷ []
+touched image (respells i s len) = map (entry_path image (respells i s len) i s) (range_with_len 1 (suc ((len + 7) / 8)))
+
+-- ---- cover
+
+abbrev pub is_prefix : WordPath → WordPath → Bool
+is_prefix prefix path = bytes_eq prefix (take (length prefix) path)
+
+abbrev pub number_of : List ℕ → ℕ
+number_of ds = fold (λ n d. 512 * n + d) 0 ds
+
+-- the tree and the node to which the pointer at a path points, where the inode file has this height and the other trees have theirs
+abbrev pub pointed : (ℕ → ℕ) → WordPath → ℕ × TreeNode
+pointed heights path =
+    if nat_le (length path) (heights 0)
+    then (0, record { level = heights 0 - length path; index = number_of path })
+    else (
+      number_of (take (suc (heights 0)) path) / 8,
+      record {
+        level = heights (number_of (take (suc (heights 0)) path) / 8) - (length path - suc (heights 0));
+        index = number_of (drop (suc (heights 0)) path);
+      },
+    )
+
+abbrev pub same_node : ℕ × TreeNode → ℕ × TreeNode → Bool
+same_node n m = (n.0 == m.0) && (n.1.level == m.1.level) && (n.1.index == m.1.index)
+
+-- the node is there once the preparation is done
+abbrev pub is_there : Image → Change → ℕ × TreeNode → Bool
+is_there image change n = is_present image (root_of image n.0) (size_of image n.0) n.1 || list_any (same_node n) (prepared image change)
+
+-- the longest prefix of a path, behind a part that exists, no proper prefix of which points to a null
+abbrev pub existing_from : Image → Change → WordPath → WordPath → WordPath
+existing_from image change here [] = here
+existing_from image change here (slot ∷ path) =
+    if is_there image change (pointed (height_after image change) here) then existing_from image change (here ++ slot ∷ []) path else here
+
+abbrev pub common : WordPath → WordPath → WordPath
+common [] other = []
+common (slot ∷ path) [] = []
+common (slot ∷ path) (also ∷ other) = if slot == also then slot ∷ common path other else []
+
+abbrev pub common_all : List WordPath → WordPath
+common_all [] = []
+common_all (path ∷ paths) = fold common path paths
+
+-- the longest path that exists and begins each touched path
+abbrev pub cover : Image → Change → WordPath
+cover image change = existing_from image change [] (common_all (touched image change))
+
+-- ---- need
+
+-- the proper prefixes of a path, from one of a length on
+abbrev pub prefixes_from : ℕ → WordPath → List WordPath
+prefixes_from shortest path = map (λ n. take n path) (range_with_len shortest (length path - shortest))
+
+-- Such prefixes of some paths. Each counts once, at the first path that it begins.
+abbrev pub prefixes_of : ℕ → List WordPath → List WordPath → List WordPath
+prefixes_of shortest earlier [] = []
+prefixes_of shortest earlier (path ∷ paths) =
+    filter (λ prefix. not (list_any (is_prefix prefix) earlier)) (prefixes_from shortest path) ++ prefixes_of shortest (path ∷ earlier) paths
+
+-- the pointers whose blocks are made anew: what lies between the cover and the touched words
+abbrev pub copied : Image → Change → List WordPath
+copied image change = prefixes_of (length (cover image change)) [] (touched image change)
+
+abbrev pub need : Image → Change → ℕ
+need image change = length (prepared image change) + length (copied image change)

@@ -1,0 +1,22 @@
+-- When two trees hold the same.
+use Rattle.std.specs.Prelude.{◌≡◌, ◌⊎◌, ℕ, ◌+◌, ◌*◌, ◌<◌, ◌≤◌}
+use Rattle.bp_layout.specs.Words.{Image}
+use Rattle.bp_layout.specs.Tree.{content_word, byte, HasBlock, IsSound, IsFull}
+use Rattle.bp_layout.specs.Inode.{kind_of}
+use Rattle.bp_layout.specs.Reached.{IsLiveBlock}
+
+-- the inode file and directories are read by words, files by bytes
+abbrev pub IsReadByWords : Image → ℕ → Type 0
+IsReadByWords image t = (t ≡ 0) ⊎ (kind_of image t ≡ 2)
+
+-- Two trees hold the same below a size: each byte, and where they are read by words, the words that lie below it whole.
+pub record SameContent (ByWords : Type 0) (old new : Image) (size root other : ℕ) : Type 0 where
+  pub words : ByWords → (k : ℕ) → 8 * k + 8 ≤ size → content_word new other k ≡ content_word old root k
+  pub bytes : (o : ℕ) → o < size → byte new other o ≡ byte old root o
+
+-- In this image the second root word, at this size, is as good as the first: the same content, in blocks of the first and free ones.
+pub record ReadsAs (ByWords : Type 0) (image : Image) (size root other : ℕ) : Type 0 where
+  pub sound : IsSound image other size
+  pub content : SameContent ByWords image image size root other
+  pub blocks : (b : ℕ) → HasBlock image other size b → HasBlock image root size b ⊎ (IsLiveBlock image b → ⊥)
+  pub full : IsFull image root size → IsFull image other size

@@ -1,0 +1,13 @@
+-- Stores, one after the other.
+use Rattle.std.specs.Prelude.{◌≡◌, ◌≢◌, ℕ, ◌/◌, List, [], ◌∷◌, length, slice_set}
+use Rattle.bp_layout.specs.Words.{Image, word}
+
+-- the image after each store of a value at a place
+abbrev pub after_stores : Image → List (ℕ × ℕ) → Image
+after_stores image [] = image
+after_stores image (store ∷ stores) = after_stores (slice_set image store.0 store.1) stores
+
+-- the second image has the words of the first, but for one block
+pub record EqualBut (block : ℕ) (old new : Image) : Type 0 where
+  pub whole : length new ≡ length old
+  pub others : (place : ℕ) → place / 512 ≢ block → word new place ≡ word old place

@@ -1,0 +1,72 @@
+-- A tree under a root word: what it holds, which of its words are live, and when it is sound.
+use Rattle.std.specs.Prelude.{◌≡◌, ◌≢◌, ℕ, zero, suc, ◌+◌, ◌*◌, ◌/◌, ◌%◌, ◌^◌, ◌<◌, ◌≤◌, List, map}
+use Rattle.std.specs.List.{range_with_len}
+use Rattle.bp_layout.specs.Words.{Image, block_count, block_of, height_of, slot_word, byte_of}
+use Rattle.bp_layout.specs.Limits.{max_height}
+
+-- The word with a number among the words at a depth. At depth 0 stands the root word alone. A word at a depth up to
+-- the height points to a block, whose 512 words stand one deeper. So those one deeper than the height are the content.
+unfoldable pub word_at : Image → ℕ → ℕ → ℕ → ℕ
+word_at image root zero index = root
+word_at image root (suc depth) index = slot_word image (block_of (word_at image root depth (index / 512))) (index % 512)
+
+-- the block to which that word points, 0 where it is null or where a null is above it
+abbrev pub node : Image → ℕ → ℕ → ℕ → ℕ
+node image root depth index = block_of (word_at image root depth index)
+
+-- the place at which that word stands, given that of the root word
+abbrev pub place_of : Image → ℕ → ℕ → ℕ → ℕ → ℕ
+place_of image at root zero index = at
+place_of image at root (suc depth) index = 512 * node image root depth (index / 512) + index % 512
+
+abbrev pub content_word : Image → ℕ → ℕ → ℕ
+content_word image root index = word_at image root (suc (height_of root)) index
+
+abbrev pub byte : Image → ℕ → ℕ → ℕ
+byte image root offset = byte_of (content_word image root (offset / 8)) (offset % 8)
+
+-- the bytes below the size
+abbrev pub content : Image → ℕ → ℕ → List ℕ
+content image root size = map (byte image root) (range_with_len 0 size)
+
+-- A word that stands `rank` above the content words covers 8 * 512 ^ rank bytes.
+abbrev pub covered : ℕ → ℕ
+covered rank = 8 * 512 ^ rank
+
+-- A node covers what its 512 words cover: 4096 bytes at level 0, that of the leaves.
+abbrev pub span : ℕ → ℕ
+span level = covered (suc level)
+
+-- The word at this depth and number is live: the first byte that it covers is below the size.
+pub record IsLiveWord (root size depth index : ℕ) : Type 0 where
+  pub rank : ℕ
+  pub height : depth + rank ≡ suc (height_of root)
+  pub live : index * covered rank < size
+
+-- The same of a pointer, which stands above the content words.
+pub record IsLivePointer (root size depth index : ℕ) : Type 0 where
+  pub level : ℕ
+  pub height : depth + level ≡ height_of root
+  pub live : index * covered (suc level) < size
+
+-- the tree has this block: a live pointer names it
+pub record HasBlock (image : Image) (root size block : ℕ) : Type 0 where
+  pub depth : ℕ
+  pub index : ℕ
+  pub pointer : IsLivePointer root size depth index
+  pub named : node image root depth index ≡ block
+  pub not_null : block ≢ 0
+
+-- what each reader of a tree asks
+pub record IsSound (image : Image) (root size : ℕ) : Type 0 where
+  pub low : 0 < size → height_of root ≤ max_height
+  pub root_bits : 0 < size → root / 8 % 512 ≡ 0
+  pub pointer_bits : (d k : ℕ) → IsLivePointer root size (suc d) k → word_at image root (suc d) k % 4096 ≡ 0
+  pub in_range : (d k : ℕ) → IsLivePointer root size d k → node image root d k < block_count image
+  pub once : (d k e l : ℕ) → IsLivePointer root size d k → IsLivePointer root size e l →
+      node image root d k ≢ 0 → node image root d k ≡ node image root e l → (d ≡ e) × (k ≡ l)
+  pub fits : size ≤ covered (suc (height_of root))
+
+-- no live pointer is null
+abbrev pub IsFull : Image → ℕ → ℕ → Type 0
+IsFull image root size = (d k : ℕ) → IsLivePointer root size d k → node image root d k ≢ 0

@@ -1,0 +1,36 @@
+-- A word path names a word from the top: the slots through which one goes to it. The empty path is the root word of the inode file.
+use Rattle.std.specs.Prelude.{◌≢◌, ℕ, zero, suc, ◌+◌, ◌*◌, ◌/◌, ◌%◌, List, [], ◌∷◌, ◌++◌}
+use Rattle.bp_layout.specs.Words.{Image, word, block_of}
+
+abbrev pub WordPath : Type 0
+WordPath = List ℕ
+
+-- the base-512 digits of a number, as many as asked, the highest first
+abbrev pub digits : ℕ → ℕ → List ℕ
+digits zero index = []
+digits (suc count) index = digits count (index / 512) ++ index % 512 ∷ []
+
+-- the path of word f of inode i, where the inode file has this height
+abbrev pub inode_path : ℕ → ℕ → ℕ → WordPath
+inode_path height i f = digits (suc height) (8 * i + f)
+
+-- the path of a word of tree t at a depth, where the inode file has this height
+abbrev pub tree_path : ℕ → ℕ → ℕ → ℕ → WordPath
+tree_path height zero depth index = digits depth index
+tree_path height (suc i) depth index = inode_path height (suc i) 1 ++ digits depth index
+
+-- the place that a path names, from the place of a pointer on
+abbrev pub address_from : Image → ℕ → WordPath → ℕ
+address_from image place [] = place
+address_from image place (slot ∷ path) = address_from image (512 * block_of (word image place) + slot) path
+
+abbrev pub address : Image → WordPath → ℕ
+address image path = address_from image 2 path
+
+-- no word that a proper prefix names is null
+abbrev pub ExistsFrom : Image → ℕ → WordPath → Type 0
+ExistsFrom image place [] = Unit {0}
+ExistsFrom image place (slot ∷ path) = (block_of (word image place) ≢ 0) × ExistsFrom image (512 * block_of (word image place) + slot) path
+
+abbrev pub Exists : Image → WordPath → Type 0
+Exists image path = ExistsFrom image 2 path

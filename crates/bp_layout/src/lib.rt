@@ -1,0 +1,16 @@
+//! What the words of an image mean, and the types of what stands in them.
+#![tactic(auto)]
+
+mod entry;
+mod fields;
+pub mod image_laws;
+pub mod laws;
+pub mod limits;
+mod listing;
+
+pub use entry::{Entry, name_word};
+pub use fields::{BadPointer, Inode, Kind, Name, RootWord, Stat, Super, pointer, pointer_word};
+pub use listing::Listing;
+
+#[cfg(test)]
+mod tests;

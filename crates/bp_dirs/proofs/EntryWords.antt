@@ -1,0 +1,49 @@
+-- Where the words and bytes of an entry stand.
+use Rattle.std.proofs.Common.{◌≡◌, ℕ, ◌+◌, ◌-◌, ◌*◌, ◌/◌, ◌%◌, ◌<◌, ◌≤◌, List, slice_index, sym, ◌∙◌, ap, ap₂, arith}
+use Rattle.bp_layout.specs.Words.{Image, block_count, height_of, slot_word, byte_of}
+use Rattle.bp_layout.specs.Tree.{node, byte, content_word, IsSound, IsLivePointer}
+use Rattle.bp_layout.specs.Directory.{word_in, name_in}
+use Rattle.bp_layout.specs.Fields.{name_byte, name_of}
+use Rattle.bp_layout.proofs.Finding.{map-same}
+use Rattle.bp_layout.proofs.TreeLaws.{word_at-suc}
+
+pub word_in-at : (image : Image) (root slot f : ℕ) → f < 32 →
+    word_in image root slot f ≡ slot_word image (node image root (height_of root) (slot / 16)) (32 * (slot % 16) + f)
+word_in-at image root slot f within =
+    let leaf : (32 * slot + f) / 512 ≡ slot / 16 = omega arith in
+    let at : (32 * slot + f) % 512 ≡ 32 * (slot % 16) + f = omega arith in
+    word_at-suc image root (height_of root) (32 * slot + f) ∙ ap₂ (λ l s. slot_word image (node image root (height_of root) l) s) leaf at
+
+pub byte-at : (image : Image) (root slot part o : ℕ) → o < 8 →
+    byte image root (256 * slot + 16 + (8 * part + o)) ≡ byte_of (word_in image root slot (2 + part)) o
+byte-at image root slot part o within =
+    let whole : (256 * slot + 16 + (8 * part + o)) / 8 ≡ 32 * slot + (2 + part) = omega arith in
+    let rest : (256 * slot + 16 + (8 * part + o)) % 8 ≡ o = omega arith in
+    ap₂ (λ w i. byte_of (content_word image root w) i) whole rest
+
+-- the leaf with a live entry is live
+pub leaf_pointer : (root size slot : ℕ) → slot < size / 256 → IsLivePointer root size (height_of root) (slot / 16)
+leaf_pointer root size slot live = record { level = 0; height = omega arith; live = omega arith }
+
+pub leaf_in_range : (image : Image) (root size slot : ℕ) → IsSound image root size → slot < size / 256 → node image root (height_of root) (slot / 16) < block_count image
+leaf_in_range image root size slot sound live = sound.in_range _ _ (leaf_pointer root size slot live)
+
+pub same_leaf : (image : Image) (root slot before : ℕ) → 0 < slot % 16 → (0 < slot → before ≡ node image root (height_of root) ((slot - 1) / 16)) →
+    before ≡ node image root (height_of root) (slot / 16)
+same_leaf image root slot before inside is =
+    let same : (slot - 1) / 16 ≡ slot / 16 = omega arith in
+    is (omega arith) ∙ ap (node image root (height_of root)) same
+
+-- the leaf of a slot, as the slot after it has it
+pub same_block : (image : Image) (root slot : ℕ) → node image root (height_of root) (slot / 16) ≡ node image root (height_of root) ((slot + 1 - 1) / 16)
+same_block image root slot = let back : slot ≡ slot + 1 - 1 = omega arith in ap (λ s. node image root (height_of root) (s / 16)) back
+
+-- the name that an entry's words hold
+pub name_in-words : (image : Image) (root slot : ℕ) (words : List ℕ) → word_in image root slot 1 ≤ 240 →
+    ((field : ℕ) → field < 32 → slice_index words field ≡ word_in image root slot field) → name_of words ≡ name_in image root slot
+name_in-words image root slot words short same =
+    rw (same 1 (omega arith))
+    (map-same (name_byte words) (λ o. byte image root (256 * slot + 16 + o)) 0 (word_in image root slot 1) (λ o low high.
+    let whole : 8 * (o / 8) + o % 8 ≡ o = omega arith in
+    let field : 2 + o / 8 < 32 = omega (arith, high, short) in
+    ap (λ w. byte_of w (o % 8)) (same (2 + o / 8) field) ∙ sym (byte-at image root slot (o / 8) (o % 8) (omega arith)) ∙ ap (λ k. byte image root (256 * slot + 16 + k)) whole))

@@ -1,0 +1,4 @@
+pub mod Counting
+pub mod EntryWords
+pub mod PartLaws
+pub mod WordBytes

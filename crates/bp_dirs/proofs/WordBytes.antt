@@ -1,0 +1,97 @@
+-- The lowest bytes of a word, and the number that bytes spell.
+use Rattle.std.proofs.Common.{◌≡◌, ℕ, zero, suc, ◌+◌, ◌*◌, ◌/◌, ◌%◌, ◌^◌, ◌<◌, ◌-◌, min, List, [], ◌∷◌, ◌++◌, length, take, drop, slice_index, bit_and, inl, inr, ◌⊎◌, refl, sym, ◌∙◌, ap, arith, pow-suc, pow-add}
+use Rattle.std.proofs.Math.Nat.{div-div-eq-div-mul, pow-succ'}
+use Rattle.std.proofs.Math.Arith.{mod-mul}
+use Rattle.std.proofs.lemmas.Nat.{and_mask}
+use Rattle.std.proofs.lemmas.Bool.{cases_eq}
+use Rattle.std.proofs.lemmas.List.{length-drop, take_min, get_or-set_same, get_or-set_other}
+use Rattle.std.proofs.Math.ListN.{set}
+use Rattle.bp_layout.specs.Words.{byte_of}
+use Rattle.pm_words.specs.Bytes.{word_of}
+
+positive : (n : ℕ) → 0 < 256 ^ n
+positive zero = omega arith
+positive (suc n) = rw pow-suc (omega (arith, positive n))
+
+-- a word by its lowest byte and the rest
+parted : (w n : ℕ) → w % 256 ^ suc n ≡ w / 256 % 256 ^ n * 256 + w % 256
+parted w n = rw pow-suc (mod-mul w {m = 256 ^ n} {c = 256} (positive n) (omega arith))
+
+further : (w o : ℕ) → byte_of (w / 256) o ≡ byte_of w (suc o)
+further w o = ap (λ n. n % 256) (div-div-eq-div-mul w 256 (256 ^ o) ∙ ap (λ n. w / n) (sym (pow-succ' 256 o)))
+
+lowest : (w : ℕ) → byte_of w 0 ≡ w % 256
+lowest w = let whole : w / 256 ^ 0 ≡ w = omega arith in ap (λ n. n % 256) whole
+
+-- a word whose lowest bytes are these has the number that they spell
+pub spelled : (w : ℕ) (bytes : List ℕ) → ((o : ℕ) → o < length bytes → byte_of w o ≡ slice_index bytes o) → w % 256 ^ length bytes ≡ word_of bytes
+spelled w [] same = omega arith
+spelled w (b ∷ bytes) same =
+    let rest : w / 256 % 256 ^ length bytes ≡ word_of bytes = spelled (w / 256) bytes (λ o h. further w o ∙ same (suc o) (omega (arith, h))) in
+    let first : w % 256 ≡ b = sym (lowest w) ∙ same 0 (omega arith) in
+    parted w (length bytes) ∙ omega (arith, rest, first)
+
+-- and the other way round
+pub read_back : (w : ℕ) (bytes : List ℕ) → ((o : ℕ) → slice_index bytes o < 256) → w % 256 ^ length bytes ≡ word_of bytes →
+    (o : ℕ) → o < length bytes → byte_of w o ≡ slice_index bytes o
+read_back w [] small is o within = absurd (omega (arith, within))
+read_back w (b ∷ bytes) small is zero within =
+    let e : w / 256 % 256 ^ length bytes * 256 + w % 256 ≡ b + 256 * word_of bytes = sym (parted w (length bytes)) ∙ is in
+    let low : b < 256 = small 0 in
+    lowest w ∙ omega (arith, e, low)
+read_back w (b ∷ bytes) small is (suc o) within =
+    let e : w / 256 % 256 ^ length bytes * 256 + w % 256 ≡ b + 256 * word_of bytes = sym (parted w (length bytes)) ∙ is in
+    let low : b < 256 = small 0 in
+    let rest : w / 256 % 256 ^ length bytes ≡ word_of bytes = omega (arith, e, low) in
+    sym (further w o) ∙ read_back (w / 256) bytes (λ k. small (suc k)) rest o (omega (arith, within))
+
+-- zeros above the bytes change nothing
+zeros_less : (zeros : List ℕ) (n : ℕ) → word_of zeros ≡ 0 → word_of (drop n zeros) ≡ 0
+zeros_less zeros zero none = none
+zeros_less [] (suc n) none = refl
+zeros_less (b ∷ zeros) (suc n) none = zeros_less zeros n (omega (arith, none))
+
+onto_zeros : (bytes zeros : List ℕ) → word_of zeros ≡ 0 → word_of (bytes ++ zeros) ≡ word_of bytes
+onto_zeros [] zeros none = none
+onto_zeros (b ∷ bytes) zeros none = omega (arith, onto_zeros bytes zeros none)
+
+pub filled_up : (whole bytes zeros : List ℕ) (n : ℕ) → word_of zeros ≡ 0 → whole ≡ bytes → word_of (whole ++ drop n zeros) ≡ word_of bytes
+filled_up whole bytes zeros n none is = ap (λ xs. word_of (xs ++ drop n zeros)) is ∙ onto_zeros bytes (drop n zeros) (zeros_less zeros n none)
+
+-- a part of a name, cut at its end
+pub cut_part : (name : List ℕ) (part end : ℕ) → end ≡ min (length name) (8 * part + 8) → take (end - 8 * part) (drop (8 * part) name) ≡ take 8 (drop (8 * part) name)
+cut_part name part end is =
+    let long : end - 8 * part ≡ min 8 (length (drop (8 * part) name)) = omega (arith, is, length-drop (8 * part) name) in
+    rw long (take_min 8 (drop (8 * part) name))
+
+-- one more word of a name
+pub one_more_word : (words name : List ℕ) (part value : ℕ) → part < length words → value ≡ word_of (take 8 (drop (8 * part) name)) →
+    ((k : ℕ) → k < part → slice_index words k ≡ word_of (take 8 (drop (8 * k) name))) →
+    (k : ℕ) → k < part + 1 → slice_index (set words part value) k ≡ word_of (take 8 (drop (8 * k) name))
+one_more_word words name part value inside is before k below = go (cases_eq k part)
+  where
+    go : (k ≡ part) ⊎ (k ≡ part → ⊥) → slice_index (set words part value) k ≡ word_of (take 8 (drop (8 * k) name))
+    go (inl here) = rw here (get_or-set_same words part value 0 inside ∙ is)
+    go (inr other) = get_or-set_other words part k value 0 other ∙ before k (omega (arith, other, below))
+
+power : (count : ℕ) → count < 8 → 1 * 2 ^ (8 * count) % 18446744073709551616 ≡ 256 ^ count
+power zero low = refl
+power (suc zero) low = refl
+power (suc (suc zero)) low = refl
+power (suc (suc (suc zero))) low = refl
+power (suc (suc (suc (suc zero)))) low = refl
+power (suc (suc (suc (suc (suc zero))))) low = refl
+power (suc (suc (suc (suc (suc (suc zero)))))) low = refl
+power (suc (suc (suc (suc (suc (suc (suc zero))))))) low = refl
+power (suc (suc (suc (suc (suc (suc (suc (suc count)))))))) low = absurd (omega (arith, low))
+
+as_bits : (count : ℕ) → 256 ^ count ≡ 2 ^ (8 * count)
+as_bits zero = refl
+as_bits (suc count) =
+    let more : 8 * suc count ≡ 8 * count + 8 = omega arith in
+    pow-suc 256 count ∙ ap (λ n. n * 256) (as_bits count) ∙ sym (pow-add 2 (8 * count) 8) ∙ sym (ap (λ n. 2 ^ n) more)
+
+pub masked : (word count : ℕ) → count < 8 → bit_and word (1 * 2 ^ (8 * count) % 18446744073709551616 - 1) ≡ word % 256 ^ min 8 count
+masked word count low =
+    let least : min 8 count ≡ count = omega arith in
+    rw (power count low, least, as_bits count) (and_mask word (8 * count))

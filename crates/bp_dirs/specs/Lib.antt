@@ -1,0 +1,2 @@
+pub mod EntryAt
+pub mod Names

@@ -1,0 +1,7 @@
+-- How many entries of a directory name an inode.
+use Rattle.std.specs.Prelude.{ℕ, not, ◌==◌, length, filter}
+use Rattle.bp_layout.specs.Words.{Image}
+use Rattle.bp_layout.specs.Directory.{inumber_in, slots}
+
+abbrev pub name_count : Image → ℕ → ℕ → ℕ
+name_count image root size = length (filter (λ slot. not (inumber_in image root slot == 0)) (slots size))

@@ -1,0 +1,121 @@
+//! What stands in a directory.
+
+ghost use Rattle.std.specs.Prelude.{◌≡◌, ◌≢◌, ◌+◌, ◌*◌, ◌/◌, ◌%◌, ◌<◌, ◌≤◌, ◌↔◌, length, IsTrue};
+ghost use Rattle.bp_layout.specs.Words.{height_of};
+ghost use Rattle.bp_layout.specs.Tree.{node, IsSound, IsFull};
+ghost use Rattle.bp_layout.specs.Directory.{word_in, inumber_in, name_in, empty_slot_in, slot_named_in};
+ghost use Rattle.bp_layout.specs.Limits.{max_name};
+ghost use Rattle.pm_region.specs.Memory.{current_words};
+ghost use Rattle.bp_dirs.specs.Names.{name_count};
+
+use crate::entry_at::{EntryAt, block_with};
+use crate::name_words::name_words;
+use bp_layout::Entry;
+use bp_tree::{Tree, content_place, content_word, leaf_block};
+use pm_region::Region;
+
+/// The number of the inode that the entry in a slot names, 0 where the entry is empty.
+pub fn inumber<R: Region>(region: &R, tree: Tree, slot: u64) -> u64
+    requires sound { IsSound (current_words (R.memory region.now)) tree.root tree.size }
+    requires live { slot < tree.size / 256 }
+    ensures { result ≡ inumber_in (current_words (R.memory region.now)) tree.root slot }
+{
+    content_word(region, tree, 32 * slot)
+}
+
+/// The least slot whose entry names an inode by this name, None where no entry does.
+pub fn find<R: Region>(region: &R, tree: Tree, name: &[u8]) -> Option<u64>
+    requires sound { IsSound (current_words (R.memory region.now)) tree.root tree.size }
+    requires short { length name.now ≤ max_name }
+    ensures { result ≡ slot_named_in (current_words (R.memory region.now)) tree.root tree.size name.now }
+{
+    let words = name_words(name);
+    let mut block = 0;
+    for slot in 0..tree.size / 256 {
+        block = block_with(region, tree, slot, block);
+        let at = EntryAt { tree, slot, block };
+        if at.is_named(region, name, &words) {
+            return Some(slot);
+        }
+    }
+    None
+}
+
+/// The least slot whose entry is empty, None where no entry is.
+pub fn free_slot<R: Region>(region: &R, tree: Tree) -> Option<u64>
+    requires { IsSound (current_words (R.memory region.now)) tree.root tree.size }
+    ensures { result ≡ empty_slot_in (current_words (R.memory region.now)) tree.root tree.size }
+{
+    let mut block = 0;
+    for slot in 0..tree.size / 256 {
+        block = block_with(region, tree, slot, block);
+        let at = EntryAt { tree, slot, block };
+        if at.word(region, 0) == 0 {
+            return Some(slot);
+        }
+    }
+    None
+}
+
+/// How many entries name an inode.
+pub fn count<R: Region>(region: &R, tree: Tree) -> u64
+    requires { IsSound (current_words (R.memory region.now)) tree.root tree.size }
+    ensures { result ≡ name_count (current_words (R.memory region.now)) tree.root tree.size }
+{
+    let mut names = 0;
+    let mut block = 0;
+    for slot in 0..tree.size / 256 {
+        block = block_with(region, tree, slot, block);
+        let at = EntryAt { tree, slot, block };
+        if at.word(region, 0) != 0 {
+            names += 1;
+        }
+    }
+    names
+}
+
+/// Whether no entry names an inode.
+pub fn is_empty<R: Region>(region: &R, tree: Tree) -> bool
+    requires { IsSound (current_words (R.memory region.now)) tree.root tree.size }
+    ensures { IsTrue result ↔ (name_count (current_words (R.memory region.now)) tree.root tree.size ≡ 0) }
+{
+    let mut block = 0;
+    for slot in 0..tree.size / 256 {
+        block = block_with(region, tree, slot, block);
+        let at = EntryAt { tree, slot, block };
+        if at.word(region, 0) != 0 {
+            return false;
+        }
+    }
+    true
+}
+
+/// The entry in a slot: the number of the inode that it names, and the name.
+pub fn entry<R: Region>(region: &R, tree: Tree, slot: u64) -> Entry
+    requires sound { IsSound (current_words (R.memory region.now)) tree.root tree.size }
+    requires live { slot < tree.size / 256 }
+    requires least { 1 ≤ word_in (current_words (R.memory region.now)) tree.root slot 1 }
+    requires most { word_in (current_words (R.memory region.now)) tree.root slot 1 ≤ max_name }
+    ensures inumber { result.inumber ≡ inumber_in (current_words (R.memory region.now)) tree.root slot }
+    ensures name { result.name.items ≡ name_in (current_words (R.memory region.now)) tree.root slot }
+{
+    let at = EntryAt {
+        tree,
+        slot,
+        block: leaf_block(region, tree, slot / 16),
+    };
+    Entry::read(&at.words(region))
+}
+
+/// The word of the region at which a word of the entry in a slot stands.
+pub fn entry_place<R: Region>(region: &R, tree: Tree, slot: u64, field: u32) -> u32
+    requires sound { IsSound (current_words (R.memory region.now)) tree.root tree.size }
+    requires full { IsFull (current_words (R.memory region.now)) tree.root tree.size }
+    requires live { slot < tree.size / 256 }
+    requires field { field < 32 }
+    ensures place { result ≡ 512 * node (current_words (R.memory region.now)) tree.root (height_of tree.root) ((32 * slot + field) / 512) + (32 * slot + field) % 512 }
+    ensures present { node (current_words (R.memory region.now)) tree.root (height_of tree.root) ((32 * slot + field) / 512) ≢ 0 }
+    ensures in_range { result < length (current_words (R.memory region.now)) }
+{
+    content_place(region, tree, 32 * slot + field as u64)
+}

@@ -1,0 +1,11 @@
+//! Directories: rows of entries in the content of a tree, 32 words each.
+//!
+//! Word 0 of an entry is the number of the inode that it names, 0 where the entry is empty. Word 1 is the length of the
+//! name in bytes, and from word 2 on stand the bytes.
+#![tactic(auto)]
+
+mod directory;
+mod entry_at;
+mod name_words;
+
+pub use directory::{count, entry, entry_place, find, free_slot, inumber, is_empty};

@@ -1,0 +1,2 @@
+pub mod FewInodes
+pub mod InodeWords

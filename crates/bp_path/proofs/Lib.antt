@@ -1,0 +1,3 @@
+pub mod PartsLaws
+pub mod WalkLaws
+pub mod Walking

@@ -1,0 +1,139 @@
+-- The parts of a text round each `/`.
+use Rattle.std.proofs.Common.{◌≡◌, ◌≢◌, ℕ, zero, suc, ◌+◌, ◌-◌, ◌<◌, ◌≤◌, Bool, true, false, ◌&&◌, ◌==◌, List, [], ◌∷◌, ◌++◌, length, take, drop, slice_index, position, nat_lt, Option, None, Some, refl, sym, ◌∙◌, ap, arith}
+use Rattle.std.specs.List.{list_all, position_or_len}
+use Rattle.std.proofs.lemmas.Bool.{eqb-true, eqb-false, ltb-false}
+use Rattle.std.proofs.lemmas.List.Folds.{list_all-append}
+use Rattle.std.proofs.lemmas.List.Sums.{fails_before_first}
+use Rattle.std.proofs.lemmas.List.{get_or-drop, length-drop, take-append-drop, drop_more, length-take, get_or-take}
+use Rattle.std.proofs.Math.Bool.{and-true}
+use Rattle.std.proofs.lemmas.List.Quantifiers.{position-Some}
+use Rattle.bp_layout.specs.PathText.{is_name, onto_first, parts}
+use Rattle.bp_path.specs.Names.{names_in}
+
+onto_first-append : (b : ℕ) (xs ys : List (List ℕ)) → xs ≢ [] → onto_first b (xs ++ ys) ≡ onto_first b xs ++ ys
+onto_first-append b [] ys some = absurd (some refl)
+onto_first-append b (x ∷ xs) ys some = refl
+
+parts-some : (text : List ℕ) → parts text ≢ []
+parts-some [] e = absurd (cc)
+parts-some (b ∷ text) e = go (b == 47) refl
+  where
+    go : (t : Bool) → (b == 47) ≡ t → ⊥
+    go true at = let none : [] ∷ parts text ≡ [] = rw at at e in absurd (cc)
+    go false at = onto (parts text) (rw at at e)
+      where
+        onto : (ps : List (List ℕ)) → onto_first b ps ≡ [] → ⊥
+        onto [] is = absurd (cc)
+        onto (p ∷ ps) is = absurd (cc)
+
+-- a `/` parts
+pub parts-append : (front rest : List ℕ) → parts (front ++ 47 ∷ rest) ≡ parts front ++ parts rest
+parts-append [] rest = refl
+parts-append (b ∷ front) rest = go (parts-append front rest) (b == 47) refl
+  where
+    go : parts (front ++ 47 ∷ rest) ≡ parts front ++ parts rest → (t : Bool) → (b == 47) ≡ t → parts ((b ∷ front) ++ 47 ∷ rest) ≡ parts (b ∷ front) ++ parts rest
+    go same true at = rw (at, same) refl
+    go same false at = rw (at, same) (onto_first-append b (parts front) (parts rest) (parts-some front))
+
+-- a text without one is one part
+pub parts-one : (text : List ℕ) → ((k : ℕ) → k < length text → slice_index text k ≢ 47) → parts text ≡ text ∷ []
+parts-one [] none = refl
+parts-one (b ∷ text) none = go (parts-one text (λ k h. none (suc k) (omega (arith, h)))) (b == 47) refl
+  where
+    go : parts text ≡ text ∷ [] → (t : Bool) → (b == 47) ≡ t → parts (b ∷ text) ≡ (b ∷ text) ∷ []
+    go same true at = absurd (none 0 (omega arith) (eqb-true b 47 at))
+    go same false at = rw (at, same) refl
+
+-- a text round a `/` in it
+cut_at : (text : List ℕ) (end : ℕ) → end < length text → slice_index text end ≡ 47 → text ≡ take end text ++ 47 ∷ drop (end + 1) text
+cut_at text end inside slash =
+    sym (take-append-drop end text) ∙ ap (λ rest. take end text ++ rest) (drop_more text end 0 inside ∙ ap (λ b. b ∷ drop (end + 1) text) slash)
+
+-- the parts of a text up to its first `/` and behind it
+pub first_part : (text : List ℕ) (end : ℕ) → position (λ b. b == 47) text ≡ Some end → parts text ≡ take end text ∷ parts (drop (end + 1) text)
+first_part text end found =
+    let here : (end < length text) × ((slice_index text end == 47) ≡ true) × ((k : ℕ) → k < end → (slice_index text k == 47) ≡ false) = position-Some (λ b. b == 47) text end 0 found in
+    let front : parts (take end text) ≡ take end text ∷ [] =
+    parts-one (take end text) (λ k h. let low : k < end = omega (arith, h, length-take end text) in
+    rw (get_or-take end text k 0 low) (eqb-false _ _ (here.2 k low))) in
+    ap parts (cut_at text end here.0 (eqb-true _ _ here.1)) ∙ parts-append (take end text) (drop (end + 1) text) ∙ ap (λ ps. ps ++ parts (drop (end + 1) text)) front
+
+-- where there is none
+pub only_part : (text : List ℕ) → position (λ b. b == 47) text ≡ None → parts text ≡ text ∷ []
+only_part text none = parts-one text (λ k h. eqb-false _ _ (fails_before_first (λ b. b == 47) text k 0 (omega (arith, h, all_before (nat_lt (position_or_len (λ b. b == 47) text) (length text)) refl))))
+  where
+    all_before : (t : Bool) → nat_lt (position_or_len (λ b. b == 47) text) (length text) ≡ t → length text ≤ position_or_len (λ b. b == 47) text
+    all_before true at = let some : ◌≡◌ {A = Option ℕ} (Some (position_or_len (λ b. b == 47) text)) None = rw at at none in absurd (cc)
+    all_before false at = ltb-false _ _ at
+
+-- ---- names
+
+and_parts : (a b : Bool) → (a && b) ≡ true → (a ≡ true) × (b ≡ true)
+and_parts true b both = (refl, both)
+and_parts false b both = absurd (cc)
+
+-- behind a `/` there is a name, so the text there is not empty
+pub names_behind : (text : List ℕ) → list_all is_name (parts text) ≡ true → names_in text ≡ parts text
+names_behind [] all = absurd (cc)
+names_behind (b ∷ text) all = refl
+
+pub names_first : (text : List ℕ) (end : ℕ) → list_all is_name (names_in text) ≡ true → position (λ b. b == 47) text ≡ Some end →
+    (names_in text ≡ take end text ∷ names_in (drop (end + 1) text)) × (list_all is_name (names_in (drop (end + 1) text)) ≡ true)
+names_first [] end all found = absurd (cc)
+names_first (b ∷ text) end all found =
+    let split : parts (b ∷ text) ≡ take end (b ∷ text) ∷ parts (drop (end + 1) (b ∷ text)) = first_part (b ∷ text) end found in
+    let both : (is_name (take end (b ∷ text)) && list_all is_name (parts (drop (end + 1) (b ∷ text)))) ≡ true = ap (list_all is_name) (sym split) ∙ all in
+    let rest : list_all is_name (parts (drop (end + 1) (b ∷ text))) ≡ true = (and_parts _ _ both).1 in
+    let same : names_in (drop (end + 1) (b ∷ text)) ≡ parts (drop (end + 1) (b ∷ text)) = names_behind (drop (end + 1) (b ∷ text)) rest in
+    (split ∙ ap (λ ps. take end (b ∷ text) ∷ ps) (sym same), ap (list_all is_name) same ∙ rest)
+
+pub names_only : (text : List ℕ) → 0 < length text → position (λ b. b == 47) text ≡ None → names_in text ≡ text ∷ []
+names_only [] some none = absurd (omega (arith, some))
+names_only (b ∷ text) some none = only_part (b ∷ text) none
+
+-- the names of a text by its last `/`
+pub names_last : (text : List ℕ) (start : ℕ) → start ≤ length text → parts (drop start text) ≡ drop start text ∷ [] →
+    (0 < start → slice_index text (start - 1) ≡ 47) → 0 < length text → list_all is_name (names_in text) ≡ true →
+    (names_in text ≡ names_in (take (start - 1) text) ++ drop start text ∷ []) × (list_all is_name (names_in (take (start - 1) text)) ≡ true)
+names_last [] start within last slash some all = absurd (omega (arith, some))
+names_last (b ∷ text) zero within last slash some all = (last, refl)
+names_last (b ∷ text) (suc end) within last slash some all =
+    let next : end + 1 ≡ suc end = omega arith in
+    let here : suc end - 1 ≡ end = omega arith in
+    let at : slice_index (b ∷ text) end ≡ 47 = ap (slice_index (b ∷ text)) (sym here) ∙ slash (omega arith) in
+    let split : parts (b ∷ text) ≡ parts (take end (b ∷ text)) ++ parts (drop (end + 1) (b ∷ text)) =
+    ap parts (cut_at (b ∷ text) end (omega (arith, within)) at) ∙ parts-append (take end (b ∷ text)) (drop (end + 1) (b ∷ text)) in
+    let tail : parts (drop (end + 1) (b ∷ text)) ≡ drop (suc end) (b ∷ text) ∷ [] = ap (λ k. parts (drop k (b ∷ text))) next ∙ last in
+    let both : (list_all is_name (parts (take end (b ∷ text))) && list_all is_name (parts (drop (end + 1) (b ∷ text)))) ≡ true =
+    sym (list_all-append is_name (parts (take end (b ∷ text))) (parts (drop (end + 1) (b ∷ text)))) ∙ ap (list_all is_name) (sym split) ∙ all in
+    let front : list_all is_name (parts (take end (b ∷ text))) ≡ true = (and_parts _ _ both).0 in
+    let same : names_in (take end (b ∷ text)) ≡ parts (take end (b ∷ text)) = names_behind (take end (b ∷ text)) front in
+    rw here (split ∙ ap (λ ps. parts (take end (b ∷ text)) ++ ps) tail ∙ ap (λ ps. ps ++ drop (suc end) (b ∷ text) ∷ []) (sym same), ap (list_all is_name) same ∙ front)
+
+-- the parts of a text that begins behind a `/`, or begins a text
+pub parts_one_more : (text : List ℕ) (start : ℕ) → ((k : ℕ) → start ≤ k → k < length text → slice_index text k ≢ 47) → parts (drop start text) ≡ drop start text ∷ []
+parts_one_more text start none = parts-one (drop start text) (λ k h. rw (get_or-drop start text k 0) (none (start + k) (omega arith) (omega (arith, h, length-drop start text))))
+
+-- ---- the test of all names, part by part
+
+pub not_all : (text : List ℕ) (end : ℕ) → position (λ b. b == 47) text ≡ Some end → is_name (take end text) ≡ false → list_all is_name (parts text) ≡ false
+not_all text end found no_name = ap (list_all is_name) (first_part text end found) ∙ ap (λ t. t && list_all is_name (parts (drop (end + 1) text))) no_name
+
+pub all_behind : (text : List ℕ) (end : ℕ) → position (λ b. b == 47) text ≡ Some end → is_name (take end text) ≡ true →
+    list_all is_name (parts text) ≡ list_all is_name (parts (drop (end + 1) text))
+all_behind text end found name = ap (list_all is_name) (first_part text end found) ∙ ap (λ t. t && list_all is_name (parts (drop (end + 1) text))) name
+
+pub all_one : (text : List ℕ) → position (λ b. b == 47) text ≡ None → list_all is_name (parts text) ≡ is_name text
+all_one text none = ap (list_all is_name) (only_part text none) ∙ and-true (is_name text)
+
+pub none_left : (o : Option ℕ) → ((x : ℕ) → o ≡ Some x → ⊥) → o ≡ None
+none_left None not_some = refl
+none_left (Some x) not_some = absurd (not_some x refl)
+
+pub empty_text : (text : List ℕ) → names_in text ≡ [] → length text ≡ 0
+empty_text [] none = refl
+empty_text (b ∷ text) none = absurd (parts-some (b ∷ text) none)
+
+pub no_text : (text : List ℕ) → length text ≡ 0 → names_in text ≡ []
+no_text [] none = refl
+no_text (b ∷ text) none = absurd (omega (arith, none))

@@ -1,0 +1,8 @@
+-- The names in the text of a path, behind its first `/`.
+use Rattle.std.specs.Prelude.{ℕ, List, [], ◌∷◌}
+use Rattle.bp_layout.specs.PathText.{parts}
+
+-- none in an empty text, and otherwise the parts round each `/`
+abbrev pub names_in : List ℕ → List (List ℕ)
+names_in [] = []
+names_in (b ∷ bytes) = parts (b ∷ bytes)

@@ -1,0 +1,28 @@
+-- What the answer of a walk says.
+use Rattle.std.specs.Prelude.{◌≡◌, ℕ, [], ◌∷◌, ◌++◌, Some, Result, Ok, Err}
+use Rattle.bp_layout.specs.Words.{Image}
+use Rattle.bp_layout.specs.Directory.{Name, slot_named}
+use Rattle.bp_layout.specs.Lookup.{Path, lookup}
+use Rattle.bp_path.specs.Walk.{Walked}
+use Rattle.bp_path.specs.Walk.Walked.{found, missing, in_file}
+use Rattle.bp_path.specs.declared.steps.Place.{Place}
+use Rattle.bp_path.specs.declared.steps.WalkFault.{WalkFault}
+use Rattle.bp_path.specs.declared.steps.WalkFault.TheVariants.{NotFound, NotDir}
+
+abbrev pub fault_of : WalkFault → Walked
+fault_of NotFound = missing
+fault_of NotDir = in_file
+
+-- where a walk ended, and where a walk to a parent did
+abbrev pub walked_of : Result Place WalkFault → Walked
+walked_of (Ok place) = found place.inumber
+walked_of (Err fault) = fault_of fault
+
+abbrev pub dir_of : Result ℕ WalkFault → Walked
+dir_of (Ok dir) = found dir
+dir_of (Err fault) = fault_of fault
+
+-- the directory and the slot by which a path leads to its inode, both 0 for `/`
+pub record IsEntryOf (image : Image) (path : Path) (place : Place) : Type 0 where
+  pub top : path ≡ [] → (place.dir ≡ 0) × (place.slot ≡ 0)
+  pub below : (parent : Path) (name : Name) → path ≡ parent ++ name ∷ [] → (lookup image parent ≡ Some place.dir) × (slot_named image place.dir name ≡ Some place.slot)

@@ -1,0 +1,29 @@
+-- A walk along names, from an inode on.
+use Rattle.std.specs.Prelude.{◌≡◌, ◌↔◌, ℕ, [], ◌∷◌, ◌==◌, Option, None, Some, if◌then◌else◌}
+use Rattle.bp_layout.specs.Words.{Image}
+use Rattle.bp_layout.specs.Inode.{kind_of}
+use Rattle.bp_layout.specs.Directory.{lookup_in}
+use Rattle.bp_layout.specs.Lookup.{Path, lookup_from}
+
+-- the inode where it ends, or how the first name fails: it is missing in a directory, or sought in a file
+pub data Walked : Type 0 where
+  found : ℕ → Walked
+  missing : Walked
+  in_file : Walked
+
+abbrev pub onward : (ℕ → Walked) → Option ℕ → Walked
+onward walk None = missing
+onward walk (Some i) = walk i
+
+abbrev pub walk_from : Image → ℕ → Path → Walked
+walk_from image i [] = found i
+walk_from image i (name ∷ names) = if kind_of image i == 2 then onward (λ j. walk_from image j names) (lookup_in image i name) else in_file
+
+-- a walk that is to end in a directory
+abbrev pub in_directory : Image → Walked → Walked
+in_directory image (found i) = if kind_of image i == 2 then found i else in_file
+in_directory image missing = missing
+in_directory image in_file = in_file
+
+abbrev pub WalkIsLookup : Image → Type 0
+WalkIsLookup image = (i j : ℕ) (names : Path) → (walk_from image i names ≡ found j) ↔ (lookup_from image i names ≡ Some j)

@@ -1,0 +1,93 @@
+//! The names in the text of a path.
+
+ghost use Rattle.std.specs.Prelude.{◌≡◌, ◌≢◌, ◌+◌, ◌-◌, ◌==◌, ◌&&◌, ◌<◌, ◌≤◌, ◌++◌, ◌∷◌, [], true, length, drop, take, slice_index, not, position};
+ghost use Rattle.std.specs.List.{list_all};
+ghost use Rattle.bp_layout.specs.PathText.{is_name, parts};
+ghost use Rattle.bp_path.specs.Names.{names_in};
+
+use bp_layout::limits::MAX_NAME;
+
+/// Whether no byte is 0 or `/`.
+fn has_plain_bytes(name: &[u8]) -> bool
+    ensures { result ≡ list_all (λ b. not (b == 0) && not (b == 47)) name.now }
+{
+    name.iter().all(|byte| *byte != 0 && *byte != b'/')
+}
+
+/// Whether these bytes may be a name: 1 to 240 of them, no byte 0 and no `/`, and neither `.` nor `..`.
+pub(crate) fn is_name(name: &[u8]) -> bool
+    ensures { result ≡ is_name name.now }
+{
+    if name.is_empty() {
+        return false;
+    }
+    if name.len() > MAX_NAME {
+        return false;
+    }
+    if name == b".".as_slice() {
+        return false;
+    }
+    if name == b"..".as_slice() {
+        return false;
+    }
+    has_plain_bytes(name)
+}
+
+/// Where the first `/` stands.
+fn first_slash(text: &[u8]) -> Option<usize>
+    ensures { result ≡ position (λ b. b == 47) text.now }
+{
+    text.iter().position(|byte| *byte == b'/')
+}
+
+/// Whether the parts round each `/` are names.
+pub(crate) fn are_names(text: &[u8]) -> bool
+    ensures { result ≡ list_all is_name (parts text.now) }
+{
+    let mut rest = text;
+    while let Some(end) = first_slash(rest) {
+        if !is_name(&rest[..end]) {
+            return false;
+        }
+        rest = &rest[end + 1..];
+    }
+    is_name(rest)
+}
+
+/// The first name of a text, and the text behind it.
+pub(crate) fn split_first(text: &[u8]) -> (&[u8], &[u8])
+    requires some { 0 < length text.now }
+    requires names { list_all is_name (names_in text.now) ≡ true }
+    ensures split { names_in text.now ≡ result.0.now ∷ names_in result.1.now }
+    ensures rest { list_all is_name (names_in result.1.now) ≡ true }
+    ensures shorter { length result.1.now < length text.now }
+{
+    match first_slash(text) {
+        Some(end) => (&text[..end], &text[end + 1..]),
+        None => (text, &text[text.len()..]),
+    }
+}
+
+/// Where the last part of a text begins.
+fn last_start(text: &[u8]) -> usize
+    ensures within { result ≤ length text.now }
+    ensures last { parts (drop result text.now) ≡ drop result text.now ∷ [] }
+    ensures slash { 0 < result → slice_index text.now (result - 1) ≡ 47 }
+{
+    let mut start = text.len();
+    while start > 0 && text[start - 1] != b'/' {
+        start -= 1;
+    }
+    start
+}
+
+/// The text before the last name, and the last name.
+pub(crate) fn split_last(text: &[u8]) -> (&[u8], &[u8])
+    requires some { 0 < length text.now }
+    requires names { list_all is_name (names_in text.now) ≡ true }
+    ensures split { names_in text.now ≡ names_in result.0.now ++ result.1.now ∷ [] }
+    ensures front { list_all is_name (names_in result.0.now) ≡ true }
+{
+    let start = last_start(text);
+    (&text[..start.saturating_sub(1)], &text[start..])
+}

@@ -1,0 +1,83 @@
+//! Paths that were read from text.
+
+ghost use Rattle.std.specs.Prelude.{◌≡◌, ◌≢◌, ◌++◌, ◌∷◌, ◌↔◌, [], true, List, ℕ, None, Some, IsTrue, IfOk, OnErr};
+ghost use Rattle.std.specs.List.{list_all};
+ghost use Rattle.bp_layout.specs.PathText.{is_name, parse};
+ghost use Rattle.bp_path.specs.Names.{names_in};
+
+use crate::names::{are_names, split_last};
+use bp_layout::limits::MAX_PATH;
+use std::marker::Model;
+
+/// A text is no path: it is longer than 4,096 bytes, or is neither `/` nor a `/` and a name, once or more.
+#[derive(Clone, Copy, Debug, PartialEq, Eq)]
+pub struct BadPath;
+
+/// A path from the root directory on: a list of names, none of them for `/`.
+#[derive(Drop)]
+pub struct Path<'a> {
+    // what stands behind the first `/`
+    text: &'a [u8],
+}
+
+impl<'a> Model for Path<'a> {
+    ghost Value = { List (List ℕ) };
+
+    ghost view = { λ path. names_in path.text.now };
+
+    ghost invariant = { λ path. list_all is_name (names_in path.text.now) ≡ true };
+}
+
+/// The path that a text spells.
+///
+/// # Errors
+///
+/// `BadPath` exactly where it spells none.
+pub fn parse(text: &[u8]) -> Result<Path<'_>, BadPath>
+    ensures ok { IfOk result (λ path. parse text.now ≡ Some path) }
+    ensures err { OnErr result (parse text.now ≡ None) }
+{
+    if text.is_empty() {
+        return Err(BadPath);
+    }
+    if text[0] != b'/' {
+        return Err(BadPath);
+    }
+    if text.len() > MAX_PATH {
+        return Err(BadPath);
+    }
+    let text = &text[1..];
+    if text.is_empty() {
+        return Ok(Path { text });
+    }
+    if !are_names(text) {
+        return Err(BadPath);
+    }
+    Ok(Path { text })
+}
+
+impl<'a> Path<'a> {
+    /// Whether it is `/`.
+    pub fn is_root(&self) -> bool
+        ensures { IsTrue result ↔ (self.now ≡ []) }
+    {
+        self.text().is_empty()
+    }
+
+    /// The names with a `/` between them.
+    pub(crate) fn text(&self) -> &'a [u8]
+        ensures names { names_in result.now ≡ self.now }
+        ensures right { list_all is_name (names_in result.now) ≡ true }
+    {
+        self.text
+    }
+
+    /// Its last name.
+    pub fn last(&self) -> &'a [u8]
+        requires { self.now ≢ [] }
+        ensures last { (parent : List (List ℕ)) (name : List ℕ) → self.now ≡ parent ++ name ∷ [] → result.now ≡ name }
+        ensures name { IsTrue (is_name result.now) }
+    {
+        split_last(self.text()).1
+    }
+}

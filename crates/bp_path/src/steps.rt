@@ -1,0 +1,138 @@
+//! Where a path leads, name by name from the root directory on.
+
+ghost use Rattle.std.specs.Prelude.{◌≡◌, ◌≢◌, ◌++◌, ◌∷◌, ◌≤◌, [], true, List, ℕ, length, Some, IfOk, IfErr};
+ghost use Rattle.std.specs.List.{list_all};
+ghost use Rattle.bp_layout.specs.Inode.{kind_of};
+ghost use Rattle.bp_layout.specs.Directory.{inumber_at, slot_named};
+ghost use Rattle.bp_layout.specs.Limits.{max_name};
+ghost use Rattle.bp_layout.specs.Lookup.{lookup};
+ghost use Rattle.bp_layout.specs.PathText.{is_name};
+ghost use Rattle.bp_layout.specs.Reached.{IsReached};
+ghost use Rattle.bp_layout.specs.WellFormed.{IsWellFormed};
+ghost use Rattle.pm_region.specs.Memory.{current_words};
+ghost use Rattle.bp_path.specs.Names.{names_in};
+ghost use Rattle.bp_path.specs.Walk.{walk_from, in_directory};
+ghost use Rattle.bp_path.specs.Places.{IsEntryOf, fault_of, walked_of, dir_of};
+
+use crate::names::{split_first, split_last};
+use crate::path::Path;
+use bp_dirs::{find, inumber};
+use bp_inodes::get;
+use bp_layout::Kind;
+use bp_tree::Tree;
+use pm_region::Region;
+
+/// The number of the root directory's inode.
+const ROOT: u32 = 1;
+
+/// The inode to which a path leads.
+#[derive(Clone, Copy, Debug, PartialEq, Eq)]
+pub struct Place {
+    /// Its number.
+    pub inumber: u32,
+    /// The directory whose entry names it, 0 for `/`.
+    pub dir: u32,
+    /// The slot of that entry, 0 for `/`.
+    pub slot: u64,
+}
+
+/// Why a path leads nowhere: of its names, in their order, the first that fails.
+#[derive(Clone, Copy, Debug, PartialEq, Eq)]
+pub enum WalkFault {
+    /// The name is sought in a directory that doesn't have it.
+    NotFound,
+    /// The name is sought in a file.
+    NotDir,
+}
+
+/// The inode that a name stands for in a directory.
+fn step<R: Region>(region: &R, dir: u32, name: &[u8]) -> Result<Place, WalkFault>
+    requires well { IsWellFormed (current_words (R.memory region.now)) }
+    requires reached { IsReached (current_words (R.memory region.now)) dir }
+    requires some { 1 ≤ dir }
+    requires short { length name.now ≤ max_name }
+    ensures kind { IfOk result (λ place. kind_of (current_words (R.memory region.now)) dir ≡ 2) }
+    ensures dir { IfOk result (λ place. place.dir ≡ dir) }
+    ensures slot { IfOk result (λ place. slot_named (current_words (R.memory region.now)) dir name.now ≡ Some place.slot) }
+    ensures inumber { IfOk result (λ place. inumber_at (current_words (R.memory region.now)) dir place.slot ≡ place.inumber) }
+    ensures fault { IfErr result (λ fault. (rest : List (List ℕ)) → walk_from (current_words (R.memory region.now)) dir (name.now ∷ rest) ≡ fault_of fault) }
+{
+    let inode = get(region, dir);
+    let tree = Tree {
+        root: inode.root,
+        size: inode.size,
+    };
+    match inode.kind {
+        Kind::File => Err(WalkFault::NotDir),
+        Kind::Dir => match find(region, tree, name) {
+            None => Err(WalkFault::NotFound),
+            Some(slot) => Ok(Place {
+                inumber: inumber(region, tree, slot) as u32,
+                dir,
+                slot,
+            }),
+        },
+    }
+}
+
+/// The inode to which names lead that stand with a `/` between them.
+fn walk_names<R: Region>(region: &R, text: &[u8]) -> Result<Place, WalkFault>
+    requires well { IsWellFormed (current_words (R.memory region.now)) }
+    requires names { list_all is_name (names_in text.now) ≡ true }
+    ensures walked { walked_of result ≡ walk_from (current_words (R.memory region.now)) 1 (names_in text.now) }
+    ensures lookup { IfOk result (λ place. lookup (current_words (R.memory region.now)) (names_in text.now) ≡ Some place.inumber) }
+    ensures entry { IfOk result (λ place. IsEntryOf (current_words (R.memory region.now)) (names_in text.now) place) }
+    ensures reached { IfOk result (λ place. IsReached (current_words (R.memory region.now)) place.inumber) }
+    ensures some { IfOk result (λ place. 1 ≤ place.inumber) }
+{
+    let mut place = Place {
+        inumber: ROOT,
+        dir: 0,
+        slot: 0,
+    };
+    let mut rest = text;
+    while !rest.is_empty() {
+        let (name, behind) = split_first(rest);
+        place = step(region, place.inumber, name)?;
+        rest = behind;
+    }
+    Ok(place)
+}
+
+/// The inode to which a path leads.
+///
+/// # Errors
+///
+/// The first name that fails, in order: `NotDir` where it is sought in a file, `NotFound` where a directory lacks it.
+pub fn walk<R: Region>(region: &R, path: &Path<'_>) -> Result<Place, WalkFault>
+    requires { IsWellFormed (current_words (R.memory region.now)) }
+    ensures walked { walked_of result ≡ walk_from (current_words (R.memory region.now)) 1 path.now }
+    ensures lookup { IfOk result (λ place. lookup (current_words (R.memory region.now)) path.now ≡ Some place.inumber) }
+    ensures entry { IfOk result (λ place. IsEntryOf (current_words (R.memory region.now)) path.now place) }
+    ensures reached { IfOk result (λ place. IsReached (current_words (R.memory region.now)) place.inumber) }
+    ensures some { IfOk result (λ place. 1 ≤ place.inumber) }
+{
+    walk_names(region, path.text())
+}
+
+/// The directory in which the last name of a path is to be sought.
+///
+/// # Errors
+///
+/// Those of a walk to the parent, and `NotDir` where the parent is a file.
+pub fn walk_parent<R: Region>(region: &R, path: &Path<'_>) -> Result<u32, WalkFault>
+    requires well { IsWellFormed (current_words (R.memory region.now)) }
+    requires below { path.now ≢ [] }
+    ensures walked { (parent : List (List ℕ)) (name : List ℕ) → path.now ≡ parent ++ name ∷ [] → dir_of result ≡ in_directory (current_words (R.memory region.now)) (walk_from (current_words (R.memory region.now)) 1 parent) }
+    ensures lookup { (parent : List (List ℕ)) (name : List ℕ) → path.now ≡ parent ++ name ∷ [] → IfOk result (λ dir. lookup (current_words (R.memory region.now)) parent ≡ Some dir) }
+    ensures kind { IfOk result (λ dir. kind_of (current_words (R.memory region.now)) dir ≡ 2) }
+    ensures reached { IfOk result (λ dir. IsReached (current_words (R.memory region.now)) dir) }
+    ensures some { IfOk result (λ dir. 1 ≤ dir) }
+{
+    let (parent, _) = split_last(path.text());
+    let dir = walk_names(region, parent)?.inumber;
+    match get(region, dir).kind {
+        Kind::File => Err(WalkFault::NotDir),
+        Kind::Dir => Ok(dir),
+    }
+}

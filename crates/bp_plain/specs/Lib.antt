@@ -1,0 +1,7 @@
+pub mod PlainTree
+pub mod Stands
+pub mod Calls
+pub mod Refusals
+pub mod Plain
+pub mod Seen
+pub mod SeenAnswers

@@ -1,0 +1,12 @@
+//! The calls on the files of a volume.
+
+/// A call on files and directories. Each path is the bytes of a path text, decoded.
+#[derive(Clone, Copy, Debug, PartialEq, Eq)]
+pub enum Call<'a> {
+    /// Makes an empty file at a path.
+    Create(&'a [u8]),
+    /// Asks for the names in the directory at a path.
+    List(&'a [u8]),
+    /// Asks for the size of the file, or the count of the directory, at a path.
+    Stat(&'a [u8]),
+}

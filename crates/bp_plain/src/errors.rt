@@ -1,0 +1,100 @@
+//! The refusals of calls.
+
+ghost use Rattle.bp_plain.specs.Refusals.{refusal_number, refusal_word};
+ghost use Rattle.bp_plain.specs.Seen.{refusal_of};
+ghost use Rattle.std.specs.Prelude.{◌≡◌};
+
+use thiserror::Error;
+
+/// Why a call was refused. The call has then changed nothing.
+#[derive(Clone, Copy, Debug, PartialEq, Eq, Error)]
+pub enum FsError {
+    /// The text of a path is not one.
+    #[error("bad path")]
+    BadPath,
+    /// A name on the way to what is asked for is missing.
+    #[error("not found")]
+    NotFound,
+    /// A file stands where a directory is wanted.
+    #[error("not a directory")]
+    NotDir,
+    /// A directory stands where a file is wanted.
+    #[error("is a directory")]
+    IsDir,
+    /// Something stands at the path already.
+    #[error("exists")]
+    Exists,
+    /// The directory has names in it.
+    #[error("not empty")]
+    NotEmpty,
+    /// A directory would move below itself.
+    #[error("into itself")]
+    IntoSelf,
+    /// The root directory can be neither removed nor moved.
+    #[error("is the root directory")]
+    IsRoot,
+    /// There are more bytes than one call takes.
+    #[error("too long")]
+    TooLong,
+    /// The file would grow past the greatest size.
+    #[error("too big")]
+    TooBig,
+    /// Fewer blocks are free than the call needs.
+    #[error("no space: {need} blocks are needed, {free} are free")]
+    NoSpace {
+        /// The blocks that the call needs.
+        need: u32,
+        /// The blocks that are free.
+        free: u32,
+    },
+    /// The program has no memory left for the answer.
+    #[error("out of memory")]
+    Memory,
+    /// This version can't do it yet.
+    #[error("not yet possible in this version")]
+    Later,
+}
+
+impl FsError {
+    /// The number under which replies tell the refusal.
+    pub fn number(&self) -> u8
+        ensures { result ≡ refusal_number (refusal_of self.now) }
+    {
+        match self {
+            FsError::BadPath => 1,
+            FsError::NotFound => 2,
+            FsError::NotDir => 3,
+            FsError::IsDir => 4,
+            FsError::Exists => 5,
+            FsError::NotEmpty => 6,
+            FsError::IntoSelf => 7,
+            FsError::IsRoot => 8,
+            FsError::TooLong => 9,
+            FsError::TooBig => 10,
+            FsError::NoSpace { .. } => 11,
+            FsError::Memory => 12,
+            FsError::Later => 22,
+        }
+    }
+
+    /// The word under which replies tell the refusal.
+    pub fn word(&self) -> &'static str
+        ensures { result.now ≡ refusal_word (refusal_of self.now) }
+    {
+        match self {
+            FsError::BadPath => "badpath",
+            FsError::NotFound => "notfound",
+            FsError::NotDir => "notdir",
+            FsError::IsDir => "isdir",
+            FsError::Exists => "exists",
+            FsError::NotEmpty => "notempty",
+            FsError::IntoSelf => "intoself",
+            FsError::IsRoot => "isroot",
+            FsError::TooLong => "toolong",
+            FsError::TooBig => "toobig",
+            FsError::NoSpace { .. } => "nospace",
+            FsError::Memory => "memory",
+            FsError::Later => "later",
+        }
+    }
+}

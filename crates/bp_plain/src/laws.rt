@@ -1,0 +1,21 @@
+//! Laws over what an image means.
+
+ghost use Rattle.bp_layout.specs.Format.{formatted};
+ghost use Rattle.bp_layout.specs.WellFormed.{IsWellFormed};
+ghost use Rattle.bp_plain.specs.PlainTree.{empty_tree};
+ghost use Rattle.bp_plain.specs.Stands.{Stands, StandsForOne};
+ghost use Rattle.std.specs.Prelude.{◌*◌, ◌≡◌, ◌≤◌, length};
+
+/// A well-formed image stands for exactly one plain tree.
+pub fn one_tree(_image: &[u64])
+    requires { IsWellFormed _image.now }
+    ensures { StandsForOne _image.now }
+{}
+
+/// After the stores of a format over any words, an image of so many blocks stands for the root directory alone.
+pub fn format_is_empty(_image: &[u64], _blocks: u64)
+    requires whole { length _image.now ≡ 512 * _blocks }
+    requires least { 8 ≤ _blocks }
+    requires most { _blocks ≤ 16384 }
+    ensures { Stands (formatted _image.now _blocks) empty_tree }
+{}

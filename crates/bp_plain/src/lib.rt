@@ -1,0 +1,14 @@
+//! The plain file tree that an image stands for, and the calls on it with their answers.
+#![tactic(auto)]
+
+mod calls;
+mod errors;
+pub mod laws;
+mod replies;
+
+pub use calls::Call;
+pub use errors::FsError;
+pub use replies::{Answer, MOST_BYTES, Reply};
+
+#[cfg(test)]
+mod tests;

@@ -1,0 +1,46 @@
+// Each call once, and the numbers and words of refusals.
+use super::*;
+use std::test::Fail;
+
+#[test]
+fn refusals(rt: HostRuntime) {
+    let full = FsError::NoSpace { need: 3, free: 2 };
+    let rows = [
+        (FsError::BadPath, 1, "badpath"),
+        (FsError::NotFound, 2, "notfound"),
+        (FsError::NotDir, 3, "notdir"),
+        (FsError::IsDir, 4, "isdir"),
+        (FsError::Exists, 5, "exists"),
+        (FsError::NotEmpty, 6, "notempty"),
+        (FsError::IntoSelf, 7, "intoself"),
+        (FsError::IsRoot, 8, "isroot"),
+        (FsError::TooLong, 9, "toolong"),
+        (FsError::TooBig, 10, "toobig"),
+        (full, 11, "nospace"),
+        (FsError::Memory, 12, "memory"),
+        (FsError::Later, 22, "later"),
+    ];
+    for (error, number, word) in rows {
+        assert_eq!(rt; error.number(), number);
+        assert_eq!(rt; error.word(), word);
+    }
+}
+
+#[test]
+fn answers(rt: HostRuntime) -> Result<(), Fail> {
+    let mut reply = Reply::new(rt.alloc())?;
+    assert!(rt; matches!(reply.answer(), Answer::Done));
+    reply.set_file(7);
+    assert!(rt; matches!(reply.answer(), Answer::FileOf(7)));
+    reply.set_dir(2);
+    assert!(rt; matches!(reply.answer(), Answer::DirOf(2)));
+    reply.set_bytes(b"abc");
+    assert!(rt; matches!(reply.answer(), Answer::Bytes(b"abc")));
+    reply.set_refused(FsError::Exists);
+    assert!(rt; matches!(reply.answer(), Answer::Refused(FsError::Exists)));
+    reply.set_names(bp_layout::Listing::of(Vec::new(rt.alloc())));
+    assert!(rt; matches!(reply.answer(), Answer::Names(_)));
+    reply.set_done();
+    assert!(rt; matches!(reply.answer(), Answer::Done));
+    Ok(())
+}

@@ -1,0 +1,29 @@
+-- Pieces written one after the other.
+use Rattle.std.proofs.Common.{◌≡◌, ℕ, ◌+◌, ◌<◌, ◌≤◌, List, [], ◌∷◌, ◌++◌, flat_map, length, get_or, take, drop, sym, ◌∙◌, ap, ap₂, arith, Bor}
+use Rattle.std.proofs.lemmas.List.{take_more, append-nil, take_at}
+use Rattle.std.proofs.lemmas.Slice.{drop-append-drop}
+use Rattle.std.proofs.lemmas.List.Concat.{flat_map-append}
+use Rattle.std.proofs.lemmas.List.Folds.{length-flat_map-take}
+
+abbrev pub joined : List (Bor (List ℕ)) → List ℕ
+joined pieces = flat_map (λ piece. piece.now) pieces
+
+pub joined_more : (pieces : List (Bor (List ℕ))) (i : ℕ) (d : Bor (List ℕ)) → i < length pieces → joined (take (i + 1) pieces) ≡ joined (take i pieces) ++ (get_or pieces i d).now
+joined_more pieces i d low =
+    ap joined (take_more pieces i d low) ∙ flat_map-append (λ piece. piece.now) (take i pieces) (get_or pieces i d ∷ [])
+    ∙ ap (λ x. joined (take i pieces) ++ x) (append-nil (get_or pieces i d).now)
+
+-- there is room for the next piece
+pub piece_fits : (pieces : List (Bor (List ℕ))) (i at : ℕ) (d : Bor (List ℕ)) (into first : List ℕ) → i < length pieces → length (joined pieces) ≤ length into →
+    at ≡ length (joined (take i pieces)) → at + length (get_or pieces i d).now ≤ length into
+piece_fits pieces i at d into first low room end = omega (arith, length-flat_map-take (λ (piece : Bor (List ℕ)). piece.now) pieces i d low)
+
+-- a piece behind what was written
+pub piece_placed : (before piece into first new : List ℕ) (at end : ℕ) → into ≡ before ++ drop at first → at ≡ length before →
+    new ≡ take at into ++ piece ++ drop (at + length piece) into → end ≡ at + length piece → new ≡ (before ++ piece) ++ drop end first
+piece_placed before piece into first new at end is len put ends =
+    let same : length before ≡ at = sym len in
+    let front : take at into ≡ before = ap (take at) is ∙ take_at before (drop at first) at same in
+    let back : drop (at + length piece) into ≡ drop end first =
+    ap (drop (at + length piece)) is ∙ drop-append-drop at first before (at + length piece) (omega arith) same ∙ ap (λ n. drop n first) (sym ends) in
+    put ∙ ap₂ (λ x y. x ++ piece ++ y) front back

@@ -1,0 +1,3 @@
+pub mod Joining
+pub mod NameText
+pub mod Splitting

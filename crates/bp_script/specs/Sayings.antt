@@ -1,0 +1,35 @@
+-- The text of each line that the program writes.
+use Rattle.std.specs.Prelude.{ℕ, ◌≤◌, List, length, codes, decimal, ◌++◌}
+use Rattle.bp_layout.specs.Limits.{max_name}
+use Rattle.bp_plain.specs.Calls.{most_bytes}
+use Rattle.bp_plain.specs.Seen.{refusal_of}
+use Rattle.bp_script.specs.declared.replies.Said.{Said}
+use Rattle.bp_script.specs.declared.replies.Said.TheVariants as said
+use Rattle.bp_script.specs.declared.notices.Notice.{Notice}
+use Rattle.bp_script.specs.declared.notices.Notice.TheVariants as notice
+use Rattle.bp_script.specs.Texts.{done_text, data_text, entry_text, end_text, file_text, dir_text, refusal_text, syntax_text, long_line_text}
+
+abbrev pub said_text : Said → List ℕ
+said_text said.Done = done_text
+said_text (said.Bytes content) = data_text content.now
+said_text (said.Name kind name) = entry_text (kind, name.now)
+said_text said.End = end_text
+said_text (said.FileOf size) = file_text size
+said_text (said.DirOf count) = dir_text count
+said_text (said.Refused error) = refusal_text (refusal_of error)
+said_text said.Syntax = syntax_text
+said_text said.LongLine = long_line_text
+
+-- bytes and names are no longer than those of a reply
+abbrev pub FitsReply : Said → Type 0
+FitsReply (said.Bytes content) = length content.now ≤ most_bytes
+FitsReply (said.Name kind name) = length name.now ≤ max_name
+FitsReply _ = Unit {0}
+
+abbrev pub notice_text : Notice → List ℕ
+notice_text (notice.Formatted blocks free) = codes "formatted " ++ decimal blocks ++ codes " " ++ decimal free ++ codes "\n"
+notice_text notice.NotFormatted = codes "err 30 notformatted\n"
+notice_text (notice.BadSize found wanted) = codes "err 31 badsize " ++ decimal found ++ codes " " ++ decimal wanted ++ codes "\n"
+notice_text notice.Later = codes "err 33 later\n"
+notice_text notice.NoFile = codes "err 34 nofile\n"
+notice_text notice.Usage = codes "usage: bpfs format FILE --blocks N / run FILE\n"

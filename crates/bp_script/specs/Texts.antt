@@ -1,0 +1,89 @@
+-- The lines of replies. Each ends with a newline.
+use Rattle.std.specs.Prelude.{ℕ, List, [], ◌∷◌, ◌++◌, Bool, ◌==◌, ◌||◌, nat_le, codes, decimal, flat_map, if◌then◌else◌}
+use Rattle.hex.specs.Hex.{encode_lower}
+use Rattle.percent_encoding.specs.Percent.{percent_encode_byte}
+use Rattle.bp_layout.specs.Directory.{Name}
+use Rattle.bp_layout.specs.declared.fields.Kind.{Kind}
+use Rattle.bp_layout.specs.declared.fields.Kind.TheVariants.{File, Dir}
+use Rattle.bp_plain.specs.Calls.{Answer, Refusal}
+use Rattle.bp_plain.specs.Calls.Answer.{done, bytes, file_of, dir_of, names, refused}
+use Rattle.bp_plain.specs.Calls.Refusal.{no_space}
+use Rattle.bp_plain.specs.Refusals.{refusal_number, refusal_word}
+
+-- ---- names
+
+-- Control bytes, the space, `%`, `/` and all bytes outside ASCII are escaped.
+abbrev pub is_escaped : ℕ → Bool
+is_escaped b = nat_le b 32 || b == 37 || b == 47 || nat_le 127 b
+
+-- a name, each escaped byte of it as `%` and two upper-case digits
+abbrev pub name_text : Name → List ℕ
+name_text name = flat_map (λ b. if is_escaped b then percent_encode_byte b else b ∷ []) name
+
+abbrev pub kind_letter : Kind → List ℕ
+kind_letter File = codes "f"
+kind_letter Dir = codes "d"
+
+-- ---- one line each
+
+abbrev pub done_text : List ℕ
+done_text = codes "ok\n"
+
+-- `-` stands for no bytes
+abbrev pub digits_or_dash : List ℕ → List ℕ
+digits_or_dash [] = codes "-"
+digits_or_dash (b ∷ content) = encode_lower (b ∷ content)
+
+abbrev pub data_text : List ℕ → List ℕ
+data_text content = codes "data " ++ digits_or_dash content ++ codes "\n"
+
+abbrev pub entry_text : Kind × Name → List ℕ
+entry_text (kind, name) = codes "entry " ++ kind_letter kind ++ codes " " ++ name_text name ++ codes "\n"
+
+abbrev pub end_text : List ℕ
+end_text = codes "end\n"
+
+abbrev pub file_text : ℕ → List ℕ
+file_text size = codes "file " ++ decimal size ++ codes "\n"
+
+abbrev pub dir_text : ℕ → List ℕ
+dir_text count = codes "dir " ++ decimal count ++ codes "\n"
+
+-- the numbers that stand behind a refusal's word
+abbrev pub details : Refusal → List ℕ
+details (no_space need free) = codes " " ++ decimal need ++ codes " " ++ decimal free
+details _ = []
+
+abbrev pub refusal_text : Refusal → List ℕ
+refusal_text refusal = codes "err " ++ decimal (refusal_number refusal) ++ codes " " ++ refusal_word refusal ++ details refusal ++ codes "\n"
+
+abbrev pub syntax_text : List ℕ
+syntax_text = codes "err 20 syntax\n"
+
+abbrev pub long_line_text : List ℕ
+long_line_text = codes "err 21 line\n"
+
+-- ---- replies
+
+pub data Reply : Type 0 where
+  answered : Answer → Reply
+  synced : Reply
+  syntax : Reply
+  long : Reply
+
+abbrev pub listing_text : List (Kind × Name) → List ℕ
+listing_text entries = flat_map entry_text entries ++ end_text
+
+abbrev pub answer_text : Answer → List ℕ
+answer_text done = done_text
+answer_text (bytes content) = data_text content
+answer_text (file_of size) = file_text size
+answer_text (dir_of count) = dir_text count
+answer_text (names entries) = listing_text entries
+answer_text (refused refusal) = refusal_text refusal
+
+abbrev pub reply_text : Reply → List ℕ
+reply_text (answered answer) = answer_text answer
+reply_text synced = done_text
+reply_text syntax = syntax_text
+reply_text long = long_line_text

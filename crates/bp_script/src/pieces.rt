@@ -1,0 +1,42 @@
+//! Texts put together from pieces.
+
+ghost use Rattle.hex.specs.Hex.{encode_lower};
+ghost use Rattle.std.specs.Prelude.{drop, flat_map, length, take, ◌*◌, ◌+◌, ◌++◌, ◌≡◌, ◌≤◌};
+
+/// Writes pieces one after the other to the front of a buffer, and tells how many bytes they are.
+pub(crate) fn write_pieces(into: &mut [u8], pieces: &[&[u8]]) -> usize
+    requires { length (flat_map (λ piece. piece.now) pieces.now) ≤ length into.old }
+    ensures text { into.new ≡ flat_map (λ piece. piece.now) pieces.now ++ drop result into.old }
+    ensures len { result ≡ length (flat_map (λ piece. piece.now) pieces.now) }
+{
+    let mut end = 0;
+    for piece in pieces {
+        end = put(into, end, piece);
+    }
+    end
+}
+
+/// Writes a piece at a place of a buffer, and tells where it ends.
+pub(crate) fn put(into: &mut [u8], at: usize, piece: &[u8]) -> usize
+    requires { at + length piece.now ≤ length into.old }
+    ensures text { into.new ≡ take at into.old ++ piece.now ++ drop (at + length piece.now) into.old }
+    ensures end { result ≡ at + length piece.now }
+{
+    let end = at + piece.len();
+    into[at..end].copy_from_slice(piece);
+    end
+}
+
+/// Writes the hexadecimal digits of bytes at a place of a buffer, and tells where they end.
+pub(crate) fn put_digits(into: &mut [u8], at: usize, content: &[u8]) -> usize
+    requires { at + 2 * length content.now ≤ length into.old }
+    ensures text { into.new ≡ take at into.old ++ encode_lower content.now ++ drop (at + 2 * length content.now) into.old }
+    ensures end { result ≡ at + 2 * length content.now }
+{
+    let end = at + 2 * content.len();
+    match hex::encode_to_slice(content, &mut into[at..end]) {
+        Ok(()) => {}
+        Err(_) => unreachable!(),
+    }
+    end
+}

@@ -1,0 +1,168 @@
+//! The lines of replies.
+
+ghost use Rattle.bp_layout.specs.Limits.{max_name};
+ghost use Rattle.bp_plain.specs.Calls.{most_bytes};
+ghost use Rattle.bp_plain.specs.Seen.{refusal_of};
+ghost use Rattle.bp_script.specs.Sayings.{FitsReply, said_text};
+ghost use Rattle.bp_script.specs.Texts.{data_text, entry_text, kind_letter, name_text, refusal_text};
+ghost use Rattle.std.specs.Prelude.{drop, length, take, ◌*◌, ◌++◌, ◌≡◌, ◌≤◌};
+
+use crate::pieces::{put, put_digits, write_pieces};
+use arrayvec::ArrayVec;
+use bp_layout::Kind;
+use bp_plain::FsError;
+use percent_encoding::{AsciiSet, CONTROLS, ascii_set, percent_encode};
+
+/// The room in bytes that serves every line of a reply.
+pub const MOST_TEXT: usize = 140_000;
+
+/// The bytes of ASCII that a name's text escapes: control bytes, the space, `%` and `/`.
+const ESCAPED: AsciiSet = ascii_set!(CONTROLS.add(b' ').add(b'%').add(b'/'));
+
+/// A line of a reply.
+#[derive(Clone, Copy, Debug)]
+pub enum Said<'a> {
+    /// The call was carried out.
+    Done,
+    /// Bytes of a file.
+    Bytes(&'a [u8]),
+    /// A name of a directory.
+    Name {
+        /// What the name stands for.
+        kind: Kind,
+        /// Its bytes.
+        name: &'a [u8],
+    },
+    /// The end of the names of a directory.
+    End,
+    /// A file of so many bytes.
+    FileOf(u64),
+    /// A directory with so many names.
+    DirOf(u64),
+    /// The call was refused.
+    Refused(FsError),
+    /// The line was none of a script.
+    Syntax,
+    /// The line had too many bytes.
+    LongLine,
+}
+
+/// Writes a line of a reply with its newline to the front of `into`, and tells how many bytes it is.
+pub fn say(said: &Said<'_>, into: &mut [u8]) -> usize
+    requires room { 140000 ≤ length into.old }
+    requires short { FitsReply said.now }
+    ensures front { take result into.new ≡ said_text said.now }
+    ensures whole { into.new ≡ said_text said.now ++ drop result into.old }
+    ensures len { result ≡ length (said_text said.now) }
+    ensures fits { result ≤ length into.new }
+{
+    match *said {
+        Said::Done => write_pieces(into, &[b"ok\n"]),
+        Said::Bytes(content) => say_bytes(content, into),
+        Said::Name { kind, name } => say_name(kind, name, into),
+        Said::End => write_pieces(into, &[b"end\n"]),
+        Said::FileOf(size) => {
+            let mut digits = itoa::Buffer::new();
+            write_pieces(into, &[b"file ", digits.format(size).as_bytes(), b"\n"])
+        }
+        Said::DirOf(count) => {
+            let mut digits = itoa::Buffer::new();
+            write_pieces(into, &[b"dir ", digits.format(count).as_bytes(), b"\n"])
+        }
+        Said::Refused(error) => say_refused(error, into),
+        Said::Syntax => write_pieces(into, &[b"err 20 syntax\n"]),
+        Said::LongLine => write_pieces(into, &[b"err 21 line\n"]),
+    }
+}
+
+/// Writes the line of a refusal.
+fn say_refused(error: FsError, into: &mut [u8]) -> usize
+    requires { 140000 ≤ length into.old }
+    ensures whole { into.new ≡ refusal_text (refusal_of error) ++ drop result into.old }
+    ensures len { result ≡ length (refusal_text (refusal_of error)) }
+{
+    let mut number = itoa::Buffer::new();
+    let number = number.format(error.number()).as_bytes();
+    let word = error.word().as_bytes();
+    match error {
+        FsError::NoSpace { need, free } => {
+            let mut needed = itoa::Buffer::new();
+            let mut left = itoa::Buffer::new();
+            write_pieces(
+                into,
+                &[
+                    b"err ",
+                    number,
+                    b" ",
+                    word,
+                    b" ",
+                    needed.format(need).as_bytes(),
+                    b" ",
+                    left.format(free).as_bytes(),
+                    b"\n",
+                ],
+            )
+        }
+        _ => write_pieces(into, &[b"err ", number, b" ", word, b"\n"]),
+    }
+}
+
+/// Writes the line of a name.
+fn say_name(kind: Kind, name: &[u8], into: &mut [u8]) -> usize
+    requires room { 140000 ≤ length into.old }
+    requires short { length name.now ≤ max_name }
+    ensures whole { into.new ≡ entry_text (kind, name.now) ++ drop result into.old }
+    ensures len { result ≡ length (entry_text (kind, name.now)) }
+{
+    let text = escaped(name);
+    write_pieces(
+        into,
+        &[
+            b"entry ",
+            letter_of(kind).as_bytes(),
+            b" ",
+            text.as_slice(),
+            b"\n",
+        ],
+    )
+}
+
+/// The letter of a kind.
+fn letter_of(kind: Kind) -> &'static str
+    ensures { result.now ≡ kind_letter kind }
+{
+    match kind {
+        Kind::File => "f",
+        Kind::Dir => "d",
+    }
+}
+
+/// The text of a name.
+fn escaped(name: &[u8]) -> ArrayVec<u8, 720>
+    requires { length name.now ≤ max_name }
+    ensures { result.items ≡ name_text name.now }
+{
+    let mut text = ArrayVec::new();
+    for piece in percent_encode(name, ESCAPED) {
+        match text.try_extend_from_slice(piece.as_bytes()) {
+            Ok(()) => {}
+            Err(_) => unreachable!(),
+        }
+    }
+    text
+}
+
+/// Writes the line of bytes of a file.
+fn say_bytes(content: &[u8], into: &mut [u8]) -> usize
+    requires room { 140000 ≤ length into.old }
+    requires short { length content.now ≤ most_bytes }
+    ensures whole { into.new ≡ data_text content.now ++ drop result into.old }
+    ensures len { result ≡ length (data_text content.now) }
+{
+    if content.is_empty() {
+        return write_pieces(into, &[b"data -\n"]);
+    }
+    let end = put(into, 0, b"data ");
+    let end = put_digits(into, end, content);
+    put(into, end, b"\n")
+}

@@ -1,0 +1,152 @@
+// Rows of the table of commands with hostile lines, and each text once.
+ghost use Rattle.bp_script.specs.Sayings.{FitsReply};
+
+use super::*;
+use bp_layout::Kind;
+use bp_plain::{Call, FsError};
+use std::process::Abort;
+use std::test::Fail;
+
+fn asks(rt: &impl Abort, decoded: &mut Decoded, bytes: &[u8], want: Result<Line<'_>, Syntax>) {
+    assert!(rt; bytes.len() <= decoded.room());
+    assert_eq!(rt; decoded.line(bytes), want, "{bytes:?}");
+}
+
+#[test]
+fn lines_of_the_table(rt: HostRuntime) -> Result<(), Fail> {
+    let mut decoded = Decoded::new(rt.alloc(), 64)?;
+    let calls: [(&[u8], Call<'static>); 11] = [
+        (b"create /a", Call::Create(b"/a")),
+        (b"list /", Call::List(b"/")),
+        (b"stat /a/b", Call::Stat(b"/a/b")),
+        (b"create a", Call::Create(b"a")),
+        (b"create /a%2Fb", Call::Create(b"/a\0b")),
+        (b"create /a%2fb%20c", Call::Create(b"/a\0b c")),
+        (b"stat %", Call::Stat(b"%")),
+        (b"stat /%4/%zz", Call::Stat(b"/%4/%zz")),
+        (b"stat /%%41", Call::Stat(b"/%A")),
+        (b"stat /%2/F", Call::Stat(b"/%2/F")),
+        (b"list //a\r", Call::List(b"//a\r")),
+    ];
+    for (bytes, call) in calls {
+        asks(&rt, &mut decoded, bytes, Ok(Line::Call(call)));
+    }
+    asks(&rt, &mut decoded, b"sync", Ok(Line::Sync));
+    Ok(())
+}
+
+#[test]
+fn lines_outside_the_table(rt: HostRuntime) -> Result<(), Fail> {
+    let mut decoded = Decoded::new(rt.alloc(), 64)?;
+    let lines: [&[u8]; 14] = [
+        b"",
+        b" ",
+        b"sync ",
+        b" sync",
+        b"sync\r",
+        b"sync /a",
+        b"SYNC",
+        b"create",
+        b"create ",
+        b"create  /a",
+        b"create /a ",
+        b"create /a /b",
+        b"creat /a",
+        b"remove /a",
+    ];
+    for bytes in lines {
+        asks(&rt, &mut decoded, bytes, Err(Syntax));
+    }
+    Ok(())
+}
+
+fn says(rt: &impl Abort, said: &Said<'_>, into: &mut [u8], want: &[u8])
+    requires { FitsReply said.now }
+{
+    assert!(rt; into.len() >= MOST_TEXT);
+    let end = say(said, into);
+    assert!(rt; &into[..end] == want, "{said:?}");
+}
+
+#[test]
+fn reply_texts(rt: HostRuntime) -> Result<(), Fail> {
+    let mut into = vec![in rt.alloc(); 0u8; MOST_TEXT]?;
+    let into = into.as_mut_slice();
+    let full = FsError::NoSpace { need: 5, free: 4 };
+    says(&rt, &Said::Done, into, b"ok\n");
+    says(&rt, &Said::End, into, b"end\n");
+    says(
+        &rt,
+        &Said::FileOf(549_755_813_888),
+        into,
+        b"file 549755813888\n",
+    );
+    says(&rt, &Said::DirOf(0), into, b"dir 0\n");
+    says(
+        &rt,
+        &Said::Refused(FsError::BadPath),
+        into,
+        b"err 1 badpath\n",
+    );
+    says(
+        &rt,
+        &Said::Refused(FsError::NotDir),
+        into,
+        b"err 3 notdir\n",
+    );
+    says(&rt, &Said::Refused(full), into, b"err 11 nospace 5 4\n");
+    says(&rt, &Said::Refused(FsError::Later), into, b"err 22 later\n");
+    says(&rt, &Said::Syntax, into, b"err 20 syntax\n");
+    says(&rt, &Said::LongLine, into, b"err 21 line\n");
+    says(
+        &rt,
+        &Said::Bytes(&[0, 10, 255, 0xab]),
+        into,
+        b"data 000affab\n",
+    );
+    says(&rt, &Said::Bytes(&[]), into, b"data -\n");
+    Ok(())
+}
+
+#[test]
+fn name_texts(rt: HostRuntime) -> Result<(), Fail> {
+    let mut into = vec![in rt.alloc(); 0u8; MOST_TEXT]?;
+    let rows: [(Kind, &[u8], &[u8]); 5] = [
+        (Kind::Dir, b"d", b"entry d d\n"),
+        (Kind::File, b"a b", b"entry f a%20b\n"),
+        (Kind::File, b"50%/\x7f\n", b"entry f 50%25%2F%7F%0A\n"),
+        (Kind::File, b"\xc3\xa9\xff~!", b"entry f %C3%A9%FF~!\n"),
+        (Kind::File, b"plain.TXT-_", b"entry f plain.TXT-_\n"),
+    ];
+    for (kind, name, want) in rows {
+        assert!(rt; name.len() <= 240);
+        says(&rt, &Said::Name { kind, name }, &mut into, want);
+    }
+    Ok(())
+}
+
+#[test]
+fn notices(rt: HostRuntime) {
+    let mut into = [0u8; 128];
+    let rows: [(Notice, &[u8]); 6] = [
+        (Notice::Formatted { blocks: 8, free: 6 }, b"formatted 8 6\n"),
+        (Notice::NotFormatted, b"err 30 notformatted\n"),
+        (
+            Notice::BadSize {
+                found: 32_767,
+                wanted: u64::MAX,
+            },
+            b"err 31 badsize 32767 18446744073709551615\n",
+        ),
+        (Notice::Later, b"err 33 later\n"),
+        (Notice::NoFile, b"err 34 nofile\n"),
+        (
+            Notice::Usage,
+            b"usage: bpfs format FILE --blocks N / run FILE\n",
+        ),
+    ];
+    for (notice, want) in rows {
+        let end = announce(&notice, &mut into);
+        assert_eq!(rt; &into[..end], want);
+    }
+}

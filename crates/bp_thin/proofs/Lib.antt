@@ -1,0 +1,11 @@
+pub mod LeafLaws
+pub mod FlatLaws
+pub mod SpareLaws
+pub mod AddedLaws
+pub mod EnteredLaws
+pub mod FreeLaws
+pub mod EntryLaws
+pub mod SparePlaces
+pub mod CallLaws
+pub mod RoomLaws
+pub mod NeedLaws

@@ -1,0 +1,54 @@
+//! Stores of a new inode, and of an entry that names it.
+
+ghost use Rattle.std.specs.Prelude.{◌≡◌, ◌+◌, ◌≤◌, length};
+ghost use Rattle.pm_epochs.specs.May.{AnyAt};
+ghost use Rattle.pm_region.specs.Memory.{current_words, room_in};
+ghost use Rattle.pm_region.specs.Safe.{AddsMay};
+ghost use Rattle.bp_layout.specs.Limits.{max_name};
+ghost use Rattle.bp_layout.specs.Words.{word};
+ghost use Rattle.bp_thin.specs.Entered.{HasFileAt, HasNameAt, IsWithin};
+
+use bp_layout::name_word;
+use pm_region::Region;
+
+/// Makes the inode at a place a file without bytes.
+pub fn fill<R: Region>(region: &mut R, place: u32)
+    requires in_range { place + 3 ≤ length (R.memory region.old).base }
+    requires room { 3 ≤ room_in (R.memory region.old) }
+    ensures stores { AddsMay (AnyAt (IsWithin place 3)) 0 3 (R.memory region.old) (R.memory region.new) }
+    ensures file { HasFileAt (current_words (R.memory region.new)) place }
+{
+    // Words are counted in 32 bits, so that the last place fits.
+    let _words = region.words();
+    region.store(place, 1);
+    region.store(place + 1, 0);
+    region.store(place + 2, 0);
+}
+
+/// Writes a name into the entry at a place: its length, and its bytes.
+pub fn put_name<R: Region>(region: &mut R, place: u32, name: &[u8])
+    requires in_range { place + 32 ≤ length (R.memory region.old).base }
+    requires short { length name.now ≤ max_name }
+    requires room { 31 ≤ room_in (R.memory region.old) }
+    ensures stores { AddsMay (AnyAt (IsWithin (place + 1) 31)) 0 31 (R.memory region.old) (R.memory region.new) }
+    ensures name { HasNameAt (current_words (R.memory region.new)) place name.now }
+{
+    let _words = region.words();
+    region.store(place + 1, name.len() as u64);
+    for i in 0..name.len().div_ceil(8) {
+        region.store(place + 2 + i as u32, name_word(name, i));
+    }
+}
+
+/// Writes an inumber and a name into the entry at a place.
+pub fn put_entry<R: Region>(region: &mut R, place: u32, inode: u32, name: &[u8])
+    requires in_range { place + 32 ≤ length (R.memory region.old).base }
+    requires short { length name.now ≤ max_name }
+    requires room { 32 ≤ room_in (R.memory region.old) }
+    ensures stores { AddsMay (AnyAt (IsWithin place 32)) 0 32 (R.memory region.old) (R.memory region.new) }
+    ensures inumber { word (current_words (R.memory region.new)) place ≡ inode }
+    ensures name { HasNameAt (current_words (R.memory region.new)) place name.now }
+{
+    region.store(place, u64::from(inode));
+    put_name(region, place, name);
+}

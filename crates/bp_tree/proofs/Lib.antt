@@ -1,0 +1,12 @@
+pub mod Below
+pub mod BlockCounts
+pub mod ContentParts
+pub mod Digits
+pub mod NextSlot
+pub mod PathLaws
+pub mod Ranges
+pub mod NullLeaves
+pub mod RegionWords
+pub mod SetSizes
+pub mod StepDown
+pub mod StoredBytes

@@ -1,0 +1,28 @@
+//! How many blocks a tree has.
+
+ghost use Rattle.bp_layout.specs.Tree.{IsSound};
+ghost use Rattle.pm_region.specs.Memory.{current_words};
+ghost use Rattle.bp_tree.specs.Counts.{HasBlockCount};
+
+use crate::subtrees::{child, live_slots};
+use crate::tree::Tree;
+use pm_region::Region;
+
+/// How many blocks a tree has, which is how many of its nodes are present: live, and no null on the way to them.
+pub fn count_live<R: Region>(region: &R, tree: Tree) -> u32
+    requires { IsSound (current_words (R.memory region.now)) tree.root tree.size }
+    ensures { HasBlockCount (current_words (R.memory region.now)) tree.root tree.size result }
+{
+    let _words = region.words();
+    if tree.size == 0 || tree.root >> 12 == 0 {
+        return 0;
+    }
+    if tree.root & 7 == 0 {
+        return 1;
+    }
+    let mut count = 1;
+    for slot in 0..live_slots(tree) {
+        count += count_live(region, child(region, tree, slot));
+    }
+    count
+}

@@ -1,0 +1,24 @@
+//! The walk from a root word down to one of its words.
+
+ghost use Rattle.std.specs.Prelude.{◌≡◌};
+ghost use Rattle.bp_layout.specs.Tree.{word_at, IsLiveWord, IsSound};
+ghost use Rattle.pm_region.specs.Memory.{current_words};
+
+use crate::tree::{Tree, load_slot};
+use pm_region::Region;
+
+/// The word with a number among those at a depth, where the root word alone is at depth 0.
+pub(crate) fn descend<R: Region>(region: &R, tree: Tree, depth: u32, index: u64) -> u64
+    requires sound { IsSound (current_words (R.memory region.now)) tree.root tree.size }
+    requires live { IsLiveWord tree.root tree.size depth index }
+    ensures { result ≡ word_at (current_words (R.memory region.now)) tree.root depth index }
+{
+    let mut word = tree.root;
+    let mut levels = depth;
+    while levels > 0 {
+        levels -= 1;
+        let slot = (index >> (9 * levels)) & 511;
+        word = load_slot(region, word >> 12, slot);
+    }
+    word
+}

@@ -1,0 +1,21 @@
+//! Trees of blocks: the words and bytes that stand under a root word.
+//!
+//! A tree is a root word and a size in bytes. Below the root stand as many levels of pointer blocks as its height says,
+//! and below these the leaves: blocks of 512 content words. A null pointer stands for zeros.
+#![tactic(auto)]
+
+pub mod counts;
+mod descent;
+pub mod nulls;
+pub mod paths;
+pub mod reading;
+mod subtrees;
+#[cfg(test)]
+mod tests;
+pub mod tree;
+
+pub use counts::count_live;
+pub use nulls::first_null;
+pub use paths::{Slots, address, word_path};
+pub use reading::read;
+pub use tree::{Tree, content_place, content_word, leaf_block, load_slot, node};

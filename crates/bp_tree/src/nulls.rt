@@ -1,0 +1,36 @@
+//! The first null of a tree.
+
+ghost use Rattle.std.specs.Prelude.{ℕ, IfSome, IfNone};
+ghost use Rattle.bp_layout.specs.Tree.{IsSound};
+ghost use Rattle.pm_region.specs.Memory.{current_words};
+ghost use Rattle.bp_tree.specs.Nulls.{HasNoNullLeaf, IsFirstNullLeaf};
+
+use crate::subtrees::{child, live_slots};
+use crate::tree::Tree;
+use pm_region::Region;
+use pm_words::span;
+
+/// The number of the first live leaf that is null, where each leaf under a null pointer is null too. None where no leaf is.
+/// It goes down through live pointers alone, and no further than the first null.
+pub fn first_null<R: Region>(region: &R, tree: Tree) -> Option<u64>
+    requires { IsSound (current_words (R.memory region.now)) tree.root tree.size }
+    ensures some { IfSome result (λ leaf. IsFirstNullLeaf (current_words (R.memory region.now)) tree.root tree.size leaf) }
+    ensures none { IfNone result (HasNoNullLeaf (current_words (R.memory region.now)) tree.root tree.size) }
+{
+    if tree.size == 0 {
+        return None;
+    }
+    if tree.root >> 12 == 0 {
+        return Some(0);
+    }
+    if tree.root & 7 == 0 {
+        return None;
+    }
+    for slot in 0..live_slots(tree) {
+        if let Some(leaf) = first_null(region, child(region, tree, slot)) {
+            let level = (tree.root & 7) as u32 - 1;
+            return Some(slot * (span(level) / 4096) + leaf);
+        }
+    }
+    None
+}

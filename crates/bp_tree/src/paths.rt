@@ -1,0 +1,47 @@
+//! Word paths: the slots through which one goes to a word from the root word of the inode file.
+
+ghost use Rattle.std.specs.Prelude.{◌≡◌, ℕ, suc, ◌+◌, ◌*◌, ◌/◌, ◌%◌, ◌<◌, ◌≤◌, length};
+ghost use Rattle.std.specs.List.{All};
+ghost use Rattle.bp_layout.specs.Words.{height_of};
+ghost use Rattle.bp_layout.specs.WordPaths.{digits, address, Exists};
+ghost use Rattle.pm_region.specs.Memory.{current_words};
+ghost use Rattle.bp_tree.specs.Paths.{IsInRange};
+
+use crate::tree::Tree;
+use arrayvec::ArrayVec;
+use pm_region::Region;
+
+/// A word path: slots below 512, from the top. The empty one names the root word of the inode file.
+pub type Slots = ArrayVec<u16, 12>;
+
+/// The path from a tree's root word to the content word that has a byte: the slots through which one goes to its leaf, as
+/// many as the tree is high, and then its slot there.
+pub fn word_path(tree: Tree, offset: u64) -> Slots
+    ensures { result.items ≡ digits (suc (height_of tree.root)) (offset / 8) }
+{
+    let word = offset / 8;
+    let mut path = Slots::new();
+    let mut levels = (tree.root & 7) as u32 + 1;
+    while levels > 0 {
+        levels -= 1;
+        path.push(((word >> (9 * levels)) & 511) as u16);
+    }
+    path
+}
+
+/// The word of the region that a path names.
+pub fn address<R: Region>(region: &R, path: &Slots) -> u32
+    requires exists { Exists (current_words (R.memory region.now)) path.now.items }
+    requires slots { All (λ slot. slot < 512) path.now.items }
+    requires in_range { IsInRange (current_words (R.memory region.now)) path.now.items }
+    ensures address { result ≡ address (current_words (R.memory region.now)) path.now.items }
+    ensures in_range { 2 < length (current_words (R.memory region.now)) → result < length (current_words (R.memory region.now)) }
+{
+    let _words = region.words();
+    let mut place = 2;
+    for slot in path.as_slice() {
+        let block = region.load(place) >> 12;
+        place = (512 * block + *slot as u64) as u32;
+    }
+    place
+}

@@ -1,0 +1,90 @@
+//! Reading bytes: a walk for each leaf, and then word by word.
+
+ghost use Rattle.std.specs.Prelude.{◌≡◌, ℕ, ◌+◌, ◌-◌, ◌*◌, ◌/◌, ◌%◌, ◌<◌, ◌≤◌, length, take, drop, min};
+ghost use Rattle.bp_layout.specs.Tree.{IsSound};
+ghost use Rattle.pm_region.specs.Memory.{current_words};
+ghost use Rattle.bp_tree.specs.Bytes.{stored_bytes, content_part};
+
+use crate::tree::{Tree, leaf_block};
+use pm_region::Region;
+
+/// Reads the bytes of a tree from `offset` on, as many as `into` has room for and lie below the size, and says how many
+/// these are. There are none from the size on. The rest of `into` stays.
+pub fn read<R: Region>(region: &R, tree: Tree, offset: u64, into: &mut [u8]) -> usize
+    requires { IsSound (current_words (R.memory region.now)) tree.root tree.size }
+    ensures count { result ≡ min (length into.old) (tree.size - offset) }
+    ensures bytes { take result into.new ≡ content_part (current_words (R.memory region.now)) tree.root offset result }
+    ensures rest { drop result into.new ≡ drop result into.old }
+{
+    let count = (into.len() as u64).min(tree.size.saturating_sub(offset)) as usize;
+    let mut done = 0;
+    while done < count {
+        let from = offset + done as u64;
+        let to = done + (4096 - (from % 4096) as usize).min(count - done);
+        read_leaf(region, tree, from, &mut into[done..to]);
+        done = to;
+    }
+    count
+}
+
+/// Reads bytes that lie in one leaf.
+fn read_leaf<R: Region>(region: &R, tree: Tree, offset: u64, into: &mut [u8])
+    requires sound { IsSound (current_words (R.memory region.now)) tree.root tree.size }
+    requires some { 0 < length into.old }
+    requires live { offset + length into.old ≤ tree.size }
+    requires within { offset % 4096 + length into.old ≤ 4096 }
+    ensures { into.new ≡ content_part (current_words (R.memory region.now)) tree.root offset (length into.old) }
+{
+    let _words = region.words();
+    let leaf = leaf_block(region, tree, offset / 4096);
+    if leaf == 0 {
+        into.fill(0);
+    } else {
+        read_bytes(region, 4096 * leaf + offset % 4096, into);
+    }
+}
+
+/// Reads bytes of the region from a place on, where word `w` has the places `8 * w` to `8 * w + 7`.
+fn read_bytes<R: Region>(region: &R, place: u64, into: &mut [u8])
+    requires some { 0 < length into.old }
+    requires in_range { place + length into.old ≤ 8 * length (current_words (R.memory region.now)) }
+    ensures { into.new ≡ stored_bytes (current_words (R.memory region.now)) place (length into.old) }
+{
+    let _words = region.words();
+    let word = (place / 8) as u32;
+    let first = (place % 8) as usize;
+    let head = (8 - first).min(into.len());
+    let end = into.len();
+    read_part(region, word, first, &mut into[..head]);
+    read_words(region, word + 1, &mut into[head..end]);
+}
+
+/// Reads the bytes of the words from one on.
+fn read_words<R: Region>(region: &R, word: u32, into: &mut [u8])
+    requires { 8 * word + length into.old ≤ 8 * length (current_words (R.memory region.now)) }
+    ensures { into.new ≡ stored_bytes (current_words (R.memory region.now)) (8 * word) (length into.old) }
+{
+    let _words = region.words();
+    let end = into.len();
+    let mut next = word;
+    let mut done = 0;
+    while end - done >= 8 {
+        into[done..done + 8].copy_from_slice(&region.load(next).to_le_bytes());
+        next += 1;
+        done += 8;
+    }
+    if done < end {
+        read_part(region, next, 0, &mut into[done..end]);
+    }
+}
+
+/// Reads some of the bytes of a word.
+fn read_part<R: Region>(region: &R, word: u32, first: usize, into: &mut [u8])
+    requires word { word < length (current_words (R.memory region.now)) }
+    requires within { first + length into.old ≤ 8 }
+    ensures { into.new ≡ stored_bytes (current_words (R.memory region.now)) (8 * word + first) (length into.old) }
+{
+    let _words = region.words();
+    let bytes = region.load(word).to_le_bytes();
+    into.copy_from_slice(&bytes[first..first + into.len()]);
+}

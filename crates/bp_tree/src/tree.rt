@@ -1,0 +1,75 @@
+ghost use Rattle.std.specs.Prelude.{◌≡◌, ◌≢◌, ◌+◌, ◌-◌, ◌*◌, ◌/◌, ◌%◌, ◌<◌, ◌≤◌, suc, length};
+ghost use Rattle.bp_layout.specs.Words.{block_count, height_of, slot_word};
+ghost use Rattle.bp_layout.specs.Tree.{node, content_word, covered, IsSound};
+ghost use Rattle.pm_region.specs.Memory.{current_words};
+
+use crate::descent::descend;
+use pm_region::Region;
+
+/// A tree: its root word, which holds the height and the topmost block, and its size in bytes.
+#[derive(Clone, Copy, Debug, PartialEq, Eq)]
+pub struct Tree {
+    /// Bits 0 to 2 are the height, bits 12 to 63 the number of the topmost block.
+    pub root: u64,
+    /// How many bytes of content there are.
+    pub size: u64,
+}
+
+/// The word in a slot of a block, 0 where the block is 0, which stands for no block.
+pub fn load_slot<R: Region>(region: &R, block: u64, slot: u64) -> u64
+    requires block { block < block_count (current_words (R.memory region.now)) }
+    requires slot { slot < 512 }
+    ensures { result ≡ slot_word (current_words (R.memory region.now)) block slot }
+{
+    // Words are counted in 32 bits, so that the place of one fits.
+    let _words = region.words();
+    if block == 0 {
+        0
+    } else {
+        region.load((512 * block + slot) as u32)
+    }
+}
+
+/// The block with a number among those that stand `level` levels above the leaves, 0 where it is null.
+pub fn node<R: Region>(region: &R, tree: Tree, level: u32, index: u64) -> u32
+    requires sound { IsSound (current_words (R.memory region.now)) tree.root tree.size }
+    requires level { level ≤ height_of tree.root }
+    requires live { index * covered (suc level) < tree.size }
+    ensures node { result ≡ node (current_words (R.memory region.now)) tree.root (height_of tree.root - level) index }
+    ensures in_range { result < block_count (current_words (R.memory region.now)) }
+{
+    let _words = region.words();
+    let depth = (tree.root & 7) as u32 - level;
+    (descend(region, tree, depth, index) >> 12) as u32
+}
+
+/// The block that holds the content words `512 * leaf` to `512 * leaf + 511`, 0 where it is null.
+pub fn leaf_block<R: Region>(region: &R, tree: Tree, leaf: u64) -> u64
+    requires sound { IsSound (current_words (R.memory region.now)) tree.root tree.size }
+    requires live { 4096 * leaf < tree.size }
+    ensures node { result ≡ node (current_words (R.memory region.now)) tree.root (height_of tree.root) leaf }
+    ensures in_range { result < block_count (current_words (R.memory region.now)) }
+{
+    descend(region, tree, (tree.root & 7) as u32, leaf) >> 12
+}
+
+/// The content word with a number, bytes `8 * index` to `8 * index + 7`, the lowest first.
+pub fn content_word<R: Region>(region: &R, tree: Tree, index: u64) -> u64
+    requires sound { IsSound (current_words (R.memory region.now)) tree.root tree.size }
+    requires live { 8 * index < tree.size }
+    ensures { result ≡ content_word (current_words (R.memory region.now)) tree.root index }
+{
+    descend(region, tree, (tree.root & 7) as u32 + 1, index)
+}
+
+/// The word of the region at which the content word with a number stands.
+pub fn content_place<R: Region>(region: &R, tree: Tree, index: u64) -> u32
+    requires sound { IsSound (current_words (R.memory region.now)) tree.root tree.size }
+    requires live { 8 * index < tree.size }
+    requires present { node (current_words (R.memory region.now)) tree.root (height_of tree.root) (index / 512) ≢ 0 }
+    ensures place { result ≡ 512 * node (current_words (R.memory region.now)) tree.root (height_of tree.root) (index / 512) + index % 512 }
+    ensures in_range { result < length (current_words (R.memory region.now)) }
+{
+    let _words = region.words();
+    (512 * leaf_block(region, tree, index / 512) + index % 512) as u32
+}

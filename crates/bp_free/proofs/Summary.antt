@@ -1,0 +1,205 @@
+-- The summary of a set, a number for each word that is not empty, and the count.
+use Rattle.std.proofs.Common.{◌≡◌, ℕ, ◌+◌, ◌-◌, ◌/◌, ◌^◌, ◌<◌, ◌≤◌, ◌≢◌, [], length, Bool, true, false, refl, sym, ◌∙◌, ap, arith, inl, inr, Option, Some, None}
+use Rattle.std.specs.Prelude.{MatchOption}
+use Rattle.std.specs.Option.{is_some}
+use Rattle.std.proofs.lemmas.Bool.{cases_eq, cases_lt}
+use Rattle.std.proofs.lemmas.List.{length-set, length-replicate, get_or-replicate}
+use Rattle.bp_free.specs.Set.{Set, has, members, with, without, empty, IsLeast, Fills}
+use Rattle.bp_free.specs.Words.{IsSummary, IsCounted, IsEmptyWord, IsLeastInWord}
+use Rattle.bp_free.proofs.Members.{has_past, has_with_same, has_with_other, has_without_same, has_without_other, members_empty, members_none, count_with, count_without, count_less}
+
+-- ---- cases
+
+both : {b : Bool} → b ≡ true → b ≡ false → ⊥
+both yes' no' = cc
+
+pub has_low : (s : Set) (i : ℕ) → has s i ≡ true → i < length s
+has_low s i there = elim (cases_lt i (length s)) [ inl low ↦ low | inr past ↦ absurd (both there (has_past s i past)) ]
+
+pub lacks : (s : Set) (i : ℕ) → (has s i ≡ true → ⊥) → has s i ≡ false
+lacks s i never = lacks_test (has s i) never
+  where
+    lacks_test : (b : Bool) → (b ≡ true → ⊥) → b ≡ false
+    lacks_test true never = absurd (never refl)
+    lacks_test false never = refl
+
+pub has_empty : (room i : ℕ) → has (empty room) i ≡ false
+has_empty room i =
+    let long : length (empty room) ≡ room = length-replicate room false in
+    elim (cases_lt i room) [
+      | inl low ↦ get_or-replicate room i false false low
+      | inr past ↦ has_past (empty room) i (omega (arith, past, long))
+    ]
+
+pub at_none : {X : Type 0} (r : Option X) (A : Type 0) (B : X → Type 0) → MatchOption r A B → is_some r ≡ false → A
+at_none None A B a none = a
+at_none (Some x) A B a none = absurd (both refl none)
+
+pub at_some : {X : Type 0} (r : Option X) (A : Type 0) (B : X → Type 0) → MatchOption r A B → is_some r ≡ true → (x : X) × B x
+at_some None A B a some = absurd (both some refl)
+at_some (Some x) A B b some = (x, b)
+
+-- ---- the summary
+
+word_low : (s used : Set) (i : ℕ) → IsSummary s used → i < length s → i / 64 < length used
+word_low s used i sum low = omega (arith, low, sum.room)
+
+summary_with : (s used : Set) (i : ℕ) → IsSummary s used → i < length s → IsSummary (with s i) (with used (i / 64))
+summary_with s used i sum low =
+    let long = length-set s i true in
+    let long_used = length-set used (i / 64) true in
+    let place = word_low s used i sum low in
+    record {
+      room = omega (arith, sum.room, long, long_used);
+      all = λ k there. elim (cases_eq (k / 64) (i / 64)) [
+        | inl here ↦ ap (has (with used (i / 64))) here ∙ has_with_same used (i / 64) place
+        | inr other ↦
+            let apart : k ≢ i = λ same. other (ap (λ j. j / 64) same) in
+            has_with_other used (i / 64) (k / 64) other ∙ sum.all k (sym (has_with_other s i k apart) ∙ there)
+      ];
+      some = λ word there. elim (cases_eq word (i / 64)) [
+        | inl here ↦ (i, sym here, has_with_same s i low)
+        | inr other ↦
+            let found = sum.some word (sym (has_with_other used (i / 64) word other) ∙ there) in
+            let apart : found.0 ≢ i = λ same. other (sym found.1 ∙ ap (λ j. j / 64) same) in
+            (found.0, found.1, has_with_other s i found.0 apart ∙ found.2)
+      ];
+    }
+
+still : (s : Set) (i k : ℕ) → i < length s → has (without s i) k ≡ true → (k ≢ i) × (has s k ≡ true)
+still s i k low there =
+    let apart : k ≢ i = λ same. both (sym (ap (has (without s i)) same) ∙ there) (has_without_same s i low) in
+    (apart, sym (has_without_other s i k apart) ∙ there)
+
+summary_without_last : (s used : Set) (i : ℕ) → IsSummary s used → i < length s → IsEmptyWord (without s i) (i / 64) → IsSummary (without s i) (without used (i / 64))
+summary_without_last s used i sum low none =
+    let long = length-set s i false in
+    let long_used = length-set used (i / 64) false in
+    let place = word_low s used i sum low in
+    record {
+      room = omega (arith, sum.room, long, long_used);
+      all = λ k there.
+          let other : k / 64 ≢ i / 64 = λ here. both there (none k here) in
+          has_without_other used (i / 64) (k / 64) other ∙ sum.all k (still s i k low there).1;
+      some = λ word there.
+          let in_use = still used (i / 64) word place there in
+          let found = sum.some word in_use.1 in
+          let apart : found.0 ≢ i = λ same. in_use.0 (sym found.1 ∙ ap (λ j. j / 64) same) in
+          (found.0, found.1, has_without_other s i found.0 apart ∙ found.2);
+    }
+
+summary_without : (s used : Set) (i j : ℕ) → IsSummary s used → i < length s → IsLeastInWord (without s i) (i / 64) j → IsSummary (without s i) used
+summary_without s used i j sum low least =
+    let long = length-set s i false in
+    record {
+      room = omega (arith, sum.room, long);
+      all = λ k there. sum.all k (still s i k low there).1;
+      some = λ word there. elim (cases_eq word (i / 64)) [
+        | inl here ↦ (j, least.place ∙ sym here, least.is_in)
+        | inr other ↦
+            let found = sum.some word there in
+            let apart : found.0 ≢ i = λ same. other (sym found.1 ∙ ap (λ j. j / 64) same) in
+            (found.0, found.1, has_without_other s i found.0 apart ∙ found.2)
+      ];
+    }
+
+-- ---- with the count
+
+pub counted_empty : (room words : ℕ) → room < 2 ^ 32 → words ≡ (room + 63) / 64 → IsCounted (empty room) (empty words) 0
+counted_empty room words fits size =
+    let long : length (empty room) ≡ room = length-replicate room false in
+    let long_words : length (empty words) ≡ words = length-replicate words false in
+    record {
+      number = sym (ap length (members_empty room));
+      fits = omega (arith, fits, long);
+      summary = record {
+        room = long_words ∙ size ∙ sym (ap (λ n. (n + 63) / 64) long);
+        all = λ i there. absurd (both there (has_empty room i));
+        some = λ word there. absurd (both there (has_empty words word));
+      };
+    }
+
+pub counted_with : (s used new new_used : Set) (count i : ℕ) → IsCounted s used count → new ≡ with s i → new_used ≡ with used (i / 64) → i < length s → has s i ≡ false → IsCounted new new_used (count + 1)
+counted_with s used new new_used count i counted is used_is low out =
+    let more = count_with s i low out in
+    let long = length-set s i true in
+    rw (is, used_is) (record {
+      number = omega (arith, counted.number, more);
+      fits = omega (arith, counted.fits, long);
+      summary = summary_with s used i counted.summary low;
+    })
+
+pub counted_without_last : (s used new new_used : Set) (count i : ℕ) → IsCounted s used count → new ≡ without s i → new_used ≡ without used (i / 64) → i < length s → has s i ≡ true → IsEmptyWord new (i / 64) → IsCounted new new_used (count - 1)
+counted_without_last s used new new_used count i counted is used_is low there none =
+    let less = count_without s i low there in
+    let long = length-set s i false in
+    let none_left : IsEmptyWord (without s i) (i / 64) = λ k here. sym (ap (λ s. has s k) is) ∙ none k here in
+    rw (is, used_is) (record {
+      number = omega (arith, counted.number, less);
+      fits = omega (arith, counted.fits, long);
+      summary = summary_without_last s used i counted.summary low none_left;
+    })
+
+pub counted_without : (s used new : Set) (count i j : ℕ) → IsCounted s used count → new ≡ without s i → i < length s → has s i ≡ true → IsLeastInWord new (i / 64) j → IsCounted new used (count - 1)
+counted_without s used new count i j counted is low there least =
+    let less = count_without s i low there in
+    let long = length-set s i false in
+    let left : IsLeastInWord (without s i) (i / 64) j = rw is at least in
+    rw is (record {
+      number = omega (arith, counted.number, less);
+      fits = omega (arith, counted.fits, long);
+      summary = summary_without s used i j counted.summary low left;
+    })
+
+pub one_there : (s used : Set) (count i : ℕ) → IsCounted s used count → i < length s → has s i ≡ true → 1 ≤ count
+one_there s used count i counted low there = let less = count_without s i low there in omega (arith, counted.number, less)
+
+pub one_fits : (s used : Set) (count i : ℕ) → IsCounted s used count → i < length s → has s i ≡ false → count + 1 < 2 ^ 32
+one_fits s used count i counted low out = let less = count_less s i low out in omega (arith, counted.number, counted.fits, less)
+
+-- ---- the least number
+
+pub none_used : (s used : Set) → IsSummary s used → ((word : ℕ) → has used word ≡ false) → members s ≡ []
+none_used s used sum none = members_none s (λ i. lacks s i (λ there. both (sum.all i there) (none (i / 64))))
+
+pub none_before : (s used : Set) (word : ℕ) → IsSummary s used → IsLeast used word → (k : ℕ) → k / 64 < word → has s k ≡ false
+none_before s used word sum least k low = lacks s k (λ there. both (sum.all k there) (least.first (k / 64) low))
+
+pub not_empty : (s used : Set) (word : ℕ) → IsSummary s used → IsLeast used word → IsEmptyWord s word → ⊥
+not_empty s used word sum least none =
+    let found = sum.some word least.is_in in
+    both found.2 (none found.0 found.1)
+
+-- ---- a run of numbers joins
+
+pub fills_none : (from : ℕ) (s : Set) → Fills from from s s
+fills_none from s = record {
+  room = refl;
+  inside = λ k low high. absurd (omega (arith, low, high));
+  below = λ k low. refl;
+  above = λ k high. refl;
+}
+
+pub fills_had : (from i : ℕ) (old s : Set) → Fills from i old s → has s i ≡ true → Fills from (i + 1) old s
+fills_had from i old s fills there = record {
+  room = fills.room;
+  inside = λ k low high. elim (cases_eq k i) [
+    | inl same ↦ ap (has s) same ∙ there
+    | inr other ↦ fills.inside k low (omega (arith, high, other))
+  ];
+  below = fills.below;
+  above = λ k high. fills.above k (omega (arith, high));
+}
+
+pub fills_more : (from i : ℕ) (old s new : Set) → from ≤ i → Fills from i old s → i < length s → new ≡ with s i → Fills from (i + 1) old new
+fills_more from i old s new order fills low is =
+    let long = length-set s i true in
+    rw is (record {
+      room = long ∙ fills.room;
+      inside = λ k from_k high. elim (cases_eq k i) [
+        | inl same ↦ ap (has (with s i)) same ∙ has_with_same s i low
+        | inr other ↦ has_with_other s i k other ∙ fills.inside k from_k (omega (arith, high, other))
+      ];
+      below = λ k low_k. has_with_other s i k (omega (arith, order, low_k)) ∙ fills.below k low_k;
+      above = λ k high. has_with_other s i k (omega (arith, high)) ∙ fills.above k (omega (arith, high));
+    })

@@ -1,0 +1,243 @@
+-- A set in words: what a write of one bit does to it, and its least number in a word.
+use Rattle.std.proofs.Common.{◌≡◌, ℕ, ◌+◌, ◌*◌, ◌/◌, ◌%◌, ◌^◌, ◌<◌, ◌≤◌, ◌≢◌, List, length, Bool, true, false, set, replicate, get_or, refl, sym, ◌∙◌, ap, subst, arith, inl, inr}
+use Rattle.std.specs.Prelude.{eqb}
+use Rattle.std.specs.Int.{bit_at, bit_not, w64, trailing_zeros}
+use Rattle.std.specs.Int.Bits.{bit_and, bit_or}
+use Rattle.std.proofs.lemmas.Bool.{cases_eq, cases_lt}
+use Rattle.std.proofs.lemmas.List.{get_or_read, get_or-set_same, get_or-set_other, get_or_past, get_or-replicate, length-set, length-replicate, ext_get_or}
+use Rattle.std.proofs.lemmas.List.FromFn.{length-map-range_with_len, get_or-map-range_with_len}
+use Rattle.std.proofs.lemmas.Nat.Bits.{bit_at-zero, bit_at-trailing_zeros, shr_and_one, bit_at_set_same, bit_at_set_other, bit_at_clear_same, bit_at_clear_other}
+use Rattle.bp_free.specs.Set.{Set, has, with, without, empty, IsLeast}
+use Rattle.bp_free.specs.Words.{word_has, set_in, HoldRoom, IsLowestBit, IsLeastInWord, IsEmptyWord}
+
+-- the word of number i with its bit set, and with it cleared
+abbrev pub set_bit : List ℕ → ℕ → ℕ
+set_bit words i = bit_or (get_or words (i / 64) 0) (1 * 2 ^ (i % 64) % 2 ^ 64)
+
+abbrev pub clear_bit : List ℕ → ℕ → ℕ
+clear_bit words i = bit_and (get_or words (i / 64) 0) (bit_not w64 (1 * 2 ^ (i % 64) % 2 ^ 64))
+
+pub length_in : (words : List ℕ) (room : ℕ) → length (set_in words room) ≡ room
+unfolding set_in
+length_in words room = length-map-range_with_len (word_has words) 0 room
+
+has_low : (words : List ℕ) (room i : ℕ) → i < room → has (set_in words room) i ≡ word_has words i
+unfolding set_in
+has_low words room i low = get_or-map-range_with_len (word_has words) 0 room i i false low (omega arith)
+
+pub has_in : (words : List ℕ) (room : ℕ) → HoldRoom words room → (i : ℕ) → has (set_in words room) i ≡ word_has words i
+has_in words room hold i =
+    elim (cases_lt i room) [
+      | inl low ↦ has_low words room i low
+      | inr high ↦
+          let long : length (set_in words room) ≡ room = length_in words room in
+          get_or_past (set_in words room) i false (omega (arith, long, high)) ∙ sym (hold.behind i high)
+    ]
+
+-- ---- one bit
+
+word_here : (words : List ℕ) (at w k : ℕ) → at < length words → k / 64 ≡ at → word_has (set words at w) k ≡ eqb (bit_at w (k % 64)) 1
+unfolding word_has
+word_here words at w k low here =
+    ap (λ v. eqb (bit_at v (k % 64)) 1) (ap (λ j. get_or (set words at w) j 0) here ∙ get_or-set_same words at w 0 low)
+
+word_there : (words : List ℕ) (at w k : ℕ) → k / 64 ≢ at → word_has (set words at w) k ≡ word_has words k
+unfolding word_has
+word_there words at w k other = ap (λ v. eqb (bit_at v (k % 64)) 1) (get_or-set_other words at (k / 64) w 0 other)
+
+word_is : (words : List ℕ) (at k : ℕ) → k / 64 ≡ at → word_has words k ≡ eqb (bit_at (get_or words at 0) (k % 64)) 1
+unfolding word_has
+word_is words at k here = ap (λ j. eqb (bit_at (get_or words j 0) (k % 64)) 1) here
+
+other_bit : (i k : ℕ) → k ≢ i → k / 64 ≡ i / 64 → k % 64 ≢ i % 64
+other_bit i k other here same = other (omega (arith, here, same))
+
+-- one number is b afterwards, and each other one as before
+pub record Changes (old new : List ℕ) (i : ℕ) (b : Bool) : Type 0 where
+  pub length : length new ≡ length old
+  pub here : word_has new i ≡ b
+  pub others : (k : ℕ) → k ≢ i → word_has new k ≡ word_has old k
+
+pub set_changes : (words : List ℕ) (i : ℕ) → i / 64 < length words → Changes words (set words (i / 64) (set_bit words i)) i true
+set_changes words i low =
+    let within : i % 64 < 64 = omega arith in
+    record {
+      length = length-set words (i / 64) (set_bit words i);
+      here = word_here words (i / 64) (set_bit words i) i low refl ∙ ap (λ n. eqb n 1) (bit_at_set_same w64 (get_or words (i / 64) 0) (i % 64) within);
+      others = λ k other. elim (cases_eq (k / 64) (i / 64)) [
+        | inl here ↦
+            word_here words (i / 64) (set_bit words i) k low here
+            ∙ ap (λ n. eqb n 1) (bit_at_set_other w64 (get_or words (i / 64) 0) (i % 64) within (k % 64) (other_bit i k other here))
+            ∙ sym (word_is words (i / 64) k here)
+        | inr there ↦ word_there words (i / 64) (set_bit words i) k there
+      ];
+    }
+
+pub clear_changes : (words : List ℕ) (i : ℕ) → i / 64 < length words → Changes words (set words (i / 64) (clear_bit words i)) i false
+clear_changes words i low =
+    let within : i % 64 < 64 = omega arith in
+    record {
+      length = length-set words (i / 64) (clear_bit words i);
+      here = word_here words (i / 64) (clear_bit words i) i low refl ∙ ap (λ n. eqb n 1) (bit_at_clear_same w64 (get_or words (i / 64) 0) (i % 64) within);
+      others = λ k other. elim (cases_eq (k / 64) (i / 64)) [
+        | inl here ↦
+            word_here words (i / 64) (clear_bit words i) k low here
+            ∙ ap (λ n. eqb n 1) (bit_at_clear_other w64 (get_or words (i / 64) 0) (i % 64) within (k % 64) (omega arith) (other_bit i k other here))
+            ∙ sym (word_is words (i / 64) k here)
+        | inr there ↦ word_there words (i / 64) (clear_bit words i) k there
+      ];
+    }
+
+pub changed_room : (old new : List ℕ) (room i : ℕ) (b : Bool) → HoldRoom old room → i < room → Changes old new i b → HoldRoom new room
+changed_room old new room i b hold low change = record {
+  fits = hold.fits;
+  long = omega (arith, change.length, hold.long);
+  short = omega (arith, change.length, hold.short);
+  behind = λ k high. change.others k (λ same. absurd (omega (arith, same, high, low))) ∙ hold.behind k high;
+}
+
+pub changed_set : (old new : List ℕ) (room i : ℕ) (b : Bool) → i < room → Changes old new i b → set_in new room ≡ set (set_in old room) i b
+changed_set old new room i b low change =
+    let long_old : length (set_in old room) ≡ room = length_in old room in
+    let long_new : length (set_in new room) ≡ room = length_in new room in
+    let long_set : length (set (set_in old room) i b) ≡ length (set_in old room) = length-set (set_in old room) i b in
+    ext_get_or false _ _ (omega (arith, long_old, long_new, long_set))
+    (λ k low_k.
+    let below_room : k < room = omega (arith, low_k, long_new) in
+    elim (cases_eq k i) [
+      | inl same ↦
+          has_low new room k below_room
+          ∙ ap (word_has new) same ∙ change.here
+          ∙ sym (ap (λ j. get_or (set (set_in old room) i b) j false) same ∙ get_or-set_same (set_in old room) i b false (omega (arith, low, long_old)))
+      | inr other ↦
+          has_low new room k below_room
+          ∙ change.others k other
+          ∙ sym (get_or-set_other (set_in old room) i k b false other ∙ has_low old room k below_room)
+    ])
+
+-- ---- no bit
+
+pub no_word : (n i : ℕ) → word_has (replicate n 0) i ≡ false
+unfolding word_has
+no_word n i =
+    elim (cases_lt (i / 64) n) [
+      | inl low ↦ ap (λ v. eqb (bit_at v (i % 64)) 1) (get_or-replicate n (i / 64) 0 0 low) ∙ ap (λ n. eqb n 1) (bit_at-zero (i % 64))
+      | inr high ↦
+          let long : length {A = ℕ} (replicate n 0) ≡ n = length-replicate n 0 in
+          ap (λ v. eqb (bit_at v (i % 64)) 1) (get_or_past (replicate n 0) (i / 64) 0 (omega (arith, long, high))) ∙ ap (λ n. eqb n 1) (bit_at-zero (i % 64))
+    ]
+
+pub empty_set : (n room : ℕ) → set_in (replicate n 0) room ≡ empty room
+empty_set n room =
+    let long : length (set_in (replicate n 0) room) ≡ room = length_in (replicate n 0) room in
+    let long_empty : length (empty room) ≡ room = length-replicate room false in
+    ext_get_or false _ _ (omega (arith, long, long_empty))
+    (λ k low.
+    let below_room : k < room = omega (arith, low, long) in
+    has_low (replicate n 0) room k below_room ∙ no_word n k ∙ sym (get_or-replicate room k false false below_room))
+
+-- ---- the least number of a word
+
+pub empty_word : (words : List ℕ) (room word : ℕ) → HoldRoom words room → get_or words word 0 ≡ 0 → IsEmptyWord (set_in words room) word
+empty_word words room word hold none k here =
+    has_in words room hold k ∙ word_is words word k here
+    ∙ ap (λ v. eqb (bit_at v (k % 64)) 1) none ∙ ap (λ n. eqb n 1) (bit_at-zero (k % 64))
+
+pub lowest_bit : (w : ℕ) → 0 < w → w < 2 ^ 64 → IsLowestBit w (trailing_zeros w64 w)
+lowest_bit w some fits =
+    let facts = bit_at-trailing_zeros w64 w some fits in
+    record { low = facts.0; is_set = facts.1; first = facts.2 }
+
+pub least_in_word : (words : List ℕ) (room word w bit : ℕ) → HoldRoom words room → w ≡ get_or words word 0 → IsLowestBit w bit → IsLeastInWord (set_in words room) word (64 * word + bit)
+least_in_word words room word w bit hold value lowest =
+    let low_bit = lowest.low in
+    let i : ℕ = 64 * word + bit in
+    let place : i / 64 ≡ word = omega (arith, low_bit) in
+    let digit : i % 64 ≡ bit = omega (arith, low_bit) in
+    let there : word_has words i ≡ true =
+    word_is words word i place ∙ ap (λ v. eqb (bit_at v (i % 64)) 1) (sym value)
+    ∙ ap (λ d. eqb (bit_at w d) 1) digit ∙ ap (λ n. eqb n 1) lowest.is_set in
+    let low : i < room = elim (cases_lt i room) [
+      | inl low ↦ low
+      | inr high ↦ absurd (cc (there, hold.behind i high))
+    ] in
+    record {
+      low = omega (arith, low, length_in words room);
+      place = place;
+      is_in = has_in words room hold i ∙ there;
+      first = λ k here before.
+          let low_k : k % 64 < bit = omega (arith, here, before, place, digit) in
+          has_in words room hold k ∙ word_is words word k here ∙ ap (λ v. eqb (bit_at v (k % 64)) 1) (sym value)
+          ∙ ap (λ n. eqb n 1) (lowest.first (k % 64) low_k);
+    }
+
+-- ---- the set that is seen
+
+pub room_seen : (words : List ℕ) (room : ℕ) (seen : Set) → set_in words room ≡ seen → room ≡ length seen
+room_seen words room seen view = sym (length_in words room) ∙ ap length view
+
+pub word_seen : (words : List ℕ) (room : ℕ) (seen : Set) (i : ℕ) → HoldRoom words room → set_in words room ≡ seen → i < length seen → i / 64 < length words
+word_seen words room seen i hold view low = let long = room_seen words room seen view in omega (arith, hold.long, low, long)
+
+pub has_seen : (words : List ℕ) (room : ℕ) (seen : Set) (i v : ℕ) → HoldRoom words room → set_in words room ≡ seen → i < length seen → v ≡ get_or words (i / 64) v → eqb (bit_and (v / 2 ^ (i % 64)) 1) 1 ≡ has seen i
+has_seen words room seen i v hold view low read =
+    let value : v ≡ get_or words (i / 64) 0 = get_or_read words (i / 64) v (word_seen words room seen i hold view low) read 0 in
+    ap (λ n. eqb n 1) (shr_and_one v (i % 64))
+    ∙ ap (λ n. eqb (bit_at n (i % 64)) 1) value
+    ∙ sym (word_is words (i / 64) i refl)
+    ∙ sym (has_in words room hold i)
+    ∙ ap (λ s. has s i) view
+
+set_read : (words : List ℕ) (room : ℕ) (seen : Set) (i v : ℕ) → HoldRoom words room → set_in words room ≡ seen → i < length seen → v ≡ get_or words (i / 64) v → Changes words (set words (i / 64) (bit_or v (1 * 2 ^ (i % 64) % 2 ^ 64))) i true
+set_read words room seen i v hold view low read =
+    let at = word_seen words room seen i hold view low in
+    let value : get_or words (i / 64) 0 ≡ v = sym (get_or_read words (i / 64) v at read 0) in
+    subst (λ n. Changes words (set words (i / 64) (bit_or n (1 * 2 ^ (i % 64) % 2 ^ 64))) i true) value (set_changes words i at)
+
+clear_read : (words : List ℕ) (room : ℕ) (seen : Set) (i v : ℕ) → HoldRoom words room → set_in words room ≡ seen → i < length seen → v ≡ get_or words (i / 64) v → Changes words (set words (i / 64) (bit_and v (bit_not w64 (1 * 2 ^ (i % 64) % 2 ^ 64)))) i false
+clear_read words room seen i v hold view low read =
+    let at = word_seen words room seen i hold view low in
+    let value : get_or words (i / 64) 0 ≡ v = sym (get_or_read words (i / 64) v at read 0) in
+    subst (λ n. Changes words (set words (i / 64) (bit_and n (bit_not w64 (1 * 2 ^ (i % 64) % 2 ^ 64)))) i false) value (clear_changes words i at)
+
+pub set_holds : (words : List ℕ) (room : ℕ) (seen : Set) (i v : ℕ) → HoldRoom words room → set_in words room ≡ seen → i < length seen → v ≡ get_or words (i / 64) v → HoldRoom (set words (i / 64) (bit_or v (1 * 2 ^ (i % 64) % 2 ^ 64))) room
+set_holds words room seen i v hold view low read =
+    let long = room_seen words room seen view in
+    changed_room words _ room i true hold (omega (arith, low, long)) (set_read words room seen i v hold view low read)
+
+pub set_seen : (words : List ℕ) (room : ℕ) (seen : Set) (i v : ℕ) → HoldRoom words room → set_in words room ≡ seen → i < length seen → v ≡ get_or words (i / 64) v → set_in (set words (i / 64) (bit_or v (1 * 2 ^ (i % 64) % 2 ^ 64))) room ≡ with seen i
+set_seen words room seen i v hold view low read =
+    let long = room_seen words room seen view in
+    changed_set words _ room i true (omega (arith, low, long)) (set_read words room seen i v hold view low read) ∙ ap (λ s. with s i) view
+
+pub clear_holds : (words : List ℕ) (room : ℕ) (seen : Set) (i v : ℕ) → HoldRoom words room → set_in words room ≡ seen → i < length seen → v ≡ get_or words (i / 64) v → HoldRoom (set words (i / 64) (bit_and v (bit_not w64 (1 * 2 ^ (i % 64) % 2 ^ 64)))) room
+clear_holds words room seen i v hold view low read =
+    let long = room_seen words room seen view in
+    changed_room words _ room i false hold (omega (arith, low, long)) (clear_read words room seen i v hold view low read)
+
+pub clear_seen : (words : List ℕ) (room : ℕ) (seen : Set) (i v : ℕ) → HoldRoom words room → set_in words room ≡ seen → i < length seen → v ≡ get_or words (i / 64) v → set_in (set words (i / 64) (bit_and v (bit_not w64 (1 * 2 ^ (i % 64) % 2 ^ 64)))) room ≡ without seen i
+clear_seen words room seen i v hold view low read =
+    let long = room_seen words room seen view in
+    changed_set words _ room i false (omega (arith, low, long)) (clear_read words room seen i v hold view low read) ∙ ap (λ s. without s i) view
+
+-- words that are all 0
+pub empty_holds : (n room : ℕ) → room < 2 ^ 64 → room ≤ 64 * n → 64 * n < room + 64 → HoldRoom (replicate n 0) room
+empty_holds n room fits long short =
+    let length_is : length {A = ℕ} (replicate n 0) ≡ n = length-replicate n 0 in
+    record {
+      fits = fits;
+      long = omega (arith, long, length_is);
+      short = omega (arith, short, length_is);
+      behind = λ i _. no_word n i;
+    }
+
+-- the least number of a set is that of the first word that is not empty
+pub least_seen : (seen : Set) (word i : ℕ) → ((k : ℕ) → k / 64 < word → has seen k ≡ false) → IsLeastInWord seen word i → IsLeast seen i
+least_seen seen word i before least = record {
+  low = least.low;
+  is_in = least.is_in;
+  first = λ k below. elim (cases_lt (k / 64) word) [
+    | inl low ↦ before k low
+    | inr high ↦ least.first k (omega (arith, high, below, least.place)) below
+  ];
+}

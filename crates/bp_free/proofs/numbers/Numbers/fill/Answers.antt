@@ -1,0 +1,27 @@
+use Rattle.std.proofs.Common.{◌≡◌, ◌<◌, ◌+◌, length, arith, subst, sym, ◌∙◌}
+use Rattle.bp_free.specs.Set.{Fills}
+use Rattle.bp_free.proofs.Summary.{fills_none, fills_had, fills_more}
+use Rattle.bp_free.proofs.numbers.Numbers.fill.Goals as goal
+use Rattle.bp_free.proofs.numbers.Numbers.fill.Goals.{then-not-is_free, else-not-is_free}
+
+pub loop-i-init : goal.loop-i-init
+loop-i-init g c = fills_none c.args.from c.args.self.now
+
+pub is_free-requires : goal.is_free-requires
+is_free-requires g c = omega (arith, c.loop-i.invariant.room, c.loop-i-test.true, c.requires.in_range)
+
+pub give-requires-clause-in_range : goal.give-requires-clause-in_range
+give-requires-clause-in_range g c = omega (arith, c.loop-i.invariant.room, c.loop-i-test.true, c.requires.in_range)
+
+pub loop-i-preserved : goal.loop-i-preserved
+loop-i-preserved g c =
+    let low : c.loop-i.i < length c.loop-i.self = omega (arith, c.loop-i.invariant.room, c.loop-i-test.true, c.requires.in_range) in
+    elim c.if-not-is_free.branch [
+      | then-not-is_free w ↦ fills_more c.args.from c.loop-i.i c.args.self.now c.loop-i.self c.if-not-is_free.self c.loop-i.auto.i c.loop-i.invariant low (w.self-is ∙ w.give.ensures)
+      | else-not-is_free w ↦ subst (λ s. Fills c.args.from (c.loop-i.i + 1) c.args.self.now s) (sym w.self-is) (fills_had c.args.from c.loop-i.i c.args.self.now c.loop-i.self c.loop-i.invariant (sym w.if-not-is_free.ensures))
+    ]
+
+pub returns : goal.returns
+returns g c =
+    let end : c.loop-i.i ≡ c.args.to = omega (arith, c.requires.order, c.loop-i-test.false, c.loop-i.auto) in
+    subst (λ n. Fills c.args.from n c.args.self.now c.loop-i.self) end c.loop-i.invariant

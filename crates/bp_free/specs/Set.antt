@@ -1,0 +1,47 @@
+-- A set of numbers below a room: for each number, whether it is in.
+use Rattle.std.specs.Prelude.{◌≡◌, ℕ, ◌+◌, ◌-◌, ◌<◌, ◌≤◌, List, length, Bool, true, false, filter, slice_index_or, slice_set, replicate}
+use Rattle.std.specs.List.{range_with_len}
+
+abbrev pub Set : Type 0
+Set = List Bool
+
+-- the test of a number: no number from the room on is in
+abbrev pub has : Set → ℕ → Bool
+has set i = slice_index_or set i false
+
+-- the numbers that are in, rising
+abbrev pub members : Set → List ℕ
+members set = filter (has set) (range_with_len 0 (length set))
+
+-- those of them below i
+abbrev pub below : Set → ℕ → List ℕ
+below set i = filter (has set) (range_with_len 0 i)
+
+-- those of them above i
+abbrev pub above : Set → ℕ → List ℕ
+above set i = filter (has set) (range_with_len (i + 1) (length set - (i + 1)))
+
+-- the set that lacks i and is the same otherwise
+abbrev pub without : Set → ℕ → Set
+without set i = slice_set set i false
+
+-- the set that has i and is the same otherwise
+abbrev pub with : Set → ℕ → Set
+with set i = slice_set set i true
+
+-- the set of a room that has no number
+abbrev pub empty : ℕ → Set
+empty room = replicate room false
+
+-- i is the least number that is in
+pub record IsLeast (set : Set) (i : ℕ) : Type 0 where
+  pub low : i < length set
+  pub is_in : has set i ≡ true
+  pub first : (k : ℕ) → k < i → has set k ≡ false
+
+-- the numbers from one number up to another join, and no others
+pub record Fills (from to : ℕ) (old new : Set) : Type 0 where
+  pub room : length new ≡ length old
+  pub inside : (k : ℕ) → from ≤ k → k < to → has new k ≡ true
+  pub below : (k : ℕ) → k < from → has new k ≡ has old k
+  pub above : (k : ℕ) → to ≤ k → has new k ≡ has old k

@@ -1,0 +1,49 @@
+-- A set in words of 64 bits, of which bit 0 is the least number.
+use Rattle.std.specs.Prelude.{◌≡◌, ℕ, ◌+◌, ◌*◌, ◌/◌, ◌%◌, ◌^◌, ◌<◌, ◌≤◌, List, length, map, Bool, true, false, eqb, slice_index}
+use Rattle.std.specs.Int.{bit_at}
+use Rattle.std.specs.List.{range_with_len}
+use Rattle.bp_free.specs.Set.{Set, has, members}
+
+-- whether number i is in these words
+unfoldable pub word_has : List ℕ → ℕ → Bool
+word_has words i = eqb (bit_at (slice_index words (i / 64)) (i % 64)) 1
+
+-- the set of that room in these words
+unfoldable pub set_in : List ℕ → ℕ → Set
+set_in words room = map (word_has words) (range_with_len 0 room)
+
+-- there is a word for each number of the room, and no number behind it is in
+pub record HoldRoom (words : List ℕ) (room : ℕ) : Type 0 where
+  pub fits : room < 2 ^ 64
+  pub long : room ≤ 64 * length words
+  pub short : 64 * length words < room + 64
+  pub behind : (i : ℕ) → room ≤ i → word_has words i ≡ false
+
+-- the place of the lowest bit of a word that is set
+pub record IsLowestBit (word bit : ℕ) : Type 0 where
+  pub low : bit < 64
+  pub is_set : bit_at word bit ≡ 1
+  pub first : (k : ℕ) → k < bit → bit_at word k ≡ 0
+
+-- i is the least number of its word that is in
+pub record IsLeastInWord (set : Set) (word i : ℕ) : Type 0 where
+  pub low : i < length set
+  pub place : i / 64 ≡ word
+  pub is_in : has set i ≡ true
+  pub first : (k : ℕ) → k / 64 ≡ word → k < i → has set k ≡ false
+
+-- no number of that word is in
+abbrev pub IsEmptyWord : Set → ℕ → Type 0
+IsEmptyWord set word = (k : ℕ) → k / 64 ≡ word → has set k ≡ false
+
+-- the words that are not empty are those in used
+pub record IsSummary (set used : Set) : Type 0 where
+  pub room : length used ≡ (length set + 63) / 64
+  pub all : (i : ℕ) → has set i ≡ true → has used (i / 64) ≡ true
+  pub some : (word : ℕ) → has used word ≡ true → (i : ℕ) × (i / 64 ≡ word) × (has set i ≡ true)
+
+-- the count is right, and so is the summary
+pub record IsCounted (set used : Set) (count : ℕ) : Type 0 where
+  pub number : count ≡ length (members set)
+  pub fits : length set < 2 ^ 32
+  pub summary : IsSummary set used

@@ -1,0 +1,108 @@
+//! A set of numbers as bits.
+
+ghost use Rattle.std.specs.Prelude.{◌≡◌, ℕ, ◌*◌, ◌<◌, ◌^◌, false, length, IfOk, MatchOption};
+ghost use Rattle.bp_free.specs.Set.{Set, has, with, without, empty, IsLeast};
+ghost use Rattle.bp_free.specs.Words.{IsLowestBit, IsLeastInWord, IsEmptyWord};
+
+use std::alloc::{AllocError, Global};
+use std::marker::Model;
+
+/// How many numbers a word tells.
+pub(crate) const WORD: usize = 64;
+
+/// A set of numbers below a room, a bit for each.
+#[derive(Drop)]
+pub(crate) struct Bits {
+    words: Vec<u64>,
+    room: usize,
+}
+
+impl Model for Bits {
+    ghost use Rattle.bp_free.specs.Set.{Set};
+    ghost use Rattle.bp_free.specs.Words.{set_in, HoldRoom};
+
+    ghost Value = { Set };
+
+    ghost view = { λ b. set_in b.words.items b.room };
+
+    ghost invariant = { λ b. HoldRoom b.words.items b.room };
+}
+
+/// The place of the lowest bit that is set, `None` where none is.
+fn lowest_bit(word: u64) -> Option<usize>
+    ensures { MatchOption result (word ≡ 0) (IsLowestBit word) }
+{
+    if word == 0 {
+        return None;
+    }
+    Some(word.trailing_zeros() as usize)
+}
+
+impl Bits {
+    /// The empty set of a room. Fails where memory is out.
+    pub fn new(alloc: Global, room: usize) -> Result<Bits, AllocError>
+        ensures { IfOk result (λ set. set ≡ empty room) }
+    {
+        let words = vec![in alloc; 0; room.div_ceil(WORD)]?;
+        Ok(Bits { words, room })
+    }
+
+    /// Past the greatest number that may be in.
+    pub fn room(&self) -> usize
+        ensures { result ≡ length self.now }
+    {
+        self.room
+    }
+
+    /// Whether a number is in.
+    pub fn has(&self, i: usize) -> bool
+        requires { i < length self.now }
+        ensures { result ≡ has self.now i }
+    {
+        (self.words[i / WORD] >> (i % WORD)) & 1 == 1
+    }
+
+    /// Puts a number in.
+    pub fn insert(&mut self, i: usize)
+        requires { i < length self.old }
+        ensures { self.new ≡ with self.old i }
+    {
+        self.words[i / WORD] |= 1 << (i % WORD);
+    }
+
+    /// Takes a number out.
+    pub fn remove(&mut self, i: usize)
+        requires { i < length self.old }
+        ensures { self.new ≡ without self.old i }
+    {
+        self.words[i / WORD] &= !(1 << (i % WORD));
+    }
+
+    /// The least number of a word that is in, `None` where the word is empty.
+    pub fn first_in_word(&self, word: usize) -> Option<usize>
+        requires { WORD * word < length self.now }
+        ensures { MatchOption result (IsEmptyWord self.now word) (IsLeastInWord self.now word) }
+    {
+        let bit = lowest_bit(self.words[word])?;
+        Some(WORD * word + bit)
+    }
+
+    /// The least number that is in, `None` where the set is empty.
+    pub fn first(&self) -> Option<usize>
+        ensures { MatchOption result ((i : ℕ) → has self.now i ≡ false) (IsLeast self.now) }
+    {
+        for word in 0..self.words.len() {
+            if let Some(i) = self.first_in_word(word) {
+                return Some(i);
+            }
+        }
+        None
+    }
+
+    /// Takes all numbers out.
+    pub fn clear(&mut self)
+        ensures { self.new ≡ empty (length self.old) }
+    {
+        self.words.fill(0);
+    }
+}

@@ -1,0 +1,46 @@
+//! Laws of sets of free numbers: what the calls do to the rising list of the numbers that are free.
+
+ghost use Rattle.std.specs.Prelude.{◌≡◌, ◌<◌, ◌++◌, ◌∷◌, ◌↔◌, [], false, true, length, MatchOption};
+ghost use Rattle.std.specs.List.{Contains};
+ghost use Rattle.std.specs.List.Sorted.{IsStrictlyIncreasing};
+ghost use Rattle.bp_free.specs.Set.{has, members, below, above};
+
+use crate::Numbers;
+
+/// A number that is taken was the first of the list, and the rest of the list is left.
+#[tactic(auto, using(crate::proofs::Members::members_least))]
+pub fn takes_the_first<Kind>(free: &mut Numbers<Kind>) -> Option<u32>
+    ensures { MatchOption result ((members free.old ≡ []) × (members free.new ≡ [])) (λ i. members free.old ≡ i ∷ members free.new) }
+{
+    free.take()
+}
+
+/// A number that is given comes between the lower numbers and the higher ones.
+#[tactic(auto, using(crate::proofs::Members::members_out, crate::proofs::Members::members_with))]
+pub fn gives_one<Kind>(free: &mut Numbers<Kind>, i: u32)
+    requires in_range { i < length free.old }
+    requires taken { has free.old i ≡ false }
+    ensures before { members free.old ≡ below free.old i ++ above free.old i }
+    ensures after { members free.new ≡ below free.old i ++ i ∷ above free.old i }
+{
+    free.give(i);
+}
+
+/// A number that is claimed stood between the lower numbers and the higher ones.
+#[tactic(auto, using(crate::proofs::Members::members_in, crate::proofs::Members::members_without))]
+pub fn claims_one<Kind>(free: &mut Numbers<Kind>, i: u32)
+    requires in_range { i < length free.old }
+    requires free { has free.old i ≡ true }
+    ensures before { members free.old ≡ below free.old i ++ i ∷ above free.old i }
+    ensures after { members free.new ≡ below free.old i ++ above free.old i }
+{
+    free.claim(i);
+}
+
+/// The list rises and has just the numbers that are free.
+#[tactic(auto, using(crate::proofs::Members::members_rise, crate::proofs::Members::members_tell))]
+pub fn lists_the_free<Kind>(free: &Numbers<Kind>, i: u32)
+    requires { i < length free.now }
+    ensures rising { IsStrictlyIncreasing (members free.now) }
+    ensures tells { Contains (members free.now) i ↔ (has free.now i ≡ true) }
+{}

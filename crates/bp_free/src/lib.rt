@@ -1,0 +1,13 @@
+//! Sets of free numbers: the blocks and the inodes that nothing uses.
+//!
+//! A set has the numbers below its room that are free. It is kept as one bit for each number, and one bit more for each
+//! word of 64 numbers that is not empty, so that the least number is found without a pass over all words.
+#![tactic(auto)]
+
+mod bits;
+pub mod laws;
+mod numbers;
+#[cfg(test)]
+mod tests;
+
+pub use numbers::{BlockNumbers, Blocks, InodeNumbers, Inodes, Numbers};

@@ -1,0 +1,94 @@
+-- What calls that ask answer.
+use Rattle.std.proofs.Common.{◌≡◌, ◌≢◌, ℕ, zero, suc, ◌<◌, ◌≤◌, ◌==◌, List, [], ◌∷◌, not, Option, None, Some, refl, sym, ◌∙◌, ap, arith}
+use Rattle.std.specs.Prelude.{unwrap_or, if◌then◌else◌}
+use Rattle.std.specs.FinMap.{get}
+use Rattle.std.proofs.lemmas.List.FromFn.{length-map-range_with_len}
+use Rattle.bp_layout.specs.Words.{Image}
+use Rattle.bp_layout.specs.Tree.{content}
+use Rattle.bp_layout.specs.Inode.{kind_of, root_of, size_of, inode_count}
+use Rattle.bp_layout.specs.Directory.{Name}
+use Rattle.bp_layout.specs.Reached.{IsReached}
+use Rattle.bp_layout.specs.Lookup.{Path, lookup}
+use Rattle.bp_layout.specs.Lookup.Node.{dir, file}
+use Rattle.bp_layout.specs.declared.fields.Kind.{Kind}
+use Rattle.bp_layout.proofs.Frame.{reached-in_file}
+use Rattle.bp_plain.specs.PlainTree.{FileTree}
+use Rattle.bp_plain.specs.Stands.{Stands}
+use Rattle.bp_plain.specs.Calls.{Answer, Refusal}
+use Rattle.bp_plain.specs.Calls.Call.{list, stat}
+use Rattle.bp_plain.specs.Calls.Refusal.{not_dir, no_memory}
+use Rattle.bp_plain.specs.Calls.Answer.{refused, names, file_of, dir_of}
+use Rattle.bp_plain.specs.Plain.{walk, refusal, on_parsed, first, when, listing, stat_answer, path_of}
+use Rattle.bp_thin.specs.Thin.{IsThin}
+use Rattle.bp_dirs.specs.Names.{name_count}
+use Rattle.bp_volume.specs.Step.{IsAt}
+use Rattle.bp_volume.specs.Told.{Tells, StopsWalk}
+use Rattle.bp_volume.proofs.WalkLaws.{some_inode, reached_at, node_at, dir_at, walk-found}
+use Rattle.bp_volume.proofs.EntryLaws.{length-entries}
+use Rattle.bp_volume.proofs.ReadingLaws.{IsInode, length-seen}
+use Rattle.bp_volume.proofs.StepLaws.{refused_steps, answer_steps, memory_steps, refusal-list_stopped, refusal-list_walked}
+
+module _ (image : Image) (thin : IsThin image) where
+  -- a reached inode is in the inode file
+  pub inode_reached : (i : ℕ) → IsReached image i → 1 ≤ i → IsInode image thin i
+  inode_reached zero reached low = absurd (omega arith)
+  inode_reached (suc i) reached low =
+      let high : suc i < inode_count image = reached-in_file image thin.well_formed (suc i) reached in
+      let kinds : (1 ≤ kind_of image (suc i)) × (kind_of image (suc i) ≤ 2) = thin.well_formed.kinds i reached in
+      record { low = omega arith; high = high; few = omega (arith, high, thin.inode_size); least = kinds.0; most = kinds.1 }
+
+  pub at_reached : (text : List ℕ) (i : ℕ) → IsAt image text i → IsReached image i
+  at_reached text i at = reached_at image thin.well_formed at.path i at.inode
+
+  pub at_low : (text : List ℕ) (i : ℕ) → IsAt image text i → 1 ≤ i
+  at_low text i at = let some : i ≢ 0 = some_inode image thin.well_formed at.path i at.inode in omega arith
+
+-- ---- what there is to tell of an inode
+
+module _ (image : Image) (i : ℕ) (tree : FileTree) (here : Path) (stands : Stands image tree) (at : lookup image here ≡ Some i) where
+  pub stat-file : kind_of image i ≡ 1 → stat_answer tree here (get tree here) ≡ file_of (size_of image i)
+  stat-file kind =
+      ap (stat_answer tree here) (node_at image tree stands here i at ∙ ap (λ b. Some (if b then file (content image (root_of image i) (size_of image i)) else dir)) (ap (λ k. k == 1) kind))
+      ∙ ap file_of (length-map-range_with_len _ 0 (size_of image i))
+
+  pub stat-dir : kind_of image i ≡ 2 → stat_answer tree here (get tree here) ≡ dir_of (name_count image (root_of image i) (size_of image i))
+  stat-dir kind =
+      ap (stat_answer tree here) (node_at image tree stands here i at ∙ ap (λ b. Some (if b then file (content image (root_of image i) (size_of image i)) else dir)) (ap (λ k. k == 1) kind))
+      ∙ ap dir_of (length-entries image tree stands here i at kind ∙ length-seen image i)
+
+-- ---- calls
+
+module _ (image : Image) (text : List ℕ) where
+  pub stat_stops : (why : Refusal) → StopsWalk image text why → Tells image (stat text) (refused why)
+  stat_stops why stops tree stands = refused_steps image tree (stat text) why (stops tree stands)
+
+  pub list_stops : (why : Refusal) → StopsWalk image text why → Tells image (list text) (refused why)
+  list_stops why stops tree stands = refused_steps image tree (list text) why (refusal-list_stopped tree text why (stops tree stands))
+
+  module _ (i : ℕ) (at : IsAt image text i) where
+    path_is : path_of text ≡ at.path
+    path_is = ap (λ (o : Option Path). unwrap_or o []) at.parsed
+
+    pub stat_tells : (told : Answer) → ((tree : FileTree) (here : Path) → Stands image tree → lookup image here ≡ Some i → stat_answer tree here (get tree here) ≡ told) → Tells image (stat text) told
+    stat_tells told says tree stands =
+        answer_steps image tree (stat text) told (ap (λ o. on_parsed o (walk tree)) at.parsed ∙ walk-found image tree stands at.path i at.inode) refl
+        (ap (λ p. stat_answer tree p (get tree p)) path_is ∙ says tree at.path stands at.inode)
+
+    refusal_there : (tree : FileTree) → Stands image tree → refusal tree (list text) ≡ first (when (not (kind_of image i == 2)) not_dir ∷ [])
+    refusal_there tree stands =
+        refusal-list_walked tree text at.path at.parsed (walk-found image tree stands at.path i at.inode)
+        ∙ ap (λ b. first (when (not b) not_dir ∷ [])) (dir_at image tree stands at.path i at.inode)
+
+    pub list_file : kind_of image i ≡ 1 → Tells image (list text) (refused not_dir)
+    list_file kind tree stands = refused_steps image tree (list text) not_dir (refusal_there tree stands ∙ ap (λ k. first (when (not (k == 2)) not_dir ∷ [])) kind)
+
+    none_refused : kind_of image i ≡ 2 → (tree : FileTree) → Stands image tree → refusal tree (list text) ≡ None
+    none_refused kind tree stands = refusal_there tree stands ∙ ap (λ k. first (when (not (k == 2)) not_dir ∷ [])) kind
+
+    pub list_memory : kind_of image i ≡ 2 → Tells image (list text) (refused no_memory)
+    list_memory kind tree stands = memory_steps image tree text (none_refused kind tree stands)
+
+    pub list_tells : kind_of image i ≡ 2 → (told : List (Kind × Name)) → ((tree : FileTree) (here : Path) → Stands image tree → lookup image here ≡ Some i → told ≡ listing tree here) → Tells image (list text) (names told)
+    list_tells kind told says tree stands =
+        answer_steps image tree (list text) (names told) (none_refused kind tree stands) refl
+        (ap (λ p. names (listing tree p)) path_is ∙ ap names (sym (says tree at.path stands at.inode)))

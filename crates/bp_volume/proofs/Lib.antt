@@ -1,0 +1,11 @@
+pub mod WalkLaws
+pub mod ListingLaws
+pub mod EntryLaws
+pub mod StepLaws
+pub mod FileCallLaws
+pub mod CreateLaws
+pub mod ReadingLaws
+pub mod AskingLaws
+pub mod CreatedLaws
+pub mod LaidLaws
+pub mod WalkingLaws

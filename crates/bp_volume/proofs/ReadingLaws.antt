@@ -1,0 +1,108 @@
+-- What an entry of a directory of a thin image names.
+use Rattle.std.proofs.Common.{◌≡◌, ◌≢◌, ℕ, zero, suc, ◌+◌, ◌/◌, ◌<◌, ◌≤◌, [], ◌∷◌, ◌++◌, length, Bool, true, false, ◌==◌, Option, None, Some, filter, filter_map, not, append-nil, refl, sym, ◌∙◌, ap, subst, arith}
+use Rattle.std.specs.List.{range_with_len, cons_option}
+use Rattle.std.proofs.lemmas.Bool.{eqb-true}
+use Rattle.std.proofs.lemmas.List.FromFn.{length-map-range_with_len}
+use Rattle.bp_layout.specs.Words.{Image}
+use Rattle.bp_layout.specs.Tree.{IsSound}
+use Rattle.bp_layout.specs.Inode.{kind_of, root_of, size_of, inode_count}
+use Rattle.bp_layout.specs.Directory.{Name, IsName, EntryNames, word_in, inumber_in, inumber_at, name_at, entry_count}
+use Rattle.bp_layout.specs.Fields.{kind_word}
+use Rattle.bp_layout.specs.Reached.{IsReached}
+use Rattle.bp_layout.specs.Reached.IsReached.{inode_file, named}
+use Rattle.bp_layout.specs.declared.fields.Kind.{Kind}
+use Rattle.bp_layout.specs.declared.fields.Kind.TheVariants.{File, Dir}
+use Rattle.bp_thin.specs.Thin.{IsThin}
+use Rattle.bp_dirs.specs.Names.{name_count}
+use Rattle.bp_volume.specs.Directories.{IsDirectory}
+use Rattle.bp_volume.specs.Listed.{kind_seen, entry_seen, entries_seen}
+
+-- a kind, by its word
+pub kind_from_word : (kind : Kind) (word : ℕ) → kind_word kind ≡ word → kind ≡ kind_seen word
+kind_from_word File word e = rw (← e) refl
+kind_from_word Dir word e = rw (← e) refl
+
+module _ (image : Image) (thin : IsThin image) where
+  pub inode_file_sound : IsSound image (root_of image 0) (size_of image 0)
+  inode_file_sound = thin.well_formed.sound 0 inode_file
+
+  -- an inode that is reached, and not the inode file
+  pub record IsInode (j : ℕ) : Type 0 where
+    pub low : 1 ≤ j
+    pub high : j < inode_count image
+    pub few : j < 64
+    pub least : 1 ≤ kind_of image j
+    pub most : kind_of image j ≤ 2
+
+  module _ (i root size : ℕ) (directory : IsDirectory image i root size) (slot : ℕ) (live : slot < size / 256) (some : inumber_in image root slot ≢ 0) where
+    names_here : EntryNames image i slot (inumber_in image root slot)
+    names_here = record {
+      directory = directory.kind;
+      in_size = omega (arith, live, directory.size_is);
+      inumber = ap (λ r. inumber_in image r slot) (sym directory.root_is);
+      not_empty = some;
+    }
+
+    name_here : IsName (name_at image i slot)
+    name_here = thin.well_formed.names i slot (inumber_in image root slot) directory.reached names_here
+
+    name_length : word_in image root slot 1 ≡ length (name_at image i slot)
+    name_length = ap (λ r. word_in image r slot 1) directory.root_is ∙ sym (length-map-range_with_len _ 0 (word_in image (root_of image i) slot 1))
+
+    pub name_least : 1 ≤ word_in image root slot 1
+    name_least = omega (arith, name_length, name_here.not_empty)
+
+    pub name_most : word_in image root slot 1 ≤ 240
+    name_most = omega (arith, name_length, name_here.short)
+
+    pub inode_here : IsInode (inumber_in image root slot)
+    inode_here = go (inumber_in image root slot) refl
+      where
+        reached : IsReached image (inumber_in image root slot)
+        reached = named slot directory.reached names_here
+
+        go : (j : ℕ) → inumber_in image root slot ≡ j → IsInode (inumber_in image root slot)
+        go zero at = absurd (some at)
+        go (suc j) at =
+            let high : inumber_in image root slot < inode_count image = thin.well_formed.inumbers i slot (inumber_in image root slot) directory.reached names_here in
+            let kinds : (1 ≤ kind_of image (suc j)) × (kind_of image (suc j) ≤ 2) = thin.well_formed.kinds j (subst (IsReached image) at reached) in
+            rw at (record { low = omega arith; high = omega (arith, high, at); few = omega (arith, high, at, thin.inode_size); least = kinds.0; most = kinds.1 })
+
+-- ---- one more entry
+
+seen-more : (f : ℕ → Option (Kind × Name)) (first count n : ℕ) → first + count ≡ n → filter_map f (range_with_len first (count + 1)) ≡ filter_map f (range_with_len first count) ++ cons_option (f n) []
+seen-more f first zero n at = let same : first ≡ n = omega arith in ap (λ k. cons_option (f k) []) same
+seen-more f first (suc count) n at =
+    let rest : filter_map f (range_with_len (first + 1) (count + 1)) ≡ filter_map f (range_with_len (first + 1) count) ++ cons_option (f n) [] = seen-more f (first + 1) count n (omega arith) in
+    let next : suc count + 1 ≡ suc (count + 1) = omega arith in
+    rw next (go (f first) rest)
+  where
+    go : (o : Option (Kind × Name)) → filter_map f (range_with_len (first + 1) (count + 1)) ≡ filter_map f (range_with_len (first + 1) count) ++ cons_option (f n) [] →
+        cons_option o (filter_map f (range_with_len (first + 1) (count + 1))) ≡ cons_option o (filter_map f (range_with_len (first + 1) count)) ++ cons_option (f n) []
+    go None rest = rest
+    go (Some x) rest = ap (λ xs. x ∷ xs) rest
+
+module _ (image : Image) (i slot : ℕ) where
+  pub entries_seen-empty : inumber_at image i slot ≡ 0 → entries_seen image i (slot + 1) ≡ entries_seen image i slot
+  entries_seen-empty none = seen-more (entry_seen image i) 0 slot slot (omega arith) ∙ rw none (append-nil (entries_seen image i slot))
+
+  pub entries_seen-one : (other : inumber_at image i slot ≢ 0) → entries_seen image i (slot + 1) ≡ entries_seen image i slot ++ (kind_seen (kind_of image (inumber_at image i slot)), name_at image i slot) ∷ []
+  entries_seen-one other = seen-more (entry_seen image i) 0 slot slot (omega arith) ∙ go (inumber_at image i slot == 0) refl
+    where
+      go : (b : Bool) → (inumber_at image i slot == 0) ≡ b → entries_seen image i slot ++ cons_option (entry_seen image i slot) [] ≡ entries_seen image i slot ++ (kind_seen (kind_of image (inumber_at image i slot)), name_at image i slot) ∷ []
+      go true at = absurd (other (eqb-true _ _ at))
+      go false at = rw at refl
+
+-- a directory's count is the number of its entries
+pub length-seen : (image : Image) (i : ℕ) → length (entries_seen image i (entry_count image i)) ≡ name_count image (root_of image i) (size_of image i)
+length-seen image i = go 0 (entry_count image i)
+  where
+    go : (first count : ℕ) → length (filter_map (entry_seen image i) (range_with_len first count)) ≡ length (filter (λ slot. not (inumber_in image (root_of image i) slot == 0)) (range_with_len first count))
+    go first zero = refl
+    go first (suc count) = one (inumber_at image i first == 0) refl (go (first + 1) count)
+      where
+        one : (b : Bool) → (inumber_at image i first == 0) ≡ b →
+            length (filter_map (entry_seen image i) (range_with_len (first + 1) count)) ≡ length (filter (λ slot. not (inumber_in image (root_of image i) slot == 0)) (range_with_len (first + 1) count)) →
+            length (filter_map (entry_seen image i) (range_with_len first (suc count))) ≡ length (filter (λ slot. not (inumber_in image (root_of image i) slot == 0)) (range_with_len first (suc count)))
+        one true at rest = rw at rest
+        one false at rest = rw at (ap suc rest)

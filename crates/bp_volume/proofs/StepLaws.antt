@@ -1,0 +1,57 @@
+-- Steps of calls, from their refusals.
+use Rattle.std.proofs.Common.{◌≡◌, ℕ, List, [], ◌∷◌, true, false, refl, ◌∙◌, ap, subst, Option, None, Some}
+use Rattle.std.specs.Prelude.{not, ◌&&◌, is_none}
+use Rattle.bp_layout.specs.Words.{Image}
+use Rattle.bp_layout.specs.Lookup.{Path}
+use Rattle.bp_layout.specs.PathText.{parse}
+use Rattle.bp_plain.specs.PlainTree.{FileTree}
+use Rattle.bp_plain.specs.Calls.{Call, Refusal, Answer}
+use Rattle.bp_plain.specs.Calls.Call.{list, stat}
+use Rattle.bp_plain.specs.Calls.Refusal.{not_dir, no_memory, later}
+use Rattle.bp_plain.specs.Calls.Answer.{refused}
+use Rattle.bp_plain.specs.Plain.{plain, is_changing, refusal, walk, changes, answer, answer_or, on_parsed, on_path, first, when, is_dir_at}
+use Rattle.bp_volume.specs.Step.{Steps, IsLater}
+use Rattle.bp_volume.specs.Step.Steps.{unchanged, no_listing, later_version}
+use Rattle.bp_volume.specs.FileCall.{has_changed, is_refused}
+
+module _ (image : Image) (tree : FileTree) where
+  -- a call that is refused
+  pub refused_steps : (call : Call) (why : Refusal) → refusal tree call ≡ Some why → (has_changed tree call (refused why) ≡ false) × Steps image tree call (refused why) image
+  refused_steps call why is =
+      let still : is_changing tree call ≡ false = ap (λ o. is_none o && changes tree call) is in
+      let told : (plain tree call).0 ≡ refused why = ap (λ o. (answer_or tree call o).0) is in
+      (ap (λ b. b && not (is_refused (refused why))) still, subst (λ a. Steps image tree call a image) told (unchanged still))
+
+  -- a call that asks
+  pub answer_steps : (call : Call) (told : Answer) → refusal tree call ≡ None → changes tree call ≡ false → answer tree call ≡ told → (has_changed tree call told ≡ false) × Steps image tree call told image
+  answer_steps call told none still is =
+      let same : is_changing tree call ≡ false = ap (λ o. is_none o && changes tree call) none ∙ still in
+      let says : (plain tree call).0 ≡ told = ap (λ o. (answer_or tree call o).0) none ∙ is in
+      (ap (λ b. b && not (is_refused told)) same, subst (λ a. Steps image tree call a image) says (unchanged same))
+
+  -- a listing for which there is no memory
+  pub memory_steps : (text : List ℕ) → refusal tree (list text) ≡ None → (has_changed tree (list text) (refused no_memory) ≡ false) × Steps image tree (list text) (refused no_memory) image
+  memory_steps text none = (ap (λ o. is_none o && false && not (is_refused (refused no_memory))) none, no_listing none)
+
+  -- a call that this version can't do
+  pub later_steps : (call : Call) → is_changing tree call ≡ true → IsLater image call → (has_changed tree call (refused later) ≡ false) × Steps image tree call (refused later) image
+  later_steps call changing is = (ap (λ b. b && false) changing, later_version changing is)
+
+-- ---- refusals by the path
+
+module _ (tree : FileTree) (text : List ℕ) where
+  pub refusal-stat : refusal tree (stat text) ≡ on_path text (walk tree)
+  refusal-stat = refl
+
+  -- the refusal of a listing is that of the walk, and then that of a file
+  pub refusal-list_stopped : (why : Refusal) → on_path text (walk tree) ≡ Some why → refusal tree (list text) ≡ Some why
+  refusal-list_stopped why stops = go (parse text) refl
+    where
+      go : (o : Option Path) → parse text ≡ o → refusal tree (list text) ≡ Some why
+      go None at = rw at (rw at at stops)
+      go (Some path) at = rw at (rw (rw at at stops) refl)
+
+  pub refusal-list_walked : (path : Path) → parse text ≡ Some path → walk tree path ≡ None → refusal tree (list text) ≡ first (when (not (is_dir_at tree path)) not_dir ∷ [])
+  refusal-list_walked path parsed walked =
+      ap (λ o. on_parsed o (λ p. first (walk tree p ∷ when (not (is_dir_at tree p)) not_dir ∷ []))) parsed
+      ∙ ap (λ o. first (o ∷ when (not (is_dir_at tree path)) not_dir ∷ [])) walked

@@ -1,0 +1,84 @@
+-- Where the path of a call leads, as its answer tells it.
+use Rattle.std.proofs.Common.{◌≡◌, ◌≢◌, ℕ, List, [], ◌∷◌, length, true, false, not, ◌&&◌, ◌==◌, Option, None, Some, bytes_eq, refl, sym, ◌∙◌, ap, subst, true≢false}
+use Rattle.std.specs.Prelude.{is_some, nat_le}
+use Rattle.std.specs.List.{AllByRecursion, list_all}
+use Rattle.std.proofs.lemmas.Bool.{and_parts, leb-true, eqb-false, not-true}
+use Rattle.std.proofs.lemmas.List.Elements.{All-from_recursion}
+use Rattle.std.proofs.lemmas.Slice.Eq.{bytes_eq-Decides}
+use Rattle.bp_layout.specs.Words.{Image}
+use Rattle.bp_layout.specs.Inode.{kind_of}
+use Rattle.bp_layout.specs.Directory.{Name, IsName, slot_named}
+use Rattle.bp_layout.specs.Lookup.{Path, lookup}
+use Rattle.bp_layout.specs.PathText.{is_name, parse}
+use Rattle.bp_plain.specs.Calls.{Refusal}
+use Rattle.bp_plain.specs.Calls.Refusal.{exists}
+use Rattle.bp_plain.specs.Plain.{on_parsed, walk, parent_of}
+use Rattle.bp_path.specs.Walk.{Walked, walk_from, in_directory}
+use Rattle.bp_thin.specs.Thin.{IsThin}
+use Rattle.bp_volume.specs.Step.{last_of}
+use Rattle.bp_volume.specs.Told.{StopsWalk, IsNewIn, RefusesNew, refusal_of_new, refusal_of_walk}
+use Rattle.bp_volume.proofs.WalkLaws.{walk-image, walk_parent-image}
+use Rattle.bp_volume.proofs.CreateLaws.{create_stopped, create_there, parent_is_root}
+
+-- ---- the form of a name
+
+plain_bytes : (name : Name) → list_all (λ b. not (b == 0) && not (b == 47)) name ≡ true → AllByRecursion (λ b. (b ≢ 0) × (b ≢ 47)) name
+plain_bytes [] e = tt
+plain_bytes (b ∷ name) e =
+    let parts : (not (b == 0) && not (b == 47) ≡ true) × (list_all (λ b. not (b == 0) && not (b == 47)) name ≡ true) = and_parts _ _ e in
+    let first : (not (b == 0) ≡ true) × (not (b == 47) ≡ true) = and_parts _ _ parts.0 in
+    ((eqb-false b 0 (not-true _ first.0), eqb-false b 47 (not-true _ first.1)), plain_bytes name parts.1)
+
+other_text : (name other : Name) → not (bytes_eq name other) ≡ true → name ≢ other
+other_text name other e same = true≢false (sym ((bytes_eq-Decides name other).1 same) ∙ not-true _ e)
+
+pub name_form : (name : Name) → is_name name ≡ true → IsName name
+name_form name e =
+    let last : (nat_le 1 (length name) && nat_le (length name) 240 && list_all (λ b. not (b == 0) && not (b == 47)) name && not (bytes_eq name (46 ∷ [])) ≡ true) × (not (bytes_eq name (46 ∷ 46 ∷ [])) ≡ true) = and_parts _ _ e in
+    let dot : (nat_le 1 (length name) && nat_le (length name) 240 && list_all (λ b. not (b == 0) && not (b == 47)) name ≡ true) × (not (bytes_eq name (46 ∷ [])) ≡ true) = and_parts _ _ last.0 in
+    let bytes : (nat_le 1 (length name) && nat_le (length name) 240 ≡ true) × (list_all (λ b. not (b == 0) && not (b == 47)) name ≡ true) = and_parts _ _ dot.0 in
+    let bounds : (nat_le 1 (length name) ≡ true) × (nat_le (length name) 240 ≡ true) = and_parts _ _ bytes.0 in
+    record {
+      not_empty = leb-true 1 (length name) bounds.0;
+      short = leb-true (length name) 240 bounds.1;
+      plain = All-from_recursion _ name (plain_bytes name bytes.1);
+      not_dot = other_text name (46 ∷ []) dot.1;
+      not_dot_dot = other_text name (46 ∷ 46 ∷ []) last.1;
+    }
+
+-- ---- walks that stop
+
+pub walk_stops : (image : Image) (text : List ℕ) (path : Path) (walked : Walked) (why : Refusal) → parse text ≡ Some path → walked ≡ walk_from image 1 path → refusal_of_walk walked ≡ Some why →
+    StopsWalk image text why
+walk_stops image text path walked why parsed is told tree stands =
+    ap (λ o. on_parsed o (walk tree)) parsed ∙ walk-image image tree stands path ∙ ap refusal_of_walk (sym is) ∙ told
+
+pub parent_stops : (image : Image) (path : Path) (walked : Walked) (why : Refusal) → path ≢ [] → walked ≡ in_directory image (walk_from image 1 (parent_of path)) → refusal_of_walk walked ≡ Some why → RefusesNew image path why
+parent_stops image path walked why below is told tree stands =
+    create_stopped tree path why below (walk_parent-image image tree stands path (parent_of path) refl ∙ ap refusal_of_walk (sym is) ∙ told)
+
+-- ---- the name of a new file
+
+nothing : (o : Option ℕ) → is_some o ≡ false → o ≡ None
+nothing None e = refl
+nothing (Some slot) e = absurd (true≢false e)
+
+module _ (image : Image) (thin : IsThin image) (path : Path) (below : path ≢ []) (dir : ℕ) (found : lookup image (parent_of path) ≡ Some dir) (kind : kind_of image dir ≡ 2) (name : Name) (last : name ≡ last_of path) where
+  at_name : path ≡ name ∷ []
+  at_name = parent_is_root image thin path dir below found kind ∙ ap (λ n. n ∷ []) (sym last)
+
+  dir_is : dir ≡ 1
+  dir_is =
+      let same : Some 1 ≡ Some dir = sym (ap (λ p. lookup image (parent_of p)) at_name) ∙ found in
+      cc
+
+  -- it is new where the directory doesn't have it, and else refused
+  pub name_is_new : is_name name ≡ true → is_some (slot_named image dir name) ≡ false → IsNewIn image path name
+  name_is_new form none = record { at = at_name; form = name_form name form; missing = subst (λ i. slot_named image i name ≡ None) dir_is (nothing (slot_named image dir name) none) }
+
+  pub name_is_there : is_some (slot_named image dir name) ≡ true → RefusesNew image path exists
+  name_is_there some tree stands = ap (refusal_of_new tree) at_name ∙ go (slot_named image 1 name) refl
+    where
+      go : (o : Option ℕ) → slot_named image 1 name ≡ o → refusal_of_new tree (name ∷ []) ≡ Some exists
+      go None at = absurd (true≢false (sym some ∙ ap (λ i. is_some (slot_named image i name)) dir_is ∙ ap is_some at))
+      go (Some slot) at = create_there image tree stands name slot at

@@ -1,0 +1,36 @@
+-- What a call on a file does to a region, and what it answers.
+use Rattle.std.specs.Prelude.{◌≡◌, ℕ, List, [], ◌∷◌, ◌++◌, Bool, true, false, ◌&&◌, not}
+use Rattle.pm_epochs.specs.declared.event.Event.{Event}
+use Rattle.pm_epochs.specs.declared.event.Event.TheVariants.{Mark}
+use Rattle.pm_epochs.specs.Log.{marks}
+use Rattle.pm_epochs.specs.Crash.{CrashRight}
+use Rattle.pm_region.specs.Memory.{Memory, current_words, with_room, Adds}
+use Rattle.bp_layout.specs.Same.{Same}
+use Rattle.bp_plain.specs.PlainTree.{FileTree}
+use Rattle.bp_plain.specs.Stands.{Stands}
+use Rattle.bp_plain.specs.Calls.{Call, Answer}
+use Rattle.bp_plain.specs.Calls.Answer.{refused}
+use Rattle.bp_plain.specs.Plain.{is_changing}
+use Rattle.bp_volume.specs.Step.{Step}
+
+abbrev pub is_refused : Answer → Bool
+is_refused (refused why) = true
+is_refused _ = false
+
+-- the call changed the tree
+abbrev pub has_changed : FileTree → Call → Answer → Bool
+has_changed tree call answer = is_changing tree call && not (is_refused answer)
+
+-- the room that makes a call drain first
+abbrev pub call_room : ℕ
+call_room = 65536
+
+-- A call on a file: the answer and the new image are a step, the log got the call's events and then its mark, a call that
+-- changes nothing has no events, and a crash at any moment leaves what some calls left.
+pub record FileCall (old : Memory) (call : Call) (answer : Answer) (new : Memory) : Type 0 where
+  pub added : List Event
+  pub unmarked : marks added ≡ 0
+  pub adds : Adds (with_room call_room old) new (added ++ Mark ∷ [])
+  pub step : Step (current_words old) call answer (current_words new)
+  pub silent : (tree : FileTree) → Stands (current_words old) tree → has_changed tree call answer ≡ false → added ≡ []
+  pub right : CrashRight Same new.base new.events

@@ -1,0 +1,10 @@
+pub mod Step
+pub mod FileCall
+pub mod Volume
+pub mod Listed
+pub mod Told
+pub mod Laid
+pub mod Directories
+pub mod Seen
+pub mod Created
+pub mod Faults

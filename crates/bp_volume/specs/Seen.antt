@@ -1,0 +1,28 @@
+-- The results of calls as answers.
+use Rattle.std.specs.Prelude.{ℕ, List, Result, Ok, Err}
+use Rattle.bp_layout.specs.declared.fields.Kind.{Kind}
+use Rattle.bp_layout.specs.declared.fields.Stat.{Stat}
+use Rattle.bp_layout.specs.declared.fields.Stat.TheVariants as stat
+use Rattle.bp_plain.specs.declared.errors.FsError.{FsError}
+use Rattle.bp_plain.specs.Calls.{Answer}
+use Rattle.bp_plain.specs.Calls.Answer.{done, file_of, dir_of, names, refused}
+use Rattle.bp_plain.specs.Seen.{refusal_of}
+
+-- a call that has nothing to tell
+abbrev pub unit_answer : Result (Unit {0}) FsError → Answer
+unit_answer (Ok nothing) = done
+unit_answer (Err error) = refused (refusal_of error)
+
+-- a file's size, or how many names a directory has
+abbrev pub stat_seen : Stat → Answer
+stat_seen (stat.File size) = file_of size
+stat_seen (stat.Dir count) = dir_of count
+
+abbrev pub stat_answer_of : Result Stat FsError → Answer
+stat_answer_of (Ok told) = stat_seen told
+stat_answer_of (Err error) = refused (refusal_of error)
+
+-- the names in a directory
+abbrev pub list_answer_of : Result (List (Kind × List ℕ)) FsError → Answer
+list_answer_of (Ok listing) = names listing
+list_answer_of (Err error) = refused (refusal_of error)

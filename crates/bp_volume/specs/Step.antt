@@ -1,0 +1,85 @@
+-- What a call may make of an image.
+use Rattle.std.specs.Prelude.{◌≡◌, ◌≢◌, ℕ, ◌%◌, ◌<◌, ◌≤◌, List, [], ◌∷◌, length, Bool, true, false, None, Some}
+use Rattle.bp_layout.specs.Words.{Image}
+use Rattle.bp_layout.specs.Directory.{Name, slot_named, empty_slot}
+use Rattle.bp_layout.specs.Inode.{size_of}
+use Rattle.bp_layout.specs.Lookup.{Path, lookup}
+use Rattle.bp_plain.specs.PlainTree.{FileTree}
+use Rattle.bp_plain.specs.Stands.{Stands}
+use Rattle.bp_layout.specs.PathText.{parse}
+use Rattle.bp_plain.specs.Calls.{Call, Answer}
+use Rattle.bp_plain.specs.Calls.Call.{create, mkdir, unlink, rmdir, list, write, truncate, rename}
+use Rattle.bp_plain.specs.Calls.Refusal.{no_space, no_memory, later}
+use Rattle.bp_plain.specs.Calls.Answer.{refused}
+use Rattle.bp_plain.specs.Plain.{plain, is_changing, refusal, parent_of}
+use Rattle.bp_layout.specs.Need.{Change, need}
+use Rattle.bp_layout.specs.Need.Change.{writes, resizes, enters, leaves, replaces, moves, respells}
+use Rattle.bp_layout.specs.Free.{HasFree, TellsFreeInode}
+
+abbrev pub last_of : Path → Name
+last_of [] = []
+last_of (name ∷ []) = name
+last_of (name ∷ other ∷ path) = last_of (other ∷ path)
+
+-- the path's directory has this inode, and its entry this slot
+pub record StandsIn (image : Image) (text : List ℕ) (i s : ℕ) : Type 0 where
+  pub path : Path
+  pub parsed : parse text ≡ Some path
+  pub parent : lookup image (parent_of path) ≡ Some i
+  pub slot : slot_named image i (last_of path) ≡ Some s
+
+-- the path's directory has this inode, and no entry of this name
+pub record NewIn (image : Image) (text : List ℕ) (i : ℕ) (name : Name) : Type 0 where
+  pub path : Path
+  pub parsed : parse text ≡ Some path
+  pub parent : lookup image (parent_of path) ≡ Some i
+  pub last : last_of path ≡ name
+  pub missing : slot_named image i name ≡ None
+
+pub record IsAt (image : Image) (text : List ℕ) (i : ℕ) : Type 0 where
+  pub path : Path
+  pub parsed : parse text ≡ Some path
+  pub inode : lookup image path ≡ Some i
+
+-- what a changing call changes
+pub data IsChange (image : Image) : Call → Change → Type 0 where
+  by_create : {text : List ℕ} {name : Name} {i : ℕ} {free : Bool} → NewIn image text i name → TellsFreeInode image free → IsChange image (create text) (enters i free)
+  by_mkdir : {text : List ℕ} {name : Name} {i : ℕ} {free : Bool} → NewIn image text i name → TellsFreeInode image free → IsChange image (mkdir text) (enters i free)
+  by_write : {text new : List ℕ} {i off : ℕ} → IsAt image text i → IsChange image (write text off new) (writes i off (length new))
+  by_truncate : {text : List ℕ} {i size : ℕ} → IsAt image text i → IsChange image (truncate text size) (resizes i size)
+  by_unlink : {text : List ℕ} {i s : ℕ} → StandsIn image text i s → IsChange image (unlink text) (leaves i s)
+  by_rmdir : {text : List ℕ} {i s : ℕ} → StandsIn image text i s → IsChange image (rmdir text) (leaves i s)
+  onto : {from to : List ℕ} {i s j r : ℕ} → StandsIn image from i s → StandsIn image to j r → IsChange image (rename from to) (replaces i s j r)
+  across : {from to : List ℕ} {i s j : ℕ} {name : Name} → StandsIn image from i s → NewIn image to j name → i ≢ j → IsChange image (rename from to) (moves i s j)
+  within : {from to : List ℕ} {i s : ℕ} {name : Name} → StandsIn image from i s → NewIn image to i name → IsChange image (rename from to) (respells i s (length name))
+
+-- a changing call, the blocks that it needs, and those that are free
+pub record HasNeed (image : Image) (call : Call) (needed free : ℕ) : Type 0 where
+  pub change : Change
+  pub is : IsChange image call change
+  pub needs : need image change ≡ needed
+  pub has : HasFree image free
+
+-- the call needs no more blocks than are free
+abbrev pub Fits : Image → Call → Type 0
+Fits image call = (needed free : ℕ) → HasNeed image call needed free → needed ≤ free
+
+-- What this version can't do yet: create a file where no inode is free, or where the directory has no empty entry and its
+-- leaves are full.
+pub data IsLater (image : Image) : Call → Type 0 where
+  no_inode : {text : List ℕ} {name : Name} {i : ℕ} → NewIn image text i name → TellsFreeInode image false → IsLater image (create text)
+  full_leaf : {text : List ℕ} {name : Name} {i : ℕ} → NewIn image text i name → empty_slot image i ≡ None → 0 < size_of image i → size_of image i % 4096 ≡ 0 →
+      IsLater image (create text)
+
+-- The image stands for a tree. A changing call that needs more blocks than are free is refused; want of memory may be
+-- answered to a listing; else the answer is that of the plain tree, and the new image stands for the new tree.
+pub data Steps (image : Image) (tree : FileTree) : Call → Answer → Image → Type 0 where
+  no_room : {call : Call} {needed free : ℕ} → is_changing tree call ≡ true → ¬ IsLater image call → HasNeed image call needed free → free < needed →
+      Steps image tree call (refused (no_space needed free)) image
+  no_listing : {text : List ℕ} → refusal tree (list text) ≡ None → Steps image tree (list text) (refused no_memory) image
+  later_version : {call : Call} → is_changing tree call ≡ true → IsLater image call → Steps image tree call (refused later) image
+  unchanged : {call : Call} → is_changing tree call ≡ false → Steps image tree call (plain tree call).0 image
+  changed : {call : Call} {new : Image} → is_changing tree call ≡ true → ¬ IsLater image call → Fits image call → Stands new (plain tree call).1 → Steps image tree call (plain tree call).0 new
+
+abbrev pub Step : Image → Call → Answer → Image → Type 0
+Step image call answer new = (tree : FileTree) → Stands image tree → Steps image tree call answer new

@@ -1,0 +1,54 @@
+-- Calls that change nothing, as images tell them.
+use Rattle.std.specs.Prelude.{◌≡◌, ℕ, List, [], ◌∷◌, false, Option, None, Some, is_some}
+use Rattle.bp_layout.specs.Words.{Image}
+use Rattle.std.specs.FinMap.{get}
+use Rattle.bp_layout.specs.Directory.{Name, IsName, slot_named}
+use Rattle.bp_layout.specs.Lookup.{Path}
+use Rattle.bp_layout.specs.PathText.{parse}
+use Rattle.bp_plain.specs.PlainTree.{FileTree}
+use Rattle.bp_plain.specs.Stands.{Stands}
+use Rattle.bp_plain.specs.Calls.{Call, Answer, Refusal}
+use Rattle.bp_plain.specs.Plain.{on_path, refusal, walk, walk_parent, first, when, is_root_path}
+use Rattle.bp_plain.specs.Calls.Refusal.{not_found, not_dir, exists}
+use Rattle.bp_path.specs.Walk.{Walked}
+use Rattle.bp_path.specs.Walk.Walked.{found, missing, in_file}
+use Rattle.bp_volume.specs.Step.{Steps}
+use Rattle.bp_volume.specs.FileCall.{has_changed}
+
+-- the call changes nothing, and this may be its answer
+abbrev pub Tells : Image → Call → Answer → Type 0
+Tells image call answer = (tree : FileTree) → Stands image tree → (has_changed tree call answer ≡ false) × Steps image tree call answer image
+
+-- the refusal of a walk
+abbrev pub refusal_of_walk : Walked → Option Refusal
+refusal_of_walk (found i) = None
+refusal_of_walk missing = Some not_found
+refusal_of_walk in_file = Some not_dir
+
+-- the text is no path, or the walk to it ends so
+abbrev pub StopsWalk : Image → List ℕ → Refusal → Type 0
+StopsWalk image text why = (tree : FileTree) → Stands image tree → on_path text (walk tree) ≡ Some why
+
+-- the plain call is refused so
+abbrev pub Refuses : Image → Call → Refusal → Type 0
+Refuses image call why = (tree : FileTree) → Stands image tree → refusal tree call ≡ Some why
+
+-- the path is a name that the root directory doesn't have
+pub record IsNewIn (image : Image) (path : Path) (name : Name) : Type 0 where
+  pub at : path ≡ name ∷ []
+  pub form : IsName name
+  pub missing : slot_named image 1 name ≡ None
+
+-- the text spells such a path
+pub record NamesNew (image : Image) (text : List ℕ) (name : Name) : Type 0 where
+  pub parsed : parse text ≡ Some (name ∷ [])
+  pub form : IsName name
+  pub missing : slot_named image 1 name ≡ None
+
+-- the refusals that a new file at a path may meet, in order
+abbrev pub refusal_of_new : FileTree → Path → Option Refusal
+refusal_of_new tree path = first (when (is_root_path path) exists ∷ walk_parent tree path ∷ when (is_some (get tree path)) exists ∷ [])
+
+-- a new file at the path is refused so
+abbrev pub RefusesNew : Image → Path → Refusal → Type 0
+RefusesNew image path why = (tree : FileTree) → Stands image tree → refusal_of_new tree path ≡ Some why

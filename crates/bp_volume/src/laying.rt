@@ -1,0 +1,34 @@
+//! The stores of a format.
+
+ghost use Rattle.std.specs.Prelude.{[], ◌*◌, ◌≡◌, ◌≤◌, length};
+ghost use Rattle.bp_layout.specs.Words.{block_count};
+ghost use Rattle.bp_volume.specs.Laid.{format_events};
+ghost use Rattle.pm_region.specs.Memory.{Adds, room_in};
+
+use bp_layout::limits::MAGIC;
+use pm_region::Region;
+
+/// Makes an empty file system of a region of 8 to 16,384 blocks of 512 words. Its stores are not written back until
+/// the region is drained: up to then a crash may leave a region that is not formatted.
+pub fn lay_out<R: Region>(region: &mut R)
+    requires whole { length (R.memory region.old).base ≡ 512 * block_count (R.memory region.old).base }
+    requires least { 8 ≤ block_count (R.memory region.old).base }
+    requires most { block_count (R.memory region.old).base ≤ 16384 }
+    requires fresh { (R.memory region.old).events ≡ [] }
+    requires room { 16 ≤ room_in (R.memory region.old) }
+    ensures { Adds (R.memory region.old) (R.memory region.new) (format_events (block_count (R.memory region.old).base)) }
+{
+    let blocks = region.words() / 512;
+    // The mark is gone before any other word changes, and comes back once all of them are written back.
+    region.store(0, 0);
+    region.barrier();
+    region.store(1, blocks as u64);
+    region.store(2, 0x1000);
+    region.store(3, 4096);
+    region.store(520, 2);
+    region.store(521, 0);
+    region.store(522, 0);
+    region.barrier();
+    region.store(0, MAGIC);
+    region.barrier();
+}

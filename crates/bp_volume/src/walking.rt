@@ -1,0 +1,101 @@
+//! Where the path of a call leads.
+
+ghost use Rattle.std.specs.Prelude.{◌≡◌, ◌≢◌, ◌≤◌, IfErr, IfOk, Some, [], is_some, length};
+ghost use Rattle.bp_layout.specs.Directory.{slot_named};
+ghost use Rattle.bp_layout.specs.Inode.{kind_of};
+ghost use Rattle.bp_layout.specs.Limits.{max_name};
+ghost use Rattle.bp_layout.specs.Reached.{IsReached};
+ghost use Rattle.bp_layout.specs.WellFormed.{IsWellFormed};
+ghost use Rattle.bp_path.specs.Places.{fault_of};
+ghost use Rattle.bp_plain.specs.Calls.Call.{create};
+ghost use Rattle.bp_plain.specs.Seen.{refusal_of};
+ghost use Rattle.bp_thin.specs.Thin.{IsThin};
+ghost use Rattle.bp_volume.specs.Step.{IsAt};
+ghost use Rattle.bp_volume.specs.Told.{IsNewIn, NamesNew, Refuses, RefusesNew, StopsWalk, refusal_of_walk};
+ghost use Rattle.pm_region.specs.Memory.{current_words};
+
+use bp_dirs::find;
+use bp_inodes::get;
+use bp_path::{Path, WalkFault, parse, walk, walk_parent};
+use bp_plain::FsError;
+use bp_tree::Tree;
+use pm_region::Region;
+
+/// The refusal of a call whose path leads nowhere.
+fn refused(fault: WalkFault) -> FsError
+    ensures { refusal_of_walk (fault_of fault) ≡ Some (refusal_of result) }
+{
+    match fault {
+        WalkFault::NotFound => FsError::NotFound,
+        WalkFault::NotDir => FsError::NotDir,
+    }
+}
+
+/// The inode at a path text.
+pub(crate) fn inode_at<R: Region>(region: &R, text: &[u8]) -> Result<u32, FsError>
+    requires { IsWellFormed (current_words (R.memory region.now)) }
+    ensures found { IfOk result (λ i. IsAt (current_words (R.memory region.now)) text.now i) }
+    ensures stopped { IfErr result (λ e. StopsWalk (current_words (R.memory region.now)) text.now (refusal_of e)) }
+{
+    match parse(text) {
+        Ok(path) => match walk(region, &path) {
+            Ok(place) => Ok(place.inumber),
+            Err(fault) => Err(refused(fault)),
+        },
+        Err(_) => Err(FsError::BadPath),
+    }
+}
+
+/// Whether a directory has a name.
+fn has_name<R: Region>(region: &R, dir: u32, name: &[u8]) -> bool
+    requires thin { IsThin (current_words (R.memory region.now)) }
+    requires reached { IsReached (current_words (R.memory region.now)) dir }
+    requires inode { 1 ≤ dir }
+    requires short { length name.now ≤ max_name }
+    ensures { result ≡ is_some (slot_named (current_words (R.memory region.now)) dir name.now) }
+{
+    let inode = get(region, dir);
+    let tree = Tree {
+        root: inode.root,
+        size: inode.size,
+    };
+    find(region, tree, name).is_some()
+}
+
+/// The last name of a path below the root directory, which nothing has yet.
+fn last_name<'a, R: Region>(region: &R, path: &Path<'a>) -> Result<&'a [u8], FsError>
+    requires thin { IsThin (current_words (R.memory region.now)) }
+    requires below { path.now ≢ [] }
+    ensures found { IfOk result (λ name. IsNewIn (current_words (R.memory region.now)) path.now name.now) }
+    ensures refused { IfErr result (λ e. RefusesNew (current_words (R.memory region.now)) path.now (refusal_of e)) }
+{
+    match walk_parent(region, path) {
+        Ok(dir) => {
+            let name = path.last();
+            if has_name(region, dir, name) {
+                Err(FsError::Exists)
+            } else {
+                Ok(name)
+            }
+        }
+        Err(fault) => Err(refused(fault)),
+    }
+}
+
+/// The name that a new file at a path text is to have in the root directory.
+pub(crate) fn new_name<'a, R: Region>(region: &R, text: &'a [u8]) -> Result<&'a [u8], FsError>
+    requires { IsThin (current_words (R.memory region.now)) }
+    ensures found { IfOk result (λ name. NamesNew (current_words (R.memory region.now)) text.now name.now) }
+    ensures refused { IfErr result (λ e. Refuses (current_words (R.memory region.now)) (create text.now) (refusal_of e)) }
+{
+    match parse(text) {
+        Ok(path) => {
+            if path.is_root() {
+                Err(FsError::Exists)
+            } else {
+                last_name(region, &path)
+            }
+        }
+        Err(_) => Err(FsError::BadPath),
+    }
+}

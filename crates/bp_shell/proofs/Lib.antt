@@ -1,0 +1,11 @@
+pub mod PlainLaws
+pub mod ServingLaws
+pub mod ActingLaws
+pub mod Pieces
+pub mod SavingLaws
+pub mod BlockLaws
+pub mod TellingLaws
+pub mod OpeningLaws
+pub mod WordLaws
+pub mod FormattingLaws
+pub mod RunningLaws

@@ -1,0 +1,192 @@
+-- What a run leaves outside.
+use Rattle.std.proofs.Common.{suc, refl, sym, ◌∙◌, ap, arith, ◌≡◌, ℕ, ◌*◌, ◌/◌, ◌≤◌, ◌<◌, List, [], ◌∷◌, ◌++◌, length, length-append, inl, inr}
+use Rattle.std.specs.Prelude.{Option, Some, None, ◌⊎◌}
+use Rattle.std.specs.Io.KnownBytes.{Consumes, IsAtEnd}
+use Rattle.pm_region.specs.Memory.{Memory, current_words, drained}
+use Rattle.pm_words.specs.Bytes.{word_bytes, word_of}
+use Rattle.pm_words.proofs.Bytes.{word_of_bytes}
+use Rattle.bp_layout.specs.Words.{Image, word}
+use Rattle.bp_layout.specs.Bytes.{image_bytes}
+use Rattle.bp_plain.proofs.Existence.{stands_for, tree_of}
+use Rattle.bp_script.specs.Commands.{Command}
+use Rattle.bp_script.specs.Commands.Command.{sync}
+use Rattle.bp_script.specs.declared.notices.Notice.{Notice}
+use Rattle.bp_thin.specs.Thin.{IsThin}
+use Rattle.bp_shell.specs.Files.{HasBytes, HasBlocksOf, AreWords, IsAbsent}
+use Rattle.bp_shell.specs.Lines.{commands_from}
+use Rattle.bp_shell.specs.Opening.{IsFound, IsRefused, start, wanted_length}
+use Rattle.bp_shell.specs.Opening.IsRefused.{by_length, not_formatted, by_count, not_thin}
+use Rattle.bp_shell.specs.PlainSession.{fresh}
+use Rattle.bp_shell.specs.Running.{Outside, Runs, RunsPart, RunsLong, RunsCut, RunsStopped, Saves, SavesPartly, SourceFailed, SinkFailed, FilesFailed, IsComplete}
+use Rattle.bp_shell.specs.Serving.{state, Serves, ServesAll, Cuts, Stops, Told, Fails}
+use Rattle.bp_shell.specs.Session.{State}
+use Rattle.bp_shell.proofs.BlockLaws.{length-image_bytes}
+use Rattle.bp_shell.proofs.PlainLaws.{plain_session, follows_fresh}
+use Rattle.bp_shell.proofs.ServingLaws.{stops_behind, not_long}
+
+-- ---- what is held of a file, told of it
+
+pub serves_told : (old : State) (memory : Memory) (holds saves : Image → Type 0) (held input keeps : List ℕ) (t u : Option (List ℕ)) → ((image : Image) → holds image → saves image)
+    → Serves old memory holds held input keeps t u → Serves old memory saves held input keeps t u
+serves_told old memory holds saves held input keeps t u f s = record { commands = s.commands; lines = s.lines; after = s.after; file = f s.after s.file; told = s.told }
+
+pub cuts_told : (old : State) (memory : Memory) (holds saves : Image → Type 0) (commands : List Command) (t u : Option (List ℕ)) → ((image : Image) → holds image → saves image)
+    → Cuts old memory holds commands t u → Cuts old memory saves commands t u
+cuts_told old memory holds saves commands t u f s = record {
+  front = s.front;
+  last = s.last;
+  more = s.more;
+  are = s.are;
+  middle = s.middle;
+  replies = s.replies;
+  session = s.session;
+  reply = s.reply;
+  after = s.after;
+  line = s.line;
+  file = f s.after s.file;
+  count = s.count;
+  proper = s.proper;
+  taken = s.taken;
+}
+
+pub stops_told : (old : State) (memory : Memory) (holds saves : Image → Image → Type 0) (commands : List Command) (t u : Option (List ℕ)) → ((first second : Image) → holds first second → saves first second)
+    → Stops old memory holds commands t u → Stops old memory saves commands t u
+stops_told old memory holds saves commands t u f s = record {
+  front = s.front;
+  last = s.last;
+  more = s.more;
+  are = s.are;
+  middle = s.middle;
+  told = s.told;
+  fails = record { is = s.fails.is; drained = s.fails.drained; file = f _ _ s.fails.file };
+}
+
+-- ---- the end of a run, by its status
+
+module _ (before after : Outside) (image : Image) (memory new : Memory) (line input : List ℕ) (found : IsFound before.file image) (same : memory ≡ (start image).memory) (none : line ≡ []) where
+  pub runs_whole : (holds : Image → Type 0) → Consumes before.left after.left input → IsAtEnd after.left → length input ≤ 1073741824 → ServesAll (state memory image) new holds (commands_from line input) before.taken after.taken
+      → Saves after (current_words new) → Runs before after
+  runs_whole holds read end few all saved =
+      let told : Told (start image) (state new all.after) (commands_from [] input) before.taken after.taken = rw (same, none) at all.told in
+      let well = found.thin.well_formed in
+      let stands = stands_for image well in
+      let tree = tree_of image well in
+      let run = plain_session (start image) (fresh tree) (commands_from [] input) told.replies (state new all.after) (follows_fresh (start image).memory tree refl stands) told.session in
+      record {
+        image = image;
+        found = found;
+        input = input;
+        read = read;
+        all = end;
+        few = few;
+        new = state new all.after;
+        told = told;
+        saved = saved;
+        tree = tree;
+        stands = stands;
+        plain = run.plain;
+        plainly = run.session;
+        follows = run.follows;
+      }
+
+  pub runs_part : (keeps : List ℕ) (holds : Image → Type 0) → ((i : Image) → holds i → Saves after i) → Consumes before.left after.left input → Serves (state memory image) new holds line input keeps before.taken after.taken → RunsPart before after
+  runs_part keeps holds f read serves = record {
+    image = image;
+    found = found;
+    input = input;
+    read = read;
+    keeps = keeps;
+    memory = new;
+    serves = serves_told (start image) new holds (Saves after) [] input keeps before.taken after.taken f (rw (same, none) at serves);
+  }
+
+  pub runs_long : (more keeps : List ℕ) (holds : Image → Type 0) → ((i : Image) → holds i → Saves after i) → Consumes before.left after.left (input ++ more) → length input ≡ 1073741824 → 1 ≤ length more
+      → Serves (state memory image) new holds line input keeps before.taken after.taken → RunsLong before after
+  runs_long more keeps holds f read most some serves = record {
+    image = image;
+    found = found;
+    input = input;
+    more = more;
+    read = read;
+    most = most;
+    some = some;
+    keeps = keeps;
+    memory = new;
+    serves = serves_told (start image) new holds (Saves after) [] input keeps before.taken after.taken f (rw (same, none) at serves);
+  }
+
+  pub runs_cut : (holds : Image → Type 0) → ((i : Image) → holds i → Saves after i) → Consumes before.left after.left input → Cuts (state memory image) new holds (commands_from line input) before.taken after.taken → RunsCut before after
+  runs_cut holds f read cuts = record {
+    image = image;
+    found = found;
+    input = input;
+    read = read;
+    memory = new;
+    cuts = cuts_told (start image) new holds (Saves after) (commands_from [] input) before.taken after.taken f (rw (same, none) at cuts);
+  }
+
+  pub runs_stopped : (partly : Image → Image → Type 0) → ((i j : Image) → partly i j → SavesPartly after i j) → Consumes before.left after.left input → Stops (state memory image) new partly (commands_from line input) before.taken after.taken → RunsStopped before after
+  runs_stopped partly f read stops = record {
+    image = image;
+    found = found;
+    input = input;
+    read = read;
+    memory = new;
+    stops = stops_behind (start image) new (SavesPartly after) (commands_from [] input) (sync ∷ []) before.taken after.taken
+        (stops_told (start image) new partly (SavesPartly after) (commands_from [] input) before.taken after.taken f (rw (same, none) at stops));
+  }
+
+  -- the sync at the input's end
+  pub runs_stopped_at_end : (middle : Memory) (holds : Image → Type 0) → Consumes before.left after.left input → (all : ServesAll (state memory image) middle holds (commands_from line input) before.taken after.taken)
+      → new ≡ drained middle → SavesPartly after all.after (current_words middle) → RunsStopped before after
+  runs_stopped_at_end middle holds read all done file =
+      let told : Told (start image) (state middle all.after) (commands_from [] input) before.taken after.taken = rw (same, none) at all.told in
+      record {
+        image = image;
+        found = found;
+        input = input;
+        read = read;
+        memory = new;
+        stops = record { front = commands_from [] input; last = sync; more = []; are = refl; middle = state middle all.after; told = told; fails = record { is = refl; drained = done; file = file } };
+      }
+
+-- ---- an image and its bytes
+
+pub image_once : (first second : Image) → AreWords first → AreWords second → image_bytes first ≡ image_bytes second → first ≡ second
+unfolding image_bytes
+image_once [] [] low high same = refl
+image_once [] (w ∷ second) low high same = absurd (cc)
+image_once (v ∷ first) [] low high same = absurd (cc)
+image_once (v ∷ first) (w ∷ second) low high same =
+    let here : word_bytes v ≡ word_bytes w = cc in
+    let rest : image_bytes first ≡ image_bytes second = cc in
+    let one : v ≡ w = sym (word_of_bytes v (low 0)) ∙ ap word_of here ∙ word_of_bytes w (high 0) in
+    let more = image_once first second (λ k. low (suc k)) (λ k. high (suc k)) rest in
+    rw (one, more) refl
+
+wanted_whole : (n : ℕ) → 8 ≤ n → n ≤ 16384 → wanted_length (4096 * n) ≡ 4096 * n
+wanted_whole n least most = omega arith
+
+-- ---- completeness
+
+not_refused : (image : Image) (notice : Notice) → AreWords image → IsThin image → IsRefused (Some (Some (image_bytes image))) notice → ⊥
+not_refused image notice words thin (by_length {len = len} has wrong) =
+    let size : len ≡ 4096 * (length image / 512) = omega (arith, has, length-image_bytes image, thin.well_formed.whole) in
+    wrong (size ∙ sym (wanted_whole (length image / 512) thin.well_formed.at_least thin.well_formed.at_most) ∙ ap wanted_length (sym size))
+not_refused image notice words thin (not_formatted {image = other} has wrong) = let same = image_once image other words has.words has.bytes in wrong (rw (← same) thin.well_formed.marked)
+not_refused image notice words thin (by_count {image = other} has marked wrong) = let same = image_once image other words has.words has.bytes in wrong (rw (← same) thin.well_formed.counted)
+not_refused image notice words thin (not_thin {image = other} has marked counted wrong) = let same = image_once image other words has.words has.bytes in wrong (rw (← same) thin)
+
+pub complete : (status : ℕ) (before after : Outside) → (status ≡ 1 → IsAbsent before.file) → (status ≡ 3 → SourceFailed before after) → (status ≡ 4 → SinkFailed before after) → (status ≡ 5 → FilesFailed before after)
+    → (status ≡ 6 → RunsLong before after) → (status ≡ 7 → (notice : Notice) × IsRefused before.file notice)
+    → (status ≡ 0) ⊎ (status ≡ 1) ⊎ (status ≡ 3) ⊎ (status ≡ 4) ⊎ (status ≡ 5) ⊎ (status ≡ 6) ⊎ (status ≡ 7) ⊎ (status ≡ 8) → IsComplete status before after
+complete status before after one three four five six seven among image input held words thin told few source sink files = elim among [
+  | inl e ↦ inl e
+  | inr (inl e) ↦ absurd (rw held at (one e))
+  | inr (inr (inl e)) ↦ absurd (source (three e))
+  | inr (inr (inr (inl e))) ↦ absurd (sink (four e))
+  | inr (inr (inr (inr (inl e)))) ↦ absurd (files (five e))
+  | inr (inr (inr (inr (inr (inl e))))) ↦ let long = six e in absurd (not_long before.left after.left input long.input long.more told few long.read long.most long.some)
+  | inr (inr (inr (inr (inr (inr (inl e)))))) ↦ let refused = seven e in absurd (not_refused image refused.0 words thin (rw held at refused.1))
+  | inr (inr (inr (inr (inr (inr (inr e)))))) ↦ inr e
+]

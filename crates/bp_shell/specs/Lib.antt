@@ -1,0 +1,11 @@
+pub mod Lines
+pub mod Session
+pub mod PlainSession
+pub mod Files
+pub mod Serving
+pub mod Work
+pub mod Acting
+pub mod Words
+pub mod Opening
+pub mod Formatting
+pub mod Running

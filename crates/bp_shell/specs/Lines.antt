@@ -1,0 +1,23 @@
+-- The lines of an input, and what they ask for.
+use Rattle.std.specs.Prelude.{ℕ, List, [], ◌∷◌, ◌++◌, map, flat_map, if◌then◌else◌}
+use Rattle.std.proofs.Common.{nat_eq}
+use Rattle.bp_script.specs.Commands.{Command, command_of}
+use Rattle.bp_script.specs.Texts.{Reply, reply_text}
+
+-- a line that ends the input, where it is not empty
+abbrev pub last_line : List ℕ → List (List ℕ)
+last_line [] = []
+last_line (b ∷ bytes) = (b ∷ bytes) ∷ []
+
+-- the lines of what was read of a line, and then this input; each without its newline, byte 10
+abbrev pub lines_from : List ℕ → List ℕ → List (List ℕ)
+lines_from held [] = last_line held
+lines_from held (b ∷ bytes) = if nat_eq b 10 then held ∷ lines_from [] bytes else lines_from (held ++ b ∷ []) bytes
+
+-- what is asked for by the rest of a line and then this input
+unfoldable pub commands_from : List ℕ → List ℕ → List Command
+commands_from held input = map command_of (lines_from held input)
+
+-- the texts of replies, one after the other
+unfoldable pub text_of : List Reply → List ℕ
+text_of replies = flat_map reply_text replies

@@ -1,0 +1,50 @@
+-- What a run of a script does, and what it answers.
+use Rattle.std.specs.Prelude.{◌≡◌, List, [], ◌∷◌}
+use Rattle.pm_region.specs.Memory.{Memory, current_words, drained}
+use Rattle.bp_layout.specs.Words.{Image}
+use Rattle.bp_plain.specs.Calls.{Call, Answer}
+use Rattle.bp_volume.specs.FileCall.{FileCall}
+use Rattle.bp_script.specs.Commands.{Command}
+use Rattle.bp_script.specs.Commands.Command.{file_call, sync, bad_syntax, too_long}
+use Rattle.bp_script.specs.Texts.{Reply}
+use Rattle.bp_script.specs.Texts.Reply.{answered, synced, syntax, long}
+
+-- the region, and the words that the file holds
+pub record State : Type 0 where
+  pub memory : Memory
+  pub saved : Image
+
+-- all is written back, and the file holds it
+abbrev pub synced_state : State → State
+synced_state s = record { memory = drained s.memory; saved = current_words s.memory }
+
+-- ---- one line
+
+pub record AnswersCall (old : State) (call : Call) (reply : Reply) (new : State) : Type 0 where
+  pub answer : Answer
+  pub told : reply ≡ answered answer
+  pub does : FileCall old.memory call answer new.memory
+  pub saved : new.saved ≡ old.saved
+
+-- nothing is done
+pub record Tells (old : State) (wanted reply : Reply) (new : State) : Type 0 where
+  pub told : reply ≡ wanted
+  pub same : new ≡ old
+
+pub record Syncs (old : State) (reply : Reply) (new : State) : Type 0 where
+  pub told : reply ≡ synced
+  pub done : new ≡ synced_state old
+
+abbrev pub Line : State → Command → Reply → State → Type 0
+Line old (file_call call) reply new = AnswersCall old call reply new
+Line old sync reply new = Syncs old reply new
+Line old bad_syntax reply new = Tells old syntax reply new
+Line old too_long reply new = Tells old long reply new
+
+-- ---- a script
+
+abbrev pub Session : State → List Command → List Reply → State → Type 0
+Session old [] [] new = new ≡ old
+Session old [] (reply ∷ replies) new = ⊥
+Session old (command ∷ commands) [] new = ⊥
+Session old (command ∷ commands) (reply ∷ replies) new = (middle : State) × Line old command reply middle × Session middle commands replies new

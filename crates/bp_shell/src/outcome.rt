@@ -1,0 +1,14 @@
+//! What a line came to.
+
+/// What a line came to.
+#[derive(Clone, Copy, Debug, PartialEq, Eq)]
+pub(crate) enum Outcome {
+    /// A call was answered; the answer stands in the reply.
+    Answered,
+    /// The file holds the words.
+    Synced,
+    /// The line is none of the grammar.
+    BadSyntax,
+    /// The line is too long.
+    TooLong,
+}

@@ -1,0 +1,29 @@
+//! What the program tells besides replies.
+
+ghost use Rattle.bp_io.specs.Causes.{HasCause};
+ghost use Rattle.bp_script.specs.Sayings.{notice_text};
+ghost use Rattle.bp_shell.specs.Running.{Prints};
+ghost use Rattle.std.specs.Io.KnownBytes.{Appends};
+ghost use Rattle.std.specs.Prelude.{◌<◌, ◌≡◌, ℕ, OnErr, OnOk, length, take};
+
+use crate::sending::send;
+use bp_io::{Failed, Sink};
+use bp_script::{Notice, announce};
+
+/// Prints a line. Where the sink failed, it took a proper front of it.
+pub(crate) fn print<K: Sink>(notice: &Notice, out: &mut K) -> Result<(), Failed>
+    ensures all { OnOk result (Appends (K.taken out.old) (K.taken out.new) (notice_text notice.now)) }
+    ensures some { OnErr result ((count : ℕ) × (count < length (notice_text notice.now)) × Appends (K.taken out.old) (K.taken out.new) (take count (notice_text notice.now))) }
+    ensures cause { HasCause (K.faults out.old) (K.faults out.new) result }
+{
+    let mut text = [0u8; 128];
+    let count = announce(notice, &mut text);
+    send(out, &text[..count])
+}
+
+/// Prints a line as far as the sink takes it.
+pub(crate) fn tell_notice<K: Sink>(notice: &Notice, out: &mut K)
+    ensures { Prints (notice_text notice.now) (K.taken out.old) (K.taken out.new) (K.faults out.old) (K.faults out.new) }
+{
+    let _ = print(notice, out);
+}

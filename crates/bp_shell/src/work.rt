@@ -1,0 +1,77 @@
+//! The memory of a run, made once.
+
+ghost use Rattle.bp_script.specs.Lines.{decoded_room};
+ghost use Rattle.std.specs.Prelude.{◌≡◌, ◌≤◌, IfOk, [], vec_capacity, vec_len};
+
+use bp_plain::Reply;
+use bp_script::{Decoded, MOST_LINE, MOST_TEXT};
+use std::alloc::{AllocError, Global};
+
+const PIECE: usize = 65_536;
+
+// The line as far as it was read, of which one byte more than the longest is kept, and what it takes to answer it.
+#[derive(Drop)]
+pub(crate) struct LineBuffers {
+    pub(crate) line: Vec<u8>,
+    pub(crate) decoded: Decoded,
+    pub(crate) reply: Reply,
+    pub(crate) text: Vec<u8>,
+    ghost room: { 140001 ≤ vec_capacity line },
+    ghost fits: { vec_len line ≤ 140001 },
+    ghost decodes: { 140000 ≤ decoded_room decoded },
+    ghost spelled: { vec_len text ≡ 140000 },
+}
+
+/// A line as far as it was read, a piece of the source, and what it takes to answer a line. Serving takes no other memory, but
+/// for listings.
+#[derive(Drop)]
+pub struct Work {
+    pub(crate) buffers: LineBuffers,
+    pub(crate) piece: Vec<u8>,
+    ghost whole: { vec_len piece ≡ 65536 },
+}
+
+impl Work {
+    ghost use Rattle.bp_shell.specs.Work.{held_line, line_of};
+    ghost use Rattle.std.specs.Prelude.{take, option_map};
+
+    /// Room for lines of 140,000 bytes, with the empty line in it. It fails for want of memory alone.
+    pub fn new(alloc: Global) -> Result<Self, AllocError>
+        ensures { IfOk result (λ work. held_line work ≡ []) }
+    {
+        let buffers = LineBuffers {
+            line: Vec::with_capacity(alloc, MOST_LINE + 1)?,
+            decoded: Decoded::new(alloc, MOST_LINE)?,
+            reply: Reply::new(alloc)?,
+            text: vec![in alloc; 0; MOST_TEXT]?,
+        };
+        Ok(Work {
+            buffers,
+            piece: vec![in alloc; 0; PIECE]?,
+        })
+    }
+
+    /// Sets the line. Of one above the limit only that it is too long is kept.
+    pub fn set_line(&mut self, bytes: &[u8])
+        ensures { held_line self.new ≡ take 140001 bytes.now }
+    {
+        let kept = bytes.len().min(MOST_LINE + 1);
+        self.buffers.line.clear();
+        match self.buffers.line.extend_from_slice(&bytes[..kept]) {
+            Ok(()) => {}
+            Err(_) => unreachable!(),
+        }
+    }
+
+    /// The line, where it is not too long.
+    pub fn line(&self) -> Option<&[u8]>
+        ensures { option_map (λ bytes. bytes.now) result ≡ line_of (held_line self.now) }
+    {
+        let line = &self.buffers.line;
+        if line.len() <= MOST_LINE {
+            Some(line)
+        } else {
+            None
+        }
+    }
+}

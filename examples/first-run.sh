@@ -1,0 +1,14 @@
+#!/bin/sh
+# Builds bpfs, makes an image of 8 blocks, and runs a script over it, twice. The image is left in a folder that it names.
+set -eu
+cd "$(dirname "$0")/../crates/bpfs"
+rt run -- run /nonexistent/image < /dev/null > /dev/null 2>&1 || true
+bpfs=$PWD/out/bpfs
+[ -x "$bpfs" ] || { echo "bpfs was not built: run 'rt check' in crates/bpfs" >&2; exit 1; }
+work=$(mktemp -d)
+echo "\$ bpfs format $work/f --blocks 8"
+"$bpfs" format "$work/f" --blocks 8
+echo "\$ bpfs run $work/f    # create /a, stat /a, list /, sync"
+printf 'create /a\nstat /a\nlist /\nsync\n' | "$bpfs" run "$work/f"
+echo "\$ bpfs run $work/f    # stat /, stat /a"
+printf 'stat /\nstat /a\n' | "$bpfs" run "$work/f"

@@ -1,5 +1,5 @@
 -- One line, by its case.
-use Rattle.std.proofs.Common.{refl, ◌∙◌, ap, arith, ◌≡◌, ◌≤◌, ◌*◌, ℕ, List, length, true, false}
+use Rattle.std.proofs.Common.{refl, ◌∙◌, ap, arith, ◌≡◌, ◌≤◌, ℕ, List, length, true, false}
 use Rattle.std.specs.Prelude.{nat_lt, if◌then◌else◌}
 use Rattle.pm_epochs.proofs.CrashLaws.{length-words_after}
 use Rattle.pm_region.specs.Memory.{Memory, current_words, drained, with_room, room_in}
@@ -11,9 +11,8 @@ use Rattle.bp_volume.specs.FileCall.{FileCall, call_room}
 use Rattle.std.proofs.lemmas.Bool.{le-ltb}
 use Rattle.bp_script.specs.Commands.{Command, command_of, in_grammar}
 use Rattle.bp_script.specs.Commands.Command.{file_call, sync, bad_syntax, too_long}
-use Rattle.bp_script.specs.Texts.{Reply}
 use Rattle.bp_script.specs.Texts.Reply.{answered, synced, syntax, long}
-use Rattle.bp_shell.specs.Files.{HasBytes, Holds, HoldsBytes}
+use Rattle.bp_shell.specs.Files.{Holds, HoldsBytes}
 use Rattle.bp_shell.specs.Serving.{state, Acts, Fails}
 use Rattle.bp_shell.proofs.BlockLaws.{length-image_bytes}
 

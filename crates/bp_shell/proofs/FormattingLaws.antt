@@ -1,5 +1,5 @@
 -- A file between its old bytes and an image.
-use Rattle.std.proofs.Common.{zero, suc, refl, sym, ◌∙◌, ap, arith, ◌≡◌, ℕ, ◌+◌, ◌*◌, ◌-◌, ◌<◌, ◌≤◌, List, [], ◌∷◌, ◌++◌, length, take, drop, replicate, inl, inr, min, length-append, length-take, length-drop}
+use Rattle.std.proofs.Common.{zero, suc, refl, ◌∙◌, ap, arith, ◌≡◌, ℕ, ◌+◌, ◌*◌, ◌-◌, ◌<◌, ◌≤◌, List, [], ◌∷◌, ◌++◌, length, take, drop, replicate, inl, inr, length-append, length-take}
 use Rattle.std.specs.Prelude.{Option, Some, None, Result, Ok, Err, OnOk, OnErr, ◌⊎◌}
 use Rattle.std.specs.Io.KnownBytes.{Appends}
 use Rattle.std.proofs.Math.Seq.{take-length}

@@ -11,8 +11,7 @@ use Rattle.pm_region.specs.Memory.{Memory, current_words, with_room, drained, ro
 use Rattle.bp_plain.specs.PlainTree.{FileTree}
 use Rattle.bp_layout.specs.Same.{Same}
 use Rattle.bp_plain.specs.Stands.{Stands}
-use Rattle.bp_layout.specs.Words.{Image, block_count}
-use Rattle.std.specs.Prelude.{◌-◌}
+use Rattle.bp_layout.specs.Words.{Image}
 use Rattle.bp_plain.specs.Calls.{Call, Answer}
 use Rattle.bp_volume.specs.Step.{Steps}
 use Rattle.bp_volume.specs.Step.Steps.{no_room, no_listing, later_version, unchanged, changed}
@@ -23,11 +22,9 @@ use Rattle.bp_script.specs.Commands.Command.{file_call, sync, bad_syntax, too_lo
 use Rattle.bp_script.specs.Texts.{Reply}
 use Rattle.bp_volume.specs.FileCall.{call_room}
 use Rattle.pm_epochs.proofs.CrashLaws.{crash_right_none}
-use Rattle.pm_epochs.proofs.Deciding.{decides, kept_calls-le}
 use Rattle.bp_plain.specs.Calls.{Refusal}
 use Rattle.std.specs.Prelude.{Option, Some, None, is_none, ◌&&◌, ◌⊎◌, nat_le, nat_lt, if◌then◌else◌}
 use Rattle.std.proofs.lemmas.Bool.{leb-true, leb-false}
-use Rattle.pm_epochs.specs.Log.{barriers}
 use Rattle.bp_shell.specs.PlainSession.{PlainSession, PlainLine, Plain, PlainCall, latest, tree_at, tree_now, after_crash, with_call, fresh, Follows}
 use Rattle.bp_shell.specs.PlainSession.PlainCall.{plainly, no_room as finds_no_room, not_yet, no_listing as finds_no_memory}
 

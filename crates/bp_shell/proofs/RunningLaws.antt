@@ -1,24 +1,24 @@
 -- What a run leaves outside.
-use Rattle.std.proofs.Common.{suc, refl, sym, ◌∙◌, ap, arith, ◌≡◌, ℕ, ◌*◌, ◌/◌, ◌≤◌, ◌<◌, List, [], ◌∷◌, ◌++◌, length, length-append, inl, inr}
-use Rattle.std.specs.Prelude.{Option, Some, None, ◌⊎◌}
+use Rattle.std.proofs.Common.{suc, refl, sym, ◌∙◌, ap, arith, ◌≡◌, ℕ, ◌*◌, ◌/◌, ◌≤◌, List, [], ◌∷◌, ◌++◌, length, inl, inr}
+use Rattle.std.specs.Prelude.{Option, Some, ◌⊎◌}
 use Rattle.std.specs.Io.KnownBytes.{Consumes, IsAtEnd}
 use Rattle.pm_region.specs.Memory.{Memory, current_words, drained}
 use Rattle.pm_words.specs.Bytes.{word_bytes, word_of}
 use Rattle.pm_words.proofs.Bytes.{word_of_bytes}
-use Rattle.bp_layout.specs.Words.{Image, word}
+use Rattle.bp_layout.specs.Words.{Image}
 use Rattle.bp_layout.specs.Bytes.{image_bytes}
 use Rattle.bp_plain.proofs.Existence.{stands_for, tree_of}
 use Rattle.bp_script.specs.Commands.{Command}
 use Rattle.bp_script.specs.Commands.Command.{sync}
 use Rattle.bp_script.specs.declared.notices.Notice.{Notice}
 use Rattle.bp_thin.specs.Thin.{IsThin}
-use Rattle.bp_shell.specs.Files.{HasBytes, HasBlocksOf, AreWords, IsAbsent}
+use Rattle.bp_shell.specs.Files.{AreWords, IsAbsent}
 use Rattle.bp_shell.specs.Lines.{commands_from}
 use Rattle.bp_shell.specs.Opening.{IsFound, IsRefused, start, wanted_length}
 use Rattle.bp_shell.specs.Opening.IsRefused.{by_length, not_formatted, by_count, not_thin}
 use Rattle.bp_shell.specs.PlainSession.{fresh}
 use Rattle.bp_shell.specs.Running.{Outside, Runs, RunsPart, RunsLong, RunsCut, RunsStopped, Saves, SavesPartly, SourceFailed, SinkFailed, FilesFailed, IsComplete}
-use Rattle.bp_shell.specs.Serving.{state, Serves, ServesAll, Cuts, Stops, Told, Fails}
+use Rattle.bp_shell.specs.Serving.{state, Serves, ServesAll, Cuts, Stops, Told}
 use Rattle.bp_shell.specs.Session.{State}
 use Rattle.bp_shell.proofs.BlockLaws.{length-image_bytes}
 use Rattle.bp_shell.proofs.PlainLaws.{plain_session, follows_fresh}
@@ -170,12 +170,12 @@ wanted_whole n least most = omega arith
 -- ---- completeness
 
 not_refused : (image : Image) (notice : Notice) → AreWords image → IsThin image → IsRefused (Some (Some (image_bytes image))) notice → ⊥
-not_refused image notice words thin (by_length {len = len} has wrong) =
+not_refused image line words thin (by_length {len = len} has wrong) =
     let size : len ≡ 4096 * (length image / 512) = omega (arith, has, length-image_bytes image, thin.well_formed.whole) in
     wrong (size ∙ sym (wanted_whole (length image / 512) thin.well_formed.at_least thin.well_formed.at_most) ∙ ap wanted_length (sym size))
-not_refused image notice words thin (not_formatted {image = other} has wrong) = let same = image_once image other words has.words has.bytes in wrong (rw (← same) thin.well_formed.marked)
-not_refused image notice words thin (by_count {image = other} has marked wrong) = let same = image_once image other words has.words has.bytes in wrong (rw (← same) thin.well_formed.counted)
-not_refused image notice words thin (not_thin {image = other} has marked counted wrong) = let same = image_once image other words has.words has.bytes in wrong (rw (← same) thin)
+not_refused image line words thin (not_formatted {image = other} has wrong) = let same = image_once image other words has.words has.bytes in wrong (rw (← same) thin.well_formed.marked)
+not_refused image line words thin (by_count {image = other} has marked wrong) = let same = image_once image other words has.words has.bytes in wrong (rw (← same) thin.well_formed.counted)
+not_refused image line words thin (not_thin {image = other} has marked counted wrong) = let same = image_once image other words has.words has.bytes in wrong (rw (← same) thin)
 
 pub complete : (status : ℕ) (before after : Outside) → (status ≡ 1 → IsAbsent before.file) → (status ≡ 3 → SourceFailed before after) → (status ≡ 4 → SinkFailed before after) → (status ≡ 5 → FilesFailed before after)
     → (status ≡ 6 → RunsLong before after) → (status ≡ 7 → (notice : Notice) × IsRefused before.file notice)

@@ -3,7 +3,6 @@ use Rattle.std.proofs.Common.{zero, suc, refl, sym, ap, arith, ◌≡◌, ℕ, �
 use Rattle.std.specs.Prelude.{◌⊎◌, nat_lt, Some, None}
 use Rattle.std.proofs.lemmas.Bool.{ltb-true, ltb-false}
 use Rattle.std.specs.Prelude.{Result, Ok, Err, OnOk, OnErr}
-use Rattle.bp_layout.specs.Words.{Image}
 use Rattle.bp_layout.specs.Bytes.{image_bytes}
 use Rattle.pm_region.specs.Memory.{Memory, current_words}
 use Rattle.pm_epochs.proofs.CrashLaws.{length-words_after}

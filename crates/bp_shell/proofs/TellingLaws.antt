@@ -1,10 +1,7 @@
 -- The lines of a listing, one after the other.
-use Rattle.std.proofs.Common.{zero, suc, refl, sym, ◌∙◌, ap, arith, ◌≡◌, ℕ, ◌+◌, ◌-◌, ◌≤◌, ◌<◌, List, [], ◌∷◌, ◌++◌, length, take, drop, get_or, length-append}
+use Rattle.std.proofs.Common.{zero, suc, refl, sym, ◌∙◌, ap, arith, ◌≡◌, ℕ, ◌+◌, ◌<◌, List, [], ◌∷◌, ◌++◌, length, take, drop, length-append}
 use Rattle.std.proofs.lemmas.List.{append_assoc, append-nil}
-use Rattle.std.specs.Prelude.{Option, flat_map, codes, slice_get, Some, None, Result, Ok, Err, OnErr}
-use Rattle.bp_script.specs.Texts.{digits_or_dash}
-use Rattle.hex.specs.Hex.{encode_lower, encode_with}
-use Rattle.std.proofs.Math.Seq.{take-add}
+use Rattle.std.specs.Prelude.{Option, flat_map, slice_get, Some, None, Result, Ok, Err, OnErr}
 use Rattle.std.specs.Io.KnownBytes.{Appends}
 use Rattle.std.proofs.KnownBytes.{Appends-trans}
 
@@ -50,43 +47,3 @@ around f (y ∷ list) (suc i) x last at =
 pub err_map : {T E P Q : Type 0} (r : Result T E) → (P → Q) → OnErr r P → OnErr r Q
 err_map (Ok x) f p = tt
 err_map (Err e) f p = f p
-
--- ---- digits
-
-pub spelled : (a b : List ℕ) → encode_lower (a ++ b) ≡ encode_lower a ++ encode_lower b
-unfolding encode_with
-spelled [] b = refl
-spelled (x ∷ a) b = let rest = spelled a b in rw rest refl
-
--- a list, cut in three
-pub three_parts : (xs : List ℕ) (at end : ℕ) → at ≤ end → xs ≡ take at xs ++ (take (end - at) (drop at xs) ++ drop end xs)
-three_parts xs at end low =
-    let sum : at + (end - at) ≡ end = omega arith in
-    sym (take_drop_all at xs) ∙ ap (λ l. take at xs ++ l) (sym (take_drop_all (end - at) (drop at xs)) ∙ ap (λ l. take (end - at) (drop at xs) ++ l) (drop_twice at (end - at) xs ∙ ap (λ n. drop n xs) sum))
-  where
-    take_drop_all : (n : ℕ) (l : List ℕ) → take n l ++ drop n l ≡ l
-    take_drop_all zero l = refl
-    take_drop_all (suc n) [] = refl
-    take_drop_all (suc n) (x ∷ l) = ap (λ k. x ∷ k) (take_drop_all n l)
-
-    drop_twice : (n m : ℕ) (l : List ℕ) → drop m (drop n l) ≡ drop (n + m) l
-    drop_twice zero m l = let e : 0 + m ≡ m = omega arith in rw e refl
-    drop_twice (suc n) zero [] = let e : suc n + 0 ≡ suc n = omega arith in rw e refl
-    drop_twice (suc n) (suc m) [] = let e : suc n + suc m ≡ suc (n + suc m) = omega arith in rw e refl
-    drop_twice (suc n) m (x ∷ l) = let e : suc n + m ≡ suc (n + m) = omega arith in rw e (drop_twice n m l)
-
--- the digits of bytes, around a piece of them
-pub spelled_around : (xs : List ℕ) (at end : ℕ) → at ≤ end → encode_lower xs ≡ encode_lower (take at xs) ++ (encode_lower (take (end - at) (drop at xs)) ++ encode_lower (drop end xs))
-spelled_around xs at end low = ap (λ l. encode_lower l) (three_parts xs at end low) ∙ spelled (take at xs) (take (end - at) (drop at xs) ++ drop end xs)
-    ∙ ap (λ l. encode_lower (take at xs) ++ l) (spelled (take (end - at) (drop at xs)) (drop end xs))
-
-pub spelled_more : (xs : List ℕ) (at end : ℕ) → at ≤ end → encode_lower (take end xs) ≡ encode_lower (take at xs) ++ encode_lower (take (end - at) (drop at xs))
-spelled_more xs at end low = let sum : at + (end - at) ≡ end = omega arith in ap (λ n. encode_lower (take n xs)) (sym sum) ∙ ap (λ l. encode_lower l) (take-add at (end - at) xs) ∙ spelled (take at xs) (take (end - at) (drop at xs))
-
-pub spelled_none : encode_lower [] ≡ []
-unfolding encode_with
-spelled_none = refl
-
-pub no_dash : (bytes : List ℕ) → 0 < length bytes → digits_or_dash bytes ≡ encode_lower bytes
-no_dash [] some = absurd (omega arith)
-no_dash (b ∷ bytes) some = refl

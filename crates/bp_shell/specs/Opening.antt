@@ -1,7 +1,6 @@
 -- Which files `run` serves, and why it refuses others.
 use Rattle.std.specs.Prelude.{◌≡◌, ◌≢◌, ℕ, ◌+◌, ◌-◌, ◌*◌, ◌/◌, ◌^◌, min, max, []}
 use Rattle.bp_io.specs.Files.{Known}
-use Rattle.pm_region.specs.Memory.{Memory}
 use Rattle.bp_layout.specs.Words.{Image, word, block_count}
 use Rattle.bp_layout.specs.Limits.{magic}
 use Rattle.bp_thin.specs.Thin.{IsThin}

@@ -1,19 +1,18 @@
 //! Replies for a sink.
 
-ghost use Rattle.std.specs.Prelude.{◌≡◌, ◌<◌, ◌≤◌, ◌*◌, ◌++◌, ℕ, OnOk, OnErr, drop, flat_map, length, take, vec_len};
+ghost use Rattle.std.specs.Prelude.{◌≡◌, ◌<◌, ℕ, OnOk, OnErr, length, take, vec_len};
 ghost use Rattle.std.specs.Io.KnownBytes.{Appends};
 ghost use Rattle.bp_io.specs.Causes.{HasCause};
 ghost use Rattle.bp_plain.specs.Calls.Answer.{names};
 ghost use Rattle.bp_script.specs.Sayings.{said_text, FitsReply};
-ghost use Rattle.bp_script.specs.Texts.{answer_text, data_text, reply_text};
-ghost use Rattle.hex.specs.Hex.{encode_lower};
+ghost use Rattle.bp_script.specs.Texts.{answer_text, reply_text};
 ghost use Rattle.bp_shell.specs.Acting.{reply_of};
 
 use crate::outcome::Outcome;
 use crate::sending::send;
 use bp_io::{Failed, Sink};
 use bp_layout::Listing;
-use bp_plain::{Answer, MOST_BYTES, Reply};
+use bp_plain::{Answer, Reply};
 use bp_script::{Said, say};
 
 // Tells one line of a reply.
@@ -48,75 +47,6 @@ fn tell_names<K: Sink>(listing: &Listing, text: &mut Vec<u8>, out: &mut K) -> Re
     tell_line(&Said::End, text, out)
 }
 
-// Writes bytes as digits to the front.
-fn put_digits(bytes: &[u8], into: &mut [u8]) -> usize
-    requires { 2 * length bytes.now ≤ length into.old }
-    ensures fits { result ≤ length into.new }
-    ensures front { take result into.new ≡ encode_lower bytes.now }
-{
-    let end = 2 * bytes.len();
-    match hex::encode_to_slice(bytes, &mut into[..end]) {
-        Ok(()) => {}
-        Err(_) => unreachable!(),
-    }
-    end
-}
-
-// Spells bytes as digits.
-fn spell<K: Sink>(bytes: &[u8], text: &mut Vec<u8>, out: &mut K) -> Result<(), Failed>
-    requires room { vec_len text.old ≡ 140000 }
-    requires few { length bytes.now ≤ 65536 }
-    ensures room { vec_len text.new ≡ 140000 }
-    ensures all { OnOk result (Appends (K.taken out.old) (K.taken out.new) (encode_lower bytes.now)) }
-    ensures some { OnErr result ((n : ℕ) × (n < length (encode_lower bytes.now)) × Appends (K.taken out.old) (K.taken out.new) (take n (encode_lower bytes.now))) }
-    ensures cause { HasCause (K.faults out.old) (K.faults out.new) result }
-{
-    let count = put_digits(bytes, text);
-    send(out, &text[..count])
-}
-
-// The same of any number of bytes, piece by piece.
-fn spell_all<K: Sink>(bytes: &[u8], text: &mut Vec<u8>, out: &mut K) -> Result<(), Failed>
-    requires room { vec_len text.old ≡ 140000 }
-    ensures room { vec_len text.new ≡ 140000 }
-    ensures all { OnOk result (Appends (K.taken out.old) (K.taken out.new) (encode_lower bytes.now)) }
-    ensures some { OnErr result ((n : ℕ) × (n < length (encode_lower bytes.now)) × Appends (K.taken out.old) (K.taken out.new) (take n (encode_lower bytes.now))) }
-    ensures cause { HasCause (K.faults out.old) (K.faults out.new) result }
-{
-    let mut at = 0;
-    while at < bytes.len() {
-        let end = at + MOST_BYTES.min(bytes.len() - at);
-        spell(&bytes[at..end], text, out)?;
-        at = end;
-    }
-    Ok(())
-}
-
-// Tells the line of bytes.
-fn tell_bytes<K: Sink>(bytes: &[u8], text: &mut Vec<u8>, out: &mut K) -> Result<(), Failed>
-    requires room { vec_len text.old ≡ 140000 }
-    ensures room { vec_len text.new ≡ 140000 }
-    ensures all { OnOk result (Appends (K.taken out.old) (K.taken out.new) (data_text bytes.now)) }
-    ensures some { OnErr result ((n : ℕ) × (n < length (data_text bytes.now)) × Appends (K.taken out.old) (K.taken out.new) (take n (data_text bytes.now))) }
-    ensures cause { HasCause (K.faults out.old) (K.faults out.new) result }
-{
-    if bytes.is_empty() {
-        return tell_line(&Said::Bytes(bytes), text, out);
-    }
-    match send(out, b"data ") {
-        Ok(()) => {}
-        Err(Failed) => return Err(Failed),
-    }
-    match spell_all(bytes, text, out) {
-        Ok(()) => {}
-        Err(Failed) => return Err(Failed),
-    }
-    match send(out, b"\n") {
-        Ok(()) => Ok(()),
-        Err(Failed) => Err(Failed),
-    }
-}
-
 // Tells the answer of a call.
 fn tell_answer<K: Sink>(reply: &Reply, text: &mut Vec<u8>, out: &mut K) -> Result<(), Failed>
     requires room { vec_len text.old ≡ 140000 }
@@ -127,7 +57,7 @@ fn tell_answer<K: Sink>(reply: &Reply, text: &mut Vec<u8>, out: &mut K) -> Resul
 {
     match reply.answer() {
         Answer::Done => tell_line(&Said::Done, text, out),
-        Answer::Bytes(bytes) => tell_bytes(bytes, text, out),
+        Answer::Bytes(bytes) => tell_line(&Said::Bytes(bytes), text, out),
         Answer::FileOf(size) => tell_line(&Said::FileOf(size), text, out),
         Answer::DirOf(count) => tell_line(&Said::DirOf(count), text, out),
         Answer::Names(listing) => tell_names(listing, text, out),

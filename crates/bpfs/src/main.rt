@@ -2,6 +2,8 @@
 //! it, and writes the replies to standard output.
 #![tactic(auto)]
 
+ghost use Rattle.std.specs.Prelude.{◌≡◌, IfOk, map, string_bytes};
+
 use bp_io::{DiskFiles, StdSink, StdSource};
 use bp_shell::run;
 use std::alloc::{AllocError, Global};
@@ -13,7 +15,9 @@ use std::process::ExitCode;
 const NO_MEMORY: u8 = 8;
 
 // The words as text.
-fn texts(alloc: Global, words: &[String]) -> Result<Vec<&str>, AllocError> {
+fn texts(alloc: Global, words: &[String]) -> Result<Vec<&str>, AllocError>
+    ensures { IfOk result (λ texts. map (λ text. text.now) texts.items ≡ map string_bytes words.entry.now) }
+{
     let mut texts = Vec::with_capacity(alloc, words.len())?;
     for word in words {
         texts.push(word.as_str())?;

@@ -1,6 +1,6 @@
-use Rattle.std.proofs.Common.{◌∙◌, ap, arith, length}
+use Rattle.std.proofs.Common.{◌∙◌, ap, arith}
 use Rattle.std.proofs.lemmas.Result.{err_from_is_err_and}
-use Rattle.pm_region.specs.Memory.{current_words, Memory}
+use Rattle.pm_region.specs.Memory.{current_words}
 use Rattle.bp_layout.specs.Bytes.{image_bytes}
 use Rattle.bp_script.specs.Commands.{in_grammar}
 use Rattle.bp_script.specs.Commands.Command.{sync}

@@ -1,4 +1,4 @@
-use Rattle.std.proofs.Common.{arith, rules, ap, ◌∙◌, ◌≡◌, ◌*◌, ◌+◌, ◌++◌, [], ◌∷◌, ◌-◌, take, drop}
+use Rattle.std.proofs.Common.{arith, rules, ap, ◌∙◌, ◌≡◌, ◌*◌, ◌+◌, [], ◌∷◌, ◌-◌, take, drop}
 use Rattle.bp_shell.proofs.BlockLaws.{decode_more, words_more, image_bytes-append, image_bytes-one}
 use Rattle.bp_shell.proofs.blocks.decode.Goals as goal
 use Rattle.bp_layout.specs.Bytes.{image_bytes}

@@ -1,4 +1,4 @@
-use Rattle.std.proofs.Common.{arith, rules, refl, ap, ◌∙◌, ◌≡◌, ◌*◌, ◌+◌, ◌-◌, take, length, sym}
+use Rattle.std.proofs.Common.{arith, refl, ap, ◌∙◌, ◌≡◌, ◌*◌, ◌+◌, ◌-◌, take, length, sym}
 use borrow.Rule.Slice.PartMut.{same_len_mid}
 use Rattle.std.proofs.lemmas.Slice.{take-put_mid}
 use Rattle.std.proofs.Math.Seq.{take-length}

@@ -1,5 +1,4 @@
 use Rattle.std.proofs.Common.{arith, inl, inr}
-use Rattle.bp_shell.specs.Files.{HoldsBytes}
 use Rattle.bp_shell.proofs.FormattingLaws.{partly_sized, is_sized, partly_mixed}
 use Rattle.bp_shell.proofs.formatting.write_image.Goals as goal
 

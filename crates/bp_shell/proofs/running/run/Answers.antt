@@ -1,5 +1,4 @@
 use Rattle.std.proofs.Common.{refl, ap, inl, inr, ◌≡◌, map, List, ℕ}
-use Rattle.std.specs.Prelude.{◌⊎◌}
 use Rattle.std.specs.Borrow.{Bor}
 use Rattle.bp_shell.specs.Words.Program.{formats, runs}
 use Rattle.bp_shell.proofs.RunningLaws.{complete}

@@ -1,5 +1,4 @@
-use Rattle.std.proofs.Common.{arith, ◌∙◌, ap, length, inr}
-use Rattle.pm_region.specs.Memory.{Memory, current_words}
+use Rattle.std.proofs.Common.{◌∙◌, inr}
 use Rattle.bp_layout.specs.Bytes.{image_bytes}
 use Rattle.bp_shell.proofs.ActingLaws.{size-drained, holds_bytes}
 use Rattle.bp_shell.proofs.RunningLaws.{runs_whole, runs_part, runs_long, runs_stopped, runs_stopped_at_end}

@@ -2,7 +2,7 @@ use Rattle.std.proofs.Common.{arith, rules, ◌∙◌, ◌≡◌, ◌*◌, ◌+�
 use Rattle.std.proofs.lemmas.Result.{err_from_is_err_and}
 use Rattle.pm_region.specs.Memory.{current_words}
 use Rattle.bp_layout.specs.Bytes.{image_bytes}
-use Rattle.bp_shell.proofs.SavingLaws.{becomes_next, stays_known, mixed_known, saved_all, are_sizes, size-current, on_ok, on_err}
+use Rattle.bp_shell.proofs.SavingLaws.{becomes_next, stays_known, mixed_known, saved_all, are_sizes, on_ok, on_err}
 use Rattle.bp_shell.proofs.saving.save.Goals as goal
 
 pub loop-i-preserved : goal.loop-i-preserved

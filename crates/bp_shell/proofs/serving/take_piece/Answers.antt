@@ -1,4 +1,4 @@
-use Rattle.std.proofs.Common.{refl, arith, rules, ◌++◌, ◌∷◌, ◌+◌, drop, take, ◌≡◌, ◌<◌, length, get_or}
+use Rattle.std.proofs.Common.{refl, arith, rules, ◌++◌, ◌+◌, drop, get_or}
 use Rattle.bp_shell.proofs.ServingLaws.{serves_nothing, serves_then, cuts_in, stops_in, split_at, take_next}
 use Rattle.bp_shell.proofs.serving.take_piece.Goals as goal
 

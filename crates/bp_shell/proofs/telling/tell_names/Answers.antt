@@ -1,4 +1,4 @@
-use Rattle.std.proofs.Common.{arith, rules, ◌≡◌, length, ◌∙◌, sym, [], drop, ◌+◌, ◌++◌, take}
+use Rattle.std.proofs.Common.{arith, rules, ◌≡◌, length, [], take}
 use Rattle.std.specs.Prelude.{flat_map, codes}
 use Rattle.std.proofs.KnownBytes.{Appends-trans}
 use Rattle.std.proofs.lemmas.Result.{err_from_is_err_and}

@@ -1,4 +1,4 @@
-use Rattle.std.proofs.Common.{arith, rules, refl, ◌≡◌, ap, ◌∙◌}
+use Rattle.std.proofs.Common.{arith, ◌≡◌, ap, ◌∙◌}
 use Rattle.std.specs.Prelude.{decimal}
 use Rattle.std.proofs.lemmas.Fmt.{parse-decimal}
 use Rattle.bp_shell.proofs.words.block_count.Goals as goal

@@ -1,4 +1,4 @@
-use Rattle.std.proofs.Common.{arith, List, ℕ, [], length}
+use Rattle.std.proofs.Common.{arith, List, ℕ, []}
 use Rattle.std.specs.Borrow.{Bor}
 use Rattle.bp_shell.specs.Words.{program_of}
 use Rattle.bp_shell.proofs.WordLaws.{match_map, nothing_called, asks_called, three_words, five_words}

@@ -216,3 +216,41 @@ fn real_files_are_served(rt: HostRuntime) -> Result<(), Fail> {
     fs::remove_file(&rt, "replies")?;
     Ok(())
 }
+
+#[test]
+fn real_files_are_refused(rt: HostRuntime) -> Result<(), Fail> {
+    let alloc = rt.alloc();
+    let mut files = DiskFiles::new(&rt);
+    let mut source = FairSource::new(b"");
+    let mut sink = MemSink::new(alloc, 128, &[])?;
+    let words = ["bpfs", "run", "missing.img"];
+    assert_eq!(rt; run(alloc, &words, &mut source, &mut sink, &mut files), 1);
+    fs::write(&rt, "short.img", "no image")?;
+    let words = ["bpfs", "run", "short.img"];
+    assert_eq!(rt; run(alloc, &words, &mut source, &mut sink, &mut files), 7);
+    assert_eq!(rt;
+        sink.bytes(),
+        b"err 34 nofile\nerr 31 badsize 8 32768\n".as_slice()
+    );
+    assert_eq!(rt;
+        fs::read(&rt, "short.img")?.as_slice(),
+        b"no image".as_slice()
+    );
+    fs::remove_file(&rt, "short.img")?;
+    Ok(())
+}
+
+#[test]
+fn each_call_of_a_format_may_fail(rt: HostRuntime) -> Result<(), Fail> {
+    for k in 0..12u64 {
+        let fail_at = [k];
+        let mut files = files_of(&rt, None, &fail_at)?;
+        let mut source = FairSource::new(b"");
+        let mut sink = MemSink::new(rt.alloc(), 64, &[])?;
+        let status = run(rt.alloc(), &FORMAT, &mut source, &mut sink, &mut files);
+        assert_eq!(rt; status, if k < 11 { 5 } else { 0 });
+        let told: &[u8] = if k < 11 { b"" } else { b"formatted 8 6\n" };
+        assert_eq!(rt; sink.bytes(), told);
+    }
+    Ok(())
+}

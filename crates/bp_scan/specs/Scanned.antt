@@ -1,0 +1,60 @@
+-- What a scan has seen so far of an image.
+use Rattle.std.specs.Prelude.{length, true, false, ◌≡◌, ◌≢◌, ◌⊎◌, ℕ, suc, ◌%◌, ◌<◌, ◌≤◌}
+use Rattle.bp_free.specs.Set.{Set, has}
+use Rattle.bp_layout.specs.Words.{Image, block_count, height_of}
+use Rattle.bp_layout.specs.Tree.{node, covered, IsLivePointer}
+use Rattle.bp_layout.specs.Inode.{kind_of, root_of, size_of, inode_count}
+use Rattle.bp_layout.specs.Directory.{EntryNames, IsName, name_at}
+use Rattle.bp_layout.specs.Checks.{IsFound, IsPointer, IsFollowed, Passes, entry_place}
+use Rattle.bp_walk.specs.Taken.{Takes}
+
+-- each pointer of the tree that is followed passes, and none is null where none may be
+pub record IsChecked (image : Image) (t : ℕ) : Type 0 where
+  pub fits : size_of image t ≤ covered (suc (height_of (root_of image t)))
+  pub passes : (d k : ℕ) → IsLivePointer (root_of image t) (size_of image t) d k → IsFollowed image (root_of image t) (size_of image t) d k → Passes image (root_of image t) d k
+  pub full : (t ≡ 0) ⊎ (kind_of image t ≡ 2) → (d k : ℕ) → IsLivePointer (root_of image t) (size_of image t) d k → IsFollowed image (root_of image t) (size_of image t) d k →
+      node image (root_of image t) d k ≢ 0
+
+-- a pointer of a tree that was entered
+pub record IsSeen (image : Image) (E : ℕ → Type 0) (place : ℕ) : Type 0 where
+  pub tree : ℕ
+  pub depth : ℕ
+  pub index : ℕ
+  pub entered : E tree
+  pub pointer : IsPointer image tree depth index place
+
+-- E are the trees that were entered, D the slots of directories whose entries were gone through, from a set of all blocks to the blocks that are left.
+pub record IsScanned (image : Image) (E : ℕ → Type 0) (D : ℕ → ℕ → Type 0) (all left : Set) : Type 0 where
+  pub found : (t : ℕ) → E t → IsFound image t
+  pub checked : (t : ℕ) → E t → IsChecked image t
+  pub takes : Takes image (IsSeen image E) all left
+  pub kinds : (i : ℕ) → E (suc i) → (1 ≤ kind_of image (suc i)) × (kind_of image (suc i) ≤ 2)
+  pub sizes : (i : ℕ) → E i → kind_of image i ≡ 2 → size_of image i % 256 ≡ 0
+  pub inumbers : (i s j : ℕ) → D i s → EntryNames image i s j → j < inode_count image
+  pub not_root : (i s j : ℕ) → D i s → EntryNames image i s j → j ≢ 1
+  pub forms : (i s j : ℕ) → D i s → EntryNames image i s j → IsName (name_at image i s)
+  pub enters : (i s j : ℕ) → D i s → EntryNames image i s j → E j
+  pub named_once : (i s k r j : ℕ) → D i s → D k r → EntryNames image i s j → EntryNames image k r j → entry_place image i s 0 ≡ entry_place image k r 0
+  pub names_once : (i s r j k : ℕ) → D i s → D i r → EntryNames image i s j → EntryNames image i r k → name_at image i s ≡ name_at image i r → s ≡ r
+
+-- nothing is left to do
+pub record IsAll (image : Image) (E : ℕ → Type 0) (D : ℕ → ℕ → Type 0) : Type 0 where
+  pub blocks : size_of image 0 % 4096 ≡ 0
+  pub some : 4096 ≤ size_of image 0
+  pub inode_file : E 0
+  pub root : E 1
+  pub directory : kind_of image 1 ≡ 2
+  pub slots : (i s j : ℕ) → E i → EntryNames image i s j → D i s
+
+-- all blocks but the first
+pub record HasAllBlocks (image : Image) (set : Set) : Type 0 where
+  pub room : length set ≡ block_count image
+  pub all : (b : ℕ) → 1 ≤ b → b < block_count image → has set b ≡ true
+  pub not_first : has set 0 ≡ false
+
+-- the set has the inodes that were not entered
+pub record HasRest (image : Image) (E : ℕ → Type 0) (set : Set) : Type 0 where
+  pub low : (i : ℕ) → has set i ≡ true → 2 ≤ i
+  pub high : (i : ℕ) → has set i ≡ true → i < inode_count image
+  pub out : (i : ℕ) → E i → has set i ≡ false
+  pub entered : (i : ℕ) → 2 ≤ i → i < inode_count image → has set i ≡ false → E i

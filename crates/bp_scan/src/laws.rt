@@ -1,0 +1,49 @@
+//! Laws of a scan. Each is the contract of a function that does nothing.
+
+ghost use Rattle.std.specs.Prelude.{◌≡◌, ℕ, ◌%◌, ◌<◌, ◌≤◌, false, true};
+ghost use Rattle.bp_free.specs.Set.{has};
+ghost use Rattle.bp_layout.specs.Checks.{Fails, IsFormatted, IsFound, root_place};
+ghost use Rattle.bp_layout.specs.Free.{AreFreeBlocks, AreFreeInodes};
+ghost use Rattle.bp_layout.specs.Inode.{inode_count, kind_of, root_of, size_of};
+ghost use Rattle.bp_layout.specs.WellFormed.{IsWellFormed};
+ghost use Rattle.bp_walk.specs.Walk.{FailsTree};
+ghost use Rattle.bp_scan.specs.Progress.{IsMidway};
+
+use bp_free::{Blocks, Inodes};
+
+/// Where no directory is left to be read the image is well formed, and the two sets have just the free blocks and the free
+/// inodes.
+pub fn nothing_is_left(image: &[u64], blocks: &Blocks, inodes: &Inodes, todo: &Inodes)
+    requires formatted { IsFormatted image.now }
+    requires inode_blocks { size_of image.now 0 % 4096 ≡ 0 }
+    requires some_inodes { 4096 ≤ size_of image.now 0 }
+    requires root_kind { kind_of image.now 1 ≡ 2 }
+    requires range { (i : ℕ) → has inodes.now i ≡ true → (2 ≤ i) × (i < inode_count image.now) }
+    requires midway { IsMidway image.now blocks.now inodes.now todo.now 0 0 }
+    requires none_left { (i : ℕ) → has todo.now i ≡ false }
+    ensures well_formed { IsWellFormed image.now }
+    ensures blocks { AreFreeBlocks image.now (has blocks.now) }
+    ensures inodes { AreFreeInodes image.now (has inodes.now) }
+{}
+
+/// A check that fails in the tree of an inode that no entry named before fails in the image, at that place.
+pub fn fault_of_a_tree(
+    image: &[u64],
+    blocks: &Blocks,
+    inodes: &Inodes,
+    todo: &Inodes,
+    current: u32,
+    slot: u32,
+    inode: u32,
+    holes: bool,
+)
+    requires some_inodes { 4096 ≤ size_of image.now 0 }
+    requires midway { IsMidway image.now blocks.now inodes.now todo.now current slot }
+    requires inode_file { has inodes.now 0 ≡ false }
+    requires new { has inodes.now inode ≡ true }
+    requires found { IsFound image.now inode }
+    requires kind { holes ≡ false → kind_of image.now inode ≡ 2 }
+    ensures { (check place : ℕ) →
+        FailsTree image.now (root_place image.now inode) (root_of image.now inode) (size_of image.now inode) holes blocks.now check place →
+        Fails image.now check place }
+{}

@@ -1,0 +1,5 @@
+pub mod Places
+pub mod TakenLaws
+pub mod Below
+pub mod Pointers
+pub mod WholeTree

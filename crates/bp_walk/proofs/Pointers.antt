@@ -1,0 +1,119 @@
+-- A walk over one more pointer: it names a block that leaves the set, or it is null.
+use Rattle.std.proofs.Common.{◌≡◌, ◌≢◌, ◌⊎◌, ℕ, zero, suc, ◌+◌, ◌*◌, ◌%◌, ◌<◌, ◌≤◌, Bool, false, length, sym, ◌∙◌, ap, subst, arith, inl, inr, Result, Ok, Err}
+use Rattle.std.proofs.lemmas.Bool.{cases_eq}
+use Rattle.std.specs.Result.{OnOk, IfErr}
+use Rattle.bp_free.specs.Set.{Set, has, without}
+use Rattle.bp_layout.specs.Words.{Image, word, block_count, block_of, height_of}
+use Rattle.bp_layout.specs.Tree.{word_at, node, covered}
+use Rattle.bp_layout.specs.Checks.{Passes}
+use Rattle.bp_walk.specs.Taken.{block_at, Takes}
+use Rattle.bp_walk.specs.Pointed.{ClaimsPointed, RefusesPointed}
+use Rattle.bp_walk.specs.Pointed.RefusesPointed.{too_high, is_null, has_left}
+use Rattle.bp_walk.specs.Walk.{IsPlace, WalksBelow, FailsBelow, FailsTree}
+use Rattle.bp_walk.specs.Walk.FailsBelow.{range, hole}
+use Rattle.bp_walk.specs.Walk.FailsTree.{root_range, root_hole, root_taken, below}
+use Rattle.bp_walk.proofs.TakenLaws.{clash, take_one, take_null, length_without, has_without, has_less}
+use Rattle.bp_walk.proofs.Below.{child_word, step, repeats_here, fails_below}
+
+module _ (pointer : ℕ) (holes : Bool) (old new : Set) (block : ℕ) (claims : ClaimsPointed pointer holes old new block) where
+  pub claimed_takes : (image : Image) (at : ℕ) → word image at ≡ pointer → Takes image (λ p. p ≡ at) old new
+  claimed_takes image at stands = go (cases_eq block 0)
+    where
+      named : block_at image at ≡ block
+      named = ap block_of stands ∙ claims.named
+
+      go : (block ≡ 0) ⊎ (block ≡ 0 → ⊥) → Takes image (λ p. p ≡ at) old new
+      go (inl none) = subst (λ set. Takes image (λ p. p ≡ at) old set) (sym (claims.null none).1) (take_null image at old (named ∙ none))
+      go (inr some) =
+          let eq : without old (block_at image at) ≡ new = ap (without old) named ∙ sym (claims.present some).1 in
+          subst (λ set. Takes image (λ p. p ≡ at) old set) eq
+          (take_one image at old (subst (λ x. x < length old) (sym named) claims.in_range) (ap (has old) named ∙ (claims.present some).0))
+
+  pub claimed_full : holes ≡ false → block ≢ 0
+  claimed_full closed none = clash (claims.null none).0 closed
+
+  pub claimed_room : length new ≡ length old
+  claimed_room = go (cases_eq block 0)
+    where
+      go : (block ≡ 0) ⊎ (block ≡ 0 → ⊥) → length new ≡ length old
+      go (inl none) = ap length (claims.null none).1
+      go (inr some) = ap length (claims.present some).1 ∙ length_without old block
+
+  -- what was out stays out
+  pub claimed_less : (b : ℕ) → has old b ≡ false → has new b ≡ false
+  claimed_less b out = go (cases_eq block 0)
+    where
+      go : (block ≡ 0) ⊎ (block ≡ 0 → ⊥) → has new b ≡ false
+      go (inl none) = ap (λ set. has set b) (claims.null none).1 ∙ out
+      go (inr some) = ap (λ set. has set b) (claims.present some).1 ∙ has_less old block b claims.in_range out
+
+  -- the block is out, null or not
+  pub claimed_out : has old 0 ≡ false → has new block ≡ false
+  claimed_out first = go (cases_eq block 0)
+    where
+      go : (block ≡ 0) ⊎ (block ≡ 0 → ⊥) → has new block ≡ false
+      go (inl none) = ap (has new) none ∙ claimed_less 0 first
+      go (inr some) = ap (λ set. has set block) (claims.present some).1 ∙ has_without old block claims.in_range
+
+module _ (image : Image) (root size : ℕ) (holes : Bool) (d k b s : ℕ) (old now : Set) (named : node image root d k ≡ b) (low : s < 512) (out : has old b ≡ false)
+    (child : IsPlace image 0 root size (suc d) (512 * k + s) (512 * b + s)) (walks : WalksBelow image 0 root size holes d k s old now)
+    (pointer : ℕ) (stands : pointer ≡ word image (512 * b + s)) (room : length old ≡ block_count image) where
+  here : pointer ≡ word_at image root (suc d) (512 * k + s)
+  here = stands ∙ child_word image 0 root size d (512 * k + s) (512 * b + s) child
+
+  pub pointed : block_of pointer ≡ node image root (suc d) (512 * k + s)
+  pointed = ap block_of here
+
+  room_now : length now ≡ block_count image
+  room_now = walks.takes.room ∙ room
+
+  pub refused_below : (check : ℕ) → RefusesPointed pointer holes now check → FailsBelow image 0 root size holes b old check (512 * b + s)
+  refused_below _ (too_high high) = range child (omega (arith, pointed, room_now, high))
+  refused_below _ (is_null none closed) = hole child closed (sym pointed ∙ none)
+  refused_below _ (has_left present in_range gone) =
+      repeats_here image 0 root size holes d k b s old now named low out child walks (λ none. present (pointed ∙ none)) (omega (arith, pointed, room_now, in_range)) (ap (has now) (sym pointed) ∙ gone)
+
+  module _ (mid : Set) (block : ℕ) (claims : ClaimsPointed pointer holes now mid block) where
+    pub claimed_node : node image root (suc d) (512 * k + s) ≡ block
+    claimed_node = sym pointed ∙ claims.named
+
+    pub claimed_passes : pointer % 4096 ≡ 0 → Passes image root (suc d) (512 * k + s)
+    claimed_passes bits = (ap (λ x. x % 4096) (sym here) ∙ bits, omega (arith, claimed_node, room_now, claims.in_range))
+
+    pub claimed_step : (new : Set) → pointer % 4096 ≡ 0 → WalksBelow image 0 root size holes (suc d) (512 * k + s) 512 mid new → WalksBelow image 0 root size holes d k (s + 1) old new
+    claimed_step new bits under =
+        step image 0 root size holes d k b s old now named low out child walks mid new (claimed_takes pointer holes now mid block claims image (512 * b + s) (sym stands)) (claimed_passes bits)
+        (λ closed none. claimed_full pointer holes now mid block claims closed (sym claimed_node ∙ none)) under
+
+    pub claimed_fails : (check p : ℕ) → block ≢ 0 → FailsBelow image 0 root size holes block mid check p → FailsBelow image 0 root size holes b old check p
+    claimed_fails check p some fails =
+        fails_below image 0 root size holes d k b s old now named low out child walks block claimed_node claims.in_range (claims.present some).0 check p
+        (subst (λ set. FailsBelow image 0 root size holes block set check p) (claims.present some).1 fails)
+
+-- the root word is refused
+pub refused_root : (image : Image) (at root size : ℕ) (holes : Bool) (old : Set) (check : ℕ) → length old ≡ block_count image → 0 < size → size ≤ covered (suc (height_of root)) →
+    RefusesPointed root holes old check → FailsTree image at root size holes old check at
+refused_root image at root size holes old _ room some fits (too_high high) = root_range some (omega (arith, room, high))
+refused_root image at root size holes old _ room some fits (is_null none closed) = root_hole some closed none
+refused_root image at root size holes old _ room some fits (has_left present in_range gone) = root_taken some fits present (omega (arith, room, in_range)) gone
+
+pub claimed_root_fails : (image : Image) (at root size : ℕ) (holes : Bool) (old mid : Set) (block check p : ℕ) → length old ≡ block_count image → 0 < size → ClaimsPointed root holes old mid block →
+    block ≢ 0 → FailsBelow image 0 root size holes block mid check p → FailsTree image at root size holes old check p
+claimed_root_fails image at root size holes old mid block check p room some claims present fails =
+    let named : block_of root ≡ block = claims.named in
+    below some (λ none. present (sym named ∙ none)) (omega (arith, named, room, claims.in_range)) (ap (has old) named ∙ (claims.present present).0)
+    (subst (λ x. FailsBelow image 0 root size holes x (without old x) check p) (sym named) (subst (λ set. FailsBelow image 0 root size holes block set check p) (claims.present present).1 fails))
+
+-- a pointer that passes names a block of the image
+pub within_blocks : (image : Image) (root d k : ℕ) → Passes image root d k → node image root d k < block_count image
+within_blocks image root zero k passes = passes.1
+within_blocks image root (suc d) k passes = passes.1
+
+-- what follows from a clause of an answer holds of the answer
+pub on_ok_then : {T E : Type 0} {A B : Type 0} (r : Result T E) → (A → B) → OnOk r A → OnOk r B
+on_ok_then (Ok v) f a = f a
+on_ok_then (Err e) f a = a
+
+pub if_err_then : {T E : Type 0} {P Q R : E → Type 0} (r : Result T E) → ((e : E) → P e → Q e → R e) → IfErr r P → IfErr r Q → IfErr r R
+if_err_then (Ok v) f a b = a
+if_err_then (Err e) f a b = f e a b

@@ -1,0 +1,69 @@
+-- A walk over a whole tree.
+use Rattle.std.proofs.Common.{◌≡◌, ◌≢◌, ◌⊎◌, ℕ, zero, suc, ◌+◌, ◌*◌, ◌/◌, ◌%◌, ◌<◌, ◌≤◌, Bool, false, sym, ◌∙◌, ap, subst, arith, inl, inr}
+use Rattle.bp_free.specs.Set.{Set}
+use Rattle.bp_layout.specs.Words.{Image, word, block_count, block_of, height_of}
+use Rattle.bp_layout.specs.Tree.{word_at, node, place_of, covered, IsLivePointer}
+use Rattle.bp_layout.specs.Checks.{IsFollowed, Passes}
+use Rattle.bp_layout.proofs.TreeLaws.{live_above, live_pointer_word}
+use Rattle.bp_layout.proofs.OnePlace.{index_zero}
+use Rattle.bp_walk.specs.Taken.{Takes}
+use Rattle.bp_walk.specs.Walk.{IsUnder, IsPlace, IsBelow, WalksBelow, IsTreePlace, TakesTree}
+use Rattle.bp_walk.specs.Walk.IsUnder.{here, under}
+use Rattle.bp_walk.proofs.TakenLaws.{take_none, take_same, take_both}
+use Rattle.bp_walk.proofs.Below.{Strict, split}
+
+all_under : (root size d k : ℕ) → size ≤ covered (suc (height_of root)) → IsLivePointer root size d k → IsUnder 0 0 d k
+all_under root size zero k fits live = subst (λ (x : ℕ). IsUnder 0 0 0 x) (sym (index_zero root size k live fits)) here
+all_under root size (suc d) k fits live = under (all_under root size d (k / 512) fits (live_above _ _ d k (live_pointer_word _ _ (suc d) k live)))
+
+from_zero : (image : Image) (at root size n e l p : ℕ) → IsUnder 1 n e l → IsPlace image 0 root size e l p → IsPlace image at root size e l p
+from_zero image at root size n _ _ p here is = record { live = is.live; followed = is.followed; stands = is.stands }
+from_zero image at root size n _ l p (under u) is = record { live = is.live; followed = is.followed; stands = is.stands }
+
+to_zero : (image : Image) (at root size n e l p : ℕ) → IsUnder 1 n e l → IsPlace image at root size e l p → IsPlace image 0 root size e l p
+to_zero image at root size n _ _ p here is = record { live = is.live; followed = is.followed; stands = is.stands }
+to_zero image at root size n _ l p (under u) is = record { live = is.live; followed = is.followed; stands = is.stands }
+
+pub root_live : (root size : ℕ) → 0 < size → IsLivePointer root size 0 0
+root_live root size some = record { level = height_of root; height = omega arith; live = omega (arith, some) }
+
+pub root_passes : (image : Image) (root : ℕ) → height_of root ≤ 3 → root / 8 % 512 ≡ 0 → block_of root < block_count image → Passes image root 0 0
+unfolding word_at
+root_passes image root low bits in_range = (omega (arith, low, bits), in_range)
+
+-- no bytes, no pointers
+pub empty_tree : (image : Image) (at root size : ℕ) (holes : Bool) (set : Set) → size ≡ 0 → TakesTree image at root size holes set set
+empty_tree image at root size holes set none = record {
+  fits = omega (arith, none);
+  takes = take_same image (λ p. ⊥) (IsTreePlace image at root size) set set (λ p never. absurd never) (λ p i. dead i.depth i.index i.is.live) (take_none image set);
+  passing = λ d k live followed. absurd (dead d k live);
+}
+  where
+    dead : (d k : ℕ) → IsLivePointer root size d k → ⊥
+    dead d k live = omega (arith, live.live, none)
+
+-- the root, and what is below it
+pub whole_tree : (image : Image) (at root size : ℕ) (holes : Bool) (old mid new : Set) → word image at ≡ root → size ≤ covered (suc (height_of root)) → 0 < size → Passes image root 0 0 →
+    (holes ≡ false → block_of root ≢ 0) → Takes image (λ p. p ≡ at) old mid → WalksBelow image 0 root size holes 0 0 512 mid new → TakesTree image at root size holes old new
+unfolding word_at
+whole_tree image at root size holes old mid new rooted fits some passes full one walks = record {
+  fits = fits;
+  takes = take_same image (λ p. (p ≡ at) ⊎ IsBelow image 0 root size 0 0 512 p) (IsTreePlace image at root size) old new there (λ p i. back p i.depth i.index i.is (split 0 0 i.depth i.index (all_under root size i.depth i.index fits i.is.live)))
+      (take_both image _ _ old mid new one walks.takes);
+  passing = λ d k live followed. go d k live followed (split 0 0 d k (all_under root size d k fits live));
+}
+  where
+    there : (p : ℕ) → (p ≡ at) ⊎ IsBelow image 0 root size 0 0 512 p → IsTreePlace image at root size p
+    there p (inl e) = record { depth = 0; index = 0; is = record { live = root_live root size some; followed = tt; stands = sym e } }
+    there p (inr i) = record { depth = i.depth; index = i.index; is = from_zero image at root size (512 * 0 + i.slot) i.depth i.index p i.under i.is }
+
+    back : (p d k : ℕ) → IsPlace image at root size d k p → ((0 ≡ d) × (0 ≡ k)) ⊎ Strict 0 0 d k → (p ≡ at) ⊎ IsBelow image 0 root size 0 0 512 p
+    back p d k is (inl same) =
+        let eq : place_of image at root 0 k ≡ place_of image at root d k = ap (λ (x : ℕ). place_of image at root x k) same.0 in inl (sym is.stands ∙ sym eq)
+    back p d k is (inr s) = inr (record { slot = s.slot; low = s.low; depth = d; index = k; under = s.below; is = to_zero image at root size (512 * 0 + s.slot) d k p s.below is })
+
+    go : (d k : ℕ) → IsLivePointer root size d k → IsFollowed image root size d k → ((0 ≡ d) × (0 ≡ k)) ⊎ Strict 0 0 d k → Passes image root d k × (holes ≡ false → node image root d k ≢ 0)
+    go d k live followed (inl same) =
+        subst (λ (x : ℕ). Passes image root x k × (holes ≡ false → node image root x k ≢ 0)) same.0
+        (subst (λ (x : ℕ). Passes image root 0 x × (holes ≡ false → node image root 0 x ≢ 0)) same.1 (passes, full))
+    go d k live followed (inr s) = walks.passing s.slot d k s.low s.below live followed

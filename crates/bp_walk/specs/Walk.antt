@@ -1,0 +1,71 @@
+-- What a walk over the pointers of one tree finds.
+use Rattle.std.specs.Prelude.{◌≡◌, ◌≢◌, ◌⊎◌, ℕ, suc, ◌+◌, ◌*◌, ◌/◌, ◌%◌, ◌<◌, ◌≤◌, Bool, true, false}
+use Rattle.bp_free.specs.Set.{Set, has, without}
+use Rattle.bp_layout.specs.Words.{Image, block_count, block_of, height_of}
+use Rattle.bp_layout.specs.Tree.{word_at, node, place_of, covered, IsLivePointer}
+use Rattle.bp_layout.specs.Checks.{IsFollowed, Passes}
+use Rattle.bp_walk.specs.Taken.{Takes}
+
+-- pointer l at depth e is below pointer k at depth d, or is it
+pub data IsUnder (d k : ℕ) : ℕ → ℕ → Type 0 where
+  here : IsUnder d k d k
+  under : {e l : ℕ} → IsUnder d k e (l / 512) → IsUnder d k (suc e) l
+
+-- a live pointer of a tree that is followed, and where it stands
+pub record IsPlace (image : Image) (at root size depth index place : ℕ) : Type 0 where
+  pub live : IsLivePointer root size depth index
+  pub followed : IsFollowed image root size depth index
+  pub stands : place_of image at root depth index ≡ place
+
+-- such a pointer under a slot of the node at d and k, of the slots below a number
+pub record IsBelow (image : Image) (at root size d k slots place : ℕ) : Type 0 where
+  pub slot : ℕ
+  pub low : slot < slots
+  pub depth : ℕ
+  pub index : ℕ
+  pub under : IsUnder (suc d) (512 * k + slot) depth index
+  pub is : IsPlace image at root size depth index place
+
+-- each of these passes, and is not null where holes are not let through
+abbrev pub ArePassing : Image → ℕ → ℕ → Bool → ℕ → ℕ → ℕ → Type 0
+ArePassing image root size holes d k slots = (slot e l : ℕ) → slot < slots → IsUnder (suc d) (512 * k + slot) e l → IsLivePointer root size e l → IsFollowed image root size e l →
+    Passes image root e l × (holes ≡ false → node image root e l ≢ 0)
+
+-- the pointers under the slots of a node pass, and their blocks left the set
+pub record WalksBelow (image : Image) (at root size : ℕ) (holes : Bool) (d k slots : ℕ) (old new : Set) : Type 0 where
+  pub takes : Takes image (IsBelow image at root size d k slots) old new
+  pub passing : ArePassing image root size holes d k slots
+
+-- A check that fails below a node, whose own block is `block`. A block that two pointers name is told in two ways: both pointers are below the node, or
+-- the block had left the set before. In the second the pointer itself stands in a block that had not, so it is none of those that were walked over.
+pub data FailsBelow (image : Image) (at root size : ℕ) (holes : Bool) (block : ℕ) (old : Set) : ℕ → ℕ → Type 0 where
+  bits : {d k p : ℕ} → IsPlace image at root size (suc d) k p → word_at image root (suc d) k % 4096 ≢ 0 → FailsBelow image at root size holes block old 2 p
+  range : {d k p : ℕ} → IsPlace image at root size (suc d) k p → block_count image ≤ node image root (suc d) k → FailsBelow image at root size holes block old 3 p
+  hole : {d k p : ℕ} → IsPlace image at root size (suc d) k p → holes ≡ false → node image root (suc d) k ≡ 0 → FailsBelow image at root size holes block old 5 p
+  taken : {d k p : ℕ} → IsPlace image at root size (suc d) k p → node image root (suc d) k ≢ 0 → node image root (suc d) k < block_count image → has old (node image root (suc d) k) ≡ false →
+      (p / 512 ≡ block) ⊎ (has old (p / 512) ≡ true) → FailsBelow image at root size holes block old 4 p
+  twice : {d k e l p q : ℕ} → IsPlace image at root size (suc d) k p → IsPlace image at root size (suc e) l q → p ≢ q → node image root (suc d) k ≢ 0 →
+      node image root (suc d) k ≡ node image root (suc e) l → FailsBelow image at root size holes block old 4 p
+
+-- the place of a pointer of the tree
+pub record IsTreePlace (image : Image) (at root size place : ℕ) : Type 0 where
+  pub depth : ℕ
+  pub index : ℕ
+  pub is : IsPlace image at root size depth index place
+
+-- each pointer of the tree passes, and its blocks left the set
+pub record TakesTree (image : Image) (at root size : ℕ) (holes : Bool) (old new : Set) : Type 0 where
+  pub fits : size ≤ covered (suc (height_of root))
+  pub takes : Takes image (IsTreePlace image at root size) old new
+  pub passing : (d k : ℕ) → IsLivePointer root size d k → IsFollowed image root size d k → Passes image root d k × (holes ≡ false → node image root d k ≢ 0)
+
+-- a check that fails in the tree
+pub data FailsTree (image : Image) (at root size : ℕ) (holes : Bool) (old : Set) : ℕ → ℕ → Type 0 where
+  height : 0 < size → 3 < height_of root → FailsTree image at root size holes old 1 at
+  root_bits : 0 < size → root / 8 % 512 ≢ 0 → FailsTree image at root size holes old 2 at
+  root_range : 0 < size → block_count image ≤ block_of root → FailsTree image at root size holes old 3 at
+  root_hole : 0 < size → holes ≡ false → block_of root ≡ 0 → FailsTree image at root size holes old 5 at
+  root_taken : 0 < size → size ≤ covered (suc (height_of root)) → block_of root ≢ 0 → block_of root < block_count image → has old (block_of root) ≡ false → FailsTree image at root size holes old 4 at
+  capacity : covered (suc (height_of root)) < size → FailsTree image at root size holes old 11 (at + 1)
+  below : {c p : ℕ} → 0 < size → block_of root ≢ 0 → block_of root < block_count image → has old (block_of root) ≡ true →
+      FailsBelow image 0 root size holes (block_of root) (without old (block_of root)) c p → FailsTree image at root size holes old c p

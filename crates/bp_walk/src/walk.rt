@@ -1,0 +1,198 @@
+//! The pointers of a tree, from the root word down.
+
+ghost use Rattle.std.specs.Prelude.{◌≡◌, ◌≢◌, suc, ◌+◌, ◌*◌, ◌<◌, ◌≤◌, ◌^◌, false, length, OnOk, IfOk, IfErr};
+ghost use Rattle.bp_free.specs.Set.{has};
+ghost use Rattle.bp_layout.specs.Words.{word, block_count, height_of};
+ghost use Rattle.bp_layout.specs.Limits.{max_blocks, max_height};
+ghost use Rattle.bp_layout.specs.Tree.{node, covered, IsLivePointer};
+ghost use Rattle.bp_layout.specs.Checks.{IsFollowed, Passes};
+ghost use Rattle.pm_region.specs.Memory.{current_words};
+ghost use Rattle.bp_walk.specs.Pointed.{ClaimsPointed, RefusesPointed};
+ghost use Rattle.bp_walk.specs.Walk.{WalksBelow, FailsBelow, TakesTree, FailsTree};
+
+use bp_free::Blocks;
+use bp_layout::limits::MAX_HEIGHT;
+use bp_tree::Tree;
+use pm_region::Region;
+
+/// A check that fails in a tree. The numbers of the checks stand in `docs/format.md`.
+#[derive(Clone, Copy, Debug, PartialEq, Eq)]
+pub struct TreeFault {
+    /// 1 height, 2 pointer bits, 3 range, 4 block twice, 5 hole, 11 capacity.
+    pub check: u8,
+    /// The word of the region at which the check fails.
+    pub place: u32,
+}
+
+/// The bytes below a pointer that stands `level` levels above the content words.
+fn span(level: u32) -> u64
+    requires least { 1 ≤ level }
+    requires most { level ≤ 4 }
+    ensures { result ≡ covered level }
+{
+    match level {
+        1 => 4096,
+        2 => 2_097_152,
+        3 => 1_073_741_824,
+        _ => 549_755_813_888,
+    }
+}
+
+/// Takes the block that a pointer names out of the set, and answers with its number: 0 where the pointer is null and may be.
+fn claim_pointed(
+    pointer: u64,
+    place: u32,
+    holes: bool,
+    blocks: &mut Blocks,
+) -> Result<u32, TreeFault>
+    requires some { 0 < length blocks.old }
+    ensures ok { IfOk result (λ block. ClaimsPointed pointer holes blocks.old blocks.new block) }
+    ensures err { IfErr result (λ f. RefusesPointed pointer holes blocks.old f.check) }
+    ensures place { IfErr result (λ f. f.place ≡ place) }
+    ensures room { length blocks.new ≡ length blocks.old }
+{
+    let block = pointer >> 12;
+    if block >= blocks.room() as u64 {
+        return Err(TreeFault { check: 3, place });
+    }
+    let block = block as u32;
+    if block == 0 {
+        return if holes {
+            Ok(0)
+        } else {
+            Err(TreeFault { check: 5, place })
+        };
+    }
+    if !blocks.is_free(block) {
+        return Err(TreeFault { check: 4, place });
+    }
+    blocks.claim(block);
+    Ok(block)
+}
+
+/// A pointer of a tree, and the block that it names.
+#[derive(Clone, Copy)]
+struct Node {
+    /// How far it stands below the root word.
+    depth: u32,
+    /// How far its block stands above the leaves.
+    level: u32,
+    /// Its number among the pointers at its depth.
+    index: u64,
+    /// The block's number, 0 where the pointer is null.
+    block: u32,
+}
+
+/// Takes out the blocks below a node, whose own block has left the set.
+fn take_below<R: Region>(
+    region: &R,
+    tree: Tree,
+    holes: bool,
+    top: Node,
+    blocks: &mut Blocks,
+) -> Result<(), TreeFault>
+    requires whole { length (current_words (R.memory region.now)) ≡ 512 * block_count (current_words (R.memory region.now)) }
+    requires most { block_count (current_words (R.memory region.now)) ≤ max_blocks }
+    requires room { length blocks.old ≡ block_count (current_words (R.memory region.now)) }
+    requires not_first { has blocks.old 0 ≡ false }
+    requires height { top.depth + top.level ≡ height_of tree.root }
+    requires low { height_of tree.root ≤ max_height }
+    requires fits { tree.size ≤ covered (suc (height_of tree.root)) }
+    requires live { IsLivePointer tree.root tree.size top.depth top.index }
+    requires followed { IsFollowed (current_words (R.memory region.now)) tree.root tree.size top.depth top.index }
+    requires passes { Passes (current_words (R.memory region.now)) tree.root top.depth top.index }
+    requires block { node (current_words (R.memory region.now)) tree.root top.depth top.index ≡ top.block }
+    requires taken { has blocks.old top.block ≡ false }
+    ensures ok { OnOk result (WalksBelow (current_words (R.memory region.now)) 0 tree.root tree.size holes top.depth top.index 512 blocks.old blocks.new) }
+    ensures err { IfErr result (λ f. FailsBelow (current_words (R.memory region.now)) 0 tree.root tree.size holes top.block blocks.old f.check f.place) }
+    ensures present { IfErr result (λ f. top.block ≢ 0) }
+    ensures room { length blocks.new ≡ length blocks.old }
+{
+    if top.level == 0 || top.block == 0 {
+        return Ok(());
+    }
+    let step = span(top.level);
+    for slot in 0..512u32 {
+        let index = 512 * top.index + slot as u64;
+        if index * step >= tree.size {
+            return Ok(());
+        }
+        let place = 512 * top.block + slot;
+        let pointer = region.load(place);
+        if pointer & 4095 != 0 {
+            return Err(TreeFault { check: 2, place });
+        }
+        let block = match claim_pointed(pointer, place, holes, blocks) {
+            Ok(block) => block,
+            Err(fault) => return Err(fault),
+        };
+        let child = Node {
+            depth: top.depth + 1,
+            level: top.level - 1,
+            index,
+            block,
+        };
+        if let Err(fault) = take_below(region, tree, holes, child, blocks) {
+            return Err(fault);
+        }
+    }
+    Ok(())
+}
+
+/// Takes the blocks of a tree out of the set of blocks that no tree has yet. `at` is the word of the region at which the
+/// root word stands, which the word of the size (in bytes) follows; where `holes` is false no pointer may be null, as in a
+/// directory and in the inode file. A pointer is live where a byte that it covers is below the size.
+///
+/// The answer is an error exactly where a check fails in the tree; the set has then lost some blocks, and is of no use.
+pub fn take_tree<R: Region>(
+    region: &R,
+    at: u32,
+    root: u64,
+    size: u64,
+    holes: bool,
+    blocks: &mut Blocks,
+) -> Result<(), TreeFault>
+    requires whole { length (current_words (R.memory region.now)) ≡ 512 * block_count (current_words (R.memory region.now)) }
+    requires most { block_count (current_words (R.memory region.now)) ≤ max_blocks }
+    requires room { length blocks.old ≡ block_count (current_words (R.memory region.now)) }
+    requires not_first { has blocks.old 0 ≡ false }
+    requires place { at + 1 < length (current_words (R.memory region.now)) }
+    requires root { word (current_words (R.memory region.now)) at ≡ root }
+    ensures ok { OnOk result (TakesTree (current_words (R.memory region.now)) at root size holes blocks.old blocks.new) }
+    ensures err { IfErr result (λ f. FailsTree (current_words (R.memory region.now)) at root size holes blocks.old f.check f.place) }
+    ensures room { length blocks.new ≡ length blocks.old }
+{
+    if size == 0 {
+        return Ok(());
+    }
+    let height = (root & 7) as u32;
+    if height > MAX_HEIGHT {
+        return Err(TreeFault {
+            check: 1,
+            place: at,
+        });
+    }
+    if (root / 8) % 512 != 0 {
+        return Err(TreeFault {
+            check: 2,
+            place: at,
+        });
+    }
+    if size > span(height + 1) {
+        return Err(TreeFault {
+            check: 11,
+            place: at + 1,
+        });
+    }
+    let block = match claim_pointed(root, at, holes, blocks) {
+        Ok(block) => block,
+        Err(fault) => return Err(fault),
+    };
+    let top = Node {
+        depth: 0,
+        level: height,
+        index: 0,
+        block,
+    };
+    take_below(region, Tree { root, size }, holes, top, blocks)
+}

@@ -7,7 +7,9 @@
 mod bits;
 pub mod laws;
 mod numbers;
+mod parts;
 #[cfg(test)]
 mod tests;
 
 pub use numbers::{BlockNumbers, Blocks, InodeNumbers, Inodes, Numbers};
+pub use parts::{NoSpace, Parts};

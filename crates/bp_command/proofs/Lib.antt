@@ -1,0 +1,4 @@
+pub mod Commands
+pub mod Rows
+pub mod Blocks
+pub mod Plain

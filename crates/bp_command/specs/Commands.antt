@@ -1,0 +1,49 @@
+-- The command line of the program, in the words of `clap`.
+use Rattle.std.specs.Prelude.{◌≡◌, [], false, Option, List, Some, true, codes}
+use Rattle.clap.specs.declared.builder.command.Command.TheViews.{out-Command}
+use Rattle.clap.specs.declared.builder.arg.Arg.{Arg}
+use Rattle.clap.specs.declared.builder.command.Command.{Command}
+use Rattle.clap.specs.declared.parser.matches.ArgMatches.{ArgMatches}
+use Rattle.clap.specs.Words.{Row, fault_of, subcommand_of, HasMatchesOf, app_of, rule_of, App, Rule, Text, new_app, new_rule, with_rule, with_subcommand}
+use Rattle.clap.specs.declared.builder.value_parser.ValueParser.TheVariants as vp
+
+abbrev pub file_rule : Rule
+file_rule = record (new_rule (codes "FILE")) { required = true }
+
+abbrev pub blocks_rule : Rule
+blocks_rule = record (new_rule (codes "blocks")) { long = Some (codes "blocks"); required = true; parser = Some (vp.Unsigned 8 16384) }
+
+abbrev pub format_app : App
+format_app = with_rule (with_rule (new_app (codes "format")) file_rule) blocks_rule
+
+abbrev pub run_app : App
+run_app = with_rule (new_app (codes "run")) file_rule
+
+abbrev pub check_app : App
+check_app = with_rule (new_app (codes "check")) file_rule
+
+abbrev pub bare_app : App
+bare_app = let a = new_app (codes "bpfs") in record a { top = record a.top { subcommand_required = true } }
+
+abbrev pub bpfs_app : App
+bpfs_app = with_subcommand (with_subcommand (with_subcommand bare_app format_app.top) run_app.top) check_app.top
+
+pub record IsArgument (r : Rule) (a : Arg) : Type 0 where
+  pub rule : rule_of a ≡ r
+  pub local : a.global ≡ false
+
+pub record IsCommand (a : App) (c : Command) : Type 0 where
+  pub app : app_of c ≡ a
+  pub local : (out-Command c).has_globals ≡ false
+
+-- the command takes the words: by the crate's own definition for simple commands there is no fault
+unfoldable pub IsTaken : List Text → Type 0
+IsTaken words = fault_of bpfs_app words ≡ []
+
+-- the subcommand that the words name, with what they give its arguments
+unfoldable pub met : List Text → Option (Text × List Row)
+met words = subcommand_of bpfs_app words
+
+-- m has what the words give
+unfoldable pub HasMet : List Text → ArgMatches → Type 0
+HasMet words m = HasMatchesOf bpfs_app words m

@@ -1,0 +1,66 @@
+-- The programs, and the words that ask for them.
+use Rattle.std.specs.Prelude.{◌≡◌, ◌≢◌, ℕ, ◌<◌, ◌≤◌, List, [], ◌∷◌, Some, true, false, length, slice_index, unwrap_or, codes, decimal}
+use Rattle.std.specs.Str.Parse.{digits_value, without_leading_plus}
+use Rattle.clap.specs.Words.{Row, Text, first_of, one_of}
+use Rattle.clap.specs.ValueTests.{accepts}
+use Rattle.clap.specs.declared.builder.value_parser.ValueParser.TheVariants as vp
+use Rattle.bp_command.specs.Commands.{IsTaken, met}
+use Rattle.bp_command.specs.declared.reading.Program.{Program as Asked}
+use Rattle.bp_command.specs.declared.reading.Program.TheVariants.{Format, Run, Check}
+
+pub data Program : Type 0 where
+  -- a file's name, and its number of blocks
+  formats : List ℕ → ℕ → Program
+  runs : List ℕ → Program
+  checks : List ℕ → Program
+
+abbrev pub program_of : Asked → Program
+program_of (Format name blocks) = formats name.now blocks
+program_of (Run name) = runs name.now
+program_of (Check name) = checks name.now
+
+-- ---- plain words
+
+-- a name that is not empty and doesn't begin with `-`, byte 45
+pub record IsFileName (name : List ℕ) : Type 0 where
+  pub some : 0 < length name
+  pub plain : slice_index name 0 ≢ 45
+
+-- the words of a program, behind the name under which it was called
+abbrev pub words_of : Program → List (List ℕ)
+words_of (formats name blocks) = codes "format" ∷ name ∷ codes "--blocks" ∷ decimal blocks ∷ []
+words_of (runs name) = codes "run" ∷ name ∷ []
+words_of (checks name) = codes "check" ∷ name ∷ []
+
+abbrev pub IsProper : Program → Type 0
+IsProper (formats name blocks) = IsFileName name × (8 ≤ blocks) × (blocks ≤ 16384)
+IsProper (runs name) = IsFileName name
+IsProper (checks name) = IsFileName name
+
+-- The words ask for the program in the plain way.
+pub record Asks (words : List (List ℕ)) (program : Program) : Type 0 where
+  pub called : List ℕ
+  pub are : words ≡ called ∷ words_of program
+  pub proper : IsProper program
+
+-- ---- words that the command takes
+
+abbrev pub name_in : List Row → Text
+name_in rows = unwrap_or (first_of (codes "FILE") rows) []
+
+-- the number of blocks in range that the words give
+pub record HasBlocks (rows : List Row) (blocks : ℕ) : Type 0 where
+  pub least : 8 ≤ blocks
+  pub most : blocks ≤ 16384
+  pub given : (digits : Text) → one_of (codes "blocks") rows ≡ Some digits → accepts false (vp.Unsigned 8 16384) digits ≡ true → digits_value 10 (without_leading_plus digits) ≡ blocks
+
+-- a subcommand with these values asks for the program
+abbrev pub Names : Text → List Row → Program → Type 0
+Names verb rows (formats name blocks) = (verb ≡ codes "format") × (name_in rows ≡ name) × HasBlocks rows blocks
+Names verb rows (runs name) = (verb ≡ codes "run") × (name_in rows ≡ name)
+Names verb rows (checks name) = (verb ≢ codes "format") × (verb ≢ codes "run") × (name_in rows ≡ name)
+
+-- The command takes the words, and what they give asks for the program.
+pub record Requests (words : List Text) (program : Program) : Type 0 where
+  pub taken : IsTaken words
+  pub names : (verb : Text) (rows : List Row) → met words ≡ Some (verb, rows) → Names verb rows program

@@ -1,0 +1,60 @@
+//! The command `bpfs` with its subcommands.
+
+ghost use Rattle.std.specs.Prelude.{IfOk};
+ghost use Rattle.bp_command.specs.Commands.{IsArgument, IsCommand, bare_app, blocks_rule, bpfs_app, check_app, file_rule, format_app, run_app};
+
+use clap::{Arg, Command, value_parser};
+use std::alloc::{AllocError, Global};
+
+/// The file that a program works on.
+fn file<'a>(alloc: Global) -> Arg<'a>
+    ensures { IsArgument file_rule result }
+{
+    Arg::new(alloc, "FILE").required(true)
+}
+
+/// The number of blocks of a new file system.
+fn blocks<'a>(alloc: Global) -> Arg<'a>
+    ensures { IsArgument blocks_rule result }
+{
+    Arg::new(alloc, "blocks")
+        .long("blocks")
+        .required(true)
+        .value_parser(value_parser!(u64).range(8..=16_384))
+}
+
+fn format_command<'a>(alloc: Global) -> Result<Command<'a>, AllocError>
+    ensures { IfOk result (IsCommand format_app) }
+{
+    Command::new(alloc, "format")
+        .arg(file(alloc))?
+        .arg(blocks(alloc))
+}
+
+fn run_command<'a>(alloc: Global) -> Result<Command<'a>, AllocError>
+    ensures { IfOk result (IsCommand run_app) }
+{
+    Command::new(alloc, "run").arg(file(alloc))
+}
+
+fn check_command<'a>(alloc: Global) -> Result<Command<'a>, AllocError>
+    ensures { IfOk result (IsCommand check_app) }
+{
+    Command::new(alloc, "check").arg(file(alloc))
+}
+
+fn bare<'a>(alloc: Global) -> Command<'a>
+    ensures { IsCommand bare_app result }
+{
+    Command::new(alloc, "bpfs").subcommand_required(true)
+}
+
+/// The command: one subcommand for each program.
+pub(crate) fn command<'a>(alloc: Global) -> Result<Command<'a>, AllocError>
+    ensures { IfOk result (IsCommand bpfs_app) }
+{
+    bare(alloc)
+        .subcommand(format_command(alloc)?)?
+        .subcommand(run_command(alloc)?)?
+        .subcommand(check_command(alloc)?)
+}

@@ -1,0 +1,11 @@
+//! Laws of command lines. Each is the contract of a function that does nothing.
+
+ghost use Rattle.std.specs.Prelude.{◌≡◌, List, ℕ};
+ghost use Rattle.bp_command.specs.Commands.{IsTaken};
+ghost use Rattle.bp_command.specs.Programs.{Asks, Program, Requests};
+
+/// The command takes the plain words of a program, and they ask for no other.
+pub fn plain_words_are_taken()
+    ensures taken { (words : List (List ℕ)) (program : Program) → Asks words program → IsTaken words }
+    ensures requested { (words : List (List ℕ)) (program other : Program) → Asks words program → Requests words other → other ≡ program }
+{}

@@ -1,0 +1,10 @@
+//! The words of a command line, as `clap` reads them.
+#![tactic(auto)]
+
+mod building;
+pub mod laws;
+mod reading;
+#[cfg(test)]
+mod tests;
+
+pub use reading::{Program, WordsFault, read_words};

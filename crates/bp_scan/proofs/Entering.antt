@@ -76,14 +76,14 @@ module _ (image : Image) (E : ℕ → Type 0) (all left : Set) (blocks : HasAllB
       let w : block_at image n.place ≡ node image (root_of image n.is.tree) n.is.depth n.is.index = ap block_of (pointer_word image n.is.tree n.is.depth n.is.index n.place n.is.pointer) in
       twice at n.is.pointer (fresh n.is.tree n.is.depth n.is.index n.place n.is.entered n.is.pointer) present (sym n.named ∙ w)
 
-  module _ (tells : (t : ℕ) → t ≢ 0 → TellsBlocks image E) (t : ℕ) (found : IsFound image t) (first : t ≢ 0 → E 0) (new : E t → ⊥) (alone : t ≡ 0 → (u : ℕ) → E u → ⊥) (holes : Bool)
+  module _ (t : ℕ) (tells : t ≢ 0 → TellsBlocks image E) (found : IsFound image t) (first : t ≢ 0 → E 0) (new : E t → ⊥) (alone : t ≡ 0 → (u : ℕ) → E u → ⊥) (holes : Bool)
       (which : holes ≡ false → (t ≡ 0) ⊎ (kind_of image t ≡ 2)) where
     fresh_root : (p : ℕ) → size_of image t ≤ covered (suc (height_of (root_of image t))) → IsPointer image t 0 0 p → (u e l q : ℕ) → E u → IsPointer image u e l q → p ≢ q
     fresh_root p fits at u e l q z also = go (cases_eq t 0)
       where
         go : (t ≡ 0) ⊎ (t ≡ 0 → ⊥) → p ≢ q
         go (inl file) same = alone file u z
-        go (inr other) same = other_root image E (tells t other) t u e l p q z new fits at also same
+        go (inr other) same = other_root image E (tells other) t u e l p q z new fits at also same
 
     fresh_deep : (p : ℕ) → has left (p / 512) ≡ true → (u e l q : ℕ) → E u → IsPointer image u e l q → p ≢ q
     fresh_deep p there u e l q z also same = clash there (ap (λ x. has left (x / 512)) same ∙ outside u e l q z also)

@@ -6,3 +6,13 @@ pub mod EntryStep
 pub mod Frontier
 pub mod Ending
 pub mod TreeFaults
+pub mod Counting
+pub mod FaultLaws
+pub mod InodePlaces
+pub mod InodeFaults
+pub mod Starting
+pub mod Inside
+pub mod EntryLaws
+pub mod Misspelled
+pub mod DirectoryLaws
+pub mod Closing

@@ -16,5 +16,5 @@ fails_midway image blocks inodes todo current slot t holes some midway file new 
     let first : IsEntered image inodes 0 = (omega (arith, some), file) in
     let other : t ≢ 0 = λ same. clash new (ap (has inodes) same ∙ file) in
     fails_tree image (IsEntered image inodes) midway.all blocks midway.whole midway.under_way.scanned.takes some (λ u e. first)
-    (λ u some_u. tells_of image (IsEntered image inodes) (IsDone image inodes todo current slot) midway.all blocks some first midway.under_way.scanned) t found (λ some_t. first)
+    t (λ some_t. tells_of image (IsEntered image inodes) (IsDone image inodes todo current slot) midway.all blocks some first midway.under_way.scanned) found (λ some_t. first)
     (λ e. clash new e.1) (λ same u e. absurd (other same)) holes (λ closed. inr (kind closed))

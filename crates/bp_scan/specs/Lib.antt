@@ -1,2 +1,10 @@
 pub mod Scanned
 pub mod Progress
+pub mod Faults
+pub mod Totals
+pub mod Length
+pub mod Room
+pub mod Counted
+pub mod Reading
+pub mod Inodes
+pub mod Misspelled

@@ -1,8 +1,26 @@
-//! What a scan of an image has seen so far, told by its sets, and what follows of it.
+//! The scan of an image at mount: whether it is a file system, what is wrong where it is none, and which blocks and inodes
+//! are free.
 //!
 //! A scan starts with the set of all blocks but the first and of all inodes from 2 on. It takes the blocks of each tree
 //! that it enters out of the first set, each inode that an entry names out of the second, and keeps the directories that
 //! are still to be read in a third.
 #![tactic(auto)]
 
+mod directories;
+mod fault;
 pub mod laws;
+mod length;
+mod pending;
+mod reading;
+mod scanning;
+#[cfg(test)]
+mod tests;
+mod totalling;
+mod totals;
+mod trees;
+
+pub use fault::MountFault;
+pub use length::image_length;
+pub use pending::Pending;
+pub use scanning::scan;
+pub use totals::Totals;

@@ -1,0 +1,42 @@
+use Rattle.std.proofs.Common.{◌≡◌, ◌*◌, ◌/◌, ◌≤◌, length, arith}
+use Rattle.bp_layout.specs.Words.{block_count}
+use Rattle.pm_region.specs.Memory.{current_words}
+use Rattle.bp_walk.proofs.Pointers.{on_ok_then}
+use Rattle.bp_scan.proofs.Inside.{inodes_sound}
+use Rattle.bp_scan.proofs.DirectoryLaws.{begun_sound, begun_full, begun_few, begun_names_fail, finished}
+use Rattle.bp_scan.proofs.directories.read_directory.Goals as goal
+
+pub get-words-requires-clause-sound : goal.get-words-requires-clause-sound
+get-words-requires-clause-sound g c =
+    inodes_sound (current_words (g.R.Region.memory c.args.region.now)) c.requires.ready c.args.blocks.now c.args.inodes.now c.args.todo.now c.args.inode 0 c.requires.begun.reading
+
+pub read_names-requires-clause-sound : goal.read_names-requires-clause-sound
+read_names-requires-clause-sound g c =
+    begun_sound (current_words (g.R.Region.memory c.args.region.now)) c.requires.ready c.args.blocks.now c.args.inodes.now c.args.todo.now
+    (record { inode = c.args.inode; tree = record { root = c.get-words.result.root; size = c.get-words.result.size } }) c.requires.begun c.get-words.ensures.root c.get-words.ensures.size
+
+pub read_names-requires-clause-full : goal.read_names-requires-clause-full
+read_names-requires-clause-full g c =
+    begun_full (current_words (g.R.Region.memory c.args.region.now)) c.requires.ready c.args.blocks.now c.args.inodes.now c.args.todo.now
+    (record { inode = c.args.inode; tree = record { root = c.get-words.result.root; size = c.get-words.result.size } }) c.requires.begun c.get-words.ensures.root c.get-words.ensures.size
+
+pub read_names-requires-clause-room : goal.read_names-requires-clause-room
+read_names-requires-clause-room g c =
+    let image = current_words (g.R.Region.memory c.args.region.now) in
+    let few : c.get-words.result.size / 256 ≤ 16 * block_count image =
+    begun_few image c.requires.ready c.args.blocks.now c.args.inodes.now c.args.todo.now
+    (record { inode = c.args.inode; tree = record { root = c.get-words.result.root; size = c.get-words.result.size } }) c.requires.begun c.get-words.ensures.root c.get-words.ensures.size in
+    omega (arith, few, c.requires.places)
+
+pub returns-in-Err-clause-fault : goal.returns-in-Err-clause-fault
+returns-in-Err-clause-fault g c =
+    begun_names_fail (current_words (g.R.Region.memory c.args.region.now)) c.requires.ready c.args.blocks.now c.args.inodes.now c.args.todo.now
+    (record { inode = c.args.inode; tree = record { root = c.get-words.result.root; size = c.get-words.result.size } }) c.requires.begun c.get-words.ensures.root c.get-words.ensures.size
+    c.in-Err.fault.check c.in-Err.fault.place c.in-Err.ensures.err
+
+pub returns-clause-done : goal.returns-clause-done
+returns-clause-done g c =
+    let image = current_words (g.R.Region.memory c.args.region.now) in
+    on_ok_then c.read_entries.result (λ inside.
+    finished image c.read_entries.new.blocks c.read_entries.new.inodes c.read_entries.new.todo
+    (record { inode = c.args.inode; tree = record { root = c.get-words.result.root; size = c.get-words.result.size } }) inside) c.read_entries.ensures.inside

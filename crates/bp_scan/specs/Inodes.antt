@@ -1,0 +1,47 @@
+-- What is found where an inode is entered.
+use Rattle.std.specs.Prelude.{length, Bool, false, ◌≡◌, ◌≢◌, ℕ, ◌+◌, ◌%◌, ◌<◌, ◌≤◌}
+use Rattle.bp_free.specs.Set.{Set, with}
+use Rattle.bp_layout.specs.Words.{Image, word}
+use Rattle.bp_layout.specs.Inode.{kind_of, root_of, size_of}
+use Rattle.bp_layout.specs.Checks.{inode_place, root_place, size_place}
+use Rattle.bp_walk.specs.Walk.{TakesTree, FailsTree}
+use Rattle.bp_scan.specs.declared.trees.InodeWords.{InodeWords}
+
+-- the words of inode i, and where they stand
+pub record AreWords (image : Image) (i : ℕ) (words : InodeWords) : Type 0 where
+  pub place : inode_place image i 0 ≡ words.place
+  pub root_place : root_place image i ≡ words.place + 1
+  pub size_place : size_place image i ≡ words.place + 2
+  pub in_image : words.place + 2 < length image
+  pub root_word : word image (words.place + 1) ≡ words.tree.root
+  pub kind : kind_of image i ≡ words.kind
+  pub root : root_of image i ≡ words.tree.root
+  pub size : size_of image i ≡ words.tree.size
+
+-- an inode's kind and its size in bytes are right: it is a file or a directory, a directory has whole entries, and inode 1 is one
+pub record IsRight (i kind size : ℕ) : Type 0 where
+  pub least : 1 ≤ kind
+  pub most : kind ≤ 2
+  pub root : i ≡ 1 → kind ≡ 2
+  pub entries : kind ≡ 2 → size % 256 ≡ 0
+
+-- the check that the words of an inode fail, where the first stands at a place
+pub data IsWrong (i kind size place : ℕ) : ℕ → ℕ → Type 0 where
+  no_kind : kind ≢ 1 → kind ≢ 2 → IsWrong i kind size place 9 place
+  root_file : i ≡ 1 → kind ≢ 2 → IsWrong i kind size place 9 place
+  part_of_entry : kind ≡ 2 → size % 256 ≢ 0 → IsWrong i kind size place 10 (place + 2)
+
+-- inode i is right, its blocks left the set, and it is to do where it is a directory
+pub record EntersInode (image : Image) (i : ℕ) (old new todo later : Set) : Type 0 where
+  pub right : IsRight i (kind_of image i) (size_of image i)
+  pub holes : Bool
+  pub full : kind_of image i ≡ 2 → holes ≡ false
+  pub tree : TakesTree image (root_place image i) (root_of image i) (size_of image i) holes old new
+  pub directory : kind_of image i ≡ 2 → later ≡ with todo i
+  pub file : kind_of image i ≢ 2 → later ≡ todo
+
+-- the check that inode i or its tree fails
+pub data FailsInode (image : Image) (i : ℕ) (old : Set) : ℕ → ℕ → Type 0 where
+  words : {c p : ℕ} → IsWrong i (kind_of image i) (size_of image i) (inode_place image i 0) c p → FailsInode image i old c p
+  tree : {c p : ℕ} (holes : Bool) → (holes ≡ false → kind_of image i ≡ 2) → FailsTree image (root_place image i) (root_of image i) (size_of image i) holes old c p →
+      FailsInode image i old c p

@@ -1,0 +1,36 @@
+-- What an image holds in all.
+use Rattle.std.specs.Prelude.{◌≡◌, ℕ, ◌+◌, ◌≤◌, List, ◌==◌, if◌then◌else◌}
+use Rattle.std.specs.List.{Contains, sum_by}
+use Rattle.std.specs.List.Sorted.{IsStrictlyIncreasing}
+use Rattle.bp_layout.specs.Words.{Image, block_count}
+use Rattle.bp_layout.specs.Free.{HasFree}
+use Rattle.bp_layout.specs.Inode.{kind_of, size_of}
+use Rattle.bp_layout.specs.Reached.{IsReached}
+use Rattle.bp_scan.specs.declared.totals.Totals.{Totals}
+
+-- the inodes that the root directory reaches, itself among them, rising
+pub record AreReached (image : Image) (inodes : List ℕ) : Type 0 where
+  pub rising : IsStrictlyIncreasing inodes
+  pub reached : (i : ℕ) → Contains inodes i → IsReached image i × (1 ≤ i)
+  pub all : (i : ℕ) → IsReached image i → 1 ≤ i → Contains inodes i
+
+-- an inode of this kind counts
+abbrev pub of_kind : Image → ℕ → ℕ → ℕ
+of_kind image kind i = if kind_of image i == kind then 1 else 0
+
+-- the size of a file
+abbrev pub file_bytes : Image → ℕ → ℕ
+file_bytes image i = if kind_of image i == 1 then size_of image i else 0
+
+-- so many blocks are live: all but the first and the free ones
+abbrev pub HasLive : Image → ℕ → Type 0
+HasLive image live = (free : ℕ) → HasFree image free → live + free + 1 ≡ block_count image
+
+-- How many files and directories there are, the root directory among them, the bytes of all files, and the live blocks.
+pub record HasTotals (image : Image) (totals : Totals) : Type 0 where
+  pub inodes : List ℕ
+  pub are : AreReached image inodes
+  pub files : totals.files ≡ sum_by (of_kind image 1) inodes
+  pub dirs : totals.dirs ≡ sum_by (of_kind image 2) inodes
+  pub bytes : totals.bytes ≡ sum_by (file_bytes image) inodes
+  pub live : HasLive image totals.live

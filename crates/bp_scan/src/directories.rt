@@ -1,0 +1,134 @@
+//! The directories of an image, one after the other.
+
+ghost use Rattle.std.specs.Prelude.{◌≡◌, ◌+◌, ◌*◌, ◌/◌, ◌<◌, ◌≤◌, length, OnOk, IfErr};
+ghost use Rattle.bp_layout.specs.Checks.{Fails};
+ghost use Rattle.bp_layout.specs.Inode.{kind_of, root_of, size_of};
+ghost use Rattle.bp_layout.specs.Tree.{IsFull, IsSound};
+ghost use Rattle.bp_layout.specs.Words.{block_count};
+ghost use Rattle.bp_scan.specs.Reading.{IsOpen, IsReading, IsAt, IsInside, work};
+ghost use Rattle.bp_scan.specs.Misspelled.{FailsNames};
+ghost use Rattle.bp_spelling.specs.Names.{AreNames};
+ghost use Rattle.pm_region.specs.Memory.{current_words};
+
+use crate::trees::enter;
+use bp_dirs::{entry_place, inumber};
+use bp_free::{Blocks, Inodes};
+use bp_inodes::{get, inode_file};
+use bp_spelling::{NameFault, check_names};
+use bp_tree::Tree;
+use bp_walk::TreeFault;
+use pm_region::Region;
+
+/// A directory, and its tree.
+#[derive(Clone, Copy)]
+pub(crate) struct Directory {
+    pub inode: u32,
+    pub tree: Tree,
+}
+
+/// Reads the entry in a slot, and enters the inode that it names.
+fn read_entry<R: Region>(
+    region: &R,
+    directory: Directory,
+    slot: u64,
+    blocks: &mut Blocks,
+    inodes: &mut Inodes,
+    todo: &mut Inodes,
+) -> Result<(), TreeFault>
+    requires ready { IsOpen (current_words (R.memory region.now)) }
+    requires inside { IsInside (current_words (R.memory region.now)) blocks.old inodes.old todo.old directory slot }
+    requires live { slot < directory.tree.size / 256 }
+    ensures inside { OnOk result (IsInside (current_words (R.memory region.now)) blocks.new inodes.new todo.new directory (slot + 1)) }
+    ensures work { OnOk result (work inodes.new todo.new ≤ work inodes.old todo.old) }
+    ensures fault { IfErr result (λ f. Fails (current_words (R.memory region.now)) f.check f.place) }
+    ensures block_room { length blocks.new ≡ length blocks.old }
+    ensures inode_room { length inodes.new ≡ length inodes.old }
+    ensures todo_room { length todo.new ≡ length todo.old }
+{
+    let named = inumber(region, directory.tree, slot);
+    if named == 0 {
+        return Ok(());
+    }
+    let place = entry_place(region, directory.tree, slot, 0);
+    if named >= inode_file(region).size / 64 {
+        return Err(TreeFault { check: 7, place });
+    }
+    let inode = named as u32;
+    if !inodes.is_free(inode) {
+        return Err(TreeFault { check: 8, place });
+    }
+    inodes.claim(inode);
+    enter(region, inode, blocks, todo)
+}
+
+/// Reads the entries of a directory whose names are right.
+fn read_entries<R: Region>(
+    region: &R,
+    directory: Directory,
+    blocks: &mut Blocks,
+    inodes: &mut Inodes,
+    todo: &mut Inodes,
+) -> Result<(), TreeFault>
+    requires ready { IsOpen (current_words (R.memory region.now)) }
+    requires inside { IsInside (current_words (R.memory region.now)) blocks.old inodes.old todo.old directory 0 }
+    ensures inside { OnOk result (IsInside (current_words (R.memory region.now)) blocks.new inodes.new todo.new directory (directory.tree.size / 256)) }
+    ensures work { OnOk result (work inodes.new todo.new ≤ work inodes.old todo.old) }
+    ensures fault { IfErr result (λ f. Fails (current_words (R.memory region.now)) f.check f.place) }
+    ensures block_room { length blocks.new ≡ length blocks.old }
+    ensures inode_room { length inodes.new ≡ length inodes.old }
+    ensures todo_room { length todo.new ≡ length todo.old }
+{
+    for slot in 0..directory.tree.size / 256 {
+        if let Err(fault) = read_entry(region, directory, slot, blocks, inodes, todo) {
+            return Err(fault);
+        }
+    }
+    Ok(())
+}
+
+/// Checks the names of a directory. `places` is memory for one number for each entry.
+fn read_names<R: Region>(region: &R, tree: Tree, places: &mut [u32]) -> Result<(), TreeFault>
+    requires sound { IsSound (current_words (R.memory region.now)) tree.root tree.size }
+    requires full { IsFull (current_words (R.memory region.now)) tree.root tree.size }
+    requires room { tree.size / 256 ≤ length places.old }
+    ensures ok { OnOk result (AreNames (current_words (R.memory region.now)) tree.root tree.size) }
+    ensures err { IfErr result (λ f. FailsNames (current_words (R.memory region.now)) tree.root tree.size f.check f.place) }
+    ensures room { length places.new ≡ length places.old }
+{
+    match check_names(region, tree, places) {
+        Ok(()) => Ok(()),
+        Err(NameFault::Form { place }) => Err(TreeFault { check: 12, place }),
+        Err(NameFault::Twice { place }) => Err(TreeFault { check: 13, place }),
+    }
+}
+
+/// Reads the directory at hand.
+pub(crate) fn read_directory<R: Region>(
+    region: &R,
+    inode: u32,
+    blocks: &mut Blocks,
+    inodes: &mut Inodes,
+    todo: &mut Inodes,
+    places: &mut [u32],
+) -> Result<(), TreeFault>
+    requires ready { IsOpen (current_words (R.memory region.now)) }
+    requires begun { IsAt (current_words (R.memory region.now)) blocks.old inodes.old todo.old inode 0 }
+    requires places { 16 * block_count (current_words (R.memory region.now)) ≤ length places.old }
+    ensures done { OnOk result (IsReading (current_words (R.memory region.now)) blocks.new inodes.new todo.new 0 0) }
+    ensures work { OnOk result (work inodes.new todo.new ≤ work inodes.old todo.old) }
+    ensures fault { IfErr result (λ f. Fails (current_words (R.memory region.now)) f.check f.place) }
+    ensures block_room { length blocks.new ≡ length blocks.old }
+    ensures inode_room { length inodes.new ≡ length inodes.old }
+    ensures todo_room { length todo.new ≡ length todo.old }
+    ensures place_room { length places.new ≡ length places.old }
+{
+    let words = get(region, inode);
+    let tree = Tree {
+        root: words.root,
+        size: words.size,
+    };
+    if let Err(fault) = read_names(region, tree, places) {
+        return Err(fault);
+    }
+    read_entries(region, Directory { inode, tree }, blocks, inodes, todo)
+}

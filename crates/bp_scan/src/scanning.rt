@@ -1,0 +1,98 @@
+//! The scan of an image.
+
+ghost use Rattle.std.specs.Prelude.{◌≡◌, ◌*◌, ◌≤◌, ◌↔◌, length, IsOk, OnOk, OnErr, IfOk, IfErr};
+ghost use Rattle.bp_free.specs.Set.{has, empty};
+ghost use Rattle.bp_layout.specs.Checks.{IsFormatted};
+ghost use Rattle.bp_layout.specs.Free.{AreFreeBlocks, AreFreeInodes};
+ghost use Rattle.bp_layout.specs.WellFormed.{IsWellFormed};
+ghost use Rattle.bp_layout.specs.Words.{block_count};
+ghost use Rattle.bp_scan.specs.Faults.{IsFault};
+ghost use Rattle.bp_scan.specs.Totals.{HasTotals};
+ghost use Rattle.pm_region.specs.Memory.{current_words};
+
+use crate::fault::MountFault;
+use crate::pending::Pending;
+use crate::reading::read_trees;
+use crate::totalling::all_totals;
+use crate::totals::Totals;
+use bp_free::{Blocks, Inodes};
+use bp_layout::limits::MAGIC;
+use pm_region::Region;
+
+const BLOCK_WORDS: u32 = 512;
+
+const BLOCK_BYTES: u64 = 4096;
+
+/// Whether an image begins with the mark of a format, and was formatted for the blocks that it has.
+///
+/// # Errors
+///
+/// `NotFormatted` exactly where word 0 is not the mark; `BadSize` exactly where it is, and word 1 is not the number of blocks.
+fn check_superblock<R: Region>(region: &R) -> Result<(), MountFault>
+    requires whole { length (current_words (R.memory region.now)) ≡ 512 * block_count (current_words (R.memory region.now)) }
+    requires least { 8 ≤ block_count (current_words (R.memory region.now)) }
+    requires most { block_count (current_words (R.memory region.now)) ≤ 16384 }
+    ensures formatted { OnOk result (IsFormatted (current_words (R.memory region.now))) }
+    ensures fault { IfErr result (IsFault (current_words (R.memory region.now))) }
+{
+    if region.load(0) != MAGIC {
+        return Err(MountFault::NotFormatted);
+    }
+    let blocks = u64::from(region.words() / BLOCK_WORDS);
+    let counted = region.load(1);
+    if counted != blocks {
+        return Err(MountFault::BadSize {
+            found: BLOCK_BYTES * blocks,
+            wanted: counted.saturating_mul(BLOCK_BYTES),
+        });
+    }
+    Ok(())
+}
+
+/// Reads the whole image in a region of 8 to 16,384 blocks of 512 words: puts the free blocks and the free inodes into the
+/// sets, whatever they had, and tells what the image holds in all. It takes time linear in the words that are in use but for
+/// the sort of each directory's names.
+///
+/// # Errors
+///
+/// `NotFormatted` exactly where word 0 is not the mark of a format; `BadSize` exactly where it is, and word 1 is not the number
+/// of blocks; `Damaged` exactly where both are right and a check of the format fails, with one that fails and where. The sets
+/// are then empty. It is never `Memory`.
+pub fn scan<R: Region>(
+    region: &R,
+    blocks: &mut Blocks,
+    inodes: &mut Inodes,
+    pending: &mut Pending,
+) -> Result<Totals, MountFault>
+    requires whole { length (current_words (R.memory region.now)) ≡ 512 * block_count (current_words (R.memory region.now)) }
+    requires least { 8 ≤ block_count (current_words (R.memory region.now)) }
+    requires most { block_count (current_words (R.memory region.now)) ≤ 16384 }
+    requires blocks { length blocks.old ≡ block_count (current_words (R.memory region.now)) }
+    requires inodes { length inodes.old ≡ 64 * block_count (current_words (R.memory region.now)) }
+    requires pending { pending.old ≡ 64 * block_count (current_words (R.memory region.now)) }
+    ensures well_formed { IsOk result ↔ IsWellFormed (current_words (R.memory region.now)) }
+    ensures blocks { OnOk result (AreFreeBlocks (current_words (R.memory region.now)) (has blocks.new)) }
+    ensures inodes { OnOk result (AreFreeInodes (current_words (R.memory region.now)) (has inodes.new)) }
+    ensures totals { IfOk result (HasTotals (current_words (R.memory region.now))) }
+    ensures fault { IfErr result (IsFault (current_words (R.memory region.now))) }
+    ensures no_blocks { OnErr result (blocks.new ≡ empty (length blocks.old)) }
+    ensures no_inodes { OnErr result (inodes.new ≡ empty (length inodes.old)) }
+    ensures block_room { length blocks.new ≡ length blocks.old }
+    ensures inode_room { length inodes.new ≡ length inodes.old }
+    ensures pending { pending.new ≡ pending.old }
+{
+    blocks.clear();
+    inodes.clear();
+    check_superblock(region)?;
+    match read_trees(region, blocks, inodes, pending) {
+        Ok(()) => Ok(all_totals(region, blocks, inodes)),
+        Err(fault) => {
+            blocks.clear();
+            inodes.clear();
+            Err(MountFault::Damaged {
+                check: fault.check,
+                place: fault.place,
+            })
+        }
+    }
+}

@@ -1,0 +1,135 @@
+//! What is entered: the inode file, and the trees of inodes.
+
+ghost use Rattle.std.specs.Prelude.{◌≡◌, ◌+◌, ◌*◌, ◌<◌, ◌≤◌, false, length, OnOk, IfErr};
+ghost use Rattle.bp_free.specs.Set.{has};
+ghost use Rattle.bp_layout.specs.Checks.{Fails, IsFormatted};
+ghost use Rattle.bp_layout.specs.Inode.{inode_count, root_of, size_of};
+ghost use Rattle.bp_layout.specs.Tree.{IsFull, IsSound};
+ghost use Rattle.bp_layout.specs.Words.{block_count};
+ghost use Rattle.bp_scan.specs.Inodes.{AreWords, IsRight, IsWrong, EntersInode, FailsInode};
+ghost use Rattle.bp_scan.specs.Reading.{IsOpen, HasInodeFile};
+ghost use Rattle.bp_scan.specs.Scanned.{HasAllBlocks};
+ghost use Rattle.pm_region.specs.Memory.{current_words};
+
+use bp_free::{Blocks, Inodes};
+use bp_inodes::{inode_file, place};
+use bp_tree::Tree;
+use bp_walk::{TreeFault, take_tree};
+use pm_region::Region;
+
+/// The kind of a file.
+const FILE: u64 = 1;
+
+/// The kind of a directory.
+const DIRECTORY: u64 = 2;
+
+/// The inode of the root directory.
+const ROOT: u32 = 1;
+
+/// The bytes of an entry of a directory.
+const ENTRY: u64 = 256;
+
+/// The bytes of a block.
+const BLOCK: u64 = 4096;
+
+/// The words of an inode that are in use.
+#[derive(Clone, Copy)]
+struct InodeWords {
+    /// The word of the region at which the first stands.
+    place: u32,
+    kind: u64,
+    tree: Tree,
+}
+
+/// Enters the inode file: takes its blocks out of the set of all blocks but the first.
+pub(crate) fn enter_inode_file<R: Region>(region: &R, blocks: &mut Blocks) -> Result<(), TreeFault>
+    requires formatted { IsFormatted (current_words (R.memory region.now)) }
+    requires all { HasAllBlocks (current_words (R.memory region.now)) blocks.old }
+    ensures ready { OnOk result (IsOpen (current_words (R.memory region.now))) }
+    ensures entered { OnOk result (HasInodeFile (current_words (R.memory region.now)) blocks.old blocks.new) }
+    ensures fault { IfErr result (λ f. Fails (current_words (R.memory region.now)) f.check f.place) }
+    ensures room { length blocks.new ≡ length blocks.old }
+{
+    let file = inode_file(region);
+    if file.size % BLOCK != 0 || file.size < BLOCK {
+        return Err(TreeFault { check: 6, place: 3 });
+    }
+    take_tree(region, 2, file.root, file.size, false, blocks)
+}
+
+/// Reads the words of an inode.
+fn inode_words<R: Region>(region: &R, inode: u32) -> InodeWords
+    requires formatted { IsFormatted (current_words (R.memory region.now)) }
+    requires sound { IsSound (current_words (R.memory region.now)) (root_of (current_words (R.memory region.now)) 0) (size_of (current_words (R.memory region.now)) 0) }
+    requires full { IsFull (current_words (R.memory region.now)) (root_of (current_words (R.memory region.now)) 0) (size_of (current_words (R.memory region.now)) 0) }
+    requires some { 1 ≤ inode }
+    requires there { inode < inode_count (current_words (R.memory region.now)) }
+    ensures { AreWords (current_words (R.memory region.now)) inode result }
+{
+    let place = place(region, inode, 0);
+    InodeWords {
+        place,
+        kind: region.load(place),
+        tree: Tree {
+            root: region.load(place + 1),
+            size: region.load(place + 2),
+        },
+    }
+}
+
+/// Checks the kind of an inode, and the size of a directory.
+fn check_words(inode: u32, words: InodeWords) -> Result<(), TreeFault>
+    requires { words.place + 2 < 4294967296 }
+    ensures ok { OnOk result (IsRight inode words.kind words.tree.size) }
+    ensures err { IfErr result (λ f. IsWrong inode words.kind words.tree.size words.place f.check f.place) }
+{
+    match words.kind {
+        DIRECTORY if words.tree.size % ENTRY == 0 => Ok(()),
+        DIRECTORY => Err(TreeFault {
+            check: 10,
+            place: words.place + 2,
+        }),
+        FILE if inode != ROOT => Ok(()),
+        _ => Err(TreeFault {
+            check: 9,
+            place: words.place,
+        }),
+    }
+}
+
+/// Enters the tree of an inode: takes its blocks out of the set, and puts the inode among those to do where it is a
+/// directory.
+pub(crate) fn enter<R: Region>(
+    region: &R,
+    inode: u32,
+    blocks: &mut Blocks,
+    todo: &mut Inodes,
+) -> Result<(), TreeFault>
+    requires formatted { IsFormatted (current_words (R.memory region.now)) }
+    requires sound { IsSound (current_words (R.memory region.now)) (root_of (current_words (R.memory region.now)) 0) (size_of (current_words (R.memory region.now)) 0) }
+    requires full { IsFull (current_words (R.memory region.now)) (root_of (current_words (R.memory region.now)) 0) (size_of (current_words (R.memory region.now)) 0) }
+    requires some { 1 ≤ inode }
+    requires there { inode < inode_count (current_words (R.memory region.now)) }
+    requires blocks { length blocks.old ≡ block_count (current_words (R.memory region.now)) }
+    requires not_first { has blocks.old 0 ≡ false }
+    requires new { has todo.old inode ≡ false }
+    requires todo { inode < length todo.old }
+    ensures ok { OnOk result (EntersInode (current_words (R.memory region.now)) inode blocks.old blocks.new todo.old todo.new) }
+    ensures err { IfErr result (λ f. FailsInode (current_words (R.memory region.now)) inode blocks.old f.check f.place) }
+    ensures block_room { length blocks.new ≡ length blocks.old }
+    ensures todo_room { length todo.new ≡ length todo.old }
+{
+    let words = inode_words(region, inode);
+    if let Err(fault) = check_words(inode, words) {
+        return Err(fault);
+    }
+    let tree = words.tree;
+    let holes = words.kind != DIRECTORY;
+    if let Err(fault) = take_tree(region, words.place + 1, tree.root, tree.size, holes, blocks) {
+        return Err(fault);
+    }
+    if !holes {
+        todo.give(inode);
+    }
+    Ok(())
+}

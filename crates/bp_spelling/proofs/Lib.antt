@@ -1,0 +1,9 @@
+pub mod ByteWise
+pub mod Deciding
+pub mod EntryPlaces
+pub mod Forms
+pub mod KeyNames
+pub mod NameOrder
+pub mod PastEnd
+pub mod SlotSteps
+pub mod UsedPlaces

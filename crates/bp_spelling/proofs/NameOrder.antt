@@ -1,0 +1,83 @@
+-- Entries in the order of their names: equal names are neighbours.
+use Rattle.std.proofs.Common.{◌≡◌, ℕ, suc, ◌+◌, ◌-◌, ◌<◌, List, ◌∷◌, length, false, slice_index, refl, sym, ◌∙◌, ap, arith, true≢false, Less, Equal, Greater, is_lt}
+use Rattle.std.specs.declared.cmp.Ordering.{Ordering}
+use Rattle.std.specs.Ordering.{nat_cmp, ordering_then, ordering_reverse}
+use Rattle.std.specs.Cmp.{nat_cmp_is}
+use Rattle.std.specs.Cmp.Lexicographic.{slice_cmp}
+use Rattle.std.specs.FinMap.{nat_cmp-IsAntisymmetric, slice_cmp-IsAntisymmetric}
+use Rattle.std.specs.List.Sorted.{IsSortedBy}
+use Rattle.std.proofs.lemmas.Cmp.{nat_list_cmp_total}
+use Rattle.std.proofs.lemmas.List.Sorted.{ranks_by, sorted_far}
+use Rattle.bp_layout.specs.Words.{Image}
+use Rattle.bp_spelling.specs.Places.{key_word, keys, name_key, name_cmp, name_lt, AreApart}
+
+keys-next : (image : Image) (p k n : ℕ) → keys image p k (suc n) ≡ key_word image p k ∷ keys image p (k + 1) n
+unfolding keys
+keys-next image p k n = refl
+
+name_key-is : (image : Image) (p : ℕ) → name_key image p ≡ keys image p 0 31
+unfolding name_key
+name_key-is image p = refl
+
+-- the order of two entries' words from one on
+abbrev pub rest_cmp : Image → ℕ → ℕ → ℕ → Ordering
+rest_cmp image a b k = slice_cmp nat_cmp (keys image a k (31 - k)) (keys image b k (31 - k))
+
+cmp_next : (image : Image) (a b k : ℕ) → k < 31 →
+    rest_cmp image a b k ≡ ordering_then (nat_cmp (key_word image a k) (key_word image b k)) (rest_cmp image a b (k + 1))
+cmp_next image a b k low =
+    let n : 31 - k ≡ suc (31 - (k + 1)) = omega (arith, low) in
+    ap (λ x. slice_cmp nat_cmp (keys image a k x) (keys image b k x)) n
+    ∙ ap (λ xs. slice_cmp nat_cmp xs (keys image b k (suc (31 - (k + 1))))) (keys-next image a k (31 - (k + 1)))
+    ∙ ap (λ ys. slice_cmp nat_cmp (key_word image a k ∷ keys image a (k + 1) (31 - (k + 1))) ys) (keys-next image b k (31 - (k + 1)))
+
+cmp_step : (image : Image) (a b k : ℕ) (o : Ordering) → k < 31 → o ≡ nat_cmp (key_word image a k) (key_word image b k) →
+    rest_cmp image a b k ≡ ordering_then o (rest_cmp image a b (k + 1))
+cmp_step image a b k o low is = cmp_next image a b k low ∙ ap (λ x. ordering_then x (rest_cmp image a b (k + 1))) (sym is)
+
+pub cmp_less : (image : Image) (a b k : ℕ) → k < 31 → key_word image a k < key_word image b k → rest_cmp image a b k ≡ Less
+cmp_less image a b k low less = cmp_step image a b k Less low (nat_cmp_is _ _ Less less)
+
+pub cmp_greater : (image : Image) (a b k : ℕ) → k < 31 → key_word image b k < key_word image a k → rest_cmp image a b k ≡ Greater
+cmp_greater image a b k low less = cmp_step image a b k Greater low (nat_cmp_is _ _ Greater less)
+
+pub cmp_equal : (image : Image) (a b k : ℕ) → k < 31 → key_word image a k ≡ key_word image b k → rest_cmp image a b k ≡ rest_cmp image a b (k + 1)
+cmp_equal image a b k low same = cmp_step image a b k Equal low (nat_cmp_is _ _ Equal same)
+
+pub cmp_end : (image : Image) (a b k : ℕ) → k ≡ 31 → rest_cmp image a b k ≡ Equal
+unfolding keys
+cmp_end image a b k end = ap (rest_cmp image a b) end
+
+pub cmp_start : (image : Image) (a b : ℕ) → rest_cmp image a b 0 ≡ name_cmp image a b
+cmp_start image a b = ap (λ xs. slice_cmp nat_cmp xs (keys image b 0 31)) (sym (name_key-is image a)) ∙ ap (slice_cmp nat_cmp (name_key image a)) (sym (name_key-is image b))
+
+pub equal_key : (xs ys : List ℕ) → slice_cmp nat_cmp xs ys ≡ Equal → xs ≡ ys
+equal_key xs ys same = slice_cmp-IsAntisymmetric nat_cmp-IsAntisymmetric xs ys same
+
+self : (o : Ordering) → o ≡ ordering_reverse o → o ≡ Equal
+self Less e = absurd (cc)
+self Equal e = refl
+self Greater e = absurd (cc)
+
+pub key_equal : (xs ys : List ℕ) → xs ≡ ys → slice_cmp nat_cmp xs ys ≡ Equal
+key_equal xs ys same = ap (slice_cmp nat_cmp xs) (sym same) ∙ self (slice_cmp nat_cmp xs xs) (nat_list_cmp_total.antisymm xs xs)
+
+tie : (xs ys : List ℕ) → is_lt (slice_cmp nat_cmp xs ys) ≡ false → is_lt (slice_cmp nat_cmp ys xs) ≡ false → xs ≡ ys
+tie xs ys low high = go (slice_cmp nat_cmp xs ys) refl
+  where
+    go : (o : Ordering) → slice_cmp nat_cmp xs ys ≡ o → xs ≡ ys
+    go Less e = absurd (true≢false (sym (ap is_lt e) ∙ low))
+    go Equal e = equal_key xs ys e
+    go Greater e = absurd (true≢false (sym (ap is_lt (nat_list_cmp_total.antisymm ys xs ∙ ap ordering_reverse e)) ∙ high))
+
+-- where no neighbours have one name, no two have
+pub apart_from_neighbours : (image : Image) (places : List ℕ) → IsSortedBy (name_lt image) places →
+    ((k : ℕ) → suc k < length places → name_key image (slice_index places k) ≡ name_key image (slice_index places (suc k)) → ⊥) → AreApart image places
+apart_from_neighbours image places sorted beside i j order high same =
+    let first : name_lt image (slice_index places (suc i)) (slice_index places i) ≡ false =
+    sorted_far (name_lt image) (ranks_by nat_list_cmp_total (name_key image)) places sorted i (suc i) 0 (omega arith) (omega (arith, order, high)) in
+    let far : name_lt image (slice_index places j) (slice_index places (suc i)) ≡ false =
+    sorted_far (name_lt image) (ranks_by nat_list_cmp_total (name_key image)) places sorted (suc i) j 0 (omega (arith, order)) high in
+    let back : is_lt (slice_cmp nat_cmp (name_key image (slice_index places i)) (name_key image (slice_index places (suc i)))) ≡ false =
+    ap (λ xs. is_lt (slice_cmp nat_cmp xs (name_key image (slice_index places (suc i))))) same ∙ far in
+    beside i (omega (arith, order, high)) (tie _ _ back first)

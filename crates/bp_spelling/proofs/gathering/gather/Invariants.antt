@@ -1,0 +1,7 @@
+use Rattle.std.proofs.Common.{◌/◌}
+use Rattle.pm_region.specs.Memory.{current_words}
+use Rattle.bp_spelling.proofs.SlotSteps.{IsGathered}
+use Rattle.bp_spelling.proofs.gathering.gather.Given as goal
+
+abbrev pub invariant-loop-slot : goal.invariant-loop-slot
+invariant-loop-slot g l = IsGathered (current_words (g.R.Region.memory l.region)) l.tree.root (l.tree.size / 256) l.slot l.places l.count

@@ -1,0 +1,27 @@
+-- Whether the names of a directory's entries are right.
+use Rattle.std.specs.Prelude.{◌≡◌, ◌≢◌, ℕ, ◌+◌, ◌*◌, ◌/◌, ◌%◌, ◌<◌}
+use Rattle.bp_layout.specs.Words.{Image, height_of}
+use Rattle.bp_layout.specs.Tree.{node}
+use Rattle.bp_layout.specs.Directory.{IsName, inumber_in, name_in}
+use Rattle.bp_spelling.specs.declared.fault.NameFault.{NameFault}
+use Rattle.bp_spelling.specs.declared.fault.NameFault.TheVariants.{Form, Twice}
+
+-- the entry lies below the size and names an inode
+pub record IsUsed (image : Image) (root size slot : ℕ) : Type 0 where
+  pub live : slot < size / 256
+  pub some : inumber_in image root slot ≢ 0
+
+-- the word of the region at which the first word of an entry stands
+abbrev pub entry_place_in : Image → ℕ → ℕ → ℕ
+entry_place_in image root slot = 512 * node image root (height_of root) ((32 * slot + 0) / 512) + (32 * slot + 0) % 512
+
+-- each name has the form of one, and no two are equal
+pub record AreNames (image : Image) (root size : ℕ) : Type 0 where
+  pub forms : (slot : ℕ) → IsUsed image root size slot → IsName (name_in image root slot)
+  pub differ : (slot other : ℕ) → IsUsed image root size slot → IsUsed image root size other → name_in image root slot ≡ name_in image root other → slot ≡ other
+
+-- A name has not the form of one, told at its length; or an entry has the name of another.
+pub data AreWrong (image : Image) (root size : ℕ) : NameFault → Type 0 where
+  form : {slot : ℕ} → IsUsed image root size slot → ¬ IsName (name_in image root slot) → AreWrong image root size (Form (entry_place_in image root slot + 1))
+  twice : {slot other : ℕ} → IsUsed image root size slot → IsUsed image root size other → slot ≢ other → name_in image root slot ≡ name_in image root other →
+      AreWrong image root size (Twice (entry_place_in image root slot))

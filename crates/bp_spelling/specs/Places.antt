@@ -1,0 +1,70 @@
+-- The places of a directory's entries, and the names that stand there.
+use Rattle.std.specs.Prelude.{◌≡◌, ◌≢◌, ◌⊎◌, ℕ, zero, suc, ◌+◌, ◌-◌, ◌*◌, ◌/◌, ◌%◌, ◌^◌, ◌<◌, min, List, length, map, filter, not, ◌==◌, slice_index, Bool}
+use Rattle.std.specs.List.{range_with_len}
+use Rattle.std.specs.declared.cmp.Ordering.{Ordering}
+use Rattle.std.specs.Ordering.{nat_cmp, is_lt}
+use Rattle.std.specs.Cmp.Lexicographic.{slice_cmp}
+use Rattle.bp_layout.specs.Words.{Image, word, byte_of}
+use Rattle.bp_layout.specs.Directory.{Name, IsName, inumber_in, name_in}
+use Rattle.bp_spelling.specs.Names.{IsUsed, entry_place_in}
+
+-- the name of the entry at a place
+abbrev pub name_there : Image → ℕ → Name
+name_there image place = map (λ o. byte_of (word image (place + 2 + o / 8)) (o % 8)) (range_with_len 0 (word image (place + 1)))
+
+-- none of so many bytes from a word on is 0 or `/`
+abbrev pub IsPlain : ℕ → Type 0
+IsPlain byte = (byte ≢ 0) × (byte ≢ 47)
+
+abbrev pub ArePlain : Image → ℕ → ℕ → Type 0
+ArePlain image first count = (o : ℕ) → o < count → IsPlain (byte_of (word image (first + o / 8)) (o % 8))
+
+-- a name of so many bytes whose first ones are in this word is `.` or `..`
+abbrev pub IsDots : ℕ → ℕ → Type 0
+IsDots value count = ((count ≡ 1) × (value % 256 ≡ 46)) ⊎ ((count ≡ 2) × (value % 65536 ≡ 11822))
+
+-- each name has the form of one
+abbrev pub HaveForms : Image → ℕ → ℕ → Type 0
+HaveForms image root size = (slot : ℕ) → IsUsed image root size slot → IsName (name_in image root slot)
+
+-- a name has not the form of one, and its length stands at this word
+pub record IsMisspelled (image : Image) (root size place : ℕ) : Type 0 where
+  pub slot : ℕ
+  pub used : IsUsed image root size slot
+  pub wrong : ¬ IsName (name_in image root slot)
+  pub there : place ≡ entry_place_in image root slot + 1
+
+-- the places of the entries that name an inode, in the order of their slots
+abbrev pub used_places : Image → ℕ → List ℕ → List ℕ
+used_places image root all = map (entry_place_in image root) (filter (λ slot. not (inumber_in image root slot == 0)) all)
+
+-- A word of an entry's name, of which its dead bytes are cut off. Its length is the first.
+abbrev pub key_word : Image → ℕ → ℕ → ℕ
+key_word image place zero = word image (place + 1)
+key_word image place (suc part) = word image (place + 1 + suc part) % 256 ^ min 8 (word image (place + 1) - 8 * part)
+
+unfoldable pub keys : Image → ℕ → ℕ → ℕ → List ℕ
+keys image place part count = map (key_word image place) (range_with_len part count)
+
+-- all words of the name
+unfoldable pub name_key : Image → ℕ → List ℕ
+name_key image place = keys image place 0 31
+
+abbrev pub name_cmp : Image → ℕ → ℕ → Ordering
+name_cmp image a b = slice_cmp nat_cmp (name_key image a) (name_key image b)
+
+abbrev pub name_lt : Image → ℕ → ℕ → Bool
+name_lt image a b = is_lt (name_cmp image a b)
+
+-- no two of the entries have one name
+abbrev pub AreApart : Image → List ℕ → Type 0
+AreApart image places = (i j : ℕ) → i < j → j < length places → name_key image (slice_index places i) ≡ name_key image (slice_index places j) → ⊥
+
+-- two of the entries have one name, the second stands at this place
+pub record IsDouble (image : Image) (places : List ℕ) (place : ℕ) : Type 0 where
+  pub first : ℕ
+  pub second : ℕ
+  pub order : first < second
+  pub low : second < length places
+  pub there : slice_index places second ≡ place
+  pub same : name_key image (slice_index places first) ≡ name_key image (slice_index places second)

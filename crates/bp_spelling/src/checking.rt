@@ -1,0 +1,34 @@
+//! The check of a directory's names.
+
+ghost use Rattle.std.specs.Prelude.{◌≡◌, ◌/◌, ◌≤◌, length, OnOk, IfErr};
+ghost use Rattle.bp_layout.specs.Tree.{IsSound, IsFull};
+ghost use Rattle.bp_spelling.specs.Names.{AreNames, AreWrong};
+ghost use Rattle.pm_region.specs.Memory.{current_words};
+
+use crate::doubles::find_double;
+use crate::fault::NameFault;
+use crate::gathering::gather;
+use bp_tree::Tree;
+use pm_region::Region;
+
+/// Checks the names of a directory's entries that name an inode. `places` is memory for one number for each entry.
+///
+/// # Errors
+///
+/// A name that has not the form of one, or one that two entries have. Which of several faults is told is open.
+pub fn check_names<R: Region>(region: &R, tree: Tree, places: &mut [u32]) -> Result<(), NameFault>
+    requires sound { IsSound (current_words (R.memory region.now)) tree.root tree.size }
+    requires full { IsFull (current_words (R.memory region.now)) tree.root tree.size }
+    requires room { tree.size / 256 ≤ length places.old }
+    ensures ok { OnOk result (AreNames (current_words (R.memory region.now)) tree.root tree.size) }
+    ensures err { IfErr result (AreWrong (current_words (R.memory region.now)) tree.root tree.size) }
+    ensures room { length places.new ≡ length places.old }
+{
+    match gather(region, tree, places) {
+        Ok(count) => match find_double(region, &mut places[..count]) {
+            Some(place) => Err(NameFault::Twice { place }),
+            None => Ok(()),
+        },
+        Err(place) => Err(NameFault::Form { place }),
+    }
+}

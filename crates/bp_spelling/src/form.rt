@@ -1,0 +1,76 @@
+//! Whether a name has the form of one.
+
+ghost use Rattle.std.specs.Prelude.{◌≡◌, ◌≢◌, ◌⊎◌, ℕ, ◌+◌, ◌/◌, ◌%◌, ◌≤◌, ◌<◌, ◌↔◌, IsTrue, length, min};
+ghost use Rattle.bp_layout.specs.Directory.{IsName};
+ghost use Rattle.bp_layout.specs.Words.{byte_of};
+ghost use Rattle.bp_spelling.specs.Places.{name_there, IsPlain, ArePlain, IsDots};
+ghost use Rattle.pm_region.specs.Memory.{current_words};
+
+use crate::name_words::low_bytes;
+use bp_layout::limits::MAX_NAME;
+use pm_region::Region;
+
+/// A word whose bytes are 0 but for those that stand where a byte of this word is 0.
+fn zero_marks(word: u64) -> u64
+    ensures { (o : ℕ) → o < 8 → (byte_of result o ≡ 0) ↔ (byte_of word o ≢ 0) }
+{
+    // The highest bit of a byte of these sums is set where one of its other bits was. No sum carries into the next byte.
+    let sums = (word & 0x7f7f_7f7f_7f7f_7f7f) + 0x7f7f_7f7f_7f7f_7f7f;
+    ((sums | word) & 0x8080_8080_8080_8080) ^ 0x8080_8080_8080_8080
+}
+
+/// Whether none of the lowest bytes of a word is 0 or `/`.
+fn is_plain(word: u64, count: u64) -> bool
+    ensures { IsTrue result ↔ ((o : ℕ) → o < min 8 count → IsPlain (byte_of word o)) }
+{
+    let zeros = zero_marks(word);
+    let slashes = zero_marks(word ^ 0x2f2f_2f2f_2f2f_2f2f);
+    low_bytes(zeros | slashes, count) == 0
+}
+
+/// Whether none of so many bytes is 0 or `/`. The first word of them stands at a place.
+fn are_plain<R: Region>(region: &R, first: u32, count: u64) -> bool
+    requires short { count ≤ 240 }
+    requires within { first + 30 ≤ length (current_words (R.memory region.now)) }
+    ensures { IsTrue result ↔ ArePlain (current_words (R.memory region.now)) first count }
+{
+    let _words = region.words();
+    for part in 0..count.div_ceil(8) {
+        let word = region.load(first + part as u32);
+        if !is_plain(word, count - 8 * part) {
+            return false;
+        }
+    }
+    true
+}
+
+/// Whether a name of so many bytes, the first of which are in this word, is `.` or `..`.
+fn is_dots(word: u64, count: u64) -> bool
+    ensures { IsTrue result ↔ IsDots word count }
+{
+    match count {
+        1 => word % 256 == 46,
+        2 => word % 65536 == 0x2e2e,
+        _ => false,
+    }
+}
+
+/// Whether the entry at a place has a name of the right form: 1 to 240 bytes, no byte 0 and no `/`, and neither `.` nor `..`.
+pub(crate) fn is_name<R: Region>(region: &R, place: u32) -> bool
+    requires { place + 32 ≤ length (current_words (R.memory region.now)) }
+    ensures { IsTrue result ↔ IsName (name_there (current_words (R.memory region.now)) place) }
+{
+    let _words = region.words();
+    let count = region.load(place + 1);
+    if count == 0 {
+        return false;
+    }
+    if count > MAX_NAME as u64 {
+        return false;
+    }
+    let first = region.load(place + 2);
+    if is_dots(first, count) {
+        return false;
+    }
+    are_plain(region, place + 2, count)
+}

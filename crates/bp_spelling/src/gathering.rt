@@ -1,0 +1,42 @@
+//! The places of a directory's entries.
+
+ghost use Rattle.std.specs.Prelude.{◌≡◌, ◌/◌, ◌≤◌, length, take, IfOk, OnOk, IfErr};
+ghost use Rattle.bp_layout.specs.Directory.{slots};
+ghost use Rattle.bp_layout.specs.Tree.{IsSound, IsFull};
+ghost use Rattle.bp_spelling.specs.Places.{used_places, HaveForms, IsMisspelled};
+ghost use Rattle.pm_region.specs.Memory.{current_words};
+
+use crate::form::is_name;
+use bp_dirs::entry_place;
+use bp_tree::Tree;
+use pm_region::Region;
+
+/// Writes down the places of the entries that name an inode, and says how many there are.
+///
+/// # Errors
+///
+/// The word with the length of a name that has not the form of one.
+pub(crate) fn gather<R: Region>(region: &R, tree: Tree, places: &mut [u32]) -> Result<usize, u32>
+    requires sound { IsSound (current_words (R.memory region.now)) tree.root tree.size }
+    requires full { IsFull (current_words (R.memory region.now)) tree.root tree.size }
+    requires room { tree.size / 256 ≤ length places.old }
+    ensures places { IfOk result (λ count. take count places.new ≡ used_places (current_words (R.memory region.now)) tree.root (slots tree.size)) }
+    ensures count { IfOk result (λ count. count ≤ length places.new) }
+    ensures forms { OnOk result (HaveForms (current_words (R.memory region.now)) tree.root tree.size) }
+    ensures err { IfErr result (IsMisspelled (current_words (R.memory region.now)) tree.root tree.size) }
+    ensures room { length places.new ≡ length places.old }
+{
+    let _words = region.words();
+    let mut count = 0;
+    for slot in 0..tree.size / 256 {
+        let place = entry_place(region, tree, slot, 0);
+        if region.load(place) != 0 {
+            if !is_name(region, place) {
+                return Err(place + 1);
+            }
+            places[count] = place;
+            count += 1;
+        }
+    }
+    Ok(count)
+}

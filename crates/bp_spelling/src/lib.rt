@@ -1,0 +1,14 @@
+//! The names of a directory: whether each has the form of a name, and no two are equal.
+#![tactic(auto)]
+
+mod checking;
+mod doubles;
+mod fault;
+mod form;
+mod gathering;
+mod name_words;
+#[cfg(test)]
+mod tests;
+
+pub use checking::check_names;
+pub use fault::NameFault;

@@ -1,0 +1,94 @@
+//! Directories of two entries, in one leaf.
+
+ghost use Rattle.std.specs.Prelude.{◌≡◌, IfOk, length};
+ghost use Rattle.bp_layout.specs.Tree.{IsSound, IsFull};
+ghost use Rattle.pm_region.specs.Memory.{current_words};
+
+use super::*;
+use bp_tree::Tree;
+use pm_region::ListRegion;
+use std::alloc::{AllocError, Global};
+use std::test::Fail;
+
+const TREE: Tree = Tree {
+    root: 0x3000,
+    size: 512,
+};
+
+/// The length of a name, and its first eight bytes with what is dead of them.
+type Start = (u64, u64);
+
+fn lay_out(image: &mut [u64], first: Start, second: Start)
+    requires { length image.old ≡ 4096 }
+    ensures { length image.new ≡ 4096 }
+{
+    image[1536] = 2;
+    image[1537] = first.0;
+    image[1538] = first.1;
+    image[1568] = 3;
+    image[1569] = second.0;
+    image[1570] = second.1;
+}
+
+fn sample(alloc: Global, first: Start, second: Start) -> Result<ListRegion, AllocError>
+    ensures sound { IfOk result (λ region. IsSound (current_words region) 0x3000 512) }
+    ensures full { IfOk result (λ region. IsFull (current_words region) 0x3000 512) }
+{
+    let mut words = vec![in alloc; 0u64; 4096]?;
+    lay_out(&mut words, first, second);
+    let region = ListRegion::new(alloc, words, 0)?;
+    Ok(region)
+}
+
+fn checked(
+    alloc: Global,
+    first: Start,
+    second: Start,
+) -> Result<Result<(), NameFault>, AllocError> {
+    let region = sample(alloc, first, second)?;
+    let mut places = [0; 2];
+    Ok(check_names(&region, TREE, &mut places))
+}
+
+// "ab" and "ac", whatever stands in their dead bytes; "..." is a name
+#[test]
+fn names_that_differ(rt: HostRuntime) -> Result<(), Fail> {
+    for (first, second) in [
+        ((2, 0x6261), (2, 0x6361)),
+        ((2, 0xff_6261), (2, 0xff_6361)),
+        ((1, 0x61), (2, 0x61_61)),
+        ((3, 0x2e_2e2e), (8, 0x6161_6161_6161_6161)),
+    ] {
+        assert_eq!(rt;
+            checked(rt.alloc(), first, second)?,
+            Ok(()),
+            "{first:?} {second:?}"
+        );
+    }
+    Ok(())
+}
+
+// "ab" twice, with other dead bytes
+#[test]
+fn names_that_are_equal(rt: HostRuntime) -> Result<(), Fail> {
+    let answer = checked(rt.alloc(), (2, 0x1234_6261), (2, 0xff00_6261))?;
+    assert!(rt; matches!(answer, Err(NameFault::Twice { place: 1536 | 1568 })));
+    Ok(())
+}
+
+// no byte, 241 bytes, "a/b", "a" and byte 0, ".", ".." and their dead bytes
+#[test]
+fn names_of_a_wrong_form(rt: HostRuntime) -> Result<(), Fail> {
+    for wrong in [
+        (0, 0x61),
+        (241, 0x6161_6161_6161_6161),
+        (3, 0x62_2f61),
+        (2, 0x0061),
+        (1, 0x612e),
+        (2, 0x61_2e2e),
+    ] {
+        let answer = checked(rt.alloc(), (1, 0x61), wrong)?;
+        assert_eq!(rt; answer, Err(NameFault::Form { place: 1569 }), "{wrong:?}");
+    }
+    Ok(())
+}

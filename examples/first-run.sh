@@ -8,7 +8,7 @@ bpfs=$PWD/out/bpfs
 work=$(mktemp -d)
 echo "\$ bpfs format $work/f --blocks 8"
 "$bpfs" format "$work/f" --blocks 8
-echo "\$ bpfs run $work/f    # create /a, stat /a, list /, sync"
-printf 'create /a\nstat /a\nlist /\nsync\n' | "$bpfs" run "$work/f"
-echo "\$ bpfs run $work/f    # stat /, stat /a"
-printf 'stat /\nstat /a\n' | "$bpfs" run "$work/f"
+echo "\$ bpfs run $work/f    # space, create /a, space, read /a 0 8, list /, sync"
+printf 'space\ncreate /a\nspace\nread /a 0 8\nlist /\nsync\n' | "$bpfs" run "$work/f"
+echo "\$ bpfs check $work/f"
+"$bpfs" check "$work/f"

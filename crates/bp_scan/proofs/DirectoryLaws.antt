@@ -1,15 +1,14 @@
 -- A directory is taken up, and is done.
-use Rattle.std.proofs.Common.{◌≡◌, ◌≢◌, ◌⊎◌, ℕ, zero, suc, ◌+◌, ◌*◌, ◌/◌, ◌%◌, ◌<◌, ◌≤◌, Bool, true, false, [], length, refl, sym, ◌∙◌, ap, subst, arith, inl, inr}
+use Rattle.std.proofs.Common.{◌≡◌, ◌⊎◌, ℕ, zero, suc, ◌+◌, ◌*◌, ◌/◌, ◌<◌, ◌≤◌, true, false, [], length, sym, ◌∙◌, ap, subst, arith, inl, inr}
 use Rattle.std.proofs.lemmas.Bool.{cases_lt}
 use Rattle.bp_free.specs.Set.{Set, has, members, without, IsLeast}
 use Rattle.bp_free.proofs.Members.{has_past, count_without}
 use Rattle.bp_layout.specs.Words.{Image, block_count}
 use Rattle.bp_layout.specs.Tree.{IsSound, IsFull}
-use Rattle.bp_layout.specs.Inode.{kind_of, root_of, size_of, inode_count}
+use Rattle.bp_layout.specs.Inode.{kind_of, root_of, size_of}
 use Rattle.bp_layout.specs.Checks.{Fails}
 use Rattle.bp_spelling.specs.Names.{AreNames}
-use Rattle.bp_walk.proofs.TakenLaws.{known, clash, length_without, has_without, has_less, has_other}
-use Rattle.bp_scan.specs.Progress.{IsEntered, IsMidway}
+use Rattle.bp_walk.proofs.TakenLaws.{known, length_without, has_without}
 use Rattle.bp_scan.specs.Misspelled.{FailsNames}
 use Rattle.bp_scan.specs.Reading.{IsOpen, IsReading, IsAt, IsInside, work}
 use Rattle.bp_scan.specs.declared.directories.Directory.{Directory}

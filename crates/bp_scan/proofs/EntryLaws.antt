@@ -1,19 +1,19 @@
 -- The entry at hand.
-use Rattle.std.proofs.Common.{◌≡◌, ◌≢◌, ◌⊎◌, ℕ, zero, suc, ◌+◌, ◌*◌, ◌/◌, ◌%◌, ◌<◌, ◌≤◌, Bool, true, false, length, refl, sym, ◌∙◌, ap, subst, arith, inl, inr}
+use Rattle.std.proofs.Common.{◌≡◌, ◌≢◌, ◌⊎◌, ℕ, ◌+◌, ◌*◌, ◌/◌, ◌%◌, ◌<◌, ◌≤◌, true, false, length, sym, ◌∙◌, ap, subst, arith, inl, inr}
 use Rattle.std.proofs.lemmas.Bool.{cases_eq}
-use Rattle.bp_free.specs.Set.{Set, has, with, without, members}
+use Rattle.bp_free.specs.Set.{Set, has, without, members}
 use Rattle.bp_free.proofs.Members.{has_with_same, has_with_other, count_with, count_without}
 use Rattle.std.proofs.lemmas.List.{length-set}
-use Rattle.bp_layout.specs.Words.{Image, block_count, height_of}
+use Rattle.bp_layout.specs.Words.{Image, height_of}
 use Rattle.bp_layout.specs.Tree.{node, IsSound, IsFull}
 use Rattle.bp_layout.specs.Inode.{kind_of, root_of, size_of, inode_count}
-use Rattle.bp_layout.specs.Directory.{EntryNames, IsName, name_at, name_in, inumber_at, inumber_in}
-use Rattle.bp_layout.specs.Checks.{IsFound, Fails, entry_place}
+use Rattle.bp_layout.specs.Directory.{EntryNames, inumber_at, inumber_in}
+use Rattle.bp_layout.specs.Checks.{Fails, entry_place}
 use Rattle.bp_spelling.specs.Names.{AreNames, IsUsed}
-use Rattle.bp_walk.proofs.TakenLaws.{known, clash, length_without, has_less, has_other}
-use Rattle.bp_scan.specs.Progress.{IsEntered, IsDone, IsUnderWay}
+use Rattle.bp_walk.proofs.TakenLaws.{known, clash, length_without, has_less}
+use Rattle.bp_scan.specs.Progress.{IsUnderWay}
 use Rattle.bp_scan.specs.Inodes.{EntersInode, FailsInode}
-use Rattle.bp_scan.specs.Reading.{IsOpen, IsReading, IsAt, IsInside, work}
+use Rattle.bp_scan.specs.Reading.{IsOpen, IsReading, IsInside, work}
 use Rattle.bp_scan.specs.declared.directories.Directory.{Directory}
 use Rattle.bp_scan.proofs.ProgressLaws.{empty_step, entered_more}
 use Rattle.bp_scan.proofs.EntryStep.{Adds, entry_step}

@@ -1,9 +1,9 @@
 -- A check that an inode fails which is not entered yet fails in the image.
-use Rattle.std.proofs.Common.{◌≡◌, ◌≢◌, ◌⊎◌, ℕ, zero, suc, ◌+◌, ◌%◌, ◌<◌, ◌≤◌, Bool, true, false, Result, Ok, Err, IfErr, refl, sym, ◌∙◌, ap, subst, arith, inl, inr}
-use Rattle.bp_free.specs.Set.{Set, has}
+use Rattle.std.proofs.Common.{◌≢◌, ℕ, zero, suc, ◌≤◌, Result, Ok, Err, IfErr, refl, sym, ap, subst, arith, inr}
+use Rattle.bp_free.specs.Set.{Set}
 use Rattle.bp_layout.specs.Words.{Image}
-use Rattle.bp_layout.specs.Inode.{kind_of, root_of, size_of}
-use Rattle.bp_layout.specs.Checks.{IsFound, Fails, inode_place, root_place}
+use Rattle.bp_layout.specs.Inode.{kind_of, size_of}
+use Rattle.bp_layout.specs.Checks.{IsFound, Fails, inode_place}
 use Rattle.bp_layout.specs.Checks.Fails.{kind, root_kind, directory_size}
 use Rattle.bp_scan.specs.Scanned.{IsScanned, HasAllBlocks}
 use Rattle.bp_scan.specs.Inodes.{IsRight, IsWrong, FailsInode}

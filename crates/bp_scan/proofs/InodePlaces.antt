@@ -1,9 +1,8 @@
 -- Where the words of an inode stand, and what an inode that is entered must be.
-use Rattle.std.proofs.Common.{◌≡◌, ◌≢◌, ◌⊎◌, ℕ, zero, suc, ◌+◌, ◌*◌, ◌/◌, ◌%◌, ◌<◌, ◌≤◌, Bool, false, length, refl, sym, ◌∙◌, ap, subst, arith, inl, inr}
-use Rattle.std.proofs.lemmas.Bool.{cases_eq}
+use Rattle.std.proofs.Common.{◌≡◌, ◌≢◌, ℕ, zero, suc, ◌+◌, ◌*◌, ◌/◌, ◌%◌, ◌<◌, ◌≤◌, Bool, false, length, refl, sym, ◌∙◌, ap, subst, arith}
 use Rattle.bp_layout.specs.Words.{Image, word, block_count, height_of}
 use Rattle.bp_layout.specs.Tree.{node}
-use Rattle.bp_layout.specs.Inode.{inode_word, root_of, kind_of, size_of}
+use Rattle.bp_layout.specs.Inode.{inode_word, root_of}
 use Rattle.bp_layout.specs.Harmless.{ContentStandsAt}
 use Rattle.bp_layout.specs.Checks.{inode_place, size_place}
 use Rattle.bp_walk.proofs.Places.{word_below}

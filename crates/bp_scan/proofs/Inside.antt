@@ -1,21 +1,20 @@
 -- What is known in the middle of a scan, of the inode file and of the directory at hand.
-use Rattle.std.proofs.Common.{◌≡◌, ◌≢◌, ◌⊎◌, ℕ, zero, suc, ◌+◌, ◌*◌, ◌/◌, ◌%◌, ◌<◌, ◌≤◌, Bool, true, false, length, refl, sym, ◌∙◌, ap, subst, arith, inl, inr}
+use Rattle.std.proofs.Common.{◌≡◌, ◌⊎◌, ℕ, zero, suc, ◌*◌, ◌/◌, ◌<◌, ◌≤◌, true, false, length, refl, sym, ◌∙◌, subst, arith, inl, inr}
 use Rattle.bp_free.specs.Set.{Set, has}
-use Rattle.bp_layout.specs.Words.{Image, block_count, height_of}
-use Rattle.bp_layout.specs.Tree.{node, IsSound, IsFull}
+use Rattle.bp_layout.specs.Words.{Image, block_count}
+use Rattle.bp_layout.specs.Tree.{IsSound, IsFull}
 use Rattle.bp_layout.specs.Inode.{kind_of, root_of, size_of, inode_count}
-use Rattle.bp_layout.specs.Directory.{EntryNames, IsName, name_at, name_in, inumber_at, inumber_in}
+use Rattle.bp_layout.specs.Directory.{EntryNames, inumber_at}
 use Rattle.bp_layout.specs.Checks.{IsFound, IsEntry, Fails, entry_place}
 use Rattle.bp_layout.specs.Checks.Fails.{inumber, root_named, name_form, name_twice}
-use Rattle.bp_spelling.specs.Names.{AreNames, IsUsed, entry_place_in}
+use Rattle.bp_spelling.specs.Names.{IsUsed}
 use Rattle.bp_walk.proofs.TakenLaws.{known, clash}
 use Rattle.bp_scan.specs.Scanned.{IsScanned}
 use Rattle.bp_scan.specs.Progress.{IsEntered, IsDone, NamedBy}
 use Rattle.bp_scan.specs.Inodes.{FailsInode}
 use Rattle.bp_scan.specs.Misspelled.{FailsNames}
 use Rattle.bp_scan.specs.Misspelled.FailsNames.{form, twice}
-use Rattle.bp_scan.specs.Reading.{IsOpen, IsReading, IsAt, IsInside}
-use Rattle.bp_scan.specs.declared.directories.Directory.{Directory}
+use Rattle.bp_scan.specs.Reading.{IsOpen, IsReading}
 use Rattle.bp_scan.proofs.Readable.{is_sound, is_full, entry_seen, inode_found, one_entry, named_before}
 use Rattle.bp_scan.proofs.Room.{few_inodes, few_entries}
 use Rattle.bp_scan.proofs.InodeFaults.{fails_inode}

@@ -1,6 +1,6 @@
 -- The start of a scan: the inode file is entered, and then the root directory.
-use Rattle.std.proofs.Common.{◌≡◌, ◌≢◌, ◌⊎◌, ℕ, zero, suc, ◌+◌, ◌*◌, ◌/◌, ◌%◌, ◌<◌, ◌≤◌, Bool, true, false, length, refl, sym, ◌∙◌, ap, subst, arith, inl, inr}
-use Rattle.std.proofs.lemmas.Bool.{cases_eq, cases_lt}
+use Rattle.std.proofs.Common.{◌≡◌, ◌≢◌, ◌⊎◌, ℕ, ◌*◌, ◌/◌, ◌%◌, ◌<◌, ◌≤◌, true, false, length, refl, sym, ◌∙◌, ap, subst, arith, inl, inr}
+use Rattle.std.proofs.lemmas.Bool.{cases_lt}
 use Rattle.std.proofs.lemmas.List.{length-set, length-replicate}
 use Rattle.bp_free.specs.Set.{Set, has, with, empty, Fills}
 use Rattle.bp_free.proofs.Members.{has_with_same, has_with_other}
@@ -8,15 +8,15 @@ use Rattle.bp_free.proofs.Summary.{has_empty}
 use Rattle.bp_layout.specs.Words.{Image, block_count}
 use Rattle.bp_layout.specs.Tree.{IsSound, IsFull}
 use Rattle.bp_layout.specs.Inode.{kind_of, root_of, size_of, inode_count}
-use Rattle.bp_layout.specs.Checks.{IsFound, Fails, root_place}
+use Rattle.bp_layout.specs.Checks.{IsFound, Fails}
 use Rattle.bp_layout.specs.Checks.IsFound.{inode_file, root_directory}
 use Rattle.bp_layout.specs.Checks.Fails.{inode_file_size}
 use Rattle.bp_walk.specs.Walk.{TakesTree, FailsTree}
-use Rattle.bp_walk.proofs.TakenLaws.{known, clash, take_none}
-use Rattle.bp_scan.specs.Scanned.{IsScanned, HasAllBlocks}
+use Rattle.bp_walk.proofs.TakenLaws.{clash}
+use Rattle.bp_scan.specs.Scanned.{HasAllBlocks}
 use Rattle.bp_scan.specs.Inodes.{EntersInode, FailsInode}
 use Rattle.bp_scan.specs.Reading.{IsOpen, HasInodeFile, IsReading}
-use Rattle.bp_scan.proofs.Entering.{IsInode, enter, fails_tree, nothing_seen, tells_of}
+use Rattle.bp_scan.proofs.Entering.{enter, fails_tree, nothing_seen}
 use Rattle.bp_scan.proofs.Readable.{is_sound, is_full, content_followed}
 use Rattle.bp_scan.proofs.ProgressLaws.{started}
 use Rattle.bp_scan.proofs.Room.{few_inodes}

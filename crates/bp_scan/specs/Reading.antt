@@ -1,5 +1,5 @@
 -- What holds while the trees of an image are read.
-use Rattle.std.specs.Prelude.{length, true, false, ◌≡◌, ◌≢◌, ◌⊎◌, ℕ, ◌+◌, ◌*◌, ◌%◌, ◌<◌, ◌≤◌}
+use Rattle.std.specs.Prelude.{length, true, false, ◌≡◌, ◌⊎◌, ℕ, ◌+◌, ◌*◌, ◌%◌, ◌<◌, ◌≤◌}
 use Rattle.bp_free.specs.Set.{Set, has, members}
 use Rattle.bp_layout.specs.Words.{Image, block_count}
 use Rattle.bp_layout.specs.Inode.{kind_of, root_of, size_of, inode_count}

@@ -2,7 +2,6 @@
 
 ghost use Rattle.std.specs.Prelude.{◌≡◌, ◌+◌, ◌*◌, ◌/◌, ◌<◌, ◌≤◌, length, OnOk, IfErr};
 ghost use Rattle.bp_layout.specs.Checks.{Fails};
-ghost use Rattle.bp_layout.specs.Inode.{kind_of, root_of, size_of};
 ghost use Rattle.bp_layout.specs.Tree.{IsFull, IsSound};
 ghost use Rattle.bp_layout.specs.Words.{block_count};
 ghost use Rattle.bp_scan.specs.Reading.{IsOpen, IsReading, IsAt, IsInside, work};
@@ -22,7 +21,9 @@ use pm_region::Region;
 /// A directory, and its tree.
 #[derive(Clone, Copy)]
 pub(crate) struct Directory {
+    /// Its inode.
     pub inode: u32,
+    /// What the inode says of its tree.
     pub tree: Tree,
 }
 

@@ -1,6 +1,6 @@
 //! What is entered: the inode file, and the trees of inodes.
 
-ghost use Rattle.std.specs.Prelude.{◌≡◌, ◌+◌, ◌*◌, ◌<◌, ◌≤◌, false, length, OnOk, IfErr};
+ghost use Rattle.std.specs.Prelude.{◌≡◌, ◌+◌, ◌<◌, ◌≤◌, false, length, OnOk, IfErr};
 ghost use Rattle.bp_free.specs.Set.{has};
 ghost use Rattle.bp_layout.specs.Checks.{Fails, IsFormatted};
 ghost use Rattle.bp_layout.specs.Inode.{inode_count, root_of, size_of};
@@ -37,7 +37,9 @@ const BLOCK: u64 = 4096;
 struct InodeWords {
     /// The word of the region at which the first stands.
     place: u32,
+    /// 1 for a file, 2 for a directory, where it is right.
     kind: u64,
+    /// Its root word and its size in bytes.
     tree: Tree,
 }
 

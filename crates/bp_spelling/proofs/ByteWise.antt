@@ -1,11 +1,10 @@
 -- What a word's bits say of each of its bytes.
-use Rattle.std.proofs.Common.{◌≡◌, ◌≢◌, ◌⊎◌, ℕ, zero, suc, ◌+◌, ◌-◌, ◌*◌, ◌/◌, ◌%◌, ◌^◌, ◌<◌, ◌≤◌, min, Bool, true, false, ◌==◌, ◌&&◌, ◌||◌, refl, sym, ◌∙◌, ap, ap₂, subst, arith, inl, inr, pow-add, pow-suc, true≢false}
+use Rattle.std.proofs.Common.{◌≡◌, ◌≢◌, ◌⊎◌, ℕ, zero, suc, ◌+◌, ◌*◌, ◌/◌, ◌%◌, ◌^◌, ◌<◌, ◌≤◌, min, Bool, true, false, ◌==◌, ◌&&◌, ◌||◌, refl, sym, ◌∙◌, ap, ap₂, arith, inl, inr, pow-add, pow-suc, true≢false}
 use Rattle.std.specs.Int.Bits.{bit_and, bit_or, bit_xor, xor_zero_r, xor_zero_l, xor_self, xor_assoc}
 use Rattle.std.proofs.Math.Nat.{div-div-eq-div-mul, pow-succ', zero-div, zero-mod}
 use Rattle.std.proofs.lemmas.Bool.{eqb-true, cases_eq}
 use Rattle.std.proofs.lemmas.Nat.{and_le_r, le_or_l, le_or_r, and_mod, or_mod, xor_mod, and_shr, or_shr, xor_shr}
 use Rattle.bp_layout.specs.Words.{byte_of}
-use Rattle.bp_spelling.specs.Places.{IsPlain}
 use Rattle.bp_spelling.proofs.KeyNames.{same_low, same_bytes}
 
 as_bits : (count : ℕ) → 256 ^ count ≡ 2 ^ (8 * count)
@@ -133,8 +132,8 @@ mark-at w o low =
     ∙ ap (λ b. b + 127) (seven o low) in
     xor-byte (bit_and (bit_or (bit_and w 9187201950435737471 + 9187201950435737471) w) 9259542123273814144) 9259542123273814144 o
     ∙ ap₂ bit_xor (
-      and-byte (bit_or (bit_and w 9187201950435737471 + 9187201950435737471) w) 9259542123273814144 o
-      ∙ ap₂ bit_and (or-byte (bit_and w 9187201950435737471 + 9187201950435737471) w o ∙ ap (λ s. bit_or s (byte_of w o)) sum) (each_128 o low)) (each_128 o low)
+    and-byte (bit_or (bit_and w 9187201950435737471 + 9187201950435737471) w) 9259542123273814144 o
+    ∙ ap₂ bit_and (or-byte (bit_and w 9187201950435737471 + 9187201950435737471) w o ∙ ap (λ s. bit_or s (byte_of w o)) sum) (each_128 o low)) (each_128 o low)
 
 pub mark-some : (w o : ℕ) → o < 8 → byte_of w o ≢ 0 → byte_of (marks w) o ≡ 0
 mark-some w o low some = mark-at w o low ∙ marked (byte_of w o) (omega arith) some

@@ -1,5 +1,5 @@
 -- The form of a name, told by its words.
-use Rattle.std.proofs.Common.{◌≡◌, ◌≢◌, ◌⊎◌, ℕ, ◌+◌, ◌-◌, ◌*◌, ◌/◌, ◌%◌, ◌<◌, ◌≤◌, min, [], ◌∷◌, length, map, slice_index, slice_index_or, refl, sym, ◌∙◌, ap, ap₂, subst, arith, inl, inr, zero, suc, ◌^◌, pow-add, pow-suc}
+use Rattle.std.proofs.Common.{◌≡◌, ◌≢◌, ◌⊎◌, ℕ, ◌+◌, ◌-◌, ◌*◌, ◌/◌, ◌%◌, ◌<◌, ◌≤◌, min, [], ◌∷◌, length, map, slice_index, slice_index_or, refl, sym, ◌∙◌, ap, ap₂, subst, arith, inl, inr}
 use Rattle.std.specs.List.{range_with_len}
 use Rattle.std.proofs.lemmas.Bool.{cases_lt}
 use Rattle.bp_layout.specs.Words.{Image, word, byte_of}

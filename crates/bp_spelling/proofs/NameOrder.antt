@@ -1,5 +1,5 @@
 -- Entries in the order of their names: equal names are neighbours.
-use Rattle.std.proofs.Common.{◌≡◌, ℕ, suc, ◌+◌, ◌-◌, ◌<◌, List, ◌∷◌, length, false, slice_index, refl, sym, ◌∙◌, ap, arith, true≢false, Less, Equal, Greater, is_lt}
+use Rattle.std.proofs.Common.{◌≡◌, ℕ, zero, suc, ◌+◌, ◌-◌, ◌*◌, ◌%◌, ◌^◌, ◌<◌, ◌≤◌, min, List, ◌∷◌, length, false, slice_index, refl, sym, ◌∙◌, ap, ap₂, arith, true≢false, Less, Equal, Greater, is_lt}
 use Rattle.std.specs.declared.cmp.Ordering.{Ordering}
 use Rattle.std.specs.Ordering.{nat_cmp, ordering_then, ordering_reverse}
 use Rattle.std.specs.Cmp.{nat_cmp_is}
@@ -8,8 +8,8 @@ use Rattle.std.specs.FinMap.{nat_cmp-IsAntisymmetric, slice_cmp-IsAntisymmetric}
 use Rattle.std.specs.List.Sorted.{IsSortedBy}
 use Rattle.std.proofs.lemmas.Cmp.{nat_list_cmp_total}
 use Rattle.std.proofs.lemmas.List.Sorted.{ranks_by, sorted_far}
-use Rattle.bp_layout.specs.Words.{Image}
-use Rattle.bp_spelling.specs.Places.{key_word, keys, name_key, name_cmp, name_lt, AreApart}
+use Rattle.bp_layout.specs.Words.{Image, word}
+use Rattle.bp_spelling.specs.Places.{key_word, keys, rest_cmp, name_key, name_cmp, name_lt, AreApart}
 
 keys-next : (image : Image) (p k n : ℕ) → keys image p k (suc n) ≡ key_word image p k ∷ keys image p (k + 1) n
 unfolding keys
@@ -18,10 +18,6 @@ keys-next image p k n = refl
 name_key-is : (image : Image) (p : ℕ) → name_key image p ≡ keys image p 0 31
 unfolding name_key
 name_key-is image p = refl
-
--- the order of two entries' words from one on
-abbrev pub rest_cmp : Image → ℕ → ℕ → ℕ → Ordering
-rest_cmp image a b k = slice_cmp nat_cmp (keys image a k (31 - k)) (keys image b k (31 - k))
 
 cmp_next : (image : Image) (a b k : ℕ) → k < 31 →
     rest_cmp image a b k ≡ ordering_then (nat_cmp (key_word image a k) (key_word image b k)) (rest_cmp image a b (k + 1))
@@ -43,6 +39,34 @@ cmp_greater image a b k low less = cmp_step image a b k Greater low (nat_cmp_is 
 
 pub cmp_equal : (image : Image) (a b k : ℕ) → k < 31 → key_word image a k ≡ key_word image b k → rest_cmp image a b k ≡ rest_cmp image a b (k + 1)
 cmp_equal image a b k low same = cmp_step image a b k Equal low (nat_cmp_is _ _ Equal same)
+
+key_word-later : (image : Image) (place k : ℕ) → 1 ≤ k → key_word image place k ≡ word image (place + 1 + k) % 256 ^ min 8 (word image (place + 1) - 8 * (k - 1))
+key_word-later image place zero some = absurd (omega (arith, some))
+key_word-later image place (suc part) some =
+    let back : part ≡ suc part - 1 = omega arith in
+    ap (λ n. word image (place + 1 + suc part) % 256 ^ min 8 (word image (place + 1) - 8 * n)) back
+
+-- the order of the words behind the length, in names that are as long
+module _ (image : Image) (a b k count : ℕ) (some : 1 ≤ k) (low : k < 31) (first : word image (a + 1) ≡ count) (second : word image (b + 1) ≡ count) where
+  part_cmp : (o : Ordering) → o ≡ nat_cmp (word image (a + 1 + k) % 256 ^ min 8 (count - 8 * (k - 1))) (word image (b + 1 + k) % 256 ^ min 8 (count - 8 * (k - 1))) →
+      rest_cmp image a b k ≡ ordering_then o (rest_cmp image a b (k + 1))
+  part_cmp o is =
+      cmp_step image a b k o low (is ∙ ap₂ nat_cmp
+      (ap (λ n. word image (a + 1 + k) % 256 ^ min 8 (n - 8 * (k - 1))) (sym first) ∙ sym (key_word-later image a k some))
+      (ap (λ n. word image (b + 1 + k) % 256 ^ min 8 (n - 8 * (k - 1))) (sym second) ∙ sym (key_word-later image b k some)))
+
+  pub part_equal : Equal ≡ nat_cmp (word image (a + 1 + k) % 256 ^ min 8 (count - 8 * (k - 1))) (word image (b + 1 + k) % 256 ^ min 8 (count - 8 * (k - 1))) →
+      rest_cmp image a b k ≡ rest_cmp image a b (k + 1)
+  part_equal is = part_cmp Equal is
+
+  pub part_differs : (o : Ordering) → (o ≡ Equal → ⊥) → o ≡ nat_cmp (word image (a + 1 + k) % 256 ^ min 8 (count - 8 * (k - 1))) (word image (b + 1 + k) % 256 ^ min 8 (count - 8 * (k - 1))) →
+      rest_cmp image a b k ≡ o
+  part_differs o other is = part_cmp o is ∙ settled o other
+    where
+      settled : (p : Ordering) → (p ≡ Equal → ⊥) → ordering_then p (rest_cmp image a b (k + 1)) ≡ p
+      settled Less differ = refl
+      settled Equal differ = absurd (differ refl)
+      settled Greater differ = refl
 
 pub cmp_end : (image : Image) (a b k : ℕ) → k ≡ 31 → rest_cmp image a b k ≡ Equal
 unfolding keys

@@ -12,7 +12,7 @@ use Rattle.bp_spelling.specs.Names.{IsUsed, entry_place_in}
 abbrev pub name_there : Image → ℕ → Name
 name_there image place = map (λ o. byte_of (word image (place + 2 + o / 8)) (o % 8)) (range_with_len 0 (word image (place + 1)))
 
--- none of so many bytes from a word on is 0 or `/`
+-- a byte that is neither 0 nor `/`, and so many such bytes from a word on
 abbrev pub IsPlain : ℕ → Type 0
 IsPlain byte = (byte ≢ 0) × (byte ≢ 47)
 
@@ -49,6 +49,10 @@ keys image place part count = map (key_word image place) (range_with_len part co
 -- all words of the name
 unfoldable pub name_key : Image → ℕ → List ℕ
 name_key image place = keys image place 0 31
+
+-- the order of two names' words from one on, and of the names
+abbrev pub rest_cmp : Image → ℕ → ℕ → ℕ → Ordering
+rest_cmp image a b part = slice_cmp nat_cmp (keys image a part (31 - part)) (keys image b part (31 - part))
 
 abbrev pub name_cmp : Image → ℕ → ℕ → Ordering
 name_cmp image a b = slice_cmp nat_cmp (name_key image a) (name_key image b)

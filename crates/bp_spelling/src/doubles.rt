@@ -1,29 +1,45 @@
 //! Whether two entries of a directory have one name.
 
-ghost use Rattle.std.specs.Prelude.{◌≡◌, IsPermutation, MatchOption};
+ghost use Rattle.std.specs.Prelude.{◌≡◌, ◌+◌, IsPermutation, MatchOption};
 ghost use Rattle.std.specs.List.Sorted.{IsSortedBy};
-ghost use Rattle.bp_spelling.specs.Places.{name_cmp, name_lt, AreApart, IsDouble};
+ghost use Rattle.bp_layout.specs.Words.{word};
+ghost use Rattle.bp_spelling.specs.Places.{rest_cmp, name_cmp, name_lt, AreApart, IsDouble};
 ghost use Rattle.pm_region.specs.Memory.{current_words};
 
-use crate::name_words::name_word;
+use crate::name_words::{compare_words, word_at};
 use pm_region::Region;
 use std::cmp::Ordering;
 
-/// Compares the names of the entries at two places.
-fn compare_names<R: Region>(region: &R, a: u32, b: u32) -> Ordering
-    ensures { result ≡ name_cmp (current_words (R.memory region.now)) a b }
+/// Compares the bytes of the names of the entries at two places, which have as many.
+fn compare_bytes<R: Region>(region: &R, a: u32, b: u32, count: u64) -> Ordering
+    requires first { word (current_words (R.memory region.now)) (a + 1) ≡ count }
+    requires second { word (current_words (R.memory region.now)) (b + 1) ≡ count }
+    ensures { result ≡ rest_cmp (current_words (R.memory region.now)) a b 1 }
 {
-    for part in 0..31u32 {
-        let x = name_word(region, a, part);
-        let y = name_word(region, b, part);
-        if x < y {
-            return Ordering::Less;
-        }
-        if y < x {
-            return Ordering::Greater;
+    for part in 1..31u64 {
+        let x = word_at(region, a as u64 + 1 + part);
+        let y = word_at(region, b as u64 + 1 + part);
+        match compare_words(x, y, count.saturating_sub(8 * (part - 1))) {
+            Ordering::Equal => {}
+            unequal => return unequal,
         }
     }
     Ordering::Equal
+}
+
+/// Compares the names of the entries at two places: the shorter one comes first.
+fn compare_names<R: Region>(region: &R, a: u32, b: u32) -> Ordering
+    ensures { result ≡ name_cmp (current_words (R.memory region.now)) a b }
+{
+    let count = word_at(region, a as u64 + 1);
+    let other = word_at(region, b as u64 + 1);
+    if count < other {
+        return Ordering::Less;
+    }
+    if other < count {
+        return Ordering::Greater;
+    }
+    compare_bytes(region, a, b, count)
 }
 
 fn sort_by_name<R: Region>(region: &R, places: &mut [u32])

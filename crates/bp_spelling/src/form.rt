@@ -10,11 +10,11 @@ use crate::name_words::low_bytes;
 use bp_layout::limits::MAX_NAME;
 use pm_region::Region;
 
-/// A word whose bytes are 0 but for those that stand where a byte of this word is 0.
+/// A word whose bytes are 0, except where a byte of the given word is 0.
 fn zero_marks(word: u64) -> u64
     ensures { (o : ℕ) → o < 8 → (byte_of result o ≡ 0) ↔ (byte_of word o ≢ 0) }
 {
-    // The highest bit of a byte of these sums is set where one of its other bits was. No sum carries into the next byte.
+    // A byte's highest bit is set in the sums where one of its lower seven bits was. No sum carries into the next byte.
     let sums = (word & 0x7f7f_7f7f_7f7f_7f7f) + 0x7f7f_7f7f_7f7f_7f7f;
     ((sums | word) & 0x8080_8080_8080_8080) ^ 0x8080_8080_8080_8080
 }

@@ -1,4 +1,4 @@
-use Rattle.std.proofs.Common.{◌≡◌, ◌*◌, ◌/◌, ◌≤◌, length, arith}
+use Rattle.std.proofs.Common.{◌*◌, ◌/◌, ◌≤◌, arith}
 use Rattle.bp_layout.specs.Words.{block_count}
 use Rattle.pm_region.specs.Memory.{current_words}
 use Rattle.bp_walk.proofs.Pointers.{on_ok_then}

@@ -1,4 +1,4 @@
-use Rattle.std.proofs.Common.{rules, length, ◌≡◌, ◌≢◌, ◌+◌, ◌/◌, ◌<◌, ◌≤◌, false, true, sym, ◌∙◌, ap, subst, arith}
+use Rattle.std.proofs.Common.{rules, length, ◌/◌, ◌<◌, ◌≤◌, sym, ◌∙◌, subst, arith}
 use Rattle.pm_region.specs.Memory.{current_words}
 use Rattle.bp_walk.proofs.Pointers.{on_ok_then}
 use Rattle.bp_scan.proofs.InodeFaults.{err_then}
@@ -39,13 +39,11 @@ overflow_cast-inode g c =
     let small : c.inumber-named.result < 4294967296 = omega (arith, low, rooms) in
     search (rules, small)
 
-
 pub is_free-requires : goal.is_free-requires
 is_free-requires g c =
     let image = current_words (g.R.Region.memory c.args.region.now) in
     in_room image c.requires.ready c.args.blocks.now c.args.inodes.now c.args.todo.now c.args.directory c.args.slot c.requires.inside c.requires.live c.inumber-named.result c.inumber-named.ensures c.if-named-eq0.false
     (subst (λ x. c.inumber-named.result < x / 64) c.inode_file.ensures.size c.if-named-inode_file.false)
-
 
 pub returns-then-not-is_free-clause-fault : goal.returns-then-not-is_free-clause-fault
 returns-then-not-is_free-clause-fault g c =
@@ -67,13 +65,11 @@ returns-clause-inside g c =
     on_ok_then c.enter.result (λ enters. now_inside image c.requires.ready c.args.blocks.now c.args.inodes.now c.args.todo.now c.args.directory c.args.slot c.requires.inside c.requires.live c.inumber-named.result c.inumber-named.ensures c.if-named-eq0.false
     (subst (λ x. c.inumber-named.result < x / 64) c.inode_file.ensures.size c.if-named-inode_file.false) (sym c.is_free.ensures ∙ c.if-not-is_free.false) _ c.enter.new.todo enters c.claim.new.self c.claim.ensures) c.enter.ensures.ok
 
-
 pub returns-clause-work : goal.returns-clause-work
 returns-clause-work g c =
     let image = current_words (g.R.Region.memory c.args.region.now) in
     on_ok_then c.enter.result (λ enters. now_less image c.requires.ready c.args.blocks.now c.args.inodes.now c.args.todo.now c.args.directory c.args.slot c.requires.inside c.requires.live c.inumber-named.result c.inumber-named.ensures c.if-named-eq0.false
     (subst (λ x. c.inumber-named.result < x / 64) c.inode_file.ensures.size c.if-named-inode_file.false) (sym c.is_free.ensures ∙ c.if-not-is_free.false) _ c.enter.new.todo enters c.claim.new.self c.claim.ensures) c.enter.ensures.ok
-
 
 pub returns-clause-fault : goal.returns-clause-fault
 returns-clause-fault g c =

@@ -1,5 +1,3 @@
-use Rattle.std.proofs.Common.{◌≡◌, ◌<◌, ◌≤◌, false}
-use Rattle.bp_free.specs.Set.{has}
 use Rattle.pm_region.specs.Memory.{current_words}
 use Rattle.bp_scan.proofs.Closing.{on_ok_both, all_well_formed, all_free_blocks, all_free_inodes, all_reached}
 use Rattle.bp_scan.proofs.reading.read_with.Goals as goal

@@ -67,4 +67,3 @@ returns-clause-fault g c =
     all_blocks image c.args.blocks.now c.fill.new.self c.room-room.result (omega (arith, c.requires.formatted.at_least)) c.requires.no_blocks c.room-room.ensures c.fill.ensures in
     err_then c.enter.result (λ f fails.
     root_fails image c.in_default.ensures.ready c.fill.new.self c.enter_inode_file.new.blocks whole c.in_default.ensures.entered f.check f.place fails) c.enter.ensures.err
-

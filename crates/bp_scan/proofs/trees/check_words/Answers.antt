@@ -1,4 +1,4 @@
-use Rattle.std.proofs.Common.{◌≡◌, ◌≢◌, arith}
+use Rattle.std.proofs.Common.{◌≡◌, arith}
 use Rattle.bp_scan.specs.Inodes.IsWrong.{no_kind, root_file, part_of_entry}
 use Rattle.bp_scan.proofs.trees.check_words.Goals as goal
 

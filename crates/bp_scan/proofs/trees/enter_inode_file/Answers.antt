@@ -1,4 +1,3 @@
-use Rattle.std.proofs.Common.{◌≡◌, ◌≤◌, arith}
 use Rattle.pm_region.specs.Memory.{current_words}
 use Rattle.bp_walk.proofs.Pointers.{on_ok_then}
 use Rattle.bp_scan.proofs.InodeFaults.{err_then}

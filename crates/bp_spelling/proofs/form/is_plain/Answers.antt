@@ -1,4 +1,4 @@
-use Rattle.std.proofs.Common.{◌≡◌, ◌%◌, ◌^◌, min, sym, ◌∙◌, ap, arith, eq-eqb, bit_or}
+use Rattle.std.proofs.Common.{◌≡◌, ◌%◌, ◌^◌, min, sym, ◌∙◌, arith, eq-eqb, bit_or}
 use Rattle.std.proofs.lemmas.Bool.{eqb-true}
 use Rattle.bp_spelling.proofs.ByteWise.{none_marked, first_unmarked, second_unmarked, turned-other, other-turned}
 use Rattle.bp_spelling.proofs.form.is_plain.Goals as goal

@@ -1,4 +1,4 @@
-use Rattle.std.proofs.Common.{◌≡◌, ◌/◌, length, refl, ap, arith, lit≤}
+use Rattle.std.proofs.Common.{◌≡◌, length, refl, ap, arith, lit≤}
 use Rattle.std.proofs.Math.Seq.{take-append_seam}
 use Rattle.bp_layout.proofs.SmallTrees.{leaf_sound, leaf_full}
 use Rattle.bp_spelling.proofs.tests.sample.Goals as goal

@@ -1,0 +1,209 @@
+-- What a preparation keeps: inodes, entries, blocks, and what is free.
+use Rattle.std.proofs.Common.{◌≡◌, ◌⊎◌, ℕ, zero, suc, ◌<◌, Bool, true, false, ◌==◌, set, Some, refl, sym, ◌∙◌, ap, arith, inl, inr}
+use Rattle.std.proofs.lemmas.Bool.{cases_eq, eqb-false}
+use Rattle.bp_layout.specs.Words.{Image}
+use Rattle.bp_layout.specs.Tree.{HasBlock}
+use Rattle.bp_layout.specs.Inode.{kind_of, root_of, size_of}
+use Rattle.bp_layout.specs.Directory.{Name, EntryNames, inumber_at, entry_count, is_named, slot_named, empty_slot}
+use Rattle.bp_layout.specs.Reached.{IsReached, IsLiveBlock, IsFreeBlock}
+use Rattle.bp_layout.specs.Reached.IsReached.{inode_file, root_directory, named}
+use Rattle.bp_layout.specs.WellFormed.{IsWellFormed}
+use Rattle.bp_layout.specs.Free.{IsFreeInode}
+use Rattle.bp_layout.specs.Harmless.{Agrees, RootPlace}
+use Rattle.bp_layout.specs.Lookup.{Path, lookup}
+use Rattle.bp_layout.specs.Same.{Same}
+use Rattle.bp_layout.specs.SameContent.{ReadsAs, IsReadByWords}
+use Rattle.bp_layout.specs.SameMeaning.{SameMeaning}
+use Rattle.bp_layout.proofs.TreeLaws.{has_block-stays, has_block-kept}
+use Rattle.bp_layout.proofs.SmallTrees.{empty_has_none}
+use Rattle.bp_layout.proofs.Finding.{find-same}
+use Rattle.bp_layout.proofs.View.{SameDirectories, lookup_from-same}
+use Rattle.bp_layout.proofs.SameMeaning.{view-same, reached-back, well_formed-same, same-by_meaning}
+use Rattle.bp_layout.proofs.Frame as frame
+use Rattle.bp_layout.proofs.Reshape as reshape
+use Rattle.bp_layout.proofs.Reshape.{Reshapes}
+use Rattle.bp_layout.proofs.RootLink.{root_reshapes}
+use Rattle.bp_layout.proofs.Roots.{empty_reads}
+use Rattle.bp_calls.proofs.EnteredLaws.{KeepsBlocks}
+
+-- The second image means the same, with the same blocks and as many inodes. Words that nobody reads may be others.
+pub record IsPrepared (old new : Image) : Type 0 where
+  pub meaning : SameMeaning old new
+  pub blocks : KeepsBlocks old new
+  pub inode_bytes : size_of new 0 ≡ size_of old 0
+
+-- ---- when an image is prepared
+
+pub agrees_prepared : (old new : Image) → IsWellFormed old → Agrees old new → IsPrepared old new
+agrees_prepared old new wf agrees = record {
+  meaning = frame.meaning-same old new wf agrees;
+  blocks = record {
+    back = λ t b reached has. frame.has_block-back old new wf agrees t b reached has;
+    stay = λ t b reached has. frame.at_old old new wf agrees (λ r s. HasBlock new r s b) t reached
+        (has_block-stays old new (root_of old t) (size_of old t) (frame.keeps old new wf agrees t reached) b has);
+  };
+  inode_bytes = frame.size-same old new wf agrees 0 inode_file;
+}
+
+-- the root word of a tree without bytes may be any
+pub root_prepared : (old : Image) → IsWellFormed old → (t place other : ℕ) → IsReached old t → size_of old t ≡ 0 → RootPlace old t place → IsPrepared old (set old place other)
+root_prepared old wf t place other reached empty at = record {
+  meaning = reshape.reshaped_meaning old (set old place other) wf t other reshapes;
+  blocks = record {
+    back = λ u b r has. back u b r (cases_eq u t) has;
+    stay = λ u b r has. stay u b r (cases_eq u t) has;
+  };
+  inode_bytes = reshapes.inode_bytes;
+}
+  where
+    reads : ReadsAs (IsReadByWords old t) old (size_of old t) (root_of old t) other
+    reads = rw empty (empty_reads (IsReadByWords old t) old (root_of old t) other)
+
+    reshapes : Reshapes old (set old place other) t other
+    reshapes = root_reshapes old wf t place other reached at reads
+
+    no_bytes : (u : ℕ) → IsReached old u → u ≡ t → size_of (set old place other) u ≡ 0
+    no_bytes u r e = reshape.size-same old (set old place other) wf t other reshapes u r ∙ ap (size_of old) e ∙ empty
+
+    back : (u b : ℕ) → IsReached old u → (u ≡ t) ⊎ (u ≡ t → ⊥) → HasBlock (set old place other) (root_of (set old place other) u) (size_of (set old place other) u) b → HasBlock old (root_of old u) (size_of old u) b
+    back u b r (inl e) has = absurd (empty_has_none (set old place other) (root_of (set old place other) u) b (rw (no_bytes u r e) at has))
+    back u b r (inr apart) has =
+        has_block-kept old (set old place other) (root_of old u) (size_of old u) (reshape.keeps old (set old place other) wf t other reshapes u r apart) b
+        (rw (reshape.root-same old (set old place other) wf t other reshapes u r apart, reshape.size-same old (set old place other) wf t other reshapes u r) at has)
+
+    stay : (u b : ℕ) → IsReached old u → (u ≡ t) ⊎ (u ≡ t → ⊥) → HasBlock old (root_of old u) (size_of old u) b → HasBlock (set old place other) (root_of (set old place other) u) (size_of (set old place other) u) b
+    stay u b r (inl e) has = absurd (empty_has_none old (root_of old u) b (rw (ap (size_of old) e ∙ empty) at has))
+    stay u b r (inr apart) has =
+        rw (reshape.root-same old (set old place other) wf t other reshapes u r apart, reshape.size-same old (set old place other) wf t other reshapes u r)
+        (has_block-stays old (set old place other) (root_of old u) (size_of old u) (reshape.keeps old (set old place other) wf t other reshapes u r apart) b has)
+
+-- ---- what stays
+
+module _ (old new : Image) (wf : IsWellFormed old) (prepared : IsPrepared old new) where
+  pub prepared_well_formed : IsWellFormed new
+  prepared_well_formed = well_formed-same old new wf prepared.meaning
+
+  pub prepared_same : Same old new
+  prepared_same = same-by_meaning old new wf prepared.meaning
+
+  alike : SameDirectories old new
+  alike = (view-same old new wf prepared.meaning).directories
+
+  pub kind_after : (i : ℕ) → IsReached old i → kind_of new i ≡ kind_of old i
+  kind_after = prepared.meaning.kind
+
+  pub size_after : (i : ℕ) → IsReached old i → size_of new i ≡ size_of old i
+  size_after zero reached = prepared.inode_bytes
+  size_after (suc i) reached = prepared.meaning.size i reached
+
+  pub names_after : (i s j : ℕ) → IsReached old i → EntryNames old i s j → EntryNames new i s j
+  names_after i s j reached n = record {
+    directory = kind_after i reached ∙ n.directory;
+    in_size = rw (size_after i reached) n.in_size;
+    inumber = prepared.meaning.inumber i s reached n.directory n.in_size ∙ n.inumber;
+    not_empty = n.not_empty;
+  }
+
+  pub reached_after : (t : ℕ) → IsReached old t → IsReached new t
+  reached_after _ inode_file = inode_file
+  reached_after _ root_directory = root_directory
+  reached_after _ (named {i} {j} slot r n) = named slot (reached_after i r) (names_after i slot j r n)
+
+  pub reached_before : (t : ℕ) → IsReached new t → IsReached old t
+  reached_before = reached-back old new wf prepared.meaning
+
+  -- ---- what is free
+
+  pub live_before_too : (b : ℕ) → IsLiveBlock new b → IsLiveBlock old b
+  live_before_too b live = record { tree = live.tree; reached = reached_before live.tree live.reached; has = prepared.blocks.back live.tree b (reached_before live.tree live.reached) live.has }
+
+  pub live_after : (b : ℕ) → IsLiveBlock old b → IsLiveBlock new b
+  live_after b live = record { tree = live.tree; reached = reached_after live.tree live.reached; has = prepared.blocks.stay live.tree b live.reached live.has }
+
+  pub free_block_after : (b : ℕ) → IsFreeBlock old b → IsFreeBlock new b
+  free_block_after b free = record { low = free.low; high = rw prepared.meaning.whole free.high; free = λ live. free.free (live_before_too b live) }
+
+  pub free_inode_after : (j : ℕ) → IsFreeInode old j → IsFreeInode new j
+  free_inode_after j free = record { low = free.low; high = rw prepared.inode_bytes free.high; free = λ reached. free.free (reached_before j reached) }
+
+  -- ---- slots
+
+  is_named_after : (i slot : ℕ) (name : Name) → IsReached old i → kind_of old i ≡ 2 → slot < entry_count old i → is_named new i name slot ≡ is_named old i name slot
+  is_named_after i slot name reached kind in_size = go (inumber_at old i slot == 0) refl
+    where
+      go : (b : Bool) → (inumber_at old i slot == 0) ≡ b → is_named new i name slot ≡ is_named old i name slot
+      go true at = rw (alike.inumber i slot reached kind in_size, at) refl
+      go false at =
+          let entry : EntryNames old i slot (inumber_at old i slot) = record { directory = kind; in_size = in_size; inumber = refl; not_empty = eqb-false _ _ at } in
+          rw (alike.inumber i slot reached kind in_size, at, alike.name i slot (inumber_at old i slot) reached entry) refl
+
+  pub slot_named_after : (i : ℕ) (name : Name) → IsReached old i → kind_of old i ≡ 2 → slot_named new i name ≡ slot_named old i name
+  slot_named_after i name reached kind =
+      rw (size_after i reached)
+      (find-same (is_named new i name) (is_named old i name) 0 (entry_count old i) (λ k low high. is_named_after i k name reached kind (omega (arith, high))))
+
+  pub empty_slot_after : (i : ℕ) → IsReached old i → kind_of old i ≡ 2 → empty_slot new i ≡ empty_slot old i
+  empty_slot_after i reached kind =
+      rw (size_after i reached)
+      (find-same (λ slot. inumber_at new i slot == 0) (λ slot. inumber_at old i slot == 0) 0 (entry_count old i)
+      (λ k low high. ap (λ n. n == 0) (alike.inumber i k reached kind (omega (arith, high)))))
+
+  -- ---- paths
+
+  pub lookup_after : (here : Path) (i : ℕ) → lookup old here ≡ Some i → lookup new here ≡ Some i
+  lookup_after here i found = lookup_from-same old new alike 1 here root_directory ∙ found
+
+  pub lookup_before : (here : Path) (i : ℕ) → lookup new here ≡ Some i → lookup old here ≡ Some i
+  lookup_before here i found = sym (lookup_from-same old new alike 1 here root_directory) ∙ found
+
+-- ---- one preparation after another
+
+pub prepared_self : (image : Image) → IsWellFormed image → IsPrepared image image
+prepared_self image wf = record {
+  meaning = record {
+    whole = refl;
+    marked = refl;
+    counted = refl;
+    kind = λ t r. refl;
+    size = λ i r. refl;
+    inode_blocks = wf.inode_blocks;
+    inodes = omega arith;
+    inumber = λ i s r kind low. refl;
+    entry = λ i s j f r n low. refl;
+    bytes = λ i o r kind low. refl;
+    sound = wf.sound;
+    apart = wf.apart;
+    full_inode_file = wf.full_inode_file;
+    full_directories = wf.full_directories;
+  };
+  blocks = record { back = λ t b r has. has; stay = λ t b r has. has };
+  inode_bytes = refl;
+}
+
+pub prepared_on : (first second third : Image) → IsWellFormed first → IsPrepared first second → IsPrepared second third → IsPrepared first third
+prepared_on first second third wf one two = record {
+  meaning = record {
+    whole = two.meaning.whole ∙ one.meaning.whole;
+    marked = two.meaning.marked ∙ one.meaning.marked;
+    counted = two.meaning.counted ∙ one.meaning.counted;
+    kind = λ t r. two.meaning.kind t (on t r) ∙ one.meaning.kind t r;
+    size = λ i r. two.meaning.size i (on (suc i) r) ∙ one.meaning.size i r;
+    inode_blocks = two.meaning.inode_blocks;
+    inodes = omega (arith, one.meaning.inodes, two.meaning.inodes);
+    inumber = λ i s r kind low. two.meaning.inumber i s (on i r) (one.meaning.kind i r ∙ kind) (rw (size_after first second wf one i r) low) ∙ one.meaning.inumber i s r kind low;
+    entry = λ i s j f r n few. two.meaning.entry i s j f (on i r) (names_after first second wf one i s j r n) few ∙ one.meaning.entry i s j f r n few;
+    bytes = λ i o r kind low. two.meaning.bytes i o (on i r) (one.meaning.kind i r ∙ kind) (rw (size_after first second wf one i r) low) ∙ one.meaning.bytes i o r kind low;
+    sound = λ t r. two.meaning.sound t (on t r);
+    apart = λ t u b r q has also. two.meaning.apart t u b (on t r) (on u q) has also;
+    full_inode_file = two.meaning.full_inode_file;
+    full_directories = λ i r kind. two.meaning.full_directories i (on i r) (one.meaning.kind i r ∙ kind);
+  };
+  blocks = record {
+    back = λ t b r has. one.blocks.back t b r (two.blocks.back t b (on t r) has);
+    stay = λ t b r has. two.blocks.stay t b (on t r) (one.blocks.stay t b r has);
+  };
+  inode_bytes = two.inode_bytes ∙ one.inode_bytes;
+}
+  where
+    on : (t : ℕ) → IsReached first t → IsReached second t
+    on = reached_after first second wf one

@@ -1,0 +1,148 @@
+-- A new inode, an entry behind the last one of a leaf that is not full, and then the directory's size.
+use Rattle.std.proofs.Common.{◌≡◌, ◌≢◌, ℕ, ◌+◌, ◌-◌, ◌*◌, ◌/◌, ◌%◌, ◌<◌, ◌≤◌, List, length, set, refl, sym, ◌∙◌, ap, subst, arith}
+use Rattle.bp_calls.specs.Entered.{IsNewInode, IsReadyBehind}
+use Rattle.bp_calls.specs.Sets.{AreExact}
+use Rattle.bp_calls.specs.Spare.{IsUnread}
+use Rattle.bp_calls.specs.Spare.IsUnread.{spare}
+use Rattle.bp_calls.specs.Steps.{CanName, EntersName}
+use Rattle.bp_calls.specs.Written.{HasInodeAt, HasNameAt, IsWithin}
+use Rattle.bp_free.specs.Set.{Set, without}
+use Rattle.bp_layout.specs.Directory.{Name, entry_count, inumber_at, inumber_in, name_in, slot_named}
+use Rattle.bp_layout.specs.Fields.{kind_word}
+use Rattle.bp_layout.specs.Harmless.{ContentStandsAt}
+use Rattle.bp_layout.specs.Inode.{kind_of, root_of, size_of, inode_count}
+use Rattle.bp_layout.specs.Reached.{IsReached}
+use Rattle.bp_layout.specs.Reached.IsReached.{inode_file}
+use Rattle.bp_layout.specs.Same.{Same}
+use Rattle.bp_layout.specs.WellFormed.{IsWellFormed}
+use Rattle.bp_layout.specs.Words.{Image, word}
+use Rattle.bp_layout.specs.declared.fields.Kind.{Kind}
+use Rattle.bp_layout.proofs.Frame.{reached-in_file}
+use Rattle.pm_epochs.specs.Crash.{commit}
+use Rattle.pm_epochs.specs.May.{AnyAt, EachMay}
+use Rattle.pm_region.specs.Memory.{Memory, current_words, Adds}
+use Rattle.pm_region.specs.Safe.{AddsMay, AddsCommit}
+use Rattle.pm_region.proofs.MayLaws.{may_twice, may_weaker, each_after, commit_stores}
+use Rattle.pm_region.proofs.MemoryLaws.{current_words-adds}
+use Rattle.bp_calls.proofs.AfterLaws.{prepared_well_formed, prepared_same, kind_after, size_after, reached_after, slot_named_after}
+use Rattle.bp_calls.proofs.BehindLaws.{ready_behind, behind_in_leaf}
+use Rattle.bp_calls.proofs.EnteredLaws.{Enters}
+use Rattle.bp_calls.proofs.GrownLaws.{grown}
+use Rattle.bp_calls.proofs.InSlot.{inode_unread}
+use Rattle.bp_calls.proofs.ReadBack.{equivalence, name_read, inode_stays, new_inode, name_entered}
+use Rattle.bp_calls.proofs.SetLaws.{exact_prepared, exact_grown_in_leaf}
+use Rattle.bp_calls.proofs.Spares.{no_inode_file, row_stands, one_content, spare_behind}
+use Rattle.bp_calls.proofs.Trees.{SameTrees, word_kept, stands_kept}
+use Rattle.bp_calls.proofs.Unread.{unread_trees}
+
+module _ (first second third last : Memory) (i j at entry place : ℕ) (name : Name) (kind : Kind) (can : CanName (current_words first) i j name) (part : size_of (current_words first) i % 4096 ≢ 0)
+    (inode_at : ContentStandsAt (current_words first) 0 (8 * j + 0) at) (entry_at : ContentStandsAt (current_words first) i (32 * (size_of (current_words first) i / 256)) entry)
+    (size_at : ContentStandsAt (current_words first) 0 (8 * i + 2) place)
+    (fills : AddsMay (AnyAt (IsWithin at 3)) 0 3 first second) (inode : HasInodeAt (current_words second) at (kind_word kind))
+    (entry_stores : AddsMay (AnyAt (IsWithin entry 32)) 0 32 second third) (inumber : word (current_words third) entry ≡ j) (named : HasNameAt (current_words third) entry name)
+    (commits : Adds third last (commit place (size_of (current_words first) i + 256))) where
+  abbrev image : Image
+  image = current_words first
+
+  abbrev mid : Image
+  mid = current_words third
+
+  abbrev slot : ℕ
+  slot = size_of image i / 256
+
+  wf : IsWellFormed image
+  wf = can.lacks.well_formed
+
+  reached : IsReached image i
+  reached = can.lacks.reached
+
+  not_file : i ≢ 0
+  not_file = no_inode_file image i 2 can.lacks.directory (omega arith)
+
+  entries : size_of image i % 256 ≡ 0
+  entries = wf.directory_sizes i reached can.lacks.directory
+
+  leaf : (f : ℕ) → f < 32 → 4096 * ((32 * slot + f) / 512) < size_of image i
+  leaf f few = omega (arith, part, entries, few)
+
+  word_stands : (f p : ℕ) → f < 32 → p ≡ entry + f → ContentStandsAt image i (32 * slot + f) p
+  word_stands f p few e = row_stands image i (32 * slot) f (32 * slot + f) entry p refl e (omega (arith, few)) entry_at
+
+  entry_unread : (p v : ℕ) → AnyAt (IsWithin entry 32) p v → AnyAt (IsUnread image i) p v
+  entry_unread p v inside =
+      let low : entry ≤ p = inside.low in
+      let high : p < entry + 32 = inside.high in
+      let f : ℕ = p - entry in
+      spare (spare_behind image wf i (32 * slot + f) p reached (omega (arith, entries)) (leaf f (omega arith)) (word_stands f p (omega arith) (omega arith)))
+
+  all_unread : AddsMay (AnyAt (IsUnread image i)) 0 35 first third
+  all_unread = may_twice (AnyAt (IsUnread image i)) 0 3 first 0 32 second third
+      (may_weaker (AnyAt (IsWithin at 3)) (AnyAt (IsUnread image i)) 0 3 first second (inode_unread image wf i j at name can inode_at) fills)
+      (may_weaker (AnyAt (IsWithin entry 32)) (AnyAt (IsUnread image i)) 0 32 second third entry_unread entry_stores)
+
+  trees : SameTrees image mid
+  trees = unread_trees image wf i reached not_file mid (each_after (AnyAt (IsUnread image i)) 0 35 first third all_unread)
+
+  mid_well_formed : IsWellFormed mid
+  mid_well_formed = prepared_well_formed image mid wf trees.prepared
+
+  -- no word of the inode is one of the entry
+  apart : (p : ℕ) → at ≤ p → p < at + 3 → IsWithin entry 32 p → ⊥
+  apart p above below inside =
+      let low : entry ≤ p = inside.low in
+      let high : p < entry + 32 = inside.high in
+      let f : ℕ = p - at in
+      let g : ℕ = p - entry in
+      let in_file : j < inode_count image = can.free.high in
+      let same = one_content image wf i (32 * slot + g) 0 (8 * j + f) p reached inode_file (leaf g (omega arith)) (omega (arith, in_file))
+      (word_stands g p (omega arith) (omega arith))
+      (row_stands image 0 (8 * j + 0) f (8 * j + f) at p (omega arith) (omega arith) (omega arith) inode_at) in
+      not_file same.0
+
+  fresh : IsNewInode mid j (kind_word kind)
+  fresh = new_inode image mid wf trees j at kind can.free inode_at (inode_stays second third at entry 32 32 (kind_word kind) entry_stores apart inode)
+
+  size_stays : size_of mid i ≡ size_of image i
+  size_stays = size_after image mid wf trees.prepared i reached
+
+  mid_reached : IsReached mid i
+  mid_reached = reached_after image mid wf trees.prepared i reached
+
+  mid_kind : kind_of mid i ≡ 2
+  mid_kind = kind_after image mid wf trees.prepared i reached ∙ can.lacks.directory
+
+  mid_part : size_of mid i % 4096 ≢ 0
+  mid_part e = part (omega (arith, e, size_stays))
+
+  ready : IsReadyBehind mid i j name
+  ready = ready_behind mid i j name mid_reached mid_kind (behind_in_leaf mid mid_well_formed i mid_reached mid_kind mid_part)
+      (rw size_stays ((word_kept image mid trees i (32 * slot + 0) (entry + 0) reached (leaf 0 (omega arith)) (word_stands 0 (entry + 0) (omega arith) refl)) ∙ ap (word mid) (omega arith) ∙ inumber))
+      (rw size_stays (name_read mid (root_of mid i) slot entry name can.lacks.form.short named
+      (λ f some few. word_kept image mid trees i (32 * slot + f) (entry + f) reached (leaf f few) (word_stands f (entry + f) few refl))))
+
+  missing : slot_named mid i name ≡ slot_named image i name
+  missing = slot_named_after image mid wf trees.prepared i name reached can.lacks.directory
+
+  in_file : i < inode_count image
+  in_file = reached-in_file image wf i reached
+
+  mid_size : ContentStandsAt mid 0 (8 * i + 2) place
+  mid_size = stands_kept image mid trees 0 (8 * i + 2) place inode_file (omega (arith, in_file)) size_at
+
+  committed : current_words last ≡ set mid place (size_of mid i + 256)
+  committed = current_words-adds third last (commit place (size_of image i + 256)) commits ∙ ap (λ n. set mid place (n + 256)) (sym size_stays)
+
+  enters : Enters mid (current_words last) i (size_of mid i / 256) j name (kind_word kind)
+  enters = subst (λ w. Enters mid w i (size_of mid i / 256) j name (kind_word kind)) (sym committed) (grown mid mid_well_formed i j (kind_word kind) place name fresh ready can.lacks.form (missing ∙ can.lacks.missing) mid_size)
+
+  commit_quiet : AddsCommit Same place (size_of image i + 256) 2 36 first last
+  commit_quiet = commit_stores Same equivalence (AnyAt (IsUnread image i)) 0 35 first third last place (size_of image i + 256) (λ other all. prepared_same image other wf (unread_trees image wf i reached not_file other all).prepared) all_unread commits
+
+  pub end_enters : EntersName first last i name kind
+  end_enters = name_entered first third last i (size_of mid i / 256) j place (size_of image i + 256) 2 36 name kind wf trees.prepared enters (omega arith) commit_quiet
+
+  pub end_exact : (blocks inodes : Set) → AreExact image blocks inodes → AreExact (current_words last) blocks (without inodes j)
+  end_exact blocks inodes exact =
+      subst (λ w. AreExact w blocks (without inodes j)) (sym committed)
+      (exact_grown_in_leaf mid mid_well_formed i j (kind_word kind) place name fresh ready can.lacks.form (missing ∙ can.lacks.missing) mid_size blocks inodes
+      (exact_prepared image mid wf trees.prepared blocks inodes exact) mid_part)

@@ -1,0 +1,104 @@
+-- The inumber comes into a ready entry: the directory gains the name, and no tree changes its blocks.
+use Rattle.std.proofs.Common.{◌≡◌, ◌≢◌, ℕ, ◌+◌, ◌*◌, ◌/◌, ◌%◌, ◌<◌, ◌≤◌, length, set, Option, None, Some, refl, sym, ◌∙◌, ap, subst₂, arith}
+use Rattle.std.proofs.lemmas.List.FromFn.{length-map-range_with_len}
+use Rattle.bp_layout.specs.Words.{Image, byte_of}
+use Rattle.bp_layout.specs.Tree.{byte, HasBlock}
+use Rattle.bp_layout.specs.Inode.{kind_of, root_of, size_of, inode_count}
+use Rattle.bp_layout.specs.Directory.{Name, EntryNames, IsName, word_in, name_in, name_at, slot_named, lookup_in}
+use Rattle.bp_layout.specs.Reached.{IsReached}
+use Rattle.bp_layout.specs.WellFormed.{IsWellFormed}
+use Rattle.bp_layout.specs.Harmless.{ContentStandsAt}
+use Rattle.bp_layout.proofs.TreeLaws.{KeepsPointers, has_block-kept, has_block-stays}
+use Rattle.bp_layout.proofs.Finding.{map-same}
+use Rattle.bp_layout.proofs.Frame.{reached-in_file}
+use Rattle.bp_layout.proofs.LookupLaws.{Shows, lookup_in-found}
+use Rattle.bp_layout.proofs.ContentStore.{pointers_stay, root_stays, size_stays}
+use Rattle.bp_layout.proofs.AddsNames.{AddsNames}
+use Rattle.bp_layout.proofs.Link.{CanLink, entry_adds, name_of_new, kinds_stay}
+use Rattle.bp_layout.proofs.LinkInPlace.{store_adds}
+use Rattle.bp_calls.specs.Entered.{IsNewInode, IsReadyEntry}
+
+-- The second image has one more name: that of inode j, of this kind, at slot s of directory i.
+pub record Enters (old new : Image) (i s j : ℕ) (name : Name) (kind : ℕ) : Type 0 where
+  pub adds : AddsNames old new i s j
+  pub spelled : name_at new i s ≡ name
+  pub kind_is : kind_of new j ≡ kind
+
+-- each tree that the first image reaches has the same blocks in the second
+pub record KeepsBlocks (old new : Image) : Type 0 where
+  pub back : (t b : ℕ) → IsReached old t → HasBlock new (root_of new t) (size_of new t) b → HasBlock old (root_of old t) (size_of old t) b
+  pub stay : (t b : ℕ) → IsReached old t → HasBlock old (root_of old t) (size_of old t) b → HasBlock new (root_of new t) (size_of new t) b
+
+-- a name that no entry has
+pub not_named : (image : Image) → IsWellFormed image → (i : ℕ) (name : Name) → IsReached image i → slot_named image i name ≡ None →
+    (r k : ℕ) → EntryNames image i r k → name_at image i r ≢ name
+not_named image wf i name reached none r k n same =
+    let shows : Shows image i name k = record { slot = r; entry = n; spelled = same } in
+    let found : lookup_in image i name ≡ Some k = lookup_in-found image i k name shows (λ q l m e. wf.names_once i q r l k reached m n (e ∙ sym same)) in
+    let nothing : lookup_in image i name ≡ None = rw (n.directory, none) refl in
+    let clash : ◌≡◌ {A = Option ℕ} None (Some k) = sym nothing ∙ found in
+    absurd (cc)
+
+-- a name is the same where the words behind the inumber are
+pub name_same : (old new : Image) (r q s : ℕ) → length (name_in old r s) ≤ 240 → ((f : ℕ) → 1 ≤ f → f < 32 → word_in new q s f ≡ word_in old r s f) →
+    name_in new q s ≡ name_in old r s
+name_same old new r q s few same =
+    let short : word_in old r s 1 ≤ 240 = (rw length-map-range_with_len at few) in
+    let byte_same : (o : ℕ) → o < 240 → byte new q (256 * s + 16 + o) ≡ byte old r (256 * s + 16 + o) =
+    λ o low.
+    let number : (256 * s + 16 + o) / 8 ≡ 32 * s + (2 + o / 8) = omega arith in
+    rw number (ap (λ w. byte_of w ((256 * s + 16 + o) % 8)) (same (2 + o / 8) (omega arith) (omega (arith, low)))) in
+    rw (same 1 (omega arith) (omega arith)) (map-same _ _ 0 (word_in old r s 1) (λ o low high. byte_same o (omega (arith, high, short))))
+
+pub directory_inode : (image : Image) (i : ℕ) → kind_of image i ≡ 2 → i ≢ 0
+directory_inode image i kind e = let two : kind_of image 0 ≡ 2 = (rw e at kind) in absurd (omega (arith, two))
+
+-- ---- the store
+
+module _ (old : Image) (wf : IsWellFormed old) (i s j kind place : ℕ) (name : Name) (fresh : IsNewInode old j kind) (ready : IsReadyEntry old i s name)
+    (form : IsName name) (missing : slot_named old i name ≡ None) (stands : ContentStandsAt old i (32 * s + 0) place) where
+  pub ready_links : CanLink old i s j
+  ready_links = record {
+    reached = ready.reached;
+    directory = ready.directory;
+    in_size = ready.slot;
+    empty = ready.empty;
+    fresh = fresh.free.free;
+    in_file = fresh.free.high;
+    kind = rw fresh.kind_is (fresh.least, fresh.most);
+    nothing = fresh.empty;
+    name = rw ready.spelled form;
+    new_name = λ r k n same. not_named old wf i name ready.reached missing r k n (same ∙ ready.spelled);
+  }
+
+  pub entered : Enters old (set old place j) i s j name kind
+  entered = record {
+    adds = entry_adds old (set old place j) wf i s j ready_links (store_adds old wf i s j place ready_links stands);
+    spelled = name_of_new old (set old place j) wf i s j ready_links (store_adds old wf i s j place ready_links stands) ∙ ready.spelled;
+    kind_is = kinds_stay old (set old place j) wf i s j ready_links (store_adds old wf i s j place ready_links stands) j fresh.free.high ∙ fresh.kind_is;
+  }
+
+  below : 8 * (32 * s + 0) < size_of old i
+  below = let in_size : s < size_of old i / 256 = ready.slot in omega (arith, in_size)
+
+  in_inodes : (t : ℕ) → IsReached old t → t < inode_count old
+  in_inodes = reached-in_file old wf
+
+  roots : (t : ℕ) → t < inode_count old → root_of (set old place j) t ≡ root_of old t
+  roots = root_stays old wf i (32 * s + 0) place j ready.reached (directory_inode old i ready.directory) below stands
+
+  sizes : (t : ℕ) → t < inode_count old → size_of (set old place j) t ≡ size_of old t
+  sizes = size_stays old wf i (32 * s + 0) place j ready.reached (directory_inode old i ready.directory) below stands
+
+  keeps : (t : ℕ) → IsReached old t → KeepsPointers old (set old place j) (root_of old t) (size_of old t)
+  keeps = pointers_stay old wf i (32 * s + 0) place j ready.reached (directory_inode old i ready.directory) below stands
+
+  pub entered_blocks : KeepsBlocks old (set old place j)
+  entered_blocks = record {
+    back = λ t b reached has.
+        has_block-kept old (set old place j) (root_of old t) (size_of old t) (keeps t reached) b
+        (subst₂ (λ r z. HasBlock (set old place j) r z b) (roots t (in_inodes t reached)) (sizes t (in_inodes t reached)) has);
+    stay = λ t b reached has.
+        subst₂ (λ r z. HasBlock (set old place j) r z b) (sym (roots t (in_inodes t reached))) (sym (sizes t (in_inodes t reached)))
+        (has_block-stays old (set old place j) (root_of old t) (size_of old t) (keeps t reached) b has);
+  }

@@ -1,0 +1,60 @@
+-- How many blocks are free, by a set that has just the free blocks.
+use Rattle.std.proofs.Common.{◌≡◌, ◌⊎◌, ℕ, zero, suc, ◌+◌, ◌<◌, ◌≤◌, [], length, filter, Bool, true, false, sym, ◌∙◌, ap, arith, inl, inr}
+use Rattle.std.specs.List.{range_with_len}
+use Rattle.std.proofs.lemmas.Bool.{cases_eq, cases_lt, cases_Bool, false_from_ne_true, true≢false}
+use Rattle.std.proofs.lemmas.List.Elements.{filter_agree}
+use Rattle.bp_free.specs.Set.{Set, has, members}
+use Rattle.bp_free.proofs.Members.{filter_none, has_past, members_all}
+use Rattle.bp_layout.specs.Words.{Image, block_count}
+use Rattle.bp_layout.specs.Reached.{IsFreeBlock}
+use Rattle.bp_layout.specs.Free.{AreFreeBlocks, HasFree}
+
+-- two sets of just the free blocks are one
+same_test : (image : Image) (s t : ℕ → Bool) → AreFreeBlocks image s → AreFreeBlocks image t → (b : ℕ) → s b ≡ t b
+same_test image s t one two b = go (cases_Bool (s b)) (cases_Bool (t b))
+  where
+    go : (s b ≡ true) ⊎ (s b ≡ false) → (t b ≡ true) ⊎ (t b ≡ false) → s b ≡ t b
+    go (inl is) also = is ∙ sym (two.all b (one.free b is))
+    go (inr not) (inl is) = one.all b (two.free b is) ∙ sym is
+    go (inr not) (inr also) = not ∙ sym also
+
+-- so there is one number of free blocks
+pub free_once : (image : Image) (a b : ℕ) → HasFree image a → HasFree image b → a ≡ b
+free_once image a b one two =
+    sym one.number ∙ ap length (filter_agree one.set two.set (same_test image one.set two.set one.are two.are) (range_with_len 0 (block_count image))) ∙ two.number
+
+-- the members of a set of just the free blocks, with room for all
+pub free_members : (image : Image) (blocks : Set) → AreFreeBlocks image (has blocks) → length blocks ≡ block_count image → HasFree image (length (members blocks))
+free_members image blocks are room = record { set = has blocks; are = are; number = ap (λ n. length (filter (has blocks) (range_with_len 0 n))) (sym room) }
+
+-- a set without members has no number
+has_none : (blocks : Set) → members blocks ≡ [] → (b : ℕ) → has blocks b ≡ false
+has_none blocks none b = go (cases_lt b (length blocks))
+  where
+    go : (b < length blocks) ⊎ (length blocks ≤ b) → has blocks b ≡ false
+    go (inl low) = false_from_ne_true (has blocks b) (λ is. let there = members_all blocks b low is in let nowhere = rw none at there in omega (arith, nowhere.1))
+    go (inr past) = has_past blocks b past
+
+pub no_free : (image : Image) (blocks : Set) → AreFreeBlocks image (has blocks) → members blocks ≡ [] → HasFree image 0
+no_free image blocks are none = record {
+  set = has blocks;
+  are = are;
+  number = ap length (filter_none (has blocks) 0 (block_count image) (λ k low high. has_none blocks none k));
+}
+
+-- one number that passes
+some_pass : (p : ℕ → Bool) (a n k : ℕ) → a ≤ k → k < a + n → p k ≡ true → 1 ≤ length (filter p (range_with_len a n))
+some_pass p a zero k low high is = absurd (omega (arith, low, high))
+some_pass p a (suc n) k low high is = go (λ more. some_pass p (a + 1) n k more (omega (arith, high)) is) (cases_Bool (p a)) (cases_eq a k)
+  where
+    go : (a + 1 ≤ k → 1 ≤ length (filter p (range_with_len (a + 1) n))) → (p a ≡ true) ⊎ (p a ≡ false) → (a ≡ k) ⊎ (a ≡ k → ⊥) → 1 ≤ length (filter p (range_with_len a (suc n)))
+    go rest (inl passes) which = rw passes (omega arith)
+    go rest (inr fails) (inl e) = absurd (true≢false (sym is ∙ ap p (sym e) ∙ fails))
+    go rest (inr fails) (inr other) = rw fails (rest (omega (arith, low, other)))
+
+-- where a block is free the number is not 0
+pub some_free : (image : Image) (b free : ℕ) → IsFreeBlock image b → HasFree image free → 1 ≤ free
+some_free image b free open_block count =
+    let number : length (filter count.set (range_with_len 0 (block_count image))) ≡ free = count.number in
+    let some = some_pass count.set 0 (block_count image) b (omega arith) (omega (arith, open_block.high)) (count.are.all b open_block) in
+    omega (arith, number, some)

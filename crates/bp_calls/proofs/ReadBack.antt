@@ -1,0 +1,92 @@
+-- What was written is read: a new inode, and a name in an entry; and what one more name makes of the image and its tree.
+use Rattle.std.proofs.Common.{◌≡◌, ◌≢◌, ℕ, ◌+◌, ◌*◌, ◌/◌, ◌%◌, ◌<◌, ◌≤◌, length, get_or, sym, ◌∙◌, ap, arith}
+use Rattle.bp_calls.specs.Entered.{IsNewInode}
+use Rattle.bp_calls.specs.Steps.{EntersName}
+use Rattle.bp_calls.specs.Written.{HasInodeAt, HasNameAt, IsWithin}
+use Rattle.bp_inodes.proofs.InodeWords.{kind_word-of, size_word-of}
+use Rattle.bp_layout.specs.Directory.{Name, name_in}
+use Rattle.bp_layout.specs.Fields.{kind_word}
+use Rattle.bp_layout.specs.Free.{IsFreeInode}
+use Rattle.bp_layout.specs.Harmless.{ContentStandsAt}
+use Rattle.bp_layout.specs.Inode.{size_of, inode_count}
+use Rattle.bp_layout.specs.Limits.{max_name}
+use Rattle.bp_layout.specs.Reached.IsReached.{inode_file}
+use Rattle.bp_layout.specs.Same.{Same}
+use Rattle.bp_layout.specs.Tree.{byte, content_word}
+use Rattle.bp_layout.specs.WellFormed.{IsWellFormed}
+use Rattle.bp_layout.specs.Words.{Image, word, byte_of}
+use Rattle.bp_layout.specs.declared.fields.Kind.{Kind}
+use Rattle.bp_layout.specs.declared.fields.Kind.TheVariants.{File, Dir}
+use Rattle.bp_layout.proofs.NameBytes.{map-tells}
+use Rattle.bp_layout.proofs.SameLaws.{same_symmetric, same_transitive}
+use Rattle.pm_epochs.specs.Crash.{IsPartialEquivalence}
+use Rattle.pm_epochs.specs.May.{AnyAt}
+use Rattle.pm_region.specs.Memory.{Memory, current_words}
+use Rattle.pm_region.specs.Safe.{AddsMay, AddsCommit}
+use Rattle.pm_region.proofs.MayLaws.{may_frame}
+use Rattle.bp_calls.proofs.AfterLaws.{IsPrepared, free_inode_after, prepared_well_formed}
+use Rattle.bp_calls.proofs.EnteredLaws.{Enters}
+use Rattle.bp_calls.proofs.Spares.{row_stands}
+use Rattle.bp_calls.proofs.StandsLaws.{enters_well_formed, prepared_stands}
+use Rattle.bp_calls.proofs.Trees.{SameTrees, word_kept}
+
+pub equivalence : IsPartialEquivalence Same
+equivalence = record { symmetric = same_symmetric; transitive = same_transitive }
+
+pub kind_least : (kind : Kind) → 1 ≤ kind_word kind
+kind_least File = omega arith
+kind_least Dir = omega arith
+
+pub kind_most : (kind : Kind) → kind_word kind ≤ 2
+kind_most File = omega arith
+kind_most Dir = omega arith
+
+-- a name that stands at a place is read from an entry there
+pub name_read : (image : Image) (root slot place : ℕ) (name : Name) → length name ≤ max_name → HasNameAt image place name →
+    ((f : ℕ) → 1 ≤ f → f < 32 → content_word image root (32 * slot + f) ≡ word image (place + f)) → name_in image root slot ≡ name
+name_read image root slot place name short has words =
+    rw (words 1 (omega arith) (omega arith) ∙ has.count) (map-tells (λ o. byte image root (256 * slot + 16 + o)) name one)
+  where
+    one : (o : ℕ) → o < length name → byte image root (256 * slot + 16 + o) ≡ get_or name o 0
+    one o low =
+        let number : (256 * slot + 16 + o) / 8 ≡ 32 * slot + (2 + o / 8) = omega arith in
+        let column : (256 * slot + 16 + o) % 8 ≡ o % 8 = omega arith in
+        let at : place + (2 + o / 8) ≡ place + 2 + o / 8 = omega arith in
+        rw (number, column) (ap (λ w. byte_of w (o % 8)) (words (2 + o / 8) (omega arith) (omega (arith, low, short)) ∙ ap (word image) at) ∙ has.bytes o low)
+
+-- an inode stays where it is, beside further stores
+pub inode_stays : (old new : Memory) (at start count most kind : ℕ) → AddsMay (AnyAt (IsWithin start count)) 0 most old new → ((p : ℕ) → at ≤ p → p < at + 3 → IsWithin start count p → ⊥) →
+    HasInodeAt (current_words old) at kind → HasInodeAt (current_words new) at kind
+inode_stays old new at start count most kind stores apart has = record {
+  kind_is = may_frame (AnyAt (IsWithin start count)) 0 most old new stores at (λ v inside. apart at (omega arith) (omega arith) inside) ∙ has.kind_is;
+  size = may_frame (AnyAt (IsWithin start count)) 0 most old new stores (at + 2) (λ v inside. apart (at + 2) (omega arith) (omega arith) inside) ∙ has.size;
+}
+
+-- the new inode is read
+pub new_inode : (old new : Image) → IsWellFormed old → SameTrees old new → (j at : ℕ) (kind : Kind) → IsFreeInode old j → ContentStandsAt old 0 (8 * j + 0) at → HasInodeAt new at (kind_word kind) → IsNewInode new j (kind_word kind)
+new_inode old new wf trees j at kind free stands has = record {
+  free = free_inode_after old new wf trees.prepared j free;
+  kind_is = kind_word-of new j (omega (arith, free.low)) ∙ word_kept old new trees 0 (8 * j + 0) at inode_file (below 0 (omega arith)) stands ∙ has.kind_is;
+  least = kind_least kind;
+  most = kind_most kind;
+  empty = size_word-of new j (omega (arith, free.low))
+      ∙ word_kept old new trees 0 (8 * j + 2) (at + 2) inode_file (below 2 (omega arith)) (row_stands old 0 (8 * j + 0) 2 (8 * j + 2) at (at + 2) (omega arith) (omega arith) (omega arith) stands)
+      ∙ has.size;
+}
+  where
+    below : (f : ℕ) → f < 8 → 4096 * ((8 * j + f) / 512) < size_of old 0
+    below f few = let high : j < inode_count old = free.high in omega (arith, high, few)
+
+-- one more name, up to the commit
+pub name_entered : (first mid last : Memory) (i s j word value barriers stores : ℕ) (name : Name) (kind : Kind) → IsWellFormed (current_words first) → IsPrepared (current_words first) (current_words mid) →
+    Enters (current_words mid) (current_words last) i s j name (kind_word kind) → barriers + stores ≤ 63 → AddsCommit Same word value barriers stores first last → EntersName first last i name kind
+name_entered first mid last i s j word value barriers stores name kind wf prepared enters few commit = record {
+  word = word;
+  value = value;
+  barriers = barriers;
+  stores = stores;
+  few = few;
+  commit = commit;
+  well_formed = enters_well_formed (current_words mid) (current_words last) (prepared_well_formed (current_words first) (current_words mid) wf prepared) i s j (kind_word kind) name enters;
+  stands = prepared_stands (current_words first) (current_words mid) (current_words last) wf prepared i s j name kind enters;
+}

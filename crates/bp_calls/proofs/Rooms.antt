@@ -1,0 +1,53 @@
+-- The words and the room of a memory, before and after stores, and places that lie in it.
+use Rattle.std.proofs.Common.{◌≡◌, ℕ, zero, suc, ◌+◌, ◌-◌, ◌*◌, ◌/◌, ◌%◌, ◌^◌, ◌<◌, ◌≤◌, length, sym, ap, subst₂, arith}
+use Rattle.bp_layout.specs.Free.{IsFreeInode}
+use Rattle.bp_layout.specs.Harmless.{ContentStandsAt}
+use Rattle.bp_layout.specs.Inode.{root_of, size_of, inode_count}
+use Rattle.bp_layout.specs.Reached.{IsReached}
+use Rattle.bp_layout.specs.Reached.IsReached.{inode_file}
+use Rattle.bp_layout.specs.Tree.{node, covered, IsSound}
+use Rattle.bp_layout.specs.WellFormed.{IsWellFormed}
+use Rattle.bp_layout.specs.Words.{Image, block_count, height_of}
+use Rattle.pm_region.specs.Memory.{Memory, current_words, room_in}
+use Rattle.pm_region.specs.Safe.{AddsMay}
+use Rattle.pm_region.proofs.MemoryLaws.{base-adds, length-current_words}
+use Rattle.pm_region.proofs.MayLaws.{room_after_may}
+use Rattle.bp_calls.proofs.Trees.{live_leaf}
+
+module _ (May : ℕ → ℕ → Type 0) (stores : ℕ) (old new : Memory) (adds : AddsMay May 0 stores old new) where
+  pub base_after : length new.base ≡ length old.base
+  base_after = ap length (base-adds old new _ adds.adds)
+
+  pub room_after : room_in old ≤ room_in new + stores
+  room_after = let left = room_after_may May 0 stores old new adds in omega (arith, left)
+
+-- words in a row of one leaf lie in the memory
+pub row_in_range : (memory : Memory) → IsWellFormed (current_words memory) → (t k place count : ℕ) → IsReached (current_words memory) t → 4096 * (k / 512) < size_of (current_words memory) t → k % 512 + count ≤ 512 →
+    ContentStandsAt (current_words memory) t k place → place + count ≤ length memory.base
+row_in_range memory wf t k place count reached below fits stands =
+    let low : node (current_words memory) (root_of (current_words memory) t) (height_of (root_of (current_words memory) t)) (k / 512) < block_count (current_words memory) =
+    (wf.sound t reached).in_range _ _ (live_leaf (root_of (current_words memory) t) (size_of (current_words memory) t) (k / 512) below) in
+    omega (arith, low, stands.at, fits, wf.whole, length-current_words memory)
+
+-- so do those of a free inode
+pub inode_in_range : (memory : Memory) → IsWellFormed (current_words memory) → (j place : ℕ) → IsFreeInode (current_words memory) j → ContentStandsAt (current_words memory) 0 (8 * j + 0) place → place + 3 ≤ length memory.base
+inode_in_range memory wf j place free stands =
+    let high : j < inode_count (current_words memory) = free.high in
+    row_in_range memory wf 0 (8 * j + 0) place 3 inode_file (omega (arith, high)) (omega arith) stands
+
+-- what a tree of the greatest height covers
+low_cover : (height : ℕ) → height ≤ 3 → covered (suc height) ≤ 549755813888
+low_cover zero low = omega arith
+low_cover (suc zero) low = omega arith
+low_cover (suc (suc zero)) low = omega arith
+low_cover (suc (suc (suc zero))) low = omega arith
+low_cover (suc (suc (suc (suc height)))) low = absurd (omega (arith, low))
+
+-- no size is greater
+pub size_small : (image : Image) (root size : ℕ) → IsSound image root size → size ≤ 549755813888
+size_small image root zero sound = omega arith
+size_small image root (suc size) sound =
+    let low : height_of root ≤ 3 = sound.low (omega arith) in
+    let covers : covered (suc (height_of root)) ≤ 549755813888 = low_cover (height_of root) low in
+    let fits : suc size ≤ covered (suc (height_of root)) = sound.fits in
+    omega (arith, covers, fits)

@@ -1,0 +1,199 @@
+-- The sets of free numbers stay exact: over a preparation, and where the new inode and the new block are taken out.
+use Rattle.std.proofs.Common.{◌≡◌, ◌≢◌, ◌⊎◌, ℕ, ◌+◌, ◌*◌, ◌/◌, ◌%◌, ◌<◌, ◌≤◌, Bool, true, false, length, set, None, sym, ◌∙◌, ap, subst, inl, inr, true≢false}
+use Rattle.std.proofs.lemmas.Bool.{cases_eq, cases_lt}
+use Rattle.std.proofs.lemmas.List.{length-set}
+use Rattle.bp_free.specs.Set.{Set, has, without}
+use Rattle.bp_free.proofs.Members.{has_without_same, has_without_other, has_past}
+use Rattle.bp_layout.specs.Words.{Image}
+use Rattle.bp_layout.specs.Tree.{HasBlock}
+use Rattle.bp_layout.specs.Inode.{root_of, size_of}
+use Rattle.bp_layout.specs.Directory.{Name, IsName, slot_named}
+use Rattle.bp_layout.specs.Reached.{IsReached, IsLiveBlock, IsFreeBlock}
+use Rattle.bp_layout.specs.WellFormed.{IsWellFormed}
+use Rattle.bp_layout.specs.Free.{AreFreeBlocks, AreFreeInodes, IsFreeInode}
+use Rattle.bp_layout.specs.Harmless.{Agrees, ContentStandsAt, RootPlace}
+use Rattle.bp_layout.proofs.SmallTrees.{empty_has_none}
+use Rattle.bp_layout.proofs.AddsNames.{AddsNames, reached_cases, reached_stays}
+use Rattle.bp_calls.specs.Entered.{IsNewInode, IsReadyEntry, IsReadyBehind}
+use Rattle.bp_calls.specs.Sets.{AreExact}
+use Rattle.bp_calls.proofs.EnteredLaws.{Enters, KeepsBlocks, entered, entered_blocks}
+use Rattle.bp_calls.proofs.GrownLaws.{GrowsBlocks, grown, grown_blocks}
+use Rattle.bp_calls.proofs.BehindLaws.{has_more, behind_same_blocks, first_block, has_first}
+use Rattle.bp_calls.proofs.AfterLaws.{IsPrepared, agrees_prepared, root_prepared, live_before_too, live_after, reached_before, reached_after}
+
+-- ---- one number less
+
+pub length_without : (numbers : Set) (i : ℕ) → length (without numbers i) ≡ length numbers
+length_without numbers i = length-set numbers i false
+
+-- what is in lies below the room
+pub in_room : (numbers : Set) (i : ℕ) → has numbers i ≡ true → i < length numbers
+in_room numbers i there = go (cases_lt i (length numbers))
+  where
+    go : (i < length numbers) ⊎ (length numbers ≤ i) → i < length numbers
+    go (inl low) = low
+    go (inr past) = absurd (true≢false (sym there ∙ has_past numbers i past))
+
+-- what is still in is another number, and was in
+pub still_in : (numbers : Set) (i k : ℕ) → has numbers i ≡ true → has (without numbers i) k ≡ true → (k ≢ i) × (has numbers k ≡ true)
+still_in numbers i k there is = go (cases_eq k i)
+  where
+    go : (k ≡ i) ⊎ (k ≡ i → ⊥) → (k ≢ i) × (has numbers k ≡ true)
+    go (inl same) = absurd (true≢false (sym is ∙ ap (has (without numbers i)) same ∙ has_without_same numbers i (in_room numbers i there)))
+    go (inr other) = (other, sym (has_without_other numbers i k other) ∙ is)
+
+-- ---- free numbers
+
+pub free_blocks_stay : (old new : Image) (numbers : ℕ → Bool) → length new ≡ length old → ((b : ℕ) → IsLiveBlock new b → IsLiveBlock old b) → ((b : ℕ) → IsLiveBlock old b → IsLiveBlock new b) →
+    AreFreeBlocks old numbers → AreFreeBlocks new numbers
+free_blocks_stay old new numbers whole back stay are = record {
+  free = λ b is. let free : IsFreeBlock old b = are.free b is in record { low = free.low; high = rw whole free.high; free = λ live. free.free (back b live) };
+  all = λ b free. are.all b (record { low = free.low; high = rw whole at free.high; free = λ live. free.free (stay b live) });
+}
+
+pub free_blocks_taken : (old new : Image) (numbers : Set) (taken : ℕ) → length new ≡ length old → has numbers taken ≡ true → IsLiveBlock new taken →
+    ((b : ℕ) → IsLiveBlock new b → (b ≡ taken) ⊎ IsLiveBlock old b) → ((b : ℕ) → IsLiveBlock old b → IsLiveBlock new b) → AreFreeBlocks old (has numbers) → AreFreeBlocks new (has (without numbers taken))
+free_blocks_taken old new numbers taken whole there here cases stay are = record { free = free_now; all = all_now }
+  where
+    free_now : (b : ℕ) → has (without numbers taken) b ≡ true → IsFreeBlock new b
+    free_now b is =
+        let still : (b ≢ taken) × (has numbers b ≡ true) = still_in numbers taken b there is in
+        let free : IsFreeBlock old b = are.free b still.1 in
+        record { low = free.low; high = rw whole free.high; free = λ live. elim (cases b live) [ inl same ↦ still.0 same | inr before ↦ free.free before ] }
+
+    all_now : (b : ℕ) → IsFreeBlock new b → has (without numbers taken) b ≡ true
+    all_now b free =
+        has_without_other numbers taken b (λ same. free.free (subst (IsLiveBlock new) (sym same) here))
+        ∙ are.all b (record { low = free.low; high = rw whole at free.high; free = λ live. free.free (stay b live) })
+
+pub free_inodes_stay : (old new : Image) (numbers : ℕ → Bool) → size_of new 0 ≡ size_of old 0 → ((t : ℕ) → IsReached new t → IsReached old t) → ((t : ℕ) → IsReached old t → IsReached new t) →
+    AreFreeInodes old numbers → AreFreeInodes new numbers
+free_inodes_stay old new numbers bytes back stay are = record {
+  free = λ t is. let free : IsFreeInode old t = are.free t is in record { low = free.low; high = rw bytes free.high; free = λ reached. free.free (back t reached) };
+  all = λ t free. are.all t (record { low = free.low; high = rw bytes at free.high; free = λ reached. free.free (stay t reached) });
+}
+
+pub free_inodes_taken : (old new : Image) (numbers : Set) (taken : ℕ) → size_of new 0 ≡ size_of old 0 → has numbers taken ≡ true → IsReached new taken →
+    ((t : ℕ) → IsReached new t → (t ≡ taken) ⊎ IsReached old t) → ((t : ℕ) → IsReached old t → IsReached new t) → AreFreeInodes old (has numbers) → AreFreeInodes new (has (without numbers taken))
+free_inodes_taken old new numbers taken bytes there here cases stay are = record { free = free_now; all = all_now }
+  where
+    free_now : (t : ℕ) → has (without numbers taken) t ≡ true → IsFreeInode new t
+    free_now t is =
+        let still : (t ≢ taken) × (has numbers t ≡ true) = still_in numbers taken t there is in
+        let free : IsFreeInode old t = are.free t still.1 in
+        record { low = free.low; high = rw bytes free.high; free = λ reached. elim (cases t reached) [ inl same ↦ still.0 same | inr before ↦ free.free before ] }
+
+    all_now : (t : ℕ) → IsFreeInode new t → has (without numbers taken) t ≡ true
+    all_now t free =
+        has_without_other numbers taken t (λ same. free.free (subst (IsReached new) (sym same) here))
+        ∙ are.all t (record { low = free.low; high = rw bytes at free.high; free = λ reached. free.free (stay t reached) })
+
+-- ---- over a preparation
+
+pub exact_prepared : (old new : Image) → IsWellFormed old → IsPrepared old new → (blocks inodes : Set) → AreExact old blocks inodes → AreExact new blocks inodes
+exact_prepared old new wf prepared blocks inodes exact = record {
+  block_room = rw prepared.meaning.whole exact.block_room;
+  inode_room = rw prepared.meaning.whole exact.inode_room;
+  free_blocks = free_blocks_stay old new (has blocks) prepared.meaning.whole (live_before_too old new wf prepared) (live_after old new wf prepared) exact.free_blocks;
+  free_inodes = free_inodes_stay old new (has inodes) prepared.inode_bytes (reached_before old new wf prepared) (reached_after old new wf prepared) exact.free_inodes;
+}
+
+pub exact_agrees : (old new : Image) → IsWellFormed old → Agrees old new → (blocks inodes : Set) → AreExact old blocks inodes → AreExact new blocks inodes
+exact_agrees old new wf agrees = exact_prepared old new wf (agrees_prepared old new wf agrees)
+
+pub exact_root : (old : Image) → IsWellFormed old → (t place other : ℕ) → IsReached old t → size_of old t ≡ 0 → RootPlace old t place → (blocks inodes : Set) → AreExact old blocks inodes →
+    AreExact (set old place other) blocks inodes
+exact_root old wf t place other reached empty at = exact_prepared old (set old place other) wf (root_prepared old wf t place other reached empty at)
+
+-- ---- over one more name
+
+module _ (old new : Image) (wf : IsWellFormed old) (i s j : ℕ) (adds : AddsNames old new i s j) (blocks inodes : Set) (exact : AreExact old blocks inodes) (free : IsFreeInode old j) where
+  no_new_block : (t b : ℕ) → t ≡ j → HasBlock new (root_of new t) (size_of new t) b → ⊥
+  no_new_block t b e has = empty_has_none new (root_of new t) b (rw (ap (size_of new) e ∙ adds.new_size) at has)
+
+  -- a live block, by the tree that has it
+  live_cases : (Other : ℕ → Type 0) → ((t b : ℕ) → IsReached old t → HasBlock new (root_of new t) (size_of new t) b → Other b ⊎ IsLiveBlock old b) → (b : ℕ) → IsLiveBlock new b → Other b ⊎ IsLiveBlock old b
+  live_cases Other before b live = go (reached_cases old new wf i s j adds live.tree live.reached)
+    where
+      go : (live.tree ≡ j) ⊎ IsReached old live.tree → Other b ⊎ IsLiveBlock old b
+      go (inl e) = absurd (no_new_block live.tree b e live.has)
+      go (inr reached) = before live.tree b reached live.has
+
+  live_stays : ((t b : ℕ) → IsReached old t → HasBlock old (root_of old t) (size_of old t) b → HasBlock new (root_of new t) (size_of new t) b) → (b : ℕ) → IsLiveBlock old b → IsLiveBlock new b
+  live_stays stay b live = record { tree = live.tree; reached = reached_stays old new wf i s j adds live.tree live.reached; has = stay live.tree b live.reached live.has }
+
+  inodes_taken : AreFreeInodes new (has (without inodes j))
+  inodes_taken =
+      free_inodes_taken old new inodes j adds.inode_bytes (exact.free_inodes.all j free) (IsReached.named s (reached_stays old new wf i s j adds i adds.reached) adds.entry)
+      (reached_cases old new wf i s j adds) (reached_stays old new wf i s j adds) exact.free_inodes
+
+  pub exact_added : KeepsBlocks old new → AreExact new blocks (without inodes j)
+  exact_added keeps = record {
+    block_room = rw adds.whole exact.block_room;
+    inode_room = rw adds.whole (length_without inodes j ∙ exact.inode_room);
+    free_blocks = free_blocks_stay old new (has blocks) adds.whole
+        (λ b live. elim (live_cases (λ x. ⊥) (λ t x reached has. inr (record { tree = t; reached = reached; has = keeps.back t x reached has })) b live) [ inl never ↦ absurd never | inr before ↦ before ])
+        (live_stays keeps.stay) exact.free_blocks;
+    free_inodes = inodes_taken;
+  }
+
+  -- the directory has one block more
+  pub exact_added_block : (b : ℕ) → IsFreeBlock old b → IsLiveBlock new b → ((t x : ℕ) → IsReached old t → HasBlock new (root_of new t) (size_of new t) x → (x ≡ b) ⊎ IsLiveBlock old x) →
+      ((t x : ℕ) → IsReached old t → HasBlock old (root_of old t) (size_of old t) x → HasBlock new (root_of new t) (size_of new t) x) → AreExact new (without blocks b) (without inodes j)
+  exact_added_block b open_block here back stay = record {
+    block_room = rw adds.whole (length_without blocks b ∙ exact.block_room);
+    inode_room = rw adds.whole (length_without inodes j ∙ exact.inode_room);
+    free_blocks = free_blocks_taken old new blocks b adds.whole (exact.free_blocks.all b open_block) here (live_cases (λ x. x ≡ b) back) (live_stays stay) exact.free_blocks;
+    free_inodes = inodes_taken;
+  }
+
+-- an inumber came into a ready entry
+pub exact_entered : (old : Image) → IsWellFormed old → (i s j kind place : ℕ) (name : Name) → IsNewInode old j kind → IsReadyEntry old i s name → IsName name → slot_named old i name ≡ None →
+    ContentStandsAt old i (32 * s + 0) place → (blocks inodes : Set) → AreExact old blocks inodes → AreExact (set old place j) blocks (without inodes j)
+exact_entered old wf i s j kind place name fresh ready form missing stands blocks inodes exact =
+    exact_added old (set old place j) wf i s j (entered old wf i s j kind place name fresh ready form missing stands).adds blocks inodes exact fresh.free
+    (entered_blocks old wf i s j kind place name fresh ready form missing stands)
+
+-- the directory grew over a ready entry
+module _ (old : Image) (wf : IsWellFormed old) (i j kind place : ℕ) (name : Name) (fresh : IsNewInode old j kind) (ready : IsReadyBehind old i j name) (form : IsName name) (missing : slot_named old i name ≡ None)
+    (stands : ContentStandsAt old 0 (8 * i + 2) place) (blocks inodes : Set) (exact : AreExact old blocks inodes) where
+  abbrev new : Image
+  new = set old place (size_of old i + 256)
+
+  grows : GrowsBlocks old new i
+  grows = grown_blocks old wf i j place name ready stands
+
+  enters : Enters old new i (size_of old i / 256) j name kind
+  enters = grown old wf i j kind place name fresh ready form missing stands
+
+  stay_on : (t b : ℕ) → IsReached old t → HasBlock old (root_of old t) (size_of old t) b → HasBlock new (root_of new t) (size_of new t) b
+  stay_on t b reached has = go (cases_eq t i)
+    where
+      go : (t ≡ i) ⊎ (t ≡ i → ⊥) → HasBlock new (root_of new t) (size_of new t) b
+      go (inl e) =
+          subst (λ x. HasBlock new (root_of new x) (size_of new x) b) (sym e)
+          (grows.here b (has_more old (root_of old i) (size_of old i) 256 b (subst (λ x. HasBlock old (root_of old x) (size_of old x) b) e has)))
+      go (inr other) = grows.stay t b reached other has
+
+  -- no block is new
+  pub exact_grown : ((b : ℕ) → HasBlock old (root_of old i) (size_of old i + 256) b → HasBlock old (root_of old i) (size_of old i) b) → AreExact new blocks (without inodes j)
+  exact_grown same =
+      exact_added old new wf i (size_of old i / 256) j enters.adds blocks inodes exact fresh.free (record { back = λ t b reached has. go t b (grows.back t b reached has); stay = stay_on })
+    where
+      go : (t b : ℕ) → HasBlock old (root_of old t) (size_of old t) b ⊎ ((t ≡ i) × HasBlock old (root_of old i) (size_of old i + 256) b) → HasBlock old (root_of old t) (size_of old t) b
+      go t b (inl before) = before
+      go t b (inr more) = subst (λ x. HasBlock old (root_of old x) (size_of old x) b) (sym more.0) (same b more.1)
+
+  pub exact_grown_in_leaf : size_of old i % 4096 ≢ 0 → AreExact new blocks (without inodes j)
+  exact_grown_in_leaf part = exact_grown (behind_same_blocks old wf i ready.reached ready.directory part)
+
+  -- the first block of the directory is new
+  pub exact_grown_first : (b : ℕ) → size_of old i ≡ 0 → root_of old i ≡ 4096 * b → IsFreeBlock old b → AreExact new (without blocks b) (without inodes j)
+  exact_grown_first b empty root open_block =
+      exact_added_block old new wf i (size_of old i / 256) j enters.adds blocks inodes exact fresh.free b open_block
+      (record { tree = i; reached = reached_stays old new wf i (size_of old i / 256) j enters.adds i ready.reached; has = grows.here b (has_first old i b empty root open_block) })
+      (λ t x reached has. go t x reached (grows.back t x reached has)) stay_on
+    where
+      go : (t x : ℕ) → IsReached old t → HasBlock old (root_of old t) (size_of old t) x ⊎ ((t ≡ i) × HasBlock old (root_of old i) (size_of old i + 256) x) → (x ≡ b) ⊎ IsLiveBlock old x
+      go t x reached (inl before) = inr (record { tree = t; reached = reached; has = before })
+      go t x reached (inr more) = inl (first_block old i b empty root open_block x more.1)

@@ -1,0 +1,109 @@
+-- Stores of an inode and of a name, one after another.
+use Rattle.std.proofs.Common.{◌≡◌, ◌≢◌, ◌⊎◌, ℕ, ◌+◌, ◌*◌, ◌/◌, ◌%◌, ◌<◌, ◌≤◌, List, [], ◌∷◌, length, get_or, ◌∙◌, ap, arith, inl, inr, get_or-set_same, get_or-set_other}
+use Rattle.std.proofs.lemmas.Bool.{cases_eq}
+use Rattle.pm_epochs.specs.declared.event.Event.TheVariants.{Store}
+use Rattle.pm_epochs.specs.May.{AnyAt}
+use Rattle.pm_region.specs.Memory.{Memory, current_words, room_in, Adds}
+use Rattle.pm_region.specs.Safe.{AddsMay}
+use Rattle.pm_region.proofs.MemoryLaws.{base-adds, current_words-adds, room_in-adds, length-current_words}
+use Rattle.pm_region.proofs.MayLaws.{may_one, may_store, may_more, may_twice, may_weaker, may_frame, room_after_may}
+use Rattle.bp_layout.specs.Words.{word, byte_of}
+use Rattle.bp_calls.specs.Written.{HasInodeAt, HasNameAt, IsWithin}
+
+-- a memory after one store
+module _ (old new : Memory) (place value : ℕ) (adds : Adds old new (Store place value ∷ [])) where
+  pub stored_here : place < length old.base → word (current_words new) place ≡ value
+  stored_here low =
+      let inside : place < length (current_words old) = omega (arith, low, length-current_words old) in
+      rw (current_words-adds old new _ adds) (get_or-set_same (current_words old) place value 0 inside)
+
+  pub stored_elsewhere : (other : ℕ) → other ≢ place → word (current_words new) other ≡ word (current_words old) other
+  stored_elsewhere other apart = rw (current_words-adds old new _ adds) (get_or-set_other (current_words old) place other value 0 apart)
+
+  pub base_stays : length new.base ≡ length old.base
+  base_stays = ap length (base-adds old new _ adds)
+
+  pub room_less : room_in old ≤ room_in new + 1
+  room_less = let left = room_in-adds old new _ adds in omega (arith, left)
+
+module _ (first second third last : Memory) (place kind : ℕ) (in_range : place + 3 ≤ length first.base)
+    (one : Adds first second (Store place kind ∷ [])) (two : Adds second third (Store (place + 1) 0 ∷ [])) (three : Adds third last (Store (place + 2) 0 ∷ [])) where
+  pub filled_stores : AddsMay (AnyAt (IsWithin place 3)) 0 3 first last
+  filled_stores =
+      may_store (AnyAt (IsWithin place 3)) 0 2 first third last (place + 2) 0
+      (may_store (AnyAt (IsWithin place 3)) 0 1 first second third (place + 1) 0
+      (may_one (AnyAt (IsWithin place 3)) first second place kind (record { low = omega arith; high = omega arith }) one)
+      (record { low = omega arith; high = omega arith }) two)
+      (record { low = omega arith; high = omega arith }) three
+
+  pub filled_inode : HasInodeAt (current_words last) place kind
+  filled_inode =
+      let second_base = base_stays first second place kind one in
+      let third_base = base_stays second third (place + 1) 0 two in
+      record {
+        kind_is = stored_elsewhere third last (place + 2) 0 three place (λ e. omega (arith, e))
+            ∙ stored_elsewhere second third (place + 1) 0 two place (λ e. omega (arith, e))
+            ∙ stored_here first second place kind one (omega (arith, in_range));
+        size = stored_here third last (place + 2) 0 three (omega (arith, in_range, second_base, third_base));
+      }
+
+-- the length of a name and its first words
+pub record NameSoFar (old new : Memory) (place words : ℕ) (name : List ℕ) : Type 0 where
+  pub stores : AddsMay (AnyAt (IsWithin (place + 1) 31)) 0 (words + 1) old new
+  pub count : word (current_words new) (place + 1) ≡ length name
+  pub bytes : (o : ℕ) → o < length name → o / 8 < words → byte_of (word (current_words new) (place + 2 + o / 8)) (o % 8) ≡ get_or name o 0
+
+pub name_begun : (old new : Memory) (place : ℕ) (name : List ℕ) → place + 32 ≤ length old.base → Adds old new (Store (place + 1) (length name) ∷ []) → NameSoFar old new place 0 name
+name_begun old new place name in_range adds = record {
+  stores = may_one (AnyAt (IsWithin (place + 1) 31)) old new (place + 1) (length name) (record { low = omega arith; high = omega arith }) adds;
+  count = stored_here old new (place + 1) (length name) adds (omega (arith, in_range));
+  bytes = λ o low none. absurd (omega (arith, none));
+}
+
+module _ (old middle : Memory) (place words : ℕ) (name : List ℕ) (before : NameSoFar old middle place words name) where
+  pub base_so_far : length middle.base ≡ length old.base
+  base_so_far = ap length (base-adds old middle _ before.stores.adds)
+
+  pub room_so_far : room_in old ≤ room_in middle + (words + 1)
+  room_so_far =
+      let left = room_after_may (AnyAt (IsWithin (place + 1) 31)) 0 (words + 1) old middle before.stores in
+      omega (arith, left)
+
+  module _ (new : Memory) (value : ℕ) (in_range : place + 32 ≤ length old.base) (few : words < 30) (adds : Adds middle new (Store (place + 2 + words) value ∷ []))
+      (spells : (c : ℕ) → c < 8 → byte_of value c ≡ get_or name (8 * words + c) 0) where
+    here_or_before : (o : ℕ) → o < length name → o / 8 < words + 1 → (o / 8 ≡ words) ⊎ (o / 8 ≡ words → ⊥) →
+        byte_of (word (current_words new) (place + 2 + o / 8)) (o % 8) ≡ get_or name o 0
+    here_or_before o low done (inl same) =
+        let whole : 8 * words + o % 8 ≡ o = omega (arith, same) in
+        rw (same, stored_here middle new (place + 2 + words) value adds (omega (arith, in_range, few, base_so_far))) (spells (o % 8) (omega arith) ∙ ap (λ n. get_or name n 0) whole)
+    here_or_before o low done (inr other) =
+        rw (stored_elsewhere middle new (place + 2 + words) value adds (place + 2 + o / 8) (λ e. other (omega (arith, e)))) (before.bytes o low (omega (arith, done, other)))
+
+    pub name_more : NameSoFar old new place (words + 1) name
+    name_more = record {
+      stores = may_store (AnyAt (IsWithin (place + 1) 31)) 0 (words + 1) old middle new (place + 2 + words) value before.stores (record { low = omega arith; high = omega (arith, few) }) adds;
+      count = stored_elsewhere middle new (place + 2 + words) value adds (place + 1) (λ e. omega (arith, e)) ∙ before.count;
+      bytes = λ o low done. here_or_before o low done (cases_eq (o / 8) words);
+    }
+
+  pub name_done : words ≤ 30 → length name ≤ 8 * words → HasNameAt (current_words middle) place name
+  name_done few all = record { count = before.count; bytes = λ o low. before.bytes o low (omega (arith, low, all)) }
+
+  pub name_stores : words ≤ 30 → AddsMay (AnyAt (IsWithin (place + 1) 31)) 0 31 old middle
+  name_stores few = may_more (AnyAt (IsWithin (place + 1) 31)) 0 (words + 1) 0 31 old middle (omega arith) (omega (arith, few)) before.stores
+
+-- the inumber, and then the length and the name
+module _ (old middle new : Memory) (place j : ℕ) (in_range : place < length old.base) (enters : Adds old middle (Store place j ∷ [])) (spells : AddsMay (AnyAt (IsWithin (place + 1) 31)) 0 31 middle new) where
+  pub entry_stores : AddsMay (AnyAt (IsWithin place 32)) 0 32 old new
+  entry_stores = may_twice (AnyAt (IsWithin place 32)) 0 1 old 0 31 middle new
+      (may_one (AnyAt (IsWithin place 32)) old middle place j (record { low = omega arith; high = omega arith }) enters)
+      (may_weaker (AnyAt (IsWithin (place + 1) 31)) (AnyAt (IsWithin place 32)) 0 31 middle new
+      (λ w v inside.
+      let low : place + 1 ≤ w = inside.low in
+      let high : w < place + 1 + 31 = inside.high in
+      record { low = omega arith; high = omega arith }) spells)
+
+  pub entry_inumber : word (current_words new) place ≡ j
+  entry_inumber =
+      may_frame (AnyAt (IsWithin (place + 1) 31)) 0 31 middle new spells place (λ v inside. let above : place + 1 ≤ place = inside.low in omega (arith, above))
+      ∙ stored_here old middle place j enters in_range

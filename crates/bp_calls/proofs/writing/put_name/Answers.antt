@@ -1,0 +1,15 @@
+use Rattle.std.proofs.Common.{arith}
+use Rattle.bp_calls.proofs.Writes.{name_begun, name_more, room_so_far}
+use Rattle.bp_calls.proofs.writing.put_name.Goals as goal
+
+pub loop-i-init : goal.loop-i-init
+loop-i-init g c = name_begun _ _ c.args.place c.args.name.now c.requires.in_range c.store.ensures
+
+pub store-requires-in-loop-i-clause-room : goal.store-requires-in-loop-i-clause-room
+store-requires-in-loop-i-clause-room g c =
+    omega (arith, c.requires.room, c.requires.short, room_so_far (g.R.Region.memory c.args.region.now) (g.R.Region.memory c.loop-i.region) c.args.place c.loop-i.i c.args.name.now c.loop-i.invariant)
+
+pub loop-i-preserved : goal.loop-i-preserved
+loop-i-preserved g c =
+    name_more (g.R.Region.memory c.args.region.now) (g.R.Region.memory c.loop-i.region) c.args.place c.loop-i.i c.args.name.now c.loop-i.invariant (g.R.Region.memory c.store-in-loop-i.new.self) _
+    c.requires.in_range (omega (arith, c.requires.short)) c.store-in-loop-i.ensures c.name_word.ensures

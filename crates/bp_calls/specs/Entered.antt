@@ -1,0 +1,35 @@
+-- What stands ready for a new name, before the one store that shows it.
+use Rattle.std.specs.Prelude.{◌≡◌, ◌⊎◌, ℕ, ◌+◌, ◌/◌, ◌<◌, ◌≤◌}
+use Rattle.bp_layout.specs.Directory.{Name, inumber_at, inumber_in, name_at, name_in, entry_count}
+use Rattle.bp_layout.specs.Free.{IsFreeInode}
+use Rattle.bp_layout.specs.Inode.{kind_of, root_of, size_of}
+use Rattle.bp_layout.specs.Reached.{IsReached, IsFreeBlock}
+use Rattle.bp_layout.specs.Tree.{HasBlock, IsSound, IsFull}
+use Rattle.bp_layout.specs.Words.{Image}
+
+-- inode j, which no path reaches, is a file or a directory without bytes
+pub record IsNewInode (image : Image) (j kind : ℕ) : Type 0 where
+  pub free : IsFreeInode image j
+  pub kind_is : kind_of image j ≡ kind
+  pub least : 1 ≤ kind
+  pub most : kind ≤ 2
+  pub empty : size_of image j ≡ 0
+
+-- entry s of directory i is empty, and has this name in its other words
+pub record IsReadyEntry (image : Image) (i s : ℕ) (name : Name) : Type 0 where
+  pub reached : IsReached image i
+  pub directory : kind_of image i ≡ 2
+  pub slot : s < entry_count image i
+  pub empty : inumber_at image i s ≡ 0
+  pub spelled : name_at image i s ≡ name
+
+-- Behind the last entry of directory i there is one for inode j with this name. Read with one entry more the tree is sound and
+-- without a null, and its new blocks are free.
+pub record IsReadyBehind (image : Image) (i j : ℕ) (name : Name) : Type 0 where
+  pub reached : IsReached image i
+  pub directory : kind_of image i ≡ 2
+  pub sound : IsSound image (root_of image i) (size_of image i + 256)
+  pub full : IsFull image (root_of image i) (size_of image i + 256)
+  pub blocks : (b : ℕ) → HasBlock image (root_of image i) (size_of image i + 256) b → HasBlock image (root_of image i) (size_of image i) b ⊎ IsFreeBlock image b
+  pub inumber : inumber_in image (root_of image i) (size_of image i / 256) ≡ j
+  pub spelled : name_in image (root_of image i) (size_of image i / 256) ≡ name

@@ -1,0 +1,7 @@
+pub mod Sets
+pub mod Entered
+pub mod Created
+pub mod Spare
+pub mod Written
+pub mod Steps
+pub mod Sample

@@ -1,0 +1,19 @@
+-- What is written before a name is shown: an inode, and an entry.
+use Rattle.std.specs.Prelude.{◌≡◌, ℕ, ◌+◌, ◌/◌, ◌%◌, ◌<◌, ◌≤◌, length, slice_index}
+use Rattle.bp_layout.specs.Directory.{Name}
+use Rattle.bp_layout.specs.Words.{Image, word, byte_of}
+
+-- one of so many places from the first on
+pub record IsWithin (first count place : ℕ) : Type 0 where
+  pub low : first ≤ place
+  pub high : place < first + count
+
+-- an inode of this kind, without bytes, stands at this place
+pub record HasInodeAt (image : Image) (place kind : ℕ) : Type 0 where
+  pub kind_is : word image place ≡ kind
+  pub size : word image (place + 2) ≡ 0
+
+-- the length and the bytes of a name stand in the entry at this place
+pub record HasNameAt (image : Image) (place : ℕ) (name : Name) : Type 0 where
+  pub count : word image (place + 1) ≡ length name
+  pub bytes : (o : ℕ) → o < length name → byte_of (word image (place + 2 + o / 8)) (o % 8) ≡ slice_index name o

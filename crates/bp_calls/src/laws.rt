@@ -1,0 +1,60 @@
+//! Laws of the paths of words, and of what a new name needs. Each is the contract of a function that does nothing.
+
+ghost use Rattle.std.specs.Prelude.{◌≡◌, ◌≢◌, ℕ, ◌*◌, ◌%◌, ◌<◌, ◌≤◌, [], None, Some, true, length};
+ghost use Rattle.bp_calls.specs.Created.{NeedsLeaf};
+ghost use Rattle.bp_free.specs.Set.{has, members};
+ghost use Rattle.bp_layout.specs.Directory.{empty_slot};
+ghost use Rattle.bp_layout.specs.Free.{AreFreeBlocks, HasFree};
+ghost use Rattle.bp_layout.specs.Inode.{kind_of, root_of, size_of};
+ghost use Rattle.bp_layout.specs.Need.{Change, content_path, existing_from, height_after, need};
+ghost use Rattle.bp_layout.specs.Need.Change.{enters};
+ghost use Rattle.bp_layout.specs.Reached.{IsFreeBlock, IsReached};
+ghost use Rattle.bp_layout.specs.Tree.{IsFull};
+ghost use Rattle.bp_layout.specs.WellFormed.{IsWellFormed};
+ghost use Rattle.bp_layout.specs.Words.{block_count, height_of};
+
+use bp_free::Blocks;
+
+/// Where a change keeps the heights of the inode file and of a tree without a null, the whole path of each content word of
+/// the tree exists.
+pub fn content_paths_exist(image: &[u64])
+    requires { IsWellFormed image.now }
+    ensures { (change : Change) (t k : ℕ) → IsReached image.now t → IsFull image.now (root_of image.now t) (size_of image.now t) → 8 * k < size_of image.now t
+        → height_after image.now change 0 ≡ height_of (root_of image.now 0) → height_after image.now change t ≡ height_of (root_of image.now t)
+        → existing_from image.now change [] (content_path image.now change t k) ≡ content_path image.now change t k }
+{}
+
+/// Where an inode is free, a new name needs no block in an empty entry, none in the last leaf of its directory where that
+/// leaf is not full, and one block in a directory without entries.
+pub fn new_name_needs(image: &[u64], dir: u64)
+    requires well_formed { IsWellFormed image.now }
+    requires reached { IsReached image.now dir }
+    requires directory { kind_of image.now dir ≡ 2 }
+    ensures in_slot { (slot : ℕ) → empty_slot image.now dir ≡ Some slot → need image.now (enters dir true) ≡ 0 }
+    ensures behind { empty_slot image.now dir ≡ None → 0 < size_of image.now dir → size_of image.now dir % 4096 ≢ 0 → need image.now (enters dir true) ≡ 0 }
+    ensures first { empty_slot image.now dir ≡ None → size_of image.now dir ≡ 0 → need image.now (enters dir true) ≡ 1 }
+{}
+
+/// Unless its directory needs one more leaf, a new name needs at most one block, and there is room for it where a block is
+/// free.
+pub fn new_name_needs_at_most_one(image: &[u64], dir: u64)
+    requires well_formed { IsWellFormed image.now }
+    requires reached { IsReached image.now dir }
+    requires directory { kind_of image.now dir ≡ 2 }
+    requires no_leaf { ¬ NeedsLeaf image.now dir }
+    ensures few { need image.now (enters dir true) ≤ 1 }
+    ensures room { (block free : ℕ) → IsFreeBlock image.now block → HasFree image.now free → need image.now (enters dir true) ≤ free }
+{}
+
+/// An image has one number of free blocks.
+pub fn one_number_is_free(image: &[u64])
+    ensures { (one other : ℕ) → HasFree image.now one → HasFree image.now other → one ≡ other }
+{}
+
+/// The blocks of an exact set are as many as the image has free.
+pub fn set_has_the_free(image: &[u64], blocks: &Blocks)
+    requires exact { AreFreeBlocks image.now (has blocks.now) }
+    requires room { length blocks.now ≡ block_count image.now }
+    ensures count { HasFree image.now (length (members blocks.now)) }
+    ensures none { members blocks.now ≡ [] → HasFree image.now 0 }
+{}

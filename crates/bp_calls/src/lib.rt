@@ -1,0 +1,13 @@
+//! The calls of a file system on inodes: what is left of a call once its path was walked.
+#![tactic(auto)]
+
+mod creating;
+mod entering;
+mod fault;
+pub mod laws;
+#[cfg(test)]
+mod tests;
+mod writing;
+
+pub use creating::create;
+pub use fault::CreateFault;

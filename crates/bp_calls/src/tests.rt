@@ -1,0 +1,205 @@
+//! New names in a root directory that begins with two empty entries.
+
+ghost use Rattle.std.specs.Prelude.{◌≡◌, IsTrue, IfOk, IfSome};
+ghost use Rattle.bp_calls.specs.Sample.{IsSample};
+ghost use Rattle.bp_calls.specs.Sets.{AreExact};
+ghost use Rattle.bp_layout.specs.Directory.{IsName};
+ghost use Rattle.bp_layout.specs.Inode.{kind_of};
+ghost use Rattle.bp_layout.specs.Reached.{IsReached};
+ghost use Rattle.bp_layout.specs.WellFormed.{IsWellFormed};
+ghost use Rattle.pm_region.specs.Memory.{current_words};
+
+use crate::entering::tree_of;
+use crate::{CreateFault, create};
+use bp_dirs::{find, inumber};
+use bp_free::{Blocks, Inodes, Parts};
+use bp_layout::Kind;
+use bp_layout::limits::{MAGIC, MAX_NAME};
+use pm_region::{ListRegion, Region};
+use std::alloc::{AllocError, Global};
+use std::test::Fail;
+
+/// The words with which each test begins.
+fn sample_words(alloc: Global) -> Result<Vec<u64>, AllocError>
+    ensures { IfOk result (λ words. IsSample words.items) }
+{
+    let mut words = vec![in alloc; 0u64; 4096]?;
+    words[0] = MAGIC;
+    words[1] = 8;
+    words[2] = 0x1000;
+    words[3] = 4096;
+    words[520] = 2;
+    words[521] = 0x2000;
+    words[522] = 512;
+    words[1024] = 0;
+    words[1056] = 0;
+    Ok(words)
+}
+
+/// The same with their free numbers.
+fn sample(alloc: Global) -> Result<Parts<ListRegion>, AllocError>
+    ensures well_formed { IfOk result (λ parts. IsWellFormed (current_words parts.region)) }
+    ensures exact { IfOk result (λ parts. AreExact (current_words parts.region) parts.blocks parts.inodes) }
+{
+    let words = sample_words(alloc)?;
+    let region = ListRegion::new(alloc, words, 4096)?;
+    let mut blocks = Blocks::new(alloc, 8)?;
+    blocks.fill(3, 8);
+    let mut inodes = Inodes::new(alloc, 512)?;
+    inodes.fill(2, 64);
+    Ok(Parts {
+        region,
+        blocks,
+        inodes,
+    })
+}
+
+/// Whether bytes have the form of a name.
+fn is_name(name: &[u8]) -> bool
+    ensures { IsTrue result → IsName name.now }
+{
+    if name.is_empty() || name.len() > MAX_NAME {
+        return false;
+    }
+    if name == b".".as_slice() || name == b"..".as_slice() {
+        return false;
+    }
+    name.iter().all(|byte| *byte != 0 && *byte != b'/')
+}
+
+/// The directory with a name in the root directory, or the root directory for no name.
+fn directory<R: Region>(region: &R, name: &[u8]) -> Option<u32>
+    requires { IsWellFormed (current_words (R.memory region.now)) }
+    ensures reached { IfSome result (λ dir. IsReached (current_words (R.memory region.now)) dir) }
+    ensures directory { IfSome result (λ dir. kind_of (current_words (R.memory region.now)) dir ≡ 2) }
+{
+    if name.is_empty() {
+        return Some(1);
+    }
+    if name.len() > MAX_NAME {
+        return None;
+    }
+    let root = tree_of(region, 1);
+    let slot = find(region, root, name)?;
+    let inode = u32::try_from(inumber(region, root, slot)).ok()?;
+    match bp_inodes::get(region, inode).kind {
+        Kind::Dir => Some(inode),
+        Kind::File => None,
+    }
+}
+
+/// Creates a name in a directory, `None` where it may not be asked for.
+fn make(
+    parts: &mut Parts<ListRegion>,
+    parent: &[u8],
+    name: &[u8],
+    kind: Kind,
+) -> Option<Result<(), CreateFault>>
+    requires well_formed { IsWellFormed (current_words parts.old.region) }
+    requires exact { AreExact (current_words parts.old.region) parts.old.blocks parts.old.inodes }
+    ensures well_formed { IsWellFormed (current_words parts.new.region) }
+    ensures exact { AreExact (current_words parts.new.region) parts.new.blocks parts.new.inodes }
+{
+    let dir = directory(&parts.region, parent)?;
+    if !is_name(name) || parts.region.room() < 64 {
+        return None;
+    }
+    let tree = tree_of(&parts.region, dir);
+    if find(&parts.region, tree, name).is_some() {
+        return None;
+    }
+    Some(create(parts, dir, name, kind))
+}
+
+/// Creates a name of each letter, and tells whether all were created.
+fn make_all(parts: &mut Parts<ListRegion>, parent: &[u8], letters: &[u8], kind: Kind) -> bool
+    requires well_formed { IsWellFormed (current_words parts.old.region) }
+    requires exact { AreExact (current_words parts.old.region) parts.old.blocks parts.old.inodes }
+    ensures well_formed { IsWellFormed (current_words parts.new.region) }
+    ensures exact { AreExact (current_words parts.new.region) parts.new.blocks parts.new.inodes }
+{
+    let mut all = true;
+    for letter in letters {
+        all &= make(parts, parent, &[*letter], kind) == Some(Ok(()));
+    }
+    all
+}
+
+/// A word, `None` behind the last.
+fn word(parts: &Parts<ListRegion>, place: u32) -> Option<u64> {
+    if place < parts.region.words() {
+        Some(parts.region.load(place))
+    } else {
+        None
+    }
+}
+
+#[test]
+fn a_name_goes_into_an_empty_slot_or_behind(rt: HostRuntime) -> Result<(), Fail> {
+    let mut parts = sample(rt.alloc())?;
+    let parts = &mut parts;
+    assert_eq!(rt; make(parts, b"", b"abcdefghi", Kind::File), Some(Ok(())));
+    assert_eq!(rt; make(parts, b"", b"b", Kind::Dir), Some(Ok(())));
+    assert_eq!(rt; word(parts, 522), Some(512));
+    assert_eq!(rt; word(parts, 1024), Some(2));
+    assert_eq!(rt; word(parts, 1025), Some(9));
+    assert_eq!(rt; word(parts, 1027), Some(0x69));
+    assert_eq!(rt; word(parts, 1056), Some(3));
+    assert_eq!(rt; word(parts, 528), Some(1));
+    assert_eq!(rt; word(parts, 536), Some(2));
+    assert_eq!(rt; make(parts, b"", b"c", Kind::File), Some(Ok(())));
+    assert_eq!(rt; word(parts, 522), Some(768));
+    assert_eq!(rt; word(parts, 1088), Some(4));
+    assert_eq!(rt; parts.blocks.count(), 5);
+    assert_eq!(rt; parts.inodes.count(), 59);
+    Ok(())
+}
+
+#[test]
+fn a_first_name_takes_a_block_until_none_is_free(rt: HostRuntime) -> Result<(), Fail> {
+    let mut parts = sample(rt.alloc())?;
+    let parts = &mut parts;
+    assert!(rt; make_all(parts, b"", b"abcdef", Kind::Dir));
+    assert_eq!(rt; make(parts, b"a", b"x", Kind::Dir), Some(Ok(())));
+    assert_eq!(rt; word(parts, 529), Some(0x3000));
+    assert_eq!(rt; word(parts, 530), Some(256));
+    assert_eq!(rt; word(parts, 1536), Some(8));
+    assert_eq!(rt; parts.blocks.count(), 4);
+    for parent in [b"b", b"c", b"d", b"e"] {
+        assert!(rt; make_all(parts, parent, b"x", Kind::File));
+    }
+    let events = parts.region.event_count();
+    assert_eq!(rt;
+        make(parts, b"f", b"x", Kind::File),
+        Some(Err(CreateFault::NoSpace { need: 1, free: 0 }))
+    );
+    assert_eq!(rt; parts.region.event_count(), events);
+    assert_eq!(rt; parts.inodes.count(), 51);
+    Ok(())
+}
+
+#[test]
+fn a_full_leaf_and_a_want_of_inodes_are_for_later(rt: HostRuntime) -> Result<(), Fail> {
+    let mut parts = sample(rt.alloc())?;
+    let parts = &mut parts;
+    assert!(rt; make_all(parts, b"", b"abcdefghijklmnop", Kind::Dir));
+    assert_eq!(rt;
+        make(parts, b"", b"q", Kind::Dir),
+        Some(Err(CreateFault::Later))
+    );
+    assert_eq!(rt; parts.inodes.count(), 46);
+    assert!(rt; make_all(parts, b"a", b"abcdefghijklmnop", Kind::File));
+    assert!(rt; make_all(parts, b"b", b"abcdefghijklmnop", Kind::File));
+    assert!(rt; make_all(parts, b"c", b"abcdefghijklmn", Kind::File));
+    assert_eq!(rt; parts.inodes.count(), 0);
+    assert_eq!(rt;
+        make(parts, b"c", b"o", Kind::File),
+        Some(Err(CreateFault::Later))
+    );
+    assert_eq!(rt;
+        make(parts, b"d", b"o", Kind::File),
+        Some(Err(CreateFault::Later))
+    );
+    assert_eq!(rt; parts.blocks.count(), 2);
+    Ok(())
+}

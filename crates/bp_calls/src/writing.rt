@@ -1,0 +1,55 @@
+//! Stores of a new inode, and of an entry that names it.
+
+ghost use Rattle.std.specs.Prelude.{◌≡◌, ◌+◌, ◌≤◌, length};
+ghost use Rattle.bp_calls.specs.Written.{HasInodeAt, HasNameAt, IsWithin};
+ghost use Rattle.bp_layout.specs.Fields.{kind_word};
+ghost use Rattle.bp_layout.specs.Limits.{max_name};
+ghost use Rattle.bp_layout.specs.Words.{word};
+ghost use Rattle.pm_epochs.specs.May.{AnyAt};
+ghost use Rattle.pm_region.specs.Memory.{current_words, room_in};
+ghost use Rattle.pm_region.specs.Safe.{AddsMay};
+
+use bp_layout::{Kind, name_word};
+use pm_region::Region;
+
+/// Makes the inode at a place a file or a directory without bytes.
+pub(crate) fn put_inode<R: Region>(region: &mut R, place: u32, kind: Kind)
+    requires in_range { place + 3 ≤ length (R.memory region.old).base }
+    requires room { 3 ≤ room_in (R.memory region.old) }
+    ensures stores { AddsMay (AnyAt (IsWithin place 3)) 0 3 (R.memory region.old) (R.memory region.new) }
+    ensures inode { HasInodeAt (current_words (R.memory region.new)) place (kind_word kind) }
+{
+    // Words are counted in 32 bits, so that the last place fits.
+    let _words = region.words();
+    region.store(place, kind.word());
+    region.store(place + 1, 0);
+    region.store(place + 2, 0);
+}
+
+/// Writes a name into the entry at a place: its length, and its bytes.
+pub(crate) fn put_name<R: Region>(region: &mut R, place: u32, name: &[u8])
+    requires in_range { place + 32 ≤ length (R.memory region.old).base }
+    requires short { length name.now ≤ max_name }
+    requires room { 31 ≤ room_in (R.memory region.old) }
+    ensures stores { AddsMay (AnyAt (IsWithin (place + 1) 31)) 0 31 (R.memory region.old) (R.memory region.new) }
+    ensures name { HasNameAt (current_words (R.memory region.new)) place name.now }
+{
+    let _words = region.words();
+    region.store(place + 1, name.len() as u64);
+    for i in 0..name.len().div_ceil(8) {
+        region.store(place + 2 + i as u32, name_word(name, i));
+    }
+}
+
+/// Writes an inumber and a name into the entry at a place.
+pub(crate) fn put_entry<R: Region>(region: &mut R, place: u32, inode: u32, name: &[u8])
+    requires in_range { place + 32 ≤ length (R.memory region.old).base }
+    requires short { length name.now ≤ max_name }
+    requires room { 32 ≤ room_in (R.memory region.old) }
+    ensures stores { AddsMay (AnyAt (IsWithin place 32)) 0 32 (R.memory region.old) (R.memory region.new) }
+    ensures inumber { word (current_words (R.memory region.new)) place ≡ inode }
+    ensures name { HasNameAt (current_words (R.memory region.new)) place name.now }
+{
+    region.store(place, u64::from(inode));
+    put_name(region, place, name);
+}

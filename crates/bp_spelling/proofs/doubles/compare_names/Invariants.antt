@@ -1,8 +1,0 @@
-use Rattle.std.proofs.Common.{◌≡◌}
-use Rattle.pm_region.specs.Memory.{current_words}
-use Rattle.bp_spelling.specs.Places.{name_cmp}
-use Rattle.bp_spelling.proofs.NameOrder.{rest_cmp}
-use Rattle.bp_spelling.proofs.doubles.compare_names.Given as goal
-
-abbrev pub invariant-loop-part : goal.invariant-loop-part
-invariant-loop-part g l = rest_cmp (current_words (g.R.Region.memory l.region)) l.a l.b l.part ≡ name_cmp (current_words (g.R.Region.memory l.region)) l.a l.b

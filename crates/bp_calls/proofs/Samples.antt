@@ -1,12 +1,12 @@
 -- The image with which tests begin is well formed, and these are its free numbers.
-use Rattle.std.proofs.Common.{◌≡◌, ◌≢◌, ◌⊎◌, ℕ, zero, suc, ◌+◌, ◌*◌, ◌/◌, ◌%◌, ◌<◌, ◌≤◌, [], ◌∷◌, List, length, Bool, true, false, refl, sym, ◌∙◌, ap, subst, suc-ne-zero, arith, inl, inr, true≢false}
+use Rattle.std.proofs.Common.{◌≡◌, ◌≢◌, ◌⊎◌, ℕ, zero, suc, ◌+◌, ◌*◌, ◌/◌, ◌%◌, ◌^◌, ◌<◌, ◌≤◌, [], ◌∷◌, List, length, Bool, true, false, Some, refl, sym, ◌∙◌, ap, subst, suc-ne-zero, arith, inl, inr, true≢false}
 use Rattle.std.proofs.lemmas.Bool.{cases_lt}
 use Rattle.std.proofs.lemmas.List.{length-replicate, get_or-replicate}
 use Rattle.bp_free.proofs.Members.{has_past}
 use Rattle.bp_calls.specs.Sample.{IsSample}
 use Rattle.bp_calls.specs.Sets.{AreExact}
 use Rattle.bp_free.specs.Set.{Set, Fills, has, empty}
-use Rattle.bp_layout.specs.Directory.{EntryNames, entry_count, inumber_at}
+use Rattle.bp_layout.specs.Directory.{EntryNames, Name, entry_count, inumber_at, inumber_in, is_named_in, slot_named_in}
 use Rattle.bp_layout.specs.Free.{IsFreeInode}
 use Rattle.bp_layout.specs.Inode.{kind_of, root_of, size_of, inode_word, inode_count}
 use Rattle.bp_layout.specs.Reached.{IsReached, IsLiveBlock, IsFreeBlock}
@@ -16,6 +16,10 @@ use Rattle.bp_layout.specs.Tree.{HasBlock, IsFull, IsSound}
 use Rattle.bp_layout.specs.WellFormed.{IsWellFormed}
 use Rattle.bp_layout.specs.Words.{Image, word, block_count, block_of, height_of, slot_word}
 use Rattle.bp_layout.specs.Limits.{magic}
+use Rattle.bp_inodes.proofs.FewInodes.{few_inodes}
+use Rattle.bp_layout.proofs.Frame.{reached-in_file}
+use Rattle.bp_layout.proofs.Finding.{Finds, find-passes}
+use Rattle.bp_layout.proofs.View.{named_true}
 use Rattle.bp_layout.proofs.LastValue.{AllWithinImage, length-after_stores, word-after_stores}
 use Rattle.bp_layout.proofs.SmallTrees.{content_word-leaf, leaf_sound, leaf_full, node-zero, one_live}
 
@@ -213,3 +217,36 @@ module _ (image : Image) (sample : IsSample image) where
       above : (b : ℕ) → IsFreeBlock image b → (b < 3) ⊎ (3 ≤ b) → 3 ≤ b
       above b open_block (inl low) = absurd (open_block.free (live_block b open_block.low (omega (arith, low))))
       above b open_block (inr high) = high
+
+reached_kind : (image : Image) → IsWellFormed image → (i : ℕ) → IsReached image i → i ≢ 0 → (1 ≤ kind_of image i) × (kind_of image i ≤ 2)
+reached_kind image wf zero reached some = absurd (some refl)
+reached_kind image wf (suc i) reached some = wf.kinds i reached
+
+-- the inode that a name of the root directory stands for
+pub record IsNamed (image : Image) (size slot j : ℕ) : Type 0 where
+  pub low : slot < size / 256
+  pub reached : IsReached image j
+  pub some : 1 ≤ j
+  pub there : j < inode_count image
+  pub few : j < 2 ^ 32
+  pub least : 1 ≤ kind_of image j
+  pub most : kind_of image j ≤ 2
+
+pub named_inode : (image : Image) → IsWellFormed image → (root size slot j : ℕ) (name : Name) → root ≡ root_of image 1 → size ≡ size_of image 1 → Some slot ≡ slot_named_in image root size name → j ≡ inumber_in image root slot → IsNamed image size slot j
+named_inode image wf root size slot j name same long found is =
+    let passes : Finds (is_named_in image root name) 0 (size / 256) slot = find-passes _ 0 _ slot (sym found) in
+    let not_empty : inumber_in image root slot ≢ 0 = (named_true _ _ passes.passes).0 in
+    let some : j ≢ 0 = λ e. not_empty (sym is ∙ e) in
+    let reached : IsReached image j = named slot root_directory (record { directory = wf.root_kind; in_size = omega (arith, passes.high, long); inumber = ap (λ r. inumber_in image r slot) (sym same) ∙ sym is; not_empty = some }) in
+    let there : j < inode_count image = reached-in_file image wf j reached in
+    let few : size_of image 0 / 64 ≤ 64 * block_count image = few_inodes image (root_of image 0) (size_of image 0) (wf.sound 0 inode_file) wf.full_inode_file (omega (arith, wf.at_least)) wf.inode_blocks in
+    let kinds = reached_kind image wf j reached some in
+    record {
+      low = omega (arith, passes.high);
+      reached = reached;
+      some = omega (arith, some);
+      there = there;
+      few = omega (arith, there, few, wf.at_most);
+      least = kinds.0;
+      most = kinds.1;
+    }

@@ -81,7 +81,7 @@ fn directory<R: Region>(region: &R, name: &[u8]) -> Option<u32>
     }
     let root = tree_of(region, 1);
     let slot = find(region, root, name)?;
-    let inode = u32::try_from(inumber(region, root, slot)).ok()?;
+    let inode = inumber(region, root, slot) as u32;
     match bp_inodes::get(region, inode).kind {
         Kind::Dir => Some(inode),
         Kind::File => None,

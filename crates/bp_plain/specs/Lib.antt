@@ -4,4 +4,5 @@ pub mod Calls
 pub mod Refusals
 pub mod Plain
 pub mod Seen
+pub mod ReplyView
 pub mod SeenAnswers

@@ -1,6 +1,6 @@
 -- The answers of the program as those of the definitions.
-use Rattle.std.specs.Prelude.{ℕ, ◌≤◌, List, length}
-use Rattle.std.specs.Vec.{vec_len, vec_capacity}
+use Rattle.std.specs.Prelude.{ℕ, ◌≡◌, ◌≤◌, List, length, take}
+use Rattle.std.specs.Vec.{vec_len}
 use Rattle.bp_plain.specs.declared.replies.Answer.{Answer as GivenAnswer}
 use Rattle.bp_plain.specs.declared.replies.Answer.TheVariants as given
 use Rattle.bp_plain.specs.declared.replies.Held.{Held}
@@ -8,6 +8,7 @@ use Rattle.bp_plain.specs.declared.replies.Held.TheVariants as held
 use Rattle.bp_plain.specs.declared.replies.Reply.TheInside.{Inside}
 use Rattle.bp_plain.specs.Calls.{Answer, most_bytes}
 use Rattle.bp_plain.specs.Calls.Answer.{done, bytes, file_of, dir_of, names, refused}
+use Rattle.bp_plain.specs.ReplyView.{ReplyView}
 use Rattle.bp_plain.specs.Seen.{refusal_of}
 
 abbrev pub answer_seen : GivenAnswer → Answer
@@ -18,24 +19,28 @@ answer_seen (given.DirOf count) = dir_of count
 answer_seen (given.Names listing) = names listing.now
 answer_seen (given.Refused error) = refused (refusal_of error)
 
--- what is held, with the bytes of the buffer
+-- what is held, with the first bytes of the buffer
 abbrev pub held_answer : Held → List ℕ → Answer
 held_answer held.Done buffer = done
-held_answer held.Bytes buffer = bytes buffer
+held_answer (held.Bytes count) buffer = bytes (take count buffer)
 held_answer (held.FileOf size) buffer = file_of size
 held_answer (held.DirOf count) buffer = dir_of count
 held_answer (held.Names listing) buffer = names listing
 held_answer (held.Refused error) buffer = refused (refusal_of error)
 
-abbrev pub reply_answer : Inside → Answer
-reply_answer reply = held_answer reply.held reply.buffer.items
+abbrev pub reply_seen : Inside → ReplyView
+reply_seen reply = record { answer = held_answer reply.held reply.buffer.items; buffer = reply.buffer.items }
 
 -- the bytes that are answered are no more than one call reads
 abbrev pub IsShortAnswer : GivenAnswer → Type 0
 IsShortAnswer (given.Bytes content) = length content.now ≤ most_bytes
 IsShortAnswer _ = Unit {0}
 
--- the buffer has room for every answer, and holds no more
+abbrev pub HeldFits : Held → Type 0
+HeldFits (held.Bytes count) = count ≤ most_bytes
+HeldFits _ = Unit {0}
+
+-- the buffer has all the bytes that one call reads, and no more are answered
 pub record FitsBuffer (reply : Inside) : Type 0 where
-  pub room : most_bytes ≤ vec_capacity reply.buffer
-  pub few : vec_len reply.buffer ≤ most_bytes
+  pub whole : vec_len reply.buffer ≡ most_bytes
+  pub few : HeldFits reply.held

@@ -9,4 +9,13 @@ pub enum Call<'a> {
     List(&'a [u8]),
     /// Asks for the size of the file, or the count of the directory, at a path.
     Stat(&'a [u8]),
+    /// Asks for at most `len` bytes of the file at a path, from byte `off` on.
+    Read {
+        /// The path.
+        path: &'a [u8],
+        /// The place of the first byte in the file.
+        off: u64,
+        /// The most bytes that are asked for.
+        len: usize,
+    },
 }

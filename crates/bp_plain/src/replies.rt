@@ -3,7 +3,7 @@
 ghost use Rattle.bp_plain.specs.Calls.Answer.{bytes, dir_of, done, file_of, names, refused};
 ghost use Rattle.bp_plain.specs.Calls.{most_bytes};
 ghost use Rattle.bp_plain.specs.Seen.{refusal_of};
-ghost use Rattle.std.specs.Prelude.{IfOk, length, ◌≡◌, ◌≤◌};
+ghost use Rattle.std.specs.Prelude.{IfOk, length, take, ◌≡◌, ◌≤◌};
 
 use crate::errors::FsError;
 use bp_layout::Listing;
@@ -30,11 +30,11 @@ pub enum Answer<'a> {
     Refused(FsError),
 }
 
-// An answer as a reply keeps it: its bytes are those of the buffer.
+// An answer as a reply keeps it: its bytes are so many of the buffer, from the first on.
 #[derive(Drop)]
 enum Held {
     Done,
-    Bytes,
+    Bytes(usize),
     FileOf(u64),
     DirOf(u64),
     Names(Listing),
@@ -49,26 +49,29 @@ pub struct Reply {
 }
 
 impl Model for Reply {
-    ghost use Rattle.bp_plain.specs.Calls.{Answer};
+    ghost use Rattle.bp_plain.specs.ReplyView.{ReplyView};
 
-    ghost Value = { Answer };
+    ghost Value = { ReplyView };
 
-    ghost use Rattle.bp_plain.specs.SeenAnswers.{FitsBuffer, reply_answer};
+    ghost use Rattle.bp_plain.specs.SeenAnswers.{FitsBuffer, reply_seen};
 
-    ghost view = { reply_answer };
+    ghost view = { reply_seen };
 
     // So no later call takes memory.
     ghost invariant = { FitsBuffer };
 }
 
 impl Reply {
+    ghost use Rattle.bp_plain.specs.ReplyView.{lent_out};
     ghost use Rattle.bp_plain.specs.SeenAnswers.{IsShortAnswer, answer_seen};
+    ghost use Rattle.bp_plain.specs.contracts.replies.Reply.{the_row};
+    ghost use Rattle.std.specs.Borrow.{Array, Lends, sem, u8 as byte};
 
-    /// A reply with room for every answer, at first that a call is done.
+    /// A reply with memory for every answer, at first that a call is done.
     pub fn new(alloc: Global) -> Result<Reply, AllocError>
-        ensures { IfOk result (λ reply. reply ≡ done) }
+        ensures { IfOk result (λ reply. reply.answer ≡ done) }
     {
-        let buffer = Vec::with_capacity(alloc, MOST_BYTES)?;
+        let buffer = vec![in alloc; 0u8; MOST_BYTES]?;
         Ok(Reply {
             held: Held::Done,
             buffer,
@@ -77,12 +80,12 @@ impl Reply {
 
     /// The answer.
     pub fn answer(&self) -> Answer<'_>
-        ensures seen { answer_seen result ≡ self.now }
+        ensures seen { answer_seen result ≡ self.now.answer }
         ensures short { IsShortAnswer result }
     {
         match &self.held {
             Held::Done => Answer::Done,
-            Held::Bytes => Answer::Bytes(&self.buffer),
+            Held::Bytes(count) => Answer::Bytes(&self.buffer[..*count]),
             Held::FileOf(size) => Answer::FileOf(*size),
             Held::DirOf(count) => Answer::DirOf(*count),
             Held::Names(listing) => Answer::Names(listing),
@@ -90,51 +93,62 @@ impl Reply {
         }
     }
 
+    /// The memory for the bytes of an answer, 65,536 bytes that may be written. The answer is then that the call was carried out.
+    pub fn buffer(&mut self) -> &mut [u8]
+        ensures* lends { sem 𝓛 (Lends the_row (Array byte 0) self.entry result (lent_out self.old)) }
+        ensures bytes { result.now ≡ self.old.buffer }
+        ensures len { length result.now ≡ most_bytes }
+    {
+        self.set_done();
+        self.buffer.as_mut_slice()
+    }
+
     /// Answers that the call was carried out.
     pub fn set_done(&mut self)
-        ensures { self.new ≡ done }
+        ensures answer { self.new.answer ≡ done }
+        ensures buffer { self.new.buffer ≡ self.old.buffer }
     {
         self.held = Held::Done;
     }
 
     /// Answers a file's size in bytes.
     pub fn set_file(&mut self, size: u64)
-        ensures { self.new ≡ file_of size }
+        ensures answer { self.new.answer ≡ file_of size }
+        ensures buffer { self.new.buffer ≡ self.old.buffer }
     {
         self.held = Held::FileOf(size);
     }
 
     /// Answers how many names a directory has.
     pub fn set_dir(&mut self, count: u64)
-        ensures { self.new ≡ dir_of count }
+        ensures answer { self.new.answer ≡ dir_of count }
+        ensures buffer { self.new.buffer ≡ self.old.buffer }
     {
         self.held = Held::DirOf(count);
     }
 
     /// Answers the names in a directory.
     pub fn set_names(&mut self, listing: Listing)
-        ensures { self.new ≡ names listing }
+        ensures answer { self.new.answer ≡ names listing }
+        ensures buffer { self.new.buffer ≡ self.old.buffer }
     {
         self.held = Held::Names(listing);
     }
 
     /// Answers a refusal.
     pub fn set_refused(&mut self, error: FsError)
-        ensures { self.new ≡ refused (refusal_of error) }
+        ensures answer { self.new.answer ≡ refused (refusal_of error) }
+        ensures buffer { self.new.buffer ≡ self.old.buffer }
     {
         self.held = Held::Refused(error);
     }
 
-    /// Answers bytes, which are copied into the reply's memory.
-    pub fn set_bytes(&mut self, content: &[u8])
-        requires { length content.now ≤ most_bytes }
-        ensures { self.new ≡ bytes content.now }
+    /// Answers the first `n` bytes of the buffer, at most 65,536.
+    pub fn set_bytes(&mut self, n: usize)
+        requires { n ≤ most_bytes }
+        ensures answer { self.new.answer ≡ bytes (take n self.old.buffer) }
+        ensures buffer { self.new.buffer ≡ self.old.buffer }
     {
-        self.buffer.clear();
-        match self.buffer.extend_from_slice(content) {
-            Ok(()) => {}
-            Err(_) => unreachable!(),
-        }
-        self.held = Held::Bytes;
+        self.held = Held::Bytes(n);
     }
 }

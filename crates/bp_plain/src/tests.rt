@@ -1,4 +1,8 @@
 // Each call once, and the numbers and words of refusals.
+ghost use Rattle.bp_plain.specs.Calls.Answer.{bytes};
+ghost use Rattle.bp_plain.specs.Calls.{most_bytes};
+ghost use Rattle.std.specs.Prelude.{drop, length, ◌++◌, ◌≡◌, ◌≤◌};
+
 use super::*;
 use std::test::Fail;
 
@@ -26,6 +30,22 @@ fn refusals(rt: HostRuntime) {
     }
 }
 
+// A caller knows what it answers by the memory that it was lent.
+fn answer_bytes(reply: &mut Reply, content: &[u8])
+    requires { length content.now ≤ most_bytes }
+    ensures { reply.new.answer ≡ bytes content.now }
+{
+    copy_to(content, reply.buffer());
+    reply.set_bytes(content.len());
+}
+
+fn copy_to(content: &[u8], into: &mut [u8])
+    requires { length content.now ≤ length into.old }
+    ensures { into.new ≡ content.now ++ drop (length content.now) into.old }
+{
+    into[..content.len()].copy_from_slice(content);
+}
+
 #[test]
 fn answers(rt: HostRuntime) -> Result<(), Fail> {
     let mut reply = Reply::new(rt.alloc())?;
@@ -34,8 +54,14 @@ fn answers(rt: HostRuntime) -> Result<(), Fail> {
     assert!(rt; matches!(reply.answer(), Answer::FileOf(7)));
     reply.set_dir(2);
     assert!(rt; matches!(reply.answer(), Answer::DirOf(2)));
-    reply.set_bytes(b"abc");
+    answer_bytes(&mut reply, b"abc");
     assert!(rt; matches!(reply.answer(), Answer::Bytes(b"abc")));
+    reply.buffer()[0] = b'x';
+    assert!(rt; matches!(reply.answer(), Answer::Done));
+    reply.set_bytes(2);
+    assert!(rt; matches!(reply.answer(), Answer::Bytes(b"xb")));
+    reply.set_bytes(0);
+    assert!(rt; matches!(reply.answer(), Answer::Bytes(b"")));
     reply.set_refused(FsError::Exists);
     assert!(rt; matches!(reply.answer(), Answer::Refused(FsError::Exists)));
     reply.set_names(bp_layout::Listing::of(Vec::new(rt.alloc())));

@@ -1,3 +1,5 @@
 pub mod Joining
 pub mod NameText
+pub mod Numbers
+pub mod Rows
 pub mod Splitting

@@ -1,11 +1,9 @@
 -- A text split at a byte.
-use Rattle.std.proofs.Common.{◌≡◌, ℕ, zero, suc, ◌+◌, ◌-◌, ◌<◌, List, [], ◌∷◌, length, get_or, take, drop, Bool, true, false, Option, Some, None, refl, sym, ◌∙◌, ap, arith, length-drop, add-one, ◌==◌}
+use Rattle.std.proofs.Common.{◌≡◌, ℕ, zero, suc, ◌+◌, ◌-◌, ◌<◌, List, [], ◌∷◌, length, get_or, take, drop, Bool, true, false, Option, Some, None, refl, sym, ◌∙◌, ap, arith, length-drop, add-one}
 use Rattle.std.proofs.lemmas.List.{take_all}
 use Rattle.std.proofs.lemmas.List.Quantifiers.{position-Some}
 use Rattle.std.proofs.lemmas.Iterator.Adapters.{position_from-zero}
 use Rattle.std.specs.List.{slice_split, onto_first, position, position_from}
-use Rattle.bp_script.specs.Commands.{words_of, command_by_words}
-use Rattle.bp_script.specs.Commands.Command.{bad_syntax}
 
 module _ (p : ℕ → Bool) where
   split_none : (xs : List ℕ) (i : ℕ) → position_from p i xs ≡ None → slice_split p xs ≡ xs ∷ []
@@ -42,9 +40,3 @@ module _ (p : ℕ → Bool) where
       go : (b : Bool) → p x ≡ b → (first : List ℕ) × (rest : List (List ℕ)) × (slice_split p xs ≡ first ∷ rest) → (first : List ℕ) × (rest : List (List ℕ)) × (slice_split p (x ∷ xs) ≡ first ∷ rest)
       go true at parts = ([], slice_split p xs, rw at refl)
       go false at parts = (x ∷ parts.0, parts.1, rw at (ap (onto_first x) parts.2))
-
--- a line of three words and more is none of the table
-pub command_by_words-many : (verb word : List ℕ) (more : List (List ℕ)) (text : List ℕ) → more ≡ words_of text → bad_syntax ≡ command_by_words (verb ∷ word ∷ more)
-command_by_words-many verb word more text e =
-    let parts = slice_split-cons (λ b. b == 32) text in
-    rw (e ∙ parts.2) refl

@@ -1,13 +1,17 @@
 -- The lines of a script: what each asks for.
-use Rattle.std.specs.Prelude.{ℕ, List, [], ◌∷◌, length, map, ◌==◌, nat_lt, bytes_eq, codes, if◌then◌else◌}
-use Rattle.std.specs.List.{slice_split, join_by}
+use Rattle.std.specs.Prelude.{ℕ, List, [], ◌∷◌, length, map, Bool, ◌==◌, ◌&&◌, nat_le, nat_lt, bytes_eq, codes, Option, None, Some, if◌then◌else◌}
+use Rattle.std.specs.List.{slice_split, join_by, list_all, list_any}
+use Rattle.std.specs.Char.{is_ascii_digit}
+use Rattle.std.specs.Str.Parse.{digits_value}
 use Rattle.percent_encoding.specs.Percent.{percent_decode}
-use Rattle.bp_plain.specs.Calls.{Call}
-use Rattle.bp_plain.specs.Calls.Call.{create, list, stat}
+use Rattle.bp_plain.specs.Calls.{Call, most_bytes}
+use Rattle.bp_plain.specs.Calls.Call.{create, mkdir, unlink, rmdir, list, stat, read, write, truncate, rename}
 
 pub data Command : Type 0 where
   file_call : Call → Command
   sync : Command
+  -- asks how many blocks are free and live
+  space : Command
   -- a line outside the table of commands
   bad_syntax : Command
   -- a line with too many bytes
@@ -32,7 +36,29 @@ part_bytes part = map unslashed (percent_decode part)
 abbrev pub path_bytes : List ℕ → List ℕ
 path_bytes word = join_by part_bytes (47 ∷ []) (slice_split (λ b. b == 47) word)
 
--- the calls on one path
+-- ---- numbers
+
+-- one to twenty decimal digits, of which the first may be zeros
+abbrev pub is_numeral : List ℕ → Bool
+is_numeral word = nat_le 1 (length word) && nat_le (length word) 20 && list_all is_ascii_digit word
+
+-- the number that a word of digits stands for, where it is below 2 ^ 64
+abbrev pub number_of : List ℕ → Option ℕ
+number_of word = if is_numeral word && nat_lt (digits_value 10 word) 18446744073709551616 then Some (digits_value 10 word) else None
+
+-- ---- the table, with paths as they are written
+
+abbrev pub read_command : List ℕ → Option ℕ → Option ℕ → Command
+read_command path (Some off) (Some len) = if nat_le len most_bytes then file_call (read path off len) else bad_syntax
+read_command path off len = bad_syntax
+
+-- lines of one word, of two and of four
+abbrev pub bare_command : List ℕ → Command
+bare_command verb =
+    if bytes_eq verb (codes "sync") then sync
+    else if bytes_eq verb (codes "space") then space
+    else bad_syntax
+
 abbrev pub path_command : List ℕ → List ℕ → Command
 path_command verb path =
     if bytes_eq verb (codes "create") then file_call (create path)
@@ -40,19 +66,52 @@ path_command verb path =
     else if bytes_eq verb (codes "stat") then file_call (stat path)
     else bad_syntax
 
-abbrev pub bare_command : List ℕ → Command
-bare_command verb = if bytes_eq verb (codes "sync") then sync else bad_syntax
+abbrev pub long_command : List ℕ → List ℕ → List ℕ → List ℕ → Command
+long_command verb first second third =
+    if bytes_eq verb (codes "read") then read_command first (number_of second) (number_of third)
+    else bad_syntax
 
--- The table of commands, by the words of a line. A path is a word of at least one byte.
---     create PATH      list PATH      stat PATH      sync
+-- The table of commands, by the words of a line.
+--     sync      space      create PATH      list PATH      stat PATH      read PATH OFF LEN
 abbrev pub command_by_words : List (List ℕ) → Command
 command_by_words (verb ∷ []) = bare_command verb
-command_by_words (verb ∷ path ∷ []) = if length path == 0 then bad_syntax else path_command verb (path_bytes path)
-command_by_words _ = bad_syntax
+command_by_words (verb ∷ path ∷ []) = path_command verb path
+command_by_words (verb ∷ first ∷ second ∷ third ∷ []) = long_command verb first second third
+command_by_words words = bad_syntax
+
+-- ---- what a line asks for
+
+abbrev pub is_empty_word : List ℕ → Bool
+is_empty_word word = length word == 0
+
+-- what words ask for: a row of the table, where none of them is empty
+abbrev pub asked_by : List (List ℕ) → Command
+asked_by words = if list_any is_empty_word words then bad_syntax else command_by_words words
+
+-- what a line of the table asks for, with paths as they are written
+abbrev pub written_command : List ℕ → Command
+written_command line = asked_by (words_of line)
+
+-- a call with what its paths stand for
+abbrev pub decoded_call : Call → Call
+decoded_call (create path) = create (path_bytes path)
+decoded_call (mkdir path) = mkdir (path_bytes path)
+decoded_call (unlink path) = unlink (path_bytes path)
+decoded_call (rmdir path) = rmdir (path_bytes path)
+decoded_call (list path) = list (path_bytes path)
+decoded_call (stat path) = stat (path_bytes path)
+decoded_call (read path off len) = read (path_bytes path) off len
+decoded_call (write path off new) = write (path_bytes path) off new
+decoded_call (truncate path size) = truncate (path_bytes path) size
+decoded_call (rename from to) = rename (path_bytes from) (path_bytes to)
+
+abbrev pub decoded : Command → Command
+decoded (file_call call) = file_call (decoded_call call)
+decoded command = command
 
 -- what a line of the table asks for
 abbrev pub in_grammar : List ℕ → Command
-in_grammar line = command_by_words (words_of line)
+in_grammar line = decoded (written_command line)
 
 -- what any line asks for
 abbrev pub command_of : List ℕ → Command

@@ -1,15 +1,15 @@
 -- What a line that was read asks for.
-use Rattle.std.specs.Prelude.{ℕ, length, Result, Ok, Err}
+use Rattle.std.specs.Prelude.{ℕ, length, max, Result, Ok, Err}
 use Rattle.std.specs.Vec.{vec_capacity}
+use Rattle.bp_plain.specs.Calls.{Call}
+use Rattle.bp_plain.specs.Calls.Call.{create, mkdir, unlink, rmdir, list, stat, read, write, truncate, rename}
 use Rattle.bp_plain.specs.Seen.{call_of}
 use Rattle.bp_script.specs.declared.lines.Decoded.{Decoded}
 use Rattle.bp_script.specs.declared.lines.Line.{Line}
 use Rattle.bp_script.specs.declared.lines.Line.TheVariants as asks
 use Rattle.bp_script.specs.declared.lines.Syntax.{Syntax}
-use Rattle.bp_script.specs.declared.lines.Words.{Words}
-use Rattle.bp_script.specs.declared.lines.Words.TheVariants as row
-use Rattle.bp_script.specs.Commands.{Command, bare_command, path_command, path_bytes}
-use Rattle.bp_script.specs.Commands.Command.{file_call, sync, bad_syntax}
+use Rattle.bp_script.specs.Commands.{Command}
+use Rattle.bp_script.specs.Commands.Command.{file_call, sync, space, bad_syntax}
 
 -- the bytes of the longest line that can be decoded
 abbrev pub decoded_room : Decoded → ℕ
@@ -18,15 +18,23 @@ decoded_room decoded = vec_capacity decoded.path
 abbrev pub line_asks : Result Line Syntax → Command
 line_asks (Ok (asks.Call call)) = file_call (call_of call)
 line_asks (Ok asks.Sync) = sync
+line_asks (Ok asks.Space) = space
 line_asks (Err fault) = bad_syntax
 
--- what the words of a line ask for
-abbrev pub words_ask : Words → Command
-words_ask (row.Bare verb) = bare_command verb.now
-words_ask (row.OnPath verb word) = path_command verb.now (path_bytes word.now)
-words_ask row.Others = bad_syntax
+-- how long the paths of a call are
+abbrev pub longest_path : Call → ℕ
+longest_path (create path) = length path
+longest_path (mkdir path) = length path
+longest_path (unlink path) = length path
+longest_path (rmdir path) = length path
+longest_path (list path) = length path
+longest_path (stat path) = length path
+longest_path (read path off len) = length path
+longest_path (write path off new) = length path
+longest_path (truncate path size) = length path
+longest_path (rename from to) = max (length from) (length to)
 
--- how many bytes are to be decoded
-abbrev pub path_len : Words → ℕ
-path_len (row.OnPath verb word) = length word.now
-path_len _ = 0
+-- how many bytes of a path are to be decoded at once
+abbrev pub path_len : Command → ℕ
+path_len (file_call call) = longest_path call
+path_len command = 0

@@ -7,7 +7,7 @@ use Rattle.bp_script.specs.declared.replies.Said.{Said}
 use Rattle.bp_script.specs.declared.replies.Said.TheVariants as said
 use Rattle.bp_script.specs.declared.notices.Notice.{Notice}
 use Rattle.bp_script.specs.declared.notices.Notice.TheVariants as notice
-use Rattle.bp_script.specs.Texts.{done_text, data_text, entry_text, end_text, file_text, dir_text, refusal_text, syntax_text, long_line_text}
+use Rattle.bp_script.specs.Texts.{done_text, data_text, entry_text, end_text, file_text, dir_text, space_text, refusal_text, syntax_text, long_line_text}
 
 abbrev pub said_text : Said → List ℕ
 said_text said.Done = done_text
@@ -16,6 +16,7 @@ said_text (said.Name kind name) = entry_text (kind, name.now)
 said_text said.End = end_text
 said_text (said.FileOf size) = file_text size
 said_text (said.DirOf count) = dir_text count
+said_text (said.Space free live) = space_text free live
 said_text (said.Refused error) = refusal_text (refusal_of error)
 said_text said.Syntax = syntax_text
 said_text said.LongLine = long_line_text
@@ -26,10 +27,18 @@ FitsReply (said.Bytes content) = length content.now ≤ most_bytes
 FitsReply (said.Name kind name) = length name.now ≤ max_name
 FitsReply _ = Unit {0}
 
+-- the line of a clean image, of the digits of its numbers
+abbrev pub clean_line : List ℕ → List ℕ → List ℕ → List ℕ → List ℕ → List ℕ
+clean_line files dirs bytes live free = codes "clean " ++ files ++ codes " " ++ dirs ++ codes " " ++ bytes ++ codes " " ++ live ++ codes " " ++ free ++ codes "\n"
+
+abbrev pub clean_text : ℕ → ℕ → ℕ → ℕ → ℕ → List ℕ
+clean_text files dirs bytes live free = clean_line (decimal files) (decimal dirs) (decimal bytes) (decimal live) (decimal free)
+
 abbrev pub notice_text : Notice → List ℕ
 notice_text (notice.Formatted blocks free) = codes "formatted " ++ decimal blocks ++ codes " " ++ decimal free ++ codes "\n"
 notice_text notice.NotFormatted = codes "err 30 notformatted\n"
 notice_text (notice.BadSize found wanted) = codes "err 31 badsize " ++ decimal found ++ codes " " ++ decimal wanted ++ codes "\n"
-notice_text notice.Later = codes "err 33 later\n"
+notice_text (notice.Damaged check place) = codes "err 32 damaged " ++ decimal check ++ codes " " ++ decimal place ++ codes "\n"
+notice_text (notice.Clean files dirs bytes live free) = clean_text files dirs bytes live free
 notice_text notice.NoFile = codes "err 34 nofile\n"
-notice_text notice.Usage = codes "usage: bpfs format FILE --blocks N / run FILE\n"
+notice_text notice.Usage = codes "usage: bpfs format FILE --blocks N / run FILE / check FILE\n"

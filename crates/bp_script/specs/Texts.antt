@@ -49,6 +49,10 @@ file_text size = codes "file " ++ decimal size ++ codes "\n"
 abbrev pub dir_text : ℕ → List ℕ
 dir_text count = codes "dir " ++ decimal count ++ codes "\n"
 
+-- how many blocks are free, and how many are live
+abbrev pub space_text : ℕ → ℕ → List ℕ
+space_text free live = codes "space " ++ decimal free ++ codes " " ++ decimal live ++ codes "\n"
+
 -- the numbers that stand behind a refusal's word
 abbrev pub details : Refusal → List ℕ
 details (no_space need free) = codes " " ++ decimal need ++ codes " " ++ decimal free
@@ -68,6 +72,8 @@ long_line_text = codes "err 21 line\n"
 pub data Reply : Type 0 where
   answered : Answer → Reply
   synced : Reply
+  -- the free blocks, and the live ones
+  space_of : ℕ → ℕ → Reply
   syntax : Reply
   long : Reply
 
@@ -85,5 +91,6 @@ answer_text (refused refusal) = refusal_text refusal
 abbrev pub reply_text : Reply → List ℕ
 reply_text (answered answer) = answer_text answer
 reply_text synced = done_text
+reply_text (space_of free live) = space_text free live
 reply_text syntax = syntax_text
 reply_text long = long_line_text

@@ -1,21 +1,31 @@
 //! The lines of a script.
 
-ghost use Rattle.bp_script.specs.Commands.{bare_command, command_by_words, in_grammar, part_bytes, path_bytes, path_command, unslashed, words_of};
-ghost use Rattle.bp_script.specs.Lines.{decoded_room, line_asks, path_len, words_ask};
+ghost use Rattle.bp_plain.specs.Seen.{call_of};
+ghost use Rattle.bp_script.specs.Commands.Command.{bad_syntax};
+ghost use Rattle.bp_script.specs.Commands.{bare_command, command_by_words, decoded_call, in_grammar, is_empty_word, long_command, number_of, part_bytes, path_bytes, path_command, read_command, unslashed, words_of, written_command};
+ghost use Rattle.bp_script.specs.Lines.{decoded_room, line_asks, longest_path, path_len};
 ghost use Rattle.bp_script.specs.contracts.lines.Decoded.{the_row};
 ghost use Rattle.std.specs.Borrow.{follows_so, sem};
-ghost use Rattle.std.specs.List.{slice_split};
+ghost use Rattle.std.specs.List.{list_all, list_any, slice_split};
 ghost use Rattle.std.specs.Option.{option_map_or};
-ghost use Rattle.std.specs.Prelude.{IfOk, length, map, position, vec_capacity, vec_len, [], ◌∷◌, ◌+◌, ◌++◌, ◌==◌, ◌<◌, ◌≡◌, ◌≤◌, ⊤};
+ghost use Rattle.std.specs.Prelude.{IfNone, IfOk, IfSome, false, length, map, position, vec_capacity, vec_len, [], ◌∷◌, ◌+◌, ◌++◌, ◌==◌, ◌<◌, ◌≡◌, ◌≤◌, ⊤};
+ghost use Rattle.std.specs.Char.{is_ascii_digit};
 ghost use mathlib.Core.Option.{none};
 
-use bp_plain::Call;
+use arrayvec::ArrayVec;
+use bp_plain::{Call, MOST_BYTES};
 use percent_encoding::percent_decode;
 use std::alloc::{AllocError, Global};
 use thiserror::Error;
 
 /// The most bytes of a line.
 pub const MOST_LINE: usize = 140_000;
+
+/// The most words of a line.
+const MOST_WORDS: usize = 4;
+
+/// The most digits of a number.
+const MOST_DIGITS: usize = 20;
 
 /// What a line of a script asks for.
 #[derive(Clone, Copy, Debug, PartialEq, Eq)]
@@ -24,6 +34,8 @@ pub enum Line<'a> {
     Call(Call<'a>),
     /// That all calls so far are made durable.
     Sync,
+    /// How many blocks are free, and how many are live.
+    Space,
 }
 
 /// The line is none of a script.
@@ -59,10 +71,29 @@ impl Decoded {
         ensures* keeps_room { sem 𝓛 (follows_so the_row the_row self.entry.ghost_name none (λ _ _. ⊤) (λ after. decoded_room self.old ≤ decoded_room after)) }
         ensures meaning { line_asks result ≡ in_grammar bytes.now }
     {
-        match words_in(bytes) {
-            Words::Bare(verb) => bare(verb),
-            Words::OnPath { verb, word } => on_path(verb, self.path_of(word)),
-            Words::Others => Err(Syntax),
+        match written(bytes) {
+            Ok(Line::Call(call)) => Ok(Line::Call(self.call(call))),
+            Ok(Line::Sync) => Ok(Line::Sync),
+            Ok(Line::Space) => Ok(Line::Space),
+            Err(error) => Err(error),
+        }
+    }
+
+    /// The call with its paths decoded.
+    fn call(&mut self, written: Call<'_>) -> Call<'_>
+        requires { longest_path (call_of written) ≤ decoded_room self.old }
+        ensures* keeps_room { sem 𝓛 (follows_so the_row the_row self.entry.ghost_name none (λ _ _. ⊤) (λ after. decoded_room self.old ≤ decoded_room after)) }
+        ensures call { call_of result ≡ decoded_call (call_of written.entry) }
+    {
+        match written {
+            Call::Create(path) => Call::Create(self.path_of(path)),
+            Call::List(path) => Call::List(self.path_of(path)),
+            Call::Stat(path) => Call::Stat(self.path_of(path)),
+            Call::Read { path, off, len } => Call::Read {
+                path: self.path_of(path),
+                off,
+                len,
+            },
         }
     }
 
@@ -94,41 +125,48 @@ impl Decoded {
     }
 }
 
-// The words of a line, where they may be those of a row of the table.
-#[derive(Clone, Copy)]
-enum Words<'a> {
-    Bare(&'a [u8]),
-    OnPath { verb: &'a [u8], word: &'a [u8] },
-    Others,
-}
-
-/// The words of a line.
-fn words_in(bytes: &[u8]) -> Words<'_>
-    ensures ask { words_ask result ≡ in_grammar bytes.now }
-    ensures len { path_len result ≤ length bytes.now }
+/// What a line asks for, with its paths as they are written.
+fn written(bytes: &[u8]) -> Result<Line<'_>, Syntax>
+    ensures asks { line_asks result ≡ written_command bytes.now }
+    ensures len { path_len (line_asks result) ≤ length bytes.now }
 {
-    let (verb, rest) = split_once(bytes, b' ');
-    match rest {
-        None => Words::Bare(verb),
-        Some(rest) => words_after(verb, rest),
+    match words_in(bytes) {
+        Some(words) => by_words(words.as_slice()),
+        None => Err(Syntax),
     }
 }
 
-/// The words of a line of which the first is known, with the text after it.
-fn words_after<'a>(verb: &'a [u8], rest: &'a [u8]) -> Words<'a>
-    ensures ask { words_ask result ≡ command_by_words (verb.now ∷ words_of rest.now) }
-    ensures len { path_len result ≤ length rest.now }
+/// The words of a line, where they are at most four and none is empty.
+fn words_in(bytes: &[u8]) -> Option<ArrayVec<&[u8], MOST_WORDS>>
+    ensures words { IfSome result (λ words. map (λ word. word.now) words.items ≡ words_of bytes.now) }
+    ensures full { IfSome result (λ _. list_any is_empty_word (words_of bytes.now) ≡ false) }
+    ensures others { IfNone result (bad_syntax ≡ written_command bytes.now) }
 {
-    let (word, more) = split_once(rest, b' ');
-    match more {
-        Some(_) => Words::Others,
-        None => {
-            if word.is_empty() {
-                Words::Others
-            } else {
-                Words::OnPath { verb, word }
-            }
+    let mut words = ArrayVec::new();
+    let mut left = Some(bytes);
+    while let Some(text) = left {
+        let (word, more) = split_once(text, b' ');
+        if word.is_empty() {
+            return None;
         }
+        match words.try_push(word) {
+            Ok(()) => {}
+            Err(_) => return None,
+        }
+        left = more;
+    }
+    Some(words)
+}
+
+/// What the words of a line ask for, none of which is empty.
+fn by_words<'a>(words: &[&'a [u8]]) -> Result<Line<'a>, Syntax>
+    ensures { line_asks result ≡ command_by_words (map (λ word. word.now) words.now) }
+{
+    match words {
+        [verb] => bare(verb),
+        [verb, path] => on_path(verb, path),
+        [verb, first, second, third] => long(verb, first, second, third),
+        _ => Err(Syntax),
     }
 }
 
@@ -138,6 +176,7 @@ fn bare(verb: &[u8]) -> Result<Line<'static>, Syntax>
 {
     match verb {
         b"sync" => Ok(Line::Sync),
+        b"space" => Ok(Line::Space),
         _ => Err(Syntax),
     }
 }
@@ -152,6 +191,56 @@ fn on_path<'a>(verb: &[u8], path: &'a [u8]) -> Result<Line<'a>, Syntax>
         b"stat" => Ok(Line::Call(Call::Stat(path))),
         _ => Err(Syntax),
     }
+}
+
+/// What a line of four words asks for.
+fn long<'a>(verb: &[u8], first: &'a [u8], second: &[u8], third: &[u8]) -> Result<Line<'a>, Syntax>
+    ensures { line_asks result ≡ long_command verb.now first.now second.now third.now }
+{
+    match verb {
+        b"read" => read(first, number(second), number(third)),
+        _ => Err(Syntax),
+    }
+}
+
+/// The line of a read.
+fn read(path: &[u8], off: Option<u64>, len: Option<u64>) -> Result<Line<'_>, Syntax>
+    ensures { line_asks result ≡ read_command path.now off len }
+{
+    match (off, len) {
+        (Some(off), Some(len)) => {
+            if len <= MOST_BYTES as u64 {
+                Ok(Line::Call(Call::Read {
+                    path,
+                    off,
+                    len: len as usize,
+                }))
+            } else {
+                Err(Syntax)
+            }
+        }
+        _ => Err(Syntax),
+    }
+}
+
+/// The number that a word stands for: one to twenty decimal digits, with a value below 2^64.
+fn number(word: &[u8]) -> Option<u64>
+    ensures { result ≡ number_of word.now }
+{
+    if word.len() > MOST_DIGITS || !is_digits(word) {
+        return None;
+    }
+    match str::from_utf8(word) {
+        Ok(text) => text.parse::<u64>().ok(),
+        Err(_) => None,
+    }
+}
+
+/// Whether all bytes of a word are decimal digits.
+fn is_digits(word: &[u8]) -> bool
+    ensures { result ≡ list_all is_ascii_digit word.now }
+{
+    word.iter().all(|b| b.is_ascii_digit())
 }
 
 /// The text before the first byte of this kind, and what stands after it.

@@ -1,7 +1,7 @@
 //! What the program tells besides replies.
 
-ghost use Rattle.bp_script.specs.Sayings.{notice_text};
-ghost use Rattle.std.specs.Prelude.{drop, length, take, ◌++◌, ◌≡◌, ◌≤◌};
+ghost use Rattle.bp_script.specs.Sayings.{clean_line, clean_text, notice_text};
+ghost use Rattle.std.specs.Prelude.{drop, length, take, ◌+◌, ◌++◌, ◌≡◌, ◌≤◌};
 
 use crate::pieces::write_pieces;
 
@@ -24,8 +24,26 @@ pub enum Notice {
         /// The size in bytes that was wanted.
         wanted: u64,
     },
-    /// This version can't serve the file yet.
-    Later,
+    /// The file is no well-formed image.
+    Damaged {
+        /// The number of a check that fails.
+        check: u8,
+        /// The word of the image at which it fails.
+        place: u32,
+    },
+    /// The file is a well-formed image.
+    Clean {
+        /// Its files.
+        files: u64,
+        /// Its directories, the root among them.
+        dirs: u64,
+        /// The bytes of all its files.
+        bytes: u128,
+        /// The blocks that are in use, the first of the file not among them.
+        live: u32,
+        /// The blocks that are free.
+        free: u32,
+    },
     /// The file is not there.
     NoFile,
     /// The words of the command line mean nothing.
@@ -70,8 +88,80 @@ pub fn announce(notice: &Notice, into: &mut [u8]) -> usize
                 ],
             )
         }
-        Notice::Later => write_pieces(into, &[b"err 33 later\n"]),
+        Notice::Damaged { check, place } => {
+            let mut number = itoa::Buffer::new();
+            let mut at = itoa::Buffer::new();
+            write_pieces(
+                into,
+                &[
+                    b"err 32 damaged ",
+                    number.format(check).as_bytes(),
+                    b" ",
+                    at.format(place).as_bytes(),
+                    b"\n",
+                ],
+            )
+        }
+        Notice::Clean {
+            files,
+            dirs,
+            bytes,
+            live,
+            free,
+        } => announce_clean(files, dirs, bytes, live, free, into),
         Notice::NoFile => write_pieces(into, &[b"err 34 nofile\n"]),
-        Notice::Usage => write_pieces(into, &[b"usage: bpfs format FILE --blocks N / run FILE\n"]),
+        Notice::Usage => write_pieces(
+            into,
+            &[b"usage: bpfs format FILE --blocks N / run FILE / check FILE\n"],
+        ),
     }
+}
+
+/// Writes what a clean image has in it.
+fn announce_clean(
+    files: u64,
+    dirs: u64,
+    bytes: u128,
+    live: u32,
+    free: u32,
+    into: &mut [u8],
+) -> usize
+    requires { 128 ≤ length into.old }
+    ensures whole { into.new ≡ clean_text files dirs bytes live free ++ drop result into.old }
+    ensures len { result ≡ length (clean_text files dirs bytes live free) }
+{
+    let mut file_digits = itoa::Buffer::new();
+    let mut dir_digits = itoa::Buffer::new();
+    let mut byte_digits = itoa::Buffer::new();
+    let mut live_digits = itoa::Buffer::new();
+    let mut free_digits = itoa::Buffer::new();
+    write_clean(
+        into,
+        file_digits.format(files).as_bytes(),
+        dir_digits.format(dirs).as_bytes(),
+        byte_digits.format(bytes).as_bytes(),
+        live_digits.format(live).as_bytes(),
+        free_digits.format(free).as_bytes(),
+    )
+}
+
+/// The same from the digits of each number.
+fn write_clean(
+    into: &mut [u8],
+    files: &[u8],
+    dirs: &[u8],
+    bytes: &[u8],
+    live: &[u8],
+    free: &[u8],
+) -> usize
+    requires { length files.now + length dirs.now + length bytes.now + length live.now + length free.now + 11 ≤ length into.old }
+    ensures whole { into.new ≡ clean_line files.now dirs.now bytes.now live.now free.now ++ drop result into.old }
+    ensures len { result ≡ length (clean_line files.now dirs.now bytes.now live.now free.now) }
+{
+    write_pieces(
+        into,
+        &[
+            b"clean ", files, b" ", dirs, b" ", bytes, b" ", live, b" ", free, b"\n",
+        ],
+    )
 }

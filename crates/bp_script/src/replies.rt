@@ -39,6 +39,13 @@ pub enum Said<'a> {
     FileOf(u64),
     /// A directory with so many names.
     DirOf(u64),
+    /// How full the volume is.
+    Space {
+        /// The blocks that are free.
+        free: u32,
+        /// The blocks that are in use, the first of the file not among them.
+        live: u32,
+    },
     /// The call was refused.
     Refused(FsError),
     /// The line was none of a script.
@@ -68,6 +75,20 @@ pub fn say(said: &Said<'_>, into: &mut [u8]) -> usize
         Said::DirOf(count) => {
             let mut digits = itoa::Buffer::new();
             write_pieces(into, &[b"dir ", digits.format(count).as_bytes(), b"\n"])
+        }
+        Said::Space { free, live } => {
+            let mut left = itoa::Buffer::new();
+            let mut used = itoa::Buffer::new();
+            write_pieces(
+                into,
+                &[
+                    b"space ",
+                    left.format(free).as_bytes(),
+                    b" ",
+                    used.format(live).as_bytes(),
+                    b"\n",
+                ],
+            )
         }
         Said::Refused(error) => say_refused(error, into),
         Said::Syntax => write_pieces(into, &[b"err 20 syntax\n"]),

@@ -32,13 +32,53 @@ fn lines_of_the_table(rt: HostRuntime) -> Result<(), Fail> {
         asks(&rt, &mut decoded, bytes, Ok(Line::Call(call)));
     }
     asks(&rt, &mut decoded, b"sync", Ok(Line::Sync));
+    asks(&rt, &mut decoded, b"space", Ok(Line::Space));
+    Ok(())
+}
+
+#[test]
+fn lines_of_reads(rt: HostRuntime) -> Result<(), Fail> {
+    let mut decoded = Decoded::new(rt.alloc(), 64)?;
+    let reads: [(&[u8], &[u8], u64, usize); 5] = [
+        (b"read /a 0 65536", b"/a", 0, 65_536),
+        (b"read a%2Fb%20c 1 2", b"a\0b c", 1, 2),
+        (b"read / 18446744073709551615 0", b"/", u64::MAX, 0),
+        (b"read x 00000000000000000010 007", b"x", 10, 7),
+        (b"read read 9 00000000000000000009", b"read", 9, 9),
+    ];
+    for (bytes, path, off, len) in reads {
+        let want = Call::Read { path, off, len };
+        asks(&rt, &mut decoded, bytes, Ok(Line::Call(want)));
+    }
+    let lines: [&[u8]; 17] = [
+        b"read /a 0 65537",
+        b"read /a 18446744073709551616 0",
+        b"read /a 99999999999999999999 0",
+        b"read /a 000000000000000000000 0",
+        b"read /a +1 0",
+        b"read /a -1 0",
+        b"read /a 0 0x1",
+        b"read /a 0 1_0",
+        b"read /a 0 1\r",
+        b"read /a \xd9\xa1 0",
+        b"read /a 1 ",
+        b"read /a  1",
+        b"read  0 0",
+        b"read /a 0",
+        b"read /a",
+        b"read /a 0 0 0",
+        b"list /a 0 0",
+    ];
+    for bytes in lines {
+        asks(&rt, &mut decoded, bytes, Err(Syntax));
+    }
     Ok(())
 }
 
 #[test]
 fn lines_outside_the_table(rt: HostRuntime) -> Result<(), Fail> {
     let mut decoded = Decoded::new(rt.alloc(), 64)?;
-    let lines: [&[u8]; 14] = [
+    let lines: [&[u8]; 16] = [
         b"",
         b" ",
         b"sync ",
@@ -46,6 +86,8 @@ fn lines_outside_the_table(rt: HostRuntime) -> Result<(), Fail> {
         b"sync\r",
         b"sync /a",
         b"SYNC",
+        b"space /",
+        b"space ",
         b"create",
         b"create ",
         b"create  /a",
@@ -82,6 +124,7 @@ fn reply_texts(rt: HostRuntime) -> Result<(), Fail> {
         b"file 549755813888\n",
     );
     says(&rt, &Said::DirOf(0), into, b"dir 0\n");
+    says(&rt, &Said::Space { free: 6, live: 1 }, into, b"space 6 1\n");
     says(
         &rt,
         &Said::Refused(FsError::BadPath),
@@ -128,7 +171,7 @@ fn name_texts(rt: HostRuntime) -> Result<(), Fail> {
 #[test]
 fn notices(rt: HostRuntime) {
     let mut into = [0u8; 128];
-    let rows: [(Notice, &[u8]); 6] = [
+    let rows: [(Notice, &[u8]); 8] = [
         (Notice::Formatted { blocks: 8, free: 6 }, b"formatted 8 6\n"),
         (Notice::NotFormatted, b"err 30 notformatted\n"),
         (
@@ -138,11 +181,37 @@ fn notices(rt: HostRuntime) {
             },
             b"err 31 badsize 32767 18446744073709551615\n",
         ),
-        (Notice::Later, b"err 33 later\n"),
+        (
+            Notice::Damaged {
+                check: 13,
+                place: 8_388_607,
+            },
+            b"err 32 damaged 13 8388607\n",
+        ),
+        (
+            Notice::Clean {
+                files: 3,
+                dirs: 2,
+                bytes: 549_755_813_888,
+                live: 9,
+                free: 16_374,
+            },
+            b"clean 3 2 549755813888 9 16374\n",
+        ),
+        (
+            Notice::Clean {
+                files: u64::MAX,
+                dirs: u64::MAX,
+                bytes: u128::MAX,
+                live: u32::MAX,
+                free: u32::MAX,
+            },
+            b"clean 18446744073709551615 18446744073709551615 340282366920938463463374607431768211455 4294967295 4294967295\n",
+        ),
         (Notice::NoFile, b"err 34 nofile\n"),
         (
             Notice::Usage,
-            b"usage: bpfs format FILE --blocks N / run FILE\n",
+            b"usage: bpfs format FILE --blocks N / run FILE / check FILE\n",
         ),
     ];
     for (notice, want) in rows {

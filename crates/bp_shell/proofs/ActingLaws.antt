@@ -5,13 +5,15 @@ use Rattle.pm_epochs.proofs.CrashLaws.{length-words_after}
 use Rattle.pm_region.specs.Memory.{Memory, current_words, drained, with_room, room_in}
 use Rattle.bp_layout.specs.Words.{Image}
 use Rattle.bp_layout.specs.Bytes.{image_bytes}
+use Rattle.bp_layout.specs.Free.{HasFree}
+use Rattle.bp_scan.specs.Totals.{HasLive}
 use Rattle.bp_io.specs.Files.{Known}
 use Rattle.bp_plain.specs.Calls.{Call, Answer}
 use Rattle.bp_volume.specs.FileCall.{FileCall, call_room}
 use Rattle.std.proofs.lemmas.Bool.{le-ltb}
 use Rattle.bp_script.specs.Commands.{Command, command_of, in_grammar}
-use Rattle.bp_script.specs.Commands.Command.{file_call, sync, bad_syntax, too_long}
-use Rattle.bp_script.specs.Texts.Reply.{answered, synced, syntax, long}
+use Rattle.bp_script.specs.Commands.Command.{file_call, sync, space, bad_syntax, too_long}
+use Rattle.bp_script.specs.Texts.Reply.{answered, synced, space_of, syntax, long}
 use Rattle.bp_shell.specs.Files.{Holds, HoldsBytes}
 use Rattle.bp_shell.specs.Serving.{state, Acts, Fails}
 use Rattle.bp_shell.proofs.BlockLaws.{length-image_bytes}
@@ -37,6 +39,13 @@ acts_call old new saved holds call answer done file = record { after = saved; li
 
 pub acts_sync : (old new : Memory) (saved : Image) (holds : Image → Type 0) → new ≡ drained old → holds (current_words old) → Acts (state old saved) new holds sync synced
 acts_sync old new saved holds done file = record { after = current_words old; line = record { told = refl; done = ap (λ m. state m (current_words old)) done }; file = file }
+
+pub acts_space : (memory : Memory) (saved : Image) (holds : Image → Type 0) (free live : ℕ) → HasFree (current_words memory) free → HasLive (current_words memory) live → holds saved → Acts (state memory saved) memory holds space (space_of free live)
+acts_space memory saved holds free live has_free has_live file = record {
+  after = saved;
+  line = record { free = free; live = live; told = refl; has_free = has_free; has_live = has_live; same = refl };
+  file = file;
+}
 
 pub acts_syntax : (memory : Memory) (saved : Image) (holds : Image → Type 0) → holds saved → Acts (state memory saved) memory holds bad_syntax syntax
 acts_syntax memory saved holds file = record { after = saved; line = record { told = refl; same = refl }; file = file }

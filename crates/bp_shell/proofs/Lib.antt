@@ -6,6 +6,6 @@ pub mod SavingLaws
 pub mod BlockLaws
 pub mod TellingLaws
 pub mod OpeningLaws
-pub mod WordLaws
+pub mod ShortReads
 pub mod FormattingLaws
 pub mod RunningLaws

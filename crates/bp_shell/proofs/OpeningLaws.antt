@@ -1,10 +1,22 @@
 -- What is known of the file of a run.
-use Rattle.std.proofs.Common.{refl, sym, ◌∙◌, ap, arith, ◌≡◌, ℕ, ◌+◌, ◌*◌, ◌-◌, List, [], ◌++◌, take, false, true}
-use Rattle.std.specs.Prelude.{Some, None}
+use Rattle.std.proofs.Common.{refl, sym, ◌∙◌, ap, arith, ◌≡◌, ◌≢◌, ℕ, ◌+◌, ◌*◌, ◌-◌, List, [], ◌++◌, take, false, true, inl, inr}
+use Rattle.std.specs.Prelude.{Some, None, ◌⊎◌}
 use Rattle.std.proofs.Math.Seq.{take-add, take-length}
 use Rattle.bp_io.specs.Files.{Known, Stays, Tells, Answers, Attaches, block_of}
 use Rattle.bp_layout.specs.Bytes.{image_bytes}
-use Rattle.bp_shell.specs.Files.{HasBytes, HasLength}
+use Rattle.bp_layout.specs.Words.{Image}
+use Rattle.bp_scan.specs.Faults.{IsFault}
+use Rattle.bp_scan.specs.Length.{wanted_length}
+use Rattle.bp_scan.specs.declared.fault.MountFault.{MountFault}
+use Rattle.bp_scan.specs.declared.fault.MountFault.TheVariants as f
+use Rattle.bp_script.specs.declared.notices.Notice.{Notice}
+use Rattle.bp_script.specs.declared.notices.Notice.TheVariants.{NotFormatted, BadSize, Damaged}
+use Rattle.bp_shell.specs.Files.{HasBytes, HasLength, HasImage}
+use Rattle.bp_shell.specs.Opening.{IsRefused}
+use Rattle.bp_shell.specs.Opening.IsRefused.{by_length, not_formatted, by_count, damaged}
+use Rattle.bp_shell.specs.Stops.{stop_by}
+use Rattle.bp_shell.specs.declared.stop.Stop.{Stop}
+use Rattle.bp_shell.specs.declared.stop.Stop.TheVariants.{Missing, Outside, Refused, Memory}
 
 pub block_next : (bytes : List ℕ) (i : ℕ) → take (4096 * (i + 1)) bytes ≡ take (4096 * i) bytes ++ block_of bytes i
 block_next bytes i =
@@ -53,3 +65,40 @@ pub has_length : (known : Known) (n : ℕ) → Answers known false (Some n) → 
 has_length None n answers = tt
 has_length (Some None) n answers = absurd (let never : false ≡ true = answers.0 in cc)
 has_length (Some (Some bytes)) n answers = sym answers
+
+-- ---- faults of an image
+
+pub stop_kinds : (fault : MountFault) → ((notice : Notice) × (stop_by fault ≡ Refused notice)) ⊎ (stop_by fault ≡ Memory)
+stop_kinds f.NotFormatted = inl (NotFormatted, refl)
+stop_kinds (f.BadSize found wanted) = inl (BadSize found wanted, refl)
+stop_kinds (f.Damaged check place) = inl (Damaged check place, refl)
+stop_kinds f.Memory = inr refl
+
+pub no_refusal : (notice : Notice) → ◌≡◌ {A = Stop} Memory (Refused notice) → ⊥
+no_refusal notice e = cc
+
+same_notice : (first second : Notice) → ◌≡◌ {A = Stop} (Refused first) (Refused second) → first ≡ second
+same_notice first second e = cc
+
+pub stop_refused : (fault : MountFault) (image : Image) (known : Known) (notice : Notice) → IsFault image fault → HasImage known image → stop_by fault ≡ Refused notice → IsRefused known notice
+stop_refused f.NotFormatted image known notice why has e = rw (← same_notice NotFormatted notice e) (not_formatted has why)
+stop_refused (f.BadSize found wanted) image known notice why has e = rw (← same_notice (BadSize found wanted) notice e, why.2, why.3) (by_count has why.0 why.1)
+stop_refused (f.Damaged check place) image known notice why has e = rw (← same_notice (Damaged check place) notice e) (damaged has why.0 why.1 why.2)
+stop_refused f.Memory image known notice why has e = absurd why
+
+pub stop_refused_length : (fault : MountFault) (known : Known) (len : ℕ) (notice : Notice) → HasLength known len → (fault ≡ f.BadSize len (wanted_length len)) × (len ≢ wanted_length len) → stop_by fault ≡ Refused notice → IsRefused known notice
+stop_refused_length fault known len notice has why e =
+    let told : stop_by (f.BadSize len (wanted_length len)) ≡ Refused notice = rw why.0 at e in
+    rw (← same_notice (BadSize len (wanted_length len)) notice told) (by_length has why.1)
+
+pub never_missing : (fault : MountFault) → stop_by fault ≡ Missing → ⊥
+never_missing f.NotFormatted e = cc
+never_missing (f.BadSize found wanted) e = cc
+never_missing (f.Damaged check place) e = cc
+never_missing f.Memory e = cc
+
+pub never_outside : (fault : MountFault) → stop_by fault ≡ Outside → ⊥
+never_outside f.NotFormatted e = cc
+never_outside (f.BadSize found wanted) e = cc
+never_outside (f.Damaged check place) e = cc
+never_outside f.Memory e = cc

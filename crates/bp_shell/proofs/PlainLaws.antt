@@ -18,7 +18,7 @@ use Rattle.bp_volume.specs.Step.Steps.{no_room, no_listing, later_version, uncha
 use Rattle.bp_plain.specs.Plain.{plain, is_changing, refusal, changes}
 use Rattle.bp_shell.specs.Session.{State, Line, Session}
 use Rattle.bp_script.specs.Commands.{Command}
-use Rattle.bp_script.specs.Commands.Command.{file_call, sync, bad_syntax, too_long}
+use Rattle.bp_script.specs.Commands.Command.{file_call, sync, space, bad_syntax, too_long}
 use Rattle.bp_script.specs.Texts.{Reply}
 use Rattle.bp_volume.specs.FileCall.{call_room}
 use Rattle.pm_epochs.proofs.CrashLaws.{crash_right_none}
@@ -173,6 +173,11 @@ plain_line old p sync reply new before line = record {
   plain = fresh (tree_now p);
   line = (line.told, refl);
   follows = rw line.done (follows_fresh (drained old.memory) (tree_now p) refl before.now);
+}
+plain_line old p space reply new before line = record {
+  plain = p;
+  line = record { free = line.free; live = line.live; told = line.told; same = refl };
+  follows = rw line.same before;
 }
 plain_line old p bad_syntax reply new before line = record { plain = p; line = record { told = line.told; same = refl }; follows = rw line.same before }
 plain_line old p too_long reply new before line = record { plain = p; line = record { told = line.told; same = refl }; follows = rw line.same before }

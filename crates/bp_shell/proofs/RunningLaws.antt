@@ -1,6 +1,6 @@
 -- What a run leaves outside.
 use Rattle.std.proofs.Common.{suc, refl, sym, ◌∙◌, ap, arith, ◌≡◌, ℕ, ◌*◌, ◌/◌, ◌≤◌, List, [], ◌∷◌, ◌++◌, length, inl, inr}
-use Rattle.std.specs.Prelude.{Option, Some, ◌⊎◌}
+use Rattle.std.specs.Prelude.{Option, Some, min, max, ◌⊎◌}
 use Rattle.std.specs.Io.KnownBytes.{Consumes, IsAtEnd}
 use Rattle.pm_region.specs.Memory.{Memory, current_words, drained}
 use Rattle.pm_words.specs.Bytes.{word_bytes, word_of}
@@ -11,13 +11,20 @@ use Rattle.bp_plain.proofs.Existence.{stands_for, tree_of}
 use Rattle.bp_script.specs.Commands.{Command}
 use Rattle.bp_script.specs.Commands.Command.{sync}
 use Rattle.bp_script.specs.declared.notices.Notice.{Notice}
-use Rattle.bp_thin.specs.Thin.{IsThin}
+use Rattle.bp_layout.specs.WellFormed.{IsWellFormed}
+use Rattle.bp_layout.proofs.ChecksLaws.{none_fails}
+use Rattle.bp_scan.specs.Length.{wanted_length}
 use Rattle.bp_shell.specs.Files.{AreWords, IsAbsent}
 use Rattle.bp_shell.specs.Lines.{commands_from}
-use Rattle.bp_shell.specs.Opening.{IsFound, IsRefused, start, wanted_length}
-use Rattle.bp_shell.specs.Opening.IsRefused.{by_length, not_formatted, by_count, not_thin}
+use Rattle.bp_shell.specs.Opening.{IsFound, IsRefused, start}
+use Rattle.bp_shell.specs.Opening.IsRefused.{by_length, not_formatted, by_count, damaged}
 use Rattle.bp_shell.specs.PlainSession.{fresh}
-use Rattle.bp_shell.specs.Running.{Outside, Runs, RunsPart, RunsLong, RunsCut, RunsStopped, Saves, SavesPartly, SourceFailed, SinkFailed, FilesFailed, IsComplete}
+use Rattle.bp_shell.specs.Running.{Runs, RunsPart, RunsLong, RunsCut, RunsStopped, Saves, SavesPartly, IsComplete, in_range}
+use Rattle.bp_shell.specs.Outside.{Outside, SourceFailed, SinkFailed, FilesFailed}
+use Rattle.bp_shell.specs.Checking.{IsCheckComplete}
+use Rattle.bp_command.specs.Programs.{Program, Requests}
+use Rattle.bp_command.specs.Programs.Program.{formats, runs, checks}
+use Rattle.clap.specs.Words.{Text}
 use Rattle.bp_shell.specs.Serving.{state, Serves, ServesAll, Cuts, Stops, Told}
 use Rattle.bp_shell.specs.Session.{State}
 use Rattle.bp_shell.proofs.BlockLaws.{length-image_bytes}
@@ -68,7 +75,7 @@ module _ (before after : Outside) (image : Image) (memory new : Memory) (line in
       → Saves after (current_words new) → Runs before after
   runs_whole holds read end few all saved =
       let told : Told (start image) (state new all.after) (commands_from [] input) before.taken after.taken = rw (same, none) at all.told in
-      let well = found.thin.well_formed in
+      let well = found.well_formed in
       let stands = stands_for image well in
       let tree = tree_of image well in
       let run = plain_session (start image) (fresh tree) (commands_from [] input) told.replies (state new all.after) (follows_fresh (start image).memory tree refl stands) told.session in
@@ -169,24 +176,54 @@ wanted_whole n least most = omega arith
 
 -- ---- completeness
 
-not_refused : (image : Image) (notice : Notice) → AreWords image → IsThin image → IsRefused (Some (Some (image_bytes image))) notice → ⊥
-not_refused image line words thin (by_length {len = len} has wrong) =
-    let size : len ≡ 4096 * (length image / 512) = omega (arith, has, length-image_bytes image, thin.well_formed.whole) in
-    wrong (size ∙ sym (wanted_whole (length image / 512) thin.well_formed.at_least thin.well_formed.at_most) ∙ ap wanted_length (sym size))
-not_refused image line words thin (not_formatted {image = other} has wrong) = let same = image_once image other words has.words has.bytes in wrong (rw (← same) thin.well_formed.marked)
-not_refused image line words thin (by_count {image = other} has marked wrong) = let same = image_once image other words has.words has.bytes in wrong (rw (← same) thin.well_formed.counted)
-not_refused image line words thin (not_thin {image = other} has marked counted wrong) = let same = image_once image other words has.words has.bytes in wrong (rw (← same) thin)
+not_refused : (image : Image) (notice : Notice) → AreWords image → IsWellFormed image → IsRefused (Some (Some (image_bytes image))) notice → ⊥
+not_refused image line words well (by_length {len = len} has wrong) =
+    let size : len ≡ 4096 * (length image / 512) = omega (arith, has, length-image_bytes image, well.whole) in
+    wrong (size ∙ sym (wanted_whole (length image / 512) well.at_least well.at_most) ∙ ap wanted_length (sym size))
+not_refused image line words well (not_formatted {image = other} has wrong) = let same = image_once image other words has.words has.bytes in wrong (rw (← same) well.marked)
+not_refused image line words well (by_count {image = other} has marked wrong) = let same = image_once image other words has.words has.bytes in wrong (rw (← same) well.counted)
+not_refused image line words well (damaged {image = other} {check = check} {place = place} has marked counted wrong) =
+    let same = image_once image other words has.words has.bytes in
+    none_fails image well check place (rw same wrong)
 
 pub complete : (status : ℕ) (before after : Outside) → (status ≡ 1 → IsAbsent before.file) → (status ≡ 3 → SourceFailed before after) → (status ≡ 4 → SinkFailed before after) → (status ≡ 5 → FilesFailed before after)
     → (status ≡ 6 → RunsLong before after) → (status ≡ 7 → (notice : Notice) × IsRefused before.file notice)
     → (status ≡ 0) ⊎ (status ≡ 1) ⊎ (status ≡ 3) ⊎ (status ≡ 4) ⊎ (status ≡ 5) ⊎ (status ≡ 6) ⊎ (status ≡ 7) ⊎ (status ≡ 8) → IsComplete status before after
-complete status before after one three four five six seven among image input held words thin told few source sink files = elim among [
+complete status before after one three four five six seven among image input held words well told few source sink files = elim among [
   | inl e ↦ inl e
   | inr (inl e) ↦ absurd (rw held at (one e))
   | inr (inr (inl e)) ↦ absurd (source (three e))
   | inr (inr (inr (inl e))) ↦ absurd (sink (four e))
   | inr (inr (inr (inr (inl e)))) ↦ absurd (files (five e))
   | inr (inr (inr (inr (inr (inl e))))) ↦ let long = six e in absurd (not_long before.left after.left input long.input long.more told few long.read long.most long.some)
-  | inr (inr (inr (inr (inr (inr (inl e)))))) ↦ let refused = seven e in absurd (not_refused image refused.0 words thin (rw held at refused.1))
+  | inr (inr (inr (inr (inr (inr (inl e)))))) ↦ let refused = seven e in absurd (not_refused image refused.0 words well (rw held at refused.1))
   | inr (inr (inr (inr (inr (inr (inr e)))))) ↦ inr e
 ]
+
+pub check_complete : (status : ℕ) (before after : Outside) → (status ≡ 1 → IsAbsent before.file) → (status ≡ 4 → SinkFailed before after) → (status ≡ 5 → FilesFailed before after)
+    → (status ≡ 7 → (notice : Notice) × IsRefused before.file notice) → (status ≡ 0) ⊎ (status ≡ 1) ⊎ (status ≡ 4) ⊎ (status ≡ 5) ⊎ (status ≡ 7) ⊎ (status ≡ 8) → IsCheckComplete status before after
+check_complete status before after one four five seven among image held words well sink files = elim among [
+  | inl e ↦ inl e
+  | inr (inl e) ↦ absurd (rw held at (one e))
+  | inr (inr (inl e)) ↦ absurd (sink (four e))
+  | inr (inr (inr (inl e))) ↦ absurd (files (five e))
+  | inr (inr (inr (inr (inl e)))) ↦ let refused = seven e in absurd (not_refused image refused.0 words well (rw held at refused.1))
+  | inr (inr (inr (inr (inr e)))) ↦ inr e
+]
+
+-- ---- the words of a program
+
+range_kept : (words : List Text) (name : List ℕ) (blocks : ℕ) → Requests words (formats name blocks) → Requests words (formats name (min (max blocks 8) 16384))
+range_kept words name blocks asked = record {
+  taken = asked.taken;
+  names = λ verb rows is.
+      let named = asked.names verb rows is in
+      let same : min (max blocks 8) 16384 ≡ blocks = omega (arith, named.2.least, named.2.most) in
+      rw same named;
+}
+
+-- words that ask for a format give a number of blocks in range
+pub asked_in_range : (words : List Text) (program : Program) → Requests words program → Requests words (in_range program)
+asked_in_range words (formats name blocks) asked = range_kept words name blocks asked
+asked_in_range words (runs name) asked = asked
+asked_in_range words (checks name) asked = asked

@@ -5,7 +5,9 @@ pub mod Files
 pub mod Serving
 pub mod Work
 pub mod Acting
-pub mod Words
 pub mod Opening
+pub mod Stops
 pub mod Formatting
+pub mod Outside
+pub mod Checking
 pub mod Running

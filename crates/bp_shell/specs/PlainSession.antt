@@ -11,9 +11,9 @@ use Rattle.pm_epochs.specs.Log.{marks}
 use Rattle.pm_epochs.specs.Replay.{Cut, IsRight, replay, kept_calls, after_calls}
 use Rattle.pm_region.specs.Memory.{Memory, current_words}
 use Rattle.bp_script.specs.Commands.{Command}
-use Rattle.bp_script.specs.Commands.Command.{file_call, sync, bad_syntax, too_long}
+use Rattle.bp_script.specs.Commands.Command.{file_call, sync, space, bad_syntax, too_long}
 use Rattle.bp_script.specs.Texts.{Reply}
-use Rattle.bp_script.specs.Texts.Reply.{answered, synced, syntax, long}
+use Rattle.bp_script.specs.Texts.Reply.{answered, synced, space_of, syntax, long}
 
 -- A call on a plain tree. Besides the tree's own answer there are three: a call that changes the tree may find no room or may
 -- be one that this version can't do, and a listing may find no memory; none of them does anything.
@@ -64,9 +64,17 @@ pub record PlainTells (old : Plain) (wanted reply : Reply) (new : Plain) : Type 
   pub told : reply ≡ wanted
   pub same : new ≡ old
 
+-- two numbers of blocks are told, of which a plain tree knows nothing
+pub record PlainSpace (old : Plain) (reply : Reply) (new : Plain) : Type 0 where
+  pub free : ℕ
+  pub live : ℕ
+  pub told : reply ≡ space_of free live
+  pub same : new ≡ old
+
 abbrev pub PlainLine : Plain → Command → Reply → Plain → Type 0
 PlainLine old (file_call call) reply new = PlainCalls old call reply new
 PlainLine old sync reply new = (reply ≡ synced) × (new ≡ fresh (tree_now old))
+PlainLine old space reply new = PlainSpace old reply new
 PlainLine old bad_syntax reply new = PlainTells old syntax reply new
 PlainLine old too_long reply new = PlainTells old long reply new
 

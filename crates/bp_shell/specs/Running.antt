@@ -1,5 +1,5 @@
 -- What a program answers, and when.
-use Rattle.std.specs.Prelude.{Some, ◌≡◌, ◌⊎◌, ◌≤◌, ◌<◌, ℕ, ◌-◌, List, [], ◌∷◌, ◌++◌, length, take, Option}
+use Rattle.std.specs.Prelude.{Some, min, max, ◌≡◌, ◌⊎◌, ◌≤◌, ◌<◌, ℕ, ◌-◌, List, [], ◌∷◌, ◌++◌, length, take, Option}
 use Rattle.std.specs.Io.KnownBytes.{Appends, Consumes, IsAtEnd}
 use Rattle.bp_io.specs.Causes.{Rose}
 use Rattle.bp_io.specs.Files.{Known}
@@ -8,7 +8,9 @@ use Rattle.bp_layout.specs.Words.{Image}
 use Rattle.bp_layout.specs.Bytes.{image_bytes}
 use Rattle.bp_plain.specs.PlainTree.{FileTree}
 use Rattle.bp_plain.specs.Stands.{Stands}
-use Rattle.bp_thin.specs.Thin.{IsThin}
+use Rattle.bp_layout.specs.WellFormed.{IsWellFormed}
+use Rattle.bp_command.specs.Programs.{Program, Requests}
+use Rattle.bp_command.specs.Programs.Program.{formats, runs, checks}
 use Rattle.bp_script.specs.Commands.Command.{sync}
 use Rattle.bp_script.specs.declared.notices.Notice.{Notice}
 use Rattle.bp_script.specs.declared.notices.Notice.TheVariants.{Formatted, NoFile}
@@ -20,48 +22,8 @@ use Rattle.bp_shell.specs.PlainSession.{Plain, PlainSession, Follows, fresh}
 use Rattle.bp_shell.specs.Session.{State}
 use Rattle.bp_shell.specs.Opening.{IsFound, IsRefused, start}
 use Rattle.bp_shell.specs.Formatting.{new_image, HasPartly}
-
--- What is told of the outside at a moment: what the source has left, what the sink took, what is known of FILE, and how often
--- each of the three has failed.
-pub record Outside : Type 0 where
-  pub left : Option (List ℕ)
-  pub taken : Option (List ℕ)
-  pub file : Known
-  pub source_faults : ℕ
-  pub sink_faults : ℕ
-  pub file_faults : ℕ
-
-abbrev pub outside : Option (List ℕ) → Option (List ℕ) → Known → ℕ → ℕ → ℕ → Outside
-outside left taken file source_faults sink_faults file_faults =
-    record { left = left; taken = taken; file = file; source_faults = source_faults; sink_faults = sink_faults; file_faults = file_faults }
-
-abbrev pub SourceFailed : Outside → Outside → Type 0
-SourceFailed before after = Rose before.source_faults after.source_faults
-
-abbrev pub SinkFailed : Outside → Outside → Type 0
-SinkFailed before after = Rose before.sink_faults after.sink_faults
-
-abbrev pub FilesFailed : Outside → Outside → Type 0
-FilesFailed before after = Rose before.file_faults after.file_faults
-
--- Nothing failed.
-pub record IsCalm (before after : Outside) : Type 0 where
-  pub source : after.source_faults ≡ before.source_faults
-  pub sink : after.sink_faults ≡ before.sink_faults
-  pub files : after.file_faults ≡ before.file_faults
-
--- No byte was read, and FILE is as it was.
-pub record IsUntouched (before after : Outside) : Type 0 where
-  pub left : after.left ≡ before.left
-  pub file : after.file ≡ before.file
-
--- A sink took a text: a front of it, and all of it where the count of faults didn't rise.
-pub record Prints (text : List ℕ) (taken taken_now : Option (List ℕ)) (faults faults_now : ℕ) : Type 0 where
-  pub some : (count : ℕ) × Appends taken taken_now (take count text)
-  pub all : ¬ Rose faults faults_now → Appends taken taken_now text
-
-abbrev pub TellsLine : Notice → Outside → Outside → Type 0
-TellsLine notice before after = Prints (notice_text notice) before.taken after.taken before.sink_faults after.sink_faults
+use Rattle.bp_shell.specs.Outside.{Outside, SourceFailed, SinkFailed, FilesFailed, IsCalm, IsUntouched, TellsLine}
+use Rattle.bp_shell.specs.Checking.{CheckOutcome}
 
 -- ---- `run FILE`
 
@@ -131,10 +93,10 @@ pub record RunsStopped (before after : Outside) : Type 0 where
   pub memory : Memory
   pub stops : Stops (start image) memory (SavesPartly after) (commands_from [] input ++ sync ∷ []) before.taken after.taken
 
--- Where FILE is told to have the bytes of a thin image, the source has no more than the most bytes, and nothing fails, the
+-- Where FILE is told to have the bytes of a well-formed image, the source has no more than the most bytes, and nothing fails, the
 -- status is 0, or 8 for want of memory.
 abbrev pub IsComplete : ℕ → Outside → Outside → Type 0
-IsComplete status before after = (image : Image) (input : List ℕ) → before.file ≡ Some (Some (image_bytes image)) → AreWords image → IsThin image → before.left ≡ Some input → length input ≤ 1073741824
+IsComplete status before after = (image : Image) (input : List ℕ) → before.file ≡ Some (Some (image_bytes image)) → AreWords image → IsWellFormed image → before.left ≡ Some input → length input ≤ 1073741824
     → ¬ SourceFailed before after → ¬ SinkFailed before after → ¬ FilesFailed before after → (status ≡ 0) ⊎ (status ≡ 8)
 
 -- What `run FILE` answers, and when.
@@ -162,3 +124,29 @@ pub record FormatOutcome (status blocks : ℕ) (before after : Outside) : Type 0
   pub memory : status ≡ 8 → (after.file ≡ before.file) × (after.taken ≡ before.taken)
   pub unread : after.left ≡ before.left
   pub one_of : (status ≡ 0) ⊎ (status ≡ 4) ⊎ (status ≡ 5) ⊎ (status ≡ 8)
+
+-- ---- any program
+
+-- the name of FILE
+abbrev pub file_name : Program → List ℕ
+file_name (formats name blocks) = name
+file_name (runs name) = name
+file_name (checks name) = name
+
+-- the same program, of a number of blocks that an image may have
+abbrev pub in_range : Program → Program
+in_range (formats name blocks) = formats name (min (max blocks 8) 16384)
+in_range (runs name) = runs name
+in_range (checks name) = checks name
+
+-- What a program answers, and when.
+abbrev pub Outcome : Program → ℕ → Outside → Outside → Type 0
+Outcome (formats name blocks) status before after = FormatOutcome status blocks before after
+Outcome (runs name) status before after = RunOutcome status before after
+Outcome (checks name) status before after = CheckOutcome status before after
+
+-- The words ask for a program, and this is its outcome. What is known of a file is told for each name.
+pub record Does (words : List (List ℕ)) (status : ℕ) (before after : List ℕ → Outside) : Type 0 where
+  pub program : Program
+  pub asked : Requests words program
+  pub outcome : Outcome program status (before (file_name program)) (after (file_name program))

@@ -1,13 +1,15 @@
 -- What a run of a script does, and what it answers.
-use Rattle.std.specs.Prelude.{◌≡◌, List, [], ◌∷◌}
+use Rattle.std.specs.Prelude.{◌≡◌, ℕ, List, [], ◌∷◌}
 use Rattle.pm_region.specs.Memory.{Memory, current_words, drained}
 use Rattle.bp_layout.specs.Words.{Image}
+use Rattle.bp_layout.specs.Free.{HasFree}
+use Rattle.bp_scan.specs.Totals.{HasLive}
 use Rattle.bp_plain.specs.Calls.{Call, Answer}
 use Rattle.bp_volume.specs.FileCall.{FileCall}
 use Rattle.bp_script.specs.Commands.{Command}
-use Rattle.bp_script.specs.Commands.Command.{file_call, sync, bad_syntax, too_long}
+use Rattle.bp_script.specs.Commands.Command.{file_call, sync, space, bad_syntax, too_long}
 use Rattle.bp_script.specs.Texts.{Reply}
-use Rattle.bp_script.specs.Texts.Reply.{answered, synced, syntax, long}
+use Rattle.bp_script.specs.Texts.Reply.{answered, synced, space_of, syntax, long}
 
 -- the region, and the words that the file holds
 pub record State : Type 0 where
@@ -35,9 +37,19 @@ pub record Syncs (old : State) (reply : Reply) (new : State) : Type 0 where
   pub told : reply ≡ synced
   pub done : new ≡ synced_state old
 
+-- the blocks of the words now are told
+pub record TellsSpace (old : State) (reply : Reply) (new : State) : Type 0 where
+  pub free : ℕ
+  pub live : ℕ
+  pub told : reply ≡ space_of free live
+  pub has_free : HasFree (current_words old.memory) free
+  pub has_live : HasLive (current_words old.memory) live
+  pub same : new ≡ old
+
 abbrev pub Line : State → Command → Reply → State → Type 0
 Line old (file_call call) reply new = AnswersCall old call reply new
 Line old sync reply new = Syncs old reply new
+Line old space reply new = TellsSpace old reply new
 Line old bad_syntax reply new = Tells old syntax reply new
 Line old too_long reply new = Tells old long reply new
 

@@ -29,7 +29,7 @@ pub(crate) fn act<R: Region, F: Files>(
     ensures size { length volume.new.base ≡ 512 * F.blocks files.new }
     ensures attached { (name : List ℕ) → F.is_attached files.old name → F.is_attached files.new name }
     ensures acts { IfOk result (λ outcome. (name : List ℕ) (saved : Image) → Holds (F.is_attached files.old) (F.blocks files.old) (F.contents files.old) name saved →
-        Acts (state volume.old saved) volume.new (Holds (F.is_attached files.new) (F.blocks files.new) (F.contents files.new) name) (command_of buffers.old.line.items) (reply_of outcome buffers.new.reply)) }
+        Acts (state volume.old saved) volume.new (Holds (F.is_attached files.new) (F.blocks files.new) (F.contents files.new) name) (command_of buffers.old.line.items) (reply_of outcome buffers.new.reply.answer)) }
     ensures fails { OnErr result ((name : List ℕ) (saved : Image) → Holds (F.is_attached files.old) (F.blocks files.old) (F.contents files.old) name saved →
         Fails (state volume.old saved) volume.new (HoldsPartly (F.is_attached files.new) (F.contents files.new) name) (command_of buffers.old.line.items)) }
     ensures line { buffers.new.line.items ≡ buffers.old.line.items }
@@ -47,6 +47,13 @@ pub(crate) fn act<R: Region, F: Files>(
             volume.sync();
             save(volume.region(), files)?;
             Ok(Outcome::Synced)
+        }
+        Ok(Line::Space) => {
+            let space = volume.space();
+            Ok(Outcome::Counted {
+                free: space.free,
+                live: space.live,
+            })
         }
         Err(Syntax) => Ok(Outcome::BadSyntax),
     }

@@ -1,8 +1,9 @@
-//! Scripts served over a file system, and the programs `format` and `run`.
+//! Scripts served over a file system, and the programs `format`, `run` and `check`.
 #![tactic(auto)]
 
 mod acting;
 pub mod blocks;
+mod checking;
 pub mod formatting;
 pub mod laws;
 pub mod opening;
@@ -16,7 +17,6 @@ mod stop;
 mod telling;
 #[cfg(test)]
 mod tests;
-pub mod words;
 mod work;
 
 pub use running::run;

@@ -1,59 +1,28 @@
 //! The file of a run.
 
-ghost use Rattle.std.specs.Prelude.{◌≡◌, ◌≢◌, ◌≤◌, ◌<◌, ◌*◌, ◌^◌, List, ℕ, ◌⊎◌, IfErr, IfOk, OnOk, length, take, vec_len};
+ghost use Rattle.std.specs.Prelude.{◌≡◌, ◌≤◌, ◌*◌, List, ℕ, ◌⊎◌, IfErr, IfOk, OnOk, take, vec_len};
 ghost use Rattle.bp_io.specs.Causes.{Rose};
 ghost use Rattle.bp_io.specs.Files.{Known, Stays, Tells};
 ghost use Rattle.bp_layout.specs.Bytes.{image_bytes};
+ghost use Rattle.bp_layout.specs.WellFormed.{IsWellFormed};
 ghost use Rattle.bp_layout.specs.Words.{Image, block_count};
 ghost use Rattle.bp_script.specs.declared.notices.Notice.{Notice};
-ghost use Rattle.bp_thin.specs.Thin.{IsThin};
 ghost use Rattle.bp_shell.specs.Files.{AreWords, HasImage, Holds, IsAbsent};
-ghost use Rattle.bp_shell.specs.Opening.{IsFound, IsRefused, start, wanted_length};
+ghost use Rattle.bp_shell.specs.Opening.{IsFound, IsRefused, start};
+ghost use Rattle.bp_shell.specs.Stops.{stop_by};
 ghost use Rattle.bp_shell.specs.declared.stop.Stop.TheVariants.{Memory, Missing, Outside, Refused};
-ghost use Rattle.bp_volume.specs.declared.faults.MountFault.TheVariants.{BadSize};
 
 use crate::blocks::decode;
 use crate::stop::Stop;
 use bp_io::{Failed, Files};
 use bp_script::Notice;
-use bp_volume::{MountFault, Volume};
+use bp_scan::{MountFault, image_length};
+use bp_volume::Volume;
 use pm_region::ListRegion;
-use std::alloc::{AllocError, Global};
-
-const BLOCK: u64 = 4096;
-
-const LEAST: u64 = 32_768;
-
-const MOST: u64 = 67_108_864;
+use std::alloc::Global;
 
 /// The most events of the log of a run.
 pub const MOST_EVENTS: usize = 131_072;
-
-// The length of an image that a length in bytes is nearest to.
-fn nearest_length(len: u64) -> u64
-    ensures { result ≡ wanted_length len }
-{
-    if MOST <= len {
-        MOST
-    } else if len <= LEAST {
-        LEAST
-    } else {
-        len.div_ceil(BLOCK) * BLOCK
-    }
-}
-
-/// How many blocks of 4,096 bytes an image of that length in bytes has; `BadSize` where no image has that length.
-pub fn image_length(len: u64) -> Result<u32, MountFault>
-    ensures blocks { IfOk result (λ blocks. (len ≡ 4096 * blocks) × (8 ≤ blocks) × (blocks ≤ 16384)) }
-    ensures fits { IfOk result (λ blocks. len ≡ wanted_length len) }
-    ensures refused { IfErr result (λ fault. (fault ≡ BadSize len (wanted_length len)) × (len ≢ wanted_length len)) }
-{
-    let wanted = nearest_length(len);
-    if len != wanted {
-        return Err(MountFault::BadSize { found: len, wanted });
-    }
-    Ok((len / BLOCK) as u32)
-}
 
 // Reads the words of the attached file.
 fn load<F: Files>(alloc: Global, count: u32, files: &mut F) -> Result<Vec<u64>, Stop>
@@ -83,14 +52,53 @@ fn load<F: Files>(alloc: Global, count: u32, files: &mut F) -> Result<Vec<u64>, 
     Ok(words)
 }
 
+/// Why a run ends at a fault of its image.
+pub(crate) fn stop_of(fault: MountFault) -> Stop
+    ensures { result ≡ stop_by fault }
+{
+    match fault {
+        MountFault::NotFormatted => Stop::Refused(Notice::NotFormatted),
+        MountFault::BadSize { found, wanted } => Stop::Refused(Notice::BadSize { found, wanted }),
+        MountFault::Damaged { check, place } => Stop::Refused(Notice::Damaged { check, place }),
+        MountFault::Memory => Stop::Memory,
+    }
+}
+
+/// The words of the file of a name, which is then attached.
+pub(crate) fn load_file<F: Files>(
+    alloc: Global,
+    name: &str,
+    files: &mut F,
+) -> Result<Vec<u64>, Stop>
+    ensures image { IfOk result (λ words. HasImage (F.contents files.old name.now) words.items) }
+    ensures holds { IfOk result (λ words. Holds (F.is_attached files.new) (F.blocks files.new) (F.contents files.new) name.now words.items) }
+    ensures whole { IfOk result (λ words. vec_len words ≡ 512 * block_count words.items) }
+    ensures least { IfOk result (λ words. 8 ≤ block_count words.items) }
+    ensures most { IfOk result (λ words. block_count words.items ≤ 16384) }
+    ensures missing { IfErr result (λ stop. stop ≡ Missing → IsAbsent (F.contents files.old name.now)) }
+    ensures refused { IfErr result (λ stop. (notice : Notice) → stop ≡ Refused notice → IsRefused (F.contents files.old name.now) notice) }
+    ensures fault { IfErr result (λ stop. stop ≡ Outside → Rose (F.faults files.old) (F.faults files.new)) }
+    ensures same { OnOk result (F.faults files.new ≡ F.faults files.old) }
+    ensures file { F.contents files.new name.now ≡ F.contents files.old name.now }
+{
+    let len = match files.attach(name, false) {
+        Ok(Some(len)) => len,
+        Ok(None) => return Err(Stop::Missing),
+        Err(Failed) => return Err(Stop::Outside),
+    };
+    match image_length(len) {
+        Ok(count) => load(alloc, count, files),
+        Err(fault) => Err(stop_of(fault)),
+    }
+}
+
 // Mounts a region of the words of an image.
 fn mount(alloc: Global, words: Vec<u64>) -> Result<Volume<ListRegion>, Stop>
     requires whole { vec_len words ≡ 512 * block_count words.items }
     requires least { 8 ≤ block_count words.items }
     requires most { block_count words.items ≤ 16384 }
-    requires words { AreWords words.items }
     ensures same { IfOk result (λ volume. volume ≡ (start words.items).memory) }
-    ensures thin { IfOk result (λ volume. IsThin words.items) }
+    ensures well_formed { OnOk result (IsWellFormed words.items) }
     ensures refused { IfErr result (λ stop. (known : Known) (notice : Notice) → HasImage known words.items → stop ≡ Refused notice → IsRefused known notice) }
     ensures kinds { IfErr result (λ stop. ((notice : Notice) × (stop ≡ Refused notice)) ⊎ (stop ≡ Memory)) }
 {
@@ -100,12 +108,7 @@ fn mount(alloc: Global, words: Vec<u64>) -> Result<Volume<ListRegion>, Stop>
     };
     match Volume::mount(alloc, region) {
         Ok(volume) => Ok(volume),
-        Err((_, MountFault::NotFormatted)) => Err(Stop::Refused(Notice::NotFormatted)),
-        Err((_, MountFault::BadSize { found, wanted })) => {
-            Err(Stop::Refused(Notice::BadSize { found, wanted }))
-        }
-        Err((_, MountFault::Later)) => Err(Stop::Refused(Notice::Later)),
-        Err((_, MountFault::Memory)) => Err(Stop::Memory),
+        Err((_, fault)) => Err(stop_of(fault)),
     }
 }
 
@@ -123,21 +126,8 @@ pub(crate) fn open<F: Files>(
     ensures same { OnOk result (F.faults files.new ≡ F.faults files.old) }
     ensures file { F.contents files.new name.now ≡ F.contents files.old name.now }
 {
-    let len = match files.attach(name, false) {
-        Ok(Some(len)) => len,
-        Ok(None) => return Err(Stop::Missing),
-        Err(Failed) => return Err(Stop::Outside),
-    };
-    let count = match image_length(len) {
-        Ok(count) => count,
-        Err(_) => {
-            let wanted = nearest_length(len);
-            return Err(Stop::Refused(Notice::BadSize { found: len, wanted }));
-        }
-    };
-    let words = match load(alloc, count, files) {
-        Ok(words) => words,
-        Err(stop) => return Err(stop),
-    };
-    mount(alloc, words)
+    match load_file(alloc, name, files) {
+        Ok(words) => mount(alloc, words),
+        Err(stop) => Err(stop),
+    }
 }

@@ -7,6 +7,8 @@ pub(crate) enum Outcome {
     Answered,
     /// The file holds the words.
     Synced,
+    /// So many blocks are free and live.
+    Counted { free: u32, live: u32 },
     /// The line is none of the grammar.
     BadSyntax,
     /// The line is too long.

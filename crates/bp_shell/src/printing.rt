@@ -2,7 +2,7 @@
 
 ghost use Rattle.bp_io.specs.Causes.{HasCause};
 ghost use Rattle.bp_script.specs.Sayings.{notice_text};
-ghost use Rattle.bp_shell.specs.Running.{Prints};
+ghost use Rattle.bp_shell.specs.Outside.{Prints};
 ghost use Rattle.std.specs.Io.KnownBytes.{Appends};
 ghost use Rattle.std.specs.Prelude.{◌<◌, ◌≡◌, ℕ, OnErr, OnOk, length, take};
 

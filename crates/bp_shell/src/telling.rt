@@ -51,8 +51,8 @@ fn tell_names<K: Sink>(listing: &Listing, text: &mut Vec<u8>, out: &mut K) -> Re
 fn tell_answer<K: Sink>(reply: &Reply, text: &mut Vec<u8>, out: &mut K) -> Result<(), Failed>
     requires room { vec_len text.old ≡ 140000 }
     ensures room { vec_len text.new ≡ 140000 }
-    ensures all { OnOk result (Appends (K.taken out.old) (K.taken out.new) (answer_text reply.now)) }
-    ensures some { OnErr result ((n : ℕ) × (n < length (answer_text reply.now)) × Appends (K.taken out.old) (K.taken out.new) (take n (answer_text reply.now))) }
+    ensures all { OnOk result (Appends (K.taken out.old) (K.taken out.new) (answer_text reply.now.answer)) }
+    ensures some { OnErr result ((n : ℕ) × (n < length (answer_text reply.now.answer)) × Appends (K.taken out.old) (K.taken out.new) (take n (answer_text reply.now.answer))) }
     ensures cause { HasCause (K.faults out.old) (K.faults out.new) result }
 {
     match reply.answer() {
@@ -74,13 +74,14 @@ pub(crate) fn tell<K: Sink>(
 ) -> Result<(), Failed>
     requires room { vec_len text.old ≡ 140000 }
     ensures room { vec_len text.new ≡ 140000 }
-    ensures all { OnOk result (Appends (K.taken out.old) (K.taken out.new) (reply_text (reply_of outcome reply.now))) }
-    ensures some { OnErr result ((n : ℕ) × (n < length (reply_text (reply_of outcome reply.now))) × Appends (K.taken out.old) (K.taken out.new) (take n (reply_text (reply_of outcome reply.now)))) }
+    ensures all { OnOk result (Appends (K.taken out.old) (K.taken out.new) (reply_text (reply_of outcome reply.now.answer))) }
+    ensures some { OnErr result ((n : ℕ) × (n < length (reply_text (reply_of outcome reply.now.answer))) × Appends (K.taken out.old) (K.taken out.new) (take n (reply_text (reply_of outcome reply.now.answer)))) }
     ensures cause { HasCause (K.faults out.old) (K.faults out.new) result }
 {
     match outcome {
         Outcome::Answered => tell_answer(reply, text, out),
         Outcome::Synced => tell_line(&Said::Done, text, out),
+        Outcome::Counted { free, live } => tell_line(&Said::Space { free, live }, text, out),
         Outcome::BadSyntax => tell_line(&Said::Syntax, text, out),
         Outcome::TooLong => tell_line(&Said::LongLine, text, out),
     }

@@ -1,10 +1,12 @@
 -- What calls that ask answer.
-use Rattle.std.proofs.Common.{◌≡◌, ◌≢◌, ℕ, zero, suc, ◌<◌, ◌≤◌, ◌==◌, List, [], ◌∷◌, not, Option, None, Some, refl, sym, ◌∙◌, ap, arith}
-use Rattle.std.specs.Prelude.{unwrap_or, if◌then◌else◌}
+use Rattle.std.proofs.Common.{◌≡◌, ◌≢◌, ℕ, zero, suc, ◌<◌, ◌≤◌, ◌-◌, ◌==◌, List, [], ◌∷◌, length, take, drop, min, Bool, true, false, not, Option, None, Some, refl, sym, ◌∙◌, ap, arith}
+use Rattle.std.specs.Prelude.{unwrap_or, nat_le, if◌then◌else◌}
+use Rattle.std.proofs.lemmas.Bool.{leb-true, leb-false}
+use Rattle.std.proofs.lemmas.List.{length-drop, take_min}
 use Rattle.std.specs.FinMap.{get}
 use Rattle.std.proofs.lemmas.List.FromFn.{length-map-range_with_len}
 use Rattle.bp_layout.specs.Words.{Image}
-use Rattle.bp_layout.specs.Tree.{content}
+use Rattle.bp_layout.specs.Tree.{byte, content}
 use Rattle.bp_layout.specs.Inode.{kind_of, root_of, size_of, inode_count}
 use Rattle.bp_layout.specs.Directory.{Name}
 use Rattle.bp_layout.specs.Reached.{IsReached}
@@ -15,33 +17,35 @@ use Rattle.bp_layout.proofs.Frame.{reached-in_file}
 use Rattle.bp_plain.specs.PlainTree.{FileTree}
 use Rattle.bp_plain.specs.Stands.{Stands}
 use Rattle.bp_plain.specs.Calls.{Answer, Refusal}
-use Rattle.bp_plain.specs.Calls.Call.{list, stat}
-use Rattle.bp_plain.specs.Calls.Refusal.{not_dir, no_memory}
-use Rattle.bp_plain.specs.Calls.Answer.{refused, names, file_of, dir_of}
-use Rattle.bp_plain.specs.Plain.{walk, refusal, on_parsed, first, when, listing, stat_answer, path_of}
-use Rattle.bp_thin.specs.Thin.{IsThin}
+use Rattle.bp_plain.specs.Calls.Call.{list, read, stat}
+use Rattle.bp_plain.specs.Calls.Refusal.{not_dir, is_dir, no_memory}
+use Rattle.bp_plain.specs.Calls.Answer.{refused, bytes, names, file_of, dir_of}
+use Rattle.bp_plain.specs.Plain.{walk, refusal, on_parsed, first, when, listing, stat_answer, path_of, bytes_in, bytes_at}
+use Rattle.bp_layout.specs.WellFormed.{IsWellFormed}
 use Rattle.bp_dirs.specs.Names.{name_count}
+use Rattle.bp_tree.specs.Bytes.{content_part}
+use Rattle.bp_tree.proofs.ContentParts.{content_part-is}
 use Rattle.bp_volume.specs.Step.{IsAt}
 use Rattle.bp_volume.specs.Told.{Tells, StopsWalk}
 use Rattle.bp_volume.proofs.WalkLaws.{some_inode, reached_at, node_at, dir_at, walk-found}
 use Rattle.bp_volume.proofs.EntryLaws.{length-entries}
-use Rattle.bp_volume.proofs.ReadingLaws.{IsInode, length-seen}
-use Rattle.bp_volume.proofs.StepLaws.{refused_steps, answer_steps, memory_steps, refusal-list_stopped, refusal-list_walked}
+use Rattle.bp_volume.proofs.ReadingLaws.{IsInode, few_inode, length-seen}
+use Rattle.bp_volume.proofs.StepLaws.{refused_steps, answer_steps, memory_steps, refusal-list_stopped, refusal-list_walked, refusal-read_stopped, refusal-read_walked}
 
-module _ (image : Image) (thin : IsThin image) where
+module _ (image : Image) (wf : IsWellFormed image) where
   -- a reached inode is in the inode file
-  pub inode_reached : (i : ℕ) → IsReached image i → 1 ≤ i → IsInode image thin i
+  pub inode_reached : (i : ℕ) → IsReached image i → 1 ≤ i → IsInode image wf i
   inode_reached zero reached low = absurd (omega arith)
   inode_reached (suc i) reached low =
-      let high : suc i < inode_count image = reached-in_file image thin.well_formed (suc i) reached in
-      let kinds : (1 ≤ kind_of image (suc i)) × (kind_of image (suc i) ≤ 2) = thin.well_formed.kinds i reached in
-      record { low = omega arith; high = high; few = omega (arith, high, thin.inode_size); least = kinds.0; most = kinds.1 }
+      let high : suc i < inode_count image = reached-in_file image wf (suc i) reached in
+      let kinds : (1 ≤ kind_of image (suc i)) × (kind_of image (suc i) ≤ 2) = wf.kinds i reached in
+      record { low = omega arith; high = high; few = few_inode image wf (suc i) high; least = kinds.0; most = kinds.1 }
 
   pub at_reached : (text : List ℕ) (i : ℕ) → IsAt image text i → IsReached image i
-  at_reached text i at = reached_at image thin.well_formed at.path i at.inode
+  at_reached text i at = reached_at image wf at.path i at.inode
 
   pub at_low : (text : List ℕ) (i : ℕ) → IsAt image text i → 1 ≤ i
-  at_low text i at = let some : i ≢ 0 = some_inode image thin.well_formed at.path i at.inode in omega arith
+  at_low text i at = let some : i ≢ 0 = some_inode image wf at.path i at.inode in omega arith
 
 -- ---- what there is to tell of an inode
 
@@ -64,6 +68,9 @@ module _ (image : Image) (text : List ℕ) where
 
   pub list_stops : (why : Refusal) → StopsWalk image text why → Tells image (list text) (refused why)
   list_stops why stops tree stands = refused_steps image tree (list text) why (refusal-list_stopped tree text why (stops tree stands))
+
+  pub read_stops : (off len : ℕ) (why : Refusal) → StopsWalk image text why → Tells image (read text off len) (refused why)
+  read_stops off len why stops tree stands = refused_steps image tree (read text off len) why (refusal-read_stopped tree text off len why (stops tree stands))
 
   module _ (i : ℕ) (at : IsAt image text i) where
     path_is : path_of text ≡ at.path
@@ -92,3 +99,40 @@ module _ (image : Image) (text : List ℕ) where
     list_tells kind told says tree stands =
         answer_steps image tree (list text) (names told) (none_refused kind tree stands) refl
         (ap (λ p. names (listing tree p)) path_is ∙ ap names (sym (says tree at.path stands at.inode)))
+
+    -- a read
+
+    refusal_of_read : (off len : ℕ) (tree : FileTree) → Stands image tree → refusal tree (read text off len) ≡ first (when (kind_of image i == 2) is_dir ∷ [])
+    refusal_of_read off len tree stands =
+        refusal-read_walked tree text off len at.path at.parsed (walk-found image tree stands at.path i at.inode)
+        ∙ ap (λ b. first (when b is_dir ∷ [])) (dir_at image tree stands at.path i at.inode)
+
+    pub read_directory : (off len : ℕ) → kind_of image i ≡ 2 → Tells image (read text off len) (refused is_dir)
+    read_directory off len kind tree stands = refused_steps image tree (read text off len) is_dir (refusal_of_read off len tree stands ∙ ap (λ k. first (when (k == 2) is_dir ∷ [])) kind)
+
+    pub read_tells : (off len : ℕ) (told : List ℕ) → kind_of image i ≡ 1 → told ≡ take len (drop off (content image (root_of image i) (size_of image i))) → Tells image (read text off len) (bytes told)
+    read_tells off len told kind says tree stands =
+        let node : get tree at.path ≡ Some (file (content image (root_of image i) (size_of image i))) =
+        node_at image tree stands at.path i at.inode ∙ ap (λ k. Some (if k == 1 then file (content image (root_of image i) (size_of image i)) else dir)) kind in
+        answer_steps image tree (read text off len) (bytes told) (refusal_of_read off len tree stands ∙ ap (λ k. first (when (k == 2) is_dir ∷ [])) kind) refl
+        (ap (λ p. bytes (take len (drop off (bytes_at tree p)))) path_is ∙ ap (λ o. bytes (take len (drop off (bytes_in o)))) node ∙ ap bytes (sym says))
+
+-- as many bytes as there are from an offset on
+pub read_part : (image : Image) (root size off len count : ℕ) → count ≡ min len (size - off) → content_part image root off count ≡ take len (drop off (content image root size))
+read_part image root size off len count is = go (nat_le off size) refl
+  where
+    whole : List ℕ
+    whole = content image root size
+
+    size_is : length whole ≡ size
+    size_is = length-map-range_with_len (byte image root) 0 size
+
+    same : take count (drop off whole) ≡ take len (drop off whole)
+    same = ap (λ n. take n (drop off whole)) (is ∙ ap (min len) (sym (length-drop off whole ∙ ap (λ n. n - off) size_is))) ∙ take_min len (drop off whole)
+
+    go : (b : Bool) → nat_le off size ≡ b → content_part image root off count ≡ take len (drop off whole)
+    go true at = content_part-is image root size off count (omega (arith, is, leb-true off size at)) ∙ same
+    go false at =
+        let none : count ≡ 0 = omega (arith, is, leb-false off size at) in
+        let empty : content_part image root off count ≡ [] = rw none refl in
+        empty ∙ sym (ap (λ n. take n (drop off whole)) none) ∙ same

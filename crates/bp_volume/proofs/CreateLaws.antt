@@ -13,23 +13,24 @@ use Rattle.bp_layout.specs.Free.{HasFree, TellsFreeInode}
 use Rattle.bp_layout.specs.Need.{Change, need}
 use Rattle.bp_layout.specs.Need.Change.{enters}
 use Rattle.bp_layout.specs.PathText.{parse}
-use Rattle.bp_layout.proofs.Paths.{path_once}
 use Rattle.bp_plain.specs.PlainTree.{FileTree}
 use Rattle.bp_plain.specs.Stands.{Stands}
 use Rattle.bp_plain.specs.Calls.{Refusal}
 use Rattle.bp_plain.specs.Calls.Call.{create}
-use Rattle.bp_plain.specs.Calls.Refusal.{bad_path, exists, not_dir, later}
+use Rattle.bp_plain.specs.Calls.Refusal.{bad_path, exists, not_dir, no_space, later}
 use Rattle.bp_plain.specs.Calls.Answer.{done, refused}
-use Rattle.bp_plain.specs.Plain.{plain, is_changing, refusal, walk_parent, answer_or, on_parsed, first, when, parent_of, path_of}
-use Rattle.bp_thin.specs.Thin.{IsThin}
+use Rattle.bp_plain.specs.Plain.{plain, is_changing, refusal, walk_parent, answer_or, on_parsed, first, when, is_dir_at, is_root_path, parent_of, path_of}
+use Rattle.bp_calls.specs.Created.{IsRefused, NeedsLeaf}
+use Rattle.bp_calls.specs.Created.IsRefused.{no_inode as no_free_inode, no_leaf, no_block}
+use Rattle.bp_calls.specs.declared.fault.CreateFault.TheVariants.{Later, NoSpace}
 use Rattle.bp_volume.specs.Step.{Steps, IsLater, IsChange, NewIn, Fits, last_of}
 use Rattle.bp_volume.specs.Step.Steps.{changed}
 use Rattle.bp_volume.specs.Step.IsLater.{no_inode, full_leaf}
 use Rattle.bp_volume.specs.Step.IsChange.{by_create}
 use Rattle.bp_volume.specs.FileCall.{has_changed}
-use Rattle.bp_volume.specs.Told.{Tells, refusal_of_new}
-use Rattle.bp_volume.proofs.StepLaws.{later_steps}
-use Rattle.bp_volume.proofs.WalkLaws.{some_inode, reached_at, dir_at, get-next}
+use Rattle.bp_volume.specs.Told.{Tells, NamesNew, refusal_of_new}
+use Rattle.bp_volume.proofs.StepLaws.{later_steps, no_space_steps}
+use Rattle.bp_volume.proofs.WalkLaws.{dir_at, get-next, walk-found}
 
 pub create_no_path : (tree : FileTree) (text : List ℕ) → parse text ≡ None → refusal tree (create text) ≡ Some bad_path
 create_no_path tree text none = ap (λ o. on_parsed o (refusal_of_new tree)) none
@@ -50,89 +51,105 @@ by_parent [] below = absurd (below refl)
 by_parent (name ∷ []) below = refl
 by_parent (name ∷ second ∷ rest) below = ap (λ p. name ∷ p) (by_parent (second ∷ rest) (λ none. cc))
 
--- in a thin image only the root directory has names
-pub parent_is_root : (image : Image) → IsThin image → (path : Path) (i : ℕ) → path ≢ [] → lookup image (parent_of path) ≡ Some i → kind_of image i ≡ 2 → path ≡ last_of path ∷ []
-parent_is_root image thin path i below found kind = go (cases_eq i 1)
-  where
-    alone : (p : Path) → p ≢ [] → parent_of p ≡ [] → p ≡ last_of p ∷ []
-    alone [] other none = absurd (other refl)
-    alone (name ∷ []) other none = refl
-    alone (name ∷ second ∷ rest) other none = absurd (cc)
+-- ---- a name in a directory
 
-    go : (i ≡ 1) ⊎ (i ≡ 1 → ⊥) → path ≡ last_of path ∷ []
-    go (inl one) = alone path below (path_once image thin.well_formed (parent_of path) [] i found (ap Some (sym one)))
-    go (inr other) =
-        let as_file : (kind_of image i ≡ 1) × (size_of image i ≡ 0) =
-        thin.files i (reached_at image thin.well_formed (parent_of path) i found) (some_inode image thin.well_formed (parent_of path) i found) other in
-        absurd (omega (arith, kind, as_file.0))
+not_root : (path : Path) → path ≢ [] → is_root_path path ≡ false
+not_root [] below = absurd (below refl)
+not_root (name ∷ path) below = refl
 
--- ---- a name in the root directory
+module _ (image : Image) (path : Path) (below : path ≢ []) (i : ℕ) (parent : lookup image (parent_of path) ≡ Some i) (directory : kind_of image i ≡ 2) (name : Name) (last : last_of path ≡ name) where
+  pub path_is : path ≡ parent_of path ++ name ∷ []
+  path_is = by_parent path below ∙ ap (λ n. parent_of path ++ n ∷ []) last
 
-module _ (image : Image) (tree : FileTree) (stands : Stands image tree) (name : Name) where
-  get-name : get tree (name ∷ []) ≡ option_map (node_of image) (option_map (inumber_at image 1) (slot_named image 1 name))
-  get-name =
-      get-next image tree stands [] 1 name refl
-      ∙ ap (λ k. option_map (node_of image) (if k then option_map (inumber_at image 1) (slot_named image 1 name) else None)) (ap (λ k. k == 2) stands.well_formed.root_kind)
+  module _ (tree : FileTree) (stands : Stands image tree) where
+    get-name : get tree path ≡ option_map (node_of image) (option_map (inumber_at image i) (slot_named image i name))
+    get-name =
+        ap (get tree) path_is
+        ∙ get-next image tree stands (parent_of path) i name parent
+        ∙ ap (λ k. option_map (node_of image) (if k then option_map (inumber_at image i) (slot_named image i name) else None)) (ap (λ k. k == 2) directory)
 
-  refusals-name : refusal_of_new tree (name ∷ []) ≡ first (when (is_some (get tree (name ∷ []))) exists ∷ [])
-  refusals-name = ap (λ b. first (first (when (not b) not_dir ∷ []) ∷ when (is_some (get tree (name ∷ []))) exists ∷ [])) (dir_at image tree stands [] 1 refl ∙ ap (λ k. k == 2) stands.well_formed.root_kind)
+    parent_goes : walk_parent tree path ≡ None
+    parent_goes =
+        ap (λ o. first (o ∷ when (not (is_dir_at tree (parent_of path))) not_dir ∷ [])) (walk-found image tree stands (parent_of path) i parent)
+        ∙ ap (λ b. first (when (not b) not_dir ∷ [])) (dir_at image tree stands (parent_of path) i parent ∙ ap (λ k. k == 2) directory)
 
-  pub create_there : (slot : ℕ) → slot_named image 1 name ≡ Some slot → refusal_of_new tree (name ∷ []) ≡ Some exists
-  create_there slot there = refusals-name ∙ ap (λ o. first (when (is_some o) exists ∷ [])) (get-name ∙ ap (λ o. option_map (node_of image) (option_map (inumber_at image 1) o)) there)
+    refusals-name : refusal_of_new tree path ≡ first (when (is_some (get tree path)) exists ∷ [])
+    refusals-name =
+        ap (λ b. first (when b exists ∷ walk_parent tree path ∷ when (is_some (get tree path)) exists ∷ [])) (not_root path below)
+        ∙ ap (λ o. first (o ∷ when (is_some (get tree path)) exists ∷ [])) parent_goes
 
-  pub create_goes : slot_named image 1 name ≡ None → refusal_of_new tree (name ∷ []) ≡ None
-  create_goes missing = refusals-name ∙ ap (λ o. first (when (is_some o) exists ∷ [])) (get-name ∙ ap (λ o. option_map (node_of image) (option_map (inumber_at image 1) o)) missing)
+    pub create_there : (slot : ℕ) → slot_named image i name ≡ Some slot → refusal_of_new tree path ≡ Some exists
+    create_there slot there = refusals-name ∙ ap (λ o. first (when (is_some o) exists ∷ [])) (get-name ∙ ap (λ o. option_map (node_of image) (option_map (inumber_at image i) o)) there)
 
-module _ (image : Image) (text : List ℕ) (name : Name) (parsed : parse text ≡ Some (name ∷ [])) (missing : slot_named image 1 name ≡ None) where
-  pub new_in_root : NewIn image text 1 name
-  new_in_root = record { path = name ∷ []; parsed = parsed; parent = refl; last = refl; missing = missing }
+    pub create_goes : slot_named image i name ≡ None → refusal_of_new tree path ≡ None
+    create_goes missing = refusals-name ∙ ap (λ o. first (when (is_some o) exists ∷ [])) (get-name ∙ ap (λ o. option_map (node_of image) (option_map (inumber_at image i) o)) missing)
 
-  pub create_changes : (tree : FileTree) → Stands image tree → is_changing tree (create text) ≡ true
-  create_changes tree stands = ap (λ o. is_none o && true) (refusal-create tree text (name ∷ []) parsed ∙ create_goes image tree stands name missing)
+module _ (image : Image) (text : List ℕ) (i : ℕ) (name : Name) (names : NamesNew image text i name) where
+  new_here : NewIn image text i name
+  new_here = record { path = names.path; parsed = names.parsed; parent = names.new.parent; last = names.new.last; missing = names.new.missing }
 
-  -- the parent of the path is the root directory
-  in_root : (i : ℕ) (other : Name) → NewIn image text i other → i ≡ 1
-  in_root i other new =
-      let same : Some new.path ≡ Some (name ∷ []) = sym new.parsed ∙ parsed in
-      let paths : new.path ≡ name ∷ [] = cc in
-      let found : Some 1 ≡ Some i = sym (ap (λ p. lookup image (parent_of p)) paths) ∙ new.parent in
+  not_refused : (tree : FileTree) → Stands image tree → refusal tree (create text) ≡ None
+  not_refused tree stands =
+      refusal-create tree text names.path names.parsed
+      ∙ create_goes image names.path names.new.below i names.new.parent names.new.directory name names.new.last tree stands names.new.missing
+
+  create_changes : (tree : FileTree) → Stands image tree → is_changing tree (create text) ≡ true
+  create_changes tree stands = ap (λ o. is_none o && true) (not_refused tree stands)
+
+  -- the text spells no other path, so its parent is no other directory
+  same_directory : (k : ℕ) (other : Name) → NewIn image text k other → k ≡ i
+  same_directory k other new =
+      let same : Some new.path ≡ Some names.path = sym new.parsed ∙ names.parsed in
+      let paths : new.path ≡ names.path = cc in
+      let found : Some k ≡ Some i = sym new.parent ∙ ap (λ p. lookup image (parent_of p)) paths ∙ names.new.parent in
       cc
 
-  -- where no inode is free, or the one block of the directory is full, this version can't do it
-  pub create_later : TellsFreeInode image false ⊎ ((empty_slot image 1 ≡ None) × (size_of image 1 ≡ 4096)) → Tells image (create text) (refused later)
+  -- where no inode is free, or the directory needs a leaf, this version can't do it
+  pub create_later : IsRefused image i Later → Tells image (create text) (refused later)
   create_later why tree stands = later_steps image tree (create text) (create_changes tree stands) (go why)
     where
-      go : TellsFreeInode image false ⊎ ((empty_slot image 1 ≡ None) × (size_of image 1 ≡ 4096)) → IsLater image (create text)
-      go (inl none) = no_inode new_in_root none
-      go (inr full) = full_leaf new_in_root full.0 (omega (arith, full.1)) (omega (arith, full.1))
+      go : IsRefused image i Later → IsLater image (create text)
+      go (no_free_inode none) = no_inode new_here none
+      go (no_leaf full) = full_leaf new_here full.none full.some full.full
 
-  module _ (tells : TellsFreeInode image true) (leaf : ¬ ((empty_slot image 1 ≡ None) × (0 < size_of image 1) × (size_of image 1 % 4096 ≡ 0)))
-      (room : (free : ℕ) → HasFree image free → need image (enters 1 true) ≤ free) where
+  module _ (tells : TellsFreeInode image true) (leaf : ¬ NeedsLeaf image i) where
     not_later : IsLater image (create text) → ⊥
-    not_later (no_inode {name = other} {i = i} new none) = true≢false (sym (none.none (tells.some refl).0 (tells.some refl).1))
-    not_later (full_leaf {name = other} {i = i} new none some full) =
-        let one : i ≡ 1 = in_root i other new in
-        leaf (subst (λ n. (empty_slot image n ≡ None) × (0 < size_of image n) × (size_of image n % 4096 ≡ 0)) one (none, some, full))
+    not_later (no_inode new none) = true≢false (sym (none.none (tells.some refl).0 (tells.some refl).1))
+    not_later (full_leaf {name = other} {i = k} new none some full) =
+        leaf (subst (NeedsLeaf image) (same_directory k other new) (record { none = none; some = some; full = full }))
 
-    need_of : (change : Change) → IsChange image (create text) change → need image change ≡ need image (enters 1 true)
-    need_of _ (by_create {name = other} {i = i} {free = free} new told) =
-        let one : i ≡ 1 = in_root i other new in
+    need_of : (change : Change) → IsChange image (create text) change → need image change ≡ need image (enters i true)
+    need_of _ (by_create {name = other} {i = k} {free = free} new told) =
+        let one : k ≡ i = same_directory k other new in
         let some : free ≡ true = told.none (tells.some refl).0 (tells.some refl).1 in
         rw (one, some) refl
 
-    fits : Fits image (create text)
-    fits needed free has =
-        omega (arith, need_of has.change has.is, has.needs, room free has.has)
+    -- where fewer blocks are free than it needs, it is refused
+    pub create_no_space : (needed free : ℕ) → need image (enters i true) ≡ needed → HasFree image free → free < needed → Tells image (create text) (refused (no_space needed free))
+    create_no_space needed free needs has short tree stands =
+        no_space_steps image tree (create text) needed free (create_changes tree stands) not_later
+        (record { change = enters i true; is = by_create new_here tells; needs = needs; has = has }) short
 
-    -- the new image stands for the tree with an empty file at that name
-    pub create_steps : (new : Image) → ((tree : FileTree) → Stands image tree → Stands new (insert tree (name ∷ []) (file []))) →
-        (tree : FileTree) → Stands image tree → (has_changed tree (create text) done ≡ true) × Steps image tree (create text) done new
-    create_steps new becomes tree stands =
-        let none : refusal tree (create text) ≡ None = refusal-create tree text (name ∷ []) parsed ∙ create_goes image tree stands name missing in
-        let changing : is_changing tree (create text) ≡ true = create_changes tree stands in
-        let path : path_of text ≡ name ∷ [] = ap (λ (o : Option Path). unwrap_or o []) parsed in
-        let says : (plain tree (create text)).0 ≡ done = ap (λ o. (answer_or tree (create text) o).0) none in
-        let makes : (plain tree (create text)).1 ≡ insert tree (name ∷ []) (file []) = ap (λ o. (answer_or tree (create text) o).1) none ∙ ap (λ p. insert tree p (file [])) path in (
-          ap (λ b. b && true) changing,
-          subst (λ a. Steps image tree (create text) a new) says (changed changing not_later fits (subst (λ t. Stands new t) (sym makes) (becomes tree stands))),
-        )
+    module _ (room : (free : ℕ) → HasFree image free → need image (enters i true) ≤ free) where
+      fits : Fits image (create text)
+      fits needed free has =
+          omega (arith, need_of has.change has.is, has.needs, room free has.has)
+
+      -- the new image stands for the tree with an empty file at that name
+      pub create_steps : (new : Image) → ((tree : FileTree) (here : Path) → Stands image tree → lookup image here ≡ Some i → Stands new (insert tree (here ++ name ∷ []) (file []))) →
+          (tree : FileTree) → Stands image tree → (has_changed tree (create text) done ≡ true) × Steps image tree (create text) done new
+      create_steps new becomes tree stands =
+          let none : refusal tree (create text) ≡ None = not_refused tree stands in
+          let changing : is_changing tree (create text) ≡ true = create_changes tree stands in
+          let path : path_of text ≡ parent_of names.path ++ name ∷ [] =
+          ap (λ (o : Option Path). unwrap_or o []) names.parsed ∙ path_is image names.path names.new.below i names.new.parent names.new.directory name names.new.last in
+          let says : (plain tree (create text)).0 ≡ done = ap (λ o. (answer_or tree (create text) o).0) none in
+          let makes : (plain tree (create text)).1 ≡ insert tree (parent_of names.path ++ name ∷ []) (file []) = ap (λ o. (answer_or tree (create text) o).1) none ∙ ap (λ p. insert tree p (file [])) path in (
+            ap (λ b. b && true) changing,
+            subst (λ a. Steps image tree (create text) a new) says
+                (changed changing not_later fits (subst (λ t. Stands new t) (sym makes) (becomes tree (parent_of names.path) stands names.new.parent))),
+          )
+
+-- why a new name is refused, as a call tells it
+pub create_refused : (image : Image) (text : List ℕ) (i : ℕ) (name : Name) → NamesNew image text i name → (needed free : ℕ) → IsRefused image i (NoSpace needed free) → Tells image (create text) (refused (no_space needed free))
+create_refused image text i name names needed free (no_block tells leaf needs has short) = create_no_space image text i name names tells leaf needed free needs has short

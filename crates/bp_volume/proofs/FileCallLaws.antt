@@ -6,6 +6,7 @@ use Rattle.pm_region.specs.Memory.{Memory, current_words, with_room, drained, Ad
 use Rattle.pm_region.specs.Safe.{IsSafe, AddsCommit}
 use Rattle.pm_region.proofs.MemoryLaws.{adds_both, current_words-adds, capacity-adds, current_words-with_room}
 use Rattle.pm_region.proofs.SafeLaws.{safe_mark, safe_drained, safe_committed}
+use Rattle.bp_free.specs.Set.{Set}
 use Rattle.bp_layout.specs.Same.{Same}
 use Rattle.bp_plain.specs.PlainTree.{FileTree}
 use Rattle.bp_plain.specs.Stands.{Stands}
@@ -22,13 +23,20 @@ same-equivalence = record {
 }
 
 -- a drain and a mark leave a volume
-pub volume-drained : (memory : Memory) → IsVolume memory → IsVolume (drained memory)
-volume-drained memory volume = record { safe = safe_drained Same same-equivalence memory volume.safe; roomy = volume.roomy; thin = volume.thin }
+pub volume-drained : (memory : Memory) (blocks inodes : Set) (pending : ℕ) → IsVolume memory blocks inodes pending → IsVolume (drained memory) blocks inodes pending
+volume-drained memory blocks inodes pending volume =
+    record { safe = safe_drained Same same-equivalence memory volume.safe; roomy = volume.roomy; well_formed = volume.well_formed; exact = volume.exact; scans = volume.scans }
 
-pub volume-marked : (old new : Memory) → IsVolume old → Adds old new (Mark ∷ []) → IsVolume new
-volume-marked old new volume adds =
+pub volume-marked : (old new : Memory) (blocks inodes : Set) (pending : ℕ) → IsVolume old blocks inodes pending → Adds old new (Mark ∷ []) → IsVolume new blocks inodes pending
+volume-marked old new blocks inodes pending volume adds =
     let words : current_words new ≡ current_words old = current_words-adds old new (Mark ∷ []) adds in
-    record { safe = safe_mark Same same-equivalence old new volume.safe adds; roomy = rw (capacity-adds old new (Mark ∷ []) adds) volume.roomy; thin = rw words volume.thin }
+    record {
+      safe = safe_mark Same same-equivalence old new volume.safe adds;
+      roomy = rw (capacity-adds old new (Mark ∷ []) adds) volume.roomy;
+      well_formed = rw words volume.well_formed;
+      exact = rw words volume.exact;
+      scans = rw words volume.scans;
+    }
 
 -- ---- calls, from the memory behind the room that they made
 

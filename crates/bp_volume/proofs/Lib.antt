@@ -9,3 +9,5 @@ pub mod AskingLaws
 pub mod CreatedLaws
 pub mod LaidLaws
 pub mod WalkingLaws
+pub mod SpaceLaws
+pub mod ReplyLaws

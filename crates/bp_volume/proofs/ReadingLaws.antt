@@ -1,9 +1,9 @@
--- What an entry of a directory of a thin image names.
-use Rattle.std.proofs.Common.{◌≡◌, ◌≢◌, ℕ, zero, suc, ◌+◌, ◌/◌, ◌<◌, ◌≤◌, [], ◌∷◌, ◌++◌, length, Bool, true, false, ◌==◌, Option, None, Some, filter, filter_map, not, append-nil, refl, sym, ◌∙◌, ap, subst, arith}
+-- What an entry of a directory names.
+use Rattle.std.proofs.Common.{◌≡◌, ◌≢◌, ℕ, zero, suc, ◌+◌, ◌*◌, ◌/◌, ◌<◌, ◌≤◌, [], ◌∷◌, ◌++◌, length, Bool, true, false, ◌==◌, Option, None, Some, filter, filter_map, not, append-nil, refl, sym, ◌∙◌, ap, subst, arith}
 use Rattle.std.specs.List.{range_with_len, cons_option}
 use Rattle.std.proofs.lemmas.Bool.{eqb-true}
 use Rattle.std.proofs.lemmas.List.FromFn.{length-map-range_with_len}
-use Rattle.bp_layout.specs.Words.{Image}
+use Rattle.bp_layout.specs.Words.{Image, block_count}
 use Rattle.bp_layout.specs.Tree.{IsSound}
 use Rattle.bp_layout.specs.Inode.{kind_of, root_of, size_of, inode_count}
 use Rattle.bp_layout.specs.Directory.{Name, IsName, EntryNames, word_in, inumber_in, inumber_at, name_at, entry_count}
@@ -12,7 +12,8 @@ use Rattle.bp_layout.specs.Reached.{IsReached}
 use Rattle.bp_layout.specs.Reached.IsReached.{inode_file, named}
 use Rattle.bp_layout.specs.declared.fields.Kind.{Kind}
 use Rattle.bp_layout.specs.declared.fields.Kind.TheVariants.{File, Dir}
-use Rattle.bp_thin.specs.Thin.{IsThin}
+use Rattle.bp_layout.specs.WellFormed.{IsWellFormed}
+use Rattle.bp_inodes.proofs.FewInodes.{few_inodes}
 use Rattle.bp_dirs.specs.Names.{name_count}
 use Rattle.bp_volume.specs.Directories.{IsDirectory}
 use Rattle.bp_volume.specs.Listed.{kind_seen, entry_seen, entries_seen}
@@ -22,15 +23,21 @@ pub kind_from_word : (kind : Kind) (word : ℕ) → kind_word kind ≡ word → 
 kind_from_word File word e = rw (← e) refl
 kind_from_word Dir word e = rw (← e) refl
 
-module _ (image : Image) (thin : IsThin image) where
+module _ (image : Image) (wf : IsWellFormed image) where
   pub inode_file_sound : IsSound image (root_of image 0) (size_of image 0)
-  inode_file_sound = thin.well_formed.sound 0 inode_file
+  inode_file_sound = wf.sound 0 inode_file
+
+  -- inode numbers are small
+  pub few_inode : (j : ℕ) → j < inode_count image → j < 1048576
+  few_inode j high =
+      let few : size_of image 0 / 64 ≤ 64 * block_count image = few_inodes image (root_of image 0) (size_of image 0) inode_file_sound wf.full_inode_file (omega (arith, wf.at_least)) wf.inode_blocks in
+      omega (arith, few, high, wf.at_most)
 
   -- an inode that is reached, and not the inode file
   pub record IsInode (j : ℕ) : Type 0 where
     pub low : 1 ≤ j
     pub high : j < inode_count image
-    pub few : j < 64
+    pub few : j < 1048576
     pub least : 1 ≤ kind_of image j
     pub most : kind_of image j ≤ 2
 
@@ -44,7 +51,7 @@ module _ (image : Image) (thin : IsThin image) where
     }
 
     name_here : IsName (name_at image i slot)
-    name_here = thin.well_formed.names i slot (inumber_in image root slot) directory.reached names_here
+    name_here = wf.names i slot (inumber_in image root slot) directory.reached names_here
 
     name_length : word_in image root slot 1 ≡ length (name_at image i slot)
     name_length = ap (λ r. word_in image r slot 1) directory.root_is ∙ sym (length-map-range_with_len _ 0 (word_in image (root_of image i) slot 1))
@@ -64,9 +71,9 @@ module _ (image : Image) (thin : IsThin image) where
         go : (j : ℕ) → inumber_in image root slot ≡ j → IsInode (inumber_in image root slot)
         go zero at = absurd (some at)
         go (suc j) at =
-            let high : inumber_in image root slot < inode_count image = thin.well_formed.inumbers i slot (inumber_in image root slot) directory.reached names_here in
-            let kinds : (1 ≤ kind_of image (suc j)) × (kind_of image (suc j) ≤ 2) = thin.well_formed.kinds j (subst (IsReached image) at reached) in
-            rw at (record { low = omega arith; high = omega (arith, high, at); few = omega (arith, high, at, thin.inode_size); least = kinds.0; most = kinds.1 })
+            let high : inumber_in image root slot < inode_count image = wf.inumbers i slot (inumber_in image root slot) directory.reached names_here in
+            let kinds : (1 ≤ kind_of image (suc j)) × (kind_of image (suc j) ≤ 2) = wf.kinds j (subst (IsReached image) at reached) in
+            rw at (record { low = omega arith; high = omega (arith, high, at); few = subst (λ k. k < 1048576) at (few_inode (inumber_in image root slot) high); least = kinds.0; most = kinds.1 })
 
 -- ---- one more entry
 

@@ -1,17 +1,17 @@
 -- Steps of calls, from their refusals.
-use Rattle.std.proofs.Common.{◌≡◌, ℕ, List, [], ◌∷◌, true, false, refl, ◌∙◌, ap, subst, Option, None, Some}
+use Rattle.std.proofs.Common.{◌≡◌, ℕ, ◌<◌, List, [], ◌∷◌, true, false, refl, ◌∙◌, ap, subst, Option, None, Some}
 use Rattle.std.specs.Prelude.{not, ◌&&◌, is_none}
 use Rattle.bp_layout.specs.Words.{Image}
 use Rattle.bp_layout.specs.Lookup.{Path}
 use Rattle.bp_layout.specs.PathText.{parse}
 use Rattle.bp_plain.specs.PlainTree.{FileTree}
 use Rattle.bp_plain.specs.Calls.{Call, Refusal, Answer}
-use Rattle.bp_plain.specs.Calls.Call.{list, stat}
-use Rattle.bp_plain.specs.Calls.Refusal.{not_dir, no_memory, later}
+use Rattle.bp_plain.specs.Calls.Call.{list, read, stat}
+use Rattle.bp_plain.specs.Calls.Refusal.{not_dir, is_dir, no_memory, no_space, later}
 use Rattle.bp_plain.specs.Calls.Answer.{refused}
 use Rattle.bp_plain.specs.Plain.{plain, is_changing, refusal, walk, changes, answer, answer_or, on_parsed, on_path, first, when, is_dir_at}
-use Rattle.bp_volume.specs.Step.{Steps, IsLater}
-use Rattle.bp_volume.specs.Step.Steps.{unchanged, no_listing, later_version}
+use Rattle.bp_volume.specs.Step.{Steps, HasNeed, IsLater}
+use Rattle.bp_volume.specs.Step.Steps.{unchanged, no_listing, later_version, no_room}
 use Rattle.bp_volume.specs.FileCall.{has_changed, is_refused}
 
 module _ (image : Image) (tree : FileTree) where
@@ -33,6 +33,11 @@ module _ (image : Image) (tree : FileTree) where
   pub memory_steps : (text : List ℕ) → refusal tree (list text) ≡ None → (has_changed tree (list text) (refused no_memory) ≡ false) × Steps image tree (list text) (refused no_memory) image
   memory_steps text none = (ap (λ o. is_none o && false && not (is_refused (refused no_memory))) none, no_listing none)
 
+  -- a call for which there is no space
+  pub no_space_steps : (call : Call) (needed free : ℕ) → is_changing tree call ≡ true → (IsLater image call → ⊥) → HasNeed image call needed free → free < needed →
+      (has_changed tree call (refused (no_space needed free)) ≡ false) × Steps image tree call (refused (no_space needed free)) image
+  no_space_steps call needed free changing now need short = (ap (λ b. b && false) changing, no_room changing now need short)
+
   -- a call that this version can't do
   pub later_steps : (call : Call) → is_changing tree call ≡ true → IsLater image call → (has_changed tree call (refused later) ≡ false) × Steps image tree call (refused later) image
   later_steps call changing is = (ap (λ b. b && false) changing, later_version changing is)
@@ -43,15 +48,28 @@ module _ (tree : FileTree) (text : List ℕ) where
   pub refusal-stat : refusal tree (stat text) ≡ on_path text (walk tree)
   refusal-stat = refl
 
-  -- the refusal of a listing is that of the walk, and then that of a file
-  pub refusal-list_stopped : (why : Refusal) → on_path text (walk tree) ≡ Some why → refusal tree (list text) ≡ Some why
-  refusal-list_stopped why stops = go (parse text) refl
+  -- the refusal of the walk comes before others
+  walk_first : (others : Path → List (Option Refusal)) (why : Refusal) → on_path text (walk tree) ≡ Some why → on_path text (λ p. first (walk tree p ∷ others p)) ≡ Some why
+  walk_first others why stops = go (parse text) refl
     where
-      go : (o : Option Path) → parse text ≡ o → refusal tree (list text) ≡ Some why
+      go : (o : Option Path) → parse text ≡ o → on_path text (λ p. first (walk tree p ∷ others p)) ≡ Some why
       go None at = rw at (rw at at stops)
       go (Some path) at = rw at (rw (rw at at stops) refl)
+
+  -- so does that of a listing, and then that of a file
+  pub refusal-list_stopped : (why : Refusal) → on_path text (walk tree) ≡ Some why → refusal tree (list text) ≡ Some why
+  refusal-list_stopped why stops = walk_first (λ p. when (not (is_dir_at tree p)) not_dir ∷ []) why stops
 
   pub refusal-list_walked : (path : Path) → parse text ≡ Some path → walk tree path ≡ None → refusal tree (list text) ≡ first (when (not (is_dir_at tree path)) not_dir ∷ [])
   refusal-list_walked path parsed walked =
       ap (λ o. on_parsed o (λ p. first (walk tree p ∷ when (not (is_dir_at tree p)) not_dir ∷ []))) parsed
       ∙ ap (λ o. first (o ∷ when (not (is_dir_at tree path)) not_dir ∷ [])) walked
+
+  -- that of a read, and then that of a directory
+  pub refusal-read_stopped : (off len : ℕ) (why : Refusal) → on_path text (walk tree) ≡ Some why → refusal tree (read text off len) ≡ Some why
+  refusal-read_stopped off len why stops = walk_first (λ p. when (is_dir_at tree p) is_dir ∷ []) why stops
+
+  pub refusal-read_walked : (off len : ℕ) (path : Path) → parse text ≡ Some path → walk tree path ≡ None → refusal tree (read text off len) ≡ first (when (is_dir_at tree path) is_dir ∷ [])
+  refusal-read_walked off len path parsed walked =
+      ap (λ o. on_parsed o (λ p. first (walk tree p ∷ when (is_dir_at tree p) is_dir ∷ []))) parsed
+      ∙ ap (λ o. first (o ∷ when (is_dir_at tree path) is_dir ∷ [])) walked

@@ -14,11 +14,10 @@ use Rattle.bp_plain.specs.Calls.{Refusal}
 use Rattle.bp_plain.specs.Calls.Refusal.{exists}
 use Rattle.bp_plain.specs.Plain.{on_parsed, walk, parent_of}
 use Rattle.bp_path.specs.Walk.{Walked, walk_from, in_directory}
-use Rattle.bp_thin.specs.Thin.{IsThin}
 use Rattle.bp_volume.specs.Step.{last_of}
 use Rattle.bp_volume.specs.Told.{StopsWalk, IsNewIn, RefusesNew, refusal_of_new, refusal_of_walk}
 use Rattle.bp_volume.proofs.WalkLaws.{walk-image, walk_parent-image}
-use Rattle.bp_volume.proofs.CreateLaws.{create_stopped, create_there, parent_is_root}
+use Rattle.bp_volume.proofs.CreateLaws.{create_stopped, create_there}
 
 -- ---- the form of a name
 
@@ -63,22 +62,14 @@ nothing : (o : Option ℕ) → is_some o ≡ false → o ≡ None
 nothing None e = refl
 nothing (Some slot) e = absurd (true≢false e)
 
-module _ (image : Image) (thin : IsThin image) (path : Path) (below : path ≢ []) (dir : ℕ) (found : lookup image (parent_of path) ≡ Some dir) (kind : kind_of image dir ≡ 2) (name : Name) (last : name ≡ last_of path) where
-  at_name : path ≡ name ∷ []
-  at_name = parent_is_root image thin path dir below found kind ∙ ap (λ n. n ∷ []) (sym last)
-
-  dir_is : dir ≡ 1
-  dir_is =
-      let same : Some 1 ≡ Some dir = sym (ap (λ p. lookup image (parent_of p)) at_name) ∙ found in
-      cc
-
+module _ (image : Image) (path : Path) (below : path ≢ []) (dir : ℕ) (found : lookup image (parent_of path) ≡ Some dir) (kind : kind_of image dir ≡ 2) (name : Name) (last : name ≡ last_of path) where
   -- it is new where the directory doesn't have it, and else refused
-  pub name_is_new : is_name name ≡ true → is_some (slot_named image dir name) ≡ false → IsNewIn image path name
-  name_is_new form none = record { at = at_name; form = name_form name form; missing = subst (λ i. slot_named image i name ≡ None) dir_is (nothing (slot_named image dir name) none) }
+  pub name_is_new : is_name name ≡ true → is_some (slot_named image dir name) ≡ false → IsNewIn image path dir name
+  name_is_new form none = record { below = below; parent = found; last = sym last; directory = kind; form = name_form name form; missing = nothing (slot_named image dir name) none }
 
   pub name_is_there : is_some (slot_named image dir name) ≡ true → RefusesNew image path exists
-  name_is_there some tree stands = ap (refusal_of_new tree) at_name ∙ go (slot_named image 1 name) refl
+  name_is_there some tree stands = go (slot_named image dir name) refl
     where
-      go : (o : Option ℕ) → slot_named image 1 name ≡ o → refusal_of_new tree (name ∷ []) ≡ Some exists
-      go None at = absurd (true≢false (sym some ∙ ap (λ i. is_some (slot_named image i name)) dir_is ∙ ap is_some at))
-      go (Some slot) at = create_there image tree stands name slot at
+      go : (o : Option ℕ) → slot_named image dir name ≡ o → refusal_of_new tree path ≡ Some exists
+      go None at = absurd (true≢false (sym some ∙ ap is_some at))
+      go (Some slot) at = create_there image path below dir found kind name (sym last) tree stands slot at

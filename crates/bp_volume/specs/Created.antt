@@ -7,12 +7,12 @@ use Rattle.bp_plain.specs.PlainTree.{FileTree}
 use Rattle.bp_plain.specs.Stands.{Stands}
 use Rattle.bp_plain.specs.Calls.Call.{create}
 use Rattle.bp_plain.specs.Calls.Answer.{done}
-use Rattle.bp_thin.specs.Thin.{IsThin}
+use Rattle.bp_layout.specs.WellFormed.{IsWellFormed}
 use Rattle.bp_volume.specs.Step.{Steps}
 use Rattle.bp_volume.specs.FileCall.{has_changed}
 
 -- a quiet preparation and one store alone in its epoch, by which the image is that of the tree with the new file
-pub record Creates (old : Memory) (text : List ℕ) (new : Memory) : Type 0 where
+pub record CreatesFile (old : Memory) (text : List ℕ) (new : Memory) : Type 0 where
   pub word : ℕ
   pub value : ℕ
   pub barriers : ℕ
@@ -20,4 +20,4 @@ pub record Creates (old : Memory) (text : List ℕ) (new : Memory) : Type 0 wher
   pub few : barriers + stores ≤ 64
   pub commit : AddsCommit Same word value barriers stores old new
   pub step : (tree : FileTree) → Stands (current_words old) tree → (has_changed tree (create text) done ≡ true) × Steps (current_words old) tree (create text) done (current_words new)
-  pub thin : IsThin (current_words new)
+  pub well_formed : IsWellFormed (current_words new)

@@ -7,4 +7,3 @@ pub mod Laid
 pub mod Directories
 pub mod Seen
 pub mod Created
-pub mod Faults

@@ -1,43 +1,52 @@
 //! New files.
 
 ghost use Rattle.std.specs.Prelude.{◌≡◌, ◌≤◌, IfErr, OnErr, OnOk};
+ghost use Rattle.bp_calls.specs.Sets.{AreExact};
+ghost use Rattle.bp_layout.specs.WellFormed.{IsWellFormed};
 ghost use Rattle.bp_plain.specs.Calls.Answer.{refused};
 ghost use Rattle.bp_plain.specs.Calls.Call.{create};
 ghost use Rattle.bp_plain.specs.Seen.{refusal_of};
-ghost use Rattle.bp_thin.specs.Thin.{IsThin};
-ghost use Rattle.bp_volume.specs.Created.{Creates};
+ghost use Rattle.bp_volume.specs.Created.{CreatesFile};
 ghost use Rattle.bp_volume.specs.Told.{NamesNew, Tells};
 ghost use Rattle.pm_region.specs.Memory.{current_words, room_in};
 
-use crate::walking::new_name;
+use crate::walking::{NewName, new_name};
+use bp_calls::CreateFault;
+use bp_free::Parts;
+use bp_layout::Kind;
 use bp_plain::FsError;
 use pm_region::Region;
 
-/// Creates a file of a new name in the root directory, at a path text.
-fn create_new<R: Region>(region: &mut R, text: &[u8], name: &[u8]) -> Result<(), FsError>
-    requires thin { IsThin (current_words (R.memory region.old)) }
-    requires new { NamesNew (current_words (R.memory region.old)) text.now name.now }
-    requires room { 64 ≤ room_in (R.memory region.old) }
-    ensures ok { OnOk result (Creates (R.memory region.old) text.now (R.memory region.new)) }
-    ensures refused { IfErr result (λ e. Tells (current_words (R.memory region.old)) (create text.now) (refused (refusal_of e))) }
-    ensures same { OnErr result (R.memory region.new ≡ R.memory region.old) }
+/// Creates a file of a new name, which a path text spells.
+fn create_new<R: Region>(parts: &mut Parts<R>, text: &[u8], new: NewName<'_>) -> Result<(), FsError>
+    requires well_formed { IsWellFormed (current_words (R.memory parts.old.region)) }
+    requires exact { AreExact (current_words (R.memory parts.old.region)) parts.old.blocks parts.old.inodes }
+    requires new { NamesNew (current_words (R.memory parts.old.region)) text.now new.dir new.name.now }
+    requires room { 64 ≤ room_in (R.memory parts.old.region) }
+    ensures ok { OnOk result (CreatesFile (R.memory parts.old.region) text.now (R.memory parts.new.region)) }
+    ensures exact { AreExact (current_words (R.memory parts.new.region)) parts.new.blocks parts.new.inodes }
+    ensures refused { IfErr result (λ e. Tells (current_words (R.memory parts.old.region)) (create text.now) (refused (refusal_of e))) }
+    ensures same { OnErr result (parts.new ≡ parts.old) }
 {
-    match bp_thin::create(region, name) {
+    match bp_calls::create(parts, new.dir, new.name, Kind::File) {
         Ok(()) => Ok(()),
-        Err(_) => Err(FsError::Later),
+        Err(CreateFault::Later) => Err(FsError::Later),
+        Err(CreateFault::NoSpace { need, free }) => Err(FsError::NoSpace { need, free }),
     }
 }
 
 /// What `create` does before its mark.
-pub(crate) fn create_at<R: Region>(region: &mut R, text: &[u8]) -> Result<(), FsError>
-    requires thin { IsThin (current_words (R.memory region.old)) }
-    requires room { 64 ≤ room_in (R.memory region.old) }
-    ensures ok { OnOk result (Creates (R.memory region.old) text.now (R.memory region.new)) }
-    ensures refused { IfErr result (λ e. Tells (current_words (R.memory region.old)) (create text.now) (refused (refusal_of e))) }
-    ensures same { OnErr result (R.memory region.new ≡ R.memory region.old) }
+pub(crate) fn create_at<R: Region>(parts: &mut Parts<R>, text: &[u8]) -> Result<(), FsError>
+    requires well_formed { IsWellFormed (current_words (R.memory parts.old.region)) }
+    requires exact { AreExact (current_words (R.memory parts.old.region)) parts.old.blocks parts.old.inodes }
+    requires room { 64 ≤ room_in (R.memory parts.old.region) }
+    ensures ok { OnOk result (CreatesFile (R.memory parts.old.region) text.now (R.memory parts.new.region)) }
+    ensures exact { AreExact (current_words (R.memory parts.new.region)) parts.new.blocks parts.new.inodes }
+    ensures refused { IfErr result (λ e. Tells (current_words (R.memory parts.old.region)) (create text.now) (refused (refusal_of e))) }
+    ensures same { OnErr result (parts.new ≡ parts.old) }
 {
-    match new_name(region, text) {
-        Ok(name) => create_new(region, text, name),
+    match new_name(&parts.region, text) {
+        Ok(new) => create_new(parts, text, new),
         Err(error) => Err(error),
     }
 }

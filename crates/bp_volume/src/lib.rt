@@ -3,16 +3,17 @@
 
 mod asking;
 mod creating;
-mod faults;
 mod laying;
 mod listing;
-mod mounting;
 mod replying;
+mod sets;
+mod space;
 #[cfg(test)]
 mod tests;
 mod volume;
 mod walking;
 
-pub use faults::MountFault;
+pub use bp_scan::MountFault;
 pub use laying::lay_out;
+pub use space::Space;
 pub use volume::Volume;

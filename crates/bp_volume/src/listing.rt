@@ -9,7 +9,7 @@ ghost use Rattle.bp_layout.specs.Reached.{IsReached};
 ghost use Rattle.bp_plain.specs.Plain.{listing};
 ghost use Rattle.bp_plain.specs.PlainTree.{FileTree};
 ghost use Rattle.bp_plain.specs.Stands.{Stands};
-ghost use Rattle.bp_thin.specs.Thin.{IsThin};
+ghost use Rattle.bp_layout.specs.WellFormed.{IsWellFormed};
 ghost use Rattle.bp_volume.specs.Listed.{entries_seen};
 ghost use Rattle.bp_volume.specs.Directories.{IsDirectory};
 ghost use Rattle.pm_region.specs.Memory.{current_words};
@@ -28,7 +28,7 @@ fn entries<R: Region>(
     i: u32,
     tree: Tree,
 ) -> Result<Vec<(Kind, Name)>, AllocError>
-    requires thin { IsThin (current_words (R.memory region.now)) }
+    requires well_formed { IsWellFormed (current_words (R.memory region.now)) }
     requires directory { IsDirectory (current_words (R.memory region.now)) i tree.root tree.size }
     ensures { IfOk result (λ names. listed names.items ≡ entries_seen (current_words (R.memory region.now)) i (entry_count (current_words (R.memory region.now)) i)) }
 {
@@ -50,7 +50,7 @@ pub(crate) fn list_directory<R: Region>(
     i: u32,
     tree: Tree,
 ) -> Result<Listing, AllocError>
-    requires thin { IsThin (current_words (R.memory region.now)) }
+    requires well_formed { IsWellFormed (current_words (R.memory region.now)) }
     requires directory { IsDirectory (current_words (R.memory region.now)) i tree.root tree.size }
     ensures { IfOk result (λ names. (plain : FileTree) (here : Path) → Stands (current_words (R.memory region.now)) plain → lookup (current_words (R.memory region.now)) here ≡ Some i → names ≡ listing plain here) }
 {

@@ -1,14 +1,15 @@
 //! Results of calls as replies.
 
-ghost use Rattle.std.specs.Prelude.{◌≡◌};
-ghost use Rattle.bp_volume.specs.Seen.{list_answer_of, stat_answer_of, unit_answer};
+ghost use Rattle.std.specs.Prelude.{◌≡◌, ◌≤◌, IfOk};
+ghost use Rattle.bp_plain.specs.Calls.{most_bytes};
+ghost use Rattle.bp_volume.specs.Seen.{list_answer_of, read_answer, stat_answer_of, unit_answer};
 
 use bp_layout::{Listing, Stat};
 use bp_plain::{FsError, Reply};
 
 /// Tells the result of a call that has nothing to tell.
 pub(crate) fn tell_done(reply: &mut Reply, outcome: Result<(), FsError>)
-    ensures { reply.new ≡ unit_answer outcome }
+    ensures { reply.new.answer ≡ unit_answer outcome }
 {
     match outcome {
         Ok(()) => reply.set_done(),
@@ -18,7 +19,7 @@ pub(crate) fn tell_done(reply: &mut Reply, outcome: Result<(), FsError>)
 
 /// Tells the result of `stat`.
 pub(crate) fn tell_stat(reply: &mut Reply, outcome: Result<Stat, FsError>)
-    ensures { reply.new ≡ stat_answer_of outcome }
+    ensures { reply.new.answer ≡ stat_answer_of outcome }
 {
     match outcome {
         Ok(Stat::File { size }) => reply.set_file(size),
@@ -29,10 +30,21 @@ pub(crate) fn tell_stat(reply: &mut Reply, outcome: Result<Stat, FsError>)
 
 /// Tells the result of `list`.
 pub(crate) fn tell_list(reply: &mut Reply, outcome: Result<Listing, FsError>)
-    ensures { reply.new ≡ list_answer_of outcome }
+    ensures { reply.new.answer ≡ list_answer_of outcome }
 {
     match outcome {
         Ok(listing) => reply.set_names(listing),
+        Err(error) => reply.set_refused(error),
+    }
+}
+
+/// Tells the result of `read`, whose bytes stand in the reply's memory.
+pub(crate) fn tell_read(reply: &mut Reply, outcome: Result<usize, FsError>)
+    requires { IfOk outcome (λ count. count ≤ most_bytes) }
+    ensures { reply.new.answer ≡ read_answer outcome reply.old.buffer }
+{
+    match outcome {
+        Ok(count) => reply.set_bytes(count),
         Err(error) => reply.set_refused(error),
     }
 }

@@ -1,6 +1,6 @@
 ghost use Rattle.std.specs.Prelude.{[], ◌<◌, ◌≡◌, IfOk, length};
 
-use crate::{MountFault, Volume};
+use crate::{MountFault, Space, Volume};
 use bp_layout::{Kind, Stat};
 use bp_plain::{Answer, Call, FsError, Reply};
 use pm_region::{ListRegion, Region};
@@ -129,9 +129,20 @@ fn replies_tell_the_results(rt: HostRuntime) -> Result<(), Fail> {
     Ok(())
 }
 
-/// What a mount says of a fresh region of eight blocks of which a word was set.
-fn mounted_with(alloc: Global, word: usize, value: u64) -> Result<Option<MountFault>, Fail>
-    requires { word < 4096 }
+/// Sets some words.
+fn set_words(words: &mut [u64], places: &[(usize, u64)]) {
+    for (place, value) in places {
+        if *place < words.len() {
+            words[*place] = *value;
+        }
+    }
+}
+
+/// A region of eight blocks of zeros but for an empty file system and these words.
+fn region_with(alloc: Global, places: &[(usize, u64)]) -> Result<ListRegion, AllocError>
+    ensures words { IfOk result (λ region. length region.base ≡ 4096) }
+    ensures events { IfOk result (λ region. region.events ≡ []) }
+    ensures capacity { IfOk result (λ region. region.capacity ≡ 65536) }
 {
     let mut words = vec![in alloc; 0u64; 4096]?;
     words[0] = 0x3130_5352_5346_5042;
@@ -139,11 +150,59 @@ fn mounted_with(alloc: Global, word: usize, value: u64) -> Result<Option<MountFa
     words[2] = 4096;
     words[3] = 4096;
     words[520] = 2;
-    words[word] = value;
-    match Volume::mount(alloc, ListRegion::new(alloc, words, 65_536)?) {
+    set_words(&mut words, places);
+    let region = ListRegion::new(alloc, words, 65_536)?;
+    Ok(region)
+}
+
+/// What a mount says of such a region of which one word was set.
+fn mounted_with(alloc: Global, word: usize, value: u64) -> Result<Option<MountFault>, Fail> {
+    match Volume::mount(alloc, region_with(alloc, &[(word, value)])?) {
         Ok(_) => Ok(None),
         Err((_, fault)) => Ok(Some(fault)),
     }
+}
+
+/// The words of the directory `/d`, and of the file `/f` of 16,384 bytes in all other blocks, of which four are not 0, two at
+/// the end of its first leaf and two behind them.
+const FULL: [(usize, u64); 18] = [
+    (521, 0x2000),
+    (522, 512),
+    (528, 2),
+    (536, 1),
+    (537, 0x3001),
+    (538, 16_384),
+    (1024, 2),
+    (1025, 1),
+    (1026, 0x64),
+    (1056, 3),
+    (1057, 1),
+    (1058, 0x66),
+    (1536, 0x4000),
+    (1537, 0x5000),
+    (1538, 0x6000),
+    (1539, 0x7000),
+    (2559, 0x0201_0000_0000_0000),
+    (2560, 0x0403),
+];
+
+/// The words of the directory `/d`.
+const DIRECTORY: [(usize, u64); 6] = [
+    (521, 0x2000),
+    (522, 256),
+    (528, 2),
+    (1024, 2),
+    (1025, 1),
+    (1026, 0x64),
+];
+
+/// A volume with these words.
+fn volume_with(alloc: Global, places: &[(usize, u64)]) -> Result<Volume<ListRegion>, Fail> {
+    Ok(
+        Volume::mount(alloc, region_with(alloc, places)?)
+            .ok()
+            .ok_or("no volume")?,
+    )
 }
 
 #[test]
@@ -163,6 +222,105 @@ fn a_mount_says_why_not(rt: HostRuntime) -> Result<(), Fail> {
         wanted: u64::MAX,
     };
     assert_eq!(rt; mounted_with(rt.alloc(), 1, 1 << 52)?, Some(greatest));
-    assert_eq!(rt; mounted_with(rt.alloc(), 3, 8192)?, Some(MountFault::Later));
+    let too_great = MountFault::Damaged {
+        check: 11,
+        place: 3,
+    };
+    assert_eq!(rt; mounted_with(rt.alloc(), 3, 8192)?, Some(too_great));
+    let file_as_root = MountFault::Damaged {
+        check: 9,
+        place: 520,
+    };
+    assert_eq!(rt; mounted_with(rt.alloc(), 520, 1)?, Some(file_as_root));
+    Ok(())
+}
+
+#[test]
+fn space_is_told(rt: HostRuntime) -> Result<(), Fail> {
+    let mut volume = fresh(rt.alloc())?;
+    assert_eq!(rt; volume.space(), Space { free: 6, live: 1 });
+    volume.create(b"/a")?;
+    assert_eq!(rt; volume.space(), Space { free: 5, live: 2 });
+    volume.create(b"/b")?;
+    assert_eq!(rt; volume.space(), Space { free: 5, live: 2 });
+    let full = volume_with(rt.alloc(), &FULL)?;
+    assert_eq!(rt; full.space(), Space { free: 0, live: 7 });
+    Ok(())
+}
+
+#[test]
+fn files_are_made_below_the_root_directory(rt: HostRuntime) -> Result<(), Fail> {
+    let mut volume = volume_with(rt.alloc(), &DIRECTORY)?;
+    assert_eq!(rt; volume.space(), Space { free: 5, live: 2 });
+    assert_eq!(rt; volume.create(b"/d/a"), Ok(()));
+    assert_eq!(rt; volume.space(), Space { free: 4, live: 3 });
+    assert_eq!(rt; volume.create(b"/d/a"), Err(FsError::Exists));
+    assert_eq!(rt; volume.create(b"/d/a/b"), Err(FsError::NotDir));
+    assert_eq!(rt; volume.stat(b"/d"), Ok(Stat::Dir { count: 1 }));
+    assert_eq!(rt; volume.stat(b"/"), Ok(Stat::Dir { count: 1 }));
+    let names = volume.list(rt.alloc(), b"/d")?;
+    assert_eq!(rt; names.len(), 1);
+    assert_eq!(rt; names.at(0).1.as_slice(), b"a".as_slice());
+    Ok(())
+}
+
+#[test]
+fn a_full_volume_has_no_space(rt: HostRuntime) -> Result<(), Fail> {
+    let mut volume = volume_with(rt.alloc(), &FULL)?;
+    assert_eq!(rt;
+        volume.create(b"/d/a"),
+        Err(FsError::NoSpace { need: 1, free: 0 })
+    );
+    assert_eq!(rt; volume.stat(b"/d"), Ok(Stat::Dir { count: 0 }));
+    assert_eq!(rt; volume.create(b"/a"), Ok(()));
+    assert_eq!(rt; volume.space(), Space { free: 0, live: 7 });
+    Ok(())
+}
+
+#[test]
+fn bytes_are_read(rt: HostRuntime) -> Result<(), Fail> {
+    let mut volume = volume_with(rt.alloc(), &FULL)?;
+    let mut into = [9u8; 6];
+    assert_eq!(rt; volume.read(b"/f", 4094, &mut into), Ok(6));
+    assert_eq!(rt; into, [1, 2, 3, 4, 0, 0]);
+    let mut into = [9u8; 6];
+    assert_eq!(rt; volume.read(b"/f", 16_382, &mut into), Ok(2));
+    assert_eq!(rt; into, [0, 0, 9, 9, 9, 9]);
+    assert_eq!(rt; volume.read(b"/f", 16_384, &mut into), Ok(0));
+    assert_eq!(rt; volume.read(b"/f", u64::MAX, &mut into), Ok(0));
+    let refused = [
+        (b"f".as_slice(), FsError::BadPath),
+        (b"/g".as_slice(), FsError::NotFound),
+        (b"/f/a".as_slice(), FsError::NotDir),
+        (b"/d".as_slice(), FsError::IsDir),
+        (b"/".as_slice(), FsError::IsDir),
+    ];
+    for (path, error) in refused {
+        assert_eq!(rt; volume.read(path, 0, &mut into), Err(error));
+    }
+    assert_eq!(rt; into, [0, 0, 9, 9, 9, 9]);
+    volume.create(b"/e")?;
+    assert_eq!(rt; volume.read(b"/e", 0, &mut into), Ok(0));
+    Ok(())
+}
+
+#[test]
+fn a_read_is_told_from_the_memory_of_the_reply(rt: HostRuntime) -> Result<(), Fail> {
+    let mut volume = volume_with(rt.alloc(), &FULL)?;
+    let mut reply = Reply::new(rt.alloc())?;
+    let call = Call::Read {
+        path: b"/f",
+        off: 4095,
+        len: 3,
+    };
+    volume.apply(rt.alloc(), &call, &mut reply);
+    assert!(rt; matches!(reply.answer(), Answer::Bytes(b"\x02\x03\x04")));
+    let call = Call::Read {
+        path: b"/d",
+        off: 0,
+        len: 65_536,
+    };
+    volume.apply(rt.alloc(), &call, &mut reply);
+    assert!(rt; matches!(reply.answer(), Answer::Refused(FsError::IsDir)));
     Ok(())
 }

@@ -1,26 +1,31 @@
 //! The volume.
 
-ghost use Rattle.std.specs.Prelude.{[], ◌*◌, ◌∷◌, ◌≡◌, ◌≤◌, ◌↔◌, IfErr, IfOk, IsErrAnd, IsOk, length};
+ghost use Rattle.std.specs.Prelude.{[], ◌*◌, ◌∷◌, ◌≡◌, ◌⊎◌, ◌≤◌, ◌↔◌, IfErr, IfOk, IsOk, OnErr, OnOk, drop, length};
+ghost use Rattle.bp_layout.specs.Free.{HasFree};
+ghost use Rattle.bp_layout.specs.WellFormed.{IsWellFormed};
 ghost use Rattle.bp_layout.specs.Words.{block_count};
 ghost use Rattle.pm_region.specs.Memory.{current_words, drained, room_in, with_room};
-ghost use Rattle.bp_plain.specs.Calls.Call.{create, list, stat};
+ghost use Rattle.bp_plain.specs.Calls.{most_bytes};
+ghost use Rattle.bp_plain.specs.Calls.Call.{create, list, read, stat};
 ghost use Rattle.bp_plain.specs.PlainTree.{empty_tree};
 ghost use Rattle.bp_plain.specs.Seen.{call_of};
 ghost use Rattle.bp_plain.specs.Stands.{Stands};
-ghost use Rattle.bp_thin.specs.Thin.{IsThin};
-ghost use Rattle.bp_volume.specs.Faults.{IsFault};
+ghost use Rattle.bp_scan.specs.Faults.{IsFault};
+ghost use Rattle.bp_scan.specs.Totals.{HasLive};
 ghost use Rattle.bp_volume.specs.FileCall.{FileCall, call_room};
 ghost use Rattle.bp_volume.specs.Laid.{formatted_memory};
-ghost use Rattle.bp_volume.specs.Seen.{list_answer_of, stat_answer_of, unit_answer};
+ghost use Rattle.bp_volume.specs.Seen.{IsShortCall, list_answer_of, read_answer, stat_answer_of, unit_answer};
 
-use crate::asking::{list_at, stat_at};
+use crate::asking::{list_at, read_at, stat_at};
 use crate::creating::create_at;
-use crate::faults::MountFault;
 use crate::laying::lay_out;
-use crate::mounting::fault_of;
-use crate::replying::{tell_done, tell_list, tell_stat};
+use crate::replying::{tell_done, tell_list, tell_read, tell_stat};
+use crate::sets::Sets;
+use crate::space::Space;
+use bp_free::Parts;
 use bp_layout::{Listing, Stat};
 use bp_plain::{Call, FsError, Reply};
+use bp_scan::{MountFault, Pending, scan};
 use pm_region::Region;
 use std::alloc::Global;
 use std::marker::Model;
@@ -31,7 +36,8 @@ const CALL_ROOM: usize = 65_536;
 /// A file system over a region. Contracts see it as the region's memory.
 #[derive(Drop)]
 pub struct Volume<R: Region> {
-    region: R,
+    parts: Parts<R>,
+    pending: Pending,
 }
 
 impl<R: Region> Model for Volume<R> {
@@ -40,9 +46,9 @@ impl<R: Region> Model for Volume<R> {
 
     ghost Value = { Memory };
 
-    ghost view = { λ v. R.memory v.region };
+    ghost view = { λ v. R.memory v.parts.region };
 
-    ghost invariant = { λ v. IsVolume (R.memory v.region) };
+    ghost invariant = { λ v. IsVolume (R.memory v.parts.region) v.parts.blocks v.parts.inodes v.pending };
 }
 
 impl<R: Region> Volume<R> {
@@ -51,7 +57,7 @@ impl<R: Region> Volume<R> {
     /// # Errors
     ///
     /// `Memory` where there is none for the volume. The region comes back as it was.
-    pub fn format(_alloc: Global, region: R) -> Result<Volume<R>, (R, MountFault)>
+    pub fn format(alloc: Global, region: R) -> Result<Volume<R>, (R, MountFault)>
         requires whole { length (R.memory region).base ≡ 512 * block_count (R.memory region).base }
         requires least { 8 ≤ block_count (R.memory region).base }
         requires most { block_count (R.memory region).base ≤ 16384 }
@@ -62,10 +68,17 @@ impl<R: Region> Volume<R> {
         ensures handed_back { IfErr result (λ e. e.0 ≡ region) }
         ensures memory { IfErr result (λ e. e.1 ≡ MountFault.Memory) }
     {
+        let Ok(sets) = Sets::new(alloc, (region.words() / 512) as u32) else {
+            return Err((region, MountFault::Memory));
+        };
         let mut region = region;
         lay_out(&mut region);
         region.drain();
-        Ok(Volume { region })
+        match Volume::scanned(region, sets) {
+            Ok(volume) => Ok(volume),
+            // The stores of a format make a file system of any words.
+            Err(_) => unreachable!(),
+        }
     }
 
     /// Makes a volume of a region that was formatted, of 8 to 16,384 blocks of 512 words.
@@ -73,22 +86,23 @@ impl<R: Region> Volume<R> {
     /// # Errors
     ///
     /// `NotFormatted` where the region doesn't begin with the mark of a format; `BadSize` where it was formatted for
-    /// another number of blocks; `Later` where this version can't serve it. The region comes back as it was.
-    pub fn mount(_alloc: Global, region: R) -> Result<Volume<R>, (R, MountFault)>
+    /// another number of blocks; `Damaged` where a check of the format fails, with one that does; `Memory` where there is
+    /// none for the volume. The region comes back as it was.
+    pub fn mount(alloc: Global, region: R) -> Result<Volume<R>, (R, MountFault)>
         requires whole { length (R.memory region).base ≡ 512 * block_count (R.memory region).base }
         requires least { 8 ≤ block_count (R.memory region).base }
         requires most { block_count (R.memory region).base ≤ 16384 }
         requires fresh { (R.memory region).events ≡ [] }
         requires roomy { call_room ≤ (R.memory region).capacity }
         ensures same { IfOk result (λ volume. volume ≡ R.memory region) }
-        ensures thin { IsOk result ↔ IsThin (R.memory region).base }
+        ensures well_formed { OnOk result (IsWellFormed (R.memory region).base) }
         ensures handed_back { IfErr result (λ e. e.0 ≡ region) }
-        ensures fault { IfErr result (λ e. IsFault (R.memory region).base e.1) }
-        ensures exact { (fault : MountFault) → IsFault (R.memory region).base fault → IsErrAnd result (λ e. e.1 ≡ fault) }
+        ensures fault { IfErr result (λ e. (e.1 ≡ MountFault.Memory) ⊎ IsFault (R.memory region).base e.1) }
+        ensures exact { IsWellFormed (R.memory region).base → IfErr result (λ e. e.1 ≡ MountFault.Memory) }
     {
-        match fault_of(&region) {
-            Some(fault) => Err((region, fault)),
-            None => Ok(Volume { region }),
+        match Sets::new(alloc, (region.words() / 512) as u32) {
+            Ok(sets) => Volume::scanned(region, sets),
+            Err(_) => Err((region, MountFault::Memory)),
         }
     }
 
@@ -96,14 +110,26 @@ impl<R: Region> Volume<R> {
     pub fn region(&self) -> &R
         ensures { R.memory result.now ≡ self.now }
     {
-        &self.region
+        &self.parts.region
     }
 
     /// Waits until all that the calls so far have done is written back, and empties the log.
     pub fn sync(&mut self)
         ensures { self.new ≡ drained self.old }
     {
-        self.region.drain();
+        self.parts.region.drain();
+    }
+
+    /// How many blocks are free, and how many are live.
+    pub fn space(&self) -> Space
+        ensures free { HasFree (current_words self.now) result.free }
+        ensures live { HasLive (current_words self.now) result.live }
+    {
+        let free = self.parts.blocks.count();
+        Space {
+            free,
+            live: self.parts.blocks.room() - free - 1,
+        }
     }
 
     /// Makes an empty file at a path.
@@ -112,14 +138,33 @@ impl<R: Region> Volume<R> {
     ///
     /// `BadPath` where the text is no path; `Exists` at the root directory; `NotFound` or `NotDir` at the first name on
     /// the way that is missing, or is sought in a file; `Exists` where the name is there; then `Later` where no inode is
-    /// free, or the directory has no empty entry and its blocks are full.
+    /// free, or the directory has no empty entry and its blocks are full; and last `NoSpace` where fewer blocks are free
+    /// than the file needs.
     pub fn create(&mut self, path: &[u8]) -> Result<(), FsError>
         ensures { FileCall self.old (create path.now) (unit_answer result) self.new }
     {
         self.make_room();
-        let made = create_at(&mut self.region, path);
-        self.region.mark();
+        let made = create_at(&mut self.parts, path);
+        self.parts.region.mark();
         made
+    }
+
+    /// Reads bytes of the file at a path from an offset on, as many as `into` has room for and the file has there, and says
+    /// how many these are. There are none at and past the end of the file. The rest of `into` stays as it was.
+    ///
+    /// # Errors
+    ///
+    /// Those of `stat`; and then `IsDir` where a directory stands there. `into` stays as it was then.
+    pub fn read(&mut self, path: &[u8], off: u64, into: &mut [u8]) -> Result<usize, FsError>
+        ensures called { FileCall self.old (read path.now off (length into.old)) (read_answer result into.new) self.new }
+        ensures fits { IfOk result (λ count. count ≤ length into.new) }
+        ensures rest { IfOk result (λ count. drop count into.new ≡ drop count into.old) }
+        ensures unread { OnErr result (into.new ≡ into.old) }
+    {
+        self.make_room();
+        let told = read_at(&self.parts.region, path, off, into);
+        self.parts.region.mark();
+        told
     }
 
     /// What there is to tell of what stands at a path: a file's size in bytes, or how many names a directory has.
@@ -132,8 +177,8 @@ impl<R: Region> Volume<R> {
         ensures { FileCall self.old (stat path.now) (stat_answer_of result) self.new }
     {
         self.make_room();
-        let told = stat_at(&self.region, path);
-        self.region.mark();
+        let told = stat_at(&self.parts.region, path);
+        self.parts.region.mark();
         told
     }
 
@@ -146,19 +191,78 @@ impl<R: Region> Volume<R> {
         ensures { FileCall self.old (list path.now) (list_answer_of result) self.new }
     {
         self.make_room();
-        let told = list_at(alloc, &self.region, path);
-        self.region.mark();
+        let told = list_at(alloc, &self.parts.region, path);
+        self.parts.region.mark();
         told
     }
 
-    /// Makes a call, and tells its result in the reply.
+    /// Makes a call, and tells its result in the reply. A read may ask for 65,536 bytes at most.
     pub fn apply(&mut self, alloc: Global, call: &Call, reply: &mut Reply)
-        ensures { FileCall self.old (call_of call.now) reply.new self.new }
+        requires { IsShortCall (call_of call.now) }
+        ensures { FileCall self.old (call_of call.now) reply.new.answer self.new }
     {
         match call {
             Call::Create(path) => tell_done(reply, self.create(path)),
             Call::List(path) => tell_list(reply, self.list(alloc, path)),
             Call::Stat(path) => tell_stat(reply, self.stat(path)),
+            Call::Read { path, off, len } => self.apply_read(path, *off, *len, reply),
+        }
+    }
+
+    /// Reads so many bytes at most into the front of `buffer`.
+    fn read_front(
+        &mut self,
+        path: &[u8],
+        off: u64,
+        len: usize,
+        buffer: &mut [u8],
+    ) -> Result<usize, FsError>
+        requires { len ≤ length buffer.old }
+        ensures called { FileCall self.old (read path.now off len) (read_answer result buffer.new) self.new }
+        ensures fits { IfOk result (λ count. count ≤ len) }
+    {
+        self.read(path, off, &mut buffer[..len])
+    }
+
+    /// Reads bytes into the memory of a reply, and tells the result there.
+    fn apply_read(&mut self, path: &[u8], off: u64, len: usize, reply: &mut Reply)
+        requires { len ≤ most_bytes }
+        ensures { FileCall self.old (read path.now off len) reply.new.answer self.new }
+    {
+        let told = self.read_front(path, off, len, reply.buffer());
+        tell_read(reply, told);
+    }
+
+    /// Makes a volume of a region with an empty log whose image passes a scan.
+    fn scanned(region: R, sets: Sets) -> Result<Volume<R>, (R, MountFault)>
+        requires whole { length (R.memory region).base ≡ 512 * block_count (R.memory region).base }
+        requires least { 8 ≤ block_count (R.memory region).base }
+        requires most { block_count (R.memory region).base ≤ 16384 }
+        requires fresh { (R.memory region).events ≡ [] }
+        requires roomy { call_room ≤ (R.memory region).capacity }
+        requires blocks { length sets.blocks ≡ block_count (R.memory region).base }
+        requires inodes { length sets.inodes ≡ 64 * block_count (R.memory region).base }
+        requires pending { sets.pending ≡ 64 * block_count (R.memory region).base }
+        ensures same { IfOk result (λ volume. volume ≡ R.memory region) }
+        ensures well_formed { IsOk result ↔ IsWellFormed (R.memory region).base }
+        ensures handed_back { IfErr result (λ e. e.0 ≡ region) }
+        ensures fault { IfErr result (λ e. IsFault (R.memory region).base e.1) }
+    {
+        let Sets {
+            mut blocks,
+            mut inodes,
+            mut pending,
+        } = sets;
+        match scan(&region, &mut blocks, &mut inodes, &mut pending) {
+            Ok(_) => Ok(Volume {
+                parts: Parts {
+                    region,
+                    blocks,
+                    inodes,
+                },
+                pending,
+            }),
+            Err(fault) => Err((region, fault)),
         }
     }
 
@@ -167,8 +271,8 @@ impl<R: Region> Volume<R> {
         ensures memory { self.new ≡ with_room call_room self.old }
         ensures room { call_room ≤ room_in self.new }
     {
-        if self.region.room() < CALL_ROOM {
-            self.region.drain();
+        if self.parts.region.room() < CALL_ROOM {
+            self.parts.region.drain();
         }
     }
 }

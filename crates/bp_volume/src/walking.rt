@@ -9,7 +9,6 @@ ghost use Rattle.bp_layout.specs.WellFormed.{IsWellFormed};
 ghost use Rattle.bp_path.specs.Places.{fault_of};
 ghost use Rattle.bp_plain.specs.Calls.Call.{create};
 ghost use Rattle.bp_plain.specs.Seen.{refusal_of};
-ghost use Rattle.bp_thin.specs.Thin.{IsThin};
 ghost use Rattle.bp_volume.specs.Step.{IsAt};
 ghost use Rattle.bp_volume.specs.Told.{IsNewIn, NamesNew, Refuses, RefusesNew, StopsWalk, refusal_of_walk};
 ghost use Rattle.pm_region.specs.Memory.{current_words};
@@ -20,6 +19,15 @@ use bp_path::{Path, WalkFault, parse, walk, walk_parent};
 use bp_plain::FsError;
 use bp_tree::Tree;
 use pm_region::Region;
+
+/// A name that a directory doesn't have.
+#[derive(Clone, Copy)]
+pub(crate) struct NewName<'a> {
+    /// The directory's inode.
+    pub dir: u32,
+    /// The name.
+    pub name: &'a [u8],
+}
 
 /// The refusal of a call whose path leads nowhere.
 fn refused(fault: WalkFault) -> FsError
@@ -48,7 +56,7 @@ pub(crate) fn inode_at<R: Region>(region: &R, text: &[u8]) -> Result<u32, FsErro
 
 /// Whether a directory has a name.
 fn has_name<R: Region>(region: &R, dir: u32, name: &[u8]) -> bool
-    requires thin { IsThin (current_words (R.memory region.now)) }
+    requires well_formed { IsWellFormed (current_words (R.memory region.now)) }
     requires reached { IsReached (current_words (R.memory region.now)) dir }
     requires inode { 1 ≤ dir }
     requires short { length name.now ≤ max_name }
@@ -62,11 +70,11 @@ fn has_name<R: Region>(region: &R, dir: u32, name: &[u8]) -> bool
     find(region, tree, name).is_some()
 }
 
-/// The last name of a path below the root directory, which nothing has yet.
-fn last_name<'a, R: Region>(region: &R, path: &Path<'a>) -> Result<&'a [u8], FsError>
-    requires thin { IsThin (current_words (R.memory region.now)) }
+/// The last name of a path below the root directory, which its directory doesn't have yet.
+fn last_name<'a, R: Region>(region: &R, path: &Path<'a>) -> Result<NewName<'a>, FsError>
+    requires well_formed { IsWellFormed (current_words (R.memory region.now)) }
     requires below { path.now ≢ [] }
-    ensures found { IfOk result (λ name. IsNewIn (current_words (R.memory region.now)) path.now name.now) }
+    ensures found { IfOk result (λ new. IsNewIn (current_words (R.memory region.now)) path.now new.dir new.name.now) }
     ensures refused { IfErr result (λ e. RefusesNew (current_words (R.memory region.now)) path.now (refusal_of e)) }
 {
     match walk_parent(region, path) {
@@ -75,17 +83,17 @@ fn last_name<'a, R: Region>(region: &R, path: &Path<'a>) -> Result<&'a [u8], FsE
             if has_name(region, dir, name) {
                 Err(FsError::Exists)
             } else {
-                Ok(name)
+                Ok(NewName { dir, name })
             }
         }
         Err(fault) => Err(refused(fault)),
     }
 }
 
-/// The name that a new file at a path text is to have in the root directory.
-pub(crate) fn new_name<'a, R: Region>(region: &R, text: &'a [u8]) -> Result<&'a [u8], FsError>
-    requires { IsThin (current_words (R.memory region.now)) }
-    ensures found { IfOk result (λ name. NamesNew (current_words (R.memory region.now)) text.now name.now) }
+/// The directory that is to have a new file at a path text, and its name there.
+pub(crate) fn new_name<'a, R: Region>(region: &R, text: &'a [u8]) -> Result<NewName<'a>, FsError>
+    requires { IsWellFormed (current_words (R.memory region.now)) }
+    ensures found { IfOk result (λ new. NamesNew (current_words (R.memory region.now)) text.now new.dir new.name.now) }
     ensures refused { IfErr result (λ e. Refuses (current_words (R.memory region.now)) (create text.now) (refusal_of e)) }
 {
     match parse(text) {

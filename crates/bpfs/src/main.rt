@@ -1,5 +1,5 @@
 //! `bpfs format FILE --blocks N` makes FILE a file system of N blocks; `bpfs run FILE` serves the script of standard input over
-//! it, and writes the replies to standard output.
+//! it, and writes the replies to standard output; `bpfs check FILE` says whether FILE is a file system, and what it holds.
 #![tactic(auto)]
 
 ghost use Rattle.std.specs.Prelude.{◌≡◌, IfOk, map, string_bytes};

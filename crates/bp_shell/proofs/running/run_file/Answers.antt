@@ -1,7 +1,7 @@
 use Rattle.std.proofs.Common.{◌∙◌, inr}
 use Rattle.bp_layout.specs.Bytes.{image_bytes}
 use Rattle.bp_shell.proofs.ActingLaws.{size-drained, holds_bytes}
-use Rattle.bp_shell.proofs.RunningLaws.{runs_whole, runs_part, runs_long, runs_stopped, runs_stopped_at_end}
+use Rattle.bp_shell.proofs.RunningLaws.{runs_whole, runs_part, runs_long, runs_cut, runs_stopped, runs_stopped_at_end}
 use Rattle.bp_shell.proofs.running.run_file.Goals as goal
 
 pub save-requires-clause-size : goal.save-requires-clause-size
@@ -42,3 +42,16 @@ returns-clause-stops g c = λ _.
     let all = served.4 c.args.name.now opened.0 opened.3 in
     let partly = c.in-Err-save.ensures.partly c.args.name.now (image_bytes all.after) (holds_bytes _ _ _ _ all.after all.file) in
     inr (runs_stopped_at_end _ _ opened.0 _ _ _ _ opened.1 opened.2 c.in-Ok-new.ensures _ _ served.1 all c.sync.ensures (rw (c.region.ensures, c.sync.ensures) at partly))
+
+pub returns-then-status-ne0-clause-cuts : goal.returns-then-status-ne0-clause-cuts
+returns-then-status-ne0-clause-cuts g c = λ e.
+    let opened = c.in-Ok.ensures.opened in
+    let cut = c.serve-status.ensures.cuts e in
+    runs_cut _ _ opened.0 _ _ _ _ opened.1 opened.2 c.in-Ok-new.ensures _ (λ i file. file.bytes) cut.1 (cut.2 c.args.name.now opened.0 opened.3)
+
+pub save-requires-clause-attached : goal.save-requires-clause-attached
+save-requires-clause-attached g c = (c.args.name.now, c.serve-status.ensures.attached c.args.name.now c.in-Ok.ensures.opened.3.attached)
+
+pub returns-in-Ok-save-clause-calm : goal.returns-in-Ok-save-clause-calm
+returns-in-Ok-save-clause-calm g c = λ _.
+    let calm = c.serve-status.ensures.none c.if-status-ne0.false in (calm.0, calm.1, c.in-Ok-save.ensures.cause.same ∙ calm.2 ∙ c.in-Ok.ensures.same)

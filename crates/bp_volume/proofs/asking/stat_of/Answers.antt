@@ -8,16 +8,16 @@ use Rattle.bp_volume.proofs.ReadingLaws.{inode_file_sound}
 use Rattle.bp_volume.proofs.asking.stat_of.Goals as goal
 
 pub get-inode-requires-clause-sound : goal.get-inode-requires-clause-sound
-get-inode-requires-clause-sound g c = inode_file_sound _ c.requires.thin
+get-inode-requires-clause-sound g c = inode_file_sound _ c.requires.well_formed
 
 pub get-inode-requires-clause-there : goal.get-inode-requires-clause-there
-get-inode-requires-clause-there g c = (inode_reached _ c.requires.thin c.args.i c.requires.reached c.requires.inode).high
+get-inode-requires-clause-there g c = (inode_reached _ c.requires.well_formed c.args.i c.requires.reached c.requires.inode).high
 
 pub get-inode-requires-clause-least : goal.get-inode-requires-clause-least
-get-inode-requires-clause-least g c = (inode_reached _ c.requires.thin c.args.i c.requires.reached c.requires.inode).least
+get-inode-requires-clause-least g c = (inode_reached _ c.requires.well_formed c.args.i c.requires.reached c.requires.inode).least
 
 pub get-inode-requires-clause-most : goal.get-inode-requires-clause-most
-get-inode-requires-clause-most g c = (inode_reached _ c.requires.thin c.args.i c.requires.reached c.requires.inode).most
+get-inode-requires-clause-most g c = (inode_reached _ c.requires.well_formed c.args.i c.requires.reached c.requires.inode).most
 
 pub returns-in-File : goal.returns-in-File
 returns-in-File g c plain here stands at =

@@ -15,32 +15,32 @@ there : (image : Image) (root slot read : ℕ) → read ≡ inumber_in image roo
 there image root slot read is other none = other (is ∙ none)
 
 pub entry-i-requires-clause-least : goal.entry-i-requires-clause-least
-entry-i-requires-clause-least g c = name_least _ c.requires.thin c.args.i c.args.tree.root c.args.tree.size c.requires.directory c.loop-slot.slot (omega arith) (there _ _ _ _ c.inumber.ensures c.if-inumber-ne0.true)
+entry-i-requires-clause-least g c = name_least _ c.requires.well_formed c.args.i c.args.tree.root c.args.tree.size c.requires.directory c.loop-slot.slot (omega arith) (there _ _ _ _ c.inumber.ensures c.if-inumber-ne0.true)
 
 pub entry-i-requires-clause-most : goal.entry-i-requires-clause-most
-entry-i-requires-clause-most g c = name_most _ c.requires.thin c.args.i c.args.tree.root c.args.tree.size c.requires.directory c.loop-slot.slot (omega arith) (there _ _ _ _ c.inumber.ensures c.if-inumber-ne0.true)
+entry-i-requires-clause-most g c = name_most _ c.requires.well_formed c.args.i c.args.tree.root c.args.tree.size c.requires.directory c.loop-slot.slot (omega arith) (there _ _ _ _ c.inumber.ensures c.if-inumber-ne0.true)
 
 pub overflow_cast-i : goal.overflow_cast-i
 overflow_cast-i g c =
-    let inode = inode_here _ c.requires.thin c.args.i c.args.tree.root c.args.tree.size c.requires.directory c.loop-slot.slot (omega arith) (there _ _ _ _ c.inumber.ensures c.if-inumber-ne0.true) in
+    let inode = inode_here _ c.requires.well_formed c.args.i c.args.tree.root c.args.tree.size c.requires.directory c.loop-slot.slot (omega arith) (there _ _ _ _ c.inumber.ensures c.if-inumber-ne0.true) in
     omega (arith, inode.few, c.entry-i.ensures.inumber)
 
 pub get-kind-requires-clause-sound : goal.get-kind-requires-clause-sound
-get-kind-requires-clause-sound g c = inode_file_sound _ c.requires.thin
+get-kind-requires-clause-sound g c = inode_file_sound _ c.requires.well_formed
 
 pub get-kind-requires-clause-there : goal.get-kind-requires-clause-there
 get-kind-requires-clause-there g c =
-    let inode = inode_here _ c.requires.thin c.args.i c.args.tree.root c.args.tree.size c.requires.directory c.loop-slot.slot (omega arith) (there _ _ _ _ c.inumber.ensures c.if-inumber-ne0.true) in
+    let inode = inode_here _ c.requires.well_formed c.args.i c.args.tree.root c.args.tree.size c.requires.directory c.loop-slot.slot (omega arith) (there _ _ _ _ c.inumber.ensures c.if-inumber-ne0.true) in
     rw c.entry-i.ensures.inumber inode.high
 
 pub get-kind-requires-clause-least : goal.get-kind-requires-clause-least
 get-kind-requires-clause-least g c =
-    let inode = inode_here _ c.requires.thin c.args.i c.args.tree.root c.args.tree.size c.requires.directory c.loop-slot.slot (omega arith) (there _ _ _ _ c.inumber.ensures c.if-inumber-ne0.true) in
+    let inode = inode_here _ c.requires.well_formed c.args.i c.args.tree.root c.args.tree.size c.requires.directory c.loop-slot.slot (omega arith) (there _ _ _ _ c.inumber.ensures c.if-inumber-ne0.true) in
     rw c.entry-i.ensures.inumber inode.least
 
 pub get-kind-requires-clause-most : goal.get-kind-requires-clause-most
 get-kind-requires-clause-most g c =
-    let inode = inode_here _ c.requires.thin c.args.i c.args.tree.root c.args.tree.size c.requires.directory c.loop-slot.slot (omega arith) (there _ _ _ _ c.inumber.ensures c.if-inumber-ne0.true) in
+    let inode = inode_here _ c.requires.well_formed c.args.i c.args.tree.root c.args.tree.size c.requires.directory c.loop-slot.slot (omega arith) (there _ _ _ _ c.inumber.ensures c.if-inumber-ne0.true) in
     rw c.entry-i.ensures.inumber inode.most
 
 pub loop-slot-preserved : goal.loop-slot-preserved

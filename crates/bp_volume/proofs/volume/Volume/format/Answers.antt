@@ -1,23 +1,25 @@
-use Rattle.std.proofs.Common.{◌≡◌, ◌∙◌, refl, sym, subst}
+use Rattle.std.proofs.Common.{◌≡◌, ◌∙◌, sym, subst, true≢false}
 use Rattle.pm_region.specs.Memory.{Memory, current_words}
+use Rattle.bp_layout.specs.WellFormed.{IsWellFormed}
 use Rattle.bp_layout.specs.Words.{block_count}
+use Rattle.bp_layout.proofs.Format.{formatted_well_formed}
 use Rattle.bp_plain.specs.PlainTree.{empty_tree}
 use Rattle.bp_plain.specs.Stands.{Stands}
 use Rattle.bp_plain.proofs.FormatStands.{format_stands}
 use Rattle.bp_volume.specs.Laid.{formatted_memory}
-use Rattle.bp_volume.specs.Volume.{IsVolume}
-use Rattle.bp_volume.proofs.LaidLaws.{drained_format, formatted_thin, fresh_volume}
+use Rattle.bp_volume.proofs.LaidLaws.{drained_format}
 use Rattle.bp_volume.proofs.volume.Volume.format.Goals as goal
 
-pub invariant_of-result : goal.invariant_of-result
-invariant_of-result g c =
+pub unreachable-requires : goal.unreachable-requires
+unreachable-requires g c =
     let old : Memory = g.R.Region.memory c.args.region in
     let made : g.R.Region.memory c.drain.new.self ≡ formatted_memory old = c.drain.ensures ∙ drained_format old _ c.requires.fresh c.lay_out.ensures in
-    subst IsVolume (sym made) (fresh_volume (formatted_memory old) refl c.requires.roomy (formatted_thin old.base (block_count old.base) c.requires.whole c.requires.least c.requires.most))
+    let wf : IsWellFormed (g.R.Region.memory c.drain.new.self).base =
+    subst (λ (memory : Memory). IsWellFormed memory.base) (sym made) (formatted_well_formed old.base (block_count old.base) c.requires.whole c.requires.least c.requires.most) in
+    true≢false (sym (c.in-Err.ensures.well_formed.1 wf))
 
 pub returns-clause-empty : goal.returns-clause-empty
 returns-clause-empty g c =
     let old : Memory = g.R.Region.memory c.args.region in
-    let made : g.R.Region.memory c.drain.new.self ≡ formatted_memory old = c.drain.ensures ∙ drained_format old _ c.requires.fresh c.lay_out.ensures in
-    let P : Memory → Type 0 = λ memory. Stands (current_words memory) empty_tree in
-    subst P (sym made) (format_stands old.base (block_count old.base) c.requires.whole c.requires.least c.requires.most)
+    let made : c.in-Ok-scanned.volume ≡ formatted_memory old = c.in-Ok-scanned.ensures.same ∙ c.drain.ensures ∙ drained_format old _ c.requires.fresh c.lay_out.ensures in
+    subst (λ (memory : Memory). Stands (current_words memory) empty_tree) (sym made) (format_stands old.base (block_count old.base) c.requires.whole c.requires.least c.requires.most)

@@ -1,0 +1,7 @@
+use Rattle.bp_script.proofs.Rows.{written_command-many}
+use Rattle.bp_script.proofs.lines.words_in.Goals as goal
+
+pub returns-in-Err-clause-others : goal.returns-in-Err-clause-others
+returns-in-Err-clause-others c =
+    let whole = rw (c.in-Some.is, c.split_once.ensures.split) at c.loop-left.invariant.items in
+    written_command-many c.args.bytes.now c.loop-left.words.items _ _ c.in-Err.ensures.full whole

@@ -1,0 +1,68 @@
+-- A read that a line asks for is of no more bytes than a reply holds.
+use Rattle.std.proofs.Common.{refl, ◌≡◌, ℕ, List, [], ◌∷◌, Bool, true, false}
+use Rattle.std.specs.Prelude.{Option, Some, None, nat_le, bytes_eq, codes, if◌then◌else◌}
+use Rattle.std.specs.List.{list_any}
+use Rattle.std.proofs.lemmas.Bool.{leb-true}
+use Rattle.bp_plain.specs.Calls.{Call, most_bytes}
+use Rattle.bp_plain.specs.Calls.Call.{create, mkdir, unlink, rmdir, list, stat, read, write, truncate, rename}
+use Rattle.bp_volume.specs.Seen.{IsShortCall}
+use Rattle.bp_script.specs.Commands.{Command, in_grammar, words_of, command_by_words, path_command, long_command, bare_command, read_command, number_of, decoded, is_empty_word}
+use Rattle.bp_script.specs.Commands.Command.{file_call, sync, space, bad_syntax, too_long}
+
+abbrev pub IsShort : Command → Type 0
+IsShort (file_call call) = IsShortCall call
+IsShort command = Unit {0}
+
+short_either : (test : Bool) (first second : Command) → IsShort first → IsShort second → IsShort (if test then first else second)
+short_either true first second one other = one
+short_either false first second one other = other
+
+short_read : (path : List ℕ) (off len : Option ℕ) → IsShort (read_command path off len)
+short_read path (Some off) (Some len) = go (nat_le len most_bytes) refl
+  where
+    go : (few : Bool) → nat_le len most_bytes ≡ few → IsShort (if few then file_call (read path off len) else bad_syntax)
+    go true e = leb-true len most_bytes e
+    go false e = tt
+short_read path None len = tt
+short_read path (Some off) None = tt
+
+short_bare : (verb : List ℕ) → IsShort (bare_command verb)
+short_bare verb = short_either (bytes_eq verb (codes "sync")) sync _ tt (short_either (bytes_eq verb (codes "space")) space bad_syntax tt tt)
+
+short_path : (verb path : List ℕ) → IsShort (path_command verb path)
+short_path verb path =
+    short_either (bytes_eq verb (codes "create")) (file_call (create path)) _ tt
+    (short_either (bytes_eq verb (codes "list")) (file_call (list path)) _ tt (short_either (bytes_eq verb (codes "stat")) (file_call (stat path)) bad_syntax tt tt))
+
+short_long : (verb first second third : List ℕ) → IsShort (long_command verb first second third)
+short_long verb first second third = short_either (bytes_eq verb (codes "read")) (read_command first (number_of second) (number_of third)) bad_syntax (short_read first (number_of second) (number_of third)) tt
+
+short_words : (words : List (List ℕ)) → IsShort (command_by_words words)
+short_words [] = tt
+short_words (verb ∷ []) = short_bare verb
+short_words (verb ∷ path ∷ []) = short_path verb path
+short_words (verb ∷ first ∷ second ∷ []) = tt
+short_words (verb ∷ first ∷ second ∷ third ∷ []) = short_long verb first second third
+short_words (verb ∷ first ∷ second ∷ third ∷ fourth ∷ more) = tt
+
+short_decoded : (command : Command) → IsShort command → IsShort (decoded command)
+short_decoded (file_call (create path)) short = tt
+short_decoded (file_call (mkdir path)) short = tt
+short_decoded (file_call (unlink path)) short = tt
+short_decoded (file_call (rmdir path)) short = tt
+short_decoded (file_call (list path)) short = tt
+short_decoded (file_call (stat path)) short = tt
+short_decoded (file_call (read path off len)) short = short
+short_decoded (file_call (write path off new)) short = tt
+short_decoded (file_call (truncate path size)) short = tt
+short_decoded (file_call (rename from to)) short = tt
+short_decoded sync short = tt
+short_decoded space short = tt
+short_decoded bad_syntax short = tt
+short_decoded too_long short = tt
+
+short_line : (line : List ℕ) → IsShort (in_grammar line)
+short_line line = short_decoded _ (short_either (list_any is_empty_word (words_of line)) bad_syntax (command_by_words (words_of line)) tt (short_words (words_of line)))
+
+pub short_call : (line : List ℕ) (call : Call) → file_call call ≡ in_grammar line → IsShortCall call
+short_call line call asks = let short : IsShort (file_call call) = rw asks (short_line line) in short

@@ -1,5 +1,5 @@
 -- A new inode, an entry behind the last one of a leaf that is not full, and then the directory's size.
-use Rattle.std.proofs.Common.{◌≡◌, ◌≢◌, ℕ, ◌+◌, ◌-◌, ◌*◌, ◌/◌, ◌%◌, ◌<◌, ◌≤◌, List, length, set, refl, sym, ◌∙◌, ap, subst, arith}
+use Rattle.std.proofs.Common.{◌≡◌, ◌≢◌, ℕ, ◌+◌, ◌-◌, ◌*◌, ◌/◌, ◌%◌, ◌<◌, ◌≤◌, set, refl, sym, ◌∙◌, ap, subst, arith}
 use Rattle.bp_calls.specs.Entered.{IsNewInode, IsReadyBehind}
 use Rattle.bp_calls.specs.Sets.{AreExact}
 use Rattle.bp_calls.specs.Spare.{IsUnread}
@@ -7,7 +7,7 @@ use Rattle.bp_calls.specs.Spare.IsUnread.{spare}
 use Rattle.bp_calls.specs.Steps.{CanName, EntersName}
 use Rattle.bp_calls.specs.Written.{HasInodeAt, HasNameAt, IsWithin}
 use Rattle.bp_free.specs.Set.{Set, without}
-use Rattle.bp_layout.specs.Directory.{Name, entry_count, inumber_at, inumber_in, name_in, slot_named}
+use Rattle.bp_layout.specs.Directory.{Name, slot_named}
 use Rattle.bp_layout.specs.Fields.{kind_word}
 use Rattle.bp_layout.specs.Harmless.{ContentStandsAt}
 use Rattle.bp_layout.specs.Inode.{kind_of, root_of, size_of, inode_count}
@@ -19,7 +19,7 @@ use Rattle.bp_layout.specs.Words.{Image, word}
 use Rattle.bp_layout.specs.declared.fields.Kind.{Kind}
 use Rattle.bp_layout.proofs.Frame.{reached-in_file}
 use Rattle.pm_epochs.specs.Crash.{commit}
-use Rattle.pm_epochs.specs.May.{AnyAt, EachMay}
+use Rattle.pm_epochs.specs.May.{AnyAt}
 use Rattle.pm_region.specs.Memory.{Memory, current_words, Adds}
 use Rattle.pm_region.specs.Safe.{AddsMay, AddsCommit}
 use Rattle.pm_region.proofs.MayLaws.{may_twice, may_weaker, each_after, commit_stores}

@@ -1,5 +1,5 @@
 -- A new inode, an entry in a free block, to which the root word of a directory without bytes points, and then the size.
-use Rattle.std.proofs.Common.{◌≡◌, ◌≢◌, ℕ, ◌+◌, ◌-◌, ◌*◌, ◌/◌, ◌%◌, ◌<◌, ◌≤◌, [], ◌∷◌, length, set, refl, sym, ◌∙◌, ap, subst, arith}
+use Rattle.std.proofs.Common.{◌≡◌, ◌≢◌, ℕ, ◌+◌, ◌-◌, ◌*◌, ◌/◌, ◌%◌, ◌<◌, ◌≤◌, [], ◌∷◌, length, set, sym, ◌∙◌, ap, subst, arith}
 use Rattle.bp_calls.specs.Entered.{IsNewInode, IsReadyBehind}
 use Rattle.bp_calls.specs.Sets.{AreExact}
 use Rattle.bp_calls.specs.Spare.{IsUnread}
@@ -11,13 +11,13 @@ use Rattle.bp_inodes.proofs.InodeWords.{root_word-of}
 use Rattle.bp_layout.specs.Directory.{Name, slot_named}
 use Rattle.bp_layout.specs.Fields.{kind_word}
 use Rattle.bp_layout.specs.Harmless.{ContentStandsAt}
-use Rattle.bp_layout.specs.Inode.{kind_of, root_of, size_of, inode_count}
+use Rattle.bp_layout.specs.Inode.{root_of, size_of, inode_count}
 use Rattle.bp_layout.specs.Reached.{IsReached, IsFreeBlock}
 use Rattle.bp_layout.specs.Reached.IsReached.{inode_file}
 use Rattle.bp_layout.specs.Same.{Same}
-use Rattle.bp_layout.specs.Tree.{content_word, node, IsFull}
+use Rattle.bp_layout.specs.Tree.{content_word}
 use Rattle.bp_layout.specs.WellFormed.{IsWellFormed}
-use Rattle.bp_layout.specs.Words.{Image, word, block_count, block_of, height_of, slot_word}
+use Rattle.bp_layout.specs.Words.{Image, word, block_of, slot_word}
 use Rattle.bp_layout.specs.declared.fields.Kind.{Kind}
 use Rattle.bp_layout.proofs.Frame.{reached-in_file}
 use Rattle.bp_layout.proofs.SmallTrees.{content_word-leaf}

@@ -1,5 +1,5 @@
 -- A new inode, a name in an empty entry, and then the inumber.
-use Rattle.std.proofs.Common.{◌≡◌, ◌≢◌, ℕ, ◌+◌, ◌-◌, ◌*◌, ◌/◌, ◌%◌, ◌<◌, ◌≤◌, List, length, set, refl, sym, ◌∙◌, ap, subst, arith}
+use Rattle.std.proofs.Common.{◌≡◌, ◌≢◌, ℕ, ◌+◌, ◌-◌, ◌*◌, ◌/◌, ◌%◌, ◌<◌, ◌≤◌, set, refl, sym, ◌∙◌, ap, subst, arith}
 use Rattle.bp_calls.specs.Entered.{IsNewInode, IsReadyEntry}
 use Rattle.bp_calls.specs.Sets.{AreExact}
 use Rattle.bp_calls.specs.Spare.{IsUnread}
@@ -10,16 +10,16 @@ use Rattle.bp_free.specs.Set.{Set, without}
 use Rattle.bp_layout.specs.Directory.{Name, entry_count, inumber_at, slot_named}
 use Rattle.bp_layout.specs.Fields.{kind_word}
 use Rattle.bp_layout.specs.Harmless.{ContentStandsAt}
-use Rattle.bp_layout.specs.Inode.{kind_of, root_of, size_of, inode_count}
+use Rattle.bp_layout.specs.Inode.{root_of, inode_count}
 use Rattle.bp_layout.specs.Reached.{IsReached}
 use Rattle.bp_layout.specs.Reached.IsReached.{inode_file}
 use Rattle.bp_layout.specs.Same.{Same}
 use Rattle.bp_layout.specs.Tree.{node}
 use Rattle.bp_layout.specs.WellFormed.{IsWellFormed}
-use Rattle.bp_layout.specs.Words.{Image, word, height_of}
+use Rattle.bp_layout.specs.Words.{Image, height_of}
 use Rattle.bp_layout.specs.declared.fields.Kind.{Kind}
 use Rattle.pm_epochs.specs.Crash.{commit}
-use Rattle.pm_epochs.specs.May.{AnyAt, EachMay}
+use Rattle.pm_epochs.specs.May.{AnyAt}
 use Rattle.pm_region.specs.Memory.{Memory, current_words, Adds}
 use Rattle.pm_region.specs.Safe.{AddsMay, AddsCommit}
 use Rattle.pm_region.proofs.MayLaws.{may_twice, may_weaker, each_after, commit_stores}

@@ -1,5 +1,5 @@
 -- What was written is read: a new inode, and a name in an entry; and what one more name makes of the image and its tree.
-use Rattle.std.proofs.Common.{◌≡◌, ◌≢◌, ℕ, ◌+◌, ◌*◌, ◌/◌, ◌%◌, ◌<◌, ◌≤◌, length, get_or, sym, ◌∙◌, ap, arith}
+use Rattle.std.proofs.Common.{◌≡◌, ℕ, ◌+◌, ◌*◌, ◌/◌, ◌%◌, ◌<◌, ◌≤◌, length, get_or, ◌∙◌, ap, arith}
 use Rattle.bp_calls.specs.Entered.{IsNewInode}
 use Rattle.bp_calls.specs.Steps.{EntersName}
 use Rattle.bp_calls.specs.Written.{HasInodeAt, HasNameAt, IsWithin}

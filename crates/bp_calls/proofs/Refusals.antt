@@ -1,21 +1,19 @@
 -- When there is room for a new name, and why there is none.
-use Rattle.std.proofs.Common.{◌≡◌, ◌≢◌, ◌⊎◌, ℕ, zero, suc, ◌+◌, ◌/◌, ◌%◌, ◌<◌, ◌≤◌, List, [], ◌∷◌, length, Bool, true, false, ◌==◌, Option, None, Some, find, refl, sym, ◌∙◌, ap, arith, inl, inr, true≢false}
+use Rattle.std.proofs.Common.{◌≡◌, ◌≢◌, ℕ, ◌%◌, ◌<◌, List, [], ◌∷◌, length, true, false, ◌==◌, Option, None, Some, refl, sym, ◌∙◌, ap, arith, inr, true≢false}
 use Rattle.std.proofs.lemmas.Bool.{eqb-true}
 use Rattle.std.specs.List.{Contains}
 use Rattle.std.specs.Option.{is_some}
 use Rattle.bp_calls.specs.Created.{NeedsLeaf, IsRefused}
-use Rattle.bp_calls.specs.Created.IsRefused.{no_inode, no_leaf, no_block}
+use Rattle.bp_calls.specs.Created.IsRefused.{no_inode, no_block}
 use Rattle.bp_calls.specs.Sets.{AreExact}
 use Rattle.bp_calls.specs.Steps.{HasRoom}
 use Rattle.bp_calls.specs.declared.fault.CreateFault.TheVariants.{Later, NoSpace}
 use Rattle.bp_free.specs.Set.{Set, has, members}
-use Rattle.bp_free.proofs.Members.{members_all, members_has, has_past}
+use Rattle.bp_free.proofs.Members.{members_all, members_has}
 use Rattle.bp_layout.specs.Directory.{empty_slot, inumber_at, entry_count}
-use Rattle.bp_layout.specs.Free.{AreFreeInodes, HasFree, IsFreeInode, TellsFreeInode}
+use Rattle.bp_layout.specs.Free.{IsFreeInode, TellsFreeInode}
 use Rattle.bp_layout.specs.Inode.{kind_of, size_of}
-use Rattle.bp_layout.specs.Need.{need}
-use Rattle.bp_layout.specs.Need.Change.{enters}
-use Rattle.bp_layout.specs.Reached.{IsReached, IsFreeBlock}
+use Rattle.bp_layout.specs.Reached.{IsReached}
 use Rattle.bp_layout.specs.WellFormed.{IsWellFormed}
 use Rattle.bp_layout.specs.Words.{Image}
 use Rattle.bp_layout.proofs.Finding.{Finds, find-passes}

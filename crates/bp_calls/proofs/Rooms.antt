@@ -1,5 +1,5 @@
 -- The words and the room of a memory, before and after stores, and places that lie in it.
-use Rattle.std.proofs.Common.{◌≡◌, ℕ, zero, suc, ◌+◌, ◌-◌, ◌*◌, ◌/◌, ◌%◌, ◌^◌, ◌<◌, ◌≤◌, length, sym, ap, subst₂, arith}
+use Rattle.std.proofs.Common.{◌≡◌, ℕ, zero, suc, ◌+◌, ◌*◌, ◌/◌, ◌%◌, ◌<◌, ◌≤◌, length, ap, arith}
 use Rattle.bp_layout.specs.Free.{IsFreeInode}
 use Rattle.bp_layout.specs.Harmless.{ContentStandsAt}
 use Rattle.bp_layout.specs.Inode.{root_of, size_of, inode_count}

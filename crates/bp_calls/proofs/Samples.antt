@@ -1,5 +1,5 @@
 -- The image with which tests begin is well formed, and these are its free numbers.
-use Rattle.std.proofs.Common.{◌≡◌, ◌≢◌, ◌⊎◌, ℕ, zero, suc, ◌+◌, ◌*◌, ◌/◌, ◌%◌, ◌^◌, ◌<◌, ◌≤◌, [], ◌∷◌, List, length, Bool, true, false, Some, refl, sym, ◌∙◌, ap, subst, suc-ne-zero, arith, inl, inr, true≢false}
+use Rattle.std.proofs.Common.{◌≡◌, ◌≢◌, ◌⊎◌, ℕ, zero, suc, ◌+◌, ◌*◌, ◌/◌, ◌%◌, ◌^◌, ◌<◌, ◌≤◌, [], ◌∷◌, List, length, true, false, Some, refl, sym, ◌∙◌, ap, subst, suc-ne-zero, arith, inl, inr, true≢false}
 use Rattle.std.proofs.lemmas.Bool.{cases_lt}
 use Rattle.std.proofs.lemmas.List.{length-replicate, get_or-replicate}
 use Rattle.bp_free.proofs.Members.{has_past}
@@ -7,14 +7,13 @@ use Rattle.bp_calls.specs.Sample.{IsSample}
 use Rattle.bp_calls.specs.Sets.{AreExact}
 use Rattle.bp_free.specs.Set.{Set, Fills, has, empty}
 use Rattle.bp_layout.specs.Directory.{EntryNames, Name, entry_count, inumber_at, inumber_in, is_named_in, slot_named_in}
-use Rattle.bp_layout.specs.Free.{IsFreeInode}
 use Rattle.bp_layout.specs.Inode.{kind_of, root_of, size_of, inode_word, inode_count}
 use Rattle.bp_layout.specs.Reached.{IsReached, IsLiveBlock, IsFreeBlock}
 use Rattle.bp_layout.specs.Reached.IsReached.{inode_file, root_directory, named}
 use Rattle.bp_layout.specs.Stores.{after_stores}
 use Rattle.bp_layout.specs.Tree.{HasBlock, IsFull, IsSound}
 use Rattle.bp_layout.specs.WellFormed.{IsWellFormed}
-use Rattle.bp_layout.specs.Words.{Image, word, block_count, block_of, height_of, slot_word}
+use Rattle.bp_layout.specs.Words.{Image, word, block_count, block_of, slot_word}
 use Rattle.bp_layout.specs.Limits.{magic}
 use Rattle.bp_inodes.proofs.FewInodes.{few_inodes}
 use Rattle.bp_layout.proofs.Frame.{reached-in_file}

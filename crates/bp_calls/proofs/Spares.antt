@@ -1,17 +1,16 @@
 -- Which words are spare: those of an inode that nobody reaches, those of an empty entry but its inumber, those behind the
 -- size, and those of a free block.
-use Rattle.std.proofs.Common.{◌≡◌, ◌≢◌, ℕ, zero, suc, ◌+◌, ◌*◌, ◌/◌, ◌%◌, ◌<◌, ◌≤◌, length, refl, sym, ◌∙◌, ap, subst, arith}
+use Rattle.std.proofs.Common.{◌≡◌, ◌≢◌, ℕ, suc, ◌+◌, ◌*◌, ◌/◌, ◌%◌, ◌<◌, ◌≤◌, sym, ◌∙◌, ap, subst, arith}
 use Rattle.bp_calls.specs.Spare.{IsSpare}
-use Rattle.bp_layout.specs.Behind.{IsBehind}
-use Rattle.bp_layout.specs.Directory.{EntryNames, inumber_at, entry_count}
+use Rattle.bp_layout.specs.Directory.{inumber_at, entry_count}
 use Rattle.bp_layout.specs.Free.{IsFreeInode}
-use Rattle.bp_layout.specs.Harmless.{StandsAt, ContentStandsAt, IsHarmless}
+use Rattle.bp_layout.specs.Harmless.{StandsAt, ContentStandsAt}
 use Rattle.bp_layout.specs.Inode.{kind_of, root_of, size_of, inode_count}
 use Rattle.bp_layout.specs.Reached.{IsReached, IsFreeBlock}
 use Rattle.bp_layout.specs.Reached.IsReached.{inode_file}
-use Rattle.bp_layout.specs.Tree.{IsLiveWord, IsLivePointer, IsFull, node}
+use Rattle.bp_layout.specs.Tree.{IsLiveWord, IsLivePointer, node}
 use Rattle.bp_layout.specs.WellFormed.{IsWellFormed}
-use Rattle.bp_layout.specs.Words.{Image, block_count, height_of}
+use Rattle.bp_layout.specs.Words.{Image, height_of}
 use Rattle.bp_layout.proofs.Behind.{behind_harmless}
 use Rattle.bp_layout.proofs.Frame.{reached-in_file}
 use Rattle.bp_layout.proofs.Separation.{SameWord, one_place, one_place_in_nodes, free-harmless}

@@ -1,8 +1,8 @@
 -- Stores to words that nobody reads leave the trees.
-use Rattle.std.proofs.Common.{◌≡◌, ◌≢◌, ◌⊎◌, ℕ, suc, ◌+◌, ◌*◌, ◌/◌, ◌%◌, ◌<◌, ◌≤◌, List, length, get_or, set, refl, sym, ◌∙◌, ap, subst, arith, inl, inr, get_or-set_same, get_or-set_other}
+use Rattle.std.proofs.Common.{◌≡◌, ◌≢◌, ◌⊎◌, ℕ, ◌+◌, ◌*◌, ◌/◌, ◌%◌, ◌<◌, List, length, set, refl, sym, ◌∙◌, ap, subst, arith, inl, inr, get_or-set_same, get_or-set_other}
 use Rattle.std.proofs.lemmas.Bool.{cases_eq}
 use Rattle.std.proofs.lemmas.List.{length-set, set-set, set-get_or}
-use Rattle.bp_calls.specs.Spare.{IsSpare, IsUnread}
+use Rattle.bp_calls.specs.Spare.{IsUnread}
 use Rattle.bp_calls.specs.Spare.IsUnread.{spare, dead_root}
 use Rattle.bp_layout.specs.Harmless.{ContentStandsAt, Agrees, IsHarmless}
 use Rattle.bp_layout.specs.Harmless.RootPlace.{inode}

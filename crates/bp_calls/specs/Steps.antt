@@ -1,10 +1,10 @@
 -- What stands before a name is entered in a directory, and what one way to enter it does.
-use Rattle.std.specs.Prelude.{◌≡◌, ◌≢◌, ℕ, ◌+◌, ◌%◌, ◌<◌, ◌≤◌, [], ◌∷◌, ◌++◌, true, None, Some, Option}
+use Rattle.std.specs.Prelude.{◌≡◌, ℕ, ◌+◌, ◌≤◌, [], ◌∷◌, ◌++◌, true, None, Some}
 use Rattle.std.specs.FinMap.{insert}
 use Rattle.bp_calls.specs.Created.{NeedsLeaf, empty_node}
-use Rattle.bp_layout.specs.Directory.{Name, IsName, slot_named, empty_slot}
+use Rattle.bp_layout.specs.Directory.{Name, IsName, slot_named}
 use Rattle.bp_layout.specs.Free.{HasFree, IsFreeInode, TellsFreeInode}
-use Rattle.bp_layout.specs.Inode.{kind_of, size_of}
+use Rattle.bp_layout.specs.Inode.{kind_of}
 use Rattle.bp_layout.specs.Lookup.{Path, lookup}
 use Rattle.bp_layout.specs.Need.{need}
 use Rattle.bp_layout.specs.Need.Change.{enters}

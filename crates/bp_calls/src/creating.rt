@@ -30,7 +30,11 @@ fn take<K>(numbers: &mut Numbers<K>) -> u32
     }
 }
 
-/// Refuses a name for which there is no room in a directory, given its size and its least empty slot.
+/// Whether there is room for one more name in a directory, given its size and its least empty slot.
+///
+/// # Errors
+///
+/// Those of [`create`], exactly where it has them.
 fn check_room<R: Region>(
     parts: &Parts<R>,
     dir: u32,

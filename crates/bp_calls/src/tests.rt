@@ -165,9 +165,10 @@ fn a_first_name_takes_a_block_until_none_is_free(rt: HostRuntime) -> Result<(), 
     assert_eq!(rt; word(parts, 530), Some(256));
     assert_eq!(rt; word(parts, 1536), Some(8));
     assert_eq!(rt; parts.blocks.count(), 4);
-    for parent in [b"b", b"c", b"d", b"e"] {
-        assert!(rt; make_all(parts, parent, b"x", Kind::File));
-    }
+    assert!(rt; make_all(parts, b"b", b"x", Kind::File));
+    assert!(rt; make_all(parts, b"c", b"x", Kind::File));
+    assert!(rt; make_all(parts, b"d", b"x", Kind::File));
+    assert!(rt; make_all(parts, b"e", b"x", Kind::File));
     let events = parts.region.event_count();
     assert_eq!(rt;
         make(parts, b"f", b"x", Kind::File),

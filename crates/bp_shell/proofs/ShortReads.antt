@@ -1,5 +1,5 @@
 -- A read that a line asks for is of no more bytes than a reply holds.
-use Rattle.std.proofs.Common.{refl, ◌≡◌, ℕ, List, [], ◌∷◌, Bool, true, false}
+use Rattle.std.proofs.Common.{refl, sym, subst, ◌≡◌, ℕ, List, [], ◌∷◌, Bool, true, false}
 use Rattle.std.specs.Prelude.{Option, Some, None, nat_le, bytes_eq, codes, if◌then◌else◌}
 use Rattle.std.specs.List.{list_any}
 use Rattle.std.proofs.lemmas.Bool.{leb-true}
@@ -65,4 +65,4 @@ short_line : (line : List ℕ) → IsShort (in_grammar line)
 short_line line = short_decoded _ (short_either (list_any is_empty_word (words_of line)) bad_syntax (command_by_words (words_of line)) tt (short_words (words_of line)))
 
 pub short_call : (line : List ℕ) (call : Call) → file_call call ≡ in_grammar line → IsShortCall call
-short_call line call asks = let short : IsShort (file_call call) = rw asks (short_line line) in short
+short_call line call asks = subst IsShort (sym asks) (short_line line)

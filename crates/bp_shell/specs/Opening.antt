@@ -1,4 +1,4 @@
--- Which files `run` serves, and why it refuses others.
+-- Which files are file systems, and why others are refused.
 use Rattle.std.specs.Prelude.{◌≡◌, ◌≢◌, ℕ, ◌-◌, ◌*◌, ◌^◌, min, []}
 use Rattle.bp_io.specs.Files.{Known}
 use Rattle.bp_layout.specs.Words.{Image, word, block_count}

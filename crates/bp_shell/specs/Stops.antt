@@ -1,4 +1,4 @@
--- Why a run ends before the first line.
+-- Why a program ends before it serves or tells of its file.
 use Rattle.bp_scan.specs.declared.fault.MountFault.{MountFault}
 use Rattle.bp_scan.specs.declared.fault.MountFault.TheVariants as fault
 use Rattle.bp_script.specs.declared.notices.Notice.TheVariants.{NotFormatted, BadSize, Damaged}

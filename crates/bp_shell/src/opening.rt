@@ -1,4 +1,4 @@
-//! The file of a run.
+//! The file of a program.
 
 ghost use Rattle.std.specs.Prelude.{◌≡◌, ◌≤◌, ◌*◌, List, ℕ, ◌⊎◌, IfErr, IfOk, OnOk, take, vec_len};
 ghost use Rattle.bp_io.specs.Causes.{Rose};
@@ -15,8 +15,8 @@ ghost use Rattle.bp_shell.specs.declared.stop.Stop.TheVariants.{Memory, Missing,
 use crate::blocks::decode;
 use crate::stop::Stop;
 use bp_io::{Failed, Files};
-use bp_script::Notice;
 use bp_scan::{MountFault, image_length};
+use bp_script::Notice;
 use bp_volume::Volume;
 use pm_region::ListRegion;
 use std::alloc::Global;
@@ -52,7 +52,7 @@ fn load<F: Files>(alloc: Global, count: u32, files: &mut F) -> Result<Vec<u64>, 
     Ok(words)
 }
 
-/// Why a run ends at a fault of its image.
+/// Why a program ends at a fault of its image.
 pub(crate) fn stop_of(fault: MountFault) -> Stop
     ensures { result ≡ stop_by fault }
 {

@@ -1,8 +1,8 @@
-//! Why a run ends before the first line.
+//! Why a program ends before it serves or tells of its file.
 
 use bp_script::Notice;
 
-/// Why a run ends before the first line.
+/// Why a program ends before it serves or tells of its file.
 #[derive(Clone, Copy, Debug, PartialEq, Eq)]
 pub(crate) enum Stop {
     /// The file is not there.

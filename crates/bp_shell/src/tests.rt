@@ -257,29 +257,22 @@ fn check_refused(
     let (checked, line) = told(rt, &CHECK, Some(image))?;
     assert_eq!(rt; checked, 7);
     assert_eq!(rt; text.as_slice(), line.as_slice());
-    let is_one = lines.iter().any(|wanted| line.as_slice() == wanted.as_bytes());
+    let is_one = lines
+        .iter()
+        .any(|wanted| line.as_slice() == wanted.as_bytes());
     assert!(rt; is_one, "{lines:?}");
     Ok(())
 }
 
 /// Edits of the base image, and the line that refuses it then.
 const REFUSED: [(Edits<'static>, &'static [&'static str]); 23] = [
-    (
-        &[(529, 0x3004), (530, 1)],
-        &["err 32 damaged 1 529\n"],
-    ),
-    (
-        &[(529, 0x3008), (530, 1)],
-        &["err 32 damaged 2 529\n"],
-    ),
+    (&[(529, 0x3004), (530, 1)], &["err 32 damaged 1 529\n"]),
+    (&[(529, 0x3008), (530, 1)], &["err 32 damaged 2 529\n"]),
     (
         &[(529, 0x3001), (530, 5000), (1536, 0x4001)],
         &["err 32 damaged 2 1536\n"],
     ),
-    (
-        &[(529, 0x8000), (530, 1)],
-        &["err 32 damaged 3 529\n"],
-    ),
+    (&[(529, 0x8000), (530, 1)], &["err 32 damaged 3 529\n"]),
     (
         &[(529, 0x3001), (530, 5000), (1536, 0x3000)],
         &["err 32 damaged 4 529\n", "err 32 damaged 4 1536\n"],
@@ -344,7 +337,11 @@ const ACCEPTED: [Edits<'static>; 6] = [
     &[(4, u64::MAX), (511, u64::MAX)],
     &[(529, 7), (531, u64::MAX), (535, u64::MAX)],
     &[(544, u64::MAX)],
-    &[(1026, 0xffff_ffff_ffff_ff61), (1027, u64::MAX), (1055, u64::MAX)],
+    &[
+        (1026, 0xffff_ffff_ffff_ff61),
+        (1027, u64::MAX),
+        (1055, u64::MAX),
+    ],
     &[(1088, u64::MAX), (3584, u64::MAX)],
 ];
 

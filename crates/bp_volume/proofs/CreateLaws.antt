@@ -1,12 +1,11 @@
 -- Steps of a call that creates a file.
-use Rattle.std.proofs.Common.{◌≡◌, ◌≢◌, ◌⊎◌, ℕ, ◌≤◌, ◌<◌, ◌%◌, ◌==◌, List, [], ◌∷◌, ◌++◌, true, false, refl, sym, ◌∙◌, ap, subst, arith, inl, inr, true≢false, Option, None, Some}
+use Rattle.std.proofs.Common.{◌≡◌, ◌≢◌, ℕ, ◌≤◌, ◌<◌, ◌==◌, List, [], ◌∷◌, ◌++◌, true, false, refl, sym, ◌∙◌, ap, subst, arith, true≢false, Option, None, Some}
 use Rattle.std.specs.Prelude.{not, ◌&&◌, is_none, is_some, if◌then◌else◌, unwrap_or}
 use Rattle.std.specs.Option.{option_map}
 use Rattle.std.specs.FinMap.{get, insert}
-use Rattle.std.proofs.lemmas.Bool.{cases_eq}
 use Rattle.bp_layout.specs.Words.{Image}
-use Rattle.bp_layout.specs.Inode.{kind_of, size_of}
-use Rattle.bp_layout.specs.Directory.{Name, inumber_at, slot_named, empty_slot}
+use Rattle.bp_layout.specs.Inode.{kind_of}
+use Rattle.bp_layout.specs.Directory.{Name, inumber_at, slot_named}
 use Rattle.bp_layout.specs.Lookup.{Path, lookup, node_of}
 use Rattle.bp_layout.specs.Lookup.Node.{file}
 use Rattle.bp_layout.specs.Free.{HasFree, TellsFreeInode}

@@ -1,33 +1,20 @@
 -- How many blocks are free and live, by a set that has just the free blocks.
-use Rattle.std.proofs.Common.{◌≡◌, ◌⊎◌, ℕ, zero, suc, ◌+◌, ◌*◌, ◌<◌, ◌≤◌, List, [], ◌∷◌, length, filter, Bool, true, false, refl, sym, ◌∙◌, ap, arith, inl, inr}
+use Rattle.std.proofs.Common.{◌≡◌, ◌⊎◌, ℕ, zero, suc, ◌+◌, ◌≤◌, length, filter, true, false, refl, ap, arith, inl, inr}
 use Rattle.std.specs.List.{range_with_len}
 use Rattle.std.proofs.lemmas.Bool.{cases_Bool}
-use Rattle.std.proofs.lemmas.List.Elements.{filter_agree}
 use Rattle.std.proofs.lemmas.List.FromFn.{length-range_with_len}
 use Rattle.std.proofs.lemmas.List.Sums.{length-filter, count_by-le-length}
 use Rattle.bp_calls.specs.Sets.{AreExact}
+use Rattle.bp_calls.proofs.FreeCounts.{free_members, free_once}
 use Rattle.bp_free.specs.Set.{Set, has, members}
-use Rattle.bp_layout.specs.Free.{AreFreeBlocks, HasFree}
+use Rattle.bp_layout.specs.Free.{HasFree}
 use Rattle.bp_layout.specs.WellFormed.{IsWellFormed}
 use Rattle.bp_layout.specs.Words.{Image, block_count}
 use Rattle.bp_scan.specs.Totals.{HasLive}
 
--- two sets of just the free blocks are one
-same_test : (image : Image) (s t : ℕ → Bool) → AreFreeBlocks image s → AreFreeBlocks image t → (b : ℕ) → s b ≡ t b
-same_test image s t one two b = go (cases_Bool (s b)) (cases_Bool (t b))
-  where
-    go : (s b ≡ true) ⊎ (s b ≡ false) → (t b ≡ true) ⊎ (t b ≡ false) → s b ≡ t b
-    go (inl is) also = is ∙ sym (two.all b (one.free b is))
-    go (inr not) (inl is) = one.all b (two.free b is) ∙ sym is
-    go (inr not) (inr also) = not ∙ sym also
-
-free_once : (image : Image) (a b : ℕ) → HasFree image a → HasFree image b → a ≡ b
-free_once image a b one two =
-    sym one.number ∙ ap length (filter_agree one.set two.set (same_test image one.set two.set one.are two.are) (range_with_len 0 (block_count image))) ∙ two.number
-
 module _ (image : Image) (wf : IsWellFormed image) (blocks inodes : Set) (exact : AreExact image blocks inodes) where
   pub free_counted : HasFree image (length (members blocks))
-  free_counted = record { set = has blocks; are = exact.free_blocks; number = ap (λ n. length (filter (has blocks) (range_with_len 0 n))) (sym exact.block_room) }
+  free_counted = free_members image blocks exact.free_blocks exact.block_room
 
   -- the first block is not free
   pub some_live : length (members blocks) + 1 ≤ length blocks

@@ -126,10 +126,8 @@ impl<R: Region> Volume<R> {
         ensures live { HasLive (current_words self.now) result.live }
     {
         let free = self.parts.blocks.count();
-        Space {
-            free,
-            live: self.parts.blocks.room() - free - 1,
-        }
+        let live = self.parts.blocks.room() - free - 1;
+        Space { free, live }
     }
 
     /// Makes an empty file at a path.

@@ -1,8 +1,6 @@
-use Rattle.std.proofs.Common.{◌≡◌, ◌<◌, None, length, sym, ◌∙◌, arith}
+use Rattle.std.proofs.Common.{sym, ◌∙◌, arith}
 use Rattle.pm_region.specs.Memory.{current_words}
 use Rattle.bp_free.specs.Set.{members}
-use Rattle.bp_layout.specs.Directory.{empty_slot}
-use Rattle.bp_layout.specs.Inode.{size_of}
 use Rattle.bp_calls.specs.Created.IsRefused.{no_leaf}
 use Rattle.bp_calls.proofs.Refusals.{no_members, some_members, refused_inode, refused_block, room_in_slot, room_behind, room_first, some_slot, no_slot}
 use Rattle.bp_calls.proofs.creating.check_room.Goals as goal

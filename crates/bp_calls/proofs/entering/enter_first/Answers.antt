@@ -1,9 +1,8 @@
-use Rattle.std.proofs.Common.{◌≡◌, ◌≢◌, ◌+◌, ◌*◌, ◌/◌, ◌%◌, ◌<◌, ◌≤◌, length, ap, arith}
+use Rattle.std.proofs.Common.{◌<◌, length, arith}
 use Rattle.pm_epochs.specs.May.{AnyAt}
 use Rattle.pm_region.specs.Memory.{current_words}
-use Rattle.pm_region.proofs.MemoryLaws.{base-adds, room_in-adds, length-current_words}
+use Rattle.pm_region.proofs.MemoryLaws.{length-current_words}
 use Rattle.bp_layout.specs.Reached.IsReached.{inode_file}
-use Rattle.bp_layout.specs.Words.{block_count}
 use Rattle.bp_layout.proofs.Frame.{reached-in_file}
 use Rattle.bp_calls.specs.Written.{IsWithin}
 use Rattle.bp_calls.proofs.InFirst.{first_enters, first_exact}

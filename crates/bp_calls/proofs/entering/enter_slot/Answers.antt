@@ -1,10 +1,7 @@
-use Rattle.std.proofs.Common.{◌≡◌, ◌≢◌, ◌+◌, ◌*◌, ◌/◌, ◌%◌, ◌<◌, ◌≤◌, length, arith}
+use Rattle.std.proofs.Common.{◌+◌, ◌*◌, arith}
 use Rattle.pm_epochs.specs.May.{AnyAt}
 use Rattle.pm_region.specs.Memory.{current_words}
-use Rattle.bp_layout.specs.Harmless.{ContentStandsAt}
 use Rattle.bp_layout.specs.Reached.IsReached.{inode_file}
-use Rattle.bp_layout.specs.Tree.{node}
-use Rattle.bp_layout.specs.Words.{height_of}
 use Rattle.bp_calls.specs.Written.{IsWithin}
 use Rattle.bp_calls.proofs.InSlot.{slot_enters, slot_exact, entry_stands}
 use Rattle.bp_calls.proofs.Rooms.{base_after, room_after, row_in_range, inode_in_range}

@@ -1,12 +1,6 @@
 use Rattle.pm_region.specs.Memory.{current_words}
 use Rattle.bp_layout.specs.Reached.IsReached.{inode_file}
 use Rattle.bp_layout.proofs.Frame.{reached-in_file}
-use Rattle.bp_calls.proofs.Trees.{trees_on}
-use Rattle.bp_calls.proofs.Spares.{spare_free}
-use Rattle.bp_calls.proofs.Unread.{unread_trees}
-use Rattle.bp_calls.proofs.Samples.{sample_exact}
-use Rattle.bp_calls.proofs.AtEnd.{end_exact}
-use Rattle.bp_calls.proofs.InFirst.{first_exact}
 use Rattle.bp_calls.proofs.entering.tree_of.Goals as goal
 
 pub get-inode-requires-clause-sound : goal.get-inode-requires-clause-sound

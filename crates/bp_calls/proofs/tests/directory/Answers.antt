@@ -1,8 +1,6 @@
-use Rattle.std.proofs.Common.{◌≡◌, refl, arith}
+use Rattle.std.proofs.Common.{refl, arith}
 use Rattle.pm_region.specs.Memory.{current_words}
-use Rattle.bp_layout.specs.Inode.{root_of, size_of}
 use Rattle.bp_layout.specs.Reached.IsReached.{inode_file, root_directory}
-use Rattle.bp_layout.specs.Tree.{IsSound}
 use Rattle.bp_calls.proofs.Samples.{IsNamed, named_inode}
 use Rattle.bp_calls.proofs.tests.directory.Goals as goal
 

@@ -1,4 +1,5 @@
 use Rattle.std.proofs.Common.{refl, ap, inl, inr, ◌≡◌, min, max}
+use Rattle.bp_shell.specs.Outside.{outside}
 use Rattle.bp_shell.proofs.RunningLaws.{complete, check_complete}
 use Rattle.bp_shell.proofs.running.run_program.Goals as goal
 
@@ -40,14 +41,16 @@ returns-in-Run-clause-outcome g c =
 pub returns-in-Check-clause-outcome : goal.returns-in-Check-clause-outcome
 returns-in-Check-clause-outcome g c =
     let r = c.check_file.ensures in
+    let before = outside (g.S.Source.left c.args.src.now) (g.K.Sink.taken c.args.out.now) (g.F.Files.contents c.args.files.now c.in-Check.name.now) (g.S.Source.faults c.args.src.now) (g.K.Sink.faults c.args.out.now) (g.F.Files.faults c.args.files.now) in
+    let after = outside (g.S.Source.left c.args.src.now) (g.K.Sink.taken c.check_file.new.out) (g.F.Files.contents c.check_file.new.files c.in-Check.name.now) (g.S.Source.faults c.args.src.now) (g.K.Sink.faults c.check_file.new.out) (g.F.Files.faults c.check_file.new.files) in
     rw c.in-Check.is (record {
       whole = λ e. let told = r.whole e in (told.0, told.1, told.2, record { source = refl; sink = (r.calm e).0; files = (r.calm e).1 });
       missing = r.missing;
-      sink = λ e. let cut = r.cut e in (cut.0, cut.1, (cut.2, cut.3, cut.4), r.sink e);
+      sink = λ e. let cut = r.cut e in (cut.0, cut.1, cut.2, r.sink e);
       files = λ e. (ap g.K.Sink.taken (r.quiet (inl e)), r.files e);
       refused = r.refused;
       memory = λ e. ap g.K.Sink.taken (r.quiet (inr e));
       untouched = record { left = refl; file = r.file };
-      complete = check_complete c.check_file.result _ _ (λ e. (r.missing e).0) r.sink r.files (λ e. let why = r.refused e in (why.0, why.1)) r.status;
+      complete = check_complete c.check_file.result before after (λ e. (r.missing e).0) r.sink r.files (λ e. let why = r.refused e in (why.0, why.1)) r.status;
       one_of = r.status;
     })

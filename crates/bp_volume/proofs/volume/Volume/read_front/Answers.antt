@@ -1,8 +1,5 @@
-use Rattle.std.proofs.Common.{◌∙◌, length, take, sym, ap, subst}
+use Rattle.std.proofs.Common.{◌∙◌, sym}
 use Rattle.std.proofs.lemmas.List.{length-take-le}
-use Rattle.bp_plain.specs.Calls.{Answer}
-use Rattle.bp_plain.specs.Calls.Call.{read}
-use Rattle.bp_volume.specs.FileCall.{FileCall}
 use Rattle.bp_volume.proofs.ReplyLaws.{read_answer-front, fits-front}
 use Rattle.bp_volume.proofs.volume.Volume.read_front.Goals as goal
 

@@ -75,16 +75,16 @@ stop_kinds (f.Damaged check place) = inl (Damaged check place, refl)
 stop_kinds f.Memory = inr refl
 
 pub no_refusal : (notice : Notice) → ◌≡◌ {A = Stop} Memory (Refused notice) → ⊥
-no_refusal notice e = cc
+no_refusal told e = cc
 
 same_notice : (first second : Notice) → ◌≡◌ {A = Stop} (Refused first) (Refused second) → first ≡ second
 same_notice first second e = cc
 
 pub stop_refused : (fault : MountFault) (image : Image) (known : Known) (notice : Notice) → IsFault image fault → HasImage known image → stop_by fault ≡ Refused notice → IsRefused known notice
-stop_refused f.NotFormatted image known notice why has e = rw (← same_notice NotFormatted notice e) (not_formatted has why)
-stop_refused (f.BadSize found wanted) image known notice why has e = rw (← same_notice (BadSize found wanted) notice e, why.2, why.3) (by_count has why.0 why.1)
-stop_refused (f.Damaged check place) image known notice why has e = rw (← same_notice (Damaged check place) notice e) (damaged has why.0 why.1 why.2)
-stop_refused f.Memory image known notice why has e = absurd why
+stop_refused f.NotFormatted image known told why has e = rw (← same_notice NotFormatted told e) (not_formatted has why)
+stop_refused (f.BadSize found wanted) image known told why has e = rw (← same_notice (BadSize found wanted) told e, why.2, why.3) (by_count has why.0 why.1)
+stop_refused (f.Damaged check place) image known told why has e = rw (← same_notice (Damaged check place) told e) (damaged has why.0 why.1 why.2)
+stop_refused f.Memory image known told why has e = absurd why
 
 pub stop_refused_length : (fault : MountFault) (known : Known) (len : ℕ) (notice : Notice) → HasLength known len → (fault ≡ f.BadSize len (wanted_length len)) × (len ≢ wanted_length len) → stop_by fault ≡ Refused notice → IsRefused known notice
 stop_refused_length fault known len notice has why e =

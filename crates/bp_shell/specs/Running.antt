@@ -1,8 +1,6 @@
 -- What a program answers, and when.
-use Rattle.std.specs.Prelude.{Some, min, max, ◌≡◌, ◌⊎◌, ◌≤◌, ◌<◌, ℕ, ◌-◌, List, [], ◌∷◌, ◌++◌, length, take, Option}
+use Rattle.std.specs.Prelude.{Some, min, max, ◌≡◌, ◌⊎◌, ◌≤◌, ◌<◌, ℕ, ◌-◌, List, [], ◌∷◌, ◌++◌, length, take}
 use Rattle.std.specs.Io.KnownBytes.{Appends, Consumes, IsAtEnd}
-use Rattle.bp_io.specs.Causes.{Rose}
-use Rattle.bp_io.specs.Files.{Known}
 use Rattle.pm_region.specs.Memory.{Memory, current_words}
 use Rattle.bp_layout.specs.Words.{Image}
 use Rattle.bp_layout.specs.Bytes.{image_bytes}

@@ -1,4 +1,4 @@
-use Rattle.std.proofs.Common.{◌≡◌, ◌∙◌, sym}
+use Rattle.std.proofs.Common.{◌∙◌, sym}
 use Rattle.bp_shell.proofs.OpeningLaws.{has_length, stop_refused_length}
 use Rattle.bp_shell.proofs.opening.load_file.Goals as goal
 

@@ -1,5 +1,5 @@
 -- The memory of a scan.
-use Rattle.std.specs.Prelude.{◌≡◌, ℕ, ◌/◌, length, vec_len}
+use Rattle.std.specs.Prelude.{◌≡◌, ◌/◌, length, vec_len}
 use Rattle.bp_scan.specs.declared.pending.Pending.TheInside.{Inside}
 
 -- a flag for each inode, and a place for each entry that a directory may have: 16 for each block, to 64 inodes

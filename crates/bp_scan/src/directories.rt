@@ -15,7 +15,7 @@ use bp_free::{Blocks, Inodes};
 use bp_inodes::{get, inode_file};
 use bp_spelling::{NameFault, check_names};
 use bp_tree::Tree;
-use bp_walk::TreeFault;
+use bp_walk::CheckFault;
 use pm_region::Region;
 
 /// A directory, and its tree.
@@ -35,7 +35,7 @@ fn read_entry<R: Region>(
     blocks: &mut Blocks,
     inodes: &mut Inodes,
     todo: &mut Inodes,
-) -> Result<(), TreeFault>
+) -> Result<(), CheckFault>
     requires ready { IsOpen (current_words (R.memory region.now)) }
     requires inside { IsInside (current_words (R.memory region.now)) blocks.old inodes.old todo.old directory slot }
     requires live { slot < directory.tree.size / 256 }
@@ -52,11 +52,11 @@ fn read_entry<R: Region>(
     }
     let place = entry_place(region, directory.tree, slot, 0);
     if named >= inode_file(region).size / 64 {
-        return Err(TreeFault { check: 7, place });
+        return Err(CheckFault { check: 7, place });
     }
     let inode = named as u32;
     if !inodes.is_free(inode) {
-        return Err(TreeFault { check: 8, place });
+        return Err(CheckFault { check: 8, place });
     }
     inodes.claim(inode);
     enter(region, inode, blocks, todo)
@@ -69,7 +69,7 @@ fn read_entries<R: Region>(
     blocks: &mut Blocks,
     inodes: &mut Inodes,
     todo: &mut Inodes,
-) -> Result<(), TreeFault>
+) -> Result<(), CheckFault>
     requires ready { IsOpen (current_words (R.memory region.now)) }
     requires inside { IsInside (current_words (R.memory region.now)) blocks.old inodes.old todo.old directory 0 }
     ensures inside { OnOk result (IsInside (current_words (R.memory region.now)) blocks.new inodes.new todo.new directory (directory.tree.size / 256)) }
@@ -88,7 +88,7 @@ fn read_entries<R: Region>(
 }
 
 /// Checks the names of a directory. `places` is memory for one number for each entry.
-fn read_names<R: Region>(region: &R, tree: Tree, places: &mut [u32]) -> Result<(), TreeFault>
+fn read_names<R: Region>(region: &R, tree: Tree, places: &mut [u32]) -> Result<(), CheckFault>
     requires sound { IsSound (current_words (R.memory region.now)) tree.root tree.size }
     requires full { IsFull (current_words (R.memory region.now)) tree.root tree.size }
     requires room { tree.size / 256 ≤ length places.old }
@@ -98,8 +98,8 @@ fn read_names<R: Region>(region: &R, tree: Tree, places: &mut [u32]) -> Result<(
 {
     match check_names(region, tree, places) {
         Ok(()) => Ok(()),
-        Err(NameFault::Form { place }) => Err(TreeFault { check: 12, place }),
-        Err(NameFault::Twice { place }) => Err(TreeFault { check: 13, place }),
+        Err(NameFault::Form { place }) => Err(CheckFault { check: 12, place }),
+        Err(NameFault::Twice { place }) => Err(CheckFault { check: 13, place }),
     }
 }
 
@@ -111,7 +111,7 @@ pub(crate) fn read_directory<R: Region>(
     inodes: &mut Inodes,
     todo: &mut Inodes,
     places: &mut [u32],
-) -> Result<(), TreeFault>
+) -> Result<(), CheckFault>
     requires ready { IsOpen (current_words (R.memory region.now)) }
     requires begun { IsAt (current_words (R.memory region.now)) blocks.old inodes.old todo.old inode 0 }
     requires places { 16 * block_count (current_words (R.memory region.now)) ≤ length places.old }

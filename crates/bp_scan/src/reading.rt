@@ -16,7 +16,7 @@ use crate::pending::Pending;
 use crate::trees::{enter, enter_inode_file};
 use bp_free::{Blocks, Inodes};
 use bp_inodes::inode_file;
-use bp_walk::TreeFault;
+use bp_walk::CheckFault;
 use pm_region::Region;
 
 /// Enters the inode file and the root directory, which is then to do.
@@ -25,7 +25,7 @@ fn start<R: Region>(
     blocks: &mut Blocks,
     inodes: &mut Inodes,
     todo: &mut Inodes,
-) -> Result<(), TreeFault>
+) -> Result<(), CheckFault>
     requires formatted { IsFormatted (current_words (R.memory region.now)) }
     requires no_blocks { blocks.old ≡ empty (block_count (current_words (R.memory region.now))) }
     requires no_inodes { inodes.old ≡ empty (64 * block_count (current_words (R.memory region.now))) }
@@ -54,7 +54,7 @@ fn read_directories<R: Region>(
     inodes: &mut Inodes,
     todo: &mut Inodes,
     places: &mut [u32],
-) -> Result<(), TreeFault>
+) -> Result<(), CheckFault>
     requires ready { IsOpen (current_words (R.memory region.now)) }
     requires reading { IsReading (current_words (R.memory region.now)) blocks.old inodes.old todo.old 0 0 }
     requires places { 16 * block_count (current_words (R.memory region.now)) ≤ length places.old }
@@ -82,7 +82,7 @@ fn read_with<R: Region>(
     inodes: &mut Inodes,
     todo: &mut Inodes,
     places: &mut [u32],
-) -> Result<(), TreeFault>
+) -> Result<(), CheckFault>
     requires formatted { IsFormatted (current_words (R.memory region.now)) }
     requires no_blocks { blocks.old ≡ empty (block_count (current_words (R.memory region.now))) }
     requires no_inodes { inodes.old ≡ empty (64 * block_count (current_words (R.memory region.now))) }
@@ -112,7 +112,7 @@ pub(crate) fn read_trees<R: Region>(
     blocks: &mut Blocks,
     inodes: &mut Inodes,
     pending: &mut Pending,
-) -> Result<(), TreeFault>
+) -> Result<(), CheckFault>
     requires formatted { IsFormatted (current_words (R.memory region.now)) }
     requires no_blocks { blocks.old ≡ empty (block_count (current_words (R.memory region.now))) }
     requires no_inodes { inodes.old ≡ empty (64 * block_count (current_words (R.memory region.now))) }

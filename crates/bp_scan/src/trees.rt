@@ -14,7 +14,7 @@ ghost use Rattle.pm_region.specs.Memory.{current_words};
 use bp_free::{Blocks, Inodes};
 use bp_inodes::{inode_file, place};
 use bp_tree::Tree;
-use bp_walk::{TreeFault, take_tree};
+use bp_walk::{CheckFault, take_tree};
 use pm_region::Region;
 
 /// The kind of a file.
@@ -44,7 +44,7 @@ struct InodeWords {
 }
 
 /// Enters the inode file: takes its blocks out of the set of all blocks but the first.
-pub(crate) fn enter_inode_file<R: Region>(region: &R, blocks: &mut Blocks) -> Result<(), TreeFault>
+pub(crate) fn enter_inode_file<R: Region>(region: &R, blocks: &mut Blocks) -> Result<(), CheckFault>
     requires formatted { IsFormatted (current_words (R.memory region.now)) }
     requires all { HasAllBlocks (current_words (R.memory region.now)) blocks.old }
     ensures ready { OnOk result (IsOpen (current_words (R.memory region.now))) }
@@ -54,7 +54,7 @@ pub(crate) fn enter_inode_file<R: Region>(region: &R, blocks: &mut Blocks) -> Re
 {
     let file = inode_file(region);
     if file.size % BLOCK != 0 || file.size < BLOCK {
-        return Err(TreeFault { check: 6, place: 3 });
+        return Err(CheckFault { check: 6, place: 3 });
     }
     take_tree(region, 2, file.root, file.size, false, blocks)
 }
@@ -80,19 +80,19 @@ fn inode_words<R: Region>(region: &R, inode: u32) -> InodeWords
 }
 
 /// Checks the kind of an inode, and the size of a directory.
-fn check_words(inode: u32, words: InodeWords) -> Result<(), TreeFault>
+fn check_words(inode: u32, words: InodeWords) -> Result<(), CheckFault>
     requires { words.place + 2 < 4294967296 }
     ensures ok { OnOk result (IsRight inode words.kind words.tree.size) }
     ensures err { IfErr result (λ f. IsWrong inode words.kind words.tree.size words.place f.check f.place) }
 {
     match words.kind {
         DIRECTORY if words.tree.size % ENTRY == 0 => Ok(()),
-        DIRECTORY => Err(TreeFault {
+        DIRECTORY => Err(CheckFault {
             check: 10,
             place: words.place + 2,
         }),
         FILE if inode != ROOT => Ok(()),
-        _ => Err(TreeFault {
+        _ => Err(CheckFault {
             check: 9,
             place: words.place,
         }),
@@ -106,7 +106,7 @@ pub(crate) fn enter<R: Region>(
     inode: u32,
     blocks: &mut Blocks,
     todo: &mut Inodes,
-) -> Result<(), TreeFault>
+) -> Result<(), CheckFault>
     requires formatted { IsFormatted (current_words (R.memory region.now)) }
     requires sound { IsSound (current_words (R.memory region.now)) (root_of (current_words (R.memory region.now)) 0) (size_of (current_words (R.memory region.now)) 0) }
     requires full { IsFull (current_words (R.memory region.now)) (root_of (current_words (R.memory region.now)) 0) (size_of (current_words (R.memory region.now)) 0) }

@@ -8,4 +8,4 @@
 mod tests;
 pub mod walk;
 
-pub use walk::{TreeFault, take_tree};
+pub use walk::{CheckFault, take_tree};

@@ -52,7 +52,7 @@ fn tells_a_hole_of_a_directory(rt: HostRuntime) -> Result<(), Fail> {
     let region = sample(rt.alloc())?;
     let mut blocks = Blocks::new(rt.alloc(), 8)?;
     blocks.fill(1, 8);
-    let fault = TreeFault {
+    let fault = CheckFault {
         check: 5,
         place: 1537,
     };

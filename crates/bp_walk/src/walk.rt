@@ -15,10 +15,10 @@ use bp_layout::limits::MAX_HEIGHT;
 use bp_tree::Tree;
 use pm_region::Region;
 
-/// A check that fails in a tree. The numbers of the checks stand in `docs/format.md`.
+/// A check of the format that fails, and where.
 #[derive(Clone, Copy, Debug, PartialEq, Eq)]
-pub struct TreeFault {
-    /// 1 height, 2 pointer bits, 3 range, 4 block twice, 5 hole, 11 capacity.
+pub struct CheckFault {
+    /// Its number in `docs/format.md`. In a tree fail 1 height, 2 pointer bits, 3 range, 4 block twice, 5 hole and 11 capacity.
     pub check: u8,
     /// The word of the region at which the check fails.
     pub place: u32,
@@ -44,7 +44,7 @@ fn claim_pointed(
     place: u32,
     holes: bool,
     blocks: &mut Blocks,
-) -> Result<u32, TreeFault>
+) -> Result<u32, CheckFault>
     requires some { 0 < length blocks.old }
     ensures ok { IfOk result (λ block. ClaimsPointed pointer holes blocks.old blocks.new block) }
     ensures err { IfErr result (λ f. RefusesPointed pointer holes blocks.old f.check) }
@@ -53,18 +53,18 @@ fn claim_pointed(
 {
     let block = pointer >> 12;
     if block >= blocks.room() as u64 {
-        return Err(TreeFault { check: 3, place });
+        return Err(CheckFault { check: 3, place });
     }
     let block = block as u32;
     if block == 0 {
         return if holes {
             Ok(0)
         } else {
-            Err(TreeFault { check: 5, place })
+            Err(CheckFault { check: 5, place })
         };
     }
     if !blocks.is_free(block) {
-        return Err(TreeFault { check: 4, place });
+        return Err(CheckFault { check: 4, place });
     }
     blocks.claim(block);
     Ok(block)
@@ -90,7 +90,7 @@ fn take_below<R: Region>(
     holes: bool,
     top: Node,
     blocks: &mut Blocks,
-) -> Result<(), TreeFault>
+) -> Result<(), CheckFault>
     requires whole { length (current_words (R.memory region.now)) ≡ 512 * block_count (current_words (R.memory region.now)) }
     requires most { block_count (current_words (R.memory region.now)) ≤ max_blocks }
     requires room { length blocks.old ≡ block_count (current_words (R.memory region.now)) }
@@ -120,7 +120,7 @@ fn take_below<R: Region>(
         let place = 512 * top.block + slot;
         let pointer = region.load(place);
         if pointer & 4095 != 0 {
-            return Err(TreeFault { check: 2, place });
+            return Err(CheckFault { check: 2, place });
         }
         let block = match claim_pointed(pointer, place, holes, blocks) {
             Ok(block) => block,
@@ -151,7 +151,7 @@ pub fn take_tree<R: Region>(
     size: u64,
     holes: bool,
     blocks: &mut Blocks,
-) -> Result<(), TreeFault>
+) -> Result<(), CheckFault>
     requires whole { length (current_words (R.memory region.now)) ≡ 512 * block_count (current_words (R.memory region.now)) }
     requires most { block_count (current_words (R.memory region.now)) ≤ max_blocks }
     requires room { length blocks.old ≡ block_count (current_words (R.memory region.now)) }
@@ -167,19 +167,19 @@ pub fn take_tree<R: Region>(
     }
     let height = (root & 7) as u32;
     if height > MAX_HEIGHT {
-        return Err(TreeFault {
+        return Err(CheckFault {
             check: 1,
             place: at,
         });
     }
     if (root / 8) % 512 != 0 {
-        return Err(TreeFault {
+        return Err(CheckFault {
             check: 2,
             place: at,
         });
     }
     if size > span(height + 1) {
-        return Err(TreeFault {
+        return Err(CheckFault {
             check: 11,
             place: at + 1,
         });

@@ -3,27 +3,27 @@ use Rattle.std.proofs.Common.{◌≡◌, ◌⊎◌, ℕ, zero, suc, ◌<◌, Boo
 use Rattle.std.proofs.lemmas.Bool.{cases_eq, eqb-false}
 use Rattle.bp_layout.specs.Words.{Image}
 use Rattle.bp_layout.specs.Tree.{HasBlock}
-use Rattle.bp_layout.specs.Inode.{kind_of, root_of, size_of}
+use Rattle.bp_layout.specs.Inode.{kind_of, root_of, size_of, RootPlace}
 use Rattle.bp_layout.specs.Directory.{Name, EntryNames, inumber_at, entry_count, is_named, slot_named, empty_slot}
 use Rattle.bp_layout.specs.Reached.{IsReached, IsLiveBlock, IsFreeBlock}
 use Rattle.bp_layout.specs.Reached.IsReached.{inode_file, root_directory, named}
 use Rattle.bp_layout.specs.WellFormed.{IsWellFormed}
 use Rattle.bp_layout.specs.Free.{IsFreeInode}
-use Rattle.bp_layout.specs.Harmless.{Agrees, RootPlace}
+use Rattle.bp_changes.specs.Harmless.{Agrees}
 use Rattle.bp_layout.specs.Lookup.{Path, lookup}
 use Rattle.bp_layout.specs.Same.{Same}
-use Rattle.bp_layout.specs.SameContent.{ReadsAs, IsReadByWords}
-use Rattle.bp_layout.specs.SameMeaning.{SameMeaning}
+use Rattle.bp_changes.specs.SameContent.{ReadsAs, IsReadByWords}
+use Rattle.bp_changes.specs.SameMeaning.{SameMeaning}
 use Rattle.bp_layout.proofs.TreeLaws.{has_block-stays, has_block-kept}
 use Rattle.bp_layout.proofs.SmallTrees.{empty_has_none}
 use Rattle.bp_layout.proofs.Finding.{find-same}
 use Rattle.bp_layout.proofs.View.{SameDirectories, lookup_from-same}
-use Rattle.bp_layout.proofs.SameMeaning.{view-same, reached-back, well_formed-same, same-by_meaning}
-use Rattle.bp_layout.proofs.Frame as frame
-use Rattle.bp_layout.proofs.Reshape as reshape
-use Rattle.bp_layout.proofs.Reshape.{Reshapes}
-use Rattle.bp_layout.proofs.RootLink.{root_reshapes}
-use Rattle.bp_layout.proofs.Roots.{empty_reads}
+use Rattle.bp_changes.proofs.SameMeaning.{view-same, reached-back, well_formed-same, same-by_meaning}
+use Rattle.bp_changes.proofs.Frame as frame
+use Rattle.bp_shapes.proofs.Reshape as reshape
+use Rattle.bp_shapes.proofs.Reshape.{Reshapes}
+use Rattle.bp_shapes.proofs.RootLink.{root_reshapes}
+use Rattle.bp_shapes.proofs.Roots.{empty_reads}
 use Rattle.bp_calls.proofs.EnteredLaws.{KeepsBlocks}
 
 -- The second image means the same, with the same blocks and as many inodes. Words that nobody reads may be others.

@@ -1,41 +1,53 @@
 -- A new inode, an entry behind the last one of a leaf that is not full, and then the directory's size.
-use Rattle.std.proofs.Common.{◌≡◌, ◌≢◌, ℕ, ◌+◌, ◌-◌, ◌*◌, ◌/◌, ◌%◌, ◌<◌, ◌≤◌, set, refl, sym, ◌∙◌, ap, subst, arith}
+use Rattle.std.proofs.Common.{◌≡◌, ◌≢◌, ℕ, ◌+◌, ◌-◌, ◌*◌, ◌/◌, ◌%◌, ◌<◌, ◌≤◌, [], true, None, set, refl, sym, ◌∙◌, ap, subst, arith}
 use Rattle.bp_calls.specs.Entered.{IsNewInode, IsReadyBehind}
+use Rattle.bp_calls.specs.Created.{GainsName}
+use Rattle.bp_layout.specs.Need.{cover}
+use Rattle.bp_layout.specs.Need.Change.{enters as gains}
+use Rattle.bp_layout.specs.WordPaths.{address}
+use Rattle.bp_layout.specs.Directory.{empty_slot}
+use Rattle.bp_tree.specs.Performs.{IsOpen, Performs}
+use Rattle.bp_tree.proofs.PerformsLaws.{performs_stores}
+use Rattle.pm_region.specs.Memory.{room_in}
+use Rattle.pm_region.proofs.MayLaws.{room_after_may}
+use Rattle.pm_region.proofs.MemoryLaws.{room_in-piece}
+use Rattle.pm_epochs.proofs.PieceLaws.{IsPiece-commit}
+use Rattle.bp_calls.proofs.NeedLaws.{need_behind}
+use Rattle.bp_calls.proofs.OpenPlaces.{content_open, each_weaker, size_covered}
+use Rattle.bp_calls.proofs.StandsLaws.{enters_well_formed, prepared_stands}
 use Rattle.bp_calls.specs.Sets.{AreExact}
 use Rattle.bp_calls.specs.Spare.{IsUnread}
 use Rattle.bp_calls.specs.Spare.IsUnread.{spare}
-use Rattle.bp_calls.specs.Steps.{CanName, EntersName}
+use Rattle.bp_calls.specs.Steps.{CanName}
 use Rattle.bp_calls.specs.Written.{HasInodeAt, HasNameAt, IsWithin}
 use Rattle.bp_free.specs.Set.{Set, without}
 use Rattle.bp_layout.specs.Directory.{Name, slot_named}
 use Rattle.bp_layout.specs.Fields.{kind_word}
-use Rattle.bp_layout.specs.Harmless.{ContentStandsAt}
-use Rattle.bp_layout.specs.Inode.{kind_of, root_of, size_of, inode_count}
+use Rattle.bp_layout.specs.Inode.{ContentStandsAt, kind_of, root_of, size_of, inode_count}
 use Rattle.bp_layout.specs.Reached.{IsReached}
 use Rattle.bp_layout.specs.Reached.IsReached.{inode_file}
-use Rattle.bp_layout.specs.Same.{Same}
 use Rattle.bp_layout.specs.WellFormed.{IsWellFormed}
 use Rattle.bp_layout.specs.Words.{Image, word}
 use Rattle.bp_layout.specs.declared.fields.Kind.{Kind}
-use Rattle.bp_layout.proofs.Frame.{reached-in_file}
+use Rattle.bp_layout.proofs.Reached.{reached-in_file}
 use Rattle.pm_epochs.specs.Crash.{commit}
-use Rattle.pm_epochs.specs.May.{AnyAt}
+use Rattle.pm_epochs.specs.May.{AnyAt, EachMay}
 use Rattle.pm_region.specs.Memory.{Memory, current_words, Adds}
-use Rattle.pm_region.specs.Safe.{AddsMay, AddsCommit}
-use Rattle.pm_region.proofs.MayLaws.{may_twice, may_weaker, each_after, commit_stores}
+use Rattle.pm_region.specs.Safe.{AddsMay}
+use Rattle.pm_region.proofs.MayLaws.{may_twice, may_weaker, each_after}
 use Rattle.pm_region.proofs.MemoryLaws.{current_words-adds}
 use Rattle.bp_calls.proofs.AfterLaws.{prepared_well_formed, prepared_same, kind_after, size_after, reached_after, slot_named_after}
 use Rattle.bp_calls.proofs.BehindLaws.{ready_behind, behind_in_leaf}
 use Rattle.bp_calls.proofs.EnteredLaws.{Enters}
 use Rattle.bp_calls.proofs.GrownLaws.{grown}
-use Rattle.bp_calls.proofs.InSlot.{inode_unread}
-use Rattle.bp_calls.proofs.ReadBack.{equivalence, name_read, inode_stays, new_inode, name_entered}
+use Rattle.bp_calls.proofs.InSlot.{inode_inside}
+use Rattle.bp_calls.proofs.ReadBack.{name_read, inode_stays, new_inode}
 use Rattle.bp_calls.proofs.SetLaws.{exact_prepared, exact_grown_in_leaf}
 use Rattle.bp_calls.proofs.Spares.{no_inode_file, row_stands, one_content, spare_behind}
 use Rattle.bp_calls.proofs.Trees.{SameTrees, word_kept, stands_kept}
 use Rattle.bp_calls.proofs.Unread.{unread_trees}
 
-module _ (first second third last : Memory) (i j at entry place : ℕ) (name : Name) (kind : Kind) (can : CanName (current_words first) i j name) (part : size_of (current_words first) i % 4096 ≢ 0)
+module _ (first second third last : Memory) (i j at entry place : ℕ) (name : Name) (kind : Kind) (can : CanName (current_words first) i j name) (vacant : empty_slot (current_words first) i ≡ None) (part : size_of (current_words first) i % 4096 ≢ 0)
     (inode_at : ContentStandsAt (current_words first) 0 (8 * j + 0) at) (entry_at : ContentStandsAt (current_words first) i (32 * (size_of (current_words first) i / 256)) entry)
     (size_at : ContentStandsAt (current_words first) 0 (8 * i + 2) place)
     (fills : AddsMay (AnyAt (IsWithin at 3)) 0 3 first second) (inode : HasInodeAt (current_words second) at (kind_word kind))
@@ -68,20 +80,27 @@ module _ (first second third last : Memory) (i j at entry place : ℕ) (name : N
   word_stands : (f p : ℕ) → f < 32 → p ≡ entry + f → ContentStandsAt image i (32 * slot + f) p
   word_stands f p few e = row_stands image i (32 * slot) f (32 * slot + f) entry p refl e (omega (arith, few)) entry_at
 
-  entry_unread : (p v : ℕ) → AnyAt (IsWithin entry 32) p v → AnyAt (IsUnread image i) p v
-  entry_unread p v inside =
+  abbrev Inside : ℕ → Type 0
+  Inside p = IsUnread image i p × IsOpen image [] p
+
+  entry_inside : (p v : ℕ) → AnyAt (IsWithin entry 32) p v → AnyAt Inside p v
+  entry_inside p v inside =
       let low : entry ≤ p = inside.low in
       let high : p < entry + 32 = inside.high in
       let f : ℕ = p - entry in
-      spare (spare_behind image wf i (32 * slot + f) p reached (omega (arith, entries)) (leaf f (omega arith)) (word_stands f p (omega arith) (omega arith)))
+      let stands : ContentStandsAt image i (32 * slot + f) p = word_stands f p (omega arith) (omega arith) in
+      (spare (spare_behind image wf i (32 * slot + f) p reached (omega (arith, entries)) (leaf f (omega arith)) stands), content_open image [] i (32 * slot + f) p reached (leaf f (omega arith)) stands)
 
-  all_unread : AddsMay (AnyAt (IsUnread image i)) 0 35 first third
-  all_unread = may_twice (AnyAt (IsUnread image i)) 0 3 first 0 32 second third
-      (may_weaker (AnyAt (IsWithin at 3)) (AnyAt (IsUnread image i)) 0 3 first second (inode_unread image wf i j at name can inode_at) fills)
-      (may_weaker (AnyAt (IsWithin entry 32)) (AnyAt (IsUnread image i)) 0 32 second third entry_unread entry_stores)
+  all_inside : AddsMay (AnyAt Inside) 0 35 first third
+  all_inside = may_twice (AnyAt Inside) 0 3 first 0 32 second third
+      (may_weaker (AnyAt (IsWithin at 3)) (AnyAt Inside) 0 3 first second (inode_inside image wf i j at name [] can inode_at) fills)
+      (may_weaker (AnyAt (IsWithin entry 32)) (AnyAt Inside) 0 32 second third entry_inside entry_stores)
+
+  trees_of : (other : Image) → EachMay (AnyAt Inside) image other → SameTrees image other
+  trees_of other all = unread_trees image wf i reached not_file other (each_weaker Inside (IsUnread image i) image other (λ p both. both.0) all)
 
   trees : SameTrees image mid
-  trees = unread_trees image wf i reached not_file mid (each_after (AnyAt (IsUnread image i)) 0 35 first third all_unread)
+  trees = trees_of mid (each_after (AnyAt Inside) 0 35 first third all_inside)
 
   mid_well_formed : IsWellFormed mid
   mid_well_formed = prepared_well_formed image mid wf trees.prepared
@@ -135,11 +154,17 @@ module _ (first second third last : Memory) (i j at entry place : ℕ) (name : N
   enters : Enters mid (current_words last) i (size_of mid i / 256) j name (kind_word kind)
   enters = subst (λ w. Enters mid w i (size_of mid i / 256) j name (kind_word kind)) (sym committed) (grown mid mid_well_formed i j (kind_word kind) place name fresh ready can.lacks.form (missing ∙ can.lacks.missing) mid_size)
 
-  commit_quiet : AddsCommit Same place (size_of image i + 256) 2 36 first last
-  commit_quiet = commit_stores Same equivalence (AnyAt (IsUnread image i)) 0 35 first third last place (size_of image i + 256) (λ other all. prepared_same image other wf (unread_trees image wf i reached not_file other all).prepared) all_unread commits
+  pub end_performs : Performs first last (gains i true) (GainsName i name kind)
+  end_performs = performs_stores first last (gains i true) (GainsName i name kind) (AnyAt Inside) 35 third place (size_of image i + 256) [] (λ other all. prepared_same image other wf (trees_of other all).prepared) all_inside commits
+      tt tt tt (λ p v both. both.1) (sym (subst (λ w. address w (cover image (gains i true)) ≡ place) (sym committed) (size_covered image mid i place (size_of mid i + 256) wf mid_well_formed trees reached can.lacks.directory vacant mid_size)))
+      (omega arith) (sym (need_behind image i wf reached can.lacks.directory vacant (omega (arith, part)) part)) (content_open image [] 0 (8 * i + 2) place inode_file (omega (arith, in_file)) size_at)
+      (enters_well_formed mid (current_words last) mid_well_formed i (size_of mid i / 256) j (kind_word kind) name enters) (prepared_stands image mid (current_words last) wf trees.prepared i (size_of mid i / 256) j name kind enters)
 
-  pub end_enters : EntersName first last i name kind
-  end_enters = name_entered first third last i (size_of mid i / 256) j place (size_of image i + 256) 2 36 name kind wf trees.prepared enters (omega arith) commit_quiet
+  pub end_few : room_in first ≤ room_in last + 63
+  end_few =
+      let one : room_in first ≤ room_in third + (0 + 35) = room_after_may (AnyAt Inside) 0 35 first third all_inside in
+      let two : room_in third ≤ room_in last + (2 + 1) = room_in-piece 2 1 third last (commit place (size_of image i + 256)) commits (IsPiece-commit place (size_of image i + 256)) in
+      omega (arith, one, two)
 
   pub end_exact : (blocks inodes : Set) → AreExact image blocks inodes → AreExact (current_words last) blocks (without inodes j)
   end_exact blocks inodes exact =

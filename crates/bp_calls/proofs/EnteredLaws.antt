@@ -3,19 +3,18 @@ use Rattle.std.proofs.Common.{◌≡◌, ◌≢◌, ℕ, ◌+◌, ◌*◌, ◌/�
 use Rattle.std.proofs.lemmas.List.FromFn.{length-map-range_with_len}
 use Rattle.bp_layout.specs.Words.{Image, byte_of}
 use Rattle.bp_layout.specs.Tree.{byte, HasBlock}
-use Rattle.bp_layout.specs.Inode.{kind_of, root_of, size_of, inode_count}
+use Rattle.bp_layout.specs.Inode.{kind_of, root_of, size_of, inode_count, ContentStandsAt}
 use Rattle.bp_layout.specs.Directory.{Name, EntryNames, IsName, word_in, name_in, name_at, slot_named, lookup_in}
 use Rattle.bp_layout.specs.Reached.{IsReached}
 use Rattle.bp_layout.specs.WellFormed.{IsWellFormed}
-use Rattle.bp_layout.specs.Harmless.{ContentStandsAt}
 use Rattle.bp_layout.proofs.TreeLaws.{KeepsPointers, has_block-kept, has_block-stays}
 use Rattle.bp_layout.proofs.Finding.{map-same}
-use Rattle.bp_layout.proofs.Frame.{reached-in_file}
+use Rattle.bp_layout.proofs.Reached.{reached-in_file}
 use Rattle.bp_layout.proofs.LookupLaws.{Shows, lookup_in-found}
-use Rattle.bp_layout.proofs.ContentStore.{pointers_stay, root_stays, size_stays}
-use Rattle.bp_layout.proofs.AddsNames.{AddsNames}
-use Rattle.bp_layout.proofs.Link.{CanLink, entry_adds, name_of_new, kinds_stay}
-use Rattle.bp_layout.proofs.LinkInPlace.{store_adds}
+use Rattle.bp_changes.proofs.ContentStore.{pointers_stay, root_stays, size_stays}
+use Rattle.bp_changes.proofs.AddsNames.{AddsNames}
+use Rattle.bp_changes.proofs.Link.{CanLink, entry_adds, name_of_new, kinds_stay}
+use Rattle.bp_changes.proofs.LinkInPlace.{store_adds}
 use Rattle.bp_calls.specs.Entered.{IsNewInode, IsReadyEntry}
 
 -- The second image has one more name: that of inode j, of this kind, at slot s of directory i.

@@ -14,7 +14,7 @@ use Rattle.bp_layout.specs.Nodes.{TreeNode, is_present}
 use Rattle.bp_layout.specs.WordPaths.{WordPath, digits, inode_path, tree_path}
 use Rattle.bp_layout.specs.Need.{Change, height_after, touched, number_of, pointed, is_there, existing_from, common_all, cover, prefixes_of, copied, content_path}
 use Rattle.bp_layout.proofs.Addresses.{IsUnderNodes, present_above}
-use Rattle.bp_layout.proofs.Frame.{reached-in_file}
+use Rattle.bp_layout.proofs.Reached.{reached-in_file}
 use Rattle.bp_layout.proofs.TreeLaws.{first_index, live_above, live_pointer_word, live_content}
 use Rattle.bp_tree.proofs.Digits.{length-digits}
 

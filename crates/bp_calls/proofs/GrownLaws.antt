@@ -4,17 +4,16 @@ use Rattle.std.proofs.lemmas.Bool.{cases_eq}
 use Rattle.std.proofs.lemmas.List.{length-set}
 use Rattle.bp_layout.specs.Words.{Image, word, byte_of, height_of, slot_word}
 use Rattle.bp_layout.specs.Tree.{node, content_word, HasBlock, IsSound, IsFull, IsLiveWord}
-use Rattle.bp_layout.specs.Inode.{inode_word, kind_of, root_of, size_of, inode_count}
+use Rattle.bp_layout.specs.Inode.{inode_word, kind_of, root_of, size_of, inode_count, ContentStandsAt}
 use Rattle.bp_layout.specs.Directory.{Name, EntryNames, IsName, name_at, inumber_at, entry_word, entry_count, slot_named}
 use Rattle.bp_layout.specs.Reached.{IsReached, IsFreeBlock}
 use Rattle.bp_layout.specs.Reached.IsReached.{inode_file}
 use Rattle.bp_layout.specs.WellFormed.{IsWellFormed}
-use Rattle.bp_layout.specs.Harmless.{ContentStandsAt}
 use Rattle.bp_layout.proofs.TreeLaws.{KeepsPointers, content-kept, slot_word-same, word_at-suc, live_pointer_word, live_content, live_above, sound-kept, full-kept, has_block-kept, has_block-stays}
-use Rattle.bp_layout.proofs.Frame.{reached-in_file}
-use Rattle.bp_layout.proofs.Separation.{stands_in_block}
-use Rattle.bp_layout.proofs.ContentStore.{word-stored, word-elsewhere}
-use Rattle.bp_layout.proofs.AddsNames.{AddsNames, IsNewEntry}
+use Rattle.bp_layout.proofs.Reached.{reached-in_file}
+use Rattle.bp_changes.proofs.Separation.{stands_in_block}
+use Rattle.bp_changes.proofs.ContentStore.{word-stored, word-elsewhere}
+use Rattle.bp_changes.proofs.AddsNames.{AddsNames, IsNewEntry}
 use Rattle.bp_calls.specs.Entered.{IsNewInode, IsReadyBehind}
 use Rattle.bp_calls.proofs.EnteredLaws.{Enters, not_named, name_same, directory_inode}
 

@@ -1,52 +1,67 @@
 -- A new inode, an entry in a free block, to which the root word of a directory without bytes points, and then the size.
-use Rattle.std.proofs.Common.{◌≡◌, ◌≢◌, ℕ, ◌+◌, ◌-◌, ◌*◌, ◌/◌, ◌%◌, ◌<◌, ◌≤◌, [], ◌∷◌, length, set, sym, ◌∙◌, ap, subst, arith}
+use Rattle.std.proofs.Common.{◌≡◌, ◌≢◌, ℕ, ◌+◌, ◌-◌, ◌*◌, ◌/◌, ◌%◌, ◌<◌, ◌≤◌, [], ◌∷◌, ◌++◌, length, true, None, inl, set, sym, ◌∙◌, ap, subst, arith}
 use Rattle.bp_calls.specs.Entered.{IsNewInode, IsReadyBehind}
+use Rattle.bp_calls.specs.Created.{GainsName}
+use Rattle.bp_layout.specs.Need.{cover}
+use Rattle.bp_layout.specs.Need.Change.{enters as gains}
+use Rattle.bp_layout.specs.WordPaths.{address}
+use Rattle.bp_layout.specs.Directory.{empty_slot}
+use Rattle.bp_tree.specs.Performs.{IsOpen, Performs, InBlock}
+use Rattle.bp_tree.proofs.PerformsLaws.{performs_stores, stored_wider}
+use Rattle.pm_region.specs.Memory.{room_in}
+use Rattle.pm_region.proofs.MayLaws.{room_after_may}
+use Rattle.pm_region.proofs.MemoryLaws.{room_in-piece, adds_both}
+use Rattle.pm_epochs.proofs.PieceLaws.{IsPiece-commit, IsPiece-append, StoresTo-behind}
+use Rattle.bp_calls.proofs.NeedLaws.{need_first}
+use Rattle.bp_calls.proofs.OpenPlaces.{content_open, each_weaker, size_covered}
+use Rattle.bp_calls.proofs.StandsLaws.{enters_well_formed, prepared_stands}
+use Rattle.bp_tree.specs.Performs.IsOpen.{in_taken}
+use Rattle.pm_epochs.specs.Log.{StoresTo}
+use Rattle.pm_epochs.proofs.MayLaws.{StoresMay-append, StoresMay-weaker}
 use Rattle.bp_calls.specs.Sets.{AreExact}
 use Rattle.bp_calls.specs.Spare.{IsUnread}
 use Rattle.bp_calls.specs.Spare.IsUnread.{spare, dead_root}
-use Rattle.bp_calls.specs.Steps.{CanName, EntersName}
-use Rattle.bp_calls.specs.Written.{HasInodeAt, HasNameAt, IsWithin}
+use Rattle.bp_calls.specs.Steps.{CanName}
+use Rattle.bp_calls.specs.Written.{AddsFrom, HasInodeAt, HasNameAt, IsWithin}
 use Rattle.bp_free.specs.Set.{Set, without}
 use Rattle.bp_inodes.proofs.InodeWords.{root_word-of}
 use Rattle.bp_layout.specs.Directory.{Name, slot_named}
 use Rattle.bp_layout.specs.Fields.{kind_word}
-use Rattle.bp_layout.specs.Harmless.{ContentStandsAt}
-use Rattle.bp_layout.specs.Inode.{root_of, size_of, inode_count}
+use Rattle.bp_layout.specs.Inode.{ContentStandsAt, root_of, size_of, inode_count}
 use Rattle.bp_layout.specs.Reached.{IsReached, IsFreeBlock}
 use Rattle.bp_layout.specs.Reached.IsReached.{inode_file}
-use Rattle.bp_layout.specs.Same.{Same}
 use Rattle.bp_layout.specs.Tree.{content_word}
 use Rattle.bp_layout.specs.WellFormed.{IsWellFormed}
 use Rattle.bp_layout.specs.Words.{Image, word, block_of, slot_word}
 use Rattle.bp_layout.specs.declared.fields.Kind.{Kind}
-use Rattle.bp_layout.proofs.Frame.{reached-in_file}
+use Rattle.bp_layout.proofs.Reached.{reached-in_file}
 use Rattle.bp_layout.proofs.SmallTrees.{content_word-leaf}
 use Rattle.bp_layout.proofs.TreeLaws.{slot_word-at}
 use Rattle.pm_epochs.specs.Crash.{commit}
-use Rattle.pm_epochs.specs.May.{AnyAt}
+use Rattle.pm_epochs.specs.May.{AnyAt, EachMay}
 use Rattle.pm_epochs.specs.declared.event.Event.TheVariants.{Store}
 use Rattle.pm_region.specs.Memory.{Memory, current_words, Adds}
-use Rattle.pm_region.specs.Safe.{AddsMay, AddsCommit}
-use Rattle.pm_region.proofs.MayLaws.{may_one, may_twice, may_weaker, may_frame, each_after, commit_stores}
+use Rattle.pm_region.specs.Safe.{AddsMay}
+use Rattle.pm_region.proofs.MayLaws.{may_one, may_twice, may_weaker, may_frame, each_after}
 use Rattle.pm_region.proofs.MemoryLaws.{current_words-adds}
 use Rattle.bp_calls.proofs.AfterLaws.{prepared_well_formed, prepared_same, kind_after, size_after, reached_after, slot_named_after, free_block_after}
 use Rattle.bp_calls.proofs.BehindLaws.{ready_behind, behind_first}
 use Rattle.bp_calls.proofs.EnteredLaws.{Enters}
 use Rattle.bp_calls.proofs.GrownLaws.{grown}
-use Rattle.bp_calls.proofs.InSlot.{inode_unread}
-use Rattle.bp_calls.proofs.ReadBack.{equivalence, name_read, inode_stays, new_inode, name_entered}
+use Rattle.bp_calls.proofs.InSlot.{inode_inside}
+use Rattle.bp_calls.proofs.ReadBack.{name_read, inode_stays, new_inode}
 use Rattle.bp_calls.proofs.SetLaws.{exact_prepared, exact_grown_first}
 use Rattle.bp_calls.proofs.Spares.{no_inode_file, row_stands, one_content, not_in_free, spare_free}
 use Rattle.bp_calls.proofs.Trees.{SameTrees, word_kept, stands_kept}
 use Rattle.bp_calls.proofs.Unread.{unread_trees}
 use Rattle.bp_calls.proofs.Writes.{stored_here}
 
-module _ (first second third fourth last : Memory) (i j b at root_place place : ℕ) (name : Name) (kind : Kind) (can : CanName (current_words first) i j name) (none : size_of (current_words first) i ≡ 0)
+module _ (first second third fourth last : Memory) (i j b at root_place place : ℕ) (name : Name) (kind : Kind) (can : CanName (current_words first) i j name) (vacant : empty_slot (current_words first) i ≡ None) (none : size_of (current_words first) i ≡ 0)
     (free : IsFreeBlock (current_words first) b) (root_low : root_place < length first.base)
     (inode_at : ContentStandsAt (current_words first) 0 (8 * j + 0) at) (root_at : ContentStandsAt (current_words first) 0 (8 * i + 1) root_place) (size_at : ContentStandsAt (current_words first) 0 (8 * i + 2) place)
     (roots : Adds first second (Store root_place (4096 * b) ∷ []))
     (fills : AddsMay (AnyAt (IsWithin at 3)) 0 3 second third) (inode : HasInodeAt (current_words third) at (kind_word kind))
-    (entry_stores : AddsMay (AnyAt (IsWithin (512 * b) 32)) 0 32 third fourth) (inumber : word (current_words fourth) (512 * b) ≡ j) (named : HasNameAt (current_words fourth) (512 * b) name)
+    (entry_stores : AddsFrom (512 * b) 32 32 third fourth) (inumber : word (current_words fourth) (512 * b) ≡ j) (named : HasNameAt (current_words fourth) (512 * b) name)
     (commits : Adds fourth last (commit place 256)) where
   abbrev image : Image
   image = current_words first
@@ -69,22 +84,39 @@ module _ (first second third fourth last : Memory) (i j b at root_place place : 
   new_in_file : j < inode_count image
   new_in_file = can.free.high
 
-  entry_unread : (p v : ℕ) → AnyAt (IsWithin (512 * b) 32) p v → AnyAt (IsUnread image i) p v
-  entry_unread p v inside =
+  abbrev Inside : ℕ → Type 0
+  Inside p = IsUnread image i p × IsOpen image (b ∷ []) p
+
+  entry_inside : (p v : ℕ) → AnyAt (IsWithin (512 * b) 32) p v → AnyAt Inside p v
+  entry_inside p v inside =
       let low : 512 * b ≤ p = inside.low in
       let high : p < 512 * b + 32 = inside.high in
       let f : ℕ = p - 512 * b in
       let at_word : 512 * b + f ≡ p = omega arith in
-      subst (IsUnread image i) at_word (spare (spare_free image wf b f free (omega arith)))
+      (subst (IsUnread image i) at_word (spare (spare_free image wf b f free (omega arith))), in_taken (inl (omega arith)))
 
-  all_unread : AddsMay (AnyAt (IsUnread image i)) 0 36 first fourth
-  all_unread = may_twice (AnyAt (IsUnread image i)) 0 4 first 0 32 third fourth
-      (may_twice (AnyAt (IsUnread image i)) 0 1 first 0 3 second third (may_one (AnyAt (IsUnread image i)) first second root_place (4096 * b) (dead_root none root_at) roots)
-      (may_weaker (AnyAt (IsWithin at 3)) (AnyAt (IsUnread image i)) 0 3 second third (inode_unread image wf i j at name can inode_at) fills))
-      (may_weaker (AnyAt (IsWithin (512 * b) 32)) (AnyAt (IsUnread image i)) 0 32 third fourth entry_unread entry_stores)
+  early : AddsMay (AnyAt Inside) 0 4 first third
+  early = may_twice (AnyAt Inside) 0 1 first 0 3 second third
+      (may_one (AnyAt Inside) first second root_place (4096 * b) (dead_root none root_at, content_open image (b ∷ []) 0 (8 * i + 1) root_place inode_file (omega (arith, in_file)) root_at) roots)
+      (may_weaker (AnyAt (IsWithin at 3)) (AnyAt Inside) 0 3 second third (inode_inside image wf i j at name (b ∷ []) can inode_at) fills)
+
+  abbrev all_inside : AddsMay (AnyAt Inside) 0 36 first fourth
+  all_inside = record {
+    added = early.added ++ entry_stores.part.added;
+    adds = adds_both first third fourth early.added entry_stores.part.added early.adds entry_stores.part.adds;
+    may = StoresMay-append (AnyAt Inside) early.added entry_stores.part.added early.may (StoresMay-weaker (AnyAt (IsWithin (512 * b) 32)) (AnyAt Inside) entry_inside entry_stores.part.added entry_stores.part.may);
+    piece = IsPiece-append 0 4 0 32 early.added entry_stores.part.added early.piece entry_stores.part.piece;
+  }
+
+  -- the block gets a store
+  stored : StoresTo (InBlock b) (early.added ++ entry_stores.part.added)
+  stored = StoresTo-behind (InBlock b) early.added entry_stores.part.added (stored_wider (λ p. p ≡ 512 * b) (InBlock b) (λ p e. omega (arith, e)) entry_stores.part.added entry_stores.starts)
+
+  trees_of : (other : Image) → EachMay (AnyAt Inside) image other → SameTrees image other
+  trees_of other all = unread_trees image wf i reached not_file other (each_weaker Inside (IsUnread image i) image other (λ p both. both.0) all)
 
   trees : SameTrees image mid
-  trees = unread_trees image wf i reached not_file mid (each_after (AnyAt (IsUnread image i)) 0 36 first fourth all_unread)
+  trees = trees_of mid (each_after (AnyAt Inside) 0 36 first fourth all_inside)
 
   mid_well_formed : IsWellFormed mid
   mid_well_formed = prepared_well_formed image mid wf trees.prepared
@@ -116,7 +148,7 @@ module _ (first second third fourth last : Memory) (i j b at root_place place : 
 
   root_word : word mid root_place ≡ 4096 * b
   root_word =
-      may_frame (AnyAt (IsWithin (512 * b) 32)) 0 32 third fourth entry_stores root_place (λ v inside. beside (8 * i + 1) root_place (omega (arith, in_file)) root_at inside)
+      may_frame (AnyAt (IsWithin (512 * b) 32)) 0 32 third fourth entry_stores.part root_place (λ v inside. beside (8 * i + 1) root_place (omega (arith, in_file)) root_at inside)
       ∙ may_frame (AnyAt (IsWithin at 3)) 0 3 second third fills root_place (λ v inside. root_apart inside)
       ∙ stored_here first second root_place (4096 * b) roots root_low
 
@@ -124,7 +156,7 @@ module _ (first second third fourth last : Memory) (i j b at root_place place : 
   mid_root = root_word-of mid i (omega (arith, not_file)) ∙ word_kept image mid trees 0 (8 * i + 1) root_place inode_file (omega (arith, in_file)) root_at ∙ root_word
 
   fresh : IsNewInode mid j (kind_word kind)
-  fresh = new_inode image mid wf trees j at kind can.free inode_at (inode_stays third fourth at (512 * b) 32 32 (kind_word kind) entry_stores apart inode)
+  fresh = new_inode image mid wf trees j at kind can.free inode_at (inode_stays third fourth at (512 * b) 32 32 (kind_word kind) entry_stores.part apart inode)
 
   mid_none : size_of mid i ≡ 0
   mid_none = size_after image mid wf trees.prepared i reached ∙ none
@@ -169,11 +201,17 @@ module _ (first second third fourth last : Memory) (i j b at root_place place : 
   enters : Enters mid (current_words last) i (size_of mid i / 256) j name (kind_word kind)
   enters = subst (λ w. Enters mid w i (size_of mid i / 256) j name (kind_word kind)) (sym committed) (grown mid mid_well_formed i j (kind_word kind) place name fresh ready can.lacks.form (missing ∙ can.lacks.missing) mid_size)
 
-  commit_quiet : AddsCommit Same place 256 2 37 first last
-  commit_quiet = commit_stores Same equivalence (AnyAt (IsUnread image i)) 0 36 first fourth last place 256 (λ other all. prepared_same image other wf (unread_trees image wf i reached not_file other all).prepared) all_unread commits
+  pub first_performs : Performs first last (gains i true) (GainsName i name kind)
+  first_performs = performs_stores first last (gains i true) (GainsName i name kind) (AnyAt Inside) 36 fourth place 256 (b ∷ []) (λ other all. prepared_same image other wf (trees_of other all).prepared) all_inside commits
+      (tt, tt) (free, tt) (stored, tt) (λ p v both. both.1) (sym (subst (λ w. address w (cover image (gains i true)) ≡ place) (sym committed) (size_covered image mid i place (size_of mid i + 256) wf mid_well_formed trees reached can.lacks.directory vacant mid_size)))
+      (omega arith) (sym (need_first image i wf reached can.lacks.directory vacant none)) (content_open image (b ∷ []) 0 (8 * i + 2) place inode_file (omega (arith, in_file)) size_at)
+      (enters_well_formed mid (current_words last) mid_well_formed i (size_of mid i / 256) j (kind_word kind) name enters) (prepared_stands image mid (current_words last) wf trees.prepared i (size_of mid i / 256) j name kind enters)
 
-  pub first_enters : EntersName first last i name kind
-  first_enters = name_entered first fourth last i (size_of mid i / 256) j place 256 2 37 name kind wf trees.prepared enters (omega arith) commit_quiet
+  pub first_few : room_in first ≤ room_in last + 63
+  first_few =
+      let one : room_in first ≤ room_in fourth + (0 + 36) = room_after_may (AnyAt Inside) 0 36 first fourth all_inside in
+      let two : room_in fourth ≤ room_in last + (2 + 1) = room_in-piece 2 1 fourth last (commit place 256) commits (IsPiece-commit place 256) in
+      omega (arith, one, two)
 
   pub first_exact : (blocks inodes : Set) → AreExact image blocks inodes → AreExact (current_words last) (without blocks b) (without inodes j)
   first_exact blocks inodes exact =

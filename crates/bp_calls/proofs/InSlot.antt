@@ -1,32 +1,47 @@
 -- A new inode, a name in an empty entry, and then the inumber.
-use Rattle.std.proofs.Common.{◌≡◌, ◌≢◌, ℕ, ◌+◌, ◌-◌, ◌*◌, ◌/◌, ◌%◌, ◌<◌, ◌≤◌, set, refl, sym, ◌∙◌, ap, subst, arith}
+use Rattle.std.proofs.Common.{◌≡◌, ◌≢◌, ℕ, ◌+◌, ◌-◌, ◌*◌, ◌/◌, ◌%◌, ◌<◌, ◌≤◌, List, [], suc, true, Some, ap₂, set, refl, sym, ◌∙◌, ap, subst, arith}
 use Rattle.bp_calls.specs.Entered.{IsNewInode, IsReadyEntry}
+use Rattle.bp_calls.specs.Created.{GainsName}
+use Rattle.bp_layout.specs.Need.{cover}
+use Rattle.bp_layout.specs.Need.Change.{enters as gains}
+use Rattle.bp_layout.specs.WordPaths.{address, tree_path}
+use Rattle.bp_changes.proofs.AddsNames.{reached_stays}
+use Rattle.bp_tree.specs.Performs.{IsOpen, Performs}
+use Rattle.bp_tree.proofs.PerformsLaws.{performs_stores}
+use Rattle.pm_region.specs.Memory.{room_in}
+use Rattle.pm_region.proofs.MayLaws.{room_after_may}
+use Rattle.pm_region.proofs.MemoryLaws.{room_in-piece}
+use Rattle.pm_epochs.proofs.PieceLaws.{IsPiece-commit}
+use Rattle.bp_calls.proofs.NeedLaws.{cover_in_slot, need_in_slot}
+use Rattle.bp_calls.proofs.OpenPlaces.{content_open, each_weaker, stands_stored, root_word_stays, content_address}
+use Rattle.bp_calls.proofs.StandsLaws.{enters_well_formed, prepared_stands}
+use Rattle.bp_changes.proofs.ContentStore.{root_stays}
+use Rattle.bp_layout.specs.Directory.{empty_slot}
+use Rattle.bp_layout.specs.Inode.{size_of, ContentStandsAt, root_of, inode_count}
 use Rattle.bp_calls.specs.Sets.{AreExact}
 use Rattle.bp_calls.specs.Spare.{IsUnread}
 use Rattle.bp_calls.specs.Spare.IsUnread.{spare}
-use Rattle.bp_calls.specs.Steps.{CanName, EntersName}
+use Rattle.bp_calls.specs.Steps.{CanName}
 use Rattle.bp_calls.specs.Written.{HasInodeAt, HasNameAt, IsWithin}
 use Rattle.bp_free.specs.Set.{Set, without}
 use Rattle.bp_layout.specs.Directory.{Name, entry_count, inumber_at, slot_named}
 use Rattle.bp_layout.specs.Fields.{kind_word}
-use Rattle.bp_layout.specs.Harmless.{ContentStandsAt}
-use Rattle.bp_layout.specs.Inode.{root_of, inode_count}
 use Rattle.bp_layout.specs.Reached.{IsReached}
+use Rattle.bp_layout.proofs.Reached.{reached-in_file}
 use Rattle.bp_layout.specs.Reached.IsReached.{inode_file}
-use Rattle.bp_layout.specs.Same.{Same}
 use Rattle.bp_layout.specs.Tree.{node}
 use Rattle.bp_layout.specs.WellFormed.{IsWellFormed}
 use Rattle.bp_layout.specs.Words.{Image, height_of}
 use Rattle.bp_layout.specs.declared.fields.Kind.{Kind}
 use Rattle.pm_epochs.specs.Crash.{commit}
-use Rattle.pm_epochs.specs.May.{AnyAt}
+use Rattle.pm_epochs.specs.May.{AnyAt, EachMay}
 use Rattle.pm_region.specs.Memory.{Memory, current_words, Adds}
-use Rattle.pm_region.specs.Safe.{AddsMay, AddsCommit}
-use Rattle.pm_region.proofs.MayLaws.{may_twice, may_weaker, each_after, commit_stores}
+use Rattle.pm_region.specs.Safe.{AddsMay}
+use Rattle.pm_region.proofs.MayLaws.{may_twice, may_weaker, each_after}
 use Rattle.pm_region.proofs.MemoryLaws.{current_words-adds}
 use Rattle.bp_calls.proofs.AfterLaws.{prepared_well_formed, prepared_same, kind_after, size_after, reached_after, slot_named_after}
 use Rattle.bp_calls.proofs.EnteredLaws.{Enters, entered}
-use Rattle.bp_calls.proofs.ReadBack.{equivalence, name_read, inode_stays, new_inode, name_entered}
+use Rattle.bp_calls.proofs.ReadBack.{name_read, inode_stays, new_inode}
 use Rattle.bp_calls.proofs.SetLaws.{exact_prepared, exact_entered}
 use Rattle.bp_calls.proofs.Spares.{no_inode_file, row_stands, one_content, spare_inode, spare_entry}
 use Rattle.bp_calls.proofs.Trees.{SameTrees, word_kept, stands_kept}
@@ -40,6 +55,18 @@ inode_unread image wf i j at name can stands p v inside =
     let f : ℕ = p - at in
     spare (spare_inode image wf j f p can.free (omega arith) (row_stands image 0 (8 * j + 0) f (8 * j + f) at p (omega arith) (omega arith) (omega arith) stands))
 
+-- where the file has its words: nobody reads them, and they are in a live block
+pub inode_inside : (image : Image) → IsWellFormed image → (i j at : ℕ) (name : Name) (taken : List ℕ) → CanName image i j name → ContentStandsAt image 0 (8 * j + 0) at → (p v : ℕ) → AnyAt (IsWithin at 3) p v →
+    AnyAt (λ q. IsUnread image i q × IsOpen image taken q) p v
+inode_inside image wf i j at name taken can stands p v inside =
+    let low : at ≤ p = inside.low in
+    let high : p < at + 3 = inside.high in
+    let f : ℕ = p - at in
+    let in_file : j < inode_count image = can.free.high in (
+      inode_unread image wf i j at name can stands p v inside,
+      content_open image taken 0 (8 * j + f) p inode_file (omega (arith, in_file)) (row_stands image 0 (8 * j + 0) f (8 * j + f) at p (omega arith) (omega arith) (omega arith) stands),
+    )
+
 -- an entry of a tree that was read from an inode
 pub entry_stands : (image : Image) (i s entry root : ℕ) → root ≡ root_of image i → entry ≡ 512 * node image root (height_of root) ((32 * s + 0) / 512) + (32 * s + 0) % 512 →
     node image root (height_of root) ((32 * s + 0) / 512) ≢ 0 → ContentStandsAt image i (32 * s + 0) entry
@@ -48,7 +75,7 @@ entry_stands image i s entry root same at present =
     record { present = λ null. present (leaf ∙ null); at = ap (λ b. 512 * b + (32 * s + 0) % 512) (sym leaf) ∙ sym at }
 
 module _ (first second third last : Memory) (i s j at entry : ℕ) (name : Name) (kind : Kind) (can : CanName (current_words first) i j name) (in_size : s < entry_count (current_words first) i)
-    (empty : inumber_at (current_words first) i s ≡ 0) (inode_at : ContentStandsAt (current_words first) 0 (8 * j + 0) at) (entry_at : ContentStandsAt (current_words first) i (32 * s + 0) entry)
+    (empty : inumber_at (current_words first) i s ≡ 0) (found : empty_slot (current_words first) i ≡ Some s) (inode_at : ContentStandsAt (current_words first) 0 (8 * j + 0) at) (entry_at : ContentStandsAt (current_words first) i (32 * s + 0) entry)
     (fills : AddsMay (AnyAt (IsWithin at 3)) 0 3 first second) (inode : HasInodeAt (current_words second) at (kind_word kind))
     (spells : AddsMay (AnyAt (IsWithin (entry + 1) 31)) 0 31 second third) (named : HasNameAt (current_words third) entry name)
     (commits : Adds third last (commit entry j)) where
@@ -70,20 +97,27 @@ module _ (first second third last : Memory) (i s j at entry : ℕ) (name : Name)
   word_stands : (f : ℕ) → f < 32 → ContentStandsAt image i (32 * s + f) (entry + f)
   word_stands f few = row_stands image i (32 * s + 0) f (32 * s + f) entry (entry + f) (omega arith) refl (omega (arith, few)) entry_at
 
-  name_unread : (p v : ℕ) → AnyAt (IsWithin (entry + 1) 31) p v → AnyAt (IsUnread image i) p v
-  name_unread p v inside =
+  abbrev Inside : ℕ → Type 0
+  Inside p = IsUnread image i p × IsOpen image [] p
+
+  name_inside : (p v : ℕ) → AnyAt (IsWithin (entry + 1) 31) p v → AnyAt Inside p v
+  name_inside p v inside =
       let low : entry + 1 ≤ p = inside.low in
       let high : p < entry + 1 + 31 = inside.high in
       let f : ℕ = p - entry in
-      spare (spare_entry image wf i s f p reached can.lacks.directory in_size empty (omega arith) (omega arith) (row_stands image i (32 * s + 0) f (32 * s + f) entry p (omega arith) (omega arith) (omega arith) entry_at))
+      let stands : ContentStandsAt image i (32 * s + f) p = row_stands image i (32 * s + 0) f (32 * s + f) entry p (omega arith) (omega arith) (omega arith) entry_at in
+      (spare (spare_entry image wf i s f p reached can.lacks.directory in_size empty (omega arith) (omega arith) stands), content_open image [] i (32 * s + f) p reached (omega (arith, in_size)) stands)
 
-  all_unread : AddsMay (AnyAt (IsUnread image i)) 0 34 first third
-  all_unread = may_twice (AnyAt (IsUnread image i)) 0 3 first 0 31 second third
-      (may_weaker (AnyAt (IsWithin at 3)) (AnyAt (IsUnread image i)) 0 3 first second (inode_unread image wf i j at name can inode_at) fills)
-      (may_weaker (AnyAt (IsWithin (entry + 1) 31)) (AnyAt (IsUnread image i)) 0 31 second third name_unread spells)
+  all_inside : AddsMay (AnyAt Inside) 0 34 first third
+  all_inside = may_twice (AnyAt Inside) 0 3 first 0 31 second third
+      (may_weaker (AnyAt (IsWithin at 3)) (AnyAt Inside) 0 3 first second (inode_inside image wf i j at name [] can inode_at) fills)
+      (may_weaker (AnyAt (IsWithin (entry + 1) 31)) (AnyAt Inside) 0 31 second third name_inside spells)
+
+  trees_of : (other : Image) → EachMay (AnyAt Inside) image other → SameTrees image other
+  trees_of other all = unread_trees image wf i reached not_file other (each_weaker Inside (IsUnread image i) image other (λ p both. both.0) all)
 
   trees : SameTrees image mid
-  trees = unread_trees image wf i reached not_file mid (each_after (AnyAt (IsUnread image i)) 0 34 first third all_unread)
+  trees = trees_of mid (each_after (AnyAt Inside) 0 34 first third all_inside)
 
   mid_well_formed : IsWellFormed mid
   mid_well_formed = prepared_well_formed image mid wf trees.prepared
@@ -126,11 +160,56 @@ module _ (first second third last : Memory) (i s j at entry : ℕ) (name : Name)
   enters : Enters mid (current_words last) i s j name (kind_word kind)
   enters = subst (λ w. Enters mid w i s j name (kind_word kind)) (sym committed) (entered mid mid_well_formed i s j (kind_word kind) entry name fresh ready can.lacks.form (missing ∙ can.lacks.missing) mid_entry)
 
-  commit_quiet : AddsCommit Same entry j 2 35 first last
-  commit_quiet = commit_stores Same equivalence (AnyAt (IsUnread image i)) 0 34 first third last entry j (λ other all. prepared_same image other wf (unread_trees image wf i reached not_file other all).prepared) all_unread commits
+  -- ---- the cover
 
-  pub slot_enters : EntersName first last i name kind
-  slot_enters = name_entered first third last i s j entry j 2 35 name kind wf trees.prepared enters (omega arith) commit_quiet
+  abbrev after : Image
+  after = set mid entry j
+
+  entered_after : Enters mid after i s j name (kind_word kind)
+  entered_after = entered mid mid_well_formed i s j (kind_word kind) entry name fresh ready can.lacks.form (missing ∙ can.lacks.missing) mid_entry
+
+  after_well_formed : IsWellFormed after
+  after_well_formed = enters_well_formed mid after mid_well_formed i s j (kind_word kind) name entered_after
+
+  mid_reached : IsReached mid i
+  mid_reached = reached_after image mid wf trees.prepared i reached
+
+  below : 8 * (32 * s + 0) < size_of image i
+  below = omega (arith, in_size)
+
+  mid_below : 8 * (32 * s + 0) < size_of mid i
+  mid_below = let stays : size_of mid i ≡ size_of image i = size_after image mid wf trees.prepared i reached in omega (arith, below, stays)
+
+  in_file : i < inode_count image
+  in_file = reached-in_file image wf i reached
+
+  mid_in_file : i < inode_count mid
+  mid_in_file = reached-in_file mid mid_well_formed i mid_reached
+
+  root_after : root_of after i ≡ root_of image i
+  root_after = root_stays mid mid_well_formed i (32 * s + 0) entry j mid_reached not_file mid_below mid_entry i mid_in_file ∙ trees.root i reached (omega (arith, below))
+
+  top_after : root_of after 0 ≡ root_of image 0
+  top_after = root_word_stays mid mid_well_formed i (32 * s + 0) entry j mid_reached mid_below mid_entry ∙ trees.root 0 inode_file (omega (arith, in_file))
+
+  covered_after : address after (cover image (gains i true)) ≡ entry
+  covered_after =
+      ap (address after) (cover_in_slot image i wf reached can.lacks.directory s found ∙ ap₂ (λ h k. tree_path (height_of h) i (suc (height_of k)) (32 * s + 0)) (sym top_after) (sym root_after))
+      ∙ content_address after after_well_formed i (32 * s + 0) entry (reached_stays mid after mid_well_formed i s j entered_after.adds i mid_reached)
+      (stands_stored mid mid_well_formed i (32 * s + 0) entry j mid_reached mid_below mid_entry
+      (root_stays mid mid_well_formed i (32 * s + 0) entry j mid_reached not_file mid_below mid_entry i mid_in_file))
+
+  pub slot_performs : Performs first last (gains i true) (GainsName i name kind)
+  slot_performs = performs_stores first last (gains i true) (GainsName i name kind) (AnyAt Inside) 34 third entry j [] (λ other all. prepared_same image other wf (trees_of other all).prepared) all_inside commits tt tt tt
+      (λ p v both. both.1) (sym (subst (λ w. address w (cover image (gains i true)) ≡ entry) (sym committed) covered_after)) (omega arith) (sym (need_in_slot image i wf reached can.lacks.directory s found))
+      (content_open image [] i (32 * s + 0) entry reached (omega (arith, in_size)) entry_at) (subst IsWellFormed (sym committed) after_well_formed)
+      (prepared_stands image mid (current_words last) wf trees.prepared i s j name kind enters)
+
+  pub slot_few : room_in first ≤ room_in last + 63
+  slot_few =
+      let one : room_in first ≤ room_in third + (0 + 34) = room_after_may (AnyAt Inside) 0 34 first third all_inside in
+      let two : room_in third ≤ room_in last + (2 + 1) = room_in-piece 2 1 third last (commit entry j) commits (IsPiece-commit entry j) in
+      omega (arith, one, two)
 
   pub slot_exact : (blocks inodes : Set) → AreExact image blocks inodes → AreExact (current_words last) blocks (without inodes j)
   slot_exact blocks inodes exact =

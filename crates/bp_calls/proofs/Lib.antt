@@ -18,3 +18,4 @@ pub mod AtEnd
 pub mod InFirst
 pub mod Refusals
 pub mod Samples
+pub mod OpenPlaces

@@ -13,13 +13,14 @@ use Rattle.bp_layout.specs.Directory.{inumber_at, empty_slot}
 use Rattle.bp_layout.specs.Reached.{IsReached, IsFreeBlock}
 use Rattle.bp_layout.specs.Free.{HasFree}
 use Rattle.bp_layout.specs.WellFormed.{IsWellFormed}
-use Rattle.bp_layout.specs.Need.{Beyond, new_entry, prepared_for, prepared, height_after, inode_word_path, entry_path, entered, touched, copied, need}
+use Rattle.bp_layout.specs.Need.{Beyond, new_entry, prepared_for, prepared, height_after, inode_word_path, entry_path, entered, touched, copied, cover, need}
 use Rattle.bp_layout.specs.Need.Change.{enters}
+use Rattle.bp_layout.specs.WordPaths.{inode_path, tree_path}
 use Rattle.bp_layout.proofs.Finding.{find-passes}
 use Rattle.bp_layout.proofs.TreeLaws.{span-is}
 use Rattle.bp_calls.specs.Created.{NeedsLeaf}
 use Rattle.bp_calls.proofs.FreeCounts.{some_free}
-use Rattle.bp_calls.proofs.ExistingPaths.{AllThere, inode_path-there, content_path-there, copied-one}
+use Rattle.bp_calls.proofs.ExistingPaths.{AllThere, inode_path-there, content_path-there, cover-one, copied-one}
 
 -- ---- the height of a tree that has room
 
@@ -139,38 +140,45 @@ module _ (image : Image) (i : ℕ) (wf : IsWellFormed image) (reached : IsReache
   low_tree : height_after image (enters i true) 0 ≡ height_of (root_of image 0)
   low_tree = inodes_stay image i (empty_slot image i) not_inodes
 
-  -- an empty entry: nothing is made
+  -- an empty entry: its inumber is the one word that changes, and nothing is made
+  module _ (s : ℕ) (found : empty_slot image i ≡ Some s) where
+    low_slot : s < size_of image i / 256
+    low_slot = let finds = find-passes (λ slot. inumber_at image i slot == 0) 0 (size_of image i / 256) s found in omega (arith, finds.high)
+
+    same_slot : height_after image (enters i true) i ≡ height_of (root_of image i)
+    same_slot = ap (λ f. fold (λ h (b : Beyond). if b.tree == i then height_with (root_of image i) (size_of image i) b.to else h) (height_of (root_of image i)) (new_entry image i f ++ [])) found
+
+    one_slot : touched image (enters i true) ≡ entry_path image (enters i true) i s 0 ∷ []
+    one_slot = ap (λ f. entered image (enters i true) i f ∷ []) found
+
+    all_slot : AllThere image (enters i true) [] (entry_path image (enters i true) i s 0)
+    all_slot = content_path-there image (enters i true) wf low_tree i (32 * s + 0) reached same_slot full_tree (omega (arith, low_slot))
+
+    pub cover_in_slot : cover image (enters i true) ≡ tree_path (height_of (root_of image 0)) i (suc (height_of (root_of image i))) (32 * s + 0)
+    cover_in_slot = cover-one image (enters i true) (entry_path image (enters i true) i s 0) one_slot all_slot ∙ ap₂ (λ h k. tree_path h i (suc k) (32 * s + 0)) low_tree same_slot
+
   pub need_in_slot : (s : ℕ) → empty_slot image i ≡ Some s → need image (enters i true) ≡ 0
   need_in_slot s found = omega (arith, none, nothing)
     where
-      low : s < size_of image i / 256
-      low = let finds = find-passes (λ slot. inumber_at image i slot == 0) 0 (size_of image i / 256) s found in omega (arith, finds.high)
-
-      same : height_after image (enters i true) i ≡ height_of (root_of image i)
-      same = ap (λ f. fold (λ h (b : Beyond). if b.tree == i then height_with (root_of image i) (size_of image i) b.to else h) (height_of (root_of image i)) (new_entry image i f ++ [])) found
-
-      one : touched image (enters i true) ≡ entry_path image (enters i true) i s 0 ∷ []
-      one = ap (λ f. entered image (enters i true) i f ∷ []) found
-
-      all : AllThere image (enters i true) [] (entry_path image (enters i true) i s 0)
-      all = content_path-there image (enters i true) wf low_tree i (32 * s + 0) reached same full_tree (omega (arith, low))
-
       none : length (prepared image (enters i true)) ≡ 0
       none = ap (λ f. length (flat_map (prepared_for image) (new_entry image i f ++ []))) found
 
       nothing : length (copied image (enters i true)) ≡ 0
-      nothing = ap length (copied-one image (enters i true) (entry_path image (enters i true) i s 0) one all)
+      nothing = ap length (copied-one image (enters i true) (entry_path image (enters i true) i s 0) (one_slot s found) (all_slot s found))
 
   -- none: the size of the directory is the one word that changes
   module _ (none : empty_slot image i ≡ None) where
-    nothing_copied : length (copied image (enters i true)) ≡ 0
-    nothing_copied = ap length (copied-one image (enters i true) (inode_word_path image (enters i true) i 2) one all)
-      where
-        one : touched image (enters i true) ≡ inode_word_path image (enters i true) i 2 ∷ []
-        one = ap (λ f. entered image (enters i true) i f ∷ []) none
+    one_size : touched image (enters i true) ≡ inode_word_path image (enters i true) i 2 ∷ []
+    one_size = ap (λ f. entered image (enters i true) i f ∷ []) none
 
-        all : AllThere image (enters i true) [] (inode_word_path image (enters i true) i 2)
-        all = inode_path-there image (enters i true) wf low_tree i 2 reached (omega arith)
+    all_size : AllThere image (enters i true) [] (inode_word_path image (enters i true) i 2)
+    all_size = inode_path-there image (enters i true) wf low_tree i 2 reached (omega arith)
+
+    pub cover_behind : cover image (enters i true) ≡ inode_path (height_of (root_of image 0)) i 2
+    cover_behind = cover-one image (enters i true) (inode_word_path image (enters i true) i 2) one_size all_size ∙ ap (λ h. inode_path h i 2) low_tree
+
+    nothing_copied : length (copied image (enters i true)) ≡ 0
+    nothing_copied = ap length (copied-one image (enters i true) (inode_word_path image (enters i true) i 2) one_size all_size)
 
     -- the nodes of the next entry's bytes are made
     made : length (prepared image (enters i true)) ≡ length (nodes_for image (root_of image i) (size_of image i) (size_of image i) (size_of image i + 256))

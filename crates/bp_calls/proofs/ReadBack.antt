@@ -1,14 +1,12 @@
 -- What was written is read: a new inode, and a name in an entry; and what one more name makes of the image and its tree.
 use Rattle.std.proofs.Common.{◌≡◌, ℕ, ◌+◌, ◌*◌, ◌/◌, ◌%◌, ◌<◌, ◌≤◌, length, get_or, ◌∙◌, ap, arith}
 use Rattle.bp_calls.specs.Entered.{IsNewInode}
-use Rattle.bp_calls.specs.Steps.{EntersName}
 use Rattle.bp_calls.specs.Written.{HasInodeAt, HasNameAt, IsWithin}
 use Rattle.bp_inodes.proofs.InodeWords.{kind_word-of, size_word-of}
 use Rattle.bp_layout.specs.Directory.{Name, name_in}
 use Rattle.bp_layout.specs.Fields.{kind_word}
 use Rattle.bp_layout.specs.Free.{IsFreeInode}
-use Rattle.bp_layout.specs.Harmless.{ContentStandsAt}
-use Rattle.bp_layout.specs.Inode.{size_of, inode_count}
+use Rattle.bp_layout.specs.Inode.{ContentStandsAt, size_of, inode_count}
 use Rattle.bp_layout.specs.Limits.{max_name}
 use Rattle.bp_layout.specs.Reached.IsReached.{inode_file}
 use Rattle.bp_layout.specs.Same.{Same}
@@ -22,12 +20,10 @@ use Rattle.bp_layout.proofs.SameLaws.{same_symmetric, same_transitive}
 use Rattle.pm_epochs.specs.Crash.{IsPartialEquivalence}
 use Rattle.pm_epochs.specs.May.{AnyAt}
 use Rattle.pm_region.specs.Memory.{Memory, current_words}
-use Rattle.pm_region.specs.Safe.{AddsMay, AddsCommit}
+use Rattle.pm_region.specs.Safe.{AddsMay}
 use Rattle.pm_region.proofs.MayLaws.{may_frame}
-use Rattle.bp_calls.proofs.AfterLaws.{IsPrepared, free_inode_after, prepared_well_formed}
-use Rattle.bp_calls.proofs.EnteredLaws.{Enters}
+use Rattle.bp_calls.proofs.AfterLaws.{free_inode_after}
 use Rattle.bp_calls.proofs.Spares.{row_stands}
-use Rattle.bp_calls.proofs.StandsLaws.{enters_well_formed, prepared_stands}
 use Rattle.bp_calls.proofs.Trees.{SameTrees, word_kept}
 
 pub equivalence : IsPartialEquivalence Same
@@ -76,17 +72,3 @@ new_inode old new wf trees j at kind free stands has = record {
   where
     below : (f : ℕ) → f < 8 → 4096 * ((8 * j + f) / 512) < size_of old 0
     below f few = let high : j < inode_count old = free.high in omega (arith, high, few)
-
--- one more name, up to the commit
-pub name_entered : (first mid last : Memory) (i s j word value barriers stores : ℕ) (name : Name) (kind : Kind) → IsWellFormed (current_words first) → IsPrepared (current_words first) (current_words mid) →
-    Enters (current_words mid) (current_words last) i s j name (kind_word kind) → barriers + stores ≤ 63 → AddsCommit Same word value barriers stores first last → EntersName first last i name kind
-name_entered first mid last i s j word value barriers stores name kind wf prepared enters few commit = record {
-  word = word;
-  value = value;
-  barriers = barriers;
-  stores = stores;
-  few = few;
-  commit = commit;
-  well_formed = enters_well_formed (current_words mid) (current_words last) (prepared_well_formed (current_words first) (current_words mid) wf prepared) i s j (kind_word kind) name enters;
-  stands = prepared_stands (current_words first) (current_words mid) (current_words last) wf prepared i s j name kind enters;
-}

@@ -1,12 +1,11 @@
 -- When there is room for a new name, and why there is none.
-use Rattle.std.proofs.Common.{◌≡◌, ◌≢◌, ℕ, ◌%◌, ◌<◌, List, [], ◌∷◌, length, true, false, ◌==◌, Option, None, Some, refl, sym, ◌∙◌, ap, arith, inr, true≢false}
+use Rattle.std.proofs.Common.{◌≡◌, ◌≢◌, ℕ, ◌<◌, List, [], ◌∷◌, length, true, false, ◌==◌, Option, None, Some, refl, sym, ◌∙◌, ap, arith, true≢false}
 use Rattle.std.proofs.lemmas.Bool.{eqb-true}
 use Rattle.std.specs.List.{Contains}
 use Rattle.std.specs.Option.{is_some}
 use Rattle.bp_calls.specs.Created.{NeedsLeaf, IsRefused}
 use Rattle.bp_calls.specs.Created.IsRefused.{no_inode, no_block}
 use Rattle.bp_calls.specs.Sets.{AreExact}
-use Rattle.bp_calls.specs.Steps.{HasRoom}
 use Rattle.bp_calls.specs.declared.fault.CreateFault.TheVariants.{Later, NoSpace}
 use Rattle.bp_free.specs.Set.{Set, has, members}
 use Rattle.bp_free.proofs.Members.{members_all, members_has}
@@ -18,7 +17,7 @@ use Rattle.bp_layout.specs.WellFormed.{IsWellFormed}
 use Rattle.bp_layout.specs.Words.{Image}
 use Rattle.bp_layout.proofs.Finding.{Finds, find-passes}
 use Rattle.bp_calls.proofs.FreeCounts.{no_free}
-use Rattle.bp_calls.proofs.NeedLaws.{need_in_slot, need_behind, need_first, fits}
+use Rattle.bp_calls.proofs.NeedLaws.{need_first}
 use Rattle.bp_calls.proofs.SetLaws.{in_room}
 
 -- a list that is not empty has a first
@@ -59,20 +58,9 @@ module _ (image : Image) (blocks inodes : Set) (exact : AreExact image blocks in
     refused_block some none empty no_blocks =
         no_block {needed = 1} {free = 0} (tells_some some) (λ leaf. omega (arith, leaf.some, empty)) (need_first image i wf reached kind none empty) (no_free image blocks exact.free_blocks no_blocks) (omega arith)
 
-    pub room_in_slot : members inodes ≢ [] → (s : ℕ) → empty_slot image i ≡ Some s → HasRoom image i
-    room_in_slot some s found = record { inode = tells_some some; leaf = leaf; fits = λ free has. omega (arith, need_in_slot image i wf reached kind s found) }
-      where
-        leaf : ¬ NeedsLeaf image i
-        leaf needs = let clash : ◌≡◌ {A = Option ℕ} None (Some s) = sym needs.none ∙ found in absurd (cc)
-
-    pub room_behind : members inodes ≢ [] → empty_slot image i ≡ None → 0 < size_of image i → size_of image i % 4096 ≢ 0 → HasRoom image i
-    room_behind some none bytes part = record { inode = tells_some some; leaf = λ needs. part needs.full; fits = λ free has. omega (arith, need_behind image i wf reached kind none bytes part) }
-
-    pub room_first : members inodes ≢ [] → size_of image i ≡ 0 → members blocks ≢ [] → HasRoom image i
-    room_first some empty open_blocks =
-        let one = some_number blocks open_blocks in
-        let leaf : ¬ NeedsLeaf image i = λ needs. omega (arith, needs.some, empty) in
-        record { inode = tells_some some; leaf = leaf; fits = fits image i wf reached kind leaf (inr (one.0, exact.free_blocks.free one.0 one.1)) }
+    -- with an empty entry the directory needs no leaf
+    pub leaf_in_slot : (s : ℕ) → empty_slot image i ≡ Some s → ¬ NeedsLeaf image i
+    leaf_in_slot s found needs = let clash : ◌≡◌ {A = Option ℕ} None (Some s) = sym needs.none ∙ found in absurd (cc)
 
 -- the slot that is found is one of the directory's, and empty
 pub found_empty : (image : Image) (i s : ℕ) → empty_slot image i ≡ Some s → (s < entry_count image i) × (inumber_at image i s ≡ 0)

@@ -16,7 +16,7 @@ use Rattle.bp_layout.specs.WellFormed.{IsWellFormed}
 use Rattle.bp_layout.specs.Words.{Image, word, block_count, block_of, slot_word}
 use Rattle.bp_layout.specs.Limits.{magic}
 use Rattle.bp_inodes.proofs.FewInodes.{few_inodes}
-use Rattle.bp_layout.proofs.Frame.{reached-in_file}
+use Rattle.bp_layout.proofs.Reached.{reached-in_file}
 use Rattle.bp_layout.proofs.Finding.{Finds, find-passes}
 use Rattle.bp_layout.proofs.View.{named_true}
 use Rattle.bp_layout.proofs.LastValue.{AllWithinImage, length-after_stores, word-after_stores}

@@ -6,14 +6,14 @@ use Rattle.bp_free.specs.Set.{Set, has, without}
 use Rattle.bp_free.proofs.Members.{has_without_same, has_without_other, has_past}
 use Rattle.bp_layout.specs.Words.{Image}
 use Rattle.bp_layout.specs.Tree.{HasBlock}
-use Rattle.bp_layout.specs.Inode.{root_of, size_of}
+use Rattle.bp_layout.specs.Inode.{root_of, size_of, ContentStandsAt, RootPlace}
 use Rattle.bp_layout.specs.Directory.{Name, IsName, slot_named}
 use Rattle.bp_layout.specs.Reached.{IsReached, IsLiveBlock, IsFreeBlock}
 use Rattle.bp_layout.specs.WellFormed.{IsWellFormed}
 use Rattle.bp_layout.specs.Free.{AreFreeBlocks, AreFreeInodes, IsFreeInode}
-use Rattle.bp_layout.specs.Harmless.{Agrees, ContentStandsAt, RootPlace}
+use Rattle.bp_changes.specs.Harmless.{Agrees}
 use Rattle.bp_layout.proofs.SmallTrees.{empty_has_none}
-use Rattle.bp_layout.proofs.AddsNames.{AddsNames, reached_cases, reached_stays}
+use Rattle.bp_changes.proofs.AddsNames.{AddsNames, reached_cases, reached_stays}
 use Rattle.bp_calls.specs.Entered.{IsNewInode, IsReadyEntry, IsReadyBehind}
 use Rattle.bp_calls.specs.Sets.{AreExact}
 use Rattle.bp_calls.proofs.EnteredLaws.{Enters, KeepsBlocks, entered, entered_blocks}

@@ -4,16 +4,15 @@ use Rattle.std.proofs.Common.{◌≡◌, ◌≢◌, ℕ, suc, ◌+◌, ◌*◌, 
 use Rattle.bp_calls.specs.Spare.{IsSpare}
 use Rattle.bp_layout.specs.Directory.{inumber_at, entry_count}
 use Rattle.bp_layout.specs.Free.{IsFreeInode}
-use Rattle.bp_layout.specs.Harmless.{StandsAt, ContentStandsAt}
-use Rattle.bp_layout.specs.Inode.{kind_of, root_of, size_of, inode_count}
+use Rattle.bp_layout.specs.Inode.{StandsAt, ContentStandsAt, kind_of, root_of, size_of, inode_count}
 use Rattle.bp_layout.specs.Reached.{IsReached, IsFreeBlock}
 use Rattle.bp_layout.specs.Reached.IsReached.{inode_file}
 use Rattle.bp_layout.specs.Tree.{IsLiveWord, IsLivePointer, node}
 use Rattle.bp_layout.specs.WellFormed.{IsWellFormed}
 use Rattle.bp_layout.specs.Words.{Image, height_of}
-use Rattle.bp_layout.proofs.Behind.{behind_harmless}
-use Rattle.bp_layout.proofs.Frame.{reached-in_file}
-use Rattle.bp_layout.proofs.Separation.{SameWord, one_place, one_place_in_nodes, free-harmless}
+use Rattle.bp_shapes.proofs.Behind.{behind_harmless}
+use Rattle.bp_layout.proofs.Reached.{reached-in_file}
+use Rattle.bp_changes.proofs.Separation.{SameWord, one_place, one_place_in_nodes, free-harmless}
 use Rattle.bp_layout.proofs.TreeLaws.{live_pointer_word, live_content}
 use Rattle.bp_calls.proofs.Trees.{live_leaf}
 

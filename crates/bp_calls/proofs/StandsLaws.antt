@@ -10,10 +10,10 @@ use Rattle.bp_layout.specs.Same.{Same}
 use Rattle.bp_layout.specs.WellFormed.{IsWellFormed}
 use Rattle.bp_layout.specs.declared.fields.Kind.{Kind}
 use Rattle.bp_layout.specs.declared.fields.Kind.TheVariants.{File, Dir}
-use Rattle.bp_layout.proofs.AddsNames.{linked_well_formed}
+use Rattle.bp_changes.proofs.AddsNames.{linked_well_formed}
 use Rattle.bp_plain.specs.PlainTree.{FileTree}
 use Rattle.bp_plain.specs.Stands.{Stands}
-use Rattle.bp_plain.proofs.NameStands.{names_stand}
+use Rattle.bp_changes.proofs.NameStands.{names_stand}
 use Rattle.bp_calls.specs.Created.{empty_node}
 use Rattle.bp_calls.proofs.EnteredLaws.{Enters}
 use Rattle.bp_calls.proofs.AfterLaws.{IsPrepared, prepared_same, lookup_after}

@@ -1,13 +1,13 @@
 -- An image whose reached trees stand where those of another stand.
 use Rattle.std.proofs.Common.{◌≡◌, ◌⊎◌, ℕ, suc, ◌+◌, ◌*◌, ◌/◌, ◌%◌, ◌<◌, sym, ◌∙◌, ap, arith, inl, inr}
 use Rattle.std.proofs.lemmas.Bool.{cases_eq}
-use Rattle.bp_layout.specs.Harmless.{Agrees, ContentStandsAt}
-use Rattle.bp_layout.specs.Inode.{root_of, size_of}
+use Rattle.bp_changes.specs.Harmless.{Agrees}
+use Rattle.bp_layout.specs.Inode.{ContentStandsAt, root_of, size_of}
 use Rattle.bp_layout.specs.Reached.{IsReached}
 use Rattle.bp_layout.specs.Tree.{node, content_word, IsLivePointer}
 use Rattle.bp_layout.specs.WellFormed.{IsWellFormed}
 use Rattle.bp_layout.specs.Words.{Image, word, height_of, slot_word}
-use Rattle.bp_layout.proofs.Frame as frame
+use Rattle.bp_changes.proofs.Frame as frame
 use Rattle.bp_layout.proofs.TreeLaws.{KeepsPointers, node-kept, live_above, live_pointer_word, slot_word-at, word_at-suc}
 use Rattle.bp_calls.proofs.AfterLaws.{IsPrepared, agrees_prepared, prepared_on, reached_after, size_after}
 

@@ -4,21 +4,21 @@ use Rattle.std.proofs.lemmas.Bool.{cases_eq}
 use Rattle.std.proofs.lemmas.List.{length-set, set-set, set-get_or}
 use Rattle.bp_calls.specs.Spare.{IsUnread}
 use Rattle.bp_calls.specs.Spare.IsUnread.{spare, dead_root}
-use Rattle.bp_layout.specs.Harmless.{ContentStandsAt, Agrees, IsHarmless}
-use Rattle.bp_layout.specs.Harmless.RootPlace.{inode}
-use Rattle.bp_layout.specs.Inode.{root_of, size_of, inode_count}
+use Rattle.bp_layout.specs.Inode.{ContentStandsAt, root_of, size_of, inode_count}
+use Rattle.bp_changes.specs.Harmless.{Agrees, IsHarmless}
+use Rattle.bp_layout.specs.Inode.RootPlace.{inode}
 use Rattle.bp_layout.specs.Reached.{IsReached}
 use Rattle.bp_layout.specs.Reached.IsReached.{inode_file}
-use Rattle.bp_layout.specs.SameContent.{ReadsAs, IsReadByWords}
+use Rattle.bp_changes.specs.SameContent.{ReadsAs, IsReadByWords}
 use Rattle.bp_layout.specs.Tree.{node}
 use Rattle.bp_layout.specs.WellFormed.{IsWellFormed}
 use Rattle.bp_layout.specs.Words.{Image, word, block_count, height_of}
-use Rattle.bp_layout.proofs.Frame.{reached-in_file}
-use Rattle.bp_layout.proofs.Reshape as reshape
-use Rattle.bp_layout.proofs.Reshape.{Reshapes}
-use Rattle.bp_layout.proofs.RootLink.{root_reshapes}
-use Rattle.bp_layout.proofs.Roots.{empty_reads}
-use Rattle.bp_layout.proofs.Stores.{harmless_here}
+use Rattle.bp_layout.proofs.Reached.{reached-in_file}
+use Rattle.bp_shapes.proofs.Reshape as reshape
+use Rattle.bp_shapes.proofs.Reshape.{Reshapes}
+use Rattle.bp_shapes.proofs.RootLink.{root_reshapes}
+use Rattle.bp_shapes.proofs.Roots.{empty_reads}
+use Rattle.bp_changes.proofs.Stores.{harmless_here}
 use Rattle.bp_layout.proofs.TreeLaws.{KeepsPointers}
 use Rattle.pm_epochs.specs.May.{AnyAt, EachMay}
 use Rattle.bp_calls.proofs.AfterLaws.{root_prepared, prepared_well_formed, reached_after, size_after}

@@ -1,14 +1,16 @@
 -- Stores of an inode and of a name, one after another.
-use Rattle.std.proofs.Common.{◌≡◌, ◌≢◌, ◌⊎◌, ℕ, ◌+◌, ◌*◌, ◌/◌, ◌%◌, ◌<◌, ◌≤◌, List, [], ◌∷◌, length, get_or, ◌∙◌, ap, arith, inl, inr, get_or-set_same, get_or-set_other}
+use Rattle.std.proofs.Common.{◌≡◌, ◌≢◌, ◌⊎◌, ℕ, ◌+◌, ◌*◌, ◌/◌, ◌%◌, ◌<◌, ◌≤◌, List, [], ◌∷◌, length, get_or, ◌∙◌, ap, arith, inl, inr, refl, get_or-set_same, get_or-set_other}
 use Rattle.std.proofs.lemmas.Bool.{cases_eq}
 use Rattle.pm_epochs.specs.declared.event.Event.TheVariants.{Store}
 use Rattle.pm_epochs.specs.May.{AnyAt}
 use Rattle.pm_region.specs.Memory.{Memory, current_words, room_in, Adds}
 use Rattle.pm_region.specs.Safe.{AddsMay}
-use Rattle.pm_region.proofs.MemoryLaws.{base-adds, current_words-adds, room_in-adds, length-current_words}
-use Rattle.pm_region.proofs.MayLaws.{may_one, may_store, may_more, may_twice, may_weaker, may_frame, room_after_may}
+use Rattle.pm_epochs.proofs.MayLaws.{StoresMay-weaker}
+use Rattle.pm_epochs.proofs.PieceLaws.{IsPiece-append, IsPiece-store}
+use Rattle.pm_region.proofs.MemoryLaws.{adds_both, base-adds, current_words-adds, room_in-adds, length-current_words}
+use Rattle.pm_region.proofs.MayLaws.{may_one, may_store, may_more, may_frame, room_after_may}
 use Rattle.bp_layout.specs.Words.{word, byte_of}
-use Rattle.bp_calls.specs.Written.{HasInodeAt, HasNameAt, IsWithin}
+use Rattle.bp_calls.specs.Written.{AddsFrom, HasInodeAt, HasNameAt, IsWithin}
 
 -- a memory after one store
 module _ (old new : Memory) (place value : ℕ) (adds : Adds old new (Store place value ∷ [])) where
@@ -94,14 +96,23 @@ module _ (old middle : Memory) (place words : ℕ) (name : List ℕ) (before : N
 
 -- the inumber, and then the length and the name
 module _ (old middle new : Memory) (place j : ℕ) (in_range : place < length old.base) (enters : Adds old middle (Store place j ∷ [])) (spells : AddsMay (AnyAt (IsWithin (place + 1) 31)) 0 31 middle new) where
-  pub entry_stores : AddsMay (AnyAt (IsWithin place 32)) 0 32 old new
-  entry_stores = may_twice (AnyAt (IsWithin place 32)) 0 1 old 0 31 middle new
-      (may_one (AnyAt (IsWithin place 32)) old middle place j (record { low = omega arith; high = omega arith }) enters)
-      (may_weaker (AnyAt (IsWithin (place + 1) 31)) (AnyAt (IsWithin place 32)) 0 31 middle new
-      (λ w v inside.
-      let low : place + 1 ≤ w = inside.low in
-      let high : w < place + 1 + 31 = inside.high in
-      record { low = omega arith; high = omega arith }) spells)
+  pub entry_stores : AddsFrom place 32 32 old new
+  entry_stores = record {
+    part = record {
+      added = Store place j ∷ spells.added;
+      adds = adds_both old middle new (Store place j ∷ []) spells.added enters spells.adds;
+      may = (
+        record { low = omega arith; high = omega arith },
+        StoresMay-weaker (AnyAt (IsWithin (place + 1) 31)) (AnyAt (IsWithin place 32))
+            (λ w v inside.
+            let low : place + 1 ≤ w = inside.low in
+            let high : w < place + 1 + 31 = inside.high in
+            record { low = omega arith; high = omega arith }) spells.added spells.may,
+      );
+      piece = IsPiece-append 0 1 0 31 (Store place j ∷ []) spells.added (IsPiece-store place j) spells.piece;
+    };
+    starts = inl refl;
+  }
 
   pub entry_inumber : word (current_words new) place ≡ j
   entry_inumber =

@@ -1,5 +1,5 @@
 -- What a call that creates a name does to a region before its mark, and why it is refused.
-use Rattle.std.specs.Prelude.{◌≡◌, ℕ, ◌+◌, ◌%◌, ◌<◌, ◌≤◌, [], ◌∷◌, ◌++◌, true, false, None, Some}
+use Rattle.std.specs.Prelude.{◌≡◌, ℕ, ◌%◌, ◌<◌, [], ◌∷◌, ◌++◌, true, false, None, Some}
 use Rattle.std.specs.FinMap.{insert}
 use Rattle.bp_layout.specs.Directory.{Name, empty_slot}
 use Rattle.bp_layout.specs.Free.{HasFree, TellsFreeInode}
@@ -8,8 +8,6 @@ use Rattle.bp_layout.specs.Lookup.{Path, Node, lookup}
 use Rattle.bp_layout.specs.Lookup.Node.{dir, file}
 use Rattle.bp_layout.specs.Need.{need}
 use Rattle.bp_layout.specs.Need.Change.{enters}
-use Rattle.bp_layout.specs.Same.{Same}
-use Rattle.bp_layout.specs.WellFormed.{IsWellFormed}
 use Rattle.bp_layout.specs.Words.{Image}
 use Rattle.bp_layout.specs.declared.fields.Kind.{Kind}
 use Rattle.bp_layout.specs.declared.fields.Kind.TheVariants.{File, Dir}
@@ -17,8 +15,6 @@ use Rattle.bp_plain.specs.PlainTree.{FileTree}
 use Rattle.bp_plain.specs.Stands.{Stands}
 use Rattle.bp_calls.specs.declared.fault.CreateFault.{CreateFault}
 use Rattle.bp_calls.specs.declared.fault.CreateFault.TheVariants.{Later, NoSpace}
-use Rattle.pm_region.specs.Memory.{Memory, current_words}
-use Rattle.pm_region.specs.Safe.{AddsCommit}
 
 -- what stands at a new name
 abbrev pub empty_node : Kind → Node
@@ -31,19 +27,9 @@ pub record NeedsLeaf (image : Image) (i : ℕ) : Type 0 where
   pub some : 0 < size_of image i
   pub full : size_of image i % 4096 ≡ 0
 
--- A quiet preparation and one store alone in its epoch, by which the directory gains the name.
-pub record Creates (old new : Memory) (i : ℕ) (name : Name) (kind : Kind) : Type 0 where
-  pub word : ℕ
-  pub value : ℕ
-  pub barriers : ℕ
-  pub stores : ℕ
-  pub few : barriers + stores ≤ 63
-  pub commit : AddsCommit Same word value barriers stores old new
-  pub well_formed : IsWellFormed (current_words new)
-  pub stands : (tree : FileTree) (here : Path) → Stands (current_words old) tree → lookup (current_words old) here ≡ Some i → Stands (current_words new) (insert tree (here ++ name ∷ []) (empty_node kind))
-  pub inode : TellsFreeInode (current_words old) true
-  pub leaf : ¬ NeedsLeaf (current_words old) i
-  pub fits : (free : ℕ) → HasFree (current_words old) free → need (current_words old) (enters i true) ≤ free
+-- The directory gains the name: the second image stands for the tree with an empty file or directory there.
+abbrev pub GainsName : ℕ → Name → Kind → Image → Image → Type 0
+GainsName i name kind old new = (tree : FileTree) (here : Path) → Stands old tree → lookup old here ≡ Some i → Stands new (insert tree (here ++ name ∷ []) (empty_node kind))
 
 -- why no name is created: no inode is free, or the directory needs one more leaf, which this version can't do; or fewer blocks
 -- are free than it needs

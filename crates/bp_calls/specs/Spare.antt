@@ -1,7 +1,7 @@
 -- The words of an image that nobody reads.
 use Rattle.std.specs.Prelude.{◌≡◌, ℕ, ◌+◌, ◌*◌}
-use Rattle.bp_layout.specs.Harmless.{ContentStandsAt, IsHarmless}
-use Rattle.bp_layout.specs.Inode.{size_of}
+use Rattle.bp_layout.specs.Inode.{ContentStandsAt, size_of}
+use Rattle.bp_changes.specs.Harmless.{IsHarmless}
 use Rattle.bp_layout.specs.Words.{Image}
 
 -- any value may stand at the place

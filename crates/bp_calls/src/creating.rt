@@ -1,9 +1,11 @@
 //! New names.
 
-ghost use Rattle.std.specs.Prelude.{◌≡◌, ◌≢◌, ◌%◌, ◌<◌, ◌≤◌, [], None, IfErr, OnErr, OnOk};
-ghost use Rattle.bp_calls.specs.Created.{Creates, IsRefused};
+ghost use Rattle.std.specs.Prelude.{◌≡◌, ◌≢◌, ◌%◌, ◌<◌, ◌≤◌, [], None, ◌+◌, true, IfErr, OnErr, OnOk};
+ghost use Rattle.bp_calls.specs.Created.{GainsName, IsRefused, NeedsLeaf};
 ghost use Rattle.bp_calls.specs.Sets.{AreExact};
-ghost use Rattle.bp_calls.specs.Steps.{HasRoom};
+ghost use Rattle.bp_layout.specs.Free.{TellsFreeInode};
+ghost use Rattle.bp_layout.specs.Need.Change.{enters};
+ghost use Rattle.bp_tree.specs.Performs.{Performs};
 ghost use Rattle.bp_free.specs.Set.{IsLeast, members, without};
 ghost use Rattle.bp_layout.specs.Directory.{IsName, empty_slot, slot_named};
 ghost use Rattle.bp_layout.specs.Inode.{kind_of, size_of};
@@ -47,7 +49,6 @@ fn check_room<R: Region>(
     requires directory { kind_of (current_words (R.memory parts.now.region)) dir ≡ 2 }
     requires size { size ≡ size_of (current_words (R.memory parts.now.region)) dir }
     requires slot { slot ≡ empty_slot (current_words (R.memory parts.now.region)) dir }
-    ensures room { OnOk result (HasRoom (current_words (R.memory parts.now.region)) dir) }
     ensures inode { OnOk result (members parts.now.inodes ≢ []) }
     ensures leaf { OnOk result (slot ≡ None → 0 < size → size % 4096 ≢ 0) }
     ensures block { OnOk result (slot ≡ None → size ≡ 0 → members parts.now.blocks ≢ []) }
@@ -91,7 +92,10 @@ pub fn create<R: Region>(
     requires name { IsName name.now }
     requires new { slot_named (current_words (R.memory parts.old.region)) dir name.now ≡ None }
     requires room { 64 ≤ room_in (R.memory parts.old.region) }
-    ensures created { OnOk result (Creates (R.memory parts.old.region) (R.memory parts.new.region) dir name.now kind) }
+    ensures performs { OnOk result (Performs (R.memory parts.old.region) (R.memory parts.new.region) (enters dir true) (GainsName dir name.now kind)) }
+    ensures few { OnOk result (room_in (R.memory parts.old.region) ≤ room_in (R.memory parts.new.region) + 63) }
+    ensures inode { OnOk result (TellsFreeInode (current_words (R.memory parts.old.region)) true) }
+    ensures leaf { OnOk result (¬ NeedsLeaf (current_words (R.memory parts.old.region)) dir) }
     ensures exact { AreExact (current_words (R.memory parts.new.region)) parts.new.blocks parts.new.inodes }
     ensures refused { IfErr result (IsRefused (current_words (R.memory parts.old.region)) dir) }
     ensures same { OnErr result (parts.new ≡ parts.old) }

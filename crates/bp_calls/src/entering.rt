@@ -1,14 +1,16 @@
 //! A name and its inode in a directory: three places for its entry.
 
-ghost use Rattle.std.specs.Prelude.{◌≡◌, ◌≢◌, ◌+◌, ◌%◌, ◌*◌, ◌/◌, ◌<◌, ◌≤◌, length};
+ghost use Rattle.std.specs.Prelude.{None, Some, true, ◌≡◌, ◌≢◌, ◌+◌, ◌%◌, ◌*◌, ◌/◌, ◌<◌, ◌≤◌, length};
 ghost use Rattle.bp_calls.specs.Sets.{AreExact};
-ghost use Rattle.bp_calls.specs.Steps.{CanName, EntersName};
+ghost use Rattle.bp_calls.specs.Created.{GainsName};
+ghost use Rattle.bp_calls.specs.Steps.{CanName};
 ghost use Rattle.bp_free.specs.Set.{Set, without};
-ghost use Rattle.bp_layout.specs.Directory.{entry_count, inumber_at};
-ghost use Rattle.bp_layout.specs.Harmless.{ContentStandsAt};
-ghost use Rattle.bp_layout.specs.Inode.{kind_of, root_of, size_of};
+ghost use Rattle.bp_layout.specs.Directory.{empty_slot, entry_count, inumber_at};
+ghost use Rattle.bp_layout.specs.Inode.{ContentStandsAt, kind_of, root_of, size_of};
 ghost use Rattle.bp_layout.specs.Reached.{IsFreeBlock, IsReached};
 ghost use Rattle.bp_layout.specs.WellFormed.{IsWellFormed};
+ghost use Rattle.bp_layout.specs.Need.Change.{enters};
+ghost use Rattle.bp_tree.specs.Performs.{Performs};
 ghost use Rattle.pm_region.specs.Memory.{current_words, room_in};
 
 use crate::writing::{put_entry, put_inode, put_name};
@@ -46,8 +48,10 @@ pub(crate) fn enter_slot<R: Region>(
     requires can { CanName (current_words (R.memory region.old)) dir inode name.now }
     requires slot { slot < entry_count (current_words (R.memory region.old)) dir }
     requires empty { inumber_at (current_words (R.memory region.old)) dir slot ≡ 0 }
+    requires found { empty_slot (current_words (R.memory region.old)) dir ≡ Some slot }
     requires room { 64 ≤ room_in (R.memory region.old) }
-    ensures enters { EntersName (R.memory region.old) (R.memory region.new) dir name.now kind }
+    ensures performs { Performs (R.memory region.old) (R.memory region.new) (enters dir true) (GainsName dir name.now kind) }
+    ensures few { room_in (R.memory region.old) ≤ room_in (R.memory region.new) + 63 }
     ensures exact { (blocks inodes : Set) → AreExact (current_words (R.memory region.old)) blocks inodes → AreExact (current_words (R.memory region.new)) blocks (without inodes inode) }
 {
     let tree = tree_of(region, dir);
@@ -75,9 +79,11 @@ fn place_behind<R: Region>(region: &R, dir: u32) -> u32
 /// Names a new inode in an entry behind the last one of a directory whose last leaf is not full.
 pub(crate) fn enter_behind<R: Region>(region: &mut R, dir: u32, inode: u32, name: &[u8], kind: Kind)
     requires can { CanName (current_words (R.memory region.old)) dir inode name.now }
+    requires none { empty_slot (current_words (R.memory region.old)) dir ≡ None }
     requires not_full { size_of (current_words (R.memory region.old)) dir % 4096 ≢ 0 }
     requires room { 64 ≤ room_in (R.memory region.old) }
-    ensures enters { EntersName (R.memory region.old) (R.memory region.new) dir name.now kind }
+    ensures performs { Performs (R.memory region.old) (R.memory region.new) (enters dir true) (GainsName dir name.now kind) }
+    ensures few { room_in (R.memory region.old) ≤ room_in (R.memory region.new) + 63 }
     ensures exact { (blocks inodes : Set) → AreExact (current_words (R.memory region.old)) blocks inodes → AreExact (current_words (R.memory region.new)) blocks (without inodes inode) }
 {
     let size = tree_of(region, dir).size;
@@ -99,10 +105,12 @@ pub(crate) fn enter_first<R: Region>(
     kind: Kind,
 )
     requires can { CanName (current_words (R.memory region.old)) dir inode name.now }
-    requires none { size_of (current_words (R.memory region.old)) dir ≡ 0 }
+    requires none { empty_slot (current_words (R.memory region.old)) dir ≡ None }
+    requires empty { size_of (current_words (R.memory region.old)) dir ≡ 0 }
     requires block { IsFreeBlock (current_words (R.memory region.old)) block }
     requires room { 64 ≤ room_in (R.memory region.old) }
-    ensures enters { EntersName (R.memory region.old) (R.memory region.new) dir name.now kind }
+    ensures performs { Performs (R.memory region.old) (R.memory region.new) (enters dir true) (GainsName dir name.now kind) }
+    ensures few { room_in (R.memory region.old) ≤ room_in (R.memory region.new) + 63 }
     ensures exact { (blocks inodes : Set) → AreExact (current_words (R.memory region.old)) blocks inodes → AreExact (current_words (R.memory region.new)) (without blocks block) (without inodes inode) }
 {
     let root_place = place(region, dir, 1);

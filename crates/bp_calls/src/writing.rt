@@ -1,7 +1,7 @@
 //! Stores of a new inode, and of an entry that names it.
 
 ghost use Rattle.std.specs.Prelude.{◌≡◌, ◌+◌, ◌≤◌, length};
-ghost use Rattle.bp_calls.specs.Written.{HasInodeAt, HasNameAt, IsWithin};
+ghost use Rattle.bp_calls.specs.Written.{AddsFrom, HasInodeAt, HasNameAt, IsWithin};
 ghost use Rattle.bp_layout.specs.Fields.{kind_word};
 ghost use Rattle.bp_layout.specs.Limits.{max_name};
 ghost use Rattle.bp_layout.specs.Words.{word};
@@ -46,7 +46,7 @@ pub(crate) fn put_entry<R: Region>(region: &mut R, place: u32, inode: u32, name:
     requires in_range { place + 32 ≤ length (R.memory region.old).base }
     requires short { length name.now ≤ max_name }
     requires room { 32 ≤ room_in (R.memory region.old) }
-    ensures stores { AddsMay (AnyAt (IsWithin place 32)) 0 32 (R.memory region.old) (R.memory region.new) }
+    ensures stores { AddsFrom place 32 32 (R.memory region.old) (R.memory region.new) }
     ensures inumber { word (current_words (R.memory region.new)) place ≡ inode }
     ensures name { HasNameAt (current_words (R.memory region.new)) place name.now }
 {

@@ -5,9 +5,8 @@
 
 ghost use Rattle.std.specs.Prelude.{◌≡◌, ◌+◌, ◌*◌, ◌<◌, ◌≤◌, length};
 ghost use Rattle.bp_layout.specs.Tree.{IsFull, IsSound};
-ghost use Rattle.bp_layout.specs.Inode.{inode_count, kind_of, root_of, size_of};
+ghost use Rattle.bp_layout.specs.Inode.{ContentStandsAt, inode_count, kind_of, root_of, size_of};
 ghost use Rattle.bp_layout.specs.Fields.{kind_word};
-ghost use Rattle.bp_layout.specs.Harmless.{ContentStandsAt};
 ghost use Rattle.pm_region.specs.Memory.{current_words};
 
 use bp_layout::Inode;

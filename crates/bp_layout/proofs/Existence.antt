@@ -4,7 +4,7 @@ use Rattle.std.specs.List.{range_with_len, flat_map}
 use Rattle.std.specs.List.{IsDistinct, AllByRecursion, list_any}
 use Rattle.std.proofs.lemmas.Bool.{cases_eq, eqb-true}
 use Rattle.std.proofs.lemmas.Map.Steps.{length-le_from_distinct_below}
-use Rattle.bp_layout.proofs.Frame.{reached-in_file}
+use Rattle.bp_layout.proofs.Reached.{reached-in_file}
 use Rattle.bp_layout.proofs.View.{lookup_from-reached}
 use Rattle.bp_layout.specs.Words.{Image}
 use Rattle.bp_layout.specs.Inode.{size_of, inode_count}

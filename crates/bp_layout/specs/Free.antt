@@ -1,10 +1,9 @@
 -- The free blocks and inodes of an image. A set of numbers is told by a test of each number.
-use Rattle.std.specs.Prelude.{◌≡◌, List, ℕ, ◌<◌, ◌≤◌, length, filter, Bool, true, false}
+use Rattle.std.specs.Prelude.{◌≡◌, List, ℕ, ◌<◌, ◌≤◌, length, filter, Bool, true}
 use Rattle.std.specs.List.{range_with_len}
 use Rattle.bp_layout.specs.Words.{Image, block_count}
 use Rattle.bp_layout.specs.Inode.{inode_count}
 use Rattle.bp_layout.specs.Reached.{IsReached, IsFreeBlock}
-use Rattle.bp_layout.specs.Trail.{Trail, LeadsTo}
 
 pub record IsFreeInode (image : Image) (i : ℕ) : Type 0 where
   pub low : 2 ≤ i
@@ -35,9 +34,3 @@ pub record HasFree (image : Image) (count : ℕ) : Type 0 where
 pub record TellsFreeInode (image : Image) (free : Bool) : Type 0 where
   pub some : free ≡ true → (i : ℕ) × IsFreeInode image i
   pub none : (i : ℕ) → IsFreeInode image i → free ≡ true
-
--- the set has just the blocks to which no pointer of these trails leads
-pub record IsExactSet (image : Image) (Pointer : Trail → Type 0) (free : ℕ → Bool) : Type 0 where
-  pub live : (b : ℕ) → LeadsTo image Pointer b → free b ≡ false
-  pub dead : (b : ℕ) → 1 ≤ b → b < block_count image → (LeadsTo image Pointer b → ⊥) → free b ≡ true
-  pub in_range : (b : ℕ) → free b ≡ true → (1 ≤ b) × (b < block_count image)

@@ -1,7 +1,7 @@
 -- The trees of an image have numbers: 0 is the inode file, and any other number is an inode's.
-use Rattle.std.specs.Prelude.{ℕ, zero, suc, ◌+◌, ◌*◌, ◌/◌}
-use Rattle.bp_layout.specs.Words.{Image, word}
-use Rattle.bp_layout.specs.Tree.{content_word}
+use Rattle.std.specs.Prelude.{◌≡◌, ◌≢◌, ℕ, zero, suc, ◌+◌, ◌*◌, ◌/◌, ◌%◌}
+use Rattle.bp_layout.specs.Words.{Image, word, height_of}
+use Rattle.bp_layout.specs.Tree.{node, content_word}
 
 -- word f of inode i, a word of the inode file's content
 abbrev pub inode_word : Image → ℕ → ℕ → ℕ
@@ -22,3 +22,17 @@ size_of image (suc i) = inode_word image (suc i) 2
 
 abbrev pub inode_count : Image → ℕ
 inode_count image = size_of image 0 / 64
+
+-- word `index` at `depth` + 1 of tree t stands at this place
+pub record StandsAt (image : Image) (t depth index place : ℕ) : Type 0 where
+  pub present : node image (root_of image t) depth (index / 512) ≢ 0
+  pub at : 512 * node image (root_of image t) depth (index / 512) + index % 512 ≡ place
+
+-- the same of a word of its content
+abbrev pub ContentStandsAt : Image → ℕ → ℕ → ℕ → Type 0
+ContentStandsAt image t index place = StandsAt image t (height_of (root_of image t)) index place
+
+-- the place of the root word of a tree
+pub data RootPlace (image : Image) : ℕ → ℕ → Type 0 where
+  top : {t place : ℕ} → t ≡ 0 → place ≡ 2 → RootPlace image t place
+  inode : {t place : ℕ} → t ≢ 0 → ContentStandsAt image 0 (8 * t + 1) place → RootPlace image t place

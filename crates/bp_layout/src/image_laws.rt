@@ -4,11 +4,9 @@ ghost use Rattle.std.specs.Prelude.{None, Some, [], ℕ, ◌*◌, ◌∷◌, ◌
 ghost use Rattle.bp_layout.specs.Checks.{IsFormatted, NoneFails};
 ghost use Rattle.bp_layout.specs.Directory.{Name};
 ghost use Rattle.bp_layout.specs.Format.{formatted};
-ghost use Rattle.bp_layout.specs.Harmless.{Agrees};
 ghost use Rattle.bp_layout.specs.Limits.{max_blocks, min_blocks};
 ghost use Rattle.bp_layout.specs.Lookup.{Path, lookup, shown};
 ghost use Rattle.bp_layout.specs.Lookup.Node.{dir};
-ghost use Rattle.bp_layout.specs.Same.{Same};
 ghost use Rattle.bp_layout.specs.WellFormed.{IsWellFormed};
 
 /// An image is well formed exactly where it is formatted and no check fails at any place.
@@ -24,13 +22,6 @@ pub fn format_shows_the_root(image: &[u64], blocks: u64)
     ensures well_formed { IsWellFormed (formatted image.now blocks) }
     ensures root { shown (formatted image.now blocks) [] ≡ Some dir }
     ensures alone { (name : Name) (path : Path) → shown (formatted image.now blocks) (name ∷ path) ≡ None }
-{}
-
-/// Words that may all stand in a well-formed image make one that is well formed and shows the same at each path.
-pub fn harmless_words_show_the_same(old: &[u64], new: &[u64])
-    requires well_formed { IsWellFormed old.now }
-    requires agrees { Agrees old.now new.now }
-    ensures { Same old.now new.now }
 {}
 
 /// In a well-formed image an inode stands at one path.

@@ -16,7 +16,7 @@ use Rattle.bp_layout.specs.Free.{AreFreeBlocks, AreFreeInodes}
 use Rattle.bp_layout.specs.Inode.{kind_of, size_of, inode_count}
 use Rattle.bp_layout.specs.Reached.{IsReached}
 use Rattle.bp_layout.specs.WellFormed.{IsWellFormed}
-use Rattle.bp_layout.proofs.Frame.{reached-in_file}
+use Rattle.bp_layout.proofs.Reached.{reached-in_file}
 use Rattle.bp_walk.proofs.TakenLaws.{clash, known}
 use Rattle.bp_scan.specs.Counted.{HasCounted, used_below}
 use Rattle.bp_scan.specs.Totals.{AreReached, HasLive, HasTotals, of_kind, file_bytes}

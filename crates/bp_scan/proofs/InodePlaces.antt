@@ -2,8 +2,7 @@
 use Rattle.std.proofs.Common.{◌≡◌, ◌≢◌, ℕ, zero, suc, ◌+◌, ◌*◌, ◌/◌, ◌%◌, ◌<◌, ◌≤◌, Bool, false, length, refl, sym, ◌∙◌, ap, subst, arith}
 use Rattle.bp_layout.specs.Words.{Image, word, block_count, height_of}
 use Rattle.bp_layout.specs.Tree.{node}
-use Rattle.bp_layout.specs.Inode.{inode_word, root_of}
-use Rattle.bp_layout.specs.Harmless.{ContentStandsAt}
+use Rattle.bp_layout.specs.Inode.{inode_word, root_of, ContentStandsAt}
 use Rattle.bp_layout.specs.Checks.{inode_place, size_place}
 use Rattle.bp_walk.proofs.Places.{word_below}
 use Rattle.bp_scan.specs.Inodes.{AreWords, IsRight, IsWrong, EntersInode, FailsInode}

@@ -4,6 +4,7 @@ pub mod ContentParts
 pub mod Digits
 pub mod NextSlot
 pub mod PathLaws
+pub mod PerformsLaws
 pub mod Ranges
 pub mod NullLeaves
 pub mod RegionWords

@@ -6,6 +6,7 @@
 
 pub mod counts;
 mod descent;
+pub mod laws;
 pub mod nulls;
 pub mod paths;
 pub mod reading;

@@ -13,7 +13,7 @@ use Rattle.bp_layout.specs.Reached.{IsReached}
 use Rattle.bp_layout.specs.Lookup.{Path, lookup}
 use Rattle.bp_layout.specs.Lookup.Node.{dir, file}
 use Rattle.bp_layout.specs.declared.fields.Kind.{Kind}
-use Rattle.bp_layout.proofs.Frame.{reached-in_file}
+use Rattle.bp_layout.proofs.Reached.{reached-in_file}
 use Rattle.bp_plain.specs.PlainTree.{FileTree}
 use Rattle.bp_plain.specs.Stands.{Stands}
 use Rattle.bp_plain.specs.Calls.{Answer, Refusal}

@@ -84,7 +84,7 @@ module _ (image : Image) (path : Path) (below : path ≢ []) (i : ℕ) (parent :
     create_goes missing = refusals-name ∙ ap (λ o. first (when (is_some o) exists ∷ [])) (get-name ∙ ap (λ o. option_map (node_of image) (option_map (inumber_at image i) o)) missing)
 
 module _ (image : Image) (text : List ℕ) (i : ℕ) (name : Name) (names : NamesNew image text i name) where
-  new_here : NewIn image text i name
+  pub new_here : NewIn image text i name
   new_here = record { path = names.path; parsed = names.parsed; parent = names.new.parent; last = names.new.last; missing = names.new.missing }
 
   not_refused : (tree : FileTree) → Stands image tree → refusal tree (create text) ≡ None

@@ -1,18 +1,19 @@
 -- A call on a file, from its parts.
-use Rattle.std.proofs.Common.{◌≡◌, ℕ, [], ◌∷◌, ◌++◌, true, false, refl, sym, ◌∙◌, ap}
+use Rattle.std.proofs.Common.{◌≡◌, ℕ, [], ◌∷◌, ◌++◌, true, false, refl, sym, ◌∙◌, ap, subst}
 use Rattle.pm_epochs.specs.declared.event.Event.TheVariants.{Mark}
-use Rattle.pm_epochs.specs.Crash.{IsPartialEquivalence, commit}
+use Rattle.pm_epochs.specs.Crash.{IsPartialEquivalence}
+use Rattle.bp_tree.specs.Performs.{IsShort}
+use Rattle.bp_tree.proofs.PerformsLaws.{performed, performs_short, performs_unmarked, performs_adds, performs_safe}
 use Rattle.pm_region.specs.Memory.{Memory, current_words, with_room, drained, Adds}
-use Rattle.pm_region.specs.Safe.{IsSafe, AddsCommit}
+use Rattle.pm_region.specs.Safe.{IsSafe}
 use Rattle.pm_region.proofs.MemoryLaws.{adds_both, current_words-adds, capacity-adds, current_words-with_room}
-use Rattle.pm_region.proofs.SafeLaws.{safe_mark, safe_drained, safe_committed}
+use Rattle.pm_region.proofs.SafeLaws.{safe_mark, safe_drained}
 use Rattle.bp_free.specs.Set.{Set}
 use Rattle.bp_layout.specs.Same.{Same}
-use Rattle.bp_plain.specs.PlainTree.{FileTree}
-use Rattle.bp_plain.specs.Stands.{Stands}
 use Rattle.bp_plain.specs.Calls.{Call, Answer}
-use Rattle.bp_volume.specs.Step.{Steps}
-use Rattle.bp_volume.specs.FileCall.{FileCall, has_changed, call_room}
+use Rattle.bp_volume.specs.Created.{Changes, PerformsCall}
+use Rattle.bp_volume.specs.Step.{IsChange}
+use Rattle.bp_volume.specs.FileCall.{FileCall, call_room}
 use Rattle.bp_volume.specs.Told.{Tells}
 use Rattle.bp_volume.specs.Volume.{IsVolume}
 
@@ -53,24 +54,27 @@ file_call_unchanged old middle new call answer room safe adds tells =
       adds = rw room at adds;
       step = λ tree stands. rw words (told tree stands).1;
       silent = λ tree stands none. refl;
+      short = λ tree stands changed. absurd (let both : true ≡ false = sym changed ∙ (told tree stands).0 in cc);
       right = (safe_mark Same same-equivalence middle new safe adds).right;
     }
 
 -- a call that changes the tree: a preparation, one store alone in its epoch, and its mark
-pub file_call_changed : (old middle committed new : Memory) (call : Call) (answer : Answer) (word value barriers stores : ℕ) → middle ≡ with_room call_room old → IsSafe Same middle →
-    AddsCommit Same word value barriers stores middle committed → Adds committed new (Mark ∷ []) →
-    ((tree : FileTree) → Stands (current_words middle) tree → (has_changed tree call answer ≡ true) × Steps (current_words middle) tree call answer (current_words committed)) →
-    Same (current_words committed) (current_words committed) → FileCall old call answer new
-file_call_changed old middle committed new call answer word value barriers stores room safe done ends step well =
-    let events = done.prepared ++ commit word value in
+pub file_call_changed : (old middle committed new : Memory) (call : Call) (answer : Answer) → middle ≡ with_room call_room old → IsSafe Same middle → PerformsCall middle call answer committed →
+    Adds committed new (Mark ∷ []) → FileCall old call answer new
+file_call_changed old middle committed new call answer room safe does ends =
+    let events = performed middle committed does.change (Changes call answer) does.performs in
     let before : current_words middle ≡ current_words old = ap current_words room ∙ current_words-with_room call_room old in
     let words : current_words new ≡ current_words committed = current_words-adds committed new (Mark ∷ []) ends in
-    let told : (tree : FileTree) → Stands (current_words old) tree → (has_changed tree call answer ≡ true) × Steps (current_words old) tree call answer (current_words committed) = rw before at step in
+    let told : Changes call answer (current_words old) (current_words committed) = rw before at does.performs.effect in
+    let change : IsChange (current_words old) call does.change = rw before at does.is in
+    let short : IsShort (current_words old) (current_words committed) does.change events =
+    subst (λ w. IsShort w (current_words committed) does.change events) before (performs_short middle committed does.change (Changes call answer) does.performs) in
     record {
       added = events;
-      unmarked = done.piece.unmarked;
-      adds = rw room at (adds_both middle committed new events (Mark ∷ []) done.adds ends);
+      unmarked = performs_unmarked middle committed does.change (Changes call answer) does.performs;
+      adds = subst (λ memory. Adds memory new (events ++ Mark ∷ [])) room (adds_both middle committed new events (Mark ∷ []) (performs_adds middle committed does.change (Changes call answer) does.performs) ends);
       step = λ tree stands. rw words (told tree stands).1;
       silent = λ tree stands none. absurd (let both : true ≡ false = sym (told tree stands).0 ∙ none in cc);
-      right = (safe_committed Same same-equivalence word value barriers stores middle committed new safe done ends (rw words well)).right;
+      short = λ tree stands changed. record { change = does.change; is = change; short = rw words short };
+      right = (performs_safe middle committed does.change (Changes call answer) does.performs new safe ends).right;
     }

@@ -9,7 +9,7 @@ use Rattle.bp_calls.proofs.FreeCounts.{free_members, free_once}
 use Rattle.bp_free.specs.Set.{Set, has, members}
 use Rattle.bp_layout.specs.Free.{HasFree}
 use Rattle.bp_layout.specs.WellFormed.{IsWellFormed}
-use Rattle.bp_layout.specs.Words.{Image, block_count}
+use Rattle.bp_layout.specs.Words.{Image}
 use Rattle.bp_scan.specs.Totals.{HasLive}
 
 module _ (image : Image) (wf : IsWellFormed image) (blocks inodes : Set) (exact : AreExact image blocks inodes) where

@@ -1,23 +1,28 @@
--- What a call that creates a file does to a region before its mark.
+-- What a call that changes the tree does to a region before its mark.
 use Rattle.std.specs.Prelude.{◌≡◌, ◌≤◌, ◌+◌, ℕ, List, true}
-use Rattle.pm_region.specs.Memory.{Memory, current_words}
-use Rattle.pm_region.specs.Safe.{AddsCommit}
-use Rattle.bp_layout.specs.Same.{Same}
+use Rattle.pm_region.specs.Memory.{Memory, current_words, room_in}
+use Rattle.bp_layout.specs.Need.{Change}
+use Rattle.bp_layout.specs.Words.{Image}
 use Rattle.bp_plain.specs.PlainTree.{FileTree}
 use Rattle.bp_plain.specs.Stands.{Stands}
+use Rattle.bp_plain.specs.Calls.{Call, Answer}
 use Rattle.bp_plain.specs.Calls.Call.{create}
 use Rattle.bp_plain.specs.Calls.Answer.{done}
-use Rattle.bp_layout.specs.WellFormed.{IsWellFormed}
-use Rattle.bp_volume.specs.Step.{Steps}
+use Rattle.bp_tree.specs.Performs.{Performs}
+use Rattle.bp_volume.specs.Step.{Steps, IsChange}
 use Rattle.bp_volume.specs.FileCall.{has_changed}
 
--- a quiet preparation and one store alone in its epoch, by which the image is that of the tree with the new file
+-- the call with this answer changes the tree for which the first image stands, and is a step to the second
+abbrev pub Changes : Call → Answer → Image → Image → Type 0
+Changes call answer image new = (tree : FileTree) → Stands image tree → (has_changed tree call answer ≡ true) × Steps image tree call answer new
+
+-- the call makes one change of the image, and is that step by it
+pub record PerformsCall (old : Memory) (call : Call) (answer : Answer) (new : Memory) : Type 0 where
+  pub change : Change
+  pub is : IsChange (current_words old) call change
+  pub performs : Performs old new change (Changes call answer)
+
+-- a new file, with few events
 pub record CreatesFile (old : Memory) (text : List ℕ) (new : Memory) : Type 0 where
-  pub word : ℕ
-  pub value : ℕ
-  pub barriers : ℕ
-  pub stores : ℕ
-  pub few : barriers + stores ≤ 64
-  pub commit : AddsCommit Same word value barriers stores old new
-  pub step : (tree : FileTree) → Stands (current_words old) tree → (has_changed tree (create text) done ≡ true) × Steps (current_words old) tree (create text) done (current_words new)
-  pub well_formed : IsWellFormed (current_words new)
+  pub does : PerformsCall old (create text) done new
+  pub few : room_in old ≤ room_in new + 63

@@ -11,7 +11,10 @@ use Rattle.bp_plain.specs.Stands.{Stands}
 use Rattle.bp_plain.specs.Calls.{Call, Answer}
 use Rattle.bp_plain.specs.Calls.Answer.{refused}
 use Rattle.bp_plain.specs.Plain.{is_changing}
-use Rattle.bp_volume.specs.Step.{Step}
+use Rattle.bp_layout.specs.Need.{Change}
+use Rattle.bp_layout.specs.Words.{Image}
+use Rattle.bp_tree.specs.Performs.{IsShort}
+use Rattle.bp_volume.specs.Step.{Step, IsChange}
 
 abbrev pub is_refused : Answer → Bool
 is_refused (refused why) = true
@@ -25,12 +28,19 @@ has_changed tree call answer = is_changing tree call && not (is_refused answer)
 abbrev pub call_room : ℕ
 call_room = 65536
 
+-- the call made this change, at no more than it costs
+pub record IsShortCall (image : Image) (call : Call) (new : Image) (events : List Event) : Type 0 where
+  pub change : Change
+  pub is : IsChange image call change
+  pub short : IsShort image new change events
+
 -- A call on a file: the answer and the new image are a step, the log got the call's events and then its mark, a call that
--- changes nothing has no events, and a crash at any moment leaves what some calls left.
+-- changes nothing has no events, one that changes the tree costs no more than it must, and a crash at any moment leaves what some calls left.
 pub record FileCall (old : Memory) (call : Call) (answer : Answer) (new : Memory) : Type 0 where
   pub added : List Event
   pub unmarked : marks added ≡ 0
   pub adds : Adds (with_room call_room old) new (added ++ Mark ∷ [])
   pub step : Step (current_words old) call answer (current_words new)
   pub silent : (tree : FileTree) → Stands (current_words old) tree → has_changed tree call answer ≡ false → added ≡ []
+  pub short : (tree : FileTree) → Stands (current_words old) tree → has_changed tree call answer ≡ true → IsShortCall (current_words old) call (current_words new) added
   pub right : CrashRight Same new.base new.events

@@ -4,9 +4,9 @@ use Rattle.pm_region.specs.Memory.{current_words}
 use Rattle.pm_region.proofs.MemoryLaws.{length-current_words}
 use Rattle.bp_layout.specs.Inode.{root_of, size_of}
 use Rattle.bp_layout.specs.Reached.IsReached.{inode_file}
-use Rattle.bp_layout.proofs.Frame.{reached-in_file}
+use Rattle.bp_layout.proofs.Reached.{reached-in_file}
 use Rattle.bp_calls.specs.Written.{IsWithin}
-use Rattle.bp_calls.proofs.AtEnd.{end_enters, end_exact}
+use Rattle.bp_calls.proofs.AtEnd.{end_performs, end_few, end_exact}
 use Rattle.bp_calls.proofs.Rooms.{base_after, room_after, inode_in_range, size_small}
 use Rattle.bp_calls.proofs.entering.enter_behind.Goals as goal
 
@@ -44,26 +44,33 @@ pub commit_word-requires-clause-in_range : goal.commit_word-requires-clause-in_r
 commit_word-requires-clause-in_range g c =
     let memory = g.R.Region.memory in
     let same = base_after (AnyAt (IsWithin c.place-at.result 3)) 3 (memory c.args.region.now) (memory c.put_inode.new.region) c.put_inode.ensures.stores in
-    let also = base_after _ 32 (memory c.put_inode.new.region) (memory c.put_entry.new.region) c.put_entry.ensures.stores in
+    let also = base_after _ 32 (memory c.put_inode.new.region) (memory c.put_entry.new.region) c.put_entry.ensures.stores.part in
     omega (arith, c.place-size_place.ensures.in_range, length-current_words (memory c.args.region.now), same, also)
 
 pub commit_word-requires-clause-room : goal.commit_word-requires-clause-room
 commit_word-requires-clause-room g c =
     let memory = g.R.Region.memory in
     let left = room_after (AnyAt (IsWithin c.place-at.result 3)) 3 (memory c.args.region.now) (memory c.put_inode.new.region) c.put_inode.ensures.stores in
-    let less = room_after _ 32 (memory c.put_inode.new.region) (memory c.put_entry.new.region) c.put_entry.ensures.stores in
+    let less = room_after _ 32 (memory c.put_inode.new.region) (memory c.put_entry.new.region) c.put_entry.ensures.stores.part in
     omega (arith, c.requires.room, left, less)
 
-pub returns-clause-enters : goal.returns-clause-enters
-returns-clause-enters g c =
+pub returns-clause-performs : goal.returns-clause-performs
+returns-clause-performs g c =
     let memory = g.R.Region.memory in
-    end_enters (memory c.args.region.now) (memory c.put_inode.new.region) (memory c.put_entry.new.region) (memory c.commit_word.new.region) c.args.dir c.args.inode c.place-at.result c.place_behind-entry.result c.place-size_place.result c.args.name.now c.args.kind
-    c.requires.can c.requires.not_full c.place-at.ensures.place c.place_behind-entry.ensures.place c.place-size_place.ensures.place
-    c.put_inode.ensures.stores c.put_inode.ensures.inode c.put_entry.ensures.stores c.put_entry.ensures.inumber c.put_entry.ensures.name (rw c.tree_of-size.ensures.size at c.commit_word.ensures)
+    end_performs (memory c.args.region.now) (memory c.put_inode.new.region) (memory c.put_entry.new.region) (memory c.commit_word.new.region) c.args.dir c.args.inode c.place-at.result c.place_behind-entry.result c.place-size_place.result c.args.name.now c.args.kind
+    c.requires.can c.requires.none c.requires.not_full c.place-at.ensures.place c.place_behind-entry.ensures.place c.place-size_place.ensures.place
+    c.put_inode.ensures.stores c.put_inode.ensures.inode c.put_entry.ensures.stores.part c.put_entry.ensures.inumber c.put_entry.ensures.name (rw c.tree_of-size.ensures.size at c.commit_word.ensures)
+
+pub returns-clause-few : goal.returns-clause-few
+returns-clause-few g c =
+    let memory = g.R.Region.memory in
+    end_few (memory c.args.region.now) (memory c.put_inode.new.region) (memory c.put_entry.new.region) (memory c.commit_word.new.region) c.args.dir c.args.inode c.place-at.result c.place_behind-entry.result c.place-size_place.result c.args.name.now c.args.kind
+    c.requires.can c.requires.none c.requires.not_full c.place-at.ensures.place c.place_behind-entry.ensures.place c.place-size_place.ensures.place
+    c.put_inode.ensures.stores c.put_inode.ensures.inode c.put_entry.ensures.stores.part c.put_entry.ensures.inumber c.put_entry.ensures.name (rw c.tree_of-size.ensures.size at c.commit_word.ensures)
 
 pub returns-clause-exact : goal.returns-clause-exact
 returns-clause-exact g c =
     let memory = g.R.Region.memory in
     end_exact (memory c.args.region.now) (memory c.put_inode.new.region) (memory c.put_entry.new.region) (memory c.commit_word.new.region) c.args.dir c.args.inode c.place-at.result c.place_behind-entry.result c.place-size_place.result c.args.name.now c.args.kind
-    c.requires.can c.requires.not_full c.place-at.ensures.place c.place_behind-entry.ensures.place c.place-size_place.ensures.place
-    c.put_inode.ensures.stores c.put_inode.ensures.inode c.put_entry.ensures.stores c.put_entry.ensures.inumber c.put_entry.ensures.name (rw c.tree_of-size.ensures.size at c.commit_word.ensures)
+    c.requires.can c.requires.none c.requires.not_full c.place-at.ensures.place c.place_behind-entry.ensures.place c.place-size_place.ensures.place
+    c.put_inode.ensures.stores c.put_inode.ensures.inode c.put_entry.ensures.stores.part c.put_entry.ensures.inumber c.put_entry.ensures.name (rw c.tree_of-size.ensures.size at c.commit_word.ensures)

@@ -3,9 +3,9 @@ use Rattle.pm_epochs.specs.May.{AnyAt}
 use Rattle.pm_region.specs.Memory.{current_words}
 use Rattle.pm_region.proofs.MemoryLaws.{length-current_words}
 use Rattle.bp_layout.specs.Reached.IsReached.{inode_file}
-use Rattle.bp_layout.proofs.Frame.{reached-in_file}
+use Rattle.bp_layout.proofs.Reached.{reached-in_file}
 use Rattle.bp_calls.specs.Written.{IsWithin}
-use Rattle.bp_calls.proofs.InFirst.{first_enters, first_exact}
+use Rattle.bp_calls.proofs.InFirst.{first_performs, first_few, first_exact}
 use Rattle.bp_calls.proofs.Rooms.{base_after, room_after, inode_in_range}
 use Rattle.bp_calls.proofs.Writes.{base_stays, room_less}
 use Rattle.bp_calls.proofs.entering.enter_first.Goals as goal
@@ -53,7 +53,7 @@ commit_word-requires-clause-in_range g c =
     let memory = g.R.Region.memory in
     let one = base_stays (memory c.args.region.now) (memory c.store.new.self) _ _ c.store.ensures in
     let two = base_after (AnyAt (IsWithin c.place-at.result 3)) 3 (memory c.store.new.self) (memory c.put_inode.new.region) c.put_inode.ensures.stores in
-    let three = base_after _ 32 (memory c.put_inode.new.region) (memory c.put_entry.new.region) c.put_entry.ensures.stores in
+    let three = base_after _ 32 (memory c.put_inode.new.region) (memory c.put_entry.new.region) c.put_entry.ensures.stores.part in
     omega (arith, c.place-size_place.ensures.in_range, length-current_words (memory c.args.region.now), one, two, three)
 
 pub commit_word-requires-clause-room : goal.commit_word-requires-clause-room
@@ -61,16 +61,25 @@ commit_word-requires-clause-room g c =
     let memory = g.R.Region.memory in
     let one = room_less (memory c.args.region.now) (memory c.store.new.self) _ _ c.store.ensures in
     let two = room_after (AnyAt (IsWithin c.place-at.result 3)) 3 (memory c.store.new.self) (memory c.put_inode.new.region) c.put_inode.ensures.stores in
-    let three = room_after _ 32 (memory c.put_inode.new.region) (memory c.put_entry.new.region) c.put_entry.ensures.stores in
+    let three = room_after _ 32 (memory c.put_inode.new.region) (memory c.put_entry.new.region) c.put_entry.ensures.stores.part in
     omega (arith, c.requires.room, one, two, three)
 
-pub returns-clause-enters : goal.returns-clause-enters
-returns-clause-enters g c =
+pub returns-clause-performs : goal.returns-clause-performs
+returns-clause-performs g c =
     let memory = g.R.Region.memory in
     let low : c.place-root_place.result < length (memory c.args.region.now).base = omega (arith, c.place-root_place.ensures.in_range, length-current_words (memory c.args.region.now)) in
-    first_enters (memory c.args.region.now) (memory c.store.new.self) (memory c.put_inode.new.region) (memory c.put_entry.new.region) (memory c.commit_word.new.region) c.args.dir c.args.inode c.args.block
+    first_performs (memory c.args.region.now) (memory c.store.new.self) (memory c.put_inode.new.region) (memory c.put_entry.new.region) (memory c.commit_word.new.region) c.args.dir c.args.inode c.args.block
     c.place-at.result c.place-root_place.result c.place-size_place.result c.args.name.now c.args.kind
-    c.requires.can c.requires.none c.requires.block low c.place-at.ensures.place c.place-root_place.ensures.place c.place-size_place.ensures.place (rw c.from.ensures at c.store.ensures)
+    c.requires.can c.requires.none c.requires.empty c.requires.block low c.place-at.ensures.place c.place-root_place.ensures.place c.place-size_place.ensures.place (rw c.from.ensures at c.store.ensures)
+    c.put_inode.ensures.stores c.put_inode.ensures.inode c.put_entry.ensures.stores c.put_entry.ensures.inumber c.put_entry.ensures.name c.commit_word.ensures
+
+pub returns-clause-few : goal.returns-clause-few
+returns-clause-few g c =
+    let memory = g.R.Region.memory in
+    let low : c.place-root_place.result < length (memory c.args.region.now).base = omega (arith, c.place-root_place.ensures.in_range, length-current_words (memory c.args.region.now)) in
+    first_few (memory c.args.region.now) (memory c.store.new.self) (memory c.put_inode.new.region) (memory c.put_entry.new.region) (memory c.commit_word.new.region) c.args.dir c.args.inode c.args.block
+    c.place-at.result c.place-root_place.result c.place-size_place.result c.args.name.now c.args.kind
+    c.requires.can c.requires.none c.requires.empty c.requires.block low c.place-at.ensures.place c.place-root_place.ensures.place c.place-size_place.ensures.place (rw c.from.ensures at c.store.ensures)
     c.put_inode.ensures.stores c.put_inode.ensures.inode c.put_entry.ensures.stores c.put_entry.ensures.inumber c.put_entry.ensures.name c.commit_word.ensures
 
 pub returns-clause-exact : goal.returns-clause-exact
@@ -79,5 +88,5 @@ returns-clause-exact g c =
     let low : c.place-root_place.result < length (memory c.args.region.now).base = omega (arith, c.place-root_place.ensures.in_range, length-current_words (memory c.args.region.now)) in
     first_exact (memory c.args.region.now) (memory c.store.new.self) (memory c.put_inode.new.region) (memory c.put_entry.new.region) (memory c.commit_word.new.region) c.args.dir c.args.inode c.args.block
     c.place-at.result c.place-root_place.result c.place-size_place.result c.args.name.now c.args.kind
-    c.requires.can c.requires.none c.requires.block low c.place-at.ensures.place c.place-root_place.ensures.place c.place-size_place.ensures.place (rw c.from.ensures at c.store.ensures)
+    c.requires.can c.requires.none c.requires.empty c.requires.block low c.place-at.ensures.place c.place-root_place.ensures.place c.place-size_place.ensures.place (rw c.from.ensures at c.store.ensures)
     c.put_inode.ensures.stores c.put_inode.ensures.inode c.put_entry.ensures.stores c.put_entry.ensures.inumber c.put_entry.ensures.name c.commit_word.ensures

@@ -3,7 +3,7 @@ use Rattle.pm_epochs.specs.May.{AnyAt}
 use Rattle.pm_region.specs.Memory.{current_words}
 use Rattle.bp_layout.specs.Reached.IsReached.{inode_file}
 use Rattle.bp_calls.specs.Written.{IsWithin}
-use Rattle.bp_calls.proofs.InSlot.{slot_enters, slot_exact, entry_stands}
+use Rattle.bp_calls.proofs.InSlot.{slot_performs, slot_few, slot_exact, entry_stands}
 use Rattle.bp_calls.proofs.Rooms.{base_after, room_after, row_in_range, inode_in_range}
 use Rattle.bp_calls.proofs.entering.enter_slot.Goals as goal
 
@@ -43,11 +43,19 @@ commit_word-requires-clause-room g c =
     let less = room_after _ 31 (memory c.put_inode.new.region) (memory c.put_name.new.region) c.put_name.ensures.stores in
     omega (arith, c.requires.room, left, less)
 
-pub returns-clause-enters : goal.returns-clause-enters
-returns-clause-enters g c =
+pub returns-clause-performs : goal.returns-clause-performs
+returns-clause-performs g c =
     let memory = g.R.Region.memory in
-    slot_enters (memory c.args.region.now) (memory c.put_inode.new.region) (memory c.put_name.new.region) (memory c.commit_word.new.region) c.args.dir c.args.slot c.args.inode c.place-at.result c.entry_place-entry.result c.args.name.now c.args.kind
-    c.requires.can c.requires.slot c.requires.empty c.place-at.ensures.place
+    slot_performs (memory c.args.region.now) (memory c.put_inode.new.region) (memory c.put_name.new.region) (memory c.commit_word.new.region) c.args.dir c.args.slot c.args.inode c.place-at.result c.entry_place-entry.result c.args.name.now c.args.kind
+    c.requires.can c.requires.slot c.requires.empty c.requires.found c.place-at.ensures.place
+    (entry_stands (current_words (memory c.args.region.now)) c.args.dir c.args.slot c.entry_place-entry.result c.tree_of-tree.result.root c.tree_of-tree.ensures.root c.entry_place-entry.ensures.place c.entry_place-entry.ensures.present)
+    c.put_inode.ensures.stores c.put_inode.ensures.inode c.put_name.ensures.stores c.put_name.ensures.name (rw c.from.ensures at c.commit_word.ensures)
+
+pub returns-clause-few : goal.returns-clause-few
+returns-clause-few g c =
+    let memory = g.R.Region.memory in
+    slot_few (memory c.args.region.now) (memory c.put_inode.new.region) (memory c.put_name.new.region) (memory c.commit_word.new.region) c.args.dir c.args.slot c.args.inode c.place-at.result c.entry_place-entry.result c.args.name.now c.args.kind
+    c.requires.can c.requires.slot c.requires.empty c.requires.found c.place-at.ensures.place
     (entry_stands (current_words (memory c.args.region.now)) c.args.dir c.args.slot c.entry_place-entry.result c.tree_of-tree.result.root c.tree_of-tree.ensures.root c.entry_place-entry.ensures.place c.entry_place-entry.ensures.present)
     c.put_inode.ensures.stores c.put_inode.ensures.inode c.put_name.ensures.stores c.put_name.ensures.name (rw c.from.ensures at c.commit_word.ensures)
 
@@ -55,6 +63,6 @@ pub returns-clause-exact : goal.returns-clause-exact
 returns-clause-exact g c =
     let memory = g.R.Region.memory in
     slot_exact (memory c.args.region.now) (memory c.put_inode.new.region) (memory c.put_name.new.region) (memory c.commit_word.new.region) c.args.dir c.args.slot c.args.inode c.place-at.result c.entry_place-entry.result c.args.name.now c.args.kind
-    c.requires.can c.requires.slot c.requires.empty c.place-at.ensures.place
+    c.requires.can c.requires.slot c.requires.empty c.requires.found c.place-at.ensures.place
     (entry_stands (current_words (memory c.args.region.now)) c.args.dir c.args.slot c.entry_place-entry.result c.tree_of-tree.result.root c.tree_of-tree.ensures.root c.entry_place-entry.ensures.place c.entry_place-entry.ensures.present)
     c.put_inode.ensures.stores c.put_inode.ensures.inode c.put_name.ensures.stores c.put_name.ensures.name (rw c.from.ensures at c.commit_word.ensures)

@@ -1,0 +1,303 @@
+-- The whole preparation of a tree with blocks: nobody sees it, and the tree is ready.
+use Rattle.std.proofs.Common.{◌≡◌, ◌≢◌, ℕ, suc, ◌+◌, ◌-◌, ◌*◌, ◌/◌, ◌%◌, ◌<◌, ◌≤◌, List, [], ◌∷◌, ◌++◌, length, min, set, get_or, refl, sym, ◌∙◌, ap, subst, subst₂, arith, rules, inl, inr, get_or-set_other, le_trans}
+use Rattle.bp_layout.specs.Words.{Image, block_of, height_of}
+use Rattle.bp_layout.specs.Tree.{node, span, IsLivePointer, HasBlock, IsFull}
+use Rattle.bp_layout.specs.Inode.{root_of, size_of, RootPlace, StandsAt}
+use Rattle.bp_layout.specs.Reached.{IsReached, IsLiveBlock}
+use Rattle.bp_layout.specs.WellFormed.{IsWellFormed}
+use Rattle.bp_layout.specs.Same.{Same}
+use Rattle.bp_changes.specs.SameContent.{IsReadByWords, ReadsAs}
+use Rattle.bp_changes.specs.SameMeaning.{SameMeaning}
+use Rattle.bp_changes.specs.Harmless.{IsHarmless, Agrees}
+use Rattle.bp_layout.specs.Members.{Has, Each, AreApart}
+use Rattle.bp_shapes.specs.Links.{CanHang, raised_by, IsChain}
+use Rattle.bp_layout.specs.Stores.{after_stores}
+use Rattle.bp_layout.proofs.TreeLaws.{node-kept, live_above, live_pointer_word}
+use Rattle.bp_changes.proofs.Frame.{keeps, root-same, size-same}
+use Rattle.bp_shapes.proofs.Behind.{behind_of, behind_harmless}
+use Rattle.bp_changes.proofs.ReachedOn.{reached_on, meaning_on}
+use Rattle.bp_shapes.proofs.Reshape as reshape
+use Rattle.bp_shapes.proofs.NullLink as null_link
+use Rattle.pm_epochs.specs.May.{AnyOf}
+use Rattle.pm_region.specs.Memory.{Memory, current_words}
+use Rattle.pm_region.specs.Safe.{AddsMay, AddsQuiet}
+use Rattle.pm_region.proofs.MemoryLaws.{length-current_words}
+use Rattle.pm_region.proofs.MayLaws.{may_weaker, may_frame, each_after}
+use Rattle.bp_append.specs.Built.{IsBuilt}
+use Rattle.bp_append.proofs.ChildrenLaws.{has_left, has_right}
+use Rattle.bp_append.proofs.FillLaws.{each_has, each_left, apart_parts, block_row}
+use Rattle.bp_append.proofs.VisitLaws.{beside as links_beside}
+use Rattle.bp_append.proofs.TwoLinks.{any_root_link, any_two_links}
+use Rattle.bp_layout.specs.Nodes.{height_with}
+use Rattle.bp_shapes.proofs.Chain.{chain_reads}
+use Rattle.bp_append.specs.Given.{given, given_at}
+use Rattle.bp_append.specs.Visited.{extended, Hangs, AreHung}
+use Rattle.bp_append.specs.Visited.AreHung.{no_link, one_link}
+use Rattle.bp_append.specs.Grown.{Grows}
+use Rattle.bp_append.specs.Prepared.{CanPrepare, PreparesWith, most_stores, need_for}
+use Rattle.bp_append.proofs.VisitDone.{extended_old, extended_new}
+use Rattle.bp_append.proofs.HangBuilt.{hang_built, in_taken}
+use Rattle.bp_append.proofs.NeedLaws.{tall_low}
+use Rattle.bp_append.proofs.PrepLaws.{in_free_harmless, agrees_of, after_append, words_new, epochs_quiet, meaning_middle, wf_middle, reached_middle, place_middle, still_free}
+use Rattle.bp_append.proofs.ReadyLaws.{IsReady, prepared}
+use Rattle.bp_append.proofs.TwoLinks as two
+use Rattle.bp_append.proofs.NullPrepared.{quiet_more, full_by_words}
+
+given_before : (from : ℕ) (raw : List ℕ) (o : ℕ) → o < from → given from raw o ≡ 0
+given_before from raw o low = search (rules, low)
+
+pub each_of : (P : ℕ → Type 0) (xs : List ℕ) → ((b : ℕ) → Has xs b → P b) → Each P xs
+each_of P [] all = tt
+each_of P (x ∷ xs) all = (all x (inl refl), each_of P xs (λ b m. all b (inr m)))
+
+module _ (first new : Memory) (free_old free_new : List ℕ) (t place from to : ℕ) (path raw : List ℕ) (can : CanPrepare first free_old t path from to) (at : RootPlace (current_words first) t place)
+    (grows : Grows first new free_old free_new place (root_of (current_words first) t) (size_of (current_words first) t) from to raw)
+    (some : 0 < size_of (current_words first) t) (present : 1 ≤ block_of (root_of (current_words first) t)) where
+  abbrev old : Image
+  old = current_words first
+
+  abbrev middle : Image
+  middle = current_words grows.between
+
+  abbrev root : ℕ
+  root = root_of (current_words first) t
+
+  abbrev size : ℕ
+  size = size_of (current_words first) t
+
+  abbrev taken : List ℕ
+  taken = grows.visited ++ grows.raised
+
+  abbrev top_root : ℕ
+  top_root = raised_by (root_of (current_words first) t) grows.chain
+
+  order : size_of old t ≤ to
+  order = le_trans can.behind can.order
+
+  taken_free : Each (λ b. IsLiveBlock old b → ⊥) (grows.visited ++ grows.raised)
+  taken_free = each_left _ (grows.visited ++ grows.raised) free_new (rw grows.takes at can.unused)
+
+  taken_low : Each (λ b. 1 ≤ b) (grows.visited ++ grows.raised)
+  taken_low = each_left _ (grows.visited ++ grows.raised) free_new (rw grows.takes at can.usable.low)
+
+  taken_high : Each (λ b. b < length first.base / 512) (grows.visited ++ grows.raised)
+  taken_high = each_left _ (grows.visited ++ grows.raised) free_new (rw grows.takes at can.usable.high)
+
+  harmless : AddsMay (IsHarmless old) 0 (512 * length (grows.visited ++ grows.raised) + 2051) first grows.between
+  harmless = may_weaker _ _ 0 _ first grows.between (λ w v m. elim m [
+    | inl own ↦ in_free_harmless old can.well (grows.visited ++ grows.raised) taken_low taken_free w v own
+    | inr behind ↦ behind_harmless old can.well t w v (behind_of old t w v can.reached behind)
+  ]) grows.stores
+
+  agrees : Agrees old middle
+  agrees = agrees_of old middle (each_after (IsHarmless old) 0 _ first grows.between harmless)
+
+  sizes : size_of middle t ≡ size_of old t
+  sizes = size-same old middle can.well agrees t can.reached
+
+  roots : root_of middle t ≡ root_of old t
+  roots = root-same old middle can.well agrees t can.reached
+
+  meaning : SameMeaning old middle
+  meaning = meaning_middle old middle can.well agrees t place can.reached at
+
+  well : IsWellFormed middle
+  well = wf_middle old middle can.well agrees t place can.reached at
+
+  there : IsReached middle t
+  there = reached_middle old middle can.well agrees t place can.reached at
+
+  place_there : RootPlace middle t place
+  place_there = place_middle old middle can.well agrees t place can.reached at
+
+  in_taken_chain : (b : ℕ) → Has grows.chain b → Has (grows.visited ++ grows.raised) b
+  in_taken_chain b m = has_right grows.visited grows.raised b (grows.inside b m)
+
+  free_there : (b : ℕ) → Has (grows.visited ++ grows.raised) b → IsLiveBlock middle b → ⊥
+  free_there b m = still_free old middle can.well agrees t place can.reached at b (each_has (λ c. IsLiveBlock old c → ⊥) (grows.visited ++ grows.raised) b taken_free m)
+
+  chain_there : IsChain middle (root_of middle t) grows.chain
+  chain_there = record {
+    low = rw roots (omega (arith, grows.tall, tall_low (root_of old t) (size_of old t) to (can.well.sound t can.reached).low));
+    in_range = each_of _ grows.chain (λ b m. let low = each_has (λ c. c < length first.base / 512) (grows.visited ++ grows.raised) b taken_high (in_taken_chain b m) in omega (arith, low, agrees.whole, length-current_words first));
+    not_null = each_of _ grows.chain (λ b m e. let low = each_has (λ c. 1 ≤ c) (grows.visited ++ grows.raised) b taken_low (in_taken_chain b m) in omega (arith, low, e));
+    free = each_of _ grows.chain (λ b m. free_there b (in_taken_chain b m));
+    apart = grows.apart;
+    down = rw roots grows.down;
+  }
+
+  -- the blocks of the tree are none of the chain
+  fresh : (b : ℕ) → HasBlock middle (root_of middle t) (size_of middle t) b → Each (λ c. c ≢ b) grows.chain
+  fresh b has = each_of _ grows.chain (λ c m e. free_there c (in_taken_chain c m) (record { tree = t; reached = there; has = subst (HasBlock middle (root_of middle t) (size_of middle t)) (sym e) has }))
+
+  -- ---- with no pointer that waited
+
+  reads_alone : ReadsAs (IsReadByWords middle t) middle (size_of middle t) (root_of middle t) (raised_by (root_of old t) grows.chain)
+  reads_alone = subst (λ r. ReadsAs (IsReadByWords middle t) middle (size_of middle t) (root_of middle t) (raised_by r grows.chain)) roots
+      (chain_reads (IsReadByWords middle t) middle (size_of middle t) (root_of middle t) grows.chain (well.sound t there) chain_there fresh)
+
+  ready_alone : IsReady old middle t place (raised_by (root_of old t) grows.chain)
+  ready_alone = record {
+    meaning = meaning;
+    well = well;
+    reached = there;
+    at = place_there;
+    reads = reads_alone;
+    sizes = λ u r. size-same old middle can.well agrees u r;
+    roots = λ u r away. root-same old middle can.well agrees u r;
+  }
+
+  -- ---- with a pointer that waited
+
+  module _ (hung_place pointer : ℕ) (hangs : Hangs old middle (root_of old t) (size_of old t) from to hung_place pointer raw grows.visited) where
+    abbrev level : ℕ
+    level = hangs.live.level
+
+    abbrev block : ℕ
+    block = block_of pointer
+
+    pointer_is : 4096 * block_of pointer ≡ pointer
+    pointer_is = omega (arith, hangs.bits)
+
+    nodes_same : (d k : ℕ) → IsLivePointer (root_of old t) (size_of old t) d k → node middle (root_of middle t) d k ≡ node old (root_of old t) d k
+    nodes_same d k live = ap (λ r. node middle r d k) roots ∙ node-kept old middle (root_of old t) (size_of old t) (keeps old middle can.well agrees t can.reached) d k live
+
+    above_live : IsLivePointer (root_of old t) (size_of old t) hangs.depth (hangs.index / 512)
+    above_live = live_above _ _ hangs.depth hangs.index (live_pointer_word _ _ (suc hangs.depth) hangs.index hangs.live)
+
+    low_level : hangs.live.level ≤ 3
+    low_level = let low = (can.well.sound t can.reached).low some in omega (arith, hangs.live.height, low)
+
+    built_there : IsBuilt middle (4096 * block_of pointer + hangs.live.level) (min (to - hangs.index * span hangs.live.level) (span hangs.live.level)) (given_at from raw (hangs.index * span hangs.live.level)) (Has hangs.below) (from ≤ hangs.index * span hangs.live.level)
+    built_there = subst (λ p. IsBuilt middle (p + hangs.live.level) (min (to - hangs.index * span hangs.live.level) (span hangs.live.level)) (given_at from raw (hangs.index * span hangs.live.level)) (Has hangs.below) (from ≤ hangs.index * span hangs.live.level)) (sym pointer_is) hangs.built
+
+    below_free : Each (λ b. IsLiveBlock middle b → ⊥) hangs.below
+    below_free = each_of _ hangs.below (λ b m. free_there b (has_left grows.visited grows.raised b (hangs.inside b m)))
+
+    height_there : suc hangs.depth + hangs.live.level ≡ height_of (root_of middle t)
+    height_there = rw roots hangs.live.height
+
+    live_there : hangs.index * span hangs.live.level < size_of middle t
+    live_there = rw sizes hangs.live.live
+
+    wide_there : (x : ℕ) → x < span hangs.live.level → hangs.index * span hangs.live.level + x < size_of middle t → x < min (to - hangs.index * span hangs.live.level) (span hangs.live.level)
+    wide_there x small inside = omega (arith, small, inside, sizes, order)
+
+    zeros_there : (i : ℕ) → hangs.index * span hangs.live.level + i < size_of middle t → given_at from raw (hangs.index * span hangs.live.level) i ≡ 0
+    zeros_there i inside = given_before from raw (hangs.index * span hangs.live.level + i) (omega (arith, inside, sizes, can.behind))
+
+    stands_there : StandsAt middle t hangs.depth hangs.index hung_place
+    stands_there = record { present = rw (nodes_same hangs.depth (hangs.index / 512) above_live) hangs.present; at = rw (nodes_same hangs.depth (hangs.index / 512) above_live) hangs.at }
+
+    hang : CanHang middle t hangs.depth hangs.index hung_place (block_of pointer)
+    hang = hang_built middle t hangs.depth hangs.index hung_place (block_of pointer) hangs.live.level (min (to - hangs.index * span hangs.live.level) (span hangs.live.level)) (given_at from raw (hangs.index * span hangs.live.level)) hangs.below
+        (from ≤ hangs.index * span hangs.live.level) there low_level height_there live_there (nodes_same (suc hangs.depth) hangs.index hangs.live ∙ hangs.null) stands_there built_there below_free wide_there zeros_there
+
+    not_chain : (b : ℕ) → null_link.InSubtree middle well t hangs.depth hangs.index hung_place (block_of pointer) hang b → Each (λ c. c ≢ b) grows.chain
+    not_chain b inside =
+        let live_block = in_taken middle t hangs.depth hangs.index hung_place (block_of pointer) hangs.live.level (min (to - hangs.index * span hangs.live.level) (span hangs.live.level)) (given_at from raw (hangs.index * span hangs.live.level)) hangs.below
+        (from ≤ hangs.index * span hangs.live.level) there low_level height_there live_there (nodes_same (suc hangs.depth) hangs.index hangs.live ∙ hangs.null) stands_there built_there below_free wide_there zeros_there
+        inside.depth inside.index inside.rank inside.below inside.pointer (λ e. inside.not_null (sym inside.named ∙ e)) in
+        let mine : Has grows.visited b = hangs.inside b (subst (Has hangs.below) inside.named live_block) in
+        each_of _ grows.chain (λ c m e. apart_parts grows.visited grows.raised b (apart_left (grows.visited ++ grows.raised) free_new (rw grows.takes at can.usable.apart)) mine (subst (Has grows.raised) e (grows.inside c m)))
+      where
+        apart_left : (xs ys : List ℕ) → AreApart (xs ++ ys) → AreApart xs
+        apart_left [] ys apart = tt
+        apart_left (x ∷ xs) ys apart = (each_left _ xs ys apart.0, apart_left xs ys apart.1)
+
+    abbrev hung_image : Image
+    hung_image = set middle hung_place (4096 * block_of pointer)
+
+    any_both : AnyOf Same middle middle ((hung_place, 4096 * block_of pointer) ∷ (place, raised_by (root_of middle t) grows.chain) ∷ [])
+    any_both = two.any_two_links middle well t hangs.depth hangs.index hung_place (block_of pointer) hang grows.chain chain_there not_chain place place_there
+
+    ready_hung : IsReady old hung_image t place (raised_by (root_of middle t) grows.chain)
+    ready_hung = record {
+      meaning = meaning_on old middle hung_image meaning (reshape.reshaped_meaning middle hung_image well t (root_of middle t) (null_link.hung_reshapes middle well t hangs.depth hangs.index hung_place (block_of pointer) hang));
+      well = two.wf_middle middle well t hangs.depth hangs.index hung_place (block_of pointer) hang grows.chain chain_there not_chain;
+      reached = two.reached_middle middle well t hangs.depth hangs.index hung_place (block_of pointer) hang grows.chain chain_there not_chain;
+      at = two.place_middle middle well t hangs.depth hangs.index hung_place (block_of pointer) hang grows.chain chain_there not_chain place place_there;
+      reads = two.reads_middle middle well t hangs.depth hangs.index hung_place (block_of pointer) hang grows.chain chain_there not_chain;
+      sizes = λ u r. reshape.size-same middle hung_image well t (root_of middle t) (null_link.hung_reshapes middle well t hangs.depth hangs.index hung_place (block_of pointer) hang) u (reached_on old middle meaning u r) ∙ size-same old middle can.well agrees u r;
+      roots = λ u r away. reshape.root-same middle hung_image well t (root_of middle t) (null_link.hung_reshapes middle well t hangs.depth hangs.index hung_place (block_of pointer) hang) u (reached_on old middle meaning u r) away
+          ∙ root-same old middle can.well agrees u r;
+    }
+
+  -- ---- both
+
+  any_links : AnyOf Same middle middle (grows.links ++ (place, raised_by (root_of old t) grows.chain) ∷ [])
+  any_links = go grows.hung
+    where
+      go : AreHung old middle (root_of old t) (size_of old t) from to raw grows.visited (λ p. HasBlock old (root_of old t) (size_of old t) (p / 512)) grows.links → AnyOf Same middle middle (grows.links ++ (place, raised_by (root_of old t) grows.chain) ∷ [])
+      go (no_link e) = rw e (any_root_link middle well t place (raised_by (root_of old t) grows.chain) there place_there reads_alone)
+      go (one_link hung_place pointer e hangs part) =
+          rw e (subst₂ (λ p r. AnyOf Same middle middle ((hung_place, p) ∷ (place, raised_by r grows.chain) ∷ [])) (pointer_is hung_place pointer hangs) roots (any_both hung_place pointer hangs))
+
+  few_links : length (grows.links ++ (place, raised_by (root_of old t) grows.chain) ∷ []) ≤ 2
+  few_links = go grows.hung
+    where
+      go : AreHung old middle (root_of old t) (size_of old t) from to raw grows.visited (λ p. HasBlock old (root_of old t) (size_of old t) (p / 512)) grows.links → length (grows.links ++ (place, raised_by (root_of old t) grows.chain) ∷ []) ≤ 2
+      go (no_link e) = rw e (omega arith)
+      go (one_link hung_place pointer e hangs part) = rw e (omega arith)
+
+  pub tree_quiet : AddsQuiet Same 2 (most_stores (need_for old t from to)) first new
+  tree_quiet =
+      quiet_more 2 _ _ first new (omega (arith, grows.counted, few_links))
+      (epochs_quiet first grows.between new (512 * length (grows.visited ++ grows.raised) + 2051) (grows.links ++ (place, raised_by (root_of old t) grows.chain) ∷ []) can.well harmless grows.ends any_links)
+
+  ready_links : IsReady old (after_stores middle grows.links) t place (raised_by (root_of old t) grows.chain)
+  ready_links = go grows.hung
+    where
+      go : AreHung old middle (root_of old t) (size_of old t) from to raw grows.visited (λ p. HasBlock old (root_of old t) (size_of old t) (p / 512)) grows.links → IsReady old (after_stores middle grows.links) t place (raised_by (root_of old t) grows.chain)
+      go (no_link e) = rw e ready_alone
+      go (one_link hung_place pointer e hangs part) =
+          rw e (subst₂ (λ p r. IsReady old (set middle hung_place p) t place (raised_by r grows.chain)) (pointer_is hung_place pointer hangs) roots (ready_hung hung_place pointer hangs))
+
+  -- a word of another tree
+  frame : (u b k : ℕ) → IsReached old u → u ≢ t → HasBlock old (root_of old u) (size_of old u) b → k < 512 → 512 * b + k ≢ place →
+      get_or (set (after_stores middle grows.links) place (raised_by (root_of old t) grows.chain)) (512 * b + k) 0 ≡ get_or old (512 * b + k) 0
+  frame u b k r away has few beyond =
+      get_or-set_other (after_stores middle grows.links) place (512 * b + k) (raised_by (root_of old t) grows.chain) 0 beyond
+      ∙ links_beside grows.links old middle (root_of old t) (size_of old t) from to raw grows.visited (λ p. HasBlock old (root_of old t) (size_of old t) (p / 512)) grows.hung middle (512 * b + k) (λ part. own (subst (HasBlock old (root_of old t) (size_of old t)) (block_row b k few) part))
+      ∙ may_frame _ 0 _ first grows.between grows.stores (512 * b + k) (λ v m. elim m [
+        | inl mine ↦ each_has (λ c. IsLiveBlock old c → ⊥) (grows.visited ++ grows.raised) b taken_free (subst (Has (grows.visited ++ grows.raised)) (block_row b k few) mine) (record { tree = u; reached = r; has = has })
+        | inr behind ↦ own (subst (HasBlock old (root_of old t) (size_of old t)) (same_block behind.depth behind.index behind.at)
+            (record { depth = behind.depth; index = behind.index / 512; pointer = behind.parent; named = refl; not_null = behind.present }))
+      ])
+    where
+      own : HasBlock old (root_of old t) (size_of old t) b → ⊥
+      own mine = away (can.well.apart u t b r can.reached has mine)
+
+      same_block : (d i : ℕ) → 512 * node old (root_of old t) d (i / 512) + i % 512 ≡ 512 * b + k → node old (root_of old t) d (i / 512) ≡ b
+      same_block d i e = omega (arith, e, few)
+
+  pub tree_prepared : PreparesWith old (current_words new) free_old free_new t from to raw
+  tree_prepared = record {
+    taken = grows.visited ++ grows.raised;
+    takes = grows.takes;
+    counted = grows.counted;
+    ready = rw words_last
+        (prepared old (after_stores middle grows.links) can.well t place (raised_by (root_of old t) grows.chain) from to raw (grows.visited ++ grows.raised) can.reached at ready_links taken_free
+        (extended old (root_of old t) (size_of old t) from raw 0) (IsFull old (root_of old t) (size_of old t) × (from ≡ size_of old t)) grows.tree
+        (λ o low. extended_old old (root_of old t) (size_of old t) from raw 0 o (rw (zero_plus o) low))
+        (λ o above below. extended_new old (root_of old t) (size_of old t) from raw 0 o (rw (zero_plus o) above) ∙ ap (given from raw) (zero_plus o))
+        (λ by. (full_by_words old can.well t can.reached by, can.by_words by))
+        tall_is order frame);
+  }
+    where
+      zero_plus : (o : ℕ) → 0 + o ≡ o
+      zero_plus o = omega arith
+
+      words_last : current_words new ≡ set (after_stores middle grows.links) place (raised_by (root_of old t) grows.chain)
+      words_last = words_new first grows.between new (512 * length (grows.visited ++ grows.raised) + 2051) (grows.links ++ (place, raised_by (root_of old t) grows.chain) ∷ []) can.well harmless grows.ends
+          ∙ after_append middle grows.links ((place, raised_by (root_of old t) grows.chain) ∷ [])
+
+      raised_height : (r : ℕ) (chain : List ℕ) → height_of r + length chain ≤ 7 → height_of (raised_by r chain) ≡ height_of r + length chain
+      raised_height r [] low = omega arith
+      raised_height r (b ∷ chain) low =
+          let one : height_of (4096 * b + suc (height_of r)) ≡ suc (height_of r) = omega (arith, low) in
+          let rest = raised_height (4096 * b + suc (height_of r)) chain (omega (arith, low, one)) in
+          omega (arith, rest, one)
+
+      tall_is : height_of (raised_by (root_of old t) grows.chain) ≡ height_with (root_of old t) (size_of old t) to
+      tall_is = raised_height (root_of old t) grows.chain (omega (arith, grows.tall, tall_low (root_of old t) (size_of old t) to (can.well.sound t can.reached).low)) ∙ grows.tall

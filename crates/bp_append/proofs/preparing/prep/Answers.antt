@@ -1,0 +1,115 @@
+use Rattle.std.proofs.Common.{◌≡◌, ◌⊎◌, ℕ, ◌+◌, ◌<◌, ◌≤◌, List, length, get_or, sym, ◌∙◌, ap, subst, subst₂, arith}
+use Rattle.bp_free.specs.Set.{members}
+use Rattle.bp_layout.specs.Words.{block_of}
+use Rattle.bp_layout.specs.Inode.{root_of, size_of, RootPlace}
+use Rattle.bp_layout.specs.WordPaths.{WordPath, address}
+use Rattle.pm_region.specs.Memory.{Memory, current_words}
+use Rattle.pm_region.proofs.MemoryLaws.{length-current_words}
+use Rattle.bp_append.specs.Grown.{CanGrow, Grows, Makes}
+use Rattle.bp_append.specs.Prepared.{CanPrepare}
+use Rattle.bp_append.proofs.PlaceLaws.{Leads, leads_to, grow_can, some_blocks, no_blocks}
+use Rattle.bp_append.proofs.NullPrepared.{null_quiet, null_prepared}
+use Rattle.bp_append.proofs.TreePrepared.{tree_quiet, tree_prepared}
+use Rattle.bp_append.proofs.preparing.prep.Goals as goal
+
+leads : (memory : Memory) (free : List ℕ) (t : ℕ) (path : WordPath) (from to : ℕ) → CanPrepare memory free t path from to → Leads (current_words memory) t path
+leads memory free t path from to can = subst (Leads (current_words memory) t) (sym can.leads) (leads_to (current_words memory) t can.well can.reached)
+
+-- the words that were loaded are the root word and the size
+roots : (memory : Memory) (free : List ℕ) (t : ℕ) (path : WordPath) (from to place root size : ℕ) → CanPrepare memory free t path from to → place ≡ address (current_words memory) path →
+    root ≡ get_or (current_words memory) place 0 → size ≡ get_or (current_words memory) (place + 1) 0 → (root ≡ root_of (current_words memory) t) × (size ≡ size_of (current_words memory) t)
+roots memory free t path from to place root size can at one two =
+    let there = leads memory free t path from to can in
+    (one ∙ ap (λ p. get_or (current_words memory) p 0) at ∙ there.root, two ∙ ap (λ p. get_or (current_words memory) (p + 1) 0) at ∙ there.size)
+
+can_grow : (memory : Memory) (free : List ℕ) (t : ℕ) (path : WordPath) (from to place root size : ℕ) → CanPrepare memory free t path from to → place ≡ address (current_words memory) path →
+    root ≡ get_or (current_words memory) place 0 → size ≡ get_or (current_words memory) (place + 1) 0 → CanGrow memory free root size from to
+can_grow memory free t path from to place root size can at one two =
+    let both = roots memory free t path from to place root size can at one two in
+    subst₂ (λ r s. CanGrow memory free r s from to) (sym both.0) (sym both.1) (grow_can memory free t path from to can)
+
+place_low : (memory : Memory) (free : List ℕ) (t : ℕ) (path : WordPath) (from to place : ℕ) → CanPrepare memory free t path from to → place ≡ address (current_words memory) path → place + 1 < length memory.base
+place_low memory free t path from to place can at = let there = leads memory free t path from to can in omega (arith, at, there.low, length-current_words memory)
+
+pub address-place-requires-clause-exists : goal.address-place-requires-clause-exists
+address-place-requires-clause-exists g c = let there = leads _ _ _ _ _ _ c.requires.can.1 in there.exists
+
+pub address-place-requires-clause-slots : goal.address-place-requires-clause-slots
+address-place-requires-clause-slots g c = let there = leads _ _ _ _ _ _ c.requires.can.1 in there.slots
+
+pub address-place-requires-clause-in_range : goal.address-place-requires-clause-in_range
+address-place-requires-clause-in_range g c = let there = leads _ _ _ _ _ _ c.requires.can.1 in there.in_range
+
+pub load-requires : goal.load-requires
+load-requires g c = let low = place_low _ _ _ _ _ _ _ c.requires.can.1 c.address-place.ensures.address in omega (arith, low)
+
+pub load-requires-2 : goal.load-requires-2
+load-requires-2 g c = place_low _ _ _ _ _ _ _ c.requires.can.1 c.address-place.ensures.address
+
+pub overflow_add-place : goal.overflow_add-place
+overflow_add-place g c = let low = place_low _ _ _ _ _ _ _ c.requires.can.1 c.address-place.ensures.address in omega (arith, low, c.words-words.ensures, c.words-words.type_inv)
+
+pub prepare_tree-requires-clause-can : goal.prepare_tree-requires-clause-can
+prepare_tree-requires-clause-can g c = can_grow _ _ _ _ _ _ _ _ _ c.requires.can.1 c.address-place.ensures.address c.load.ensures c.load-2.ensures
+
+pub prepare_tree-requires-clause-place : goal.prepare_tree-requires-clause-place
+prepare_tree-requires-clause-place g c = let low = place_low _ _ _ _ _ _ _ c.requires.can.1 c.address-place.ensures.address in omega (arith, low)
+
+pub prepare_tree-requires-clause-some : goal.prepare_tree-requires-clause-some
+prepare_tree-requires-clause-some g c = let both = some_blocks c.load-2.result (block_of c.load.result) (sym c.has_blocks.ensures ∙ c.if-has_blocks.true) in both.0
+
+pub prepare_tree-requires-clause-present : goal.prepare_tree-requires-clause-present
+prepare_tree-requires-clause-present g c = let both = some_blocks c.load-2.result (block_of c.load.result) (sym c.has_blocks.ensures ∙ c.if-has_blocks.true) in both.1
+
+pub prepare_null-requires-clause-can : goal.prepare_null-requires-clause-can
+prepare_null-requires-clause-can g c = can_grow _ _ _ _ _ _ _ _ _ c.requires.can.1 c.address-place.ensures.address c.load.ensures c.load-2.ensures
+
+pub prepare_null-requires-clause-place : goal.prepare_null-requires-clause-place
+prepare_null-requires-clause-place g c = let low = place_low _ _ _ _ _ _ _ c.requires.can.1 c.address-place.ensures.address in omega (arith, low)
+
+pub prepare_null-requires-clause-null : goal.prepare_null-requires-clause-null
+prepare_null-requires-clause-null g c = no_blocks c.load-2.result (block_of c.load.result) (sym c.has_blocks.ensures ∙ c.if-has_blocks.false)
+
+pub returns-then-has_blocks-clause-quiet : goal.returns-then-has_blocks-clause-quiet
+returns-then-has_blocks-clause-quiet g c = λ tree can.
+    let first = g.R.Region.memory c.args.parts.now.region in
+    let both = roots first (members c.args.parts.now.blocks) tree c.args.at.now.items c.args.from c.args.new_end c.address-place.result c.load.result c.load-2.result can c.address-place.ensures.address c.load.ensures c.load-2.ensures in
+    let there = leads first (members c.args.parts.now.blocks) tree c.args.at.now.items c.args.from c.args.new_end can in
+    let some = some_blocks c.load-2.result (block_of c.load.result) (sym c.has_blocks.ensures ∙ c.if-has_blocks.true) in
+    tree_quiet first (g.R.Region.memory c.prepare_tree.new.region) (members c.args.parts.now.blocks) (members c.prepare_tree.new.blocks) tree c.address-place.result c.args.from c.args.new_end c.args.at.now.items c.args.bytes.now can
+    (subst (RootPlace (current_words first) tree) (sym c.address-place.ensures.address) there.stands)
+    (subst₂ (λ r s. Grows first (g.R.Region.memory c.prepare_tree.new.region) (members c.args.parts.now.blocks) (members c.prepare_tree.new.blocks) c.address-place.result r s c.args.from c.args.new_end c.args.bytes.now) both.0 both.1 c.prepare_tree.ensures.grows)
+    (subst (λ s. 0 < s) both.1 some.0) (subst (λ r. 1 ≤ block_of r) both.0 some.1)
+
+pub returns-then-has_blocks-clause-ready : goal.returns-then-has_blocks-clause-ready
+returns-then-has_blocks-clause-ready g c = λ tree can.
+    let first = g.R.Region.memory c.args.parts.now.region in
+    let both = roots first (members c.args.parts.now.blocks) tree c.args.at.now.items c.args.from c.args.new_end c.address-place.result c.load.result c.load-2.result can c.address-place.ensures.address c.load.ensures c.load-2.ensures in
+    let there = leads first (members c.args.parts.now.blocks) tree c.args.at.now.items c.args.from c.args.new_end can in
+    let some = some_blocks c.load-2.result (block_of c.load.result) (sym c.has_blocks.ensures ∙ c.if-has_blocks.true) in
+    tree_prepared first (g.R.Region.memory c.prepare_tree.new.region) (members c.args.parts.now.blocks) (members c.prepare_tree.new.blocks) tree c.address-place.result c.args.from c.args.new_end c.args.at.now.items c.args.bytes.now can
+    (subst (RootPlace (current_words first) tree) (sym c.address-place.ensures.address) there.stands)
+    (subst₂ (λ r s. Grows first (g.R.Region.memory c.prepare_tree.new.region) (members c.args.parts.now.blocks) (members c.prepare_tree.new.blocks) c.address-place.result r s c.args.from c.args.new_end c.args.bytes.now) both.0 both.1 c.prepare_tree.ensures.grows)
+    (subst (λ s. 0 < s) both.1 some.0) (subst (λ r. 1 ≤ block_of r) both.0 some.1)
+
+pub returns-else-has_blocks-clause-quiet : goal.returns-else-has_blocks-clause-quiet
+returns-else-has_blocks-clause-quiet g c = λ tree can.
+    let first = g.R.Region.memory c.args.parts.now.region in
+    let both = roots first (members c.args.parts.now.blocks) tree c.args.at.now.items c.args.from c.args.new_end c.address-place.result c.load.result c.load-2.result can c.address-place.ensures.address c.load.ensures c.load-2.ensures in
+    let there = leads first (members c.args.parts.now.blocks) tree c.args.at.now.items c.args.from c.args.new_end can in
+    let none = no_blocks c.load-2.result (block_of c.load.result) (sym c.has_blocks.ensures ∙ c.if-has_blocks.false) in
+    null_quiet first (g.R.Region.memory c.prepare_null.new.region) (members c.args.parts.now.blocks) (members c.prepare_null.new.blocks) tree c.address-place.result c.args.from c.args.new_end c.args.at.now.items c.args.bytes.now can
+    (subst (RootPlace (current_words first) tree) (sym c.address-place.ensures.address) there.stands)
+    (subst₂ (λ r s. Makes first (g.R.Region.memory c.prepare_null.new.region) (members c.args.parts.now.blocks) (members c.prepare_null.new.blocks) c.address-place.result r s c.args.from c.args.new_end c.args.bytes.now) both.0 both.1 c.prepare_null.ensures.makes)
+    (subst₂ (λ r s. (s ≡ 0) ⊎ (block_of r ≡ 0)) both.0 both.1 none)
+
+pub returns-else-has_blocks-clause-ready : goal.returns-else-has_blocks-clause-ready
+returns-else-has_blocks-clause-ready g c = λ tree can.
+    let first = g.R.Region.memory c.args.parts.now.region in
+    let both = roots first (members c.args.parts.now.blocks) tree c.args.at.now.items c.args.from c.args.new_end c.address-place.result c.load.result c.load-2.result can c.address-place.ensures.address c.load.ensures c.load-2.ensures in
+    let there = leads first (members c.args.parts.now.blocks) tree c.args.at.now.items c.args.from c.args.new_end can in
+    let none = no_blocks c.load-2.result (block_of c.load.result) (sym c.has_blocks.ensures ∙ c.if-has_blocks.false) in
+    null_prepared first (g.R.Region.memory c.prepare_null.new.region) (members c.args.parts.now.blocks) (members c.prepare_null.new.blocks) tree c.address-place.result c.args.from c.args.new_end c.args.at.now.items c.args.bytes.now can
+    (subst (RootPlace (current_words first) tree) (sym c.address-place.ensures.address) there.stands)
+    (subst₂ (λ r s. Makes first (g.R.Region.memory c.prepare_null.new.region) (members c.args.parts.now.blocks) (members c.prepare_null.new.blocks) c.address-place.result r s c.args.from c.args.new_end c.args.bytes.now) both.0 both.1 c.prepare_null.ensures.makes)
+    (subst₂ (λ r s. (s ≡ 0) ⊎ (block_of r ≡ 0)) both.0 both.1 none)

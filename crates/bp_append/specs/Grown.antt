@@ -1,0 +1,75 @@
+-- A tree is prepared in two epochs: stores that nobody sees, and then the links.
+use Rattle.std.specs.Prelude.{◌≡◌, ◌⊎◌, ℕ, ◌+◌, ◌*◌, ◌/◌, ◌%◌, ◌<◌, ◌≤◌, List, [], ◌∷◌, ◌++◌, length}
+use Rattle.pm_epochs.specs.declared.event.Event.TheVariants.{Barrier}
+use Rattle.pm_epochs.specs.May.{links_of}
+use Rattle.bp_layout.specs.Words.{height_of}
+use Rattle.bp_layout.specs.Tree.{HasBlock, IsSound, IsFull}
+use Rattle.bp_layout.specs.Limits.{max_size}
+use Rattle.bp_layout.specs.Nodes.{nodes_for, height_with}
+use Rattle.bp_layout.specs.Members.{Has, AreApart}
+use Rattle.bp_shapes.specs.Links.{raised_by, LeadDown}
+use Rattle.bp_shapes.specs.Behind.{IsBehindIn}
+use Rattle.bp_layout.specs.Stores.{after_stores}
+use Rattle.pm_region.specs.Memory.{Memory, current_words, room_in, Adds}
+use Rattle.pm_region.specs.Safe.{AddsMay}
+use Rattle.bp_append.specs.Given.{given_at}
+use Rattle.bp_append.specs.Built.{InBlocks, IsBuilt}
+use Rattle.bp_append.specs.Filled.{IsUsable}
+use Rattle.bp_append.specs.Visited.{extended, AreHung}
+
+-- A sound tree may be prepared for the bytes from an offset on: there are free blocks and room.
+pub record CanGrow (memory : Memory) (free : List ℕ) (root size from to : ℕ) : Type 0 where
+  pub behind : size ≤ from
+  pub order : size ≤ to
+  pub fits : to ≤ max_size
+  pub sound : IsSound (current_words memory) root size
+  pub some : 0 < length memory.base / 512
+  pub usable : IsUsable (length memory.base / 512) free
+  pub outside : (b : ℕ) → Has free b → HasBlock (current_words memory) root size b → ⊥
+  pub enough : length (nodes_for (current_words memory) root size from to) ≤ length free
+  pub room : 512 * length (nodes_for (current_words memory) root size from to) + 2055 ≤ room_in memory
+
+-- the links in an epoch of their own
+abbrev pub Links : Memory → Memory → List (ℕ × ℕ) → Type 0
+Links old new links = Adds old new (Barrier ∷ links_of links ++ Barrier ∷ [])
+
+-- A tree with blocks was prepared. Once the links are done, the higher tree holds the old bytes and behind them the given ones.
+pub record Grows (old new : Memory) (free_old free_new : List ℕ) (place root size from to : ℕ) (bytes : List ℕ) : Type 0 where
+  pub visited : List ℕ
+  pub raised : List ℕ
+  pub takes : free_old ≡ (visited ++ raised) ++ free_new
+  pub counted : length (visited ++ raised) ≡ length (nodes_for (current_words old) root size from to)
+  pub between : Memory
+  pub stores : AddsMay (λ p value. InBlocks (visited ++ raised) p ⊎ IsBehindIn (current_words old) root size p value) 0 (512 * length (visited ++ raised) + 2051) old between
+  pub links : List (ℕ × ℕ)
+  pub hung : AreHung (current_words old) (current_words between) root size from to bytes visited (λ p. HasBlock (current_words old) root size (p / 512)) links
+  pub chain : List ℕ
+  pub tall : height_of root + length chain ≡ height_with root size to
+  pub inside : (b : ℕ) → Has chain b → Has raised b
+  pub apart : AreApart chain
+  pub down : LeadDown (current_words between) root chain
+  pub ends : Links between new (links ++ (place, raised_by root chain) ∷ [])
+  pub tree : IsBuilt (after_stores (current_words between) links) (raised_by root chain) to (extended (current_words old) root size from bytes 0)
+      (λ b. HasBlock (current_words old) root size b ⊎ Has (visited ++ raised) b) (IsFull (current_words old) root size × (from ≡ size))
+
+-- each link is in the region
+abbrev pub AreLow : Memory → List (ℕ × ℕ) → Type 0
+AreLow memory [] = Unit {0}
+AreLow memory (link ∷ links) = (link.0 < length memory.base) × AreLow memory links
+
+-- A tree of the given bytes, or a null, was made for a tree without blocks, and this is to be its root word.
+pub record Roots (old new : Memory) (free_old free_new : List ℕ) (root size from to : ℕ) (bytes : List ℕ) (top : ℕ) : Type 0 where
+  pub taken : List ℕ
+  pub takes : free_old ≡ taken ++ free_new
+  pub counted : length taken ≡ length (nodes_for (current_words old) root size from to)
+  pub stores : AddsMay (λ p value. InBlocks taken p) 0 (512 * length taken) old new
+  pub height : height_of top ≡ height_with root size to
+  pub bits : top % 4096 ≡ height_of top
+  pub tree : IsBuilt (current_words new) top to (given_at from bytes 0) (Has taken) (from ≡ 0)
+
+-- A tree without blocks was prepared: such a root word was made and stored.
+pub record Makes (old new : Memory) (free_old free_new : List ℕ) (place root size from to : ℕ) (bytes : List ℕ) : Type 0 where
+  pub between : Memory
+  pub top : ℕ
+  pub made : Roots old between free_old free_new root size from to bytes top
+  pub ends : Links between new ((place, top) ∷ [])

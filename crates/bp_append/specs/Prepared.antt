@@ -1,0 +1,67 @@
+-- What a preparation asks of an image and leaves in it.
+use Rattle.std.specs.Prelude.{◌≡◌, ◌≢◌, ◌⊎◌, ℕ, suc, ◌+◌, ◌*◌, ◌/◌, ◌<◌, ◌≤◌, List, ◌++◌, length}
+use Rattle.bp_layout.specs.Words.{Image, word, height_of}
+use Rattle.bp_layout.specs.Tree.{word_at, byte, IsLiveWord, HasBlock, IsSound, IsFull}
+use Rattle.bp_layout.specs.Inode.{root_of, size_of}
+use Rattle.bp_layout.specs.Reached.{IsReached, IsLiveBlock}
+use Rattle.bp_layout.specs.WellFormed.{IsWellFormed}
+use Rattle.bp_layout.specs.WordPaths.{WordPath, tree_path}
+use Rattle.bp_layout.specs.Limits.{max_size}
+use Rattle.bp_layout.specs.Nodes.{nodes_for, height_with}
+use Rattle.bp_layout.specs.Members.{Has, Each}
+use Rattle.bp_changes.specs.SameContent.{IsReadByWords}
+use Rattle.bp_changes.specs.SameMeaning.{SameMeaning}
+use Rattle.pm_region.specs.Memory.{Memory, current_words, room_in}
+use Rattle.bp_append.specs.Given.{given}
+use Rattle.bp_append.specs.Filled.{IsUsable}
+
+-- how many blocks tree t lacks for the bytes from one offset up to another
+abbrev pub need_for : Image → ℕ → ℕ → ℕ → ℕ
+need_for image t from to = length (nodes_for image (root_of image t) (size_of image t) from to)
+
+-- The image is well formed and reaches tree t, to whose root word the path leads. The bytes lie behind its size; the inode file and directories are prepared from their size on. The numbers are those of blocks that are not
+-- live, as many as are needed, and the log has room.
+pub record CanPrepare (memory : Memory) (free : List ℕ) (t : ℕ) (path : WordPath) (from to : ℕ) : Type 0 where
+  pub well : IsWellFormed (current_words memory)
+  pub reached : IsReached (current_words memory) t
+  pub leads : path ≡ tree_path (height_of (word (current_words memory) 2)) t 0 0
+  pub behind : size_of (current_words memory) t ≤ from
+  pub order : from ≤ to
+  pub fits : to ≤ max_size
+  pub by_words : IsReadByWords (current_words memory) t → from ≡ size_of (current_words memory) t
+  pub usable : IsUsable (length memory.base / 512) free
+  pub unused : Each (λ b. IsLiveBlock (current_words memory) b → ⊥) free
+  pub enough : need_for (current_words memory) t from to ≤ length free
+  pub room : 512 * need_for (current_words memory) t from to + 2055 ≤ room_in memory
+
+-- the path leads to the root word of such a tree
+abbrev pub IsPreparable : Memory → List ℕ → WordPath → ℕ → ℕ → Type 0
+IsPreparable memory free path from to = (t : ℕ) × CanPrepare memory free t path from to
+
+-- the most stores of a preparation that takes so many blocks: those in blocks of the tree, and the links
+abbrev pub most_stores : ℕ → ℕ
+most_stores need = 512 * need + 2053
+
+-- Tree t is ready for the bytes up to the end: these are the given ones, in its old blocks and those taken. Nothing else has changed that an image means, nor a live word of another tree but the root word of t.
+pub record Prepares (old new : Image) (t from to : ℕ) (bytes taken : List ℕ) : Type 0 where
+  pub meaning : SameMeaning old new
+  pub height : height_of (root_of new t) ≡ height_with (root_of old t) (size_of old t) to
+  pub kept : (o : ℕ) → o < size_of old t → byte new (root_of new t) o ≡ byte old (root_of old t) o
+  pub bytes_are : (o : ℕ) → size_of old t ≤ o → o < to → byte new (root_of new t) o ≡ given from bytes o
+  pub sound : IsSound new (root_of new t) to
+  pub full : IsReadByWords old t → IsFull new (root_of new t) to
+  pub blocks : (b : ℕ) → HasBlock new (root_of new t) to b → HasBlock old (root_of old t) (size_of old t) b ⊎ Has taken b
+  pub has_old : (b : ℕ) → HasBlock old (root_of old t) (size_of old t) b → HasBlock new (root_of new t) to b
+  pub has_taken : (b : ℕ) → Has taken b → HasBlock new (root_of new t) to b
+  pub sizes : (u : ℕ) → IsReached old u → size_of new u ≡ size_of old u
+  pub roots : (u : ℕ) → IsReached old u → u ≢ t → root_of new u ≡ root_of old u
+  pub apart : (u b : ℕ) → IsReached old u → u ≢ t → HasBlock new (root_of new u) (size_of new u) b → HasBlock new (root_of new t) to b → ⊥
+  pub others : (u d k : ℕ) → IsReached old u → u ≢ t → IsLiveWord (root_of old u) (size_of old u) (suc d) k → ((u ≡ 0) → (d ≡ height_of (root_of old 0)) → (k ≡ 8 * t + 1) → ⊥) →
+      word_at new (root_of new u) (suc d) k ≡ word_at old (root_of old u) (suc d) k
+
+-- the blocks are the first of the free ones, as many as are needed
+pub record PreparesWith (old new : Image) (free_old free_new : List ℕ) (t from to : ℕ) (bytes : List ℕ) : Type 0 where
+  pub taken : List ℕ
+  pub takes : free_old ≡ taken ++ free_new
+  pub counted : length taken ≡ need_for old t from to
+  pub ready : Prepares old new t from to bytes taken

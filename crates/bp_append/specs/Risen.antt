@@ -1,0 +1,61 @@
+-- Higher nodes over a tree, and what they hold behind it.
+use Rattle.std.specs.Prelude.{◌≡◌, ◌⊎◌, ℕ, zero, suc, ◌+◌, ◌-◌, ◌*◌, ◌/◌, ◌^◌, ◌<◌, ◌≤◌, min, nat_lt, if◌then◌else◌, List, [], ◌∷◌, ◌++◌, length}
+use Rattle.bp_layout.specs.Words.{Image, height_of}
+use Rattle.bp_layout.specs.Tree.{byte, span, HasBlock, IsSound, IsFull}
+use Rattle.bp_layout.specs.Members.{Has, AreApart}
+use Rattle.bp_shapes.specs.Links.{raised_by, LeadDown}
+use Rattle.bp_layout.specs.Stores.{after_stores}
+use Rattle.pm_region.specs.Memory.{Memory, current_words, room_in}
+use Rattle.pm_region.specs.Safe.{AddsMay}
+use Rattle.bp_append.specs.Given.{given}
+use Rattle.bp_append.specs.Tally.{tally}
+use Rattle.bp_append.specs.Built.{InBlocks, IsBuilt}
+use Rattle.bp_append.specs.Filled.{IsUsable}
+
+-- 1 where a node at the left edge has none of the bytes that are wanted, and so is made only to hold the tree below it
+abbrev pub idle : ℕ → ℕ → ℕ → ℕ
+idle from to level = if nat_lt from (min to (span level)) then 0 else 1
+
+-- how many such nodes there are above one level up to another
+abbrev pub idles : ℕ → ℕ → ℕ → ℕ → ℕ
+idles from to low zero = 0
+idles from to low (suc level) = idles from to low level + (if nat_lt low (suc level) then idle from to (suc level) else 0)
+
+-- all nodes at the left edge or with bytes that are wanted, in the tree of a height
+abbrev pub edge : ℕ → ℕ → ℕ → ℕ
+edge from to height = tally (suc height) from (min to (span height))
+
+-- no link is in one of these blocks
+abbrev pub Outside : List ℕ → List (ℕ × ℕ) → Type 0
+Outside free [] = Unit {0}
+Outside free (link ∷ links) = (Has free (link.0 / 512) → ⊥) × Outside free links
+
+-- There are free blocks and room for the nodes above a tree.
+pub record CanRise (memory : Memory) (free : List ℕ) (low height from to : ℕ) : Type 0 where
+  pub most : height ≤ 3
+  pub some : 0 < to
+  pub few_to : to ≤ 2 ^ 40
+  pub usable : IsUsable (length memory.base / 512) free
+  pub enough : edge from to height + idles from to low height ≤ length free + edge from to low
+  pub room : 512 * (edge from to height + idles from to low height) + (height - low) ≤ room_in memory + 512 * edge from to low
+
+-- the bytes of a tree of a height, and behind them the given ones
+abbrev pub risen : Image → ℕ → ℕ → ℕ → List ℕ → ℕ → ℕ
+risen image root low from bytes i = if nat_lt i (span low) then byte image root i else given from bytes i
+
+-- Over the tree of height `low` stand new nodes up to a height. Whatever links are done, the higher tree holds the lower one, and behind it the given bytes.
+pub record Rises (old new : Memory) (free_old free_new : List ℕ) (root top low height from to : ℕ) (bytes : List ℕ) : Type 0 where
+  pub taken : List ℕ
+  pub takes : free_old ≡ taken ++ free_new
+  pub counted : length taken + edge from to low ≡ edge from to height + idles from to low height
+  pub stores : AddsMay (λ place value. InBlocks taken place) 0 (512 * length taken + (height - low)) old new
+  pub chain : List ℕ
+  pub named : top ≡ raised_by root chain
+  pub tall : height_of root + length chain ≡ height
+  pub inside : (b : ℕ) → Has chain b → Has taken b
+  pub apart : AreApart chain
+  pub down : LeadDown (current_words new) root chain
+  pub tree : (links : List (ℕ × ℕ)) → Outside free_old links → IsSound (after_stores (current_words old) links) root (min to (span low)) →
+      ((b : ℕ) → Has free_old b → HasBlock (after_stores (current_words old) links) root (min to (span low)) b → ⊥) →
+      IsBuilt (after_stores (current_words new) links) top (min to (span height)) (risen (after_stores (current_words old) links) root low from bytes)
+      (λ b. HasBlock (after_stores (current_words old) links) root (min to (span low)) b ⊎ Has taken b) (IsFull (after_stores (current_words old) links) root (min to (span low)) × (from ≤ span low))

@@ -1,0 +1,109 @@
+-- An image whose words may all stand in a well-formed one is well-formed, and shows the same.
+use Rattle.std.proofs.Common.{le_of_eq, ◌≡◌, ℕ, zero, suc, ◌+◌, ◌*◌, ◌/◌, ◌%◌, ◌<◌, refl, sym, ◌∙◌, ap, subst₂, arith}
+use Rattle.bp_layout.specs.Words.{Image, word, height_of, byte_of}
+use Rattle.bp_layout.specs.Tree.{content_word, byte, HasBlock, IsSound, IsFull}
+use Rattle.bp_layout.specs.Inode.{inode_word, kind_of, root_of, size_of, inode_count, ContentStandsAt}
+use Rattle.bp_layout.specs.Directory.{EntryNames, inumber_at, entry_word, entry_count}
+use Rattle.bp_layout.specs.Reached.{IsReached}
+use Rattle.bp_layout.specs.Reached.IsReached.{inode_file}
+use Rattle.bp_layout.specs.WellFormed.{IsWellFormed}
+use Rattle.bp_layout.specs.Same.{Same}
+use Rattle.bp_changes.specs.Harmless.{Agrees}
+use Rattle.bp_layout.proofs.Reached.{reached-in_file}
+use Rattle.bp_layout.proofs.TreeLaws.{KeepsPointers, content-kept, slot_word-same, word_at-suc, slot_byte-same, sound-kept, full-kept, has_block-kept}
+use Rattle.bp_changes.specs.SameMeaning.{SameMeaning}
+use Rattle.bp_changes.proofs.SameMeaning.{same-by_meaning}
+
+module _ (old new : Image) (wf : IsWellFormed old) (agrees : Agrees old new) where
+  -- the pointers of a reached tree stay
+  pub keeps : (t : ℕ) → IsReached old t → KeepsPointers old new (root_of old t) (size_of old t)
+  keeps t reached = record {
+    kept = λ d k live. slot_word-same old new _ _ (λ present.
+        (agrees.each _).pointers t d k reached live (record { present = present; at = refl }));
+  }
+
+  inode_file_root : root_of new 0 ≡ root_of old 0
+  inode_file_root = (agrees.each 2).superblock (omega arith)
+
+  inode_file_size : size_of new 0 ≡ size_of old 0
+  inode_file_size = (agrees.each 3).superblock (omega arith)
+
+  -- a word of an inode
+  inode_word-same : (i f : ℕ) → IsReached old (suc i) → f < 3 → inode_word new (suc i) f ≡ inode_word old (suc i) f
+  inode_word-same i f reached low =
+      let in_file : suc i < inode_count old = reached-in_file old wf (suc i) reached in
+      let below : 8 * (8 * suc i + f) < size_of old 0 = omega (arith, in_file, low) in
+      let same : content_word new (word old 2) (8 * suc i + f) ≡ content_word old (word old 2) (8 * suc i + f) =
+      content-kept old new (word old 2) (word old 3) (keeps 0 inode_file) (8 * suc i + f) below
+      ∙ slot_word-same old new _ _ (λ present. (agrees.each _).inodes i f reached low (record { present = present; at = refl }))
+      ∙ sym (word_at-suc old (word old 2) (height_of (word old 2)) (8 * suc i + f)) in
+      rw inode_file_root same
+
+  kind-same : (t : ℕ) → IsReached old t → kind_of new t ≡ kind_of old t
+  kind-same zero reached = refl
+  kind-same (suc i) reached = inode_word-same i 0 reached (omega arith)
+
+  pub root-same : (t : ℕ) → IsReached old t → root_of new t ≡ root_of old t
+  root-same zero reached = inode_file_root
+  root-same (suc i) reached = inode_word-same i 1 reached (omega arith)
+
+  pub size-same : (t : ℕ) → IsReached old t → size_of new t ≡ size_of old t
+  size-same zero reached = inode_file_size
+  size-same (suc i) reached = inode_word-same i 2 reached (omega arith)
+
+  -- a content word is what stands at its old place
+  content_word-same : (t k : ℕ) → IsReached old t → 8 * k < size_of old t →
+      ((place : ℕ) → ContentStandsAt old t k place → word new place ≡ word old place) →
+      content_word new (root_of new t) k ≡ content_word old (root_of old t) k
+  content_word-same t k reached below same =
+      rw (root-same t reached)
+      (content-kept old new (root_of old t) (size_of old t) (keeps t reached) k below
+      ∙ slot_word-same old new _ _ (λ present. same _ (record { present = present; at = refl }))
+      ∙ sym (word_at-suc old (root_of old t) (height_of (root_of old t)) k))
+
+  inumber-same : (i slot : ℕ) → IsReached old i → kind_of old i ≡ 2 → slot < entry_count old i → inumber_at new i slot ≡ inumber_at old i slot
+  inumber-same i slot reached kind in_size =
+      content_word-same i (32 * slot + 0) reached (omega (arith, in_size)) (λ place at. (agrees.each place).inumbers i slot reached kind in_size at)
+
+  entry_word-same : (i slot j f : ℕ) → IsReached old i → EntryNames old i slot j → f < 32 → entry_word new i slot f ≡ entry_word old i slot f
+  entry_word-same i slot j f reached names low =
+      content_word-same i (32 * slot + f) reached (omega (arith, names.in_size)) (λ place at. (agrees.each place).names i slot j f reached names low at)
+
+  byte-same : (i o : ℕ) → IsReached old i → kind_of old i ≡ 1 → o < size_of old i → byte new (root_of new i) o ≡ byte old (root_of old i) o
+  byte-same i o reached kind below =
+      rw (root-same i reached)
+      (ap (λ w. byte_of w (o % 8)) (content-kept old new (root_of old i) (size_of old i) (keeps i reached) (o / 8) (omega (arith, below)))
+      ∙ slot_byte-same old new _ _ (o % 8) (λ present. (agrees.each _).bytes i o reached kind below (record { present = present; at = refl }))
+      ∙ ap (λ w. byte_of w (o % 8)) (sym (word_at-suc old (root_of old i) (height_of (root_of old i)) (o / 8))))
+
+  -- what is true of a tree by its root word and its size
+  pub at_old : (P : ℕ → ℕ → Type 0) (t : ℕ) → IsReached old t → P (root_of old t) (size_of old t) → P (root_of new t) (size_of new t)
+  at_old P t reached h = subst₂ P (sym (root-same t reached)) (sym (size-same t reached)) h
+
+  at_new : (P : ℕ → ℕ → Type 0) (t : ℕ) → IsReached old t → P (root_of new t) (size_of new t) → P (root_of old t) (size_of old t)
+  at_new P t reached h = subst₂ P (root-same t reached) (size-same t reached) h
+
+  pub has_block-back : (t b : ℕ) → IsReached old t → HasBlock new (root_of new t) (size_of new t) b → HasBlock old (root_of old t) (size_of old t) b
+  has_block-back t b reached has =
+      has_block-kept old new (root_of old t) (size_of old t) (keeps t reached) b (at_new (λ r s. HasBlock new r s b) t reached has)
+
+  pub meaning-same : SameMeaning old new
+  meaning-same = record {
+    whole = agrees.whole;
+    marked = (agrees.each 0).superblock (omega arith);
+    counted = (agrees.each 1).superblock (omega arith);
+    kind = kind-same;
+    size = λ i reached. size-same (suc i) reached;
+    inode_blocks = rw (size-same 0 inode_file) wf.inode_blocks;
+    inodes = le_of_eq (sym (size-same 0 inode_file));
+    inumber = inumber-same;
+    entry = entry_word-same;
+    bytes = byte-same;
+    sound = λ t r. at_old (IsSound new) t r (sound-kept old new (root_of old t) (size_of old t) (keeps t r) agrees.whole (wf.sound t r));
+    apart = λ t u b r q has also. wf.apart t u b r q (has_block-back t b r has) (has_block-back u b q also);
+    full_inode_file = at_old (IsFull new) 0 inode_file (full-kept old new (root_of old 0) (size_of old 0) (keeps 0 inode_file) wf.full_inode_file);
+    full_directories = λ i r kind. at_old (IsFull new) i r (full-kept old new (root_of old i) (size_of old i) (keeps i r) (wf.full_directories i r kind));
+  }
+
+  pub same-by_agreement : Same old new
+  same-by_agreement = same-by_meaning old new wf meaning-same

@@ -1,0 +1,143 @@
+-- A store of an inumber into an empty entry adds that name to its directory, and changes nothing else.
+use Rattle.std.proofs.Common.{◌≡◌, ◌≢◌, ◌⊎◌, ℕ, ◌+◌, ◌*◌, ◌/◌, ◌%◌, ◌<◌, ◌≤◌, length, sym, ◌∙◌, ap, subst, subst₂, arith, inl, inr}
+use Rattle.std.proofs.lemmas.Bool.{cases_eq}
+use Rattle.std.proofs.lemmas.List.FromFn.{length-map-range_with_len}
+use Rattle.bp_layout.specs.Words.{Image, word, byte_of}
+use Rattle.bp_layout.specs.Tree.{byte, HasBlock, IsSound, IsFull}
+use Rattle.bp_layout.specs.Inode.{kind_of, root_of, size_of, inode_count}
+use Rattle.bp_layout.specs.Directory.{EntryNames, IsName, name_at, inumber_at, entry_word, entry_count}
+use Rattle.bp_layout.specs.Reached.{IsReached}
+use Rattle.bp_layout.specs.Reached.IsReached.{inode_file}
+use Rattle.bp_layout.specs.WellFormed.{IsWellFormed}
+use Rattle.bp_layout.proofs.Finding.{map-same}
+use Rattle.bp_layout.proofs.Reached.{reached-in_file}
+use Rattle.bp_changes.proofs.AddsNames.{AddsNames, IsNewEntry}
+
+-- An empty entry of a directory whose name is new there, and an inode that nobody names and that has no bytes.
+pub record CanLink (old : Image) (i s j : ℕ) : Type 0 where
+  pub reached : IsReached old i
+  pub directory : kind_of old i ≡ 2
+  pub in_size : s < entry_count old i
+  pub empty : inumber_at old i s ≡ 0
+  pub fresh : IsReached old j → ⊥
+  pub in_file : j < inode_count old
+  pub kind : (1 ≤ kind_of old j) × (kind_of old j ≤ 2)
+  pub nothing : size_of old j ≡ 0
+  pub name : IsName (name_at old i s)
+  pub new_name : (r k : ℕ) → EntryNames old i r k → name_at old i r ≢ name_at old i s
+
+-- The second image has the inumber in that entry, and all else as it was. Its trees may stand in other blocks.
+pub record AddsEntry (old new : Image) (i s j : ℕ) : Type 0 where
+  pub whole : length new ≡ length old
+  pub marked : word new 0 ≡ word old 0
+  pub counted : word new 1 ≡ word old 1
+  pub kind : (u : ℕ) → u < inode_count old → kind_of new u ≡ kind_of old u
+  pub size : (u : ℕ) → u < inode_count old → size_of new u ≡ size_of old u
+  pub entered : inumber_at new i s ≡ j
+  pub entry : (u r f : ℕ) → IsReached old u → kind_of old u ≡ 2 → r < entry_count old u → f < 32 → ((i ≡ u) → (32 * s + 0 ≡ 32 * r + f) → ⊥) →
+      entry_word new u r f ≡ entry_word old u r f
+  pub bytes : (u o : ℕ) → IsReached old u → kind_of old u ≡ 1 → o < size_of old u → byte new (root_of new u) o ≡ byte old (root_of old u) o
+  pub sound : (t : ℕ) → IsReached old t → IsSound new (root_of new t) (size_of new t)
+  pub apart : (t u b : ℕ) → IsReached old t → IsReached old u →
+      HasBlock new (root_of new t) (size_of new t) b → HasBlock new (root_of new u) (size_of new u) b → t ≡ u
+  pub full_inode_file : IsFull new (root_of new 0) (size_of new 0)
+  pub full_directories : (u : ℕ) → IsReached old u → kind_of old u ≡ 2 → IsFull new (root_of new u) (size_of new u)
+
+module _ (old new : Image) (wf : IsWellFormed old) (i s j : ℕ) (can : CanLink old i s j) (adds : AddsEntry old new i s j) where
+  in_inodes : (t : ℕ) → IsReached old t → t < inode_count old
+  in_inodes = reached-in_file old wf
+
+  pub kinds_stay : (t : ℕ) → t < inode_count old → kind_of new t ≡ kind_of old t
+  kinds_stay = adds.kind
+
+  sizes_stay : (t : ℕ) → t < inode_count old → size_of new t ≡ size_of old t
+  sizes_stay = adds.size
+
+  inumber_here : inumber_at new i s ≡ j
+  inumber_here = adds.entered
+
+  entry_word_stays : (u r f : ℕ) → IsReached old u → kind_of old u ≡ 2 → r < entry_count old u → f < 32 → ((i ≡ u) → (32 * s + 0 ≡ 32 * r + f) → ⊥) →
+      entry_word new u r f ≡ entry_word old u r f
+  entry_word_stays = adds.entry
+
+  inumber_stays : (u r : ℕ) → IsReached old u → kind_of old u ≡ 2 → r < entry_count old u → ((i ≡ u) → (s ≡ r) → ⊥) → inumber_at new u r ≡ inumber_at old u r
+  inumber_stays u r reached kind in_size other = entry_word_stays u r 0 reached kind in_size (omega arith) (λ e same. other e (omega (arith, same)))
+
+  name_stays : (u r : ℕ) → IsReached old u → kind_of old u ≡ 2 → r < entry_count old u → length (name_at old u r) ≤ 240 → name_at new u r ≡ name_at old u r
+  name_stays u r reached kind in_size few =
+      let short : entry_word old u r 1 ≤ 240 = (rw length-map-range_with_len at few) in
+      let byte_stays : (o : ℕ) → o < 240 → byte new (root_of new u) (256 * r + 16 + o) ≡ byte old (root_of old u) (256 * r + 16 + o) =
+      λ o low.
+      let number : (256 * r + 16 + o) / 8 ≡ 32 * r + (2 + o / 8) = omega arith in
+      rw number (ap (λ w. byte_of w ((256 * r + 16 + o) % 8)) (entry_word_stays u r (2 + o / 8) reached kind in_size (omega (arith, low)) (λ e same. omega (arith, same, low)))) in
+      rw (entry_word_stays u r 1 reached kind in_size (omega arith) (λ e same. omega (arith, same)))
+      (map-same _ _ 0 (entry_word old u r 1) (λ o low high. byte_stays o (omega (arith, high, short))))
+
+  count_stays : (u : ℕ) → u < inode_count old → entry_count new u ≡ entry_count old u
+  count_stays u in_file = ap (λ n. n / 256) (sizes_stay u in_file)
+
+  j_not_zero : j ≢ 0
+  j_not_zero e = can.fresh (subst (IsReached old) (sym e) inode_file)
+
+  names_cases : (u r k : ℕ) → IsReached old u → EntryNames new u r k → IsNewEntry i s j u r k ⊎ EntryNames old u r k
+  names_cases u r k reached n = go (cases_eq u i) (cases_eq r s)
+    where
+      in_old : r < entry_count old u
+      in_old = rw (count_stays u (in_inodes u reached)) at n.in_size
+
+      is_directory : kind_of old u ≡ 2
+      is_directory = sym (kinds_stay u (in_inodes u reached)) ∙ n.directory
+
+      other : ((i ≡ u) → (s ≡ r) → ⊥) → EntryNames old u r k
+      other apart = record { directory = is_directory; in_size = in_old; inumber = sym (inumber_stays u r reached is_directory in_old apart) ∙ n.inumber; not_empty = n.not_empty }
+
+      go : (u ≡ i) ⊎ (u ≡ i → ⊥) → (r ≡ s) ⊎ (r ≡ s → ⊥) → IsNewEntry i s j u r k ⊎ EntryNames old u r k
+      go (inl e) (inl f) = inl (record { directory = e; slot = f; inode = sym n.inumber ∙ subst₂ (λ x y. inumber_at new x y ≡ j) (sym e) (sym f) inumber_here })
+      go (inl e) (inr f) = inr (other (λ x y. f (sym y)))
+      go (inr e) f = inr (other (λ x y. e (sym x)))
+
+  new_names : EntryNames new i s j
+  new_names = record {
+    directory = kinds_stay i (in_inodes i can.reached) ∙ can.directory;
+    in_size = rw (count_stays i (in_inodes i can.reached)) can.in_size;
+    inumber = inumber_here;
+    not_empty = j_not_zero;
+  }
+
+  names_stay : (u r k : ℕ) → IsReached old u → EntryNames old u r k → EntryNames new u r k
+  names_stay u r k reached n = record {
+    directory = kinds_stay u (in_inodes u reached) ∙ n.directory;
+    in_size = rw (count_stays u (in_inodes u reached)) n.in_size;
+    inumber = inumber_stays u r reached n.directory n.in_size (λ e f. n.not_empty (sym n.inumber ∙ subst₂ (λ x y. inumber_at old x y ≡ 0) e f can.empty)) ∙ n.inumber;
+    not_empty = n.not_empty;
+  }
+
+  pub name_of_new : name_at new i s ≡ name_at old i s
+  name_of_new = name_stays i s can.reached can.directory can.in_size can.name.short
+
+  pub entry_adds : AddsNames old new i s j
+  entry_adds = record {
+    reached = can.reached;
+    fresh = can.fresh;
+    in_file = can.in_file;
+    whole = adds.whole;
+    marked = adds.marked;
+    counted = adds.counted;
+    inode_bytes = sizes_stay 0 (in_inodes 0 inode_file);
+    kind = λ u r. kinds_stay u (in_inodes u r);
+    new_kind = rw (kinds_stay j can.in_file) can.kind;
+    new_size = sizes_stay j can.in_file ∙ can.nothing;
+    file_size = λ u r kind. sizes_stay u (in_inodes u r);
+    directory_size = λ u r kind. rw (sizes_stay u (in_inodes u r)) (wf.directory_sizes u r kind);
+    back = names_cases;
+    stay = names_stay;
+    entry = new_names;
+    same_names = λ u r k q n. name_stays u r q n.directory n.in_size (wf.names u r k q n).short;
+    name = rw name_of_new can.name;
+    new_name = λ r k n. rw name_of_new (can.new_name r k n);
+    bytes = adds.bytes;
+    sound = adds.sound;
+    apart = adds.apart;
+    full_inode_file = adds.full_inode_file;
+    full_directories = adds.full_directories;
+  }

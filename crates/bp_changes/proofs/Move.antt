@@ -1,0 +1,270 @@
+-- An inumber leaves one entry and comes into another: what a rename onto a target, or into another directory, makes of an image.
+use Rattle.std.proofs.Common.{◌≡◌, ◌≢◌, ◌⊎◌, ℕ, suc, ◌+◌, ◌*◌, ◌/◌, ◌%◌, ◌<◌, ◌≤◌, Bool, true, false, ◌==◌, length, Option, None, Some, refl, sym, ◌∙◌, ap, subst, subst₂, arith, inl, inr}
+use Rattle.std.proofs.lemmas.Bool.{cases_eq, eqb-true}
+use Rattle.std.proofs.lemmas.List.FromFn.{length-map-range_with_len}
+use Rattle.bp_layout.specs.Words.{Image, word, byte_of}
+use Rattle.bp_layout.specs.Tree.{byte, HasBlock, IsSound, IsFull}
+use Rattle.bp_layout.specs.Inode.{kind_of, root_of, size_of, inode_count}
+use Rattle.bp_layout.specs.Directory.{Name, EntryNames, IsName, name_at, inumber_at, entry_word, entry_count, lookup_in}
+use Rattle.bp_layout.specs.Reached.{IsReached}
+use Rattle.bp_layout.specs.Reached.IsReached.{inode_file, root_directory, named}
+use Rattle.bp_layout.specs.Lookup.{node_of}
+use Rattle.bp_layout.specs.Lookup.Node.{file}
+use Rattle.bp_layout.specs.WellFormed.{IsWellFormed}
+use Rattle.bp_layout.proofs.Finding.{map-same}
+use Rattle.bp_layout.proofs.Reached.{reached-in_file}
+use Rattle.bp_layout.proofs.LookupLaws.{Shows, lookup_in-shows, lookup_in-found, lookup_in-none}
+use Rattle.bp_changes.proofs.MoveName.{MovesName}
+
+-- The source entry (i, s) names j. The target entry (k, r) is empty or names a file or an empty directory.
+pub record CanMoveEntry (old : Image) (i s k r j : ℕ) : Type 0 where
+  pub reached : IsReached old i
+  pub entry : EntryNames old i s j
+  pub target : IsReached old k
+  pub directory : kind_of old k ≡ 2
+  pub in_size : r < entry_count old k
+  pub apart : (i ≡ k) → (s ≡ r) → ⊥
+  pub alone : (x l : ℕ) → inumber_at old k r ≢ 0 → EntryNames old (inumber_at old k r) x l → ⊥
+  pub name : IsName (name_at old k r)
+  pub new_name : (x l : ℕ) → EntryNames old k x l → name_at old k x ≡ name_at old k r → x ≡ r
+
+-- The second image has the inumber there, and none in the source entry. Its trees may stand in other blocks.
+pub record MovesEntry (old new : Image) (i s k r j : ℕ) : Type 0 where
+  pub whole : length new ≡ length old
+  pub marked : word new 0 ≡ word old 0
+  pub counted : word new 1 ≡ word old 1
+  pub kind : (u : ℕ) → u < inode_count old → kind_of new u ≡ kind_of old u
+  pub size : (u : ℕ) → u < inode_count old → size_of new u ≡ size_of old u
+  pub emptied : inumber_at new i s ≡ 0
+  pub entered : inumber_at new k r ≡ j
+  pub entry : (u x f : ℕ) → IsReached old u → kind_of old u ≡ 2 → x < entry_count old u → f < 32 →
+      ((i ≡ u) → (32 * s + 0 ≡ 32 * x + f) → ⊥) → ((k ≡ u) → (32 * r + 0 ≡ 32 * x + f) → ⊥) → entry_word new u x f ≡ entry_word old u x f
+  pub bytes : (u o : ℕ) → IsReached old u → kind_of old u ≡ 1 → o < size_of old u → byte new (root_of new u) o ≡ byte old (root_of old u) o
+  pub sound : (t : ℕ) → IsReached old t → IsSound new (root_of new t) (size_of new t)
+  pub apart : (t u b : ℕ) → IsReached old t → IsReached old u →
+      HasBlock new (root_of new t) (size_of new t) b → HasBlock new (root_of new u) (size_of new u) b → t ≡ u
+  pub full_inode_file : IsFull new (root_of new 0) (size_of new 0)
+  pub full_directories : (u : ℕ) → IsReached old u → kind_of old u ≡ 2 → IsFull new (root_of new u) (size_of new u)
+
+module _ (old new : Image) (wf : IsWellFormed old) (i s k r j : ℕ) (can : CanMoveEntry old i s k r j) (moves : MovesEntry old new i s k r j) where
+  in_inodes : (t : ℕ) → IsReached old t → t < inode_count old
+  in_inodes = reached-in_file old wf
+
+  j_reached : IsReached old j
+  j_reached = named s can.reached can.entry
+
+  count_stays : (u : ℕ) → IsReached old u → entry_count new u ≡ entry_count old u
+  count_stays u reached = ap (λ n. n / 256) (moves.size u (in_inodes u reached))
+
+  inumber_stays : (u x : ℕ) → IsReached old u → kind_of old u ≡ 2 → x < entry_count old u → ((u ≡ i) → (x ≡ s) → ⊥) → ((u ≡ k) → (x ≡ r) → ⊥) → inumber_at new u x ≡ inumber_at old u x
+  inumber_stays u x reached kind low one two =
+      moves.entry u x 0 reached kind low (omega arith) (λ e same. one (sym e) (omega (arith, same))) (λ e same. two (sym e) (omega (arith, same)))
+
+  name_stays : (u x : ℕ) → IsReached old u → kind_of old u ≡ 2 → x < entry_count old u → length (name_at old u x) ≤ 240 → name_at new u x ≡ name_at old u x
+  name_stays u x reached kind low few =
+      let short : entry_word old u x 1 ≤ 240 = (rw length-map-range_with_len at few) in
+      let byte_stays : (o : ℕ) → o < 240 → byte new (root_of new u) (256 * x + 16 + o) ≡ byte old (root_of old u) (256 * x + 16 + o) =
+      λ o small.
+      let number : (256 * x + 16 + o) / 8 ≡ 32 * x + (2 + o / 8) = omega arith in
+      rw number (ap (λ w. byte_of w ((256 * x + 16 + o) % 8))
+      (moves.entry u x (2 + o / 8) reached kind low (omega (arith, small)) (λ e same. omega (arith, same, small)) (λ e same. omega (arith, same, small)))) in
+      rw (moves.entry u x 1 reached kind low (omega arith) (λ e same. omega (arith, same)) (λ e same. omega (arith, same)))
+      (map-same _ _ 0 (entry_word old u x 1) (λ o low high. byte_stays o (omega (arith, high, short))))
+
+  name_of_old : (u x l : ℕ) → IsReached old u → EntryNames old u x l → name_at new u x ≡ name_at old u x
+  name_of_old u x l reached n = name_stays u x reached n.directory n.in_size (wf.names u x l reached n).short
+
+  name_of_target : name_at new k r ≡ name_at old k r
+  name_of_target = name_stays k r can.target can.directory can.in_size can.name.short
+
+  -- an entry of the new image: the target, or one of the old image but neither source nor target
+  pub data Entry (u x l : ℕ) : Type 0 where
+    is_target : u ≡ k → x ≡ r → l ≡ j → Entry u x l
+    is_old : EntryNames old u x l → ((u ≡ i) → (x ≡ s) → ⊥) → ((u ≡ k) → (x ≡ r) → ⊥) → Entry u x l
+
+  entry_of : (u x l : ℕ) → IsReached old u → EntryNames new u x l → Entry u x l
+  entry_of u x l reached n = go (cases_eq u k) (cases_eq x r)
+    where
+      kind : kind_of old u ≡ 2
+      kind = sym (moves.kind u (in_inodes u reached)) ∙ n.directory
+
+      low : x < entry_count old u
+      low = rw (count_stays u reached) at n.in_size
+
+      not_source : (u ≡ i) → (x ≡ s) → ⊥
+      not_source e f = n.not_empty (sym n.inumber ∙ subst₂ (λ a b. inumber_at new a b ≡ 0) (sym e) (sym f) moves.emptied)
+
+      other : ((u ≡ k) → (x ≡ r) → ⊥) → Entry u x l
+      other not_target =
+          is_old (record { directory = kind; in_size = low; inumber = sym (inumber_stays u x reached kind low not_source not_target) ∙ n.inumber; not_empty = n.not_empty }) not_source not_target
+
+      go : (u ≡ k) ⊎ (u ≡ k → ⊥) → (x ≡ r) ⊎ (x ≡ r → ⊥) → Entry u x l
+      go (inl e) (inl f) = is_target e f (sym n.inumber ∙ subst₂ (λ a b. inumber_at new a b ≡ j) (sym e) (sym f) moves.entered)
+      go (inl e) (inr f) = other (λ a b. f b)
+      go (inr e) f = other (λ a b. e a)
+
+  names_stay : (u x l : ℕ) → IsReached old u → EntryNames old u x l → ((u ≡ i) → (x ≡ s) → ⊥) → ((u ≡ k) → (x ≡ r) → ⊥) → EntryNames new u x l
+  names_stay u x l reached n one two = record {
+    directory = moves.kind u (in_inodes u reached) ∙ n.directory;
+    in_size = rw (count_stays u reached) n.in_size;
+    inumber = inumber_stays u x reached n.directory n.in_size one two ∙ n.inumber;
+    not_empty = n.not_empty;
+  }
+
+  new_entry : EntryNames new k r j
+  new_entry = record {
+    directory = moves.kind k (in_inodes k can.target) ∙ can.directory;
+    in_size = rw (count_stays k can.target) can.in_size;
+    inumber = moves.entered;
+    not_empty = can.entry.not_empty;
+  }
+
+  reached_back : (t : ℕ) → IsReached new t → IsReached old t
+  reached_back _ inode_file = inode_file
+  reached_back _ root_directory = root_directory
+  reached_back _ (named {i = u} {j = l} x from n) = go (reached_back u from) (entry_of u x l (reached_back u from) n)
+    where
+      go : IsReached old u → Entry u x l → IsReached old l
+      go reached (is_target e f g) = subst (IsReached old) (sym g) j_reached
+      go reached (is_old before one two) = named x reached before
+
+  pub moved_well_formed : IsWellFormed new
+  moved_well_formed =
+      let inodes : size_of new 0 ≡ size_of old 0 = moves.size 0 (in_inodes 0 inode_file) in
+      record {
+        whole = rw moves.whole wf.whole;
+        at_least = rw moves.whole wf.at_least;
+        at_most = rw moves.whole wf.at_most;
+        marked = moves.marked ∙ wf.marked;
+        counted = moves.counted ∙ rw moves.whole wf.counted;
+        sound = λ t q. moves.sound t (reached_back t q);
+        apart = λ t u b q p one two. moves.apart t u b (reached_back t q) (reached_back u p) one two;
+        full_inode_file = moves.full_inode_file;
+        full_directories = λ t q kind. moves.full_directories t (reached_back t q) (sym (moves.kind t (in_inodes t (reached_back t q))) ∙ kind);
+        inode_blocks = rw inodes wf.inode_blocks;
+        some_inodes = rw inodes wf.some_inodes;
+        inumbers = λ u x l q n. rw inodes (in_file u x l (reached_back u q) (entry_of u x l (reached_back u q) n));
+        not_root = λ u x l q n. not_root u x l (reached_back u q) (entry_of u x l (reached_back u q) n);
+        named_once = λ u x v y l q p n m. once u x v y l (reached_back u q) (reached_back v p) (entry_of u x l (reached_back u q) n) (entry_of v y l (reached_back v p) m);
+        kinds = λ u q. rw (moves.kind (suc u) (in_inodes (suc u) (reached_back (suc u) q))) (wf.kinds u (reached_back (suc u) q));
+        root_kind = moves.kind 1 (in_inodes 1 root_directory) ∙ wf.root_kind;
+        directory_sizes = λ u q kind.
+            rw (moves.size u (in_inodes u (reached_back u q))) (wf.directory_sizes u (reached_back u q) (sym (moves.kind u (in_inodes u (reached_back u q))) ∙ kind));
+        names = λ u x l q n. name_form u x l (reached_back u q) (entry_of u x l (reached_back u q) n);
+        names_once = λ u x y l m q n o same. name_once u x y l m (reached_back u q) (entry_of u x l (reached_back u q) n) (entry_of u y m (reached_back u q) o) same;
+      }
+    where
+      in_file : (u x l : ℕ) → IsReached old u → Entry u x l → l < inode_count old
+      in_file u x l reached (is_target e f g) = rw g (in_inodes j j_reached)
+      in_file u x l reached (is_old n one two) = wf.inumbers u x l reached n
+
+      not_root : (u x l : ℕ) → IsReached old u → Entry u x l → l ≡ 1 → ⊥
+      not_root u x l reached (is_target e f g) h = wf.not_root i s j can.reached can.entry (sym g ∙ h)
+      not_root u x l reached (is_old n one two) h = wf.not_root u x l reached n h
+
+      source_is : (u x l : ℕ) → IsReached old u → EntryNames old u x l → l ≡ j → (u ≡ i) × (x ≡ s)
+      source_is u x l reached n e = wf.named_once u x i s j reached can.reached (subst (EntryNames old u x) e n) can.entry
+
+      once : (u x v y l : ℕ) → IsReached old u → IsReached old v → Entry u x l → Entry v y l → (u ≡ v) × (x ≡ y)
+      once u x v y l q p (is_target a b c) (is_target d e f) = (a ∙ sym d, b ∙ sym e)
+      once u x v y l q p (is_target a b c) (is_old n one two) = let at : (v ≡ i) × (y ≡ s) = source_is v y l p n c in absurd (one at.0 at.1)
+      once u x v y l q p (is_old n one two) (is_target d e f) = let at : (u ≡ i) × (x ≡ s) = source_is u x l q n f in absurd (one at.0 at.1)
+      once u x v y l q p (is_old n one two) (is_old m three four) = wf.named_once u x v y l q p n m
+
+      name_form : (u x l : ℕ) → IsReached old u → Entry u x l → IsName (name_at new u x)
+      name_form u x l reached (is_target e f g) = subst₂ (λ a b. IsName (name_at new a b)) (sym e) (sym f) (rw name_of_target can.name)
+      name_form u x l reached (is_old n one two) = rw (name_of_old u x l reached n) (wf.names u x l reached n)
+
+      at_target : (u x : ℕ) → u ≡ k → x ≡ r → name_at new u x ≡ name_at old k r
+      at_target u x e f = subst₂ (λ a b. name_at new a b ≡ name_at old k r) (sym e) (sym f) name_of_target
+
+      clash : (u y m : ℕ) → u ≡ k → EntryNames old u y m → name_at old u y ≡ name_at old k r → y ≡ r
+      clash u y m e n same = can.new_name y m (subst (λ a. EntryNames old a y m) e n) (subst (λ a. name_at old a y ≡ name_at old k r) e same)
+
+      name_once : (u x y l m : ℕ) → IsReached old u → Entry u x l → Entry u y m → name_at new u x ≡ name_at new u y → x ≡ y
+      name_once u x y l m q (is_target a b c) (is_target d e f) same = b ∙ sym e
+      name_once u x y l m q (is_target a b c) (is_old n one two) same = b ∙ sym (clash u y m a n (sym (name_of_old u y m q n) ∙ sym same ∙ at_target u x a b))
+      name_once u x y l m q (is_old n one two) (is_target d e f) same = clash u x l d n (sym (name_of_old u x l q n) ∙ same ∙ at_target u y d e) ∙ sym e
+      name_once u x y l m q (is_old n one two) (is_old o three four) same = wf.names_once u x y l m q n o (sym (name_of_old u x l q n) ∙ same ∙ name_of_old u y m q o)
+
+  -- ---- names
+
+  pub lookup_target : lookup_in new k (name_at old k r) ≡ Some j
+  lookup_target =
+      lookup_in-found new k j (name_at old k r) (record { slot = r; entry = new_entry; spelled = name_of_target }) (λ x l n same. which x l (entry_of k x l can.target n) same)
+    where
+      which : (x l : ℕ) → Entry k x l → name_at new k x ≡ name_at old k r → x ≡ r
+      which x l (is_target e f g) same = f
+      which x l (is_old n one two) same = can.new_name x l n (sym (name_of_old k x l can.target n) ∙ same)
+
+  pub lookup_other : (u : ℕ) (name : Name) → IsReached old u → ((u ≡ i) → (name ≡ name_at old i s) → ⊥) → ((u ≡ k) → (name ≡ name_at old k r) → ⊥) → lookup_in new u name ≡ lookup_in old u name
+  lookup_other u name reached no_source no_target = go (lookup_in old u name) refl
+    where
+      before : (l : ℕ) → (shows : Shows new u name l) → Entry u shows.slot l → Shows old u name l
+      before l shows (is_target e f g) =
+          absurd (no_target e (sym shows.spelled ∙ subst₂ (λ a b. name_at new a b ≡ name_at old k r) (sym e) (sym f) name_of_target))
+      before l shows (is_old n one two) = record { slot = shows.slot; entry = n; spelled = sym (name_of_old u shows.slot l reached n) ∙ shows.spelled }
+
+      found_before : (l : ℕ) → Shows old u name l → lookup_in old u name ≡ Some l
+      found_before l shows = lookup_in-found old u l name shows (λ x m n same. wf.names_once u x shows.slot m l reached n shows.entry (same ∙ sym shows.spelled))
+
+      go : (found : Option ℕ) → lookup_in old u name ≡ found → lookup_in new u name ≡ lookup_in old u name
+      go None e =
+          lookup_in-none new u name (λ l shows.
+          let found : lookup_in old u name ≡ Some l = found_before l (before l shows (entry_of u shows.slot l reached shows.entry)) in cc) ∙ sym e
+      go (Some l) e =
+          let was : Shows old u name l = lookup_in-shows old u l name e in
+          let not_source : (u ≡ i) → (was.slot ≡ s) → ⊥ = λ a b. no_source a (sym was.spelled ∙ subst₂ (λ x y. name_at old x y ≡ name_at old i s) (sym a) (sym b) refl) in
+          let not_target : (u ≡ k) → (was.slot ≡ r) → ⊥ = λ a b. no_target a (sym was.spelled ∙ subst₂ (λ x y. name_at old x y ≡ name_at old k r) (sym a) (sym b) refl) in
+          lookup_in-found new u l name
+          (record { slot = was.slot; entry = names_stay u was.slot l reached was.entry not_source not_target; spelled = name_of_old u was.slot l reached was.entry ∙ was.spelled })
+          (λ x m n same.
+          let old_one : Shows old u name m = before m (record { slot = x; entry = n; spelled = same }) (entry_of u x m reached n) in
+          same_slot x m was (before m (record { slot = x; entry = n; spelled = same }) (entry_of u x m reached n)) (entry_of u x m reached n) same)
+          ∙ sym e
+        where
+          same_slot : (x m : ℕ) → (was : Shows old u name l) → Shows old u name m → Entry u x m → name_at new u x ≡ name → x ≡ was.slot
+          same_slot x m was also (is_target a b c) same =
+              absurd (no_target a (sym same ∙ subst₂ (λ p q. name_at new p q ≡ name_at old k r) (sym a) (sym b) name_of_target))
+          same_slot x m was also (is_old n one two) same = wf.names_once u x was.slot m l reached n was.entry (sym (name_of_old u x m reached n) ∙ same ∙ sym was.spelled)
+
+  -- the source's name is gone, but where it is the target's
+  pub lookup_source : ((i ≡ k) → (name_at old i s ≡ name_at old k r) → ⊥) → lookup_in new i (name_at old i s) ≡ None
+  lookup_source other = lookup_in-none new i (name_at old i s) (λ l shows. none l shows (entry_of i shows.slot l can.reached shows.entry))
+    where
+      none : (l : ℕ) → (shows : Shows new i (name_at old i s) l) → Entry i shows.slot l → ⊥
+      none l shows (is_target e f g) = other e (sym shows.spelled ∙ subst₂ (λ a b. name_at new a b ≡ name_at old k r) (sym e) (sym f) name_of_target)
+      none l shows (is_old n one two) =
+          one refl (wf.names_once i shows.slot s l j can.reached n can.entry (sym (name_of_old i shows.slot l can.reached n) ∙ shows.spelled))
+
+  names_differ : (i ≡ k) → (name_at old i s ≡ name_at old k r) → ⊥
+  names_differ e same =
+      can.apart e (can.new_name s j (subst (λ a. EntryNames old a s j) e can.entry) (subst (λ a. name_at old a s ≡ name_at old k r) e same))
+
+  node_stays : (u : ℕ) → IsReached old u → node_of new u ≡ node_of old u
+  node_stays u reached = go (kind_of old u == 1) refl
+    where
+      go : (b : Bool) → (kind_of old u == 1) ≡ b → node_of new u ≡ node_of old u
+      go true e =
+          rw (moves.kind u (in_inodes u reached), e, moves.size u (in_inodes u reached)) (ap file (map-same _ _ 0 (size_of old u) (λ o low high. moves.bytes u o reached (eqb-true _ _ e) (omega (arith, high)))))
+      go false e = rw (moves.kind u (in_inodes u reached), e) refl
+
+  pub entry_moves : MovesName old new i (name_at old i s) k (name_at old k r) j
+  entry_moves = record {
+    well_formed = wf;
+    apart = names_differ;
+    source = lookup_in-found old i j (name_at old i s) (record { slot = s; entry = can.entry; spelled = refl }) (λ x l n e. wf.names_once i x s l j can.reached n can.entry e);
+    gone = lookup_source names_differ;
+    target = lookup_target;
+    alone = nothing;
+    others = lookup_other;
+    nodes = node_stays;
+  }
+    where
+      nothing : (v : ℕ) (name : Name) → lookup_in old k (name_at old k r) ≡ Some v → lookup_in old v name ≡ None
+      nothing v name e =
+          let shows : Shows old k (name_at old k r) v = lookup_in-shows old k v (name_at old k r) e in
+          let slot : shows.slot ≡ r = can.new_name shows.slot v shows.entry shows.spelled in
+          let inumber : inumber_at old k r ≡ v = ap (inumber_at old k) (sym slot) ∙ shows.entry.inumber in
+          lookup_in-none old v name (λ l below.
+          can.alone below.slot l (λ empty. shows.entry.not_empty (sym inumber ∙ empty)) (subst (λ a. EntryNames old a below.slot l) (sym inumber) below.entry))

@@ -1,0 +1,32 @@
+-- The plain tree of an image in which a name has moved, or is spelled anew.
+use Rattle.std.proofs.Common.{◌≡◌, ℕ, [], ◌∷◌, ◌++◌, Option, None, Some, refl, sym, ◌∙◌, ap}
+use Rattle.bp_layout.specs.Words.{Image}
+use Rattle.bp_layout.specs.Directory.{Name}
+use Rattle.bp_layout.specs.Lookup.{Path, lookup, shown}
+use Rattle.bp_layout.specs.WellFormed.{IsWellFormed}
+use Rattle.bp_layout.specs.Below.{rest_below}
+use Rattle.bp_layout.proofs.Below.{rest_below-is}
+use Rattle.bp_changes.proofs.MoveName.{MovesName, shown_target, shown_source, shown_elsewhere, target_aside, target_empty}
+use Rattle.bp_plain.specs.PlainTree.{FileTree}
+use Rattle.bp_plain.specs.Stands.{Stands}
+use Rattle.bp_plain.specs.Plain.{moved}
+use Rattle.bp_plain.proofs.Moved.{get-moved, after_move}
+
+-- `from` and `to` are the paths of the two directories, of which neither lies below the name
+module _ (old new : Image) (i : ℕ) (was : Name) (k : ℕ) (now : Name) (j : ℕ) (moves : MovesName old new i was k now j)
+    (from to : Path) (from_is : lookup old from ≡ Some i) (to_is : lookup old to ≡ Some k)
+    (outside : rest_below (from ++ was ∷ []) to ≡ None) (aside : rest_below (to ++ now ∷ []) from ≡ None) where
+  -- the tree has what was below the source below the target
+  pub move_stands : (tree : FileTree) → Stands old tree → IsWellFormed new → Stands new (moved (from ++ was ∷ []) (to ++ now ∷ []) tree)
+  move_stands tree stands wf = record {
+    well_formed = wf;
+    shows = λ path. get-moved (from ++ was ∷ []) (to ++ now ∷ []) tree (target_aside old new i was k now j moves from to from_is to_is outside aside) (λ n rest. stands.shows _ ∙ (target_empty old new i was k now j moves from to from_is to_is outside aside) n rest) path
+        ∙ go path (rest_below (to ++ now ∷ []) path) refl (rest_below (from ++ was ∷ []) path) refl;
+  }
+    where
+      go : (path : Path) → (o : Option Path) → rest_below (to ++ now ∷ []) path ≡ o → (a : Option Path) → rest_below (from ++ was ∷ []) path ≡ a →
+          after_move (from ++ was ∷ []) (to ++ now ∷ []) tree path ≡ shown new path
+      go path (Some rest) e a f =
+          rw e (stands.shows ((from ++ was ∷ []) ++ rest) ∙ sym ((shown_target old new i was k now j moves from to from_is to_is outside aside) rest) ∙ ap (shown new) (sym (rest_below-is (to ++ now ∷ []) path rest e)))
+      go path None e (Some rest) f = rw (e, f) (sym ((shown_source old new i was k now j moves from to from_is to_is outside aside) rest) ∙ ap (shown new) (sym (rest_below-is (from ++ was ∷ []) path rest f)))
+      go path None e None f = rw (e, f) (stands.shows path ∙ sym ((shown_elsewhere old new i was k now j moves from to from_is to_is outside aside) path e f))

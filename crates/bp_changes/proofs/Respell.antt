@@ -1,0 +1,201 @@
+-- An entry is spelled anew in place: what a rename within one directory makes of an image.
+use Rattle.std.proofs.Common.{◌≡◌, ◌≢◌, ◌⊎◌, ℕ, suc, ◌+◌, ◌*◌, ◌/◌, ◌%◌, ◌<◌, ◌≤◌, Bool, true, false, ◌==◌, length, Option, None, Some, refl, sym, ◌∙◌, ap, ap₂, subst, arith, inl, inr}
+use Rattle.std.proofs.lemmas.Bool.{cases_eq, eqb-true}
+use Rattle.std.proofs.lemmas.List.FromFn.{length-map-range_with_len}
+use Rattle.bp_layout.specs.Words.{Image, word, byte_of}
+use Rattle.bp_layout.specs.Tree.{byte, HasBlock, IsSound, IsFull}
+use Rattle.bp_layout.specs.Inode.{kind_of, root_of, size_of, inode_count}
+use Rattle.bp_layout.specs.Directory.{Name, EntryNames, IsName, name_at, inumber_at, entry_word, entry_count, lookup_in}
+use Rattle.bp_layout.specs.Reached.{IsReached}
+use Rattle.bp_layout.specs.Reached.IsReached.{inode_file, root_directory, named}
+use Rattle.bp_layout.specs.Lookup.{node_of}
+use Rattle.bp_layout.specs.Lookup.Node.{file}
+use Rattle.bp_layout.specs.WellFormed.{IsWellFormed}
+use Rattle.bp_layout.proofs.Finding.{map-same}
+use Rattle.bp_layout.proofs.Reached.{reached-in_file}
+use Rattle.bp_layout.proofs.LookupLaws.{Shows, lookup_in-shows, lookup_in-found, lookup_in-none}
+use Rattle.bp_changes.proofs.MoveName.{MovesName}
+
+-- The second image has another name in that entry, new to its directory, and all else as it was.
+pub record RespellsEntry (old new : Image) (i s j : ℕ) : Type 0 where
+  pub reached : IsReached old i
+  pub names : EntryNames old i s j
+  pub whole : length new ≡ length old
+  pub marked : word new 0 ≡ word old 0
+  pub counted : word new 1 ≡ word old 1
+  pub kind : (u : ℕ) → u < inode_count old → kind_of new u ≡ kind_of old u
+  pub size : (u : ℕ) → u < inode_count old → size_of new u ≡ size_of old u
+  pub inumber : (u x : ℕ) → IsReached old u → kind_of old u ≡ 2 → x < entry_count old u → inumber_at new u x ≡ inumber_at old u x
+  pub entry : (u x l f : ℕ) → IsReached old u → EntryNames old u x l → f < 32 → ((u ≡ i) → (x ≡ s) → ⊥) → entry_word new u x f ≡ entry_word old u x f
+  pub name : IsName (name_at new i s)
+  pub changed : name_at old i s ≢ name_at new i s
+  pub new_name : (x l : ℕ) → EntryNames old i x l → x ≢ s → name_at old i x ≢ name_at new i s
+  pub bytes : (u o : ℕ) → IsReached old u → kind_of old u ≡ 1 → o < size_of old u → byte new (root_of new u) o ≡ byte old (root_of old u) o
+  pub sound : (t : ℕ) → IsReached old t → IsSound new (root_of new t) (size_of new t)
+  pub apart : (t u b : ℕ) → IsReached old t → IsReached old u →
+      HasBlock new (root_of new t) (size_of new t) b → HasBlock new (root_of new u) (size_of new u) b → t ≡ u
+  pub full_inode_file : IsFull new (root_of new 0) (size_of new 0)
+  pub full_directories : (u : ℕ) → IsReached old u → kind_of old u ≡ 2 → IsFull new (root_of new u) (size_of new u)
+
+module _ (old new : Image) (wf : IsWellFormed old) (i s j : ℕ) (spells : RespellsEntry old new i s j) where
+  in_inodes : (t : ℕ) → IsReached old t → t < inode_count old
+  in_inodes = reached-in_file old wf
+
+  count_stays : (u : ℕ) → IsReached old u → entry_count new u ≡ entry_count old u
+  count_stays u reached = ap (λ n. n / 256) (spells.size u (in_inodes u reached))
+
+  names_back : (u x l : ℕ) → IsReached old u → EntryNames new u x l → EntryNames old u x l
+  names_back u x l reached n =
+      let kind : kind_of old u ≡ 2 = sym (spells.kind u (in_inodes u reached)) ∙ n.directory in
+      let low : x < entry_count old u = rw (count_stays u reached) at n.in_size in
+      record { directory = kind; in_size = low; inumber = sym (spells.inumber u x reached kind low) ∙ n.inumber; not_empty = n.not_empty }
+
+  names_stay : (u x l : ℕ) → IsReached old u → EntryNames old u x l → EntryNames new u x l
+  names_stay u x l reached n = record {
+    directory = spells.kind u (in_inodes u reached) ∙ n.directory;
+    in_size = rw (count_stays u reached) n.in_size;
+    inumber = spells.inumber u x reached n.directory n.in_size ∙ n.inumber;
+    not_empty = n.not_empty;
+  }
+
+  reached_back : (t : ℕ) → IsReached new t → IsReached old t
+  reached_back _ inode_file = inode_file
+  reached_back _ root_directory = root_directory
+  reached_back _ (named {i = u} {j = l} x from n) = named x (reached_back u from) (names_back u x l (reached_back u from) n)
+
+  name_stays : (u x l : ℕ) → IsReached old u → EntryNames old u x l → ((u ≡ i) → (x ≡ s) → ⊥) → name_at new u x ≡ name_at old u x
+  name_stays u x l reached n other =
+      let form : IsName (name_at old u x) = wf.names u x l reached n in
+      let short : entry_word old u x 1 ≤ 240 = (rw length-map-range_with_len at form.short) in
+      let byte_stays : (o : ℕ) → o < 240 → byte new (root_of new u) (256 * x + 16 + o) ≡ byte old (root_of old u) (256 * x + 16 + o) =
+      λ o small.
+      let number : (256 * x + 16 + o) / 8 ≡ 32 * x + (2 + o / 8) = omega arith in
+      rw number (ap (λ w. byte_of w ((256 * x + 16 + o) % 8)) (spells.entry u x l (2 + o / 8) reached n (omega (arith, small)) other)) in
+      rw (spells.entry u x l 1 reached n (omega arith) other)
+      (map-same _ _ 0 (entry_word old u x 1) (λ o low high. byte_stays o (omega (arith, high, short))))
+
+  here_or : (u x : ℕ) → ((u ≡ i) × (x ≡ s)) ⊎ ((u ≡ i) → (x ≡ s) → ⊥)
+  here_or u x = go (cases_eq u i) (cases_eq x s)
+    where
+      go : (u ≡ i) ⊎ (u ≡ i → ⊥) → (x ≡ s) ⊎ (x ≡ s → ⊥) → ((u ≡ i) × (x ≡ s)) ⊎ ((u ≡ i) → (x ≡ s) → ⊥)
+      go (inl e) (inl f) = inl (e, f)
+      go (inl e) (inr f) = inr (λ a b. f b)
+      go (inr e) f = inr (λ a b. e a)
+
+  at_entry : (u x : ℕ) → u ≡ i → x ≡ s → name_at new u x ≡ name_at new i s
+  at_entry u x e f = ap₂ (λ a b. name_at new a b) e f
+
+  -- the other entries of that directory have other names
+  others_differ : (u x l : ℕ) → IsReached old u → EntryNames old u x l → ((u ≡ i) → (x ≡ s) → ⊥) → u ≡ i → name_at new u x ≡ name_at new i s → ⊥
+  others_differ u x l reached n other e same =
+      spells.new_name x l (subst (λ a. EntryNames old a x l) e n) (λ f. other e f)
+      (subst (λ a. name_at old a x ≡ name_at new i s) e (sym (name_stays u x l reached n other) ∙ same))
+
+  pub respelled_well_formed : IsWellFormed new
+  respelled_well_formed =
+      let inodes : size_of new 0 ≡ size_of old 0 = spells.size 0 (in_inodes 0 inode_file) in
+      record {
+        whole = rw spells.whole wf.whole;
+        at_least = rw spells.whole wf.at_least;
+        at_most = rw spells.whole wf.at_most;
+        marked = spells.marked ∙ wf.marked;
+        counted = spells.counted ∙ rw spells.whole wf.counted;
+        sound = λ t q. spells.sound t (reached_back t q);
+        apart = λ t u b q p one two. spells.apart t u b (reached_back t q) (reached_back u p) one two;
+        full_inode_file = spells.full_inode_file;
+        full_directories = λ t q kind. spells.full_directories t (reached_back t q) (sym (spells.kind t (in_inodes t (reached_back t q))) ∙ kind);
+        inode_blocks = rw inodes wf.inode_blocks;
+        some_inodes = rw inodes wf.some_inodes;
+        inumbers = λ u x l q n. rw inodes (wf.inumbers u x l (reached_back u q) (names_back u x l (reached_back u q) n));
+        not_root = λ u x l q n. wf.not_root u x l (reached_back u q) (names_back u x l (reached_back u q) n);
+        named_once = λ u x v y l q p n m. wf.named_once u x v y l (reached_back u q) (reached_back v p) (names_back u x l (reached_back u q) n) (names_back v y l (reached_back v p) m);
+        kinds = λ u q. rw (spells.kind (suc u) (in_inodes (suc u) (reached_back (suc u) q))) (wf.kinds u (reached_back (suc u) q));
+        root_kind = spells.kind 1 (in_inodes 1 root_directory) ∙ wf.root_kind;
+        directory_sizes = λ u q kind.
+            rw (spells.size u (in_inodes u (reached_back u q))) (wf.directory_sizes u (reached_back u q) (sym (spells.kind u (in_inodes u (reached_back u q))) ∙ kind));
+        names = λ u x l q n. name_form u x l (reached_back u q) (names_back u x l (reached_back u q) n) (here_or u x);
+        names_once = λ u x y l m q n o same.
+            name_once u x y l m (reached_back u q) (names_back u x l (reached_back u q) n) (names_back u y m (reached_back u q) o) (here_or u x) (here_or u y) same;
+      }
+    where
+      name_form : (u x l : ℕ) → IsReached old u → EntryNames old u x l → ((u ≡ i) × (x ≡ s)) ⊎ ((u ≡ i) → (x ≡ s) → ⊥) → IsName (name_at new u x)
+      name_form u x l reached n (inl e) = subst IsName (sym (at_entry u x e.0 e.1)) spells.name
+      name_form u x l reached n (inr other) = rw (name_stays u x l reached n other) (wf.names u x l reached n)
+
+      name_once : (u x y l m : ℕ) → IsReached old u → EntryNames old u x l → EntryNames old u y m → ((u ≡ i) × (x ≡ s)) ⊎ ((u ≡ i) → (x ≡ s) → ⊥) → ((u ≡ i) × (y ≡ s)) ⊎ ((u ≡ i) → (y ≡ s) → ⊥) →
+          name_at new u x ≡ name_at new u y → x ≡ y
+      name_once u x y l m q n o (inl e) (inl f) same = e.1 ∙ sym f.1
+      name_once u x y l m q n o (inl e) (inr f) same = absurd (others_differ u y m q o f e.0 (sym same ∙ at_entry u x e.0 e.1))
+      name_once u x y l m q n o (inr e) (inl f) same = absurd (others_differ u x l q n e f.0 (same ∙ at_entry u y f.0 f.1))
+      name_once u x y l m q n o (inr e) (inr f) same = wf.names_once u x y l m q n o (sym (name_stays u x l q n e) ∙ same ∙ name_stays u y m q o f)
+
+  -- ---- names
+
+  node_stays : (u : ℕ) → IsReached old u → node_of new u ≡ node_of old u
+  node_stays u reached = go (kind_of old u == 1) refl
+    where
+      go : (b : Bool) → (kind_of old u == 1) ≡ b → node_of new u ≡ node_of old u
+      go true e =
+          rw (spells.kind u (in_inodes u reached), e, spells.size u (in_inodes u reached)) (ap file (map-same _ _ 0 (size_of old u) (λ o low high. spells.bytes u o reached (eqb-true _ _ e) (omega (arith, high)))))
+      go false e = rw (spells.kind u (in_inodes u reached), e) refl
+
+  now_shown : lookup_in new i (name_at new i s) ≡ Some j
+  now_shown =
+      lookup_in-found new i j (name_at new i s) (record { slot = s; entry = names_stay i s j spells.reached spells.names; spelled = refl }) (λ x l n same. which x l (names_back i x l spells.reached n) (here_or i x) same)
+    where
+      which : (x l : ℕ) → EntryNames old i x l → ((i ≡ i) × (x ≡ s)) ⊎ ((i ≡ i) → (x ≡ s) → ⊥) → name_at new i x ≡ name_at new i s → x ≡ s
+      which x l n (inl e) same = e.1
+      which x l n (inr other) same = absurd (others_differ i x l spells.reached n other refl same)
+
+  was_gone : lookup_in new i (name_at old i s) ≡ None
+  was_gone = lookup_in-none new i (name_at old i s) (λ l shows. none l shows (names_back i shows.slot l spells.reached shows.entry) (here_or i shows.slot))
+    where
+      none : (l : ℕ) → (shows : Shows new i (name_at old i s) l) → EntryNames old i shows.slot l → ((i ≡ i) × (shows.slot ≡ s)) ⊎ ((i ≡ i) → (shows.slot ≡ s) → ⊥) → ⊥
+      none l shows n (inl e) = spells.changed (sym shows.spelled ∙ at_entry i shows.slot refl e.1)
+      none l shows n (inr other) = other refl (wf.names_once i shows.slot s l j spells.reached n spells.names (sym (name_stays i shows.slot l spells.reached n other) ∙ shows.spelled))
+
+  others_same : (u : ℕ) (name : Name) → IsReached old u → ((u ≡ i) → (name ≡ name_at old i s) → ⊥) → ((u ≡ i) → (name ≡ name_at new i s) → ⊥) → lookup_in new u name ≡ lookup_in old u name
+  others_same u name reached no_was no_now = go (lookup_in old u name) refl
+    where
+      before : (l : ℕ) → (shows : Shows new u name l) → EntryNames old u shows.slot l → ((u ≡ i) × (shows.slot ≡ s)) ⊎ ((u ≡ i) → (shows.slot ≡ s) → ⊥) → Shows old u name l
+      before l shows n (inl e) = absurd (no_now e.0 (sym shows.spelled ∙ at_entry u shows.slot e.0 e.1))
+      before l shows n (inr other) = record { slot = shows.slot; entry = n; spelled = sym (name_stays u shows.slot l reached n other) ∙ shows.spelled }
+
+      go : (found : Option ℕ) → lookup_in old u name ≡ found → lookup_in new u name ≡ lookup_in old u name
+      go None e =
+          lookup_in-none new u name (λ l shows.
+          let was : Shows old u name l = before l shows (names_back u shows.slot l reached shows.entry) (here_or u shows.slot) in
+          let found : lookup_in old u name ≡ Some l = lookup_in-found old u l name was (λ x m n same. wf.names_once u x was.slot m l reached n was.entry (same ∙ sym was.spelled)) in
+          cc) ∙ sym e
+      go (Some l) e =
+          let was : Shows old u name l = lookup_in-shows old u l name e in
+          let other : (u ≡ i) → (was.slot ≡ s) → ⊥ = λ a b. no_was a (sym was.spelled ∙ ap₂ (λ x y. name_at old x y) a b) in
+          let entry : EntryNames new u was.slot l = names_stay u was.slot l reached was.entry in
+          let spelled : name_at new u was.slot ≡ name = name_stays u was.slot l reached was.entry other ∙ was.spelled in
+          lookup_in-found new u l name (record { slot = was.slot; entry = entry; spelled = spelled }) (λ x m n same.
+          let back : EntryNames old u x m = names_back u x m reached n in
+          let again : Shows old u name m = before m (record { slot = x; entry = n; spelled = same }) back (here_or u x) in
+          same_slot x m was again back (here_or u x) same) ∙ sym e
+        where
+          same_slot : (x m : ℕ) → (was : Shows old u name l) → Shows old u name m → EntryNames old u x m → ((u ≡ i) × (x ≡ s)) ⊎ ((u ≡ i) → (x ≡ s) → ⊥) → name_at new u x ≡ name → x ≡ was.slot
+          same_slot x m was again n (inl at) same = absurd (no_now at.0 (sym same ∙ at_entry u x at.0 at.1))
+          same_slot x m was again n (inr apart) same = wf.names_once u x was.slot m l reached n was.entry (sym (name_stays u x m reached n apart) ∙ same ∙ sym was.spelled)
+
+  pub respell_moves : MovesName old new i (name_at old i s) i (name_at new i s) j
+  respell_moves = record {
+    well_formed = wf;
+    apart = λ e same. spells.changed same;
+    source = lookup_in-found old i j (name_at old i s) (record { slot = s; entry = spells.names; spelled = refl }) (λ x l n e. wf.names_once i x s l j spells.reached n spells.names e);
+    gone = was_gone;
+    target = now_shown;
+    alone = λ v name e. absurd (nothing v (lookup_in-shows old i v (name_at new i s) e));
+    others = others_same;
+    nodes = node_stays;
+  }
+    where
+      nothing : (v : ℕ) → Shows old i (name_at new i s) v → ⊥
+      nothing v shows = by_slot (cases_eq shows.slot s)
+        where
+          by_slot : (shows.slot ≡ s) ⊎ (shows.slot ≡ s → ⊥) → ⊥
+          by_slot (inl e) = spells.changed (ap (name_at old i) (sym e) ∙ shows.spelled)
+          by_slot (inr other) = spells.new_name shows.slot v shows.entry other shows.spelled

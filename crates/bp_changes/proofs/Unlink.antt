@@ -1,0 +1,241 @@
+-- An inumber that becomes 0 takes that name from its directory, and changes nothing else.
+use Rattle.std.proofs.Common.{◌≡◌, ◌⊎◌, ℕ, suc, ◌+◌, ◌*◌, ◌/◌, ◌%◌, ◌<◌, ◌≤◌, [], ◌∷◌, ◌++◌, Bool, true, false, ◌==◌, length, Option, None, Some, refl, sym, ◌∙◌, ap, subst₂, arith, inl, inr, length-append}
+use Rattle.std.specs.Option.{option_map}
+use Rattle.std.proofs.lemmas.Bool.{cases_eq, eqb-true}
+use Rattle.std.proofs.lemmas.List.FromFn.{length-map-range_with_len}
+use Rattle.bp_layout.specs.Words.{Image, word, byte_of}
+use Rattle.bp_layout.specs.Tree.{byte, HasBlock, IsSound, IsFull}
+use Rattle.bp_layout.specs.Inode.{kind_of, root_of, size_of, inode_count}
+use Rattle.bp_layout.specs.Directory.{Name, EntryNames, IsName, name_at, inumber_at, entry_word, entry_count, lookup_in}
+use Rattle.bp_layout.specs.Reached.{IsReached}
+use Rattle.bp_layout.specs.Reached.IsReached.{inode_file, root_directory, named}
+use Rattle.bp_layout.specs.Lookup.{Path, lookup_from, lookup, node_of, shown}
+use Rattle.bp_layout.specs.Lookup.Node.{file}
+use Rattle.bp_layout.specs.WellFormed.{IsWellFormed}
+use Rattle.bp_layout.proofs.Finding.{map-same}
+use Rattle.bp_layout.proofs.Reached.{reached-in_file}
+use Rattle.bp_layout.proofs.View.{lookup_in-reached, lookup_from-reached}
+use Rattle.bp_layout.proofs.LookupLaws.{Shows, lookup_in-shows, lookup_in-found, lookup_in-none}
+use Rattle.bp_layout.proofs.Paths.{lookup_from-append, path_once, same_name}
+
+-- an entry whose inode is a file or an empty directory
+pub record CanUnlink (old : Image) (i s j : ℕ) : Type 0 where
+  pub reached : IsReached old i
+  pub entry : EntryNames old i s j
+  pub alone : (r k : ℕ) → EntryNames old j r k → ⊥
+
+-- The second image has an empty entry there, and all else as it was. Its trees may stand in other blocks.
+pub record RemovesEntry (old new : Image) (i s : ℕ) : Type 0 where
+  pub whole : length new ≡ length old
+  pub marked : word new 0 ≡ word old 0
+  pub counted : word new 1 ≡ word old 1
+  pub kind : (u : ℕ) → u < inode_count old → kind_of new u ≡ kind_of old u
+  pub size : (u : ℕ) → u < inode_count old → size_of new u ≡ size_of old u
+  pub emptied : inumber_at new i s ≡ 0
+  pub entry : (u r f : ℕ) → IsReached old u → kind_of old u ≡ 2 → r < entry_count old u → f < 32 → ((i ≡ u) → (32 * s + 0 ≡ 32 * r + f) → ⊥) →
+      entry_word new u r f ≡ entry_word old u r f
+  pub bytes : (u o : ℕ) → IsReached old u → kind_of old u ≡ 1 → o < size_of old u → byte new (root_of new u) o ≡ byte old (root_of old u) o
+  pub sound : (t : ℕ) → IsReached old t → IsSound new (root_of new t) (size_of new t)
+  pub apart : (t u b : ℕ) → IsReached old t → IsReached old u →
+      HasBlock new (root_of new t) (size_of new t) b → HasBlock new (root_of new u) (size_of new u) b → t ≡ u
+  pub full_inode_file : IsFull new (root_of new 0) (size_of new 0)
+  pub full_directories : (u : ℕ) → IsReached old u → kind_of old u ≡ 2 → IsFull new (root_of new u) (size_of new u)
+
+module _ (old new : Image) (wf : IsWellFormed old) (i s j : ℕ) (can : CanUnlink old i s j) (removes : RemovesEntry old new i s) where
+  in_inodes : (t : ℕ) → IsReached old t → t < inode_count old
+  in_inodes = reached-in_file old wf
+
+  count_stays : (u : ℕ) → IsReached old u → entry_count new u ≡ entry_count old u
+  count_stays u reached = ap (λ n. n / 256) (removes.size u (in_inodes u reached))
+
+  inumber_stays : (u r : ℕ) → IsReached old u → kind_of old u ≡ 2 → r < entry_count old u → ((i ≡ u) → (s ≡ r) → ⊥) → inumber_at new u r ≡ inumber_at old u r
+  inumber_stays u r reached kind low other = removes.entry u r 0 reached kind low (omega arith) (λ e same. other e (omega (arith, same)))
+
+  name_stays : (u r k : ℕ) → IsReached old u → EntryNames old u r k → name_at new u r ≡ name_at old u r
+  name_stays u r k reached n =
+      let form : IsName (name_at old u r) = wf.names u r k reached n in
+      let short : entry_word old u r 1 ≤ 240 = (rw length-map-range_with_len at form.short) in
+      let byte_stays : (o : ℕ) → o < 240 → byte new (root_of new u) (256 * r + 16 + o) ≡ byte old (root_of old u) (256 * r + 16 + o) =
+      λ o low.
+      let number : (256 * r + 16 + o) / 8 ≡ 32 * r + (2 + o / 8) = omega arith in
+      rw number (ap (λ w. byte_of w ((256 * r + 16 + o) % 8)) (removes.entry u r (2 + o / 8) reached n.directory n.in_size (omega (arith, low)) (λ e same. omega (arith, same, low)))) in
+      rw (removes.entry u r 1 reached n.directory n.in_size (omega arith) (λ e same. omega (arith, same)))
+      (map-same _ _ 0 (entry_word old u r 1) (λ o low high. byte_stays o (omega (arith, high, short))))
+
+  -- an entry of the new image is one of the old image, but not the emptied one
+  pub record IsKept (u r k : ℕ) : Type 0 where
+    pub before : EntryNames old u r k
+    pub other : (u ≡ i) → (r ≡ s) → ⊥
+
+  names_back : (u r k : ℕ) → IsReached old u → EntryNames new u r k → IsKept u r k
+  names_back u r k reached n = record {
+    before = record { directory = kind; in_size = low; inumber = sym (inumber_stays u r reached kind low (λ e f. other (sym e) (sym f))) ∙ n.inumber; not_empty = n.not_empty };
+    other = other;
+  }
+    where
+      kind : kind_of old u ≡ 2
+      kind = sym (removes.kind u (in_inodes u reached)) ∙ n.directory
+
+      low : r < entry_count old u
+      low = rw (count_stays u reached) at n.in_size
+
+      other : (u ≡ i) → (r ≡ s) → ⊥
+      other e f = n.not_empty (sym n.inumber ∙ subst₂ (λ x y. inumber_at new x y ≡ 0) (sym e) (sym f) removes.emptied)
+
+  names_stay : (u r k : ℕ) → IsReached old u → EntryNames old u r k → ((u ≡ i) → (r ≡ s) → ⊥) → EntryNames new u r k
+  names_stay u r k reached n other = record {
+    directory = removes.kind u (in_inodes u reached) ∙ n.directory;
+    in_size = rw (count_stays u reached) n.in_size;
+    inumber = inumber_stays u r reached n.directory n.in_size (λ e f. other (sym e) (sym f)) ∙ n.inumber;
+    not_empty = n.not_empty;
+  }
+
+  reached_back : (t : ℕ) → IsReached new t → IsReached old t
+  reached_back _ inode_file = inode_file
+  reached_back _ root_directory = root_directory
+  reached_back _ (named {i = u} {j = k} r from n) = named r (reached_back u from) (names_back u r k (reached_back u from) n).before
+
+  entry_back : (u r k : ℕ) → IsReached new u → EntryNames new u r k → IsReached old u × EntryNames old u r k
+  entry_back u r k reached n = (reached_back u reached, (names_back u r k (reached_back u reached) n).before)
+
+  name_back : (u r k : ℕ) → IsReached new u → EntryNames new u r k → name_at new u r ≡ name_at old u r
+  name_back u r k reached n = let e : IsReached old u × EntryNames old u r k = entry_back u r k reached n in name_stays u r k e.0 e.1
+
+  pub unlinked_well_formed : IsWellFormed new
+  unlinked_well_formed =
+      let inodes : size_of new 0 ≡ size_of old 0 = removes.size 0 (in_inodes 0 inode_file) in
+      record {
+        whole = rw removes.whole wf.whole;
+        at_least = rw removes.whole wf.at_least;
+        at_most = rw removes.whole wf.at_most;
+        marked = removes.marked ∙ wf.marked;
+        counted = removes.counted ∙ rw removes.whole wf.counted;
+        sound = λ t r. removes.sound t (reached_back t r);
+        apart = λ t u b r q one two. removes.apart t u b (reached_back t r) (reached_back u q) one two;
+        full_inode_file = removes.full_inode_file;
+        full_directories = λ t r kind. removes.full_directories t (reached_back t r) (sym (removes.kind t (in_inodes t (reached_back t r))) ∙ kind);
+        inode_blocks = rw inodes wf.inode_blocks;
+        some_inodes = rw inodes wf.some_inodes;
+        inumbers = λ u r k q n. let e : IsReached old u × EntryNames old u r k = entry_back u r k q n in rw inodes (wf.inumbers u r k e.0 e.1);
+        not_root = λ u r k q n. let e : IsReached old u × EntryNames old u r k = entry_back u r k q n in wf.not_root u r k e.0 e.1;
+        named_once = λ u r v q k from also n m.
+            let e : IsReached old u × EntryNames old u r k = entry_back u r k from n in
+            let f : IsReached old v × EntryNames old v q k = entry_back v q k also m in
+            wf.named_once u r v q k e.0 f.0 e.1 f.1;
+        kinds = λ u r. rw (removes.kind (suc u) (in_inodes (suc u) (reached_back (suc u) r))) (wf.kinds u (reached_back (suc u) r));
+        root_kind = removes.kind 1 (in_inodes 1 root_directory) ∙ wf.root_kind;
+        directory_sizes = λ u r kind.
+            rw (removes.size u (in_inodes u (reached_back u r))) (wf.directory_sizes u (reached_back u r) (sym (removes.kind u (in_inodes u (reached_back u r))) ∙ kind));
+        names = λ u r k q n. let e : IsReached old u × EntryNames old u r k = entry_back u r k q n in rw (name_stays u r k e.0 e.1) (wf.names u r k e.0 e.1);
+        names_once = λ u r q k l from n m same.
+            let e : IsReached old u × EntryNames old u r k = entry_back u r k from n in
+            let f : IsReached old u × EntryNames old u q l = entry_back u q l from m in
+            wf.names_once u r q k l e.0 e.1 f.1 (sym (name_stays u r k e.0 e.1) ∙ same ∙ name_stays u q l f.0 f.1);
+      }
+
+  name : Name
+  name = name_at old i s
+
+  pub lookup_unlinked : lookup_in new i (name_at old i s) ≡ None
+  lookup_unlinked = lookup_in-none new i (name_at old i s) (λ k shows.
+      let kept : IsKept i shows.slot k = names_back i shows.slot k can.reached shows.entry in
+      kept.other refl (wf.names_once i shows.slot s k j can.reached kept.before can.entry (sym (name_stays i shows.slot k can.reached kept.before) ∙ shows.spelled)))
+
+  pub lookup_stays : (u : ℕ) (other : Name) → IsReached old u → ((u ≡ i) → (other ≡ name_at old i s) → ⊥) → lookup_in new u other ≡ lookup_in old u other
+  lookup_stays u other reached apart = go (lookup_in old u other) refl
+    where
+      go : (found : Option ℕ) → lookup_in old u other ≡ found → lookup_in new u other ≡ lookup_in old u other
+      go None e =
+          lookup_in-none new u other (λ k shows.
+          let kept : IsKept u shows.slot k = names_back u shows.slot k reached shows.entry in
+          let before : Shows old u other k = record { slot = shows.slot; entry = kept.before; spelled = sym (name_stays u shows.slot k reached kept.before) ∙ shows.spelled } in
+          let found : lookup_in old u other ≡ Some k = lookup_in-found old u k other before (λ r l n same. wf.names_once u r before.slot l k reached n before.entry (same ∙ sym before.spelled)) in
+          cc) ∙ sym e
+      go (Some k) e =
+          let before : Shows old u other k = lookup_in-shows old u k other e in
+          let not_it : (u ≡ i) → (before.slot ≡ s) → ⊥ = λ f g. apart f (sym before.spelled ∙ subst₂ (λ x y. name_at old x y ≡ name_at old i s) (sym f) (sym g) refl) in
+          lookup_in-found new u k other
+          (record { slot = before.slot; entry = names_stay u before.slot k reached before.entry not_it; spelled = name_stays u before.slot k reached before.entry ∙ before.spelled })
+          (λ r l n same.
+          let kept : IsKept u r l = names_back u r l reached n in
+          wf.names_once u r before.slot l k reached kept.before before.entry (sym (name_stays u r l reached kept.before) ∙ same ∙ sym before.spelled))
+          ∙ sym e
+
+  -- ---- paths
+
+  alone : (other : Name) → lookup_in old j other ≡ None
+  alone other = lookup_in-none old j other (λ k shows. can.alone shows.slot k shows.entry)
+
+  there : lookup_in old i (name_at old i s) ≡ Some j
+  there = lookup_in-found old i j (name_at old i s) (record { slot = s; entry = can.entry; spelled = refl })
+      (λ r k n same. wf.names_once i r s k j can.reached n can.entry same)
+
+  -- a path at which the name ended
+  pub record EndedThere (u : ℕ) (path : Path) : Type 0 where
+    pub above : Path
+    pub is : path ≡ above ++ name_at old i s ∷ []
+    pub parent : lookup_from old u above ≡ Some i
+
+  ended_or_same : (u : ℕ) (path : Path) → IsReached old u → (lookup_from new u path ≡ lookup_from old u path) ⊎ EndedThere u path
+  ended_or_same u [] reached = inl refl
+  ended_or_same u (first ∷ path) reached = go (λ v r. ended_or_same v path r) (cases_eq u i) (same_name first (name_at old i s))
+    where
+      at_name : (path : Path) → u ≡ i → first ≡ name_at old i s → (lookup_from new u (first ∷ path) ≡ lookup_from old u (first ∷ path)) ⊎ EndedThere u (first ∷ path)
+      at_name [] e f = inr (record { above = []; is = ap (λ n. n ∷ []) f; parent = ap Some e })
+      at_name (second ∷ path) e f =
+          let before : lookup_in old u first ≡ Some j = subst₂ (λ x y. lookup_in old x y ≡ Some j) (sym e) (sym f) there in
+          let after : lookup_in new u first ≡ None = subst₂ (λ x y. lookup_in new x y ≡ None) (sym e) (sym f) lookup_unlinked in
+          inl (rw (before, after, alone second) refl)
+
+      elsewhere : ((v : ℕ) → IsReached old v → (lookup_from new v path ≡ lookup_from old v path) ⊎ EndedThere v path) → lookup_in new u first ≡ lookup_in old u first →
+          (found : Option ℕ) → lookup_in old u first ≡ found → (lookup_from new u (first ∷ path) ≡ lookup_from old u (first ∷ path)) ⊎ EndedThere u (first ∷ path)
+      elsewhere rest same None f = inl (rw (same, f) refl)
+      elsewhere rest same (Some v) f = below (rest v (lookup_in-reached old u v first reached f))
+        where
+          below : (lookup_from new v path ≡ lookup_from old v path) ⊎ EndedThere v path → (lookup_from new u (first ∷ path) ≡ lookup_from old u (first ∷ path)) ⊎ EndedThere u (first ∷ path)
+          below (inl e) = inl (rw (same, f) e)
+          below (inr ends) = inr (record { above = first ∷ ends.above; is = ap (λ q. first ∷ q) ends.is; parent = rw f ends.parent })
+
+      go : ((v : ℕ) → IsReached old v → (lookup_from new v path ≡ lookup_from old v path) ⊎ EndedThere v path) → (u ≡ i) ⊎ (u ≡ i → ⊥) → (first ≡ name_at old i s) ⊎ (first ≡ name_at old i s → ⊥) →
+          (lookup_from new u (first ∷ path) ≡ lookup_from old u (first ∷ path)) ⊎ EndedThere u (first ∷ path)
+      go rest (inl e) (inl f) = at_name path e f
+      go rest (inl e) (inr f) = elsewhere rest (lookup_stays u first reached (λ x y. f y)) (lookup_in old u first) refl
+      go rest (inr e) f = elsewhere rest (lookup_stays u first reached (λ x y. e x)) (lookup_in old u first) refl
+
+  node_stays : (u : ℕ) → IsReached old u → node_of new u ≡ node_of old u
+  node_stays u reached = go (kind_of old u == 1) refl
+    where
+      go : (b : Bool) → (kind_of old u == 1) ≡ b → node_of new u ≡ node_of old u
+      go true e =
+          rw (removes.kind u (in_inodes u reached), e, removes.size u (in_inodes u reached)) (ap file (map-same _ _ 0 (size_of old u) (λ o low high. removes.bytes u o reached (eqb-true _ _ e) (omega (arith, high)))))
+      go false e = rw (removes.kind u (in_inodes u reached), e) refl
+
+  module _ (parent : Path) (at : lookup old parent ≡ Some i) where
+    pub shown_elsewhere : (path : Path) → (path ≡ parent ++ name_at old i s ∷ [] → ⊥) → shown new path ≡ shown old path
+    shown_elsewhere path other = rw (same (ended_or_same 1 path root_directory)) (go (lookup old path) refl)
+      where
+        same : (lookup new path ≡ lookup old path) ⊎ EndedThere 1 path → lookup new path ≡ lookup old path
+        same (inl e) = e
+        same (inr ends) = absurd (other (ends.is ∙ ap (λ p. p ++ name_at old i s ∷ []) (path_once old wf ends.above parent i ends.parent at)))
+
+        go : (found : Option ℕ) → lookup old path ≡ found → option_map (node_of new) found ≡ option_map (node_of old) found
+        go None e = refl
+        go (Some u) e = ap Some (node_stays u (lookup_from-reached old 1 u path root_directory e))
+
+    -- the parent's own path does not end with that name, as the name's inode is not its own ancestor
+    pub parent_stays : lookup new parent ≡ Some i
+    parent_stays = go (ended_or_same 1 parent root_directory)
+      where
+        go : (lookup new parent ≡ lookup old parent) ⊎ EndedThere 1 parent → lookup new parent ≡ Some i
+        go (inl e) = e ∙ at
+        go (inr ends) =
+            let same : ends.above ≡ parent = path_once old wf ends.above parent i ends.parent at in
+            absurd (longer parent (name_at old i s) (ends.is ∙ ap (λ p. p ++ name_at old i s ∷ []) same))
+          where
+            longer : (p : Path) (n : Name) → p ≡ p ++ n ∷ [] → ⊥
+            longer p n e = omega (arith, ap length e, length-append p (n ∷ []))
+
+    pub shown_there : shown new (parent ++ name_at old i s ∷ []) ≡ None
+    shown_there =
+        let gone : lookup new (parent ++ name_at old i s ∷ []) ≡ None = lookup_from-append new 1 parent (name_at old i s) ∙ rw parent_stays lookup_unlinked in
+        rw gone refl

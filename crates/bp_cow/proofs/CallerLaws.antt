@@ -1,0 +1,73 @@
+-- Touched words that can be committed under the sizes that the image has: one word of a tree, and a run.
+use Rattle.std.proofs.Common.{◌≡◌, ◌≢◌, ℕ, suc, ◌-◌, ◌*◌, ◌%◌, ◌<◌, ◌≤◌, length, Bool, None, Some, sym, ◌∙◌, ap, subst, arith}
+use Rattle.bp_layout.specs.Words.{Image, word, height_of}
+use Rattle.bp_layout.specs.Inode.{root_of, size_of}
+use Rattle.bp_layout.specs.Reached.{IsReached}
+use Rattle.bp_layout.specs.WellFormed.{IsWellFormed}
+use Rattle.bp_shapes.specs.Forest.{IsExactSet, tree_trail, IsForest, IsTreePointer}
+use Rattle.bp_shapes.specs.Trail.{trail_of}
+use Rattle.bp_shapes.proofs.FreeSets.{wf_forest, content_fronts, content_no_pointer}
+use Rattle.bp_cow.specs.declared.touched.Run.{Run}
+use Rattle.bp_cow.specs.declared.touched.Touched.{Touched}
+use Rattle.bp_cow.specs.Touched.{IsTouched, path_of, word_paths}
+use Rattle.bp_cow.specs.CanCommit.{IsRunIn, HasRunIn, CanCommit}
+
+module _ (old : Image) (wf : IsWellFormed old) (touched : Touched) (shape : IsTouched touched) (free : ℕ → Bool) (exact : IsExactSet old (IsTreePointer old (size_of old)) free) where
+  forest : IsForest old (size_of old)
+  forest = wf_forest old wf
+
+  -- one word
+  module _ (none : touched.run ≡ None) (one : length touched.words.items ≡ 1) (t k : ℕ) (reached : IsReached old t) (below : 8 * k < size_of old t) (no_root : t ≡ 0 → k % 8 ≢ 1)
+      (is : trail_of (path_of (word_paths touched) 0) (length (path_of (word_paths touched) 0)) ≡ tree_trail (height_of (word old 2)) t (suc (height_of (root_of old t))) k) where
+    pub word_can : CanCommit old (size_of old) touched free
+    word_can = record {
+      shape = shape;
+      forest = forest;
+      sizes = λ u r. omega arith;
+      exact = exact;
+      pointers = λ i d here low. pointers i d (first i here) low;
+      contents = λ i here pointer. contents i (first i here) pointer;
+      run = subst (HasRunIn old (size_of old)) (sym none) tt;
+      apart = λ i j here there same. omega (arith, first i here, first j there);
+      beside = λ run i j e here low high same. no_run run (sym none ∙ e);
+    }
+      where
+        first : (i : ℕ) → i < length touched.words.items → i ≡ 0
+        first i here = omega (arith, here, one)
+
+        no_run : (run : Run) → None ≡ Some run → ⊥
+        no_run run e = absurd (cc)
+
+        some : 1 ≤ length (path_of (word_paths touched) 0)
+        some = shape.words 0 (omega (arith, one))
+
+        whole : length (path_of (word_paths touched) 0) ≡ suc (length (path_of (word_paths touched) 0) - 1)
+        whole = omega (arith, some)
+
+        at : trail_of (path_of (word_paths touched) 0) (suc (length (path_of (word_paths touched) 0) - 1)) ≡ tree_trail (height_of (word old 2)) t (suc (height_of (root_of old t))) k
+        at = ap (trail_of (path_of (word_paths touched) 0)) (sym whole) ∙ is
+
+        pointers : (i d : ℕ) → i ≡ 0 → d < length (path_of (word_paths touched) i) → IsTreePointer old (size_of old) (trail_of (path_of (word_paths touched) i) d)
+        pointers i d e low =
+            let less : d < length (path_of (word_paths touched) 0) = subst (λ n. d < length (path_of (word_paths touched) n)) e low in
+            subst (λ n. IsTreePointer old (size_of old) (trail_of (path_of (word_paths touched) n) d)) (sym e)
+            (content_fronts old (size_of old) forest (path_of (word_paths touched) 0) (length (path_of (word_paths touched) 0) - 1) t k reached below at d (omega (arith, less)))
+
+        contents : (i : ℕ) → i ≡ 0 → IsTreePointer old (size_of old) (trail_of (path_of (word_paths touched) i) (length (path_of (word_paths touched) i))) → ⊥
+        contents i e pointer =
+            content_no_pointer old (size_of old) forest (path_of (word_paths touched) 0) (length (path_of (word_paths touched) 0) - 1) t k reached below at no_root
+            (subst (λ d. IsTreePointer old (size_of old) (trail_of (path_of (word_paths touched) 0) d)) whole (subst (λ n. IsTreePointer old (size_of old) (trail_of (path_of (word_paths touched) n) (length (path_of (word_paths touched) n)))) e pointer))
+
+  -- a run alone
+  pub run_can : (run : Run) → touched.run ≡ Some run → length touched.words.items ≡ 0 → IsRunIn old (size_of old) run → CanCommit old (size_of old) touched free
+  run_can run some none in_tree = record {
+    shape = shape;
+    forest = forest;
+    sizes = λ u r. omega arith;
+    exact = exact;
+    pointers = λ i d here low. absurd (omega (arith, here, none));
+    contents = λ i here pointer. omega (arith, here, none);
+    run = subst (HasRunIn old (size_of old)) (sym some) in_tree;
+    apart = λ i j here there same. absurd (omega (arith, here, none));
+    beside = λ r i j e here low high same. omega (arith, here, none);
+  }

@@ -1,0 +1,160 @@
+-- The two ways in which a commit ends.
+use Rattle.std.proofs.Common.{◌≡◌, ◌⊎◌, ℕ, suc, ◌+◌, ◌-◌, ◌*◌, ◌/◌, ◌<◌, ◌≤◌, ◌∷◌, [], length, Bool, true, false, set, refl, sym, ◌∙◌, ap, subst, arith, inl, inr}
+use Rattle.std.specs.List.{slice_index}
+use Rattle.std.specs.Prelude.{nat_le}
+use Rattle.std.proofs.lemmas.Bool.{cases_eq, cases_lt, le-leb, leb-true}
+use Rattle.pm_epochs.specs.Crash.{commit}
+use Rattle.pm_epochs.proofs.CrashLaws.{quiet_none}
+use Rattle.pm_epochs.proofs.PieceLaws.{IsPiece-commit, IsPiece-more}
+use Rattle.pm_region.specs.Memory.{Memory, current_words, Adds}
+use Rattle.pm_region.proofs.MemoryLaws.{current_words-adds}
+use Rattle.bp_free.specs.Set.{Set, has}
+use Rattle.bp_layout.specs.Words.{Image, word}
+use Rattle.bp_layout.specs.WellFormed.{IsWellFormed}
+use Rattle.bp_layout.specs.Same.{Same}
+use Rattle.bp_shapes.specs.Forest.{IsExactSet, IsTreePointer}
+use Rattle.bp_shapes.specs.Trail.{Trail, word_on, block_on, place_on, trail_of}
+use Rattle.bp_layout.proofs.SameLaws.{same_self}
+use Rattle.bp_shapes.proofs.PathTrails.{front-trail_of}
+use Rattle.bp_cow.specs.declared.touched.Touched.{Touched}
+use Rattle.bp_cow.specs.declared.covering.Found.{Found}
+use Rattle.bp_cow.specs.Adds.{AddsCopyCommit}
+use Rattle.bp_cow.specs.Job.{Job, copies, copied, IsTurned}
+use Rattle.bp_cow.specs.Committed.{IsCommitted, after_commit}
+use Rattle.bp_cow.specs.Touched.{job_of, only_value}
+use Rattle.bp_cow.specs.Cover.{end_path, BeginAlike, CoverHas}
+use Rattle.bp_cow.specs.Found.{IsAt}
+use Rattle.bp_cow.specs.CanCommit.{CanCommit}
+use Rattle.bp_cow.specs.Commit.{CommitsTouched}
+use Rattle.bp_cow.proofs.CoverLaws.{at-word, some-ends}
+use Rattle.bp_cow.proofs.JobLaws.{in_place, first-length}
+
+-- the same pointers under another name
+pub committed_same : (old new : Image) (Pointer turned other : Trail → Type 0) (after : Trail → ℕ) → ((q : Trail) → turned q → other q) → ((q : Trail) → other q → turned q) →
+    IsCommitted old new Pointer turned after → IsCommitted old new Pointer other after
+committed_same old new Pointer turned other after to from stage = record {
+  whole = stage.whole;
+  superblock = stage.superblock;
+  skeleton = stage.skeleton;
+  kept = λ p l none. stage.kept p l (λ t. none (to p t));
+  bits = stage.bits;
+  fresh = λ p l t. stage.fresh p l (from p t);
+  words = λ p slot l low none. stage.words p slot l low (λ t. none (to (slot ∷ p) t));
+  decide = λ p. decide p (stage.decide p);
+  pointers = λ p t. stage.pointers p (from p t);
+}
+  where
+    decide : (p : Trail) → turned p ⊎ (turned p → ⊥) → other p ⊎ (other p → ⊥)
+    decide p (inl t) = inl (to p t)
+    decide p (inr none) = inr (λ t. none (from p t))
+
+pub copied-some : (job : Job) (from : ℕ) → from ≤ length (job.way 0) → copied job from ≡ copies job from
+copied-some job from low = let test : nat_le from (length (job.way 0)) ≡ true = le-leb from (length (job.way 0)) low in rw test refl
+
+pub copied-none : (job : Job) (from : ℕ) → length (job.way 0) < from → copied job from ≡ 0
+copied-none job from low = go (nat_le from (length (job.way 0))) refl
+  where
+    go : (x : Bool) → nat_le from (length (job.way 0)) ≡ x → copied job from ≡ 0
+    go false e = rw e refl
+    go true e = absurd (omega (arith, low, leb-true from (length (job.way 0)) e))
+
+-- a larger bound on the stores
+pub looser : (start taken : ℕ → Bool) (place most all : ℕ) (old new : Memory) → most ≤ all → AddsCopyCommit start taken place most old new → AddsCopyCommit start taken place all old new
+looser start taken place most all old new few done = record {
+  value = done.value;
+  commit = record {
+    prepared = done.commit.prepared;
+    adds = done.commit.adds;
+    quiet = done.commit.quiet;
+    piece = IsPiece-more 2 most 2 all _ (omega arith) few done.commit.piece;
+  };
+  only = done.only;
+  each = done.each;
+  fewer = done.fewer;
+}
+
+-- the cover is the longest
+pub cover_once : (image : Image) (touched : Touched) (n m : ℕ) → CoverHas image touched n → CoverHas image touched m → n ≡ m
+cover_once image touched n m one two = go (cases_eq n m) (cases_lt n m)
+  where
+    less : (a b : ℕ) → a < b → CoverHas image touched a → CoverHas image touched b → ⊥
+    less a b low first second =
+        second.exists a low
+        (first.longest (record {
+          long = λ i here. omega (arith, low, second.alike.long i here);
+          same = λ i here. front-trail_of (end_path touched i) (end_path touched 0) b (a + 1) (second.alike.same i here) (omega (arith, low));
+        }))
+
+    go : (n ≡ m) ⊎ (n ≡ m → ⊥) → (n < m) ⊎ (m ≤ n) → n ≡ m
+    go (inl e) any = e
+    go (inr other) (inl low) = absurd (less n m low one two)
+    go (inr other) (inr high) = absurd (less m n (omega (arith, other, high)) two one)
+
+-- ---- the cover is the only touched word
+
+module _ (bound : ℕ → ℕ) (touched : Touched) (first last : Memory) (blocks : Set) (wf : IsWellFormed (current_words first)) (can : CanCommit (current_words first) bound touched (has blocks))
+    (found : Found) (at : IsAt (current_words first) touched found) (longest : CoverHas (current_words first) touched found.len) (past : length ((job_of touched).way 0) < found.len)
+    (adds : Adds first last (commit found.place (only_value touched (word (current_words first) found.place)))) where
+  abbrev old : Image
+  old = current_words first
+
+  m : ℕ
+  m = found.len - 1
+
+  up-is : suc m ≡ found.len
+  unfolding m
+  up-is = omega (arith, past)
+
+  way-is : length ((job_of touched).way 0) ≡ m
+  unfolding m
+  way-is = let long = at.alike.long 0 (some-ends touched can.shape) in omega (arith, past, long, first-length old bound touched (has blocks) wf can)
+
+  value-is : only_value touched (word old found.place) ≡ only_value touched (word_on old (slice_index (end_path touched 0) m ∷ trail_of (end_path touched 0) m))
+  value-is = ap (only_value touched) (at-word old touched found at ∙ ap (λ n. word_on old (trail_of (end_path touched 0) n)) (sym up-is))
+
+  place-is : 512 * block_on old (trail_of (end_path touched 0) m) + slice_index (end_path touched 0) m ≡ found.place
+  place-is = ap (λ n. place_on old (trail_of (end_path touched 0) n)) up-is ∙ at.place
+
+  last-is : set old found.place (only_value touched (word old found.place)) ≡ current_words last
+  last-is = sym (current_words-adds first last _ adds)
+
+  committed : IsCommitted old (current_words last) (IsTreePointer old bound) (λ q. ⊥) (after_commit old (job_of touched))
+  committed =
+      subst (λ (ws : Image). IsCommitted old ws (IsTreePointer old bound) (λ q. ⊥) (after_commit old (job_of touched))) (ap (λ p. set old p (only_value touched (word old found.place))) place-is ∙ last-is)
+      (in_place old bound touched (has blocks) wf can m (subst (BeginAlike touched) (sym up-is) at.alike) way-is (λ k low. at.exists k (subst (λ n. k < n) up-is low)) (only_value touched (word old found.place)) value-is)
+
+  same-block : (p : Trail) → IsTreePointer old bound p → block_on (current_words last) p ≡ block_on old p
+  same-block p live = ap (λ w. w / 4096) (committed.kept p live (λ none. none))
+
+  exact-still : IsExactSet (current_words last) (IsTreePointer old bound) (has blocks)
+  exact-still = record {
+    live = λ b one. can.exact.live b (record { trail = one.trail; pointer = one.pointer; named = sym (same-block one.trail one.pointer) ∙ one.named; not_null = one.not_null });
+    dead = λ b low high none. can.exact.dead b low (subst (λ n. b < n / 512) committed.whole high) (λ one. none (record { trail = one.trail; pointer = one.pointer; named = same-block one.trail one.pointer ∙ one.named; not_null = one.not_null }));
+    in_range = λ b is. let range = can.exact.in_range b is in (range.0, subst (λ n. b < n / 512) (sym committed.whole) range.1);
+  }
+
+  pub commits_one : CommitsTouched bound touched first last blocks blocks
+  commits_one = record {
+    cover = found.len;
+    has_cover = longest;
+    taken = blocks;
+    count = omega (arith, copied-none (job_of touched) found.len past);
+    commit = record {
+      value = only_value touched (word old found.place);
+      commit = record {
+        prepared = [];
+        adds = subst (λ p. Adds first last (commit p (only_value touched (word old found.place)))) (sym at.place) adds;
+        quiet = quiet_none Same old (same_self old wf);
+        piece = IsPiece-more 2 1 2 (513 * copied (job_of touched) found.len + length touched.words.items + 1) _ (omega arith) (omega arith) (IsPiece-commit _ _);
+      };
+      only = tt;
+      each = λ b was gone. absurd (clash (has blocks b) was gone);
+      fewer = λ b is. is;
+    };
+    words = committed_same old (current_words last) (IsTreePointer old bound) (λ q. ⊥) (IsTurned (job_of touched) found.len) _ (λ q none. absurd none)
+        (λ q t. let low = t.copies in absurd (omega (arith, low, past))) committed;
+    exact = exact-still;
+  }
+    where
+      clash : (b : Bool) → b ≡ true → b ≡ false → ⊥
+      clash b one two = absurd (cc)

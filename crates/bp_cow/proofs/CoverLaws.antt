@@ -1,0 +1,95 @@
+-- The way to the cover, slot by slot.
+use Rattle.std.proofs.Common.{◌≡◌, ◌≢◌, ◌⊎◌, ℕ, zero, suc, ◌+◌, ◌-◌, ◌*◌, ◌/◌, ◌<◌, ◌≤◌, List, ◌∷◌, length, Option, None, Some, refl, sym, ◌∙◌, ap, subst, arith, inl, inr}
+use Rattle.std.specs.List.{slice_index}
+use Rattle.std.proofs.Math.ListN.{get_or-append}
+use Rattle.std.proofs.lemmas.Bool.{cases_eq, cases_lt}
+use Rattle.bp_layout.specs.Words.{Image, word, block_count}
+use Rattle.bp_shapes.specs.Trail.{Trail, word_on, block_on, place_on, trail_of, IsPlaced}
+use Rattle.bp_shapes.specs.Trail.IsPlaced.{at_top, in_block}
+use Rattle.bp_layout.specs.WordPaths.{digits}
+use Rattle.bp_shapes.proofs.PathTrails.{trail_of-next, word-placed, slot-trail_of}
+use Rattle.bp_cow.specs.declared.touched.Run.{Run}
+use Rattle.bp_cow.specs.declared.touched.Touched.{Touched}
+use Rattle.bp_cow.specs.declared.covering.Found.{Found}
+use Rattle.bp_cow.specs.Touched.{IsRun, HasRun, IsTouched, run_path, run_end, word_paths}
+use Rattle.bp_cow.specs.Cover.{end_path, end_path_of, ends, ends_of, BeginAlike}
+use Rattle.bp_cow.specs.Found.{IsAt}
+use Rattle.bp_cow.proofs.RunLaws.{length-run_path, slot-run_path}
+
+pub run-slots : (run : Run) (k d : ℕ) → IsRun run → d < length (run_path run k) → slice_index (run_path run k) d < 512
+run-slots run k d is low = go (cases_lt d (length run.root.items))
+  where
+    go : (d < length run.root.items) ⊎ (length run.root.items ≤ d) → slice_index (run_path run k) d < 512
+    go (inl small) = subst (λ n. n < 512) (sym (get_or-append run.root.items (digits (suc run.height) k) 0 d small)) (is.slots d small)
+    go (inr past) = omega (arith, slot-run_path run k d past low)
+
+pub end-slots : (touched : Touched) → IsTouched touched → (i d : ℕ) → i < ends touched → d < length (end_path touched i) → slice_index (end_path touched i) d < 512
+end-slots touched is i d here low = go touched.run i is.run here low
+  where
+    go : (run : Option Run) (i : ℕ) → HasRun run → i < ends_of run (length touched.words.items) → d < length (end_path_of run (word_paths touched) i) → slice_index (end_path_of run (word_paths touched) i) d < 512
+    go None i has here low = is.slots i d here low
+    go (Some run) zero has here low = run-slots run (run.off / 8) d has low
+    go (Some run) (suc zero) has here low = run-slots run ((run_end run - 1) / 8) d has low
+    go (Some run) (suc (suc i)) has here low = is.slots i d (omega (arith, here)) low
+
+pub some-ends : (touched : Touched) → IsTouched touched → 0 < ends touched
+some-ends touched is = go touched.run refl
+  where
+    go : (run : Option Run) → touched.run ≡ run → 0 < ends touched
+    go None e = let some : 0 < 0 + length touched.words.items = rw e at is.some in rw e (omega (arith, some))
+    go (Some run) e = rw e (omega arith)
+
+pub end-short : (touched : Touched) → IsTouched touched → (i : ℕ) → i < ends touched → length (end_path touched i) ≤ 12
+end-short touched is i here = go touched.run i is.run here
+  where
+    go : (run : Option Run) (i : ℕ) → HasRun run → i < ends_of run (length touched.words.items) → length (end_path_of run (word_paths touched) i) ≤ 12
+    go None i has here = is.short i here
+    go (Some run) zero has here = omega (arith, length-run_path run (run.off / 8), has.short)
+    go (Some run) (suc zero) has here = omega (arith, length-run_path run ((run_end run - 1) / 8), has.short)
+    go (Some run) (suc (suc i)) has here = is.short i (omega (arith, here))
+
+-- one slot more
+pub alike-more : (touched : Touched) (count : ℕ) → BeginAlike touched count → ((i : ℕ) → i < ends touched → count < length (end_path touched i)) →
+    ((i : ℕ) → i < ends touched → slice_index (end_path touched i) count ≡ slice_index (end_path touched 0) count) → BeginAlike touched (count + 1)
+alike-more touched count alike long same = record {
+  long = λ i here. omega (arith, long i here);
+  same = λ i here. trail_of-next (end_path touched i) count ∙ cons (same i here) (alike.same i here) ∙ sym (trail_of-next (end_path touched 0) count);
+}
+  where
+    cons : {s t : ℕ} {p q : Trail} → s ≡ t → p ≡ q → s ∷ p ≡ t ∷ q
+    cons e f = cc
+
+pub alike-slot : (touched : Touched) (count i : ℕ) → i < ends touched → BeginAlike touched (count + 1) → slice_index (end_path touched i) count ≡ slice_index (end_path touched 0) count
+alike-slot touched count i here alike = slot-trail_of (end_path touched i) (end_path touched 0) (count + 1) count (alike.same i here) (omega arith)
+
+pub at-start : (image : Image) (touched : Touched) → 512 ≤ length image → IsAt image touched (record { len = 0; place = 2 })
+at-start image touched some = record {
+  alike = record { long = λ i here. omega arith; same = λ i here. refl };
+  exists = λ d low. absurd (omega (arith, low));
+  placed = at_top;
+  place = refl;
+  low = omega (arith, some);
+}
+
+-- the pointer at the end of the front
+pub at-word : (image : Image) (touched : Touched) (found : Found) → IsAt image touched found → word image found.place ≡ word_on image (trail_of (end_path touched 0) found.len)
+at-word image touched found at =
+    ap (word image) (sym at.place) ∙ word-placed image (λ q. Unit {0}) (trail_of (end_path touched 0) found.len) at.placed
+
+pub at-next : (image : Image) (touched : Touched) (found : Found) → IsTouched touched → IsAt image touched found → BeginAlike touched (found.len + 1) → (block slot : ℕ) → block ≢ 0 →
+    block ≡ block_on image (trail_of (end_path touched 0) found.len) → block < block_count image → slot ≡ slice_index (end_path touched 0) found.len →
+    IsAt image touched (record { len = found.len + 1; place = 512 * block + slot })
+at-next image touched found is at alike block slot some named low slot_is =
+    let first : List ℕ = end_path touched 0 in
+    let slot_low : slice_index first found.len < 512 = end-slots touched is 0 found.len (some-ends touched is) (omega (arith, alike.long 0 (some-ends touched is))) in
+    record {
+      alike = alike;
+      exists = λ d small. exists d small (cases_eq d found.len);
+      placed = subst (IsPlaced image (λ q. Unit {0})) (sym (trail_of-next first found.len)) (in_block (slice_index first found.len) (trail_of first found.len) tt (λ null. some (named ∙ null)) slot_low);
+      place = ap (place_on image) (trail_of-next first found.len) ∙ omega (arith, named, slot_is);
+      low = omega (arith, low, slot_is, slot_low);
+    }
+  where
+    exists : (d : ℕ) → d < found.len + 1 → (d ≡ found.len) ⊎ (d ≡ found.len → ⊥) → block_on image (trail_of (end_path touched 0) d) ≢ 0
+    exists d small (inl e) = λ null. some (named ∙ ap (λ k. block_on image (trail_of (end_path touched 0) k)) (sym e) ∙ null)
+    exists d small (inr n) = at.exists d (omega (arith, small, n))

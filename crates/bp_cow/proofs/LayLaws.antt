@@ -1,0 +1,54 @@
+-- What is laid over a block as it is copied: the bytes of the run at the end of a way to one of its leaves, and else nothing.
+use Rattle.std.proofs.Common.{◌≡◌, ◌≢◌, ◌⊎◌, ℕ, ◌<◌, ◌≤◌, ◌∷◌, length, Bool, true, false, ◌==◌, refl, sym, ◌∙◌, ap, subst, arith, inl, inr, eq-eqb}
+use Rattle.std.specs.Prelude.{nat_lt}
+use Rattle.std.proofs.lemmas.Bool.{cases_eq, cases_lt, eqb-true, ltb-true, lt-ltb}
+use Rattle.bp_shapes.specs.Trail.{Trail, word_on}
+use Rattle.bp_shapes.specs.Forest.{IsTreePointer}
+use Rattle.bp_shapes.proofs.PathTrails.{length-trail_of}
+use Rattle.bp_cow.specs.Job.{Job, ways, front, laid_on, patch_at, IsBegun}
+use Rattle.bp_cow.specs.Plan.{Plan, CanMake}
+use Rattle.bp_cow.proofs.BuildFacts.{laid-other, laid-leaf}
+
+-- no patch but at the end of a way to a leaf
+pub patch-none : (job : Job) (i d slot w : ℕ) → (i < job.leaves → d ≢ length (job.way i)) → patch_at job i d slot w ≡ w
+patch-none job i d slot w other = go (nat_lt i job.leaves) refl (d == length (job.way i)) refl
+  where
+    go : (x : Bool) → nat_lt i job.leaves ≡ x → (y : Bool) → (d == length (job.way i)) ≡ y → patch_at job i d slot w ≡ w
+    go false a y b = rw a refl
+    go true a false b = rw (a, b) refl
+    go true a true b = absurd (other (ltb-true i job.leaves a) (eqb-true d (length (job.way i)) b))
+
+pub patch-leaf : (job : Job) (i d slot w : ℕ) → i < job.leaves → d ≡ length (job.way i) → patch_at job i d slot w ≡ job.patch i slot w
+patch-leaf job i d slot w low end = go (nat_lt i job.leaves) refl (d == length (job.way i)) refl
+  where
+    go : (x : Bool) → nat_lt i job.leaves ≡ x → (y : Bool) → (d == length (job.way i)) ≡ y → patch_at job i d slot w ≡ job.patch i slot w
+    go true a true b = rw (a, b) refl
+    go false a y b = let yes_low : nat_lt i job.leaves ≡ true = lt-ltb i job.leaves low in absurd (cc)
+    go true a false b = let yes_end : (d == length (job.way i)) ≡ true = eq-eqb d (length (job.way i)) end in absurd (cc)
+
+module _ (plan : Plan) (from i d : ℕ) (can : CanMake plan from) (here : i < ways plan.job) (low : from ≤ d) (high : d ≤ length (plan.job.way i)) where
+  pub lay_plain : (slot w : ℕ) → IsTreePointer plan.old plan.bound (slot ∷ front plan.job i d) → patch_at plan.job i d slot w ≡ w
+  lay_plain slot w pointed = go (cases_lt i plan.job.leaves) (cases_eq d (length (plan.job.way i)))
+    where
+      go : (i < plan.job.leaves) ⊎ (plan.job.leaves ≤ i) → (d ≡ length (plan.job.way i)) ⊎ (d ≡ length (plan.job.way i) → ⊥) → patch_at plan.job i d slot w ≡ w
+      go (inr past) any = patch-none plan.job i d slot w (λ l. absurd (omega (arith, l, past)))
+      go (inl l) (inr n) = patch-none plan.job i d slot w (λ _. n)
+      go (inl l) (inl e) =
+          patch-leaf plan.job i d slot w l e
+          ∙ can.plain i slot w l (subst (λ k. IsTreePointer plan.old plan.bound (slot ∷ front plan.job i k)) e pointed)
+
+  pub lay_laid : (IsBegun plan.job from i (front plan.job i d) → ⊥) → (slot : ℕ) → patch_at plan.job i d slot (word_on plan.old (slot ∷ front plan.job i d)) ≡ laid_on plan.old plan.job (slot ∷ front plan.job i d)
+  lay_laid none slot = go (cases_lt i plan.job.leaves) (cases_eq d (length (plan.job.way i)))
+    where
+      go : (i < plan.job.leaves) ⊎ (plan.job.leaves ≤ i) → (d ≡ length (plan.job.way i)) ⊎ (d ≡ length (plan.job.way i) → ⊥) → patch_at plan.job i d slot (word_on plan.old (slot ∷ front plan.job i d)) ≡ laid_on plan.old plan.job (slot ∷ front plan.job i d)
+      go (inr past) any =
+          patch-none plan.job i d slot _ (λ l. absurd (omega (arith, l, past)))
+          ∙ sym (laid-other plan.old plan.job slot (front plan.job i d) (λ j small e. none (record { which = j; depth = length (plan.job.way j); early = omega (arith, small, past); low = can.below j (omega (arith, small)); high = omega arith; same = e })))
+      go (inl l) (inr n) =
+          patch-none plan.job i d slot _ (λ _. n)
+          ∙ sym (laid-other plan.old plan.job slot (front plan.job i d) (λ j small e.
+          n (omega (arith, length-trail_of (plan.job.way i) d, length-trail_of (plan.job.way j) (length (plan.job.way j)), ap (λ (x : Trail). length x) e, can.long i l, can.long j small))))
+      go (inl l) (inl e) =
+          patch-leaf plan.job i d slot _ l e
+          ∙ subst (λ k. plan.job.patch i slot (word_on plan.old (slot ∷ front plan.job i k)) ≡ laid_on plan.old plan.job (slot ∷ front plan.job i k)) (sym e)
+          (sym (laid-leaf plan.old plan.job slot i l (λ k small same. can.apart i k l small same)))

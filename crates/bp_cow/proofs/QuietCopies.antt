@@ -1,0 +1,52 @@
+-- The stores of copies are quiet: they go to blocks to which no pointer leads.
+use Rattle.std.proofs.Common.{◌≡◌, ◌⊎◌, ℕ, ◌+◌, ◌/◌, ◌≤◌, Bool, false, subst, arith, inl, inr}
+use Rattle.pm_epochs.specs.Crash.{IsPartialEquivalence, IsQuiet, commit}
+use Rattle.pm_epochs.specs.May.{AnyAt, EachMay}
+use Rattle.pm_epochs.proofs.MayLaws.{quiet_may}
+use Rattle.pm_epochs.proofs.PieceLaws.{IsPiece-append, IsPiece-commit, IsPiece-more}
+use Rattle.pm_region.specs.Memory.{Memory, current_words, Adds}
+use Rattle.pm_region.proofs.MemoryLaws.{adds_both}
+use Rattle.bp_layout.specs.Words.{Image, word}
+use Rattle.bp_layout.specs.Inode.{size_of}
+use Rattle.bp_layout.specs.Reached.{IsReached}
+use Rattle.bp_layout.specs.WellFormed.{IsWellFormed}
+use Rattle.bp_layout.specs.Same.{Same}
+use Rattle.bp_shapes.specs.Forest.{IsExactSet, IsForest, IsTreePointer, IsUnseen}
+use Rattle.bp_layout.proofs.SameLaws.{same_symmetric, same_transitive}
+use Rattle.bp_shapes.proofs.Unseen.{same_unseen}
+use Rattle.bp_cow.specs.Adds.{IsTakenWord, AddsCopies, AddsCopyCommit}
+
+equivalence : IsPartialEquivalence Same
+equivalence = record { symmetric = same_symmetric; transitive = same_transitive }
+
+module _ (old : Image) (bound : ℕ → ℕ) (start taken : ℕ → Bool) (wf : IsWellFormed old) (forest : IsForest old bound) (sizes : (t : ℕ) → IsReached old t → size_of old t ≤ bound t)
+    (exact : IsExactSet old (IsTreePointer old bound) start) where
+  unseen : (place : ℕ) → IsTakenWord start taken place → IsUnseen old bound place
+  unseen place one =
+      let low = (exact.in_range (place / 512) one.was).0 in
+      record { low = omega (arith, low); dead = λ has. clash (exact.live (place / 512) has) }
+    where
+      clash : start (place / 512) ≡ false → ⊥
+      clash used = let was = one.was in absurd (cc)
+
+  same : (image : Image) → EachMay (AnyAt (IsTakenWord start taken)) old image → Same old image
+  same image each = same_symmetric image old (same_unseen old bound start wf forest sizes exact image each.size (λ place seen. go place seen (each.each place)))
+    where
+      go : (place : ℕ) → (IsUnseen old bound place → ⊥) → (word image place ≡ word old place) ⊎ IsTakenWord start taken place → word image place ≡ word old place
+      go place seen (inl e) = e
+      go place seen (inr one) = absurd (seen (unseen place one))
+
+  pub copy_commit : (most all : ℕ) → most + 1 ≤ all → (first middle last : Memory) → old ≡ current_words first → (place value : ℕ) → AddsCopies start start taken most first middle → Adds middle last (commit place value) →
+      AddsCopyCommit start taken place all first last
+  copy_commit most all few first middle last is place value copies adds = record {
+    value = value;
+    commit = record {
+      prepared = copies.part.added;
+      adds = adds_both first middle last copies.part.added (commit place value) copies.part.adds adds;
+      quiet = subst (λ ws. IsQuiet Same ws copies.part.added) is (quiet_may Same equivalence (AnyAt (IsTakenWord start taken)) old copies.part.added same copies.part.may);
+      piece = IsPiece-more (0 + 2) (most + 1) 2 all _ (omega arith) few (IsPiece-append 0 most 2 1 copies.part.added (commit place value) copies.part.piece (IsPiece-commit place value));
+    };
+    only = copies.part.may;
+    each = copies.each;
+    fewer = copies.fewer;
+  }

@@ -1,0 +1,155 @@
+-- The blocks that a commit left are given back, one after the other.
+use Rattle.std.proofs.Common.{◌≡◌, ◌≢◌, ◌⊎◌, ℕ, ◌+◌, ◌*◌, ◌/◌, ◌<◌, ◌≤◌, length, Bool, true, false, refl, sym, ◌∙◌, ap, subst, arith, inl, inr}
+use Rattle.std.specs.List.{slice_index}
+use Rattle.std.proofs.lemmas.Bool.{cases_eq}
+use Rattle.bp_layout.specs.Words.{Image, block_count, slot_word}
+use Rattle.bp_shapes.specs.Trail.{Trail, block_on, IsSkeleton, LeadsTo}
+use Rattle.bp_shapes.specs.Forest.{IsTreePointer}
+use Rattle.bp_shapes.proofs.ForestLaws.{skeleton}
+use Rattle.bp_shapes.proofs.TrailLaws.{word_on-slot}
+use Rattle.bp_shapes.proofs.PathTrails.{trail_of-next, length-trail_of}
+use Rattle.bp_cow.specs.Copies.{Takes}
+use Rattle.bp_cow.specs.Job.{ways, front, IsBegun, IsAnew}
+use Rattle.bp_cow.specs.Job.IsAnew.{is_begun}
+use Rattle.bp_cow.specs.Plan.{Plan, CanMake}
+use Rattle.bp_cow.specs.Return.{IsReturned, IsLeft, IsBack}
+use Rattle.bp_cow.proofs.BuildFacts.{anew_start, anew_start_back, anew_next, anew_next_back, anew_more, anew_more_back, not_anew}
+
+pub returned_same : (old : Image) (Pointer anew other : Trail → Type 0) (before after : ℕ → Bool) → ((q : Trail) → anew q → other q) → ((q : Trail) → Pointer q → other q → anew q ⊎ (block_on old q ≡ 0)) →
+    IsReturned old Pointer anew before after → IsReturned old Pointer other before after
+returned_same old Pointer anew other before after to back returned = record {
+  given = λ p live n some. given p live some (back p live n);
+  still = returned.still;
+  from = λ b is. from b (returned.from b is);
+}
+  where
+    given : (p : Trail) → Pointer p → block_on old p ≢ 0 → anew p ⊎ (block_on old p ≡ 0) → after (block_on old p) ≡ true
+    given p live some (inl n) = returned.given p live n some
+    given p live some (inr null) = absurd (some null)
+
+    from : (b : ℕ) → (before b ≡ true) ⊎ ((p : Trail) × Pointer p × anew p × (block_on old p ≡ b) × (b ≢ 0)) → (before b ≡ true) ⊎ ((p : Trail) × Pointer p × other p × (block_on old p ≡ b) × (b ≢ 0))
+    from b (inl is) = inl is
+    from b (inr one) = inr (one.0, one.1, to one.0 one.2, one.3, one.4)
+
+module _ (old : Image) (Pointer anew : Trail → Type 0) (before after : ℕ → Bool) (bones : IsSkeleton old Pointer) (used : (b : ℕ) → LeadsTo old Pointer b → before b ≡ false)
+    (returned : IsReturned old Pointer anew before after) (here : Trail) (live : Pointer here) (first : anew here → ⊥) (some : block_on old here ≢ 0) where
+  pub not_back : after (block_on old here) ≡ false
+  not_back = go (after (block_on old here)) refl
+    where
+      again : (before (block_on old here) ≡ true) ⊎ ((p : Trail) × Pointer p × anew p × (block_on old p ≡ block_on old here) × (block_on old here ≢ 0)) → ⊥
+      again (inl is) = let no_more : before (block_on old here) ≡ false = used _ (record { trail = here; pointer = live; named = refl; not_null = some }) in absurd (cc)
+      again (inr one) = first (subst anew (sym (bones.once here one.0 live one.1 some (sym one.3))) one.2)
+
+      go : (x : Bool) → after (block_on old here) ≡ x → after (block_on old here) ≡ false
+      go false e = e
+      go true e = absurd (again (returned.from _ e))
+
+  pub given_back : (next : ℕ → Bool) → Takes next after (block_on old here) → IsReturned old Pointer (λ q. anew q ⊎ (q ≡ here)) before next
+  given_back next takes = record {
+    given = λ p l n full. given p l n full (cases_eq (block_on old p) (block_on old here));
+    still = λ b is. more b (returned.still b is);
+    from = λ b is. from b is (cases_eq b (block_on old here));
+  }
+    where
+      more : (b : ℕ) → after b ≡ true → next b ≡ true
+      more b is = go (cases_eq b (block_on old here))
+        where
+          go : (b ≡ block_on old here) ⊎ (b ≡ block_on old here → ⊥) → next b ≡ true
+          go (inl e) = ap next e ∙ takes.was
+          go (inr n) = sym (takes.others b n) ∙ is
+
+      given : (p : Trail) → Pointer p → anew p ⊎ (p ≡ here) → block_on old p ≢ 0 → (block_on old p ≡ block_on old here) ⊎ (block_on old p ≡ block_on old here → ⊥) → next (block_on old p) ≡ true
+      given p l n full (inl e) = ap next e ∙ takes.was
+      given p l (inl n) full (inr other) = more _ (returned.given p l n full)
+      given p l (inr e) full (inr other) = absurd (other (ap (block_on old) e))
+
+      from : (b : ℕ) → next b ≡ true → (b ≡ block_on old here) ⊎ (b ≡ block_on old here → ⊥) → (before b ≡ true) ⊎ ((p : Trail) × Pointer p × (anew p ⊎ (p ≡ here)) × (block_on old p ≡ b) × (b ≢ 0))
+      from b is (inl e) = inr (here, live, inr refl, sym e, λ null. some (sym e ∙ null))
+      from b is (inr n) = go (returned.from b (takes.others b n ∙ is))
+        where
+          go : (before b ≡ true) ⊎ ((p : Trail) × Pointer p × anew p × (block_on old p ≡ b) × (b ≢ 0)) → (before b ≡ true) ⊎ ((p : Trail) × Pointer p × (anew p ⊎ (p ≡ here)) × (block_on old p ≡ b) × (b ≢ 0))
+          go (inl yes_before) = inl yes_before
+          go (inr one) = inr (one.0, one.1, inl one.2, one.3, one.4)
+
+-- one block further on the old way
+module _ (plan : Plan) (from i depth : ℕ) (before : ℕ → Bool) (now : Image) (left : IsLeft plan from before now) (here : i < ways plan.job) (low : from ≤ depth) (more : depth < length (plan.job.way i))
+    (block : ℕ) (is : block ≡ block_on plan.old (front plan.job i depth)) where
+  abbrev Pointer : Trail → Type 0
+  Pointer = IsTreePointer plan.old plan.bound
+
+  bones : IsSkeleton plan.old Pointer
+  bones = skeleton plan.old plan.bound left.can.forest left.can.whole
+
+  pub old_slot : slice_index (plan.job.way i) depth < 512
+  old_slot = left.can.slots i depth here more
+
+  live : Pointer (front plan.job i depth)
+  live = left.can.pointers i depth here (omega (arith, more))
+
+  next_live : Pointer (front plan.job i (depth + 1))
+  next_live = left.can.pointers i (depth + 1) here (omega (arith, more))
+
+  pub old_low : 512 * block + 512 ≤ length now
+  old_low = rw is (let range : block_on plan.old (front plan.job i depth) < block_count plan.old = bones.in_range _ live in omega (arith, range, left.can.whole, left.whole))
+
+  pub old_next : slot_word now block (slice_index (plan.job.way i) depth) / 4096 ≡ block_on plan.old (front plan.job i (depth + 1))
+  old_next =
+      rw is (ap (λ w. w / 4096) (left.intact (front plan.job i depth) (slice_index (plan.job.way i) depth) live (omega (arith, low, length-trail_of (plan.job.way i) depth)) old_slot))
+      ∙ ap (λ w. w / 4096) (sym (word_on-slot plan.old (slice_index (plan.job.way i) depth) (front plan.job i depth)))
+      ∙ ap (block_on plan.old) (sym (trail_of-next (plan.job.way i) depth))
+
+  pub old_next_low : block_on plan.old (front plan.job i (depth + 1)) < block_count plan.old
+  old_next_low = bones.in_range _ next_live
+
+  module _ (after : ℕ → Bool) (back : IsBack plan from i depth before after) where
+    pub back_none : (block_on plan.old (front plan.job i (depth + 1)) ≡ 0) ⊎ IsBegun plan.job from i (front plan.job i (depth + 1)) → IsBack plan from i (depth + 1) before after
+    back_none any =
+        returned_same plan.old Pointer (IsAnew plan.job from i depth) (IsAnew plan.job from i (depth + 1)) before after (λ q n. anew_more plan.job from i depth q (inl n) low) (λ q l n. go q (anew_more_back plan.job from i depth q n) any) back
+      where
+        go : (q : Trail) → IsAnew plan.job from i depth q ⊎ (q ≡ front plan.job i (depth + 1)) → (block_on plan.old (front plan.job i (depth + 1)) ≡ 0) ⊎ IsBegun plan.job from i (front plan.job i (depth + 1)) → IsAnew plan.job from i depth q ⊎ (block_on plan.old q ≡ 0)
+        go q (inl n) a = inl n
+        go q (inr e) (inl null) = inr (ap (block_on plan.old) e ∙ null)
+        go q (inr e) (inr begun) = inl (is_begun (subst (IsBegun plan.job from i) (sym e) begun))
+
+    module _ (none : IsBegun plan.job from i (front plan.job i (depth + 1)) → ⊥) (some : block_on plan.old (front plan.job i (depth + 1)) ≢ 0) where
+      pub back_full : after (block_on plan.old (front plan.job i (depth + 1))) ≡ false
+      back_full = not_back plan.old Pointer (IsAnew plan.job from i depth) before after bones left.used back (front plan.job i (depth + 1)) next_live (not_anew plan.job from i depth low none) some
+
+      pub back_one : (next : ℕ → Bool) → Takes next after (block_on plan.old (front plan.job i (depth + 1))) → IsBack plan from i (depth + 1) before next
+      back_one next takes =
+          returned_same plan.old Pointer (λ q. IsAnew plan.job from i depth q ⊎ (q ≡ front plan.job i (depth + 1))) (IsAnew plan.job from i (depth + 1)) before next
+          (λ q n. anew_more plan.job from i depth q n low) (λ q l n. inl (anew_more_back plan.job from i depth q n))
+          (given_back plan.old Pointer (IsAnew plan.job from i depth) before after bones left.used back (front plan.job i (depth + 1)) next_live (not_anew plan.job from i depth low none) some next takes)
+
+-- nothing is given back yet
+returned_none : (old : Image) (Pointer : Trail → Type 0) (before : ℕ → Bool) → IsReturned old Pointer (λ q. ⊥) before before
+returned_none old Pointer before = record { given = λ p live n some. absurd n; still = λ b is. is; from = λ b is. inl is }
+
+module _ (plan : Plan) (from : ℕ) (before : ℕ → Bool) (now : Image) (left : IsLeft plan from before now) where
+  cover_live : IsTreePointer plan.old plan.bound (front plan.job 0 from)
+  cover_live = left.can.pointers 0 from left.can.some (left.can.below 0 left.can.some)
+
+  pub back_null : block_on plan.old (front plan.job 0 from) ≡ 0 → IsBack plan from 0 from before before
+  back_null null =
+      returned_same plan.old (IsTreePointer plan.old plan.bound) (λ q. ⊥) (IsAnew plan.job from 0 from) before before (λ q n. absurd n) (λ q l n. go q (anew_start_back plan.job from 0 q n)) (returned_none plan.old _ before)
+    where
+      go : (q : Trail) → ⊥ ⊎ (q ≡ front plan.job 0 from) → ⊥ ⊎ (block_on plan.old q ≡ 0)
+      go q (inl n) = inl n
+      go q (inr e) = inr (ap (block_on plan.old) e ∙ null)
+
+  pub back_cover : block_on plan.old (front plan.job 0 from) ≢ 0 → (next : ℕ → Bool) → Takes next before (block_on plan.old (front plan.job 0 from)) → IsBack plan from 0 from before next
+  back_cover some next takes =
+      returned_same plan.old (IsTreePointer plan.old plan.bound) (λ q. ⊥ ⊎ (q ≡ front plan.job 0 from)) (IsAnew plan.job from 0 from) before next
+      (λ q n. anew_start plan.job from 0 q n) (λ q l n. inl (anew_start_back plan.job from 0 q n))
+      (given_back plan.old (IsTreePointer plan.old plan.bound) (λ q. ⊥) before before (skeleton plan.old plan.bound left.can.forest left.can.whole) left.used (returned_none plan.old _ before)
+      (front plan.job 0 from) cover_live (λ n. n) some next takes)
+
+  pub cover_used : block_on plan.old (front plan.job 0 from) ≢ 0 → before (block_on plan.old (front plan.job 0 from)) ≡ false
+  cover_used some = left.used _ (record { trail = front plan.job 0 from; pointer = cover_live; named = refl; not_null = some })
+
+-- a word is done
+pub back_word : (plan : Plan) (from i last : ℕ) (before after : ℕ → Bool) → CanMake plan from → i < ways plan.job → last ≡ length (plan.job.way i) → from ≤ last →
+    IsBack plan from i last before after → IsBack plan from (i + 1) from before after
+back_word plan from i last before after can here len low back =
+    returned_same plan.old (IsTreePointer plan.old plan.bound) (IsAnew plan.job from i last) (IsAnew plan.job from (i + 1) from) before after
+    (anew_next plan.job from i last len low (can.cover i here)) (λ q l n. inl (anew_next_back plan.job from i last len low (can.cover i here) q n)) back

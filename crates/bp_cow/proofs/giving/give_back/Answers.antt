@@ -1,0 +1,56 @@
+use Rattle.std.proofs.Common.{◌≡◌, ℕ, List, ◌<◌, ◌∙◌, ap, sym, subst, arith, length, Bool}
+use Rattle.bp_free.specs.Set.{has}
+use Rattle.pm_region.specs.Memory.{current_words}
+use Rattle.bp_layout.specs.Words.{block_count}
+use Rattle.bp_shapes.specs.Trail.{block_on, IsSkeleton}
+use Rattle.bp_shapes.specs.Forest.{IsTreePointer}
+use Rattle.bp_shapes.proofs.ForestLaws.{skeleton}
+use Rattle.bp_cow.specs.Copies.{Takes}
+use Rattle.bp_cow.specs.Job.{ways, front}
+use Rattle.bp_cow.specs.Plan.{planned}
+use Rattle.bp_cow.specs.Return.{IsBack}
+use Rattle.bp_cow.specs.Touched.{job_of}
+use Rattle.bp_cow.proofs.ReturnLaws.{back_null, back_cover, cover_used}
+use Rattle.bp_cow.proofs.giving.give_back.Goals as goal
+use Rattle.bp_cow.proofs.giving.give_back.Goals.{then-top-ne0, else-top-ne0}
+
+pub give-requires-clause-in_range : goal.give-requires-clause-in_range
+give-requires-clause-in_range g c =
+    let bones : IsSkeleton g.plan.old (IsTreePointer g.plan.old g.plan.bound) = skeleton g.plan.old g.plan.bound c.requires.1.1.0.can.forest c.requires.1.1.0.can.whole in
+    let range : block_on g.plan.old (front (job_of c.args.touched.now) 0 c.args.from) < block_count g.plan.old = bones.in_range (front (job_of c.args.touched.now) 0 c.args.from) (c.requires.1.1.0.can.pointers 0 c.args.from c.requires.1.1.0.can.some (c.requires.1.1.0.can.below 0 c.requires.1.1.0.can.some)) in
+    omega (arith, c.requires.1.1.1.1.0, range, c.requires.1.1.1.1.1)
+
+pub give-requires-clause-used : goal.give-requires-clause-used
+give-requires-clause-used g c =
+    ap (λ (f : ℕ → Bool). f c.args.top) (sym c.requires.1.1.1.0) ∙ ap g.plan.taken c.requires.1.1.1.1.0 ∙ cover_used (planned g.plan c.args.touched.now) c.args.from g.plan.taken (current_words (g.R.Region.memory c.args.region.now)) c.requires.1.1.0 (λ null. c.if-top-ne0.true (c.requires.1.1.1.1.0 ∙ null))
+
+pub loop-i-init : goal.loop-i-init
+loop-i-init g c =
+    let taken : g.plan.taken ≡ has c.args.blocks.now = c.requires.1.1.1.0 in
+    elim c.if-top-ne0.branch [
+      | then-top-ne0 w ↦ record {
+        back = subst (λ (bs : List Bool). IsBack (planned g.plan c.args.touched.now) c.args.from 0 c.args.from g.plan.taken (has bs)) (sym w.blocks-is)
+            (back_cover (planned g.plan c.args.touched.now) c.args.from g.plan.taken (current_words (g.R.Region.memory c.args.region.now)) c.requires.1.1.0 (λ null. w.if-top-ne0.true (c.requires.1.1.1.1.0 ∙ null)) (has w.give.new.blocks)
+            (subst (Takes (has w.give.new.blocks) g.plan.taken) c.requires.1.1.1.1.0 (subst (λ (f : ℕ → Bool). Takes (has w.give.new.blocks) f c.args.top) (sym taken) w.give.ensures.given)));
+        size = ap (λ (bs : List Bool). length bs) w.blocks-is ∙ w.give.ensures.size;
+      }
+      | else-top-ne0 w ↦ record {
+        back = subst (λ (bs : List Bool). IsBack (planned g.plan c.args.touched.now) c.args.from 0 c.args.from g.plan.taken (has bs)) (sym w.blocks-is)
+            (subst (λ (f : ℕ → Bool). IsBack (planned g.plan c.args.touched.now) c.args.from 0 c.args.from g.plan.taken f) taken (back_null (planned g.plan c.args.touched.now) c.args.from g.plan.taken (current_words (g.R.Region.memory c.args.region.now)) c.requires.1.1.0 (sym c.requires.1.1.1.1.0 ∙ w.if-top-ne0.false)));
+        size = ap (λ (bs : List Bool). length bs) w.blocks-is;
+      }
+    ]
+
+pub give_way-requires : goal.give_way-requires
+give_way-requires g c κs within =
+    let here : c.loop-i.i < ways (job_of c.args.touched.now) = subst (λ n. c.loop-i.i < n) c.ways-ways.ensures c.loop-i-test.true in
+    (within, (c.requires.1.0, (c.requires.1.1.0, (record { can = c.requires.1.1.0.can; here = here; low = omega arith; high = c.requires.1.1.0.can.below c.loop-i.i here }, (c.loop-i.invariant.back, (c.requires.1.1.1.1.0, omega (arith, c.requires.1.1.1.1.1, c.loop-i.invariant.size)))))))
+
+pub loop-i-preserved : goal.loop-i-preserved
+loop-i-preserved g c =
+    record { back = c.give_way.ensures.back; size = c.give_way.ensures.size ∙ c.loop-i.invariant.size }
+
+pub returns-clause-back : goal.returns-clause-back
+returns-clause-back g c =
+    let end : c.loop-i.i ≡ ways (job_of c.args.touched.now) = omega (arith, c.loop-i-test.false, c.loop-i.auto.i-end, c.ways-ways.ensures) in
+    subst (λ n. IsBack (planned g.plan c.args.touched.now) c.args.from n c.args.from g.plan.taken (has c.loop-i.blocks)) end c.loop-i.invariant.back

@@ -1,0 +1,18 @@
+use Rattle.std.proofs.Common.{◌≡◌, length}
+use Rattle.bp_free.specs.Set.{has}
+use Rattle.bp_shapes.specs.Trail.{block_on}
+use Rattle.bp_cow.specs.Job.{front}
+use Rattle.bp_cow.specs.Plan.{planned}
+use Rattle.bp_cow.specs.Return.{IsBack}
+use Rattle.bp_cow.specs.Touched.{job_of}
+use Rattle.bp_cow.proofs.giving.give_way.Given as goal
+
+abbrev pub ghost-give_step : goal.ghost-give_step
+ghost-give_step g a = g.plan
+
+abbrev pub invariant-loop-depth : goal.invariant-loop-depth
+invariant-loop-depth g l = record {
+  back : IsBack (planned g.plan l.touched) l.from l.i l.depth g.plan.taken (has l.blocks);
+  block : l.block ≡ block_on g.plan.old (front (job_of l.touched) l.i l.depth);
+  size : length l.blocks ≡ length l.fn.blocks;
+}

@@ -1,0 +1,41 @@
+-- The cover of touched words.
+use Rattle.std.specs.Prelude.{◌≡◌, ◌≢◌, ℕ, zero, suc, ◌+◌, ◌-◌, ◌/◌, ◌<◌, ◌≤◌, List, length, take, Option, None, Some}
+use Rattle.bp_layout.specs.Words.{Image}
+use Rattle.bp_shapes.specs.Trail.{block_on, trail_of}
+use Rattle.bp_layout.specs.WordPaths.{WordPath}
+use Rattle.bp_cow.specs.Touched.{run_path, run_end, path_of, word_paths}
+use Rattle.bp_cow.specs.declared.touched.Run.{Run}
+use Rattle.bp_cow.specs.declared.touched.Touched.{Touched}
+
+-- The paths that tell with what all touched paths begin: those of the first and of the last word of the run, between which the other words of the run lie, and those of the words.
+abbrev pub end_path_of : Option Run → List WordPath → ℕ → WordPath
+end_path_of None paths i = path_of paths i
+end_path_of (Some run) paths zero = run_path run (run.off / 8)
+end_path_of (Some run) paths (suc zero) = run_path run ((run_end run - 1) / 8)
+end_path_of (Some run) paths (suc (suc i)) = path_of paths i
+
+abbrev pub ends_of : Option Run → ℕ → ℕ
+ends_of None count = count
+ends_of (Some run) count = 2 + count
+
+abbrev pub end_path : Touched → ℕ → WordPath
+end_path touched i = end_path_of touched.run (word_paths touched) i
+
+abbrev pub ends : Touched → ℕ
+ends touched = ends_of touched.run (length touched.words.items)
+
+-- all of them begin with the same slots, so many
+pub record BeginAlike (touched : Touched) (count : ℕ) : Type 0 where
+  pub long : (i : ℕ) → i < ends touched → count ≤ length (end_path touched i)
+  pub same : (i : ℕ) → i < ends touched → trail_of (end_path touched i) count ≡ trail_of (end_path touched 0) count
+
+-- So many slots are the longest front with which all touched paths begin and which exists: no pointer that a proper front of it names is null.
+pub record CoverHas (image : Image) (touched : Touched) (count : ℕ) : Type 0 where
+  pub alike : BeginAlike touched count
+  pub exists : (d : ℕ) → d < count → block_on image (trail_of (end_path touched 0) d) ≢ 0
+  pub longest : BeginAlike touched (count + 1) → block_on image (trail_of (end_path touched 0) count) ≡ 0
+
+-- the longest path that exists and with which all touched paths begin
+pub record IsCover (image : Image) (touched : Touched) (path : WordPath) : Type 0 where
+  pub front : path ≡ take (length path) (end_path touched 0)
+  pub has : CoverHas image touched (length path)

@@ -1,0 +1,14 @@
+-- A front with which all touched paths begin, and the place of its word.
+use Rattle.std.specs.Prelude.{◌≡◌, ◌≢◌, ℕ, ◌<◌, length}
+use Rattle.bp_layout.specs.Words.{Image}
+use Rattle.bp_shapes.specs.Trail.{block_on, place_on, trail_of, IsPlaced}
+use Rattle.bp_cow.specs.Cover.{end_path, BeginAlike}
+use Rattle.bp_cow.specs.declared.touched.Touched.{Touched}
+use Rattle.bp_cow.specs.declared.covering.Found.{Found}
+
+pub record IsAt (image : Image) (touched : Touched) (found : Found) : Type 0 where
+  pub alike : BeginAlike touched found.len
+  pub exists : (d : ℕ) → d < found.len → block_on image (trail_of (end_path touched 0) d) ≢ 0
+  pub placed : IsPlaced image (λ q. Unit {0}) (trail_of (end_path touched 0) found.len)
+  pub place : place_on image (trail_of (end_path touched 0) found.len) ≡ found.place
+  pub low : found.place < length image

@@ -1,0 +1,73 @@
+-- What the making of copies is about, what it asks, and how far it has come.
+use Rattle.std.specs.Prelude.{◌≡◌, ℕ, ◌*◌, ◌-◌, ◌<◌, ◌≤◌, ◌∷◌, length, slice_index, slice_set, Bool}
+use Rattle.bp_layout.specs.Words.{Image, word, block_count}
+use Rattle.bp_shapes.specs.Trail.{block_on, place_on, IsPlaced}
+use Rattle.bp_shapes.specs.Forest.{IsExactSet, IsForest, IsTreePointer}
+use Rattle.bp_cow.specs.Copies.{with_block}
+use Rattle.bp_cow.specs.Job.{Job, ways, front, end_of, word_trail, IsAnew, value_upto, laid_on}
+use Rattle.bp_cow.specs.Stage.{IsBuilding}
+use Rattle.bp_cow.specs.Touched.{job_of}
+use Rattle.bp_cow.specs.declared.touched.Touched.{Touched}
+
+-- `bound`: the sizes under which the trees count; `from`: how many slots the cover has; `place`: where its word stands
+pub record CanBuild (old : Image) (bound : ℕ → ℕ) (job : Job) (from place : ℕ) (free : ℕ → Bool) : Type 0 where
+  pub some : 0 < ways job
+  pub some_blocks : 0 < block_count old
+  pub whole : length old ≡ 512 * block_count old
+  pub forest : IsForest old bound
+  pub exact : IsExactSet old (IsTreePointer old bound) free
+  -- each way begins with the cover, and each of its fronts is a pointer
+  pub below : (i : ℕ) → i < ways job → from ≤ length (job.way i)
+  pub short : (i : ℕ) → i < ways job → length (job.way i) ≤ 11
+  pub cover : (i : ℕ) → i < ways job → front job i from ≡ front job 0 from
+  pub pointers : (i d : ℕ) → i < ways job → d ≤ length (job.way i) → IsTreePointer old bound (front job i d)
+  pub slots : (i d : ℕ) → i < ways job → d < length (job.way i) → slice_index (job.way i) d < 512
+  -- the words are no pointers, and the run has none
+  pub word_slots : (i : ℕ) → i < job.words → job.slot i < 512
+  pub contents : (i : ℕ) → i < job.words → IsTreePointer old bound (word_trail job i) → ⊥
+  pub plain : (j slot old_word : ℕ) → j < job.leaves → IsTreePointer old bound (slot ∷ end_of job j) → job.patch j slot old_word ≡ old_word
+  -- the leaves of the run stand at one depth, each once
+  pub long : (j : ℕ) → j < job.leaves → length (job.way j) ≡ length (job.way 0)
+  pub apart : (j l : ℕ) → j < job.leaves → l < job.leaves → end_of job j ≡ end_of job l → j ≡ l
+  -- the cover exists
+  pub placed : IsPlaced old (IsTreePointer old bound) (front job 0 from)
+  pub at : place_on old (front job 0 from) ≡ place
+
+-- the image before, the sizes under which its trees count, the free blocks before, what is to be done, the place of the cover, and the cover's copy
+pub record Plan : Type 0 where
+  pub old : Image
+  pub bound : ℕ → ℕ
+  pub free : ℕ → Bool
+  pub job : Job
+  pub place : ℕ
+  pub top : ℕ
+  -- the free blocks after the last store
+  pub taken : ℕ → Bool
+
+-- the plan for these touched words
+abbrev pub planned : Plan → Touched → Plan
+planned plan touched = record plan { job = job_of touched }
+
+-- the image as it would be after the last store
+abbrev pub seen : Plan → Image → Image
+seen plan now = slice_set now plan.place (with_block (word plan.old plan.place) plan.top)
+
+-- the first ways are done, and the next one up to a depth
+abbrev pub IsMade : Plan → ℕ → ℕ → ℕ → Image → (ℕ → Bool) → Type 0
+IsMade plan from i depth now free =
+    IsBuilding plan.old now plan.place (with_block (word plan.old plan.place) plan.top) (front plan.job 0 from)
+    (IsTreePointer plan.old plan.bound) (IsAnew plan.job from i depth) (value_upto plan.job (i - plan.job.leaves)) (laid_on plan.old plan.job) free
+
+abbrev pub CanMake : Plan → ℕ → Type 0
+CanMake plan from = CanBuild plan.old plan.bound plan.job from plan.place plan.free
+
+-- the block at a depth of a way
+abbrev pub reached : Plan → ℕ → ℕ → Image → ℕ
+reached plan i depth now = block_on (seen plan now) (front plan.job i depth)
+
+-- there is such a way, and it has such a depth
+pub record IsOnWay (plan : Plan) (from i depth : ℕ) : Type 0 where
+  pub can : CanMake plan from
+  pub here : i < ways plan.job
+  pub low : from ≤ depth
+  pub high : depth ≤ length (plan.job.way i)

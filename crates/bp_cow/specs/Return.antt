@@ -1,0 +1,23 @@
+-- The blocks that a commit left are given back.
+use Rattle.std.specs.Prelude.{◌≡◌, ◌≢◌, ◌⊎◌, ℕ, ◌<◌, ◌≤◌, length, Bool, true, false}
+use Rattle.bp_layout.specs.Words.{Image, slot_word}
+use Rattle.bp_shapes.specs.Trail.{Trail, block_on, LeadsTo}
+use Rattle.bp_shapes.specs.Forest.{IsTreePointer}
+use Rattle.bp_cow.specs.Job.{IsAnew}
+use Rattle.bp_cow.specs.Plan.{Plan, CanMake}
+
+-- the free set has grown by the blocks to which some pointers led before
+pub record IsReturned (old : Image) (Pointer anew : Trail → Type 0) (before after : ℕ → Bool) : Type 0 where
+  pub given : (p : Trail) → Pointer p → anew p → block_on old p ≢ 0 → after (block_on old p) ≡ true
+  pub still : (b : ℕ) → before b ≡ true → after b ≡ true
+  pub from : (b : ℕ) → after b ≡ true → (before b ≡ true) ⊎ ((p : Trail) × Pointer p × anew p × (block_on old p ≡ b) × (b ≢ 0))
+
+-- the words as a commit leaves them: the old blocks from the cover down are as they were, and none of them is free
+pub record IsLeft (plan : Plan) (from : ℕ) (before : ℕ → Bool) (now : Image) : Type 0 where
+  pub can : CanMake plan from
+  pub whole : length now ≡ length plan.old
+  pub intact : (p : Trail) (slot : ℕ) → IsTreePointer plan.old plan.bound p → from ≤ length p → slot < 512 → slot_word now (block_on plan.old p) slot ≡ slot_word plan.old (block_on plan.old p) slot
+  pub used : (b : ℕ) → LeadsTo plan.old (IsTreePointer plan.old plan.bound) b → before b ≡ false
+
+abbrev pub IsBack : Plan → ℕ → ℕ → ℕ → (ℕ → Bool) → (ℕ → Bool) → Type 0
+IsBack plan from i depth before after = IsReturned plan.old (IsTreePointer plan.old plan.bound) (IsAnew plan.job from i depth) before after

@@ -1,0 +1,133 @@
+//! The cover: the longest path that exists and with which all touched paths begin.
+
+ghost use Rattle.std.specs.Prelude.{◌≡◌, ◌≢◌, ℕ, ◌+◌, ◌<◌, ◌≤◌, length, slice_index, true, false};
+ghost use Rattle.bp_layout.specs.Words.{block_count};
+ghost use Rattle.bp_shapes.specs.Trail.{block_on, place_on, trail_of};
+ghost use Rattle.pm_region.specs.Memory.{current_words};
+ghost use Rattle.bp_cow.specs.Cover.{end_path, ends, BeginAlike, CoverHas, IsCover};
+ghost use Rattle.bp_cow.specs.Touched.{IsTouched};
+ghost use Rattle.bp_cow.specs.Found.{IsAt};
+
+use crate::touched::Touched;
+use bp_tree::Slots;
+use pm_region::Region;
+
+impl Touched<'_> {
+    /// How many paths tell with what all touched paths begin: those of the first and of the last word of the run, and those of the
+    /// words.
+    fn ends(&self) -> usize
+        ensures { result ≡ ends self.now }
+    {
+        match &self.run {
+            Some(_) => 2 + self.words.len(),
+            None => self.words.len(),
+        }
+    }
+
+    /// How many slots such a path has.
+    fn end_len(&self, i: usize) -> usize
+        requires touched { IsTouched self.now }
+        requires i { i < ends self.now }
+        ensures { result ≡ length (end_path self.now i) }
+    {
+        match &self.run {
+            Some(run) if i < 2 => run.root.len() + run.height as usize + 1,
+            Some(_) => self.path_len(i - 2),
+            None => self.path_len(i),
+        }
+    }
+
+    /// A slot of such a path.
+    pub(crate) fn end_slot(&self, i: usize, depth: usize) -> u32
+        requires touched { IsTouched self.now }
+        requires i { i < ends self.now }
+        requires depth { depth < length (end_path self.now i) }
+        ensures { result ≡ slice_index (end_path self.now i) depth }
+    {
+        match &self.run {
+            Some(run) if i == 0 => run.slot(run.off / 8, depth),
+            Some(run) if i == 1 => run.slot(run.last_word(), depth),
+            Some(_) => self.path_slot(i - 2, depth),
+            None => self.path_slot(i, depth),
+        }
+    }
+
+    /// Whether all touched paths, which begin alike so far, have one more slot alike.
+    fn goes_on(&self, depth: usize) -> bool
+        requires touched { IsTouched self.now }
+        requires alike { BeginAlike self.now depth }
+        ensures yes { result ≡ true → BeginAlike self.now (depth + 1) }
+        ensures no { result ≡ false → BeginAlike self.now (depth + 1) → ⊥ }
+    {
+        let ends = self.ends();
+        if self.end_len(0) <= depth {
+            return false;
+        }
+        let slot = self.end_slot(0, depth);
+        for i in 1..ends {
+            if self.end_len(i) <= depth || self.end_slot(i, depth) != slot {
+                return false;
+            }
+        }
+        true
+    }
+}
+
+/// How many slots the cover has, and the place of its word.
+#[derive(Clone, Copy)]
+pub(crate) struct Found {
+    pub(crate) len: usize,
+    pub(crate) place: u32,
+}
+
+/// The block to which the word at the end of a front points with which all touched paths begin, 0 where no longer front is one.
+fn below<R: Region>(region: &R, touched: &Touched<'_>, found: Found) -> u64
+    requires touched { IsTouched touched.now }
+    requires at { IsAt (current_words (R.memory region.now)) touched.now found }
+    ensures none { result ≡ 0 → BeginAlike touched.now (found.len + 1) → block_on (current_words (R.memory region.now)) (trail_of (end_path touched.now 0) found.len) ≡ 0 }
+    ensures some { result ≢ 0 → BeginAlike touched.now (found.len + 1) }
+    ensures block { result ≢ 0 → result ≡ block_on (current_words (R.memory region.now)) (trail_of (end_path touched.now 0) found.len) }
+{
+    if touched.goes_on(found.len) {
+        region.load(found.place) >> 12
+    } else {
+        0
+    }
+}
+
+/// Follows the path with which all touched paths begin as far as it exists.
+pub(crate) fn find_cover<R: Region>(region: &R, touched: &Touched<'_>) -> Found
+    requires touched { IsTouched touched.now }
+    requires some { 512 ≤ length (current_words (R.memory region.now)) }
+    requires in_range { (d : ℕ) → BeginAlike touched.now (d + 1) → block_on (current_words (R.memory region.now)) (trail_of (end_path touched.now 0) d) < block_count (current_words (R.memory region.now)) }
+    ensures at { IsAt (current_words (R.memory region.now)) touched.now result }
+    ensures has { CoverHas (current_words (R.memory region.now)) touched.now result.len }
+{
+    let _words = region.words();
+    let mut found = Found { len: 0, place: 2 };
+    let mut block = below(region, touched, found);
+    while block != 0 {
+        let slot = touched.end_slot(0, found.len);
+        found = Found {
+            len: found.len + 1,
+            place: (512 * block) as u32 + slot,
+        };
+        block = below(region, touched, found);
+    }
+    found
+}
+
+/// The longest path that exists and with which all touched paths begin. No block has to be free for it.
+pub fn cover<R: Region>(region: &R, touched: &Touched<'_>) -> Slots
+    requires touched { IsTouched touched.now }
+    requires some { 512 ≤ length (current_words (R.memory region.now)) }
+    requires in_range { (d : ℕ) → BeginAlike touched.now (d + 1) → block_on (current_words (R.memory region.now)) (trail_of (end_path touched.now 0) d) < block_count (current_words (R.memory region.now)) }
+    ensures { IsCover (current_words (R.memory region.now)) touched.now result.items }
+{
+    let found = find_cover(region, touched);
+    let mut path = Slots::new();
+    for depth in 0..found.len {
+        path.push(touched.end_slot(0, depth) as u16);
+    }
+    path
+}

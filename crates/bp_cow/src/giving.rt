@@ -1,0 +1,101 @@
+//! The blocks that a commit left are given back.
+
+ghost use Rattle.std.specs.Prelude.{◌≡◌, ℕ, ◌+◌, ◌<◌, ◌≤◌, length};
+ghost use Rattle.bp_free.specs.Set.{has};
+ghost use Rattle.bp_shapes.specs.Trail.{block_on};
+ghost use Rattle.bp_layout.specs.Words.{block_count};
+ghost use Rattle.pm_region.specs.Memory.{current_words};
+ghost use Rattle.bp_cow.specs.Job.{ways, front};
+ghost use Rattle.bp_cow.specs.Plan.{Plan, planned, IsOnWay};
+ghost use Rattle.bp_cow.specs.Return.{IsLeft, IsBack};
+ghost use Rattle.bp_cow.specs.Touched.{IsTouched, job_of};
+
+use crate::copies::give;
+use crate::touched::Touched;
+use crate::ways::is_new;
+use bp_free::Blocks;
+use bp_tree::load_slot;
+use pm_region::Region;
+
+/// One block further on the old way: the block there is given back, where no earlier way has had it given back.
+fn give_step<R: Region>(
+    region: &R,
+    blocks: &mut Blocks,
+    touched: &Touched<'_>,
+    i: usize,
+    from: usize,
+    depth: usize,
+    block: u32,
+) -> u32
+    ghost plan: { Plan }
+    requires touched { IsTouched touched.now }
+    requires left { IsLeft (planned plan touched.now) from plan.taken (current_words (R.memory region.now)) }
+    requires way { IsOnWay (planned plan touched.now) from i depth }
+    requires more { depth < length ((job_of touched.now).way i) }
+    requires back { IsBack (planned plan touched.now) from i depth plan.taken (has blocks.old) }
+    requires block { block ≡ block_on plan.old (front (job_of touched.now) i depth) }
+    requires fits { block_count plan.old ≤ length blocks.old }
+    ensures back { IsBack (planned plan touched.now) from i (depth + 1) plan.taken (has blocks.new) }
+    ensures block { result ≡ block_on plan.old (front (job_of touched.now) i (depth + 1)) }
+    ensures size { length blocks.new ≡ length blocks.old }
+{
+    let _words = region.words();
+    let pointer = load_slot(region, block as u64, touched.slot(i, depth) as u64);
+    let next = (pointer >> 12) as u32;
+    if next != 0 && is_new(touched, i, from, depth + 1) {
+        give(blocks, next);
+    }
+    next
+}
+
+/// Gives back the old blocks on a way that no earlier way has had given back.
+fn give_way<R: Region>(
+    region: &R,
+    blocks: &mut Blocks,
+    touched: &Touched<'_>,
+    i: usize,
+    from: usize,
+    top: u32,
+)
+    ghost plan: { Plan }
+    requires touched { IsTouched touched.now }
+    requires left { IsLeft (planned plan touched.now) from plan.taken (current_words (R.memory region.now)) }
+    requires way { IsOnWay (planned plan touched.now) from i from }
+    requires back { IsBack (planned plan touched.now) from i from plan.taken (has blocks.old) }
+    requires top { top ≡ block_on plan.old (front (job_of touched.now) 0 from) }
+    requires fits { block_count plan.old ≤ length blocks.old }
+    ensures back { IsBack (planned plan touched.now) from (i + 1) from plan.taken (has blocks.new) }
+    ensures size { length blocks.new ≡ length blocks.old }
+{
+    let end = touched.way_len(i);
+    let mut block = top;
+    for depth in from..end {
+        block = give_step(region, blocks, touched, i, from, depth, block);
+    }
+}
+
+/// Gives back the old blocks on the ways. `top` is the block to which the cover's pointer led.
+pub(crate) fn give_back<R: Region>(
+    region: &R,
+    blocks: &mut Blocks,
+    touched: &Touched<'_>,
+    from: usize,
+    top: u32,
+)
+    ghost plan: { Plan }
+    requires touched { IsTouched touched.now }
+    requires left { IsLeft (planned plan touched.now) from plan.taken (current_words (R.memory region.now)) }
+    requires taken { plan.taken ≡ has blocks.old }
+    requires top { top ≡ block_on plan.old (front (job_of touched.now) 0 from) }
+    requires fits { block_count plan.old ≤ length blocks.old }
+    ensures back { IsBack (planned plan touched.now) from (ways (job_of touched.now)) from plan.taken (has blocks.new) }
+    ensures size { length blocks.new ≡ length blocks.old }
+{
+    let ways = touched.ways();
+    if top != 0 {
+        give(blocks, top);
+    }
+    for i in 0..ways {
+        give_way(region, blocks, touched, i, from, top);
+    }
+}

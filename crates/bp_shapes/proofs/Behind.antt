@@ -1,0 +1,64 @@
+-- A store behind the size of a tree is harmless.
+use Rattle.std.proofs.Common.{◌≡◌, ℕ, suc, ◌+◌, ◌*◌, ◌/◌, ◌%◌, ◌<◌, ◌≤◌, sym, ◌∙◌, ap, arith}
+use Rattle.bp_layout.specs.Words.{Image, height_of}
+use Rattle.bp_layout.specs.Tree.{IsLiveWord, IsLivePointer}
+use Rattle.bp_layout.specs.Inode.{root_of, size_of, inode_count, StandsAt, ContentStandsAt}
+use Rattle.bp_layout.specs.Reached.{IsReached}
+use Rattle.bp_layout.specs.Reached.IsReached.{inode_file}
+use Rattle.bp_layout.specs.WellFormed.{IsWellFormed}
+use Rattle.bp_changes.specs.Harmless.{IsHarmless}
+use Rattle.bp_layout.proofs.TreeLaws.{live_above, live_pointer_word, live_content}
+use Rattle.bp_layout.proofs.Reached.{reached-in_file}
+use Rattle.bp_changes.proofs.Separation.{SameWord, one_place_in_nodes}
+use Rattle.bp_shapes.specs.Behind.{IsBehind, IsBehindIn}
+
+pub behind_of : (image : Image) (t place value : ℕ) → IsReached image t → IsBehindIn image (root_of image t) (size_of image t) place value → IsBehind image t place value
+behind_of image t place value reached behind = record {
+  reached = reached;
+  depth = behind.depth;
+  index = behind.index;
+  parent = behind.parent;
+  stands = record { present = behind.present; at = behind.at };
+  no_pointer = behind.no_pointer;
+  ends = behind.ends;
+  kept = behind.kept;
+}
+
+module _ (image : Image) (wf : IsWellFormed image) (t place value : ℕ) (behind : IsBehind image t place value) where
+  same_word : (u e l : ℕ) → IsReached image u → IsLiveWord (root_of image u) (size_of image u) (suc e) l → StandsAt image u e l place → SameWord t behind.depth behind.index u e l
+  same_word u e l reached live stands =
+      one_place_in_nodes image wf t behind.depth behind.index u e l place behind.reached reached behind.parent (live_above _ _ e l live) behind.stands stands
+
+  -- no content word that lies whole below its size
+  not_whole : (u k : ℕ) → IsReached image u → 8 * k + 8 ≤ size_of image u → ContentStandsAt image u k place → ⊥
+  not_whole u k reached below stands =
+      let same = same_word u (height_of (root_of image u)) k reached (live_content _ _ k (omega (arith, below))) stands in
+      let bottom : behind.depth ≡ height_of (root_of image t) = same.depth ∙ ap (λ (x : ℕ). height_of (root_of image x)) (sym same.tree) in
+      let size : size_of image t ≡ size_of image u = ap (λ (x : ℕ). size_of image x) same.tree in
+      let over = behind.ends bottom in
+      omega (arith, over, size, below, same.index)
+
+  pub behind_harmless : IsHarmless image place value
+  behind_harmless = record {
+    superblock = λ low. absurd (behind.stands.present (omega (arith, behind.stands.at, low)));
+    pointers = λ u d k reached live stands.
+        let same = same_word u d k reached (live_pointer_word _ _ (suc d) k live) stands in
+        absurd (behind.no_pointer (moved u d k same live));
+    inodes = λ i f reached few stands.
+        let in_file : suc i < inode_count image = reached-in_file image wf (suc i) reached in
+        absurd (not_whole 0 (8 * suc i + f) inode_file (omega (arith, in_file, few)) stands);
+    inumbers = λ i s reached kind in_size stands. absurd (not_whole i (32 * s + 0) reached (omega (arith, in_size)) stands);
+    names = λ i s j f reached names few stands. absurd (not_whole i (32 * s + f) reached (omega (arith, names.in_size, few)) stands);
+    bytes = λ i o reached kind below stands.
+        let same = same_word i (height_of (root_of image i)) (o / 8) reached (live_content _ _ (o / 8) (omega (arith, below))) stands in
+        let bottom : behind.depth ≡ height_of (root_of image t) = same.depth ∙ ap (λ (x : ℕ). height_of (root_of image x)) (sym same.tree) in
+        let size : size_of image t ≡ size_of image i = ap (λ (x : ℕ). size_of image x) same.tree in
+        behind.kept (o % 8) bottom (omega arith) (omega (arith, same.index, size, below));
+  }
+    where
+      moved : (u d k : ℕ) → SameWord t behind.depth behind.index u d k → IsLivePointer (root_of image u) (size_of image u) (suc d) k → IsLivePointer (root_of image t) (size_of image t) (suc behind.depth) behind.index
+      moved u d k same live = record {
+        level = live.level;
+        height = let root : height_of (root_of image t) ≡ height_of (root_of image u) = ap (λ (x : ℕ). height_of (root_of image x)) same.tree in omega (arith, live.height, same.depth, root);
+        live = let size : size_of image t ≡ size_of image u = ap (λ (x : ℕ). size_of image x) same.tree in rw (size, same.index) live.live;
+      }

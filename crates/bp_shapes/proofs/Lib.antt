@@ -1,0 +1,13 @@
+pub mod Raising
+pub mod Reshape
+pub mod Roots
+pub mod RootLink
+pub mod NullLink
+pub mod Chain
+pub mod TrailLaws
+pub mod StoreLaws
+pub mod ForestLaws
+pub mod PathTrails
+pub mod Unseen
+pub mod FreeSets
+pub mod Behind

@@ -1,0 +1,59 @@
+-- Words of blocks to which no pointer leads may be any.
+use Rattle.std.proofs.Common.{◌≡◌, ◌⊎◌, ℕ, ◌+◌, ◌*◌, ◌/◌, ◌%◌, ◌<◌, ◌≤◌, length, Bool, true, false, refl, sym, ◌∙◌, subst, arith, inl, inr, lt_of_lt_of_le}
+use Rattle.std.proofs.lemmas.Bool.{cases_lt}
+use Rattle.std.proofs.Math.ListN.{get_or-eq_default}
+use Rattle.bp_layout.specs.Words.{Image, word, block_count}
+use Rattle.bp_layout.specs.Inode.{size_of}
+use Rattle.bp_layout.specs.Reached.{IsReached, IsLiveBlock}
+use Rattle.bp_layout.specs.WellFormed.{IsWellFormed}
+use Rattle.bp_layout.specs.Same.{Same}
+use Rattle.bp_changes.specs.Harmless.{IsHarmless}
+use Rattle.bp_changes.proofs.Frame.{same-by_agreement}
+use Rattle.bp_layout.proofs.SameLaws.{same_symmetric}
+use Rattle.bp_changes.proofs.Stores.{harmless_here}
+use Rattle.bp_changes.proofs.Separation.{free-harmless}
+use Rattle.bp_shapes.specs.Trail.{LeadsTo}
+use Rattle.bp_shapes.specs.Forest.{IsExactSet, IsForest, IsTreePointer, IsUnseen}
+use Rattle.bp_shapes.proofs.ForestLaws.{block-tree}
+
+pub live_leads : (old : Image) (bound : ℕ → ℕ) → IsForest old bound → ((t : ℕ) → IsReached old t → size_of old t ≤ bound t) → (b : ℕ) → IsLiveBlock old b → LeadsTo old (IsTreePointer old bound) b
+live_leads old bound forest sizes b one = record {
+  trail = _;
+  pointer = record {
+    tree = one.tree;
+    depth = one.has.depth;
+    index = one.has.index;
+    reached = one.reached;
+    live = record { level = one.has.pointer.level; height = one.has.pointer.height; live = lt_of_lt_of_le one.has.pointer.live (sizes one.tree one.reached) };
+    named = refl;
+  };
+  named = block-tree old bound forest one.tree one.has.depth one.has.index ∙ one.has.named;
+  not_null = one.has.not_null;
+}
+
+pub same_unseen : (old : Image) (bound : ℕ → ℕ) (free : ℕ → Bool) → IsWellFormed old → IsForest old bound → ((t : ℕ) → IsReached old t → size_of old t ≤ bound t) →
+    IsExactSet old (IsTreePointer old bound) free → (image : Image) → length image ≡ length old → ((place : ℕ) → (IsUnseen old bound place → ⊥) → word image place ≡ word old place) → Same image old
+same_unseen old bound free wf forest sizes exact image size others =
+    let same : Same old image = same-by_agreement old image wf (record { whole = size; each = λ place. each place (free (place / 512)) refl }) in
+    same_symmetric old image same
+  where
+    still : (place : ℕ) → word image place ≡ word old place → IsHarmless old place (word image place)
+    still place e = rw e (harmless_here old place)
+
+    each : (place : ℕ) → (x : Bool) → free (place / 512) ≡ x → IsHarmless old place (word image place)
+    each place true is =
+        let range = exact.in_range (place / 512) is in
+        let at : 512 * (place / 512) + place % 512 ≡ place = omega arith in
+        subst (λ p. IsHarmless old p (word image place)) at
+        (free-harmless old wf (place / 512) (place % 512) (word image place) range.0 (omega arith)
+        (λ live. let used : free (place / 512) ≡ false = exact.live (place / 512) (live_leads old bound forest sizes (place / 512) live) in absurd (cc)))
+    each place false is = still place (go (cases_lt place (length old)))
+      where
+        go : (place < length old) ⊎ (length old ≤ place) → word image place ≡ word old place
+        go (inl low) =
+            others place (λ unseen.
+            let small : 512 ≤ place = unseen.low in
+            let whole : length old ≡ 512 * block_count old = wf.whole in
+            let open_block : free (place / 512) ≡ true = exact.dead (place / 512) (omega (arith, small)) (omega (arith, low, whole)) unseen.dead in
+            absurd (cc))
+        go (inr past) = get_or-eq_default image 0 (subst (λ n. n ≤ place) (sym size) past) ∙ sym (get_or-eq_default old 0 past)

@@ -1,0 +1,47 @@
+-- The trees of an image on their trails.
+use Rattle.std.specs.Prelude.{◌≡◌, ℕ, zero, suc, ◌+◌, ◌*◌, ◌/◌, ◌%◌, ◌<◌, ◌≤◌, [], ◌∷◌, Bool, true, false}
+use Rattle.bp_layout.specs.Words.{Image, word, block_count, height_of}
+use Rattle.bp_layout.specs.Tree.{IsLivePointer, HasBlock, IsSound}
+use Rattle.bp_layout.specs.Inode.{root_of}
+use Rattle.bp_layout.specs.Reached.{IsReached}
+use Rattle.bp_shapes.specs.Trail.{Trail, LeadsTo}
+
+-- the trail of a word of a tree, behind that of its root word
+abbrev pub along : Trail → ℕ → ℕ → Trail
+along base zero index = base
+along base (suc depth) index = (index % 512) ∷ along base depth (index / 512)
+
+-- where the inode file has this height
+abbrev pub root_trail : ℕ → ℕ → Trail
+root_trail height zero = []
+root_trail height (suc i) = along [] (suc height) (8 * suc i + 1)
+
+abbrev pub tree_trail : ℕ → ℕ → ℕ → ℕ → Trail
+tree_trail height t depth index = along (root_trail height t) depth index
+
+-- the reached trees under other sizes: each is sound, and no block is in two
+pub record IsForest (image : Image) (bound : ℕ → ℕ) : Type 0 where
+  pub some : 0 < bound 0
+  pub in_file : (i : ℕ) → IsReached image (suc i) → 64 * suc i + 64 ≤ bound 0
+  pub sound : (t : ℕ) → IsReached image t → IsSound image (root_of image t) (bound t)
+  pub apart : (t u b : ℕ) → IsReached image t → IsReached image u → HasBlock image (root_of image t) (bound t) b → HasBlock image (root_of image u) (bound u) b → t ≡ u
+
+-- a pointer of a reached tree that is live under these sizes
+pub record IsTreePointer (image : Image) (bound : ℕ → ℕ) (p : Trail) : Type 0 where
+  pub tree : ℕ
+  pub depth : ℕ
+  pub index : ℕ
+  pub reached : IsReached image tree
+  pub live : IsLivePointer (root_of image tree) (bound tree) depth index
+  pub named : tree_trail (height_of (word image 2)) tree depth index ≡ p
+
+-- a word of a block to which no pointer leads
+pub record IsUnseen (image : Image) (bound : ℕ → ℕ) (place : ℕ) : Type 0 where
+  pub low : 512 ≤ place
+  pub dead : LeadsTo image (IsTreePointer image bound) (place / 512) → ⊥
+
+-- the set has just the blocks to which no pointer of these trails leads
+pub record IsExactSet (image : Image) (Pointer : Trail → Type 0) (free : ℕ → Bool) : Type 0 where
+  pub live : (b : ℕ) → LeadsTo image Pointer b → free b ≡ false
+  pub dead : (b : ℕ) → 1 ≤ b → b < block_count image → (LeadsTo image Pointer b → ⊥) → free b ≡ true
+  pub in_range : (b : ℕ) → free b ≡ true → (1 ≤ b) × (b < block_count image)

@@ -1,0 +1,11 @@
+use Rattle.bp_tree.proofs.PerformsLaws.{performs_short_between, performs_fits, performs_safe}
+use Rattle.bp_tree.proofs.laws.performed_calls_are_short.Goals as goal
+
+pub returns-clause-short : goal.returns-clause-short
+returns-clause-short g old new change done = performs_short_between old new change _ done
+
+pub returns-clause-fits : goal.returns-clause-fits
+returns-clause-fits g old new change free done has = performs_fits old new change _ done free has
+
+pub returns-clause-safe : goal.returns-clause-safe
+returns-clause-safe g old new marked change done safe ends = performs_safe old new change _ done marked safe ends

@@ -1,0 +1,71 @@
+-- What a changing call does before its mark, and what that may cost.
+use Rattle.std.specs.Prelude.{◌≡◌, ℕ, ◌+◌, ◌*◌, ◌/◌, ◌<◌, ◌≤◌, List, length, Some}
+use Rattle.pm_epochs.specs.declared.event.Event.{Event}
+use Rattle.pm_epochs.specs.Log.{StoresTo, IsStoredIn, stores, barriers, last_stored}
+use Rattle.pm_epochs.specs.May.{AnyAt, StoresMay}
+use Rattle.pm_region.specs.Memory.{Memory, current_words}
+use Rattle.pm_region.specs.Safe.{AddsQuiet, AddsCommit}
+use Rattle.bp_layout.specs.Members.{Has, Each, AreApart}
+use Rattle.bp_layout.specs.Need.{Change, cover, need}
+use Rattle.bp_layout.specs.Reached.{IsLiveBlock, IsFreeBlock}
+use Rattle.bp_layout.specs.Same.{Same}
+use Rattle.bp_layout.specs.WellFormed.{IsWellFormed}
+use Rattle.bp_layout.specs.WordPaths.{address}
+use Rattle.bp_layout.specs.Words.{Image}
+
+-- a word of a block
+abbrev pub InBlock : ℕ → ℕ → Type 0
+InBlock block word = word / 512 ≡ block
+
+-- Where a call that takes these blocks may store: into them, into blocks that are live, and at the two words of the superblock that tell of the inode file.
+pub data IsOpen (image : Image) (taken : List ℕ) (word : ℕ) : Type 0 where
+  in_taken : Has taken (word / 512) → IsOpen image taken word
+  in_live : IsLiveBlock image (word / 512) → IsOpen image taken word
+  at_root : word ≡ 2 → IsOpen image taken word
+  at_size : word ≡ 3 → IsOpen image taken word
+
+-- The blocks of the list were free, each stands once, and each gets a store. Other free blocks get none, nor do the words of the superblock that nobody reads:
+-- so a call can't prepare for a later one, nor leave in the log what nobody asked for.
+pub record TakesBlocks (image : Image) (taken : List ℕ) (events : List Event) : Type 0 where
+  pub once : AreApart taken
+  pub free : Each (IsFreeBlock image) taken
+  pub stored : Each (λ b. StoresTo (InBlock b) events) taken
+  pub only : StoresMay (AnyAt (IsOpen image taken)) events
+
+-- a part of a preparation, and the blocks that it takes
+pub record AddsTaking (taken : List ℕ) (most_barriers most_stores : ℕ) (old new : Memory) : Type 0 where
+  pub part : AddsQuiet Same most_barriers most_stores old new
+  pub takes : TakesBlocks (current_words old) taken part.added
+
+-- how many stores a call makes at most that needs so many blocks
+abbrev pub most_stores : ℕ → ℕ
+most_stores needed = 512 * (needed + 6) + 64
+
+-- A changing call before its mark: a quiet preparation, and then one store alone in its epoch, at the word of the cover. It takes just as many blocks as it needs.
+-- The cover is told of the image before, where the call is asked for, and its word stands in the image after, since a preparation may put a tree one level lower.
+pub record Performs (old new : Memory) (change : Change) (Effect : Image → Image → Type 0) : Type 0 where
+  pub value : ℕ
+  pub commit : AddsCommit Same (address (current_words new) (cover (current_words old) change)) value 8 (most_stores (need (current_words old) change)) old new
+  pub taken : List ℕ
+  pub takes : TakesBlocks (current_words old) taken commit.prepared
+  pub number : length taken ≡ need (current_words old) change
+  pub in_open : IsOpen (current_words old) taken (address (current_words new) (cover (current_words old) change))
+  pub well_formed : IsWellFormed (current_words new)
+  pub effect : Effect (current_words old) (current_words new)
+
+-- the list has just the blocks that are free in the image and to which a store of the log goes, each once
+pub record AreTaken (image : Image) (events : List Event) (taken : List ℕ) : Type 0 where
+  pub once : AreApart taken
+  pub some : (b : ℕ) → Has taken b → IsFreeBlock image b × StoresTo (InBlock b) events
+  pub all : (b : ℕ) → IsFreeBlock image b → StoresTo (InBlock b) events → Has taken b
+
+-- What a changing call costs: its last store is at the word of the cover, the blocks that were free and to which it stores are as many as it needs, and it has few barriers and stores.
+pub record IsShort (old new : Image) (change : Change) (events : List Event) : Type 0 where
+  pub last : last_stored events ≡ Some (address new (cover old change))
+  pub taken : List ℕ
+  pub are : AreTaken old events taken
+  pub number : length taken ≡ need old change
+  pub few_barriers : barriers events ≤ 8
+  pub few_stores : length (stores events) ≤ most_stores (need old change)
+  -- and it leaves the words of the superblock that nobody reads
+  pub idle : (word : ℕ) → 4 ≤ word → word < 512 → IsStoredIn events word → ⊥

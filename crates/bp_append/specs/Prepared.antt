@@ -6,7 +6,7 @@ use Rattle.bp_layout.specs.Inode.{root_of, size_of}
 use Rattle.bp_layout.specs.Reached.{IsReached, IsLiveBlock}
 use Rattle.bp_layout.specs.WellFormed.{IsWellFormed}
 use Rattle.bp_layout.specs.WordPaths.{WordPath, tree_path}
-use Rattle.bp_layout.specs.Limits.{max_size}
+use Rattle.bp_limits.specs.Limits.{max_size}
 use Rattle.bp_layout.specs.Nodes.{nodes_for, height_with}
 use Rattle.bp_layout.specs.Members.{Has, Each}
 use Rattle.bp_changes.specs.SameContent.{IsReadByWords}

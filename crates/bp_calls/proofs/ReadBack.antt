@@ -7,7 +7,7 @@ use Rattle.bp_layout.specs.Directory.{Name, name_in}
 use Rattle.bp_layout.specs.Fields.{kind_word}
 use Rattle.bp_layout.specs.Free.{IsFreeInode}
 use Rattle.bp_layout.specs.Inode.{ContentStandsAt, size_of, inode_count}
-use Rattle.bp_layout.specs.Limits.{max_name}
+use Rattle.bp_limits.specs.Limits.{max_name}
 use Rattle.bp_layout.specs.Reached.IsReached.{inode_file}
 use Rattle.bp_layout.specs.Same.{Same}
 use Rattle.bp_layout.specs.Tree.{byte, content_word}

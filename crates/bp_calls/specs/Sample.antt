@@ -1,6 +1,6 @@
 -- The image with which tests begin.
 use Rattle.std.specs.Prelude.{◌≡◌, length}
-use Rattle.bp_layout.specs.Limits.{magic}
+use Rattle.bp_limits.specs.Limits.{magic}
 use Rattle.bp_layout.specs.Words.{Image, word}
 
 -- 8 blocks: the inodes in block 1, and in block 2 a root directory of two entries, both empty

@@ -14,7 +14,7 @@ use crate::{CreateFault, create};
 use bp_dirs::{find, inumber};
 use bp_free::{Blocks, Inodes, Parts};
 use bp_layout::Kind;
-use bp_layout::limits::{MAGIC, MAX_NAME};
+use bp_limits::{MAGIC, MAX_NAME};
 use pm_region::{ListRegion, Region};
 use std::alloc::{AllocError, Global};
 use std::test::Fail;

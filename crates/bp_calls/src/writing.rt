@@ -3,7 +3,7 @@
 ghost use Rattle.std.specs.Prelude.{◌≡◌, ◌+◌, ◌≤◌, length};
 ghost use Rattle.bp_calls.specs.Written.{AddsFrom, HasInodeAt, HasNameAt, IsWithin};
 ghost use Rattle.bp_layout.specs.Fields.{kind_word};
-ghost use Rattle.bp_layout.specs.Limits.{max_name};
+ghost use Rattle.bp_limits.specs.Limits.{max_name};
 ghost use Rattle.bp_layout.specs.Words.{word};
 ghost use Rattle.pm_epochs.specs.May.{AnyAt};
 ghost use Rattle.pm_region.specs.Memory.{current_words, room_in};

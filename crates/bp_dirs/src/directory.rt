@@ -4,7 +4,7 @@ ghost use Rattle.std.specs.Prelude.{◌≡◌, ◌≢◌, ◌+◌, ◌*◌, ◌/
 ghost use Rattle.bp_layout.specs.Words.{height_of};
 ghost use Rattle.bp_layout.specs.Tree.{node, IsSound, IsFull};
 ghost use Rattle.bp_layout.specs.Directory.{word_in, inumber_in, name_in, empty_slot_in, slot_named_in};
-ghost use Rattle.bp_layout.specs.Limits.{max_name};
+ghost use Rattle.bp_limits.specs.Limits.{max_name};
 ghost use Rattle.pm_region.specs.Memory.{current_words};
 ghost use Rattle.bp_dirs.specs.Names.{name_count};
 

@@ -7,7 +7,7 @@ use Rattle.bp_layout.specs.Directory.{EntryNames, Name, lookup_in, entry_count}
 use Rattle.bp_layout.specs.Reached.{IsReached}
 use Rattle.bp_layout.specs.Reached.IsReached.{inode_file, root_directory, named}
 use Rattle.bp_layout.specs.WellFormed.{IsWellFormed}
-use Rattle.bp_layout.specs.Limits.{magic}
+use Rattle.bp_limits.specs.Limits.{magic}
 use Rattle.bp_layout.specs.Lookup.{Path, shown}
 use Rattle.bp_layout.specs.Lookup.Node.{dir}
 use Rattle.bp_layout.specs.Format.{format_stores, formatted}

@@ -6,7 +6,7 @@ use Rattle.bp_layout.specs.Tree.{word_at, node, content_word, byte, covered, IsL
 use Rattle.bp_layout.proofs.TreeLaws.{word_at-suc, word_at-zero}
 use Rattle.bp_layout.proofs.TreeLaws.{first_index}
 use Rattle.bp_layout.specs.Tree.{span}
-use Rattle.bp_layout.specs.Limits.{max_height}
+use Rattle.bp_limits.specs.Limits.{max_height}
 use Rattle.bp_layout.specs.Pieces.{piece, child, HasChildren, Joins}
 
 -- word k at depth d + 1 stands in this slot's tree, with this number

@@ -1,7 +1,7 @@
 -- Which check of a mount fails at which place. Liveness is followed only through what passes: pointers in form and in range, and trees whose height holds their size.
 use Rattle.std.specs.Prelude.{◌≡◌, ◌≢◌, ◌⊎◌, ℕ, zero, suc, ◌+◌, ◌*◌, ◌/◌, ◌%◌, ◌<◌, ◌≤◌, length}
 use Rattle.bp_layout.specs.Words.{Image, word, block_count, height_of}
-use Rattle.bp_layout.specs.Limits.{magic, max_height, min_blocks, max_blocks}
+use Rattle.bp_limits.specs.Limits.{magic, max_height, min_blocks, max_blocks}
 use Rattle.bp_layout.specs.Tree.{word_at, node, place_of, covered, IsLivePointer}
 use Rattle.bp_layout.specs.Inode.{kind_of, root_of, size_of, inode_count}
 use Rattle.bp_layout.specs.Directory.{EntryNames, IsName, name_at}

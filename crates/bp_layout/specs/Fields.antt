@@ -2,7 +2,7 @@
 use Rattle.std.specs.Prelude.{◌≡◌, ℕ, ◌+◌, ◌*◌, ◌/◌, ◌%◌, ◌≤◌, List, [], ◌∷◌, map, slice_index}
 use Rattle.std.specs.List.{range_with_len}
 use Rattle.bp_layout.specs.Words.{byte_of, height_of}
-use Rattle.bp_layout.specs.Limits.{max_height}
+use Rattle.bp_limits.specs.Limits.{max_height}
 use Rattle.bp_layout.specs.declared.fields.Kind.{Kind}
 use Rattle.bp_layout.specs.declared.fields.Kind.TheVariants.{File, Dir}
 use Rattle.bp_layout.specs.declared.fields.Super.{Super}

@@ -1,7 +1,7 @@
 -- The stores of a format, in their order.
 use Rattle.std.specs.Prelude.{ℕ, List, [], ◌∷◌}
 use Rattle.bp_layout.specs.Words.{Image}
-use Rattle.bp_layout.specs.Limits.{magic}
+use Rattle.bp_limits.specs.Limits.{magic}
 use Rattle.bp_layout.specs.Stores.{after_stores}
 
 abbrev pub format_stores : ℕ → List (ℕ × ℕ)

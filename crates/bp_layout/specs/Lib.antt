@@ -1,7 +1,6 @@
 -- What the words of an image mean. To be read in this order.
 
 -- words, trees, inodes and directories
-pub mod Limits
 pub mod Words
 pub mod Tree
 pub mod Inode

@@ -3,7 +3,7 @@ use Rattle.std.specs.Prelude.{ℕ, suc, ◌-◌, ◌*◌, ◌/◌, max, List, []
 use Rattle.std.specs.List.{range_with_len}
 use Rattle.bp_layout.specs.Words.{Image, height_of, block_of}
 use Rattle.bp_layout.specs.Tree.{node, span}
-use Rattle.bp_layout.specs.Limits.{max_height}
+use Rattle.bp_limits.specs.Limits.{max_height}
 
 -- it covers the bytes from index * span level on, up to one span more
 pub record TreeNode : Type 0 where

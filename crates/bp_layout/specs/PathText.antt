@@ -3,7 +3,7 @@ use Rattle.std.specs.Prelude.{ℕ, List, [], ◌∷◌, length, Bool, not, ◌&&
 use Rattle.std.specs.List.{list_all}
 use Rattle.bp_layout.specs.Directory.{Name}
 use Rattle.bp_layout.specs.Lookup.{Path}
-use Rattle.bp_layout.specs.Limits.{max_name, max_path}
+use Rattle.bp_limits.specs.Limits.{max_name, max_path}
 
 abbrev pub is_name : Name → Bool
 is_name name =

@@ -2,7 +2,7 @@
 use Rattle.std.specs.Prelude.{◌≡◌, ℕ, suc, ◌+◌, ◌-◌, ◌*◌, ◌/◌, ◌%◌, ◌<◌, ◌≤◌, min}
 use Rattle.bp_layout.specs.Words.{Image, block_count, block_of, height_of, slot_word}
 use Rattle.bp_layout.specs.Tree.{span, HasBlock, IsSound}
-use Rattle.bp_layout.specs.Limits.{max_height}
+use Rattle.bp_limits.specs.Limits.{max_height}
 
 -- how many bytes of a tree of this size lie in the child of a slot, where the children stand at this level
 abbrev pub piece : ℕ → ℕ → ℕ → ℕ

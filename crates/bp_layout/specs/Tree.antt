@@ -2,7 +2,7 @@
 use Rattle.std.specs.Prelude.{◌≡◌, ◌≢◌, ℕ, zero, suc, ◌+◌, ◌*◌, ◌/◌, ◌%◌, ◌^◌, ◌<◌, ◌≤◌, List, map}
 use Rattle.std.specs.List.{range_with_len}
 use Rattle.bp_layout.specs.Words.{Image, block_count, block_of, height_of, slot_word, byte_of}
-use Rattle.bp_layout.specs.Limits.{max_height}
+use Rattle.bp_limits.specs.Limits.{max_height}
 
 -- The word with a number among the words at a depth. At depth 0 stands the root word alone. A word at a depth up to
 -- the height points to a block, whose 512 words stand one deeper. So those one deeper than the height are the content.

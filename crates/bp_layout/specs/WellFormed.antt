@@ -5,7 +5,7 @@ use Rattle.bp_layout.specs.Tree.{HasBlock, IsSound, IsFull}
 use Rattle.bp_layout.specs.Inode.{kind_of, root_of, size_of, inode_count}
 use Rattle.bp_layout.specs.Directory.{EntryNames, IsName, name_at}
 use Rattle.bp_layout.specs.Reached.{IsReached}
-use Rattle.bp_layout.specs.Limits.{magic, min_blocks, max_blocks}
+use Rattle.bp_limits.specs.Limits.{magic, min_blocks, max_blocks}
 
 pub record IsWellFormed (image : Image) : Type 0 where
   pub whole : length image ≡ 512 * block_count image

@@ -2,11 +2,11 @@
 
 ghost use Rattle.std.specs.Prelude.{◌*◌, ◌+◌, ◌<◌, ◌^◌, ◌↔◌, ◌≡◌, ◌≤◌, IfOk, IsOk, slice_index};
 ghost use Rattle.bp_layout.specs.Fields.{IsPointerWord, IsRootWord, inode_words, kind_word, pointer_word, root_word, super_words};
-ghost use Rattle.bp_layout.specs.Limits.{max_height};
+ghost use Rattle.bp_limits.specs.Limits.{max_height};
 ghost use Rattle.bp_layout.specs.Words.{block_of, height_of};
 
-use crate::limits::{MAX_HEIGHT, MAX_NAME};
 use arrayvec::ArrayVec;
+use bp_limits::{MAX_HEIGHT, MAX_NAME};
 
 /// The kind of an inode.
 #[derive(Clone, Copy, Debug, PartialEq, Eq)]

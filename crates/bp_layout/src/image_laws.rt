@@ -4,7 +4,7 @@ ghost use Rattle.std.specs.Prelude.{None, Some, [], ℕ, ◌*◌, ◌∷◌, ◌
 ghost use Rattle.bp_layout.specs.Checks.{IsFormatted, NoneFails};
 ghost use Rattle.bp_layout.specs.Directory.{Name};
 ghost use Rattle.bp_layout.specs.Format.{formatted};
-ghost use Rattle.bp_layout.specs.Limits.{max_blocks, min_blocks};
+ghost use Rattle.bp_limits.specs.Limits.{max_blocks, min_blocks};
 ghost use Rattle.bp_layout.specs.Lookup.{Path, lookup, shown};
 ghost use Rattle.bp_layout.specs.Lookup.Node.{dir};
 ghost use Rattle.bp_layout.specs.WellFormed.{IsWellFormed};

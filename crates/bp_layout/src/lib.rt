@@ -5,7 +5,6 @@ mod entry;
 mod fields;
 pub mod image_laws;
 pub mod laws;
-pub mod limits;
 mod listing;
 
 pub use entry::{Entry, name_word};

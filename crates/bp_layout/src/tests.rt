@@ -4,12 +4,12 @@ use std::test::Fail;
 
 #[test]
 fn mark_spells_its_bytes(rt: HostRuntime) {
-    assert_eq!(rt; pm_words::write_word(limits::MAGIC), *b"BPFSRS01");
+    assert_eq!(rt; pm_words::write_word(bp_limits::MAGIC), *b"BPFSRS01");
 }
 
 #[test]
 fn limits_agree(rt: HostRuntime) {
-    assert_eq!(rt; limits::MAX_SIZE, pm_words::span(limits::MAX_HEIGHT));
+    assert_eq!(rt; bp_limits::MAX_SIZE, pm_words::span(limits::MAX_HEIGHT));
 }
 
 #[test]
@@ -30,7 +30,7 @@ fn pointers_are_read_and_written(rt: HostRuntime) {
 #[test]
 fn records_are_read_and_written(rt: HostRuntime) {
     let block = Super {
-        magic: limits::MAGIC,
+        magic: bp_limits::MAGIC,
         blocks: 8,
         root: 0x1000,
         size: 4096,

@@ -5,7 +5,7 @@ ghost use Rattle.std.specs.List.{list_all};
 ghost use Rattle.bp_layout.specs.PathText.{is_name, parts};
 ghost use Rattle.bp_path.specs.Names.{names_in};
 
-use bp_layout::limits::MAX_NAME;
+use bp_limits::MAX_NAME;
 
 /// Whether no byte is 0 or `/`.
 fn has_plain_bytes(name: &[u8]) -> bool

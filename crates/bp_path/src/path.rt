@@ -6,7 +6,7 @@ ghost use Rattle.bp_layout.specs.PathText.{is_name, parse};
 ghost use Rattle.bp_path.specs.Names.{names_in};
 
 use crate::names::{are_names, split_last};
-use bp_layout::limits::MAX_PATH;
+use bp_limits::MAX_PATH;
 use std::marker::Model;
 
 /// A text is no path: it is longer than 4,096 bytes, or is neither `/` nor a `/` and a name, once or more.

@@ -4,7 +4,7 @@ ghost use Rattle.std.specs.Prelude.{◌≡◌, ◌≢◌, ◌++◌, ◌∷◌, �
 ghost use Rattle.std.specs.List.{list_all};
 ghost use Rattle.bp_layout.specs.Inode.{kind_of};
 ghost use Rattle.bp_layout.specs.Directory.{inumber_at, slot_named};
-ghost use Rattle.bp_layout.specs.Limits.{max_name};
+ghost use Rattle.bp_limits.specs.Limits.{max_name};
 ghost use Rattle.bp_layout.specs.Lookup.{lookup};
 ghost use Rattle.bp_layout.specs.PathText.{is_name};
 ghost use Rattle.bp_layout.specs.Reached.{IsReached};

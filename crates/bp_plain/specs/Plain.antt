@@ -5,7 +5,7 @@ use Rattle.std.specs.FinMap.{get, insert, remove, entries, from_entries}
 use Rattle.bp_layout.specs.Directory.{Name}
 use Rattle.bp_layout.specs.Lookup.{Path, Node}
 use Rattle.bp_layout.specs.Lookup.Node.{dir, file}
-use Rattle.bp_layout.specs.Limits.{max_size}
+use Rattle.bp_limits.specs.Limits.{max_size}
 use Rattle.bp_layout.specs.Below.{same_path, rest_below}
 use Rattle.bp_plain.specs.PlainTree.{FileTree}
 use Rattle.bp_layout.specs.PathText.{parse}

@@ -1,7 +1,7 @@
 -- Why an image is no file system.
 use Rattle.std.specs.Prelude.{◌≡◌, ◌≢◌, ◌-◌, ◌*◌, ◌^◌, min}
 use Rattle.bp_layout.specs.Checks.{Fails}
-use Rattle.bp_layout.specs.Limits.{magic}
+use Rattle.bp_limits.specs.Limits.{magic}
 use Rattle.bp_layout.specs.Words.{Image, word, block_count}
 use Rattle.bp_scan.specs.declared.fault.MountFault.{MountFault}
 use Rattle.bp_scan.specs.declared.fault.MountFault.TheVariants.{NotFormatted, BadSize, Damaged, Memory}

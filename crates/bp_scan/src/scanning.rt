@@ -16,7 +16,7 @@ use crate::reading::read_trees;
 use crate::totalling::all_totals;
 use crate::totals::Totals;
 use bp_free::{Blocks, Inodes};
-use bp_layout::limits::MAGIC;
+use bp_limits::MAGIC;
 use pm_region::Region;
 
 const BLOCK_WORDS: u32 = 512;

@@ -1,6 +1,6 @@
 -- The text of each line that the program writes.
 use Rattle.std.specs.Prelude.{ℕ, ◌≤◌, List, length, codes, decimal, ◌++◌}
-use Rattle.bp_layout.specs.Limits.{max_name}
+use Rattle.bp_limits.specs.Limits.{max_name}
 use Rattle.bp_plain.specs.Calls.{most_bytes}
 use Rattle.bp_plain.specs.Seen.{refusal_of}
 use Rattle.bp_script.specs.declared.replies.Said.{Said}

@@ -1,6 +1,6 @@
 //! The lines of replies.
 
-ghost use Rattle.bp_layout.specs.Limits.{max_name};
+ghost use Rattle.bp_limits.specs.Limits.{max_name};
 ghost use Rattle.bp_plain.specs.Calls.{most_bytes};
 ghost use Rattle.bp_plain.specs.Seen.{refusal_of};
 ghost use Rattle.bp_script.specs.Sayings.{FitsReply, said_text};

@@ -4,7 +4,7 @@ use Rattle.bp_layout.specs.Words.{Image, block_count, block_of, height_of, slot_
 use Rattle.bp_layout.specs.Tree.{word_at, node, IsLivePointer}
 use Rattle.bp_layout.specs.Inode.{root_of, size_of, StandsAt}
 use Rattle.bp_layout.specs.Reached.{IsReached, IsLiveBlock}
-use Rattle.bp_layout.specs.Limits.{max_height}
+use Rattle.bp_limits.specs.Limits.{max_height}
 use Rattle.bp_layout.specs.Members.{Each, AreApart}
 
 -- word l at depth e stands at or under word k at depth d + 1, so many deeper

@@ -2,7 +2,7 @@
 use Rattle.std.specs.Prelude.{◌≡◌, ◌≢◌, ℕ, ◌-◌, ◌*◌, ◌^◌, min, []}
 use Rattle.bp_io.specs.Files.{Known}
 use Rattle.bp_layout.specs.Words.{Image, word, block_count}
-use Rattle.bp_layout.specs.Limits.{magic}
+use Rattle.bp_limits.specs.Limits.{magic}
 use Rattle.bp_layout.specs.Checks.{Fails}
 use Rattle.bp_layout.specs.WellFormed.{IsWellFormed}
 use Rattle.bp_scan.specs.Length.{wanted_length}

@@ -7,7 +7,7 @@ ghost use Rattle.bp_spelling.specs.Places.{name_there, IsPlain, ArePlain, IsDots
 ghost use Rattle.pm_region.specs.Memory.{current_words};
 
 use crate::name_words::low_bytes;
-use bp_layout::limits::MAX_NAME;
+use bp_limits::MAX_NAME;
 use pm_region::Region;
 
 /// A word whose bytes are 0, except where a byte of the given word is 0.

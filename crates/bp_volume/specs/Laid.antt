@@ -4,7 +4,7 @@ use Rattle.pm_epochs.specs.declared.event.Event.{Event}
 use Rattle.pm_epochs.specs.declared.event.Event.TheVariants.{Store, Barrier}
 use Rattle.pm_region.specs.Memory.{Memory}
 use Rattle.bp_layout.specs.Format.{formatted}
-use Rattle.bp_layout.specs.Limits.{magic}
+use Rattle.bp_limits.specs.Limits.{magic}
 use Rattle.bp_layout.specs.Words.{block_count}
 
 -- The mark goes, the words of an empty file system are stored, and the mark comes back, each in an epoch of its own.

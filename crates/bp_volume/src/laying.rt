@@ -5,7 +5,7 @@ ghost use Rattle.bp_layout.specs.Words.{block_count};
 ghost use Rattle.bp_volume.specs.Laid.{format_events};
 ghost use Rattle.pm_region.specs.Memory.{Adds, room_in};
 
-use bp_layout::limits::MAGIC;
+use bp_limits::MAGIC;
 use pm_region::Region;
 
 /// Makes an empty file system of a region of 8 to 16,384 blocks of 512 words. Its stores are not written back until

@@ -3,7 +3,7 @@
 ghost use Rattle.std.specs.Prelude.{◌≡◌, ◌≢◌, ◌≤◌, IfErr, IfOk, Some, [], is_some, length};
 ghost use Rattle.bp_layout.specs.Directory.{slot_named};
 ghost use Rattle.bp_layout.specs.Inode.{kind_of};
-ghost use Rattle.bp_layout.specs.Limits.{max_name};
+ghost use Rattle.bp_limits.specs.Limits.{max_name};
 ghost use Rattle.bp_layout.specs.Reached.{IsReached};
 ghost use Rattle.bp_layout.specs.WellFormed.{IsWellFormed};
 ghost use Rattle.bp_path.specs.Places.{fault_of};

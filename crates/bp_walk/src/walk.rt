@@ -3,7 +3,7 @@
 ghost use Rattle.std.specs.Prelude.{◌≡◌, ◌≢◌, suc, ◌+◌, ◌*◌, ◌<◌, ◌≤◌, ◌^◌, false, length, OnOk, IfOk, IfErr};
 ghost use Rattle.bp_free.specs.Set.{has};
 ghost use Rattle.bp_layout.specs.Words.{word, block_count, height_of};
-ghost use Rattle.bp_layout.specs.Limits.{max_blocks, max_height};
+ghost use Rattle.bp_limits.specs.Limits.{max_blocks, max_height};
 ghost use Rattle.bp_layout.specs.Tree.{node, covered, IsLivePointer};
 ghost use Rattle.bp_layout.specs.Checks.{IsFollowed, Passes};
 ghost use Rattle.pm_region.specs.Memory.{current_words};
@@ -11,7 +11,7 @@ ghost use Rattle.bp_walk.specs.Pointed.{ClaimsPointed, RefusesPointed};
 ghost use Rattle.bp_walk.specs.Walk.{WalksBelow, FailsBelow, TakesTree, FailsTree};
 
 use bp_free::Blocks;
-use bp_layout::limits::MAX_HEIGHT;
+use bp_limits::MAX_HEIGHT;
 use bp_tree::Tree;
 use pm_region::Region;
 

@@ -1,0 +1,80 @@
+//! The limits of the format, of calls, of scripts and of the programs: each figure in one place, under a name.
+//!
+//! Clauses cite the same figures from `specs/Limits.antt`, under the same names in small letters.
+#![tactic(auto)]
+
+// ---- words and blocks
+
+/// The bytes of a block.
+pub const BLOCK_SIZE: u64 = 4096;
+
+/// The words of a block, and so the pointers of a node.
+pub const BLOCK_WORDS: u32 = 512;
+
+/// The least number of blocks of an image.
+pub const MIN_BLOCKS: u32 = 8;
+
+/// The greatest number of blocks of an image.
+pub const MAX_BLOCKS: u32 = 16_384;
+
+// ---- the superblock
+
+/// Word 0 of an image: the bytes `BPFSRS01`, the lowest first.
+pub const MAGIC: u64 = 0x3130_5352_5346_5042;
+
+/// The place of the mark of an image, in words.
+pub const SUPER_MAGIC: u32 = 0;
+
+/// The place of the number of blocks.
+pub const SUPER_BLOCKS: u32 = 1;
+
+/// The place of the root word of the inode file.
+pub const SUPER_ROOT: u32 = 2;
+
+/// The place of the size of the inode file.
+pub const SUPER_SIZE: u32 = 3;
+
+// ---- trees
+
+/// The greatest height of a tree.
+pub const MAX_HEIGHT: u32 = 3;
+
+/// The greatest size of a file, a directory and the inode file, in bytes: what a tree of the greatest height covers.
+pub const MAX_SIZE: u64 = 549_755_813_888;
+
+/// The bytes of an inode.
+pub const INODE_SIZE: u64 = 64;
+
+/// The bytes of an entry of a directory.
+pub const ENTRY_SIZE: u64 = 256;
+
+// ---- names and calls
+
+/// The greatest length of a name, in bytes.
+pub const MAX_NAME: usize = 240;
+
+/// The greatest length of a path, in bytes.
+pub const MAX_PATH: usize = 4096;
+
+/// The most bytes that one call reads.
+pub const MAX_READ: usize = 65_536;
+
+/// The most bytes that one call writes.
+pub const MAX_WRITE: usize = 65_536;
+
+/// The room in the log below which a call drains first: more events than any call adds.
+pub const CALL_ROOM: usize = 65_536;
+
+// ---- scripts and programs
+
+/// The longest line of a script, in bytes without its newline.
+pub const MAX_LINE: usize = 140_000;
+
+/// The longest line of a reply, in bytes with its newline.
+pub const MAX_TEXT: usize = 140_000;
+
+/// The most bytes of a script.
+pub const MAX_INPUT: u64 = 1_073_741_824;
+
+/// The events that the log of a program's region can take.
+pub const LOG_EVENTS: usize = 131_072;

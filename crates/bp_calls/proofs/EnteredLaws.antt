@@ -12,7 +12,7 @@ use Rattle.bp_layout.proofs.Finding.{map-same}
 use Rattle.bp_layout.proofs.Reached.{reached-in_file}
 use Rattle.bp_layout.proofs.LookupLaws.{Shows, lookup_in-found}
 use Rattle.bp_changes.proofs.ContentStore.{pointers_stay, root_stays, size_stays}
-use Rattle.bp_changes.proofs.AddsNames.{AddsNames}
+use Rattle.bp_changes.specs.Effects.{AddsNames}
 use Rattle.bp_changes.proofs.Link.{CanLink, entry_adds, name_of_new, kinds_stay}
 use Rattle.bp_changes.proofs.LinkInPlace.{store_adds}
 use Rattle.bp_calls.specs.Entered.{IsNewInode, IsReadyEntry}

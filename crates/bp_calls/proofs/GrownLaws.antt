@@ -13,7 +13,7 @@ use Rattle.bp_layout.proofs.TreeLaws.{KeepsPointers, content-kept, slot_word-sam
 use Rattle.bp_layout.proofs.Reached.{reached-in_file}
 use Rattle.bp_changes.proofs.Separation.{stands_in_block}
 use Rattle.bp_changes.proofs.ContentStore.{word-stored, word-elsewhere}
-use Rattle.bp_changes.proofs.AddsNames.{AddsNames, IsNewEntry}
+use Rattle.bp_changes.specs.Effects.{AddsNames, IsNewEntry}
 use Rattle.bp_calls.specs.Entered.{IsNewInode, IsReadyBehind}
 use Rattle.bp_calls.proofs.EnteredLaws.{Enters, not_named, name_same, directory_inode}
 
@@ -280,9 +280,15 @@ module _ (old : Image) (wf : IsWellFormed old) (n j place : ℕ) (name : Name) (
       reached = ready.reached;
       fresh = fresh.free.free;
       in_file = fresh.free.high;
-      whole = whole;
-      marked = superblock 0 (omega arith);
-      counted = superblock 1 (omega arith);
+      trees = record {
+        whole = whole;
+        marked = superblock 0 (omega arith);
+        counted = superblock 1 (omega arith);
+        sound = sound_stays;
+        apart = λ t u b r q one two. apart_cases t u b r q (cases_eq t (suc n)) (cases_eq u (suc n)) one two;
+        full_inode_file = full_stays 0 inode_file wf.full_inode_file;
+        full_directories = λ u r kind. full_stays u r (wf.full_directories u r kind);
+      };
       inode_bytes = superblock 3 (omega arith);
       kind = λ u r. kind_stays u (in_file u r);
       new_kind = rw (kind_stays j fresh.free.high, fresh.kind_is) (fresh.least, fresh.most);
@@ -301,10 +307,6 @@ module _ (old : Image) (wf : IsWellFormed old) (n j place : ℕ) (name : Name) (
       name = rw (name_here form) form;
       new_name = λ r k named same. not_named old wf (suc n) name ready.reached missing r k named (same ∙ name_here form);
       bytes = λ u o r kind low. ap (λ w. byte_of w (o % 8)) (content_stays u (o / 8) r (file_is u kind) (omega (arith, low)));
-      sound = sound_stays;
-      apart = λ t u b r q one two. apart_cases t u b r q (cases_eq t (suc n)) (cases_eq u (suc n)) one two;
-      full_inode_file = full_stays 0 inode_file wf.full_inode_file;
-      full_directories = λ u r kind. full_stays u r (wf.full_directories u r kind);
     }
 
     grown_suc : Enters old new (suc n) (size_of old (suc n) / 256) j name kind

@@ -13,7 +13,8 @@ use Rattle.bp_layout.specs.WellFormed.{IsWellFormed}
 use Rattle.bp_layout.specs.Free.{AreFreeBlocks, AreFreeInodes, IsFreeInode}
 use Rattle.bp_changes.specs.Harmless.{Agrees}
 use Rattle.bp_layout.proofs.SmallTrees.{empty_has_none}
-use Rattle.bp_changes.proofs.AddsNames.{AddsNames, reached_cases, reached_stays}
+use Rattle.bp_changes.specs.Effects.{AddsNames}
+use Rattle.bp_changes.proofs.AddsNames.{reached_cases, reached_stays}
 use Rattle.bp_calls.specs.Entered.{IsNewInode, IsReadyEntry, IsReadyBehind}
 use Rattle.bp_calls.specs.Sets.{AreExact}
 use Rattle.bp_calls.proofs.EnteredLaws.{Enters, KeepsBlocks, entered, entered_blocks}
@@ -129,9 +130,9 @@ module _ (old new : Image) (wf : IsWellFormed old) (i s j : ℕ) (adds : AddsNam
 
   pub exact_added : KeepsBlocks old new → AreExact new blocks (without inodes j)
   exact_added keeps = record {
-    block_room = rw adds.whole exact.block_room;
-    inode_room = rw adds.whole (length_without inodes j ∙ exact.inode_room);
-    free_blocks = free_blocks_stay old new (has blocks) adds.whole
+    block_room = rw adds.trees.whole exact.block_room;
+    inode_room = rw adds.trees.whole (length_without inodes j ∙ exact.inode_room);
+    free_blocks = free_blocks_stay old new (has blocks) adds.trees.whole
         (λ b live. elim (live_cases (λ x. ⊥) (λ t x reached has. inr (record { tree = t; reached = reached; has = keeps.back t x reached has })) b live) [ inl never ↦ absurd never | inr before ↦ before ])
         (live_stays keeps.stay) exact.free_blocks;
     free_inodes = inodes_taken;
@@ -141,9 +142,9 @@ module _ (old new : Image) (wf : IsWellFormed old) (i s j : ℕ) (adds : AddsNam
   pub exact_added_block : (b : ℕ) → IsFreeBlock old b → IsLiveBlock new b → ((t x : ℕ) → IsReached old t → HasBlock new (root_of new t) (size_of new t) x → (x ≡ b) ⊎ IsLiveBlock old x) →
       ((t x : ℕ) → IsReached old t → HasBlock old (root_of old t) (size_of old t) x → HasBlock new (root_of new t) (size_of new t) x) → AreExact new (without blocks b) (without inodes j)
   exact_added_block b open_block here back stay = record {
-    block_room = rw adds.whole (length_without blocks b ∙ exact.block_room);
-    inode_room = rw adds.whole (length_without inodes j ∙ exact.inode_room);
-    free_blocks = free_blocks_taken old new blocks b adds.whole (exact.free_blocks.all b open_block) here (live_cases (λ x. x ≡ b) back) (live_stays stay) exact.free_blocks;
+    block_room = rw adds.trees.whole (length_without blocks b ∙ exact.block_room);
+    inode_room = rw adds.trees.whole (length_without inodes j ∙ exact.inode_room);
+    free_blocks = free_blocks_taken old new blocks b adds.trees.whole (exact.free_blocks.all b open_block) here (live_cases (λ x. x ≡ b) back) (live_stays stay) exact.free_blocks;
     free_inodes = inodes_taken;
   }
 

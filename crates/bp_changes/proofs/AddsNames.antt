@@ -1,52 +1,20 @@
 -- One more entry in one directory: the name shows the inode, all other names stay, and the tree gains one entry.
 use Rattle.std.proofs.Common.{◌≡◌, ◌≢◌, ◌⊎◌, ℕ, suc, ◌/◌, ◌%◌, ◌<◌, ◌≤◌, [], Bool, true, false, ◌==◌, if◌then◌else◌, length, Option, None, Some, refl, sym, ◌∙◌, ap, subst, subst₂, arith, inl, inr}
 use Rattle.std.proofs.lemmas.Bool.{eqb-true}
-use Rattle.bp_layout.specs.Words.{Image, word}
-use Rattle.bp_layout.specs.Tree.{byte, HasBlock, IsSound, IsFull}
+use Rattle.bp_layout.specs.Words.{Image}
+use Rattle.bp_layout.specs.Tree.{HasBlock, IsSound, IsFull}
 use Rattle.bp_layout.specs.Inode.{kind_of, root_of, size_of, inode_count}
 use Rattle.bp_layout.specs.Directory.{Name, EntryNames, IsName, name_at, lookup_in}
 use Rattle.bp_layout.specs.Reached.{IsReached}
 use Rattle.bp_layout.specs.Reached.IsReached.{inode_file, root_directory, named}
 use Rattle.bp_layout.specs.WellFormed.{IsWellFormed}
+use Rattle.bp_changes.specs.Effects.{AddsNames, IsNewEntry}
 use Rattle.bp_layout.proofs.SmallTrees.{none_live, empty_sound, empty_has_none}
 use Rattle.bp_layout.proofs.Finding.{map-same}
 use Rattle.bp_layout.specs.Lookup.{node_of}
 use Rattle.bp_layout.specs.Lookup.Node.{dir, file}
 use Rattle.bp_layout.proofs.Paths.{AddsName}
 use Rattle.bp_layout.proofs.LookupLaws.{Shows, lookup_in-shows, lookup_in-found, lookup_in-none}
-
--- an entry of the second image that the first has not
-pub record IsNewEntry (i s j u r k : ℕ) : Type 0 where
-  pub directory : u ≡ i
-  pub slot : r ≡ s
-  pub inode : k ≡ j
-
--- The second image has one more entry, at slot s of directory i, for an inode without bytes that nobody named. The slot was empty, or the directory grew by it.
-pub record AddsNames (old new : Image) (i s j : ℕ) : Type 0 where
-  pub reached : IsReached old i
-  pub fresh : IsReached old j → ⊥
-  pub in_file : j < inode_count old
-  pub whole : length new ≡ length old
-  pub marked : word new 0 ≡ word old 0
-  pub counted : word new 1 ≡ word old 1
-  pub inode_bytes : size_of new 0 ≡ size_of old 0
-  pub kind : (u : ℕ) → IsReached old u → kind_of new u ≡ kind_of old u
-  pub new_kind : (1 ≤ kind_of new j) × (kind_of new j ≤ 2)
-  pub new_size : size_of new j ≡ 0
-  pub file_size : (u : ℕ) → IsReached old u → kind_of old u ≡ 1 → size_of new u ≡ size_of old u
-  pub directory_size : (u : ℕ) → IsReached old u → kind_of old u ≡ 2 → size_of new u % 256 ≡ 0
-  pub back : (u r k : ℕ) → IsReached old u → EntryNames new u r k → IsNewEntry i s j u r k ⊎ EntryNames old u r k
-  pub stay : (u r k : ℕ) → IsReached old u → EntryNames old u r k → EntryNames new u r k
-  pub entry : EntryNames new i s j
-  pub same_names : (u r k : ℕ) → IsReached old u → EntryNames old u r k → name_at new u r ≡ name_at old u r
-  pub name : IsName (name_at new i s)
-  pub new_name : (r k : ℕ) → EntryNames old i r k → name_at old i r ≢ name_at new i s
-  pub bytes : (u o : ℕ) → IsReached old u → kind_of old u ≡ 1 → o < size_of old u → byte new (root_of new u) o ≡ byte old (root_of old u) o
-  pub sound : (t : ℕ) → IsReached old t → IsSound new (root_of new t) (size_of new t)
-  pub apart : (t u b : ℕ) → IsReached old t → IsReached old u →
-      HasBlock new (root_of new t) (size_of new t) b → HasBlock new (root_of new u) (size_of new u) b → t ≡ u
-  pub full_inode_file : IsFull new (root_of new 0) (size_of new 0)
-  pub full_directories : (u : ℕ) → IsReached old u → kind_of old u ≡ 2 → IsFull new (root_of new u) (size_of new u)
 
 module _ (old new : Image) (wf : IsWellFormed old) (i s j : ℕ) (adds : AddsNames old new i s j) where
   nothing_named : (r k : ℕ) → EntryNames new j r k → ⊥
@@ -79,18 +47,18 @@ module _ (old new : Image) (wf : IsWellFormed old) (i s j : ℕ) (adds : AddsNam
   sound_cases : (t : ℕ) → (t ≡ j) ⊎ IsReached old t → IsSound new (root_of new t) (size_of new t)
   sound_cases t (inl e) =
       subst (λ x. IsSound new (root_of new x) (size_of new x)) (sym e) (rw adds.new_size (empty_sound new (root_of new j)))
-  sound_cases t (inr reached) = adds.sound t reached
+  sound_cases t (inr reached) = adds.trees.sound t reached
 
   apart_cases : (t u b : ℕ) → (t ≡ j) ⊎ IsReached old t → (u ≡ j) ⊎ IsReached old u →
       HasBlock new (root_of new t) (size_of new t) b → HasBlock new (root_of new u) (size_of new u) b → t ≡ u
   apart_cases t u b (inl e) q one two = absurd (new_has_none t b e one)
   apart_cases t u b (inr r) (inl e) one two = absurd (new_has_none u b e two)
-  apart_cases t u b (inr r) (inr q) one two = adds.apart t u b r q one two
+  apart_cases t u b (inr r) (inr q) one two = adds.trees.apart t u b r q one two
 
   full_cases : (t : ℕ) → (t ≡ j) ⊎ IsReached old t → kind_of new t ≡ 2 → IsFull new (root_of new t) (size_of new t)
   full_cases t (inl e) kind d k live =
       absurd (none_live (root_of new t) d k (rw (ap (size_of new) e ∙ adds.new_size) at live))
-  full_cases t (inr reached) kind d k live = adds.full_directories t reached (sym (adds.kind t reached) ∙ kind) d k live
+  full_cases t (inr reached) kind d k live = adds.trees.full_directories t reached (sym (adds.kind t reached) ∙ kind) d k live
 
   -- an entry of the new image: the new one, or one of the old image
   entry_cases : (u r k : ℕ) → IsReached new u → EntryNames new u r k → IsNewEntry i s j u r k ⊎ (IsReached old u × EntryNames old u r k)
@@ -106,17 +74,17 @@ module _ (old new : Image) (wf : IsWellFormed old) (i s j : ℕ) (adds : AddsNam
 
   pub linked_well_formed : IsWellFormed new
   linked_well_formed =
-      let whole : length new ≡ length old = adds.whole in
+      let whole : length new ≡ length old = adds.trees.whole in
       let inodes : size_of new 0 ≡ size_of old 0 = adds.inode_bytes in
       record {
         whole = rw whole wf.whole;
         at_least = rw whole wf.at_least;
         at_most = rw whole wf.at_most;
-        marked = adds.marked ∙ wf.marked;
-        counted = adds.counted ∙ rw whole wf.counted;
+        marked = adds.trees.marked ∙ wf.marked;
+        counted = adds.trees.counted ∙ rw whole wf.counted;
         sound = λ t r. sound_cases t (reached_cases t r);
         apart = λ t u b r q one two. apart_cases t u b (reached_cases t r) (reached_cases u q) one two;
-        full_inode_file = adds.full_inode_file;
+        full_inode_file = adds.trees.full_inode_file;
         full_directories = λ t r kind. full_cases t (reached_cases t r) kind;
         inode_blocks = rw inodes wf.inode_blocks;
         some_inodes = rw inodes wf.some_inodes;

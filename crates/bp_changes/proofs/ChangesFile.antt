@@ -1,10 +1,10 @@
 -- Two images that differ in the bytes of one file: the theorem behind every write and truncate.
-use Rattle.std.proofs.Common.{◌≡◌, ◌≢◌, ◌==◌, Bool, true, false, Option, None, Some, ℕ, suc, ◌+◌, ◌*◌, ◌/◌, ◌%◌, ◌<◌, ◌≤◌, length, refl, sym, ◌∙◌, ap, arith}
+use Rattle.std.proofs.Common.{◌≡◌, ◌≢◌, ◌==◌, Bool, true, false, Option, None, Some, ℕ, suc, ◌+◌, ◌*◌, ◌/◌, ◌%◌, ◌<◌, ◌≤◌, refl, sym, ◌∙◌, ap, arith}
 use Rattle.std.proofs.lemmas.List.FromFn.{length-map-range_with_len}
-use Rattle.bp_layout.specs.Words.{Image, word, byte_of}
-use Rattle.bp_layout.specs.Tree.{byte, content, HasBlock, IsSound, IsFull}
+use Rattle.bp_layout.specs.Words.{Image, byte_of}
+use Rattle.bp_layout.specs.Tree.{byte, content}
 use Rattle.bp_layout.specs.Inode.{kind_of, root_of, size_of}
-use Rattle.bp_layout.specs.Directory.{EntryNames, IsName, name_at, inumber_at, entry_word, entry_count}
+use Rattle.bp_layout.specs.Directory.{EntryNames, IsName, name_at, entry_word, entry_count}
 use Rattle.bp_layout.specs.Reached.{IsReached}
 use Rattle.bp_layout.specs.Reached.IsReached.{inode_file, root_directory, named}
 use Rattle.bp_layout.specs.WellFormed.{IsWellFormed}
@@ -12,26 +12,9 @@ use Rattle.bp_layout.specs.Lookup.{Path, lookup, node_of, shown}
 use Rattle.bp_layout.specs.Lookup.Node.{file}
 use Rattle.std.specs.Option.{option_map}
 use Rattle.std.proofs.lemmas.Bool.{eqb-true}
+use Rattle.bp_changes.specs.Effects.{ChangesFile}
 use Rattle.bp_layout.proofs.Finding.{map-same}
 use Rattle.bp_layout.proofs.View.{SameDirectories, lookup_from-same, lookup_from-reached}
-
--- what the trees that the first image reaches are in the second, where the bytes of file x may be others
-pub record ChangesFile (old new : Image) (x : ℕ) : Type 0 where
-  pub reached : IsReached old x
-  pub is_file : kind_of old x ≡ 1
-  pub whole : length new ≡ length old
-  pub marked : word new 0 ≡ word old 0
-  pub counted : word new 1 ≡ word old 1
-  pub kind : (t : ℕ) → IsReached old t → kind_of new t ≡ kind_of old t
-  pub size : (t : ℕ) → IsReached old t → t ≢ x → size_of new t ≡ size_of old t
-  pub inumber : (i s : ℕ) → IsReached old i → kind_of old i ≡ 2 → s < entry_count old i → inumber_at new i s ≡ inumber_at old i s
-  pub entry : (i s j f : ℕ) → IsReached old i → EntryNames old i s j → f < 32 → entry_word new i s f ≡ entry_word old i s f
-  pub bytes : (i o : ℕ) → IsReached old i → i ≢ x → kind_of old i ≡ 1 → o < size_of old i → byte new (root_of new i) o ≡ byte old (root_of old i) o
-  pub sound : (t : ℕ) → IsReached old t → IsSound new (root_of new t) (size_of new t)
-  pub apart : (t u b : ℕ) → IsReached old t → IsReached old u →
-      HasBlock new (root_of new t) (size_of new t) b → HasBlock new (root_of new u) (size_of new u) b → t ≡ u
-  pub full_inode_file : IsFull new (root_of new 0) (size_of new 0)
-  pub full_directories : (i : ℕ) → IsReached old i → kind_of old i ≡ 2 → IsFull new (root_of new i) (size_of new i)
 
 module _ (old new : Image) (x : ℕ) (wf : IsWellFormed old) (same : ChangesFile old new x) where
   not_zero : 0 ≢ x
@@ -79,15 +62,15 @@ module _ (old new : Image) (x : ℕ) (wf : IsWellFormed old) (same : ChangesFile
   well_formed-same =
       let inodes : size_of new 0 ≡ size_of old 0 = same.size 0 inode_file not_zero in
       record {
-        whole = rw same.whole wf.whole;
-        at_least = rw same.whole wf.at_least;
-        at_most = rw same.whole wf.at_most;
-        marked = same.marked ∙ wf.marked;
-        counted = same.counted ∙ rw same.whole wf.counted;
-        sound = λ t r. same.sound t (reached-back t r);
-        apart = λ t u b r q has also. same.apart t u b (reached-back t r) (reached-back u q) has also;
-        full_inode_file = same.full_inode_file;
-        full_directories = λ i r kind. same.full_directories i (reached-back i r) (sym (same.kind i (reached-back i r)) ∙ kind);
+        whole = rw same.trees.whole wf.whole;
+        at_least = rw same.trees.whole wf.at_least;
+        at_most = rw same.trees.whole wf.at_most;
+        marked = same.trees.marked ∙ wf.marked;
+        counted = same.trees.counted ∙ rw same.trees.whole wf.counted;
+        sound = λ t r. same.trees.sound t (reached-back t r);
+        apart = λ t u b r q has also. same.trees.apart t u b (reached-back t r) (reached-back u q) has also;
+        full_inode_file = same.trees.full_inode_file;
+        full_directories = λ i r kind. same.trees.full_directories i (reached-back i r) (sym (same.kind i (reached-back i r)) ∙ kind);
         inode_blocks = rw inodes wf.inode_blocks;
         some_inodes = rw inodes wf.some_inodes;
         inumbers = λ i s j r n. rw inodes (wf.inumbers i s j (reached-back i r) (names-back i s j (reached-back i r) n));

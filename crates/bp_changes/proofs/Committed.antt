@@ -50,9 +50,15 @@ commit_adds old new i s j can commits =
     let inode : i ≢ 0 = λ e. absurd (zero_is_none old (subst (λ x. kind_of old x ≡ 2) e can.directory)) in
     let in_size : s < size_of old i / 256 = can.in_size in
     record {
-      whole = commits.whole;
-      marked = commits.marked;
-      counted = commits.counted;
+      trees = record {
+        whole = commits.whole;
+        marked = commits.marked;
+        counted = commits.counted;
+        sound = commits.sound;
+        apart = commits.apart;
+        full_inode_file = commits.full_inode_file;
+        full_directories = commits.full_directories;
+      };
       kind = kind-kept old new i (32 * s + 0) j inode commits;
       size = size-kept old new i (32 * s + 0) j inode commits;
       entered = word-committed old new i (32 * s + 0) j inode commits can.reached can.directory (omega (arith, in_size));
@@ -62,10 +68,6 @@ commit_adds old new i s j can commits =
       bytes = λ u o reached kind low.
           byte-kept old new i (32 * s + 0) j inode commits u o reached kind
           (λ e. let two : kind_of old u ≡ 2 = subst (λ x. kind_of old x ≡ 2) (sym e) can.directory in absurd (omega (arith, kind, two))) low;
-      sound = commits.sound;
-      apart = commits.apart;
-      full_inode_file = commits.full_inode_file;
-      full_directories = commits.full_directories;
     }
   where
     zero_is_none : (image : Image) → kind_of image 0 ≡ 2 → ⊥

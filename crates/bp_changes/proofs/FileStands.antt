@@ -9,7 +9,8 @@ use Rattle.bp_layout.specs.Lookup.{Path, Node, lookup, shown}
 use Rattle.bp_layout.specs.Lookup.Node.{file}
 use Rattle.bp_layout.specs.WellFormed.{IsWellFormed}
 use Rattle.bp_layout.proofs.Paths.{path_once}
-use Rattle.bp_changes.proofs.ChangesFile.{ChangesFile, well_formed-same, shown_file, shown_other}
+use Rattle.bp_changes.specs.Effects.{ChangesFile}
+use Rattle.bp_changes.proofs.ChangesFile.{well_formed-same, shown_file, shown_other}
 use Rattle.bp_changes.proofs.Resize.{CanResize, resize_changes, bytes_of_file}
 use Rattle.bp_plain.specs.PlainTree.{FileTree, path_cmp}
 use Rattle.bp_plain.specs.Stands.{Stands}

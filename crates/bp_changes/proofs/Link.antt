@@ -2,16 +2,16 @@
 use Rattle.std.proofs.Common.{◌≡◌, ◌≢◌, ◌⊎◌, ℕ, ◌+◌, ◌*◌, ◌/◌, ◌%◌, ◌<◌, ◌≤◌, length, sym, ◌∙◌, ap, subst, subst₂, arith, inl, inr}
 use Rattle.std.proofs.lemmas.Bool.{cases_eq}
 use Rattle.std.proofs.lemmas.List.FromFn.{length-map-range_with_len}
-use Rattle.bp_layout.specs.Words.{Image, word, byte_of}
-use Rattle.bp_layout.specs.Tree.{byte, HasBlock, IsSound, IsFull}
+use Rattle.bp_layout.specs.Words.{Image, byte_of}
+use Rattle.bp_layout.specs.Tree.{byte}
 use Rattle.bp_layout.specs.Inode.{kind_of, root_of, size_of, inode_count}
 use Rattle.bp_layout.specs.Directory.{EntryNames, IsName, name_at, inumber_at, entry_word, entry_count}
 use Rattle.bp_layout.specs.Reached.{IsReached}
 use Rattle.bp_layout.specs.Reached.IsReached.{inode_file}
 use Rattle.bp_layout.specs.WellFormed.{IsWellFormed}
+use Rattle.bp_changes.specs.Effects.{KeepsTrees, AddsNames, IsNewEntry}
 use Rattle.bp_layout.proofs.Finding.{map-same}
 use Rattle.bp_layout.proofs.Reached.{reached-in_file}
-use Rattle.bp_changes.proofs.AddsNames.{AddsNames, IsNewEntry}
 
 -- An empty entry of a directory whose name is new there, and an inode that nobody names and that has no bytes.
 pub record CanLink (old : Image) (i s j : ℕ) : Type 0 where
@@ -28,20 +28,13 @@ pub record CanLink (old : Image) (i s j : ℕ) : Type 0 where
 
 -- The second image has the inumber in that entry, and all else as it was. Its trees may stand in other blocks.
 pub record AddsEntry (old new : Image) (i s j : ℕ) : Type 0 where
-  pub whole : length new ≡ length old
-  pub marked : word new 0 ≡ word old 0
-  pub counted : word new 1 ≡ word old 1
+  pub trees : KeepsTrees old new
   pub kind : (u : ℕ) → u < inode_count old → kind_of new u ≡ kind_of old u
   pub size : (u : ℕ) → u < inode_count old → size_of new u ≡ size_of old u
   pub entered : inumber_at new i s ≡ j
   pub entry : (u r f : ℕ) → IsReached old u → kind_of old u ≡ 2 → r < entry_count old u → f < 32 → ((i ≡ u) → (32 * s + 0 ≡ 32 * r + f) → ⊥) →
       entry_word new u r f ≡ entry_word old u r f
   pub bytes : (u o : ℕ) → IsReached old u → kind_of old u ≡ 1 → o < size_of old u → byte new (root_of new u) o ≡ byte old (root_of old u) o
-  pub sound : (t : ℕ) → IsReached old t → IsSound new (root_of new t) (size_of new t)
-  pub apart : (t u b : ℕ) → IsReached old t → IsReached old u →
-      HasBlock new (root_of new t) (size_of new t) b → HasBlock new (root_of new u) (size_of new u) b → t ≡ u
-  pub full_inode_file : IsFull new (root_of new 0) (size_of new 0)
-  pub full_directories : (u : ℕ) → IsReached old u → kind_of old u ≡ 2 → IsFull new (root_of new u) (size_of new u)
 
 module _ (old new : Image) (wf : IsWellFormed old) (i s j : ℕ) (can : CanLink old i s j) (adds : AddsEntry old new i s j) where
   in_inodes : (t : ℕ) → IsReached old t → t < inode_count old
@@ -120,9 +113,7 @@ module _ (old new : Image) (wf : IsWellFormed old) (i s j : ℕ) (can : CanLink 
     reached = can.reached;
     fresh = can.fresh;
     in_file = can.in_file;
-    whole = adds.whole;
-    marked = adds.marked;
-    counted = adds.counted;
+    trees = adds.trees;
     inode_bytes = sizes_stay 0 (in_inodes 0 inode_file);
     kind = λ u r. kinds_stay u (in_inodes u r);
     new_kind = rw (kinds_stay j can.in_file) can.kind;
@@ -136,8 +127,4 @@ module _ (old new : Image) (wf : IsWellFormed old) (i s j : ℕ) (can : CanLink 
     name = rw name_of_new can.name;
     new_name = λ r k n. rw name_of_new (can.new_name r k n);
     bytes = adds.bytes;
-    sound = adds.sound;
-    apart = adds.apart;
-    full_inode_file = adds.full_inode_file;
-    full_directories = adds.full_directories;
   }

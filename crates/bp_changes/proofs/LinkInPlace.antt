@@ -41,9 +41,15 @@ module _ (old : Image) (wf : IsWellFormed old) (i s j place : ℕ) (can : CanLin
 
   pub store_adds : AddsEntry old (set old place j) i s j
   store_adds = record {
-    whole = length-set old place j;
-    marked = superblock_stays old wf i (32 * s + 0) place j can.reached not_inode_file below stands 0 (omega arith);
-    counted = superblock_stays old wf i (32 * s + 0) place j can.reached not_inode_file below stands 1 (omega arith);
+    trees = record {
+      whole = length-set old place j;
+      marked = superblock_stays old wf i (32 * s + 0) place j can.reached not_inode_file below stands 0 (omega arith);
+      counted = superblock_stays old wf i (32 * s + 0) place j can.reached not_inode_file below stands 1 (omega arith);
+      sound = λ t r. to_new (IsSound (set old place j)) t r (sound-kept old (set old place j) (root_of old t) (size_of old t) (keeps t r) (length-set old place j) (wf.sound t r));
+      apart = λ t u b r q one two. wf.apart t u b r q (to_old t b r one) (to_old u b q two);
+      full_inode_file = to_new (IsFull (set old place j)) 0 inode_file (full-kept old (set old place j) (root_of old 0) (size_of old 0) (keeps 0 inode_file) wf.full_inode_file);
+      full_directories = λ u r kind. to_new (IsFull (set old place j)) u r (full-kept old (set old place j) (root_of old u) (size_of old u) (keeps u r) (wf.full_directories u r kind));
+    };
     kind = kind_stays old wf i (32 * s + 0) place j can.reached not_inode_file below stands;
     size = sizes_stay;
     entered = content_here old wf i (32 * s + 0) place j can.reached not_inode_file below stands (roots_stay i (in_inodes i can.reached));
@@ -53,8 +59,4 @@ module _ (old : Image) (wf : IsWellFormed old) (i s j place : ℕ) (can : CanLin
         ap (λ w. byte_of w (o % 8))
         (content_elsewhere old wf i (32 * s + 0) place j can.reached not_inode_file below stands u (o / 8) reached (roots_stay u (in_inodes u reached)) (omega (arith, low))
         (λ e same. let two : kind_of old u ≡ 2 = subst (λ x. kind_of old x ≡ 2) e can.directory in absurd (omega (arith, kind, two))));
-    sound = λ t r. to_new (IsSound (set old place j)) t r (sound-kept old (set old place j) (root_of old t) (size_of old t) (keeps t r) (length-set old place j) (wf.sound t r));
-    apart = λ t u b r q one two. wf.apart t u b r q (to_old t b r one) (to_old u b q two);
-    full_inode_file = to_new (IsFull (set old place j)) 0 inode_file (full-kept old (set old place j) (root_of old 0) (size_of old 0) (keeps 0 inode_file) wf.full_inode_file);
-    full_directories = λ u r kind. to_new (IsFull (set old place j)) u r (full-kept old (set old place j) (root_of old u) (size_of old u) (keeps u r) (wf.full_directories u r kind));
   }

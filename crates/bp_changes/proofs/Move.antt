@@ -1,9 +1,9 @@
 -- An inumber leaves one entry and comes into another: what a rename onto a target, or into another directory, makes of an image.
-use Rattle.std.proofs.Common.{◌≡◌, ◌≢◌, ◌⊎◌, ℕ, suc, ◌+◌, ◌*◌, ◌/◌, ◌%◌, ◌<◌, ◌≤◌, Bool, true, false, ◌==◌, length, Option, None, Some, refl, sym, ◌∙◌, ap, subst, subst₂, arith, inl, inr}
+use Rattle.std.proofs.Common.{◌≡◌, ◌⊎◌, ℕ, suc, ◌+◌, ◌*◌, ◌/◌, ◌%◌, ◌<◌, ◌≤◌, Bool, true, false, ◌==◌, length, Option, None, Some, refl, sym, ◌∙◌, ap, subst, subst₂, arith, inl, inr}
 use Rattle.std.proofs.lemmas.Bool.{cases_eq, eqb-true}
 use Rattle.std.proofs.lemmas.List.FromFn.{length-map-range_with_len}
-use Rattle.bp_layout.specs.Words.{Image, word, byte_of}
-use Rattle.bp_layout.specs.Tree.{byte, HasBlock, IsSound, IsFull}
+use Rattle.bp_layout.specs.Words.{Image, byte_of}
+use Rattle.bp_layout.specs.Tree.{byte}
 use Rattle.bp_layout.specs.Inode.{kind_of, root_of, size_of, inode_count}
 use Rattle.bp_layout.specs.Directory.{Name, EntryNames, IsName, name_at, inumber_at, entry_word, entry_count, lookup_in}
 use Rattle.bp_layout.specs.Reached.{IsReached}
@@ -11,40 +11,11 @@ use Rattle.bp_layout.specs.Reached.IsReached.{inode_file, root_directory, named}
 use Rattle.bp_layout.specs.Lookup.{node_of}
 use Rattle.bp_layout.specs.Lookup.Node.{file}
 use Rattle.bp_layout.specs.WellFormed.{IsWellFormed}
+use Rattle.bp_changes.specs.Effects.{CanMoveEntry, MovesEntry}
 use Rattle.bp_layout.proofs.Finding.{map-same}
 use Rattle.bp_layout.proofs.Reached.{reached-in_file}
 use Rattle.bp_layout.proofs.LookupLaws.{Shows, lookup_in-shows, lookup_in-found, lookup_in-none}
 use Rattle.bp_changes.proofs.MoveName.{MovesName}
-
--- The source entry (i, s) names j. The target entry (k, r) is empty or names a file or an empty directory.
-pub record CanMoveEntry (old : Image) (i s k r j : ℕ) : Type 0 where
-  pub reached : IsReached old i
-  pub entry : EntryNames old i s j
-  pub target : IsReached old k
-  pub directory : kind_of old k ≡ 2
-  pub in_size : r < entry_count old k
-  pub apart : (i ≡ k) → (s ≡ r) → ⊥
-  pub alone : (x l : ℕ) → inumber_at old k r ≢ 0 → EntryNames old (inumber_at old k r) x l → ⊥
-  pub name : IsName (name_at old k r)
-  pub new_name : (x l : ℕ) → EntryNames old k x l → name_at old k x ≡ name_at old k r → x ≡ r
-
--- The second image has the inumber there, and none in the source entry. Its trees may stand in other blocks.
-pub record MovesEntry (old new : Image) (i s k r j : ℕ) : Type 0 where
-  pub whole : length new ≡ length old
-  pub marked : word new 0 ≡ word old 0
-  pub counted : word new 1 ≡ word old 1
-  pub kind : (u : ℕ) → u < inode_count old → kind_of new u ≡ kind_of old u
-  pub size : (u : ℕ) → u < inode_count old → size_of new u ≡ size_of old u
-  pub emptied : inumber_at new i s ≡ 0
-  pub entered : inumber_at new k r ≡ j
-  pub entry : (u x f : ℕ) → IsReached old u → kind_of old u ≡ 2 → x < entry_count old u → f < 32 →
-      ((i ≡ u) → (32 * s + 0 ≡ 32 * x + f) → ⊥) → ((k ≡ u) → (32 * r + 0 ≡ 32 * x + f) → ⊥) → entry_word new u x f ≡ entry_word old u x f
-  pub bytes : (u o : ℕ) → IsReached old u → kind_of old u ≡ 1 → o < size_of old u → byte new (root_of new u) o ≡ byte old (root_of old u) o
-  pub sound : (t : ℕ) → IsReached old t → IsSound new (root_of new t) (size_of new t)
-  pub apart : (t u b : ℕ) → IsReached old t → IsReached old u →
-      HasBlock new (root_of new t) (size_of new t) b → HasBlock new (root_of new u) (size_of new u) b → t ≡ u
-  pub full_inode_file : IsFull new (root_of new 0) (size_of new 0)
-  pub full_directories : (u : ℕ) → IsReached old u → kind_of old u ≡ 2 → IsFull new (root_of new u) (size_of new u)
 
 module _ (old new : Image) (wf : IsWellFormed old) (i s k r j : ℕ) (can : CanMoveEntry old i s k r j) (moves : MovesEntry old new i s k r j) where
   in_inodes : (t : ℕ) → IsReached old t → t < inode_count old
@@ -132,15 +103,15 @@ module _ (old new : Image) (wf : IsWellFormed old) (i s k r j : ℕ) (can : CanM
   moved_well_formed =
       let inodes : size_of new 0 ≡ size_of old 0 = moves.size 0 (in_inodes 0 inode_file) in
       record {
-        whole = rw moves.whole wf.whole;
-        at_least = rw moves.whole wf.at_least;
-        at_most = rw moves.whole wf.at_most;
-        marked = moves.marked ∙ wf.marked;
-        counted = moves.counted ∙ rw moves.whole wf.counted;
-        sound = λ t q. moves.sound t (reached_back t q);
-        apart = λ t u b q p one two. moves.apart t u b (reached_back t q) (reached_back u p) one two;
-        full_inode_file = moves.full_inode_file;
-        full_directories = λ t q kind. moves.full_directories t (reached_back t q) (sym (moves.kind t (in_inodes t (reached_back t q))) ∙ kind);
+        whole = rw moves.trees.whole wf.whole;
+        at_least = rw moves.trees.whole wf.at_least;
+        at_most = rw moves.trees.whole wf.at_most;
+        marked = moves.trees.marked ∙ wf.marked;
+        counted = moves.trees.counted ∙ rw moves.trees.whole wf.counted;
+        sound = λ t q. moves.trees.sound t (reached_back t q);
+        apart = λ t u b q p one two. moves.trees.apart t u b (reached_back t q) (reached_back u p) one two;
+        full_inode_file = moves.trees.full_inode_file;
+        full_directories = λ t q kind. moves.trees.full_directories t (reached_back t q) (sym (moves.kind t (in_inodes t (reached_back t q))) ∙ kind);
         inode_blocks = rw inodes wf.inode_blocks;
         some_inodes = rw inodes wf.some_inodes;
         inumbers = λ u x l q n. rw inodes (in_file u x l (reached_back u q) (entry_of u x l (reached_back u q) n));

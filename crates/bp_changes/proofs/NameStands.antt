@@ -9,7 +9,8 @@ use Rattle.bp_layout.specs.Lookup.{Path, node_of, lookup, shown}
 use Rattle.bp_layout.specs.Lookup.Node.{dir, file}
 use Rattle.bp_layout.specs.WellFormed.{IsWellFormed}
 use Rattle.bp_layout.proofs.Paths.{AddsName, shown_there, shown_elsewhere}
-use Rattle.bp_changes.proofs.AddsNames.{AddsNames, names_added, node_of_new, linked_well_formed}
+use Rattle.bp_changes.specs.Effects.{AddsNames, CanUnlink, RemovesEntry}
+use Rattle.bp_changes.proofs.AddsNames.{names_added, node_of_new, linked_well_formed}
 use Rattle.bp_changes.proofs.Link.{CanLink, AddsEntry, entry_adds, name_of_new}
 use Rattle.bp_changes.proofs.LinkInPlace.{store_adds}
 use Rattle.bp_changes.proofs.Unlink as unlink
@@ -56,7 +57,7 @@ store_stands old wf i s j place can stands tree parent at found =
 -- ---- one name fewer
 
 -- the tree loses the name
-pub unlink_stands : (old new : Image) (wf : IsWellFormed old) (i s j : ℕ) → unlink.CanUnlink old i s j → unlink.RemovesEntry old new i s →
+pub unlink_stands : (old new : Image) (wf : IsWellFormed old) (i s j : ℕ) → CanUnlink old i s j → RemovesEntry old new i s →
     (parent : Path) → lookup old parent ≡ Some i → (tree : FileTree) → Stands old tree → Stands new (remove tree (parent ++ name_at old i s ∷ []))
 unlink_stands old new wf i s j can removes parent at tree stands =
     record { well_formed = unlink.unlinked_well_formed old new wf i s j can removes; shows = λ path. go path (eq_by_cmp path_cmp path (parent ++ name_at old i s ∷ [])) refl }

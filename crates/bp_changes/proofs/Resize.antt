@@ -13,7 +13,7 @@ use Rattle.bp_layout.proofs.Finding.{map-same}
 use Rattle.bp_layout.proofs.Reached.{reached-in_file}
 use Rattle.bp_changes.proofs.Separation.{stands_in_block}
 use Rattle.bp_changes.proofs.ContentStore.{word-stored, word-elsewhere}
-use Rattle.bp_changes.proofs.ChangesFile.{ChangesFile}
+use Rattle.bp_changes.specs.Effects.{ChangesFile}
 
 -- a file, the place of its size word, and a size under which its tree is sound and apart from the others
 pub record CanResize (old : Image) (n size place : ℕ) : Type 0 where
@@ -165,16 +165,18 @@ module _ (old : Image) (wf : IsWellFormed old) (n size place : ℕ) (can : CanRe
   resize_changes = record {
     reached = can.reached;
     is_file = can.is_file;
-    whole = whole;
-    marked = superblock 0 (omega arith);
-    counted = superblock 1 (omega arith);
+    trees = record {
+      whole = whole;
+      marked = superblock 0 (omega arith);
+      counted = superblock 1 (omega arith);
+      sound = λ t r. sound_cases t r (cases_eq t (suc n));
+      apart = λ t u b r q one two. apart_cases t u b r q (cases_eq t (suc n)) (cases_eq u (suc n)) one two;
+      full_inode_file = full_kept 0 inode_file (λ e. suc-ne-zero n (sym e)) wf.full_inode_file;
+      full_directories = λ i r kind. full_kept i r (file_not i kind) (wf.full_directories i r kind);
+    };
     kind = λ t r. kind_stays t (in_file t r);
     size = λ t r other. size_stays t (in_file t r) other;
     inumber = λ i s r kind low. content_stays i (32 * s + 0) r (directory_not i kind) (omega (arith, low));
     entry = λ i s j f r names few. content_stays i (32 * s + f) r (directory_not i names.directory) (omega (arith, names.in_size, few));
     bytes = λ i o r other kind low. ap (λ w. byte_of w (o % 8)) (content_stays i (o / 8) r (file_is i kind) (omega (arith, low)));
-    sound = λ t r. sound_cases t r (cases_eq t (suc n));
-    apart = λ t u b r q one two. apart_cases t u b r q (cases_eq t (suc n)) (cases_eq u (suc n)) one two;
-    full_inode_file = full_kept 0 inode_file (λ e. suc-ne-zero n (sym e)) wf.full_inode_file;
-    full_directories = λ i r kind. full_kept i r (file_not i kind) (wf.full_directories i r kind);
   }

@@ -1,41 +1,21 @@
 -- An entry is spelled anew in place: what a rename within one directory makes of an image.
-use Rattle.std.proofs.Common.{◌≡◌, ◌≢◌, ◌⊎◌, ℕ, suc, ◌+◌, ◌*◌, ◌/◌, ◌%◌, ◌<◌, ◌≤◌, Bool, true, false, ◌==◌, length, Option, None, Some, refl, sym, ◌∙◌, ap, ap₂, subst, arith, inl, inr}
+use Rattle.std.proofs.Common.{◌≡◌, ◌⊎◌, ℕ, suc, ◌+◌, ◌*◌, ◌/◌, ◌%◌, ◌<◌, ◌≤◌, Bool, true, false, ◌==◌, Option, None, Some, refl, sym, ◌∙◌, ap, ap₂, subst, arith, inl, inr}
 use Rattle.std.proofs.lemmas.Bool.{cases_eq, eqb-true}
 use Rattle.std.proofs.lemmas.List.FromFn.{length-map-range_with_len}
-use Rattle.bp_layout.specs.Words.{Image, word, byte_of}
-use Rattle.bp_layout.specs.Tree.{byte, HasBlock, IsSound, IsFull}
+use Rattle.bp_layout.specs.Words.{Image, byte_of}
+use Rattle.bp_layout.specs.Tree.{byte}
 use Rattle.bp_layout.specs.Inode.{kind_of, root_of, size_of, inode_count}
-use Rattle.bp_layout.specs.Directory.{Name, EntryNames, IsName, name_at, inumber_at, entry_word, entry_count, lookup_in}
+use Rattle.bp_layout.specs.Directory.{Name, EntryNames, IsName, name_at, entry_word, entry_count, lookup_in}
 use Rattle.bp_layout.specs.Reached.{IsReached}
 use Rattle.bp_layout.specs.Reached.IsReached.{inode_file, root_directory, named}
 use Rattle.bp_layout.specs.Lookup.{node_of}
 use Rattle.bp_layout.specs.Lookup.Node.{file}
 use Rattle.bp_layout.specs.WellFormed.{IsWellFormed}
+use Rattle.bp_changes.specs.Effects.{RespellsEntry}
 use Rattle.bp_layout.proofs.Finding.{map-same}
 use Rattle.bp_layout.proofs.Reached.{reached-in_file}
 use Rattle.bp_layout.proofs.LookupLaws.{Shows, lookup_in-shows, lookup_in-found, lookup_in-none}
 use Rattle.bp_changes.proofs.MoveName.{MovesName}
-
--- The second image has another name in that entry, new to its directory, and all else as it was.
-pub record RespellsEntry (old new : Image) (i s j : ℕ) : Type 0 where
-  pub reached : IsReached old i
-  pub names : EntryNames old i s j
-  pub whole : length new ≡ length old
-  pub marked : word new 0 ≡ word old 0
-  pub counted : word new 1 ≡ word old 1
-  pub kind : (u : ℕ) → u < inode_count old → kind_of new u ≡ kind_of old u
-  pub size : (u : ℕ) → u < inode_count old → size_of new u ≡ size_of old u
-  pub inumber : (u x : ℕ) → IsReached old u → kind_of old u ≡ 2 → x < entry_count old u → inumber_at new u x ≡ inumber_at old u x
-  pub entry : (u x l f : ℕ) → IsReached old u → EntryNames old u x l → f < 32 → ((u ≡ i) → (x ≡ s) → ⊥) → entry_word new u x f ≡ entry_word old u x f
-  pub name : IsName (name_at new i s)
-  pub changed : name_at old i s ≢ name_at new i s
-  pub new_name : (x l : ℕ) → EntryNames old i x l → x ≢ s → name_at old i x ≢ name_at new i s
-  pub bytes : (u o : ℕ) → IsReached old u → kind_of old u ≡ 1 → o < size_of old u → byte new (root_of new u) o ≡ byte old (root_of old u) o
-  pub sound : (t : ℕ) → IsReached old t → IsSound new (root_of new t) (size_of new t)
-  pub apart : (t u b : ℕ) → IsReached old t → IsReached old u →
-      HasBlock new (root_of new t) (size_of new t) b → HasBlock new (root_of new u) (size_of new u) b → t ≡ u
-  pub full_inode_file : IsFull new (root_of new 0) (size_of new 0)
-  pub full_directories : (u : ℕ) → IsReached old u → kind_of old u ≡ 2 → IsFull new (root_of new u) (size_of new u)
 
 module _ (old new : Image) (wf : IsWellFormed old) (i s j : ℕ) (spells : RespellsEntry old new i s j) where
   in_inodes : (t : ℕ) → IsReached old t → t < inode_count old
@@ -95,15 +75,15 @@ module _ (old new : Image) (wf : IsWellFormed old) (i s j : ℕ) (spells : Respe
   respelled_well_formed =
       let inodes : size_of new 0 ≡ size_of old 0 = spells.size 0 (in_inodes 0 inode_file) in
       record {
-        whole = rw spells.whole wf.whole;
-        at_least = rw spells.whole wf.at_least;
-        at_most = rw spells.whole wf.at_most;
-        marked = spells.marked ∙ wf.marked;
-        counted = spells.counted ∙ rw spells.whole wf.counted;
-        sound = λ t q. spells.sound t (reached_back t q);
-        apart = λ t u b q p one two. spells.apart t u b (reached_back t q) (reached_back u p) one two;
-        full_inode_file = spells.full_inode_file;
-        full_directories = λ t q kind. spells.full_directories t (reached_back t q) (sym (spells.kind t (in_inodes t (reached_back t q))) ∙ kind);
+        whole = rw spells.trees.whole wf.whole;
+        at_least = rw spells.trees.whole wf.at_least;
+        at_most = rw spells.trees.whole wf.at_most;
+        marked = spells.trees.marked ∙ wf.marked;
+        counted = spells.trees.counted ∙ rw spells.trees.whole wf.counted;
+        sound = λ t q. spells.trees.sound t (reached_back t q);
+        apart = λ t u b q p one two. spells.trees.apart t u b (reached_back t q) (reached_back u p) one two;
+        full_inode_file = spells.trees.full_inode_file;
+        full_directories = λ t q kind. spells.trees.full_directories t (reached_back t q) (sym (spells.kind t (in_inodes t (reached_back t q))) ∙ kind);
         inode_blocks = rw inodes wf.inode_blocks;
         some_inodes = rw inodes wf.some_inodes;
         inumbers = λ u x l q n. rw inodes (wf.inumbers u x l (reached_back u q) (names_back u x l (reached_back u q) n));

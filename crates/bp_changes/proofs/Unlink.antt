@@ -3,8 +3,8 @@ use Rattle.std.proofs.Common.{◌≡◌, ◌⊎◌, ℕ, suc, ◌+◌, ◌*◌, 
 use Rattle.std.specs.Option.{option_map}
 use Rattle.std.proofs.lemmas.Bool.{cases_eq, eqb-true}
 use Rattle.std.proofs.lemmas.List.FromFn.{length-map-range_with_len}
-use Rattle.bp_layout.specs.Words.{Image, word, byte_of}
-use Rattle.bp_layout.specs.Tree.{byte, HasBlock, IsSound, IsFull}
+use Rattle.bp_layout.specs.Words.{Image, byte_of}
+use Rattle.bp_layout.specs.Tree.{byte}
 use Rattle.bp_layout.specs.Inode.{kind_of, root_of, size_of, inode_count}
 use Rattle.bp_layout.specs.Directory.{Name, EntryNames, IsName, name_at, inumber_at, entry_word, entry_count, lookup_in}
 use Rattle.bp_layout.specs.Reached.{IsReached}
@@ -12,34 +12,12 @@ use Rattle.bp_layout.specs.Reached.IsReached.{inode_file, root_directory, named}
 use Rattle.bp_layout.specs.Lookup.{Path, lookup_from, lookup, node_of, shown}
 use Rattle.bp_layout.specs.Lookup.Node.{file}
 use Rattle.bp_layout.specs.WellFormed.{IsWellFormed}
+use Rattle.bp_changes.specs.Effects.{CanUnlink, RemovesEntry}
 use Rattle.bp_layout.proofs.Finding.{map-same}
 use Rattle.bp_layout.proofs.Reached.{reached-in_file}
 use Rattle.bp_layout.proofs.View.{lookup_in-reached, lookup_from-reached}
 use Rattle.bp_layout.proofs.LookupLaws.{Shows, lookup_in-shows, lookup_in-found, lookup_in-none}
 use Rattle.bp_layout.proofs.Paths.{lookup_from-append, path_once, same_name}
-
--- an entry whose inode is a file or an empty directory
-pub record CanUnlink (old : Image) (i s j : ℕ) : Type 0 where
-  pub reached : IsReached old i
-  pub entry : EntryNames old i s j
-  pub alone : (r k : ℕ) → EntryNames old j r k → ⊥
-
--- The second image has an empty entry there, and all else as it was. Its trees may stand in other blocks.
-pub record RemovesEntry (old new : Image) (i s : ℕ) : Type 0 where
-  pub whole : length new ≡ length old
-  pub marked : word new 0 ≡ word old 0
-  pub counted : word new 1 ≡ word old 1
-  pub kind : (u : ℕ) → u < inode_count old → kind_of new u ≡ kind_of old u
-  pub size : (u : ℕ) → u < inode_count old → size_of new u ≡ size_of old u
-  pub emptied : inumber_at new i s ≡ 0
-  pub entry : (u r f : ℕ) → IsReached old u → kind_of old u ≡ 2 → r < entry_count old u → f < 32 → ((i ≡ u) → (32 * s + 0 ≡ 32 * r + f) → ⊥) →
-      entry_word new u r f ≡ entry_word old u r f
-  pub bytes : (u o : ℕ) → IsReached old u → kind_of old u ≡ 1 → o < size_of old u → byte new (root_of new u) o ≡ byte old (root_of old u) o
-  pub sound : (t : ℕ) → IsReached old t → IsSound new (root_of new t) (size_of new t)
-  pub apart : (t u b : ℕ) → IsReached old t → IsReached old u →
-      HasBlock new (root_of new t) (size_of new t) b → HasBlock new (root_of new u) (size_of new u) b → t ≡ u
-  pub full_inode_file : IsFull new (root_of new 0) (size_of new 0)
-  pub full_directories : (u : ℕ) → IsReached old u → kind_of old u ≡ 2 → IsFull new (root_of new u) (size_of new u)
 
 module _ (old new : Image) (wf : IsWellFormed old) (i s j : ℕ) (can : CanUnlink old i s j) (removes : RemovesEntry old new i s) where
   in_inodes : (t : ℕ) → IsReached old t → t < inode_count old
@@ -105,15 +83,15 @@ module _ (old new : Image) (wf : IsWellFormed old) (i s j : ℕ) (can : CanUnlin
   unlinked_well_formed =
       let inodes : size_of new 0 ≡ size_of old 0 = removes.size 0 (in_inodes 0 inode_file) in
       record {
-        whole = rw removes.whole wf.whole;
-        at_least = rw removes.whole wf.at_least;
-        at_most = rw removes.whole wf.at_most;
-        marked = removes.marked ∙ wf.marked;
-        counted = removes.counted ∙ rw removes.whole wf.counted;
-        sound = λ t r. removes.sound t (reached_back t r);
-        apart = λ t u b r q one two. removes.apart t u b (reached_back t r) (reached_back u q) one two;
-        full_inode_file = removes.full_inode_file;
-        full_directories = λ t r kind. removes.full_directories t (reached_back t r) (sym (removes.kind t (in_inodes t (reached_back t r))) ∙ kind);
+        whole = rw removes.trees.whole wf.whole;
+        at_least = rw removes.trees.whole wf.at_least;
+        at_most = rw removes.trees.whole wf.at_most;
+        marked = removes.trees.marked ∙ wf.marked;
+        counted = removes.trees.counted ∙ rw removes.trees.whole wf.counted;
+        sound = λ t r. removes.trees.sound t (reached_back t r);
+        apart = λ t u b r q one two. removes.trees.apart t u b (reached_back t r) (reached_back u q) one two;
+        full_inode_file = removes.trees.full_inode_file;
+        full_directories = λ t r kind. removes.trees.full_directories t (reached_back t r) (sym (removes.kind t (in_inodes t (reached_back t r))) ∙ kind);
         inode_blocks = rw inodes wf.inode_blocks;
         some_inodes = rw inodes wf.some_inodes;
         inumbers = λ u r k q n. let e : IsReached old u × EntryNames old u r k = entry_back u r k q n in rw inodes (wf.inumbers u r k e.0 e.1);

@@ -6,3 +6,5 @@ pub mod SameContent
 -- what nobody sees, what a commit makes
 pub mod Harmless
 pub mod Commits
+-- what each change makes of an image
+pub mod Effects

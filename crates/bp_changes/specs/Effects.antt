@@ -1,0 +1,124 @@
+-- What a change makes of an image: told of the trees that the first image reaches, by slots and inodes. The second image may have its trees in other blocks.
+use Rattle.std.specs.Prelude.{◌≡◌, ◌≢◌, ◌⊎◌, ℕ, ◌+◌, ◌*◌, ◌%◌, ◌<◌, ◌≤◌, length}
+use Rattle.bp_limits.specs.Limits.{super_magic, super_blocks, entry_size}
+use Rattle.bp_layout.specs.Words.{Image, word}
+use Rattle.bp_layout.specs.Tree.{byte, HasBlock, IsSound, IsFull}
+use Rattle.bp_layout.specs.Inode.{kind_of, root_of, size_of, inode_count}
+use Rattle.bp_layout.specs.Directory.{EntryNames, IsName, name_at, inumber_at, entry_word, entry_count}
+use Rattle.bp_layout.specs.Reached.{IsReached}
+
+-- The image is as long, with its mark and its count. Each tree is sound, no block is in two, and none is missing in the inode file and in directories.
+pub record KeepsTrees (old new : Image) : Type 0 where
+  pub whole : length new ≡ length old
+  pub marked : word new super_magic ≡ word old super_magic
+  pub counted : word new super_blocks ≡ word old super_blocks
+  pub sound : (t : ℕ) → IsReached old t → IsSound new (root_of new t) (size_of new t)
+  pub apart : (t u b : ℕ) → IsReached old t → IsReached old u →
+      HasBlock new (root_of new t) (size_of new t) b → HasBlock new (root_of new u) (size_of new u) b → t ≡ u
+  pub full_inode_file : IsFull new (root_of new 0) (size_of new 0)
+  pub full_directories : (i : ℕ) → IsReached old i → kind_of old i ≡ 2 → IsFull new (root_of new i) (size_of new i)
+
+-- ---- the bytes of one file
+
+-- the bytes of file x and their number may be others
+pub record ChangesFile (old new : Image) (x : ℕ) : Type 0 where
+  pub reached : IsReached old x
+  pub is_file : kind_of old x ≡ 1
+  pub trees : KeepsTrees old new
+  pub kind : (t : ℕ) → IsReached old t → kind_of new t ≡ kind_of old t
+  pub size : (t : ℕ) → IsReached old t → t ≢ x → size_of new t ≡ size_of old t
+  pub inumber : (i s : ℕ) → IsReached old i → kind_of old i ≡ 2 → s < entry_count old i → inumber_at new i s ≡ inumber_at old i s
+  pub entry : (i s j f : ℕ) → IsReached old i → EntryNames old i s j → f < 32 → entry_word new i s f ≡ entry_word old i s f
+  pub bytes : (i o : ℕ) → IsReached old i → i ≢ x → kind_of old i ≡ 1 → o < size_of old i →
+      byte new (root_of new i) o ≡ byte old (root_of old i) o
+
+-- ---- one name more
+
+-- an entry of the second image that the first has not
+pub record IsNewEntry (i s j u r k : ℕ) : Type 0 where
+  pub directory : u ≡ i
+  pub slot : r ≡ s
+  pub inode : k ≡ j
+
+-- One more entry, at slot s of directory i, for an inode without bytes that nobody named. The slot was empty, or the directory grew by it.
+pub record AddsNames (old new : Image) (i s j : ℕ) : Type 0 where
+  pub reached : IsReached old i
+  pub fresh : IsReached old j → ⊥
+  pub in_file : j < inode_count old
+  pub trees : KeepsTrees old new
+  pub inode_bytes : size_of new 0 ≡ size_of old 0
+  pub kind : (u : ℕ) → IsReached old u → kind_of new u ≡ kind_of old u
+  pub new_kind : (1 ≤ kind_of new j) × (kind_of new j ≤ 2)
+  pub new_size : size_of new j ≡ 0
+  pub file_size : (u : ℕ) → IsReached old u → kind_of old u ≡ 1 → size_of new u ≡ size_of old u
+  pub directory_size : (u : ℕ) → IsReached old u → kind_of old u ≡ 2 → size_of new u % entry_size ≡ 0
+  pub back : (u r k : ℕ) → IsReached old u → EntryNames new u r k → IsNewEntry i s j u r k ⊎ EntryNames old u r k
+  pub stay : (u r k : ℕ) → IsReached old u → EntryNames old u r k → EntryNames new u r k
+  pub entry : EntryNames new i s j
+  pub same_names : (u r k : ℕ) → IsReached old u → EntryNames old u r k → name_at new u r ≡ name_at old u r
+  pub name : IsName (name_at new i s)
+  pub new_name : (r k : ℕ) → EntryNames old i r k → name_at old i r ≢ name_at new i s
+  pub bytes : (u o : ℕ) → IsReached old u → kind_of old u ≡ 1 → o < size_of old u →
+      byte new (root_of new u) o ≡ byte old (root_of old u) o
+
+-- ---- one name fewer
+
+-- an entry that names a file or an empty directory
+pub record CanUnlink (old : Image) (i s j : ℕ) : Type 0 where
+  pub reached : IsReached old i
+  pub entry : EntryNames old i s j
+  pub alone : (r k : ℕ) → EntryNames old j r k → ⊥
+
+-- an empty entry at slot s of directory i, and all else as it was
+pub record RemovesEntry (old new : Image) (i s : ℕ) : Type 0 where
+  pub trees : KeepsTrees old new
+  pub kind : (u : ℕ) → u < inode_count old → kind_of new u ≡ kind_of old u
+  pub size : (u : ℕ) → u < inode_count old → size_of new u ≡ size_of old u
+  pub emptied : inumber_at new i s ≡ 0
+  pub entry : (u r f : ℕ) → IsReached old u → kind_of old u ≡ 2 → r < entry_count old u → f < 32 →
+      ((i ≡ u) → (32 * s + 0 ≡ 32 * r + f) → ⊥) → entry_word new u r f ≡ entry_word old u r f
+  pub bytes : (u o : ℕ) → IsReached old u → kind_of old u ≡ 1 → o < size_of old u →
+      byte new (root_of new u) o ≡ byte old (root_of old u) o
+
+-- ---- a name moved
+
+-- The source entry (i, s) names j. The target entry (k, r) is empty or names a file or an empty directory.
+pub record CanMoveEntry (old : Image) (i s k r j : ℕ) : Type 0 where
+  pub reached : IsReached old i
+  pub entry : EntryNames old i s j
+  pub target : IsReached old k
+  pub directory : kind_of old k ≡ 2
+  pub in_size : r < entry_count old k
+  pub apart : (i ≡ k) → (s ≡ r) → ⊥
+  pub alone : (x l : ℕ) → inumber_at old k r ≢ 0 → EntryNames old (inumber_at old k r) x l → ⊥
+  pub name : IsName (name_at old k r)
+  pub new_name : (x l : ℕ) → EntryNames old k x l → name_at old k x ≡ name_at old k r → x ≡ r
+
+-- the inumber in the target entry, none in the source entry, and all else as it was
+pub record MovesEntry (old new : Image) (i s k r j : ℕ) : Type 0 where
+  pub trees : KeepsTrees old new
+  pub kind : (u : ℕ) → u < inode_count old → kind_of new u ≡ kind_of old u
+  pub size : (u : ℕ) → u < inode_count old → size_of new u ≡ size_of old u
+  pub emptied : inumber_at new i s ≡ 0
+  pub entered : inumber_at new k r ≡ j
+  pub entry : (u x f : ℕ) → IsReached old u → kind_of old u ≡ 2 → x < entry_count old u → f < 32 →
+      ((i ≡ u) → (32 * s + 0 ≡ 32 * x + f) → ⊥) → ((k ≡ u) → (32 * r + 0 ≡ 32 * x + f) → ⊥) →
+      entry_word new u x f ≡ entry_word old u x f
+  pub bytes : (u o : ℕ) → IsReached old u → kind_of old u ≡ 1 → o < size_of old u →
+      byte new (root_of new u) o ≡ byte old (root_of old u) o
+
+-- another name in entry s of directory i, new to that directory, and all else as it was
+pub record RespellsEntry (old new : Image) (i s j : ℕ) : Type 0 where
+  pub reached : IsReached old i
+  pub names : EntryNames old i s j
+  pub trees : KeepsTrees old new
+  pub kind : (u : ℕ) → u < inode_count old → kind_of new u ≡ kind_of old u
+  pub size : (u : ℕ) → u < inode_count old → size_of new u ≡ size_of old u
+  pub inumber : (u x : ℕ) → IsReached old u → kind_of old u ≡ 2 → x < entry_count old u → inumber_at new u x ≡ inumber_at old u x
+  pub entry : (u x l f : ℕ) → IsReached old u → EntryNames old u x l → f < 32 → ((u ≡ i) → (x ≡ s) → ⊥) →
+      entry_word new u x f ≡ entry_word old u x f
+  pub name : IsName (name_at new i s)
+  pub changed : name_at old i s ≢ name_at new i s
+  pub new_name : (x l : ℕ) → EntryNames old i x l → x ≢ s → name_at old i x ≢ name_at new i s
+  pub bytes : (u o : ℕ) → IsReached old u → kind_of old u ≡ 1 → o < size_of old u →
+      byte new (root_of new u) o ≡ byte old (root_of old u) o

@@ -13,7 +13,7 @@ use Rattle.bp_layout.specs.declared.fields.Kind.TheVariants.{File, Dir}
 use Rattle.bp_changes.proofs.AddsNames.{linked_well_formed}
 use Rattle.bp_plain.specs.PlainTree.{FileTree}
 use Rattle.bp_plain.specs.Stands.{Stands}
-use Rattle.bp_changes.proofs.NameStands.{names_stand}
+use Rattle.bp_stands.proofs.NameStands.{names_stand}
 use Rattle.bp_calls.specs.Created.{empty_node}
 use Rattle.bp_calls.proofs.EnteredLaws.{Enters}
 use Rattle.bp_calls.proofs.AfterLaws.{IsPrepared, prepared_same, lookup_after}

@@ -14,6 +14,3 @@ pub mod MoveName
 pub mod Move
 pub mod Respell
 pub mod ReachedOn
-pub mod NameStands
-pub mod FileStands
-pub mod MoveStands

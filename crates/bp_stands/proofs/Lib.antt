@@ -1,0 +1,3 @@
+pub mod NameStands
+pub mod FileStands
+pub mod MoveStands

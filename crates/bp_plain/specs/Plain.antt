@@ -106,6 +106,24 @@ refusal tree (rename from to) = on_path from (λ p. on_path to (λ q. first (
 refusal tree (list text) = on_path text (λ p. first (walk tree p ∷ when (not (is_dir_at tree p)) not_dir ∷ []))
 refusal tree (stat text) = on_path text (λ p. walk tree p)
 
+-- ---- trees with one path more, one fewer, or other bytes
+
+-- this node stands at the path, whatever stood there
+abbrev pub with_node : FileTree → Path → Node → FileTree
+with_node tree path node = insert tree path node
+
+-- nothing stands at the path
+abbrev pub without : FileTree → Path → FileTree
+without tree path = remove tree path
+
+-- a file with these bytes stands at the path
+abbrev pub with_bytes : FileTree → Path → List ℕ → FileTree
+with_bytes tree path content = with_node tree path (file content)
+
+-- each path below the one moves below the other, whose own node is gone
+abbrev pub moved : Path → Path → FileTree → FileTree
+moved p q tree = from_entries (filter_map (λ entry. if same_path entry.0 q then None else Some (unwrap_or (option_map (λ rest. q ++ rest) (rest_below p entry.0)) entry.0, entry.1)) (entries tree))
+
 -- ---- what a call makes, where it is not refused
 
 abbrev pub written : List ℕ → ℕ → List ℕ → List ℕ
@@ -114,20 +132,16 @@ written old off new = take off (old ++ replicate (off - length old) 0) ++ new ++
 abbrev pub resized : List ℕ → ℕ → List ℕ
 resized old size = take size (old ++ replicate (size - length old) 0)
 
--- each path below the one moves below the other, whose own node is gone
-abbrev pub moved : Path → Path → FileTree → FileTree
-moved p q tree = from_entries (filter_map (λ entry. if same_path entry.0 q then None else Some (unwrap_or (option_map (λ rest. q ++ rest) (rest_below p entry.0)) entry.0, entry.1)) (entries tree))
-
 abbrev pub path_of : List ℕ → Path
 path_of text = unwrap_or (parse text) []
 
 abbrev pub tree_after : FileTree → Call → FileTree
-tree_after tree (create text) = insert tree (path_of text) (file [])
-tree_after tree (mkdir text) = insert tree (path_of text) dir
-tree_after tree (write text off new) = insert tree (path_of text) (file (written (bytes_at tree (path_of text)) off new))
-tree_after tree (truncate text size) = insert tree (path_of text) (file (resized (bytes_at tree (path_of text)) size))
-tree_after tree (unlink text) = remove tree (path_of text)
-tree_after tree (rmdir text) = remove tree (path_of text)
+tree_after tree (create text) = with_bytes tree (path_of text) []
+tree_after tree (mkdir text) = with_node tree (path_of text) dir
+tree_after tree (write text off new) = with_bytes tree (path_of text) (written (bytes_at tree (path_of text)) off new)
+tree_after tree (truncate text size) = with_bytes tree (path_of text) (resized (bytes_at tree (path_of text)) size)
+tree_after tree (unlink text) = without tree (path_of text)
+tree_after tree (rmdir text) = without tree (path_of text)
 tree_after tree (rename from to) = moved (path_of from) (path_of to) tree
 tree_after tree _ = tree
 

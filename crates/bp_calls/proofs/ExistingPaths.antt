@@ -1,5 +1,6 @@
 -- The path of a word exists as a whole where no null stands above the word and the trees on the way keep their heights.
-use Rattle.std.proofs.Common.{nat_le, ◌≡◌, ◌≢◌, ℕ, zero, suc, ◌+◌, ◌-◌, ◌*◌, ◌/◌, ◌%◌, ◌<◌, ◌≤◌, List, [], ◌∷◌, ◌++◌, length, true, false, refl, sym, ◌∙◌, ap, ap₂, subst, arith, append_assoc}
+use Rattle.std.proofs.Common.{nat_le, ◌||◌, ◌≡◌, ◌≢◌, ℕ, zero, suc, ◌+◌, ◌-◌, ◌*◌, ◌/◌, ◌%◌, ◌<◌, ◌≤◌, List, [], ◌∷◌, ◌++◌, length, Bool, true, false, refl, sym, ◌∙◌, ap, ap₂, subst, arith, append_assoc}
+use Rattle.std.specs.List.{list_any}
 use Rattle.std.proofs.lemmas.Bool.{le-leb, lt-leb, lt-ltb, ne_eqb, or_left}
 use Rattle.std.proofs.lemmas.List.{length-append, append-nil}
 use Rattle.std.proofs.lemmas.List.Sums.{fold-append}
@@ -12,7 +13,7 @@ use Rattle.bp_layout.specs.Reached.IsReached.{inode_file}
 use Rattle.bp_layout.specs.WellFormed.{IsWellFormed}
 use Rattle.bp_layout.specs.Nodes.{TreeNode, is_present}
 use Rattle.bp_layout.specs.WordPaths.{WordPath, digits, inode_path, tree_path}
-use Rattle.bp_layout.specs.Need.{Change, height_after, touched, number_of, pointed, is_there, existing_from, common_all, cover, prefixes_of, copied, content_path}
+use Rattle.bp_layout.specs.Need.{Change, height_after, touched, number_of, pointed, same_node, preparation, is_there, is_there_after, existing_from, common_all, cover_of, cover, prefixes_of, copies_of, copied, content_path}
 use Rattle.bp_layout.proofs.Addresses.{IsUnderNodes, present_above}
 use Rattle.bp_layout.proofs.Reached.{reached-in_file}
 use Rattle.bp_layout.proofs.TreeLaws.{first_index, live_above, live_pointer_word, live_content}
@@ -36,18 +37,32 @@ number-digits root size (suc d) k fits live =
 -- ---- a path each proper prefix of which points to a node that is there
 
 -- behind a part that exists
-abbrev pub AllThere : Image → Change → WordPath → WordPath → Type 0
-AllThere image change here [] = Unit {0}
-AllThere image change here (slot ∷ path) = (is_there image change (pointed (height_after image change) here) ≡ true) × AllThere image change (here ++ slot ∷ []) path
+abbrev pub AllThere : (WordPath → Bool) → WordPath → WordPath → Type 0
+AllThere there here [] = Unit {0}
+AllThere there here (slot ∷ path) = (there here ≡ true) × AllThere there (here ++ slot ∷ []) path
 
-pub existing-all : (image : Image) (change : Change) (here path : WordPath) → AllThere image change here path → existing_from image change here path ≡ here ++ path
-existing-all image change here [] all = sym (append-nil here)
-existing-all image change here (slot ∷ path) all = rw all.0 (existing-all image change (here ++ slot ∷ []) path all.1 ∙ append_assoc here (slot ∷ []) path)
+pub existing-all : (there : WordPath → Bool) (here path : WordPath) → AllThere there here path → existing_from there here path ≡ here ++ path
+existing-all there here [] all = sym (append-nil here)
+existing-all there here (slot ∷ path) all = rw all.0 (existing-all there (here ++ slot ∷ []) path all.1 ∙ append_assoc here (slot ∷ []) path)
 
-pub there-append : (image : Image) (change : Change) (here p q : WordPath) → AllThere image change here p → AllThere image change (here ++ p) q → AllThere image change here (p ++ q)
-there-append image change here [] q front rest = subst (λ x. AllThere image change x q) (append-nil here) rest
-there-append image change here (slot ∷ p) q front rest =
-    (front.0, there-append image change (here ++ slot ∷ []) p q front.1 (subst (λ x. AllThere image change x q) (sym (append_assoc here (slot ∷ []) p)) rest))
+pub there-append : (there : WordPath → Bool) (here p q : WordPath) → AllThere there here p → AllThere there (here ++ p) q → AllThere there here (p ++ q)
+there-append there here [] q front rest = subst (λ x. AllThere there x q) (append-nil here) rest
+there-append there here (slot ∷ p) q front rest =
+    (front.0, there-append there (here ++ slot ∷ []) p q front.1 (subst (λ x. AllThere there x q) (sym (append_assoc here (slot ∷ []) p)) rest))
+
+-- so the cover of one path is the path, and nothing is copied
+module _ (there : WordPath → Bool) (path : WordPath) (all : AllThere there [] path) where
+  pub cover_of-one : cover_of there (path ∷ []) ≡ path
+  cover_of-one = existing-all there [] path all
+
+  pub copies_of-one : copies_of there (path ∷ []) ≡ []
+  copies_of-one = ap (λ c. prefixes_of (length c) [] (path ∷ [])) cover_of-one ∙ none
+    where
+      nothing : length path - length path ≡ 0
+      nothing = omega arith
+
+      none : prefixes_of (length path) [] (path ∷ []) ≡ []
+      none = rw nothing refl
 
 -- ---- the nodes on the way to a word
 
@@ -57,7 +72,9 @@ node_under image t d k = (t, record { level = height_of (root_of image t) - d; i
 
 pub node-there : (image : Image) (change : Change) (t d k : ℕ) → IsLivePointer (root_of image t) (size_of image t) d k → node image (root_of image t) d k ≢ 0 →
     is_there image change (node_under image t d k) ≡ true
-node-there image change t d k live present = or_left (is_present image (root_of image t) (size_of image t) (record { level = height_of (root_of image t) - d; index = k })) _ is
+node-there image change t d k live present =
+    or_left (is_present image (root_of image t) (size_of image t) (record { level = height_of (root_of image t) - d; index = k }) || list_any (same_node (node_under image t d k)) (preparation image change)) _
+    (or_left (is_present image (root_of image t) (size_of image t) (record { level = height_of (root_of image t) - d; index = k })) _ is)
   where
     level : live.level ≡ height_of (root_of image t) - d
     level = omega (arith, live.height)
@@ -81,11 +98,11 @@ under image root (suc d) k present = present_above image root d k present
 -- the digits of a word, behind a path at which those of each pointer tell its node
 digits-there : (image : Image) (change : Change) (t : ℕ) (base : WordPath) →
     ((d k : ℕ) → IsLivePointer (root_of image t) (size_of image t) d k → pointed (height_after image change) (base ++ digits d k) ≡ node_under image t d k) →
-    (d k : ℕ) → IsLiveWord (root_of image t) (size_of image t) d k → IsUnderNodes image (root_of image t) d k → AllThere image change base (digits d k)
+    (d k : ℕ) → IsLiveWord (root_of image t) (size_of image t) d k → IsUnderNodes image (root_of image t) d k → AllThere (is_there_after image change) base (digits d k)
 digits-there image change t base reads zero k live above = tt
 digits-there image change t base reads (suc d) k live above =
     let up : IsLivePointer (root_of image t) (size_of image t) d (k / 512) = live_above (root_of image t) (size_of image t) d k live in
-    there-append image change base (digits d (k / 512)) (k % 512 ∷ [])
+    there-append (is_there_after image change) base (digits d (k / 512)) (k % 512 ∷ [])
     (digits-there image change t base reads d (k / 512) (live_pointer_word _ _ d (k / 512) up) (under image (root_of image t) d (k / 512) above))
     (ap (is_there image change) (reads d (k / 512) up) ∙ node-there image change t d (k / 512) up above, tt)
 
@@ -121,13 +138,13 @@ reads-tree heights image t base whole tree same fits d k live = rw (← whole, l
 
 module _ (image : Image) (change : Change) (wf : IsWellFormed image) (low_tree : height_after image change 0 ≡ height_of (root_of image 0)) where
   -- a word of the inode file, at any depth
-  pub inodes-there : (d k : ℕ) → IsLiveWord (root_of image 0) (size_of image 0) d k → IsUnderNodes image (root_of image 0) d k → AllThere image change [] (digits d k)
+  pub inodes-there : (d k : ℕ) → IsLiveWord (root_of image 0) (size_of image 0) d k → IsUnderNodes image (root_of image 0) d k → AllThere (is_there_after image change) [] (digits d k)
   inodes-there d k live above =
       let sound : IsSound image (root_of image 0) (size_of image 0) = wf.sound 0 inode_file in
       digits-there image change 0 [] (reads-inodes (height_after image change) image low_tree sound.fits) d k live above
 
   -- word f of an inode
-  pub inode_path-there : (i f : ℕ) → IsReached image i → f < 8 → AllThere image change [] (inode_path (height_after image change 0) i f)
+  pub inode_path-there : (i f : ℕ) → IsReached image i → f < 8 → AllThere (is_there_after image change) [] (inode_path (height_after image change 0) i f)
   inode_path-there i f reached low = rw low_tree (inodes-there (suc (height_of (root_of image 0))) (8 * i + f) live (wf.full_inode_file _ _ up))
     where
       inside : i < inode_count image
@@ -142,10 +159,10 @@ module _ (image : Image) (change : Change) (wf : IsWellFormed image) (low_tree :
   -- a word of a tree, at any depth, with no null above it
   pub word_path-there : (t d k : ℕ) → IsReached image t → height_after image change t ≡ height_of (root_of image t) →
       IsLiveWord (root_of image t) (size_of image t) d k → IsUnderNodes image (root_of image t) d k →
-      AllThere image change [] (tree_path (height_after image change 0) t d k)
+      AllThere (is_there_after image change) [] (tree_path (height_after image change 0) t d k)
   word_path-there zero d k reached same live above = inodes-there d k live above
   word_path-there (suc i) d k reached same live above =
-      there-append image change [] (inode_path (height_after image change 0) (suc i) 1) (digits d k) (inode_path-there (suc i) 1 reached (omega arith))
+      there-append (is_there_after image change) [] (inode_path (height_after image change 0) (suc i) 1) (digits d k) (inode_path-there (suc i) 1 reached (omega arith))
       (digits-there image change (suc i) (inode_path (height_after image change 0) (suc i) 1)
       (reads-tree (height_after image change) image (suc i) (inode_path (height_after image change 0) (suc i) 1) (length-digits (suc (height_after image change 0)) (8 * suc i + 1)) tree same sound.fits) d k live above)
     where
@@ -170,7 +187,7 @@ module _ (image : Image) (change : Change) (wf : IsWellFormed image) (low_tree :
   -- a content word of a tree without a null
   pub content_path-there : (t k : ℕ) → IsReached image t → height_after image change t ≡ height_of (root_of image t) →
       IsFull image (root_of image t) (size_of image t) → 8 * k < size_of image t →
-      AllThere image change [] (content_path image change t k)
+      AllThere (is_there_after image change) [] (content_path image change t k)
   content_path-there t k reached same full below =
       rw same (word_path-there t (suc (height_of (root_of image t))) k reached same live (full _ _ (live_above _ _ _ _ live)))
     where
@@ -180,21 +197,15 @@ module _ (image : Image) (change : Change) (wf : IsWellFormed image) (low_tree :
   -- so its path exists
   pub content_path-exists : (t k : ℕ) → IsReached image t → height_after image change t ≡ height_of (root_of image t) →
       IsFull image (root_of image t) (size_of image t) → 8 * k < size_of image t →
-      existing_from image change [] (content_path image change t k) ≡ content_path image change t k
+      existing_from (is_there_after image change) [] (content_path image change t k) ≡ content_path image change t k
   content_path-exists t k reached same full below =
-      existing-all image change [] (content_path image change t k) (content_path-there t k reached same full below)
+      existing-all (is_there_after image change) [] (content_path image change t k) (content_path-there t k reached same full below)
 
 -- ---- a change of one word whose path exists copies nothing
 
-module _ (image : Image) (change : Change) (path : WordPath) (one : touched image change ≡ path ∷ []) (all : AllThere image change [] path) where
+module _ (image : Image) (change : Change) (path : WordPath) (one : touched image change ≡ path ∷ []) (all : AllThere (is_there_after image change) [] path) where
   pub cover-one : cover image change ≡ path
-  cover-one = ap (λ paths. existing_from image change [] (common_all paths)) one ∙ existing-all image change [] path all
+  cover-one = ap (cover_of (is_there_after image change)) one ∙ cover_of-one (is_there_after image change) path all
 
   pub copied-one : copied image change ≡ []
-  copied-one = ap₂ (λ shortest paths. prefixes_of shortest [] paths) (ap length cover-one) one ∙ none
-    where
-      nothing : length path - length path ≡ 0
-      nothing = omega arith
-
-      none : prefixes_of (length path) [] (path ∷ []) ≡ []
-      none = rw nothing refl
+  copied-one = ap (copies_of (is_there_after image change)) one ∙ copies_of-one (is_there_after image change) path all

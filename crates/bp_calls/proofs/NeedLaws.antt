@@ -13,7 +13,7 @@ use Rattle.bp_layout.specs.Directory.{inumber_at, empty_slot}
 use Rattle.bp_layout.specs.Reached.{IsReached, IsFreeBlock}
 use Rattle.bp_layout.specs.Free.{HasFree}
 use Rattle.bp_layout.specs.WellFormed.{IsWellFormed}
-use Rattle.bp_layout.specs.Need.{Beyond, new_entry, prepared_for, prepared, height_after, inode_word_path, entry_path, entered, touched, copied, cover, need}
+use Rattle.bp_layout.specs.Need.{Beyond, new_entry, prepared_for, preparation, growth, height_after, inode_word_path, entry_path, entered, touched, is_there_after, copied, cover, need}
 use Rattle.bp_layout.specs.Need.Change.{enters}
 use Rattle.bp_layout.specs.WordPaths.{inode_path, tree_path}
 use Rattle.bp_layout.proofs.Finding.{find-passes}
@@ -151,7 +151,7 @@ module _ (image : Image) (i : ℕ) (wf : IsWellFormed image) (reached : IsReache
     one_slot : touched image (enters i true) ≡ entry_path image (enters i true) i s 0 ∷ []
     one_slot = ap (λ f. entered image (enters i true) i f ∷ []) found
 
-    all_slot : AllThere image (enters i true) [] (entry_path image (enters i true) i s 0)
+    all_slot : AllThere (is_there_after image (enters i true)) [] (entry_path image (enters i true) i s 0)
     all_slot = content_path-there image (enters i true) wf low_tree i (32 * s + 0) reached same_slot full_tree (omega (arith, low_slot))
 
     pub cover_in_slot : cover image (enters i true) ≡ tree_path (height_of (root_of image 0)) i (suc (height_of (root_of image i))) (32 * s + 0)
@@ -160,8 +160,8 @@ module _ (image : Image) (i : ℕ) (wf : IsWellFormed image) (reached : IsReache
   pub need_in_slot : (s : ℕ) → empty_slot image i ≡ Some s → need image (enters i true) ≡ 0
   need_in_slot s found = omega (arith, none, nothing)
     where
-      none : length (prepared image (enters i true)) ≡ 0
-      none = ap (λ f. length (flat_map (prepared_for image) (new_entry image i f ++ []))) found
+      none : length (preparation image (enters i true)) ≡ 0
+      none = ap (λ f. length (flat_map (prepared_for image) (new_entry image i f))) found
 
       nothing : length (copied image (enters i true)) ≡ 0
       nothing = ap length (copied-one image (enters i true) (entry_path image (enters i true) i s 0) (one_slot s found) (all_slot s found))
@@ -171,7 +171,7 @@ module _ (image : Image) (i : ℕ) (wf : IsWellFormed image) (reached : IsReache
     one_size : touched image (enters i true) ≡ inode_word_path image (enters i true) i 2 ∷ []
     one_size = ap (λ f. entered image (enters i true) i f ∷ []) none
 
-    all_size : AllThere image (enters i true) [] (inode_word_path image (enters i true) i 2)
+    all_size : AllThere (is_there_after image (enters i true)) [] (inode_word_path image (enters i true) i 2)
     all_size = inode_path-there image (enters i true) wf low_tree i 2 reached (omega arith)
 
     pub cover_behind : cover image (enters i true) ≡ inode_path (height_of (root_of image 0)) i 2
@@ -181,10 +181,10 @@ module _ (image : Image) (i : ℕ) (wf : IsWellFormed image) (reached : IsReache
     nothing_copied = ap length (copied-one image (enters i true) (inode_word_path image (enters i true) i 2) one_size all_size)
 
     -- the nodes of the next entry's bytes are made
-    made : length (prepared image (enters i true)) ≡ length (nodes_for image (root_of image i) (size_of image i) (size_of image i) (size_of image i + 256))
+    made : length (preparation image (enters i true)) ≡ length (nodes_for image (root_of image i) (size_of image i) (size_of image i) (size_of image i + 256))
     made =
         let next : Beyond = record { tree = i; from = size_of image i; to = size_of image i + 256 } in
-        ap (λ f. length (flat_map (prepared_for image) (new_entry image i f ++ []))) none
+        ap (λ f. length (flat_map (prepared_for image) (new_entry image i f))) none
         ∙ ap length (append-nil (prepared_for image next)) ∙ length-map (nodes_for image (root_of image i) (size_of image i) (size_of image i) (size_of image i + 256)) _
 
     -- the last leaf has room

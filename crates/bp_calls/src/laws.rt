@@ -6,7 +6,7 @@ ghost use Rattle.bp_free.specs.Set.{has, members};
 ghost use Rattle.bp_layout.specs.Directory.{empty_slot};
 ghost use Rattle.bp_layout.specs.Free.{AreFreeBlocks, HasFree};
 ghost use Rattle.bp_layout.specs.Inode.{kind_of, root_of, size_of};
-ghost use Rattle.bp_layout.specs.Need.{Change, content_path, existing_from, height_after, need};
+ghost use Rattle.bp_layout.specs.Need.{Change, content_path, existing_from, height_after, is_there_after, need};
 ghost use Rattle.bp_layout.specs.Need.Change.{enters};
 ghost use Rattle.bp_layout.specs.Reached.{IsFreeBlock, IsReached};
 ghost use Rattle.bp_layout.specs.Tree.{IsFull};
@@ -21,7 +21,7 @@ pub fn content_paths_exist(image: &[u64])
     requires { IsWellFormed image.now }
     ensures { (change : Change) (t k : ℕ) → IsReached image.now t → IsFull image.now (root_of image.now t) (size_of image.now t) → 8 * k < size_of image.now t
         → height_after image.now change 0 ≡ height_of (root_of image.now 0) → height_after image.now change t ≡ height_of (root_of image.now t)
-        → existing_from image.now change [] (content_path image.now change t k) ≡ content_path image.now change t k }
+        → existing_from (is_there_after image.now change) [] (content_path image.now change t k) ≡ content_path image.now change t k }
 {}
 
 /// Where an inode is free, a new name needs no block in an empty entry, none in the last leaf of its directory where that

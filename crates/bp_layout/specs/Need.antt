@@ -1,6 +1,7 @@
 -- What a change touches, and how many blocks it needs.
 use Rattle.std.specs.Prelude.{ℕ, suc, ◌+◌, ◌-◌, ◌*◌, ◌/◌, min, max, List, [], ◌∷◌, ◌++◌, length, take, drop, map, filter, flat_map, Bool, false, not, ◌&&◌, ◌||◌, ◌==◌, nat_lt, nat_le, bytes_eq, Option, None, Some, if◌then◌else◌, fold}
 use Rattle.std.specs.List.{range_with_len, list_any}
+use Rattle.bp_limits.specs.Limits.{block_size, entry_size}
 use Rattle.bp_layout.specs.Words.{Image, height_of}
 use Rattle.bp_layout.specs.Nodes.{TreeNode, is_present, height_with, nodes_for}
 use Rattle.bp_layout.specs.Inode.{root_of, size_of}
@@ -33,7 +34,7 @@ pub record Beyond : Type 0 where
   pub to : ℕ
 
 abbrev pub new_entry : Image → ℕ → Option ℕ → List Beyond
-new_entry image i None = record { tree = i; from = size_of image i; to = size_of image i + 256 } ∷ []
+new_entry image i None = record { tree = i; from = size_of image i; to = size_of image i + entry_size } ∷ []
 new_entry image i (Some slot) = []
 
 abbrev pub beyond : Image → Change → List Beyond
@@ -43,24 +44,29 @@ beyond image (enters i free) = new_entry image i (empty_slot image i)
 beyond image (moves i s j) = new_entry image j (empty_slot image j)
 beyond image _ = []
 
--- the inode file grows by a leaf
-abbrev pub growth : Image → Change → List Beyond
-growth image (enters i false) = record { tree = 0; from = size_of image 0; to = size_of image 0 + 4096 } ∷ []
-growth image _ = []
+-- the inode file grows by a leaf, where no inode is free
+abbrev pub new_inodes : Image → Change → List Beyond
+new_inodes image (enters i false) = record { tree = 0; from = size_of image 0; to = size_of image 0 + block_size } ∷ []
+new_inodes image _ = []
 
--- the nodes that are made, each with its tree
+-- the nodes that are made for some bytes, each with its tree
 abbrev pub prepared_for : Image → Beyond → List (ℕ × TreeNode)
 prepared_for image b = map (λ n. (b.tree, n)) (nodes_for image (root_of image b.tree) (size_of image b.tree) b.from b.to)
 
-abbrev pub prepared : Image → Change → List (ℕ × TreeNode)
-prepared image change = flat_map (prepared_for image) (beyond image change ++ growth image change)
+-- those of the tree that the change is of
+abbrev pub preparation : Image → Change → List (ℕ × TreeNode)
+preparation image change = flat_map (prepared_for image) (beyond image change)
+
+-- those of the inode file
+abbrev pub growth : Image → Change → List (ℕ × TreeNode)
+growth image change = flat_map (prepared_for image) (new_inodes image change)
 
 -- ---- touched words
 
 -- the height of a tree after the preparation
 abbrev pub height_after : Image → Change → ℕ → ℕ
 height_after image change t =
-    fold (λ h b. if b.tree == t then height_with (root_of image t) (size_of image t) b.to else h) (height_of (root_of image t)) (beyond image change ++ growth image change)
+    fold (λ h b. if b.tree == t then height_with (root_of image t) (size_of image t) b.to else h) (height_of (root_of image t)) (beyond image change ++ new_inodes image change)
 
 abbrev pub inode_word_path : Image → Change → ℕ → ℕ → WordPath
 inode_word_path image change i f = inode_path (height_after image change 0) i f
@@ -111,15 +117,20 @@ pointed heights path =
 abbrev pub same_node : ℕ × TreeNode → ℕ × TreeNode → Bool
 same_node n m = (n.0 == m.0) && (n.1.level == m.1.level) && (n.1.index == m.1.index)
 
--- the node is there once the preparation is done
+-- The node is there once all is prepared: it was, or it is made.
 abbrev pub is_there : Image → Change → ℕ × TreeNode → Bool
-is_there image change n = is_present image (root_of image n.0) (size_of image n.0) n.1 || list_any (same_node n) (prepared image change)
+is_there image change n =
+    is_present image (root_of image n.0) (size_of image n.0) n.1 || list_any (same_node n) (preparation image change) || list_any (same_node n) (growth image change)
 
--- the longest prefix of a path, behind a part that exists, no proper prefix of which points to a null
-abbrev pub existing_from : Image → Change → WordPath → WordPath → WordPath
-existing_from image change here [] = here
-existing_from image change here (slot ∷ path) =
-    if is_there image change (pointed (height_after image change) here) then existing_from image change (here ++ slot ∷ []) path else here
+-- so is the node to which the pointer at a path points
+abbrev pub is_there_after : Image → Change → WordPath → Bool
+is_there_after image change path = is_there image change (pointed (height_after image change) path)
+
+-- Here `there` tells of a path whether the node to which the pointer at it points is there: the longest prefix of a path, behind a part that exists, no proper prefix
+-- of which points to a null.
+abbrev pub existing_from : (WordPath → Bool) → WordPath → WordPath → WordPath
+existing_from there here [] = here
+existing_from there here (slot ∷ path) = if there here then existing_from there (here ++ slot ∷ []) path else here
 
 abbrev pub common : WordPath → WordPath → WordPath
 common [] other = []
@@ -130,11 +141,14 @@ abbrev pub common_all : List WordPath → WordPath
 common_all [] = []
 common_all (path ∷ paths) = fold common path paths
 
--- the longest path that exists and begins each touched path
-abbrev pub cover : Image → Change → WordPath
-cover image change = existing_from image change [] (common_all (touched image change))
+-- the longest path that exists and begins each of the paths
+abbrev pub cover_of : (WordPath → Bool) → List WordPath → WordPath
+cover_of there paths = existing_from there [] (common_all paths)
 
--- ---- need
+abbrev pub cover : Image → Change → WordPath
+cover image change = cover_of (is_there_after image change) (touched image change)
+
+-- ---- copies
 
 -- the proper prefixes of a path, from one of a length on
 abbrev pub prefixes_from : ℕ → WordPath → List WordPath
@@ -146,9 +160,26 @@ prefixes_of shortest earlier [] = []
 prefixes_of shortest earlier (path ∷ paths) =
     filter (λ prefix. not (list_any (is_prefix prefix) earlier)) (prefixes_from shortest path) ++ prefixes_of shortest (path ∷ earlier) paths
 
--- the pointers whose blocks are made anew: what lies between the cover and the touched words
+-- the pointers whose blocks are made anew: what lies between the cover and the words of the paths
+abbrev pub copies_of : (WordPath → Bool) → List WordPath → List WordPath
+copies_of there paths = prefixes_of (length (cover_of there paths)) [] paths
+
 abbrev pub copied : Image → Change → List WordPath
-copied image change = prefixes_of (length (cover image change)) [] (touched image change)
+copied image change = copies_of (is_there_after image change) (touched image change)
+
+-- ---- need: how many blocks are taken
+
+-- for bytes at or past a size
+abbrev pub prep_count : Image → Change → ℕ
+prep_count image change = length (preparation image change)
+
+-- for the leaf by which the inode file grows
+abbrev pub growth_count : Image → Change → ℕ
+growth_count image change = length (growth image change)
+
+-- for the copies
+abbrev pub copy_count : Image → Change → ℕ
+copy_count image change = length (copied image change)
 
 abbrev pub need : Image → Change → ℕ
-need image change = length (prepared image change) + length (copied image change)
+need image change = prep_count image change + growth_count image change + copy_count image change

@@ -1,5 +1,5 @@
 -- A word path names a word from the top: the slots through which one goes to it. The empty path is the root word of the inode file.
-use Rattle.std.specs.Prelude.{◌≢◌, ℕ, zero, suc, ◌+◌, ◌*◌, ◌/◌, ◌%◌, List, [], ◌∷◌, ◌++◌}
+use Rattle.std.specs.Prelude.{◌≢◌, ℕ, zero, suc, ◌+◌, ◌*◌, ◌/◌, ◌%◌, List, [], ◌∷◌, ◌++◌, Bool, not, ◌==◌}
 use Rattle.bp_layout.specs.Words.{Image, word, block_of}
 
 abbrev pub WordPath : Type 0
@@ -26,6 +26,10 @@ address_from image place (slot ∷ path) = address_from image (512 * block_of (w
 
 abbrev pub address : Image → WordPath → ℕ
 address image path = address_from image 2 path
+
+-- the word that a path names has a block
+abbrev pub is_pointed : Image → WordPath → Bool
+is_pointed image path = not (block_of (word image (address image path)) == 0)
 
 -- no word that a proper prefix names is null
 abbrev pub ExistsFrom : Image → ℕ → WordPath → Type 0

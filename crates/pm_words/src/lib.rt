@@ -2,12 +2,18 @@
 #![tactic(auto)]
 
 ghost use Rattle.pm_words.specs.Bytes.{word_bytes, word_of};
-ghost use Rattle.pm_words.specs.Digits.{digit};
+ghost use Rattle.bp_limits.specs.Limits.{block_size, block_words};
+ghost use Rattle.pm_words.specs.Digits.{digit, max_level};
 ghost use Rattle.std.specs.Prelude.{◌*◌, ◌/◌, ◌^◌, ◌≡◌, ◌≤◌};
+
+use bp_limits::{BLOCK_SIZE, BLOCK_WORDS};
 
 pub mod laws;
 #[cfg(test)]
 mod tests;
+
+/// The greatest level whose span fits into a word: 2^57 bytes.
+pub const MAX_LEVEL: u32 = 5;
 
 /// The word whose bytes these are, the lowest first.
 #[tactic(auto, using(crate::proofs::Bytes::eight_of))]
@@ -26,25 +32,26 @@ pub fn write_word(word: u64) -> [u8; 8]
 
 /// The number of the block to which a pointer points, 0 where it is null: its bits 12 to 63.
 pub fn block_of(pointer: u64) -> u64
-    ensures { result ≡ pointer / 4096 }
+    ensures { result ≡ pointer / block_size }
 {
-    pointer >> 12
+    pointer / BLOCK_SIZE
 }
 
-/// How many bytes a node of a tree covers that stands `level` above the leaves.
+/// How many bytes a node of a tree covers that stands `level` above the leaves. `level` is at most `MAX_LEVEL`.
 #[tactic(auto, using(crate::proofs::Digits::shifted_span))]
 pub fn span(level: u32) -> u64
-    requires { level ≤ 3 }
-    ensures { result ≡ 4096 * 512 ^ level }
+    requires { level ≤ max_level }
+    ensures { result ≡ block_size * block_words ^ level }
 {
-    4096 << (9 * level)
+    BLOCK_SIZE << (9 * level)
 }
 
-/// The slot through which the way to leaf `leaf` goes, in the block of the node that stands `level + 1` above the leaves: a digit of `leaf` in base 512.
+/// The slot through which the way to leaf `leaf` goes, in the block of the node that stands `level + 1` above the leaves:
+/// a digit of `leaf` in base 512.
 #[tactic(auto, using(crate::proofs::Digits::shifted_digit))]
 pub fn digit(leaf: u64, level: u32) -> u16
-    requires { level ≤ 2 }
+    requires { level ≤ max_level }
     ensures { result ≡ digit leaf level }
 {
-    ((leaf >> (9 * level)) % 512) as u16
+    ((leaf >> (9 * level)) % BLOCK_WORDS as u64) as u16
 }

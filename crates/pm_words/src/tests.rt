@@ -15,6 +15,7 @@ fn blocks_and_digits(rt: HostRuntime) {
         (1, 2_097_152),
         (2, 1_073_741_824),
         (3, 549_755_813_888),
+        (MAX_LEVEL, 1 << 57),
     ] {
         assert_eq!(rt; span(level), want, "at {level}");
     }

@@ -1,4 +1,5 @@
 pub mod MemoryLaws
 pub mod SafeLaws
 pub mod MayLaws
-mod PutBack
+pub mod PutBack
+pub mod RunLaws

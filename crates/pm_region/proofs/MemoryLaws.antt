@@ -1,13 +1,14 @@
 -- Memories to whose logs events are added, and memories that are drained.
-use Rattle.std.proofs.Common.{◌≡◌, ℕ, ◌+◌, ◌-◌, ◌≤◌, true, false, Bool, List, [], ◌∷◌, ◌++◌, length, drop, refl, sym, ◌∙◌, ap, arith}
+use Rattle.std.proofs.Common.{◌≡◌, ℕ, zero, suc, ◌+◌, ◌-◌, ◌<◌, ◌≤◌, true, false, Bool, List, [], ◌∷◌, ◌++◌, length, take, drop, get_or, refl, sym, ◌∙◌, ap, arith, add-one}
 use Rattle.std.specs.Prelude.{nat_lt, if◌then◌else◌}
 use Rattle.std.proofs.lemmas.Bool.{ltb-false}
 use Rattle.std.proofs.lemmas.List.{append_assoc, append-nil, length-append}
 use Rattle.pm_epochs.specs.declared.event.Event.{Event}
+use Rattle.pm_epochs.specs.declared.event.Event.TheVariants.{Store}
 use Rattle.pm_epochs.specs.Log.{words_after, IsPiece}
 use Rattle.pm_epochs.proofs.CrashLaws.{words_after-append, length-words_after}
 use Rattle.pm_epochs.proofs.PieceLaws.{length-piece}
-use Rattle.pm_region.specs.Memory.{Memory, current_words, room_in, Adds, events_between, drained, with_room}
+use Rattle.pm_region.specs.Memory.{Memory, current_words, room_in, Adds, events_between, drained, with_room, stores_from}
 
 pub adds_none : (memory : Memory) → Adds memory memory []
 adds_none memory = ap (λ es. record memory { events = es }) (sym (append-nil memory.events))
@@ -61,3 +62,22 @@ room_in-with_room wanted memory fits = go (nat_lt (room_in memory) wanted) refl
     go : (full : Bool) → nat_lt (room_in memory) wanted ≡ full → wanted ≤ room_in (if full then drained memory else memory)
     go true e = omega arith
     go false e = omega (arith, ltb-false _ _ e)
+
+-- ## Stores in a row
+
+pub length-stores_from : (word : ℕ) (values : List ℕ) → length (stores_from word values) ≡ length values
+length-stores_from word [] = refl
+length-stores_from word (value ∷ values) = ap suc (length-stores_from (word + 1) values)
+
+-- one more store
+pub stores_from-more : (word : ℕ) (values : List ℕ) (i : ℕ) → i < length values → stores_from word (take (i + 1) values) ≡ stores_from word (take i values) ++ Store (word + i) (get_or values i 0) ∷ []
+stores_from-more word values i low = rw add-one (more word values i low)
+  where
+    more : (word : ℕ) (values : List ℕ) (i : ℕ) → i < length values → stores_from word (take (suc i) values) ≡ stores_from word (take i values) ++ Store (word + i) (get_or values i 0) ∷ []
+    more word [] i low = absurd (omega arith)
+    more word (value ∷ values) zero low =
+        let here : word ≡ word + 0 = omega arith in
+        ap (λ w. Store w value ∷ []) here
+    more word (value ∷ values) (suc i) low =
+        let there : (word + 1) + i ≡ word + suc i = omega arith in
+        ap (λ es. Store word value ∷ es) (more (word + 1) values i (omega arith) ∙ ap (λ w. stores_from (word + 1) (take i values) ++ Store w (get_or values i 0) ∷ []) there)

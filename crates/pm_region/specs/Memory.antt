@@ -1,6 +1,7 @@
 -- What a region of persistent memory is: the words at the last drain, and what was done since.
-use Rattle.std.specs.Prelude.{◌≡◌, ℕ, ◌+◌, ◌-◌, ◌^◌, min, nat_lt, if◌then◌else◌, List, [], ◌++◌, length, drop}
+use Rattle.std.specs.Prelude.{◌≡◌, ℕ, ◌+◌, ◌-◌, ◌^◌, min, nat_lt, if◌then◌else◌, List, [], ◌∷◌, ◌++◌, length, drop}
 use Rattle.pm_epochs.specs.declared.event.Event.{Event}
+use Rattle.pm_epochs.specs.declared.event.Event.TheVariants.{Store}
 use Rattle.pm_epochs.specs.Log.{words_after}
 
 -- The words at the last drain, the events since, how many events the log can hold, and how often it was drained.
@@ -33,3 +34,8 @@ drained memory = record memory { base = current_words memory; events = []; drain
 -- drained where so many events might not fit
 abbrev pub with_room : ℕ → Memory → Memory
 with_room wanted memory = if nat_lt (room_in memory) wanted then drained memory else memory
+
+-- the stores of these values at the words from this one on, in order
+abbrev pub stores_from : ℕ → List ℕ → List Event
+stores_from word [] = []
+stores_from word (value ∷ values) = Store word value ∷ stores_from (word + 1) values

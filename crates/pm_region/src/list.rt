@@ -1,10 +1,8 @@
-ghost use Rattle.std.specs.Prelude.{◌≡◌, ℕ, ◌^◌, ◌<◌, [], ◌∷◌, ◌++◌, IfOk, length, slice_index, slice_set, vec_len};
-ghost use Rattle.pm_epochs.specs.Log.{words_after, IsStoredIn};
-ghost use Rattle.pm_epochs.specs.May.{AnyAt, EachMay};
-ghost use Rattle.pm_epochs.specs.Replay.{stores_of};
+ghost use Rattle.std.specs.Prelude.{◌≡◌, ℕ, ◌^◌, ◌<◌, [], ◌∷◌, ◌++◌, IfOk, length, vec_len};
 
 use super::region::Region;
-use pm_epochs::{BadChoice, Choice, Event, Keeper, Kept, kept_calls};
+use super::words::{apply, apply_event, apply_kept, put_back};
+use pm_epochs::{BadChoice, Choice, Event, Kept, kept_calls};
 use std::alloc::{AllocError, Global};
 use std::marker::Model;
 
@@ -29,71 +27,6 @@ impl Model for ListRegion {
     ghost view = { memory_of };
 
     ghost invariant = { IsInStep };
-}
-
-fn set_word(words: &mut [u64], word: u32, value: u64)
-    ensures { words.new ≡ slice_set words.old word value }
-{
-    if (word as usize) < words.len() {
-        words[word as usize] = value;
-    }
-}
-
-/// Does what one event does.
-fn apply_event(words: &mut [u64], event: Event)
-    ensures { words.new ≡ words_after words.old (event ∷ []) }
-{
-    match event {
-        Event::Store { word, value } => set_word(words, word, value),
-        Event::Barrier => {}
-        Event::Mark => {}
-    }
-}
-
-/// Does the stores of a log.
-fn apply(words: &mut [u64], events: &[Event])
-    ensures { words.new ≡ words_after words.old events.now }
-{
-    for event in events {
-        apply_event(words, *event);
-    }
-}
-
-/// Does the stores of a log that are kept.
-fn apply_kept(words: &mut [u64], events: &[Event], epoch: usize, mask: &[bool])
-    ensures { words.new ≡ words_after words.old (stores_of epoch mask.now events.now) }
-{
-    let mut keeper = Keeper { epoch, mask };
-    for event in events {
-        let kept = keeper.keeps(*event);
-        if kept {
-            apply_event(words, *event);
-        }
-    }
-}
-
-/// Makes the words those of `from`, from which they differ at most where the log has a store.
-fn put_back(words: &mut [u64], from: &[u64], events: &[Event])
-    requires { EachMay (AnyAt (IsStoredIn events.now)) from.now words.old }
-    ensures { words.new ≡ from.now }
-{
-    for event in events {
-        match event {
-            Event::Store { word, .. } => put_back_word(words, from, *word),
-            Event::Barrier => {}
-            Event::Mark => {}
-        }
-    }
-}
-
-/// Puts one word back. A place behind the end is left out.
-fn put_back_word(words: &mut [u64], from: &[u64], word: u32)
-    requires { length words.old ≡ length from.now }
-    ensures { words.new ≡ slice_set words.old word (slice_index from.now word) }
-{
-    if let Some(value) = from.get(word as usize) {
-        set_word(words, word, *value);
-    }
 }
 
 impl ListRegion {

@@ -1,8 +1,8 @@
-ghost use Rattle.std.specs.Prelude.{◌≡◌, ℕ, ◌<◌, ◌↔◌, [], ◌∷◌, ◌++◌, length, slice_get, slice_index, slice_index_or, slice_set, Some, IsOk, IfOk, OnOk, OnErr};
+ghost use Rattle.std.specs.Prelude.{◌≡◌, ℕ, ◌+◌, ◌<◌, ◌≤◌, ◌↔◌, [], ◌∷◌, ◌++◌, length, slice_get, slice_index, slice_index_or, slice_set, Some, IsOk, IfOk, OnOk, OnErr};
 ghost use Rattle.pm_epochs.specs.declared.event.Event.TheVariants.{Store, Barrier, Mark};
 ghost use Rattle.pm_epochs.specs.Log.{marks};
 ghost use Rattle.pm_epochs.specs.Replay.{IsRight, replay, kept_calls};
-ghost use Rattle.pm_region.specs.Memory.{Memory, current_words, room_in, drained, Adds};
+ghost use Rattle.pm_region.specs.Memory.{Memory, current_words, room_in, drained, stores_from, Adds};
 
 use pm_epochs::{BadChoice, Choice, Event, Kept};
 
@@ -26,6 +26,18 @@ pub trait Region {
         requires room { 0 < room_in (memory self.old) }
         ensures { Adds (memory self.old) (memory self.new) (Store word value ∷ []) };
 
+    /// Sets the words from `first` on to these values, one after the other, and writes that to the log.
+    fn store_words(&mut self, first: u32, values: &[u64])
+        requires in_range { first + length values.now ≤ length (memory self.old).base }
+        requires room { length values.now ≤ room_in (memory self.old) }
+        ensures { Adds (memory self.old) (memory self.new) (stores_from first values.now) }
+    {
+        let _words = self.words();
+        for i in 0..values.len() {
+            self.store(first + i as u32, values[i]);
+        }
+    }
+
     /// The stores before it are written back before those after it. It takes one place of the log.
     fn barrier(&mut self)
         requires { 0 < room_in (memory self.old) }
@@ -46,7 +58,8 @@ pub trait Region {
 
     /// How many events the log has.
     fn event_count(&self) -> usize
-        ensures { result ≡ length (memory self.now).events };
+        ensures count { result ≡ length (memory self.now).events }
+        ensures few { result ≤ (memory self.now).capacity };
 
     /// An event of the log, by its number from 0.
     fn event(&self, i: usize) -> Event

@@ -73,23 +73,6 @@ looser start taken place most all old new few done = record {
   fewer = done.fewer;
 }
 
--- the cover is the longest
-pub cover_once : (image : Image) (touched : Touched) (n m : ℕ) → CoverHas image touched n → CoverHas image touched m → n ≡ m
-cover_once image touched n m one two = go (cases_eq n m) (cases_lt n m)
-  where
-    less : (a b : ℕ) → a < b → CoverHas image touched a → CoverHas image touched b → ⊥
-    less a b low first second =
-        second.exists a low
-        (first.longest (record {
-          long = λ i here. omega (arith, low, second.alike.long i here);
-          same = λ i here. front-trail_of (end_path touched i) (end_path touched 0) b (a + 1) (second.alike.same i here) (omega (arith, low));
-        }))
-
-    go : (n ≡ m) ⊎ (n ≡ m → ⊥) → (n < m) ⊎ (m ≤ n) → n ≡ m
-    go (inl e) any = e
-    go (inr other) (inl low) = absurd (less n m low one two)
-    go (inr other) (inr high) = absurd (less m n (omega (arith, other, high)) two one)
-
 -- ---- the cover is the only touched word
 
 module _ (bound : ℕ → ℕ) (touched : Touched) (first last : Memory) (blocks : Set) (wf : IsWellFormed (current_words first)) (can : CanCommit (current_words first) bound touched (has blocks))

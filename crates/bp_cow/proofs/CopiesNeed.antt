@@ -13,16 +13,16 @@ use Rattle.bp_layout.specs.WellFormed.{IsWellFormed}
 use Rattle.bp_cow.specs.declared.touched.Run.{Run}
 use Rattle.bp_cow.specs.declared.touched.Touched.{Touched}
 use Rattle.bp_cow.specs.Job.{Job, ways, copied}
-use Rattle.bp_cow.specs.Touched.{run_path, run_way, run_end, run_leaves, run_paths, leaves_of, above, path_of, word_paths, all_paths, job_of, IsRun, HasRun, IsTouched}
+use Rattle.bp_cow.specs.Touched.{run_path, run_way, run_end, run_leaves, run_paths, leaves_of, above, path_of, word_paths, all_paths, job_of, NoneBegins, IsRun, HasRun, IsTouched}
 use Rattle.bp_cow.specs.Cover.{BeginAlike, end_path, end_path_of, ends, ends_of}
 use Rattle.bp_cow.specs.CanCommit.{CanCommit}
 use Rattle.bp_cow.proofs.RunLaws.{length-run_path, length-run_way}
 use Rattle.bp_cow.proofs.RunFronts.{trail_of-take, between-run}
-use Rattle.bp_cow.proofs.JobLaws.{is-run, run-in, leaf-way, word-way, length-above, ways-fronts, begin-way, first-front, first-length, one-word, one-of-run, leaf-plain}
-use Rattle.bp_cow.proofs.CoverLaws.{some-ends}
+use Rattle.bp_cow.proofs.JobLaws.{run-in, leaf-way, word-way, length-above, ways-fronts, leaf-plain}
+use Rattle.bp_cow.proofs.CommonPaths.{begins-self}
 use Rattle.bp_cow.proofs.Values.{run-trail}
 use Rattle.bp_cow.proofs.CommitEnd.{copied-some, copied-none}
-use Rattle.bp_cow.proofs.Distinct.{AreDistinct, NoneBegins, has-front, has-behind, has-either, length-within, same-take, fronts_sound, fronts_distinct, fronts_complete}
+use Rattle.bp_cow.proofs.Distinct.{AreDistinct, has-front, has-behind, has-either, length-within, same-take, fronts_sound, fronts_distinct, fronts_complete}
 use Rattle.bp_cow.proofs.JobFronts.{fronts_upto, length-upto, upto-sound, upto-complete, distinct-upto}
 
 take-front : (p q : List ℕ) → take (length p) (p ++ q) ≡ p
@@ -61,212 +61,6 @@ run-whole run k j leaf =
     ap (take (length (run_way run j))) (ap (λ n. run.root.items ++ (digits run.height n ++ k % 512 ∷ [])) leaf ∙ sym (append_assoc run.root.items (digits run.height (run.off / 4096 + j)) (k % 512 ∷ [])))
     ∙ take-front (run_way run j) (k % 512 ∷ [])
 
-module _ (old : Image) (bound : ℕ → ℕ) (touched : Touched) (free : ℕ → Bool) (wf : IsWellFormed old) (can : CanCommit old bound touched free) where
-  abbrev job : Job
-  job = job_of touched
-
-  -- a touched path and the way to its word
-  record IsWayOf (i : ℕ) (path : List ℕ) : Type 0 where
-    pub here : i < ways job
-    pub long : length path ≡ length (job.way i) + 1
-    pub same : take (length (job.way i)) path ≡ job.way i
-
-  words-count : length (word_paths touched) ≡ length touched.words.items
-  words-count = length-map touched.words.items (λ word. word.0.items)
-
-  word-is : (i : ℕ) → i < length touched.words.items → IsWayOf (job.leaves + i) (path_of (word_paths touched) i)
-  word-is i here =
-      let path = path_of (word_paths touched) i in
-      let way : job.way (job.leaves + i) ≡ above path = word-way old bound touched free wf can i in
-      let some : 1 ≤ length path = can.shape.words i here in
-      let size : length (above path) ≡ length path - 1 = length-above path in
-      record {
-        here = omega (arith, here);
-        long = omega (arith, some, size) ∙ ap (λ (p : List ℕ). length p + 1) (sym way);
-        same = ap (λ (p : List ℕ). take (length p) path) way ∙ ap (λ d. take d path) size ∙ sym way;
-      }
-
-  leaf-is : (run : Run) (e : touched.run ≡ Some run) (k : ℕ) → run.off / 8 ≤ k → k ≤ (run_end run - 1) / 8 → IsWayOf (k / 512 - run.off / 4096) (run_path run k)
-  leaf-is run e k low high =
-      let j : ℕ = k / 512 - run.off / 4096 in
-      let few : j < run_leaves run = omega (arith, low, high) in
-      let way : job.way j ≡ run_way run j = leaf-way old bound touched free wf can run e j few in
-      let leaf : j < job.leaves = subst (λ r. j < leaves_of r) (sym e) few in
-      record {
-        here = omega (arith, leaf);
-        long = omega (arith, length-run_path run k, length-run_way run j) ∙ ap (λ (p : List ℕ). length p + 1) (sym way);
-        same = ap (λ (p : List ℕ). take (length p) (run_path run k)) way ∙ run-whole run k j (omega (arith, low)) ∙ sym way;
-      }
-
-  -- by cases: a word of the run, or another word
-  paths-by : (P : List ℕ → Type 0) → ((run : Run) (k : ℕ) → touched.run ≡ Some run → run.off / 8 ≤ k → k ≤ (run_end run - 1) / 8 → P (run_path run k)) →
-      ((i : ℕ) → i < length touched.words.items → P (path_of (word_paths touched) i)) → (path : List ℕ) → Has (all_paths touched) path → P path
-  paths-by P of_run of_word path has = go (has-either (run_paths touched.run) (word_paths touched) path has)
-    where
-      in_run : (run : Option Run) → touched.run ≡ run → Has (run_paths run) path → P path
-      in_run None e none = absurd none
-      in_run (Some run) e one =
-          let at = run-number run (run.off / 8) (suc ((run_end run - 1) / 8 - run.off / 8)) path one in
-          let some : 0 < length run.bytes.now = (is-run old bound touched free wf can run e).some in
-          subst P (sym at.3) (of_run run at.0 e at.1 (omega (arith, at.1, at.2, some)))
-
-      go : Has (run_paths touched.run) path ⊎ Has (word_paths touched) path → P path
-      go (inl one) = in_run touched.run refl one
-      go (inr two) = let at = index-of (word_paths touched) path two in subst P at.2 (of_word at.0 (omega (arith, at.1, words-count)))
-
-  has-word : (i : ℕ) → i < length touched.words.items → Has (all_paths touched) (path_of (word_paths touched) i)
-  has-word i here = has-behind (run_paths touched.run) (word_paths touched) _ (has-index (word_paths touched) i (omega (arith, here, words-count)))
-
-  has-of-run : (run : Run) (k : ℕ) → touched.run ≡ Some run → run.off / 8 ≤ k → k ≤ (run_end run - 1) / 8 → Has (all_paths touched) (run_path run k)
-  has-of-run run k e low high =
-      has-front (run_paths touched.run) (word_paths touched) (run_path run k)
-      (subst (λ r. Has (run_paths r) (run_path run k)) (sym e) (has-run run (run.off / 8) (suc ((run_end run - 1) / 8 - run.off / 8)) k low (omega (arith, low, high))))
-
-  record HasWay (path : List ℕ) : Type 0 where
-    pub which : ℕ
-    pub is : IsWayOf which path
-
-  way-of : (path : List ℕ) → Has (all_paths touched) path → HasWay path
-  way-of = paths-by HasWay (λ run k e low high. record { which = k / 512 - run.off / 4096; is = leaf-is run e k low high }) (λ i here. record { which = job.leaves + i; is = word-is i here })
-
-  -- each way is that to a touched word
-  record HasPath (i : ℕ) : Type 0 where
-    pub path : List ℕ
-    pub has : Has (all_paths touched) path
-    pub is : IsWayOf i path
-
-  path-of : (i : ℕ) → i < ways job → HasPath i
-  path-of i here = go (cases_lt i job.leaves)
-    where
-      leaf : (run : Option Run) → touched.run ≡ run → i < job.leaves → HasPath i
-      leaf None e low = let none : i < leaves_of None = subst (λ r. i < leaves_of r) e low in absurd (omega (arith, none))
-      leaf (Some run) e low =
-          let few : i < run_leaves run = subst (λ r. i < leaves_of r) e low in
-          let some : 0 < length run.bytes.now = (is-run old bound touched free wf can run e).some in
-          let k : ℕ = max (run.off / 8) (512 * (run.off / 4096 + i)) in
-          let first : run.off / 8 ≤ k = omega arith in
-          let last : k ≤ (run_end run - 1) / 8 = omega (arith, few, some) in
-          let number : k / 512 - run.off / 4096 ≡ i = omega arith in
-          record { path = run_path run k; has = has-of-run run k e first last; is = subst (λ n. IsWayOf n (run_path run k)) number (leaf-is run e k first last) }
-
-      go : (i < job.leaves) ⊎ (job.leaves ≤ i) → HasPath i
-      go (inl low) = leaf touched.run refl low
-      go (inr past) =
-          let few : i - job.leaves < length touched.words.items = omega (arith, here, past) in
-          let back : job.leaves + (i - job.leaves) ≡ i = omega (arith, past) in
-          record { path = path_of (word_paths touched) (i - job.leaves); has = has-word (i - job.leaves) few; is = subst (λ n. IsWayOf n (path_of (word_paths touched) (i - job.leaves))) back (word-is (i - job.leaves) few) }
-
-  -- ---- no touched path is a proper front of another
-
-  front-pointer : (other : List ℕ) → Has (all_paths touched) other → (m : ℕ) → m < length other → IsTreePointer old bound (trail_of other m)
-  front-pointer other has m low =
-      let way = way-of other has in
-      let short : m ≤ length (job.way way.which) = omega (arith, low, way.is.long) in
-      subst (IsTreePointer old bound)
-      (ap (λ p. trail_of p m) (sym way.is.same) ∙ trail_of-take other (length (job.way way.which)) m short)
-      (ways-fronts old bound touched free wf can way.which way.is.here m short)
-
-  no-pointer : (path : List ℕ) → Has (all_paths touched) path → IsTreePointer old bound (trail_of path (length path)) → ⊥
-  no-pointer = paths-by (λ path. IsTreePointer old bound (trail_of path (length path)) → ⊥)
-      (λ run k e low high one. leaf-plain old bound can.forest run (is-run old bound touched free wf can run e) (run-in old bound touched free wf can run e) (k / 512 - run.off / 4096) (k % 512) (omega (arith, low, high))
-      (subst (IsTreePointer old bound) (run-trail run k low) one))
-      (λ i here one. can.contents i here one)
-
-  none-begins : NoneBegins (all_paths touched)
-  none-begins path other has also m low same =
-      let size : length path ≡ m = ap (λ (p : List ℕ). length p) (sym same) ∙ length-take m other ∙ omega (arith, low) in
-      no-pointer path has
-      (subst (IsTreePointer old bound) (sym (ap (trail_of path) size ∙ ap (λ p. trail_of p m) (sym same) ∙ trail_of-take other m m (omega arith))) (front-pointer other also m low))
-
-  -- ---- the count
-
-  module _ (n : ℕ) (alike : BeginAlike touched n) where
-    some-copies : n ≤ length (job.way 0) → length (prefixes_of n [] (all_paths touched)) ≡ copied job n
-    some-copies short = omega (arith, length-within P F (fronts_distinct n [] (all_paths touched)) to, length-within F P distinct back, length-upto job n (ways job), copied-some job n short)
-      where
-        P : List (List ℕ)
-        P = prefixes_of n [] (all_paths touched)
-
-        F : List (List ℕ)
-        F = take n (job.way 0) ∷ fronts_upto job n (ways job)
-
-        begin : (i : ℕ) → i < ways job → take n (job.way i) ≡ take n (job.way 0)
-        begin i here =
-            let both = begin-way old bound touched free wf can n alike short i here in
-            same-take (job.way i) (job.way 0) n both.0 short (both.1 ∙ sym (first-front old bound touched free wf can n alike short n short))
-
-        to : (q : List ℕ) → Has P q → Has F q
-        to q has =
-            let f = (fronts_sound n [] (all_paths touched) q has).0 in
-            let way = way-of f.path f.has in
-            let low : f.count ≤ length (job.way way.which) = omega (arith, f.high, way.is.long) in
-            let at : q ≡ take f.count (job.way way.which) = f.same ∙ sym (take-take f.count (length (job.way way.which)) f.path low) ∙ ap (take f.count) way.is.same in
-            go f.count way.which way.is.here f.low low at (cases_eq f.count n)
-          where
-            go : (c i : ℕ) → i < ways job → n ≤ c → c ≤ length (job.way i) → q ≡ take c (job.way i) → (c ≡ n) ⊎ (c ≡ n → ⊥) → Has F q
-            go c i here low high at (inl e) = inl (sym (at ∙ ap (λ d. take d (job.way i)) e ∙ begin i here))
-            go c i here low high at (inr more) = inr (subst (Has (fronts_upto job n (ways job))) (sym at) (upto-complete job n (ways job) i c here (omega (arith, low, more)) high))
-
-        front-of : (c i : ℕ) → i < ways job → n ≤ c → c ≤ length (job.way i) → Has P (take c (job.way i))
-        front-of c i here low high =
-            let one = path-of i here in
-            fronts_complete n [] (all_paths touched) (take c (job.way i)) none-begins
-            (record { path = one.path; has = one.has; count = c; low = low; high = omega (arith, high, one.is.long); same = ap (take c) (sym one.is.same) ∙ take-take c (length (job.way i)) one.path high }) refl
-
-        back : (q : List ℕ) → Has F q → Has P q
-        back q (inl e) = subst (Has P) e (front-of n 0 can.shape.some (omega arith) short)
-        back q (inr more) =
-            let f = upto-sound job n (ways job) q more in
-            subst (Has P) (sym f.same) (front-of f.depth f.which f.early (omega (arith, f.low)) f.high)
-
-        distinct : AreDistinct F
-        distinct = (
-          (λ has.
-              let f = upto-sound job n (ways job) (take n (job.way 0)) has in
-              omega (arith, short, f.low, f.high, length-take n (job.way 0), length-take f.depth (job.way f.which), ap (λ (p : List ℕ). length p) f.same)),
-          distinct-upto job n (ways job),
-        )
-
-    -- the cover is the only touched word
-    no-copies : length (job.way 0) < n → length (prefixes_of n [] (all_paths touched)) ≡ copied job n
-    no-copies past = omega (arith, length-within (prefixes_of n [] (all_paths touched)) [] (fronts_distinct n [] (all_paths touched)) none, copied-none job n past)
-      where
-        next : n ≡ suc (length (job.way 0))
-        next = omega (arith, past, alike.long 0 (some-ends touched can.shape), first-length old bound touched free wf can)
-
-        alike_next : BeginAlike touched (suc (length (job.way 0)))
-        alike_next = subst (BeginAlike touched) next alike
-
-        short : (path : List ℕ) → Has (all_paths touched) path → length path ≤ n
-        short = paths-by (λ path. length path ≤ n)
-            (λ run k e low high.
-            let one = one-of-run old bound touched free wf can (length (job.way 0)) alike_next refl run e in
-            let way : job.way 0 ≡ run_way run 0 = leaf-way old bound touched free wf can run e 0 (omega arith) in
-            omega (arith, length-run_path run k, length-run_way run 0, ap (λ (p : List ℕ). length p) way, past))
-            (λ i here. go i here touched.run refl)
-          where
-            go : (i : ℕ) → i < length touched.words.items → (run : Option Run) → touched.run ≡ run → length (path_of (word_paths touched) i) ≤ n
-            go i here None e =
-                let one = one-word old bound touched free wf can (length (job.way 0)) alike_next refl e in
-                let zero_one : i ≡ 0 = omega (arith, here, one.words) in
-                let leaves : job.leaves + i ≡ 0 = omega (arith, one.leaves, zero_one) in
-                omega (arith, (word-is i here).long, ap (λ k. length (job.way k)) leaves, past)
-            go i here (Some run) e =
-                let one = one-of-run old bound touched free wf can (length (job.way 0)) alike_next refl run e in
-                absurd (omega (arith, here, one.words))
-
-        none : (q : List ℕ) → Has (prefixes_of n [] (all_paths touched)) q → ⊥
-        none q has =
-            let f = (fronts_sound n [] (all_paths touched) q has).0 in
-            omega (arith, f.low, f.high, short f.path f.has)
-
-    pub copied-need : length (prefixes_of n [] (all_paths touched)) ≡ copied job n
-    copied-need = go (cases_lt (length (job.way 0)) n)
-      where
-        go : (length (job.way 0) < n) ⊎ (n ≤ length (job.way 0)) → length (prefixes_of n [] (all_paths touched)) ≡ copied job n
-        go (inl past) = no-copies past
-        go (inr short) = some-copies short
-
 -- with what the paths that tell begin, all touched paths begin
 pub alike-all : (touched : Touched) → IsTouched touched → (n : ℕ) → BeginAlike touched n → (path : List ℕ) → Has (all_paths touched) path → (n ≤ length path) × (trail_of path n ≡ trail_of (end_path touched 0) n)
 alike-all touched shape n alike path has = go (has-either (run_paths touched.run) (word_paths touched) path has)
@@ -304,3 +98,225 @@ alike-all touched shape n alike path has = go (has-either (run_paths touched.run
         let at = index-of (word_paths touched) path two in
         subst (λ p. (n ≤ length p) × (trail_of p n ≡ trail_of (end_path touched 0) n)) at.2
         (of_word at.0 (omega (arith, at.1, length-map touched.words.items (λ word. word.0.items))) touched.run refl)
+
+module _ (touched : Touched) (shape : IsTouched touched) where
+  abbrev job : Job
+  job = job_of touched
+
+  is-run : (run : Run) → touched.run ≡ Some run → IsRun run
+  is-run run e = subst HasRun e shape.run
+
+  -- a touched path and the way to its word
+  record IsWayOf (i : ℕ) (path : List ℕ) : Type 0 where
+    pub here : i < ways job
+    pub long : length path ≡ length (job.way i) + 1
+    pub same : take (length (job.way i)) path ≡ job.way i
+
+  words-count : length (word_paths touched) ≡ length touched.words.items
+  words-count = length-map touched.words.items (λ word. word.0.items)
+
+  word-is : (i : ℕ) → i < length touched.words.items → IsWayOf (job.leaves + i) (path_of (word_paths touched) i)
+  word-is i here =
+      let path = path_of (word_paths touched) i in
+      let way : job.way (job.leaves + i) ≡ above path = word-way touched i in
+      let some : 1 ≤ length path = shape.words i here in
+      let size : length (above path) ≡ length path - 1 = length-above path in
+      record {
+        here = omega (arith, here);
+        long = omega (arith, some, size) ∙ ap (λ (p : List ℕ). length p + 1) (sym way);
+        same = ap (λ (p : List ℕ). take (length p) path) way ∙ ap (λ d. take d path) size ∙ sym way;
+      }
+
+  leaf-is : (run : Run) (e : touched.run ≡ Some run) (k : ℕ) → run.off / 8 ≤ k → k ≤ (run_end run - 1) / 8 → IsWayOf (k / 512 - run.off / 4096) (run_path run k)
+  leaf-is run e k low high =
+      let j : ℕ = k / 512 - run.off / 4096 in
+      let few : j < run_leaves run = omega (arith, low, high) in
+      let way : job.way j ≡ run_way run j = leaf-way touched run e j few in
+      let leaf : j < job.leaves = subst (λ r. j < leaves_of r) (sym e) few in
+      record {
+        here = omega (arith, leaf);
+        long = omega (arith, length-run_path run k, length-run_way run j) ∙ ap (λ (p : List ℕ). length p + 1) (sym way);
+        same = ap (λ (p : List ℕ). take (length p) (run_path run k)) way ∙ run-whole run k j (omega (arith, low)) ∙ sym way;
+      }
+
+  -- by cases: a word of the run, or another word
+  paths-by : (P : List ℕ → Type 0) → ((run : Run) (k : ℕ) → touched.run ≡ Some run → run.off / 8 ≤ k → k ≤ (run_end run - 1) / 8 → P (run_path run k)) →
+      ((i : ℕ) → i < length touched.words.items → P (path_of (word_paths touched) i)) → (path : List ℕ) → Has (all_paths touched) path → P path
+  paths-by P of_run of_word path has = go (has-either (run_paths touched.run) (word_paths touched) path has)
+    where
+      in_run : (run : Option Run) → touched.run ≡ run → Has (run_paths run) path → P path
+      in_run None e none = absurd none
+      in_run (Some run) e one =
+          let at = run-number run (run.off / 8) (suc ((run_end run - 1) / 8 - run.off / 8)) path one in
+          let some : 0 < length run.bytes.now = (is-run run e).some in
+          subst P (sym at.3) (of_run run at.0 e at.1 (omega (arith, at.1, at.2, some)))
+
+      go : Has (run_paths touched.run) path ⊎ Has (word_paths touched) path → P path
+      go (inl one) = in_run touched.run refl one
+      go (inr two) = let at = index-of (word_paths touched) path two in subst P at.2 (of_word at.0 (omega (arith, at.1, words-count)))
+
+  pub has-word : (i : ℕ) → i < length touched.words.items → Has (all_paths touched) (path_of (word_paths touched) i)
+  has-word i here = has-behind (run_paths touched.run) (word_paths touched) _ (has-index (word_paths touched) i (omega (arith, here, words-count)))
+
+  pub has-of-run : (run : Run) (k : ℕ) → touched.run ≡ Some run → run.off / 8 ≤ k → k ≤ (run_end run - 1) / 8 → Has (all_paths touched) (run_path run k)
+  has-of-run run k e low high =
+      has-front (run_paths touched.run) (word_paths touched) (run_path run k)
+      (subst (λ r. Has (run_paths r) (run_path run k)) (sym e) (has-run run (run.off / 8) (suc ((run_end run - 1) / 8 - run.off / 8)) k low (omega (arith, low, high))))
+
+  record HasWay (path : List ℕ) : Type 0 where
+    pub which : ℕ
+    pub is : IsWayOf which path
+
+  way-of : (path : List ℕ) → Has (all_paths touched) path → HasWay path
+  way-of = paths-by HasWay (λ run k e low high. record { which = k / 512 - run.off / 4096; is = leaf-is run e k low high }) (λ i here. record { which = job.leaves + i; is = word-is i here })
+
+  -- each way is that to a touched word
+  record HasPath (i : ℕ) : Type 0 where
+    pub path : List ℕ
+    pub has : Has (all_paths touched) path
+    pub is : IsWayOf i path
+
+  path-of : (i : ℕ) → i < ways job → HasPath i
+  path-of i here = go (cases_lt i job.leaves)
+    where
+      leaf : (run : Option Run) → touched.run ≡ run → i < job.leaves → HasPath i
+      leaf None e low = let none : i < leaves_of None = subst (λ r. i < leaves_of r) e low in absurd (omega (arith, none))
+      leaf (Some run) e low =
+          let few : i < run_leaves run = subst (λ r. i < leaves_of r) e low in
+          let some : 0 < length run.bytes.now = (is-run run e).some in
+          let k : ℕ = max (run.off / 8) (512 * (run.off / 4096 + i)) in
+          let first : run.off / 8 ≤ k = omega arith in
+          let last : k ≤ (run_end run - 1) / 8 = omega (arith, few, some) in
+          let number : k / 512 - run.off / 4096 ≡ i = omega arith in
+          record { path = run_path run k; has = has-of-run run k e first last; is = subst (λ n. IsWayOf n (run_path run k)) number (leaf-is run e k first last) }
+
+      go : (i < job.leaves) ⊎ (job.leaves ≤ i) → HasPath i
+      go (inl low) = leaf touched.run refl low
+      go (inr past) =
+          let few : i - job.leaves < length touched.words.items = omega (arith, here, past) in
+          let back : job.leaves + (i - job.leaves) ≡ i = omega (arith, past) in
+          record { path = path_of (word_paths touched) (i - job.leaves); has = has-word (i - job.leaves) few; is = subst (λ n. IsWayOf n (path_of (word_paths touched) (i - job.leaves))) back (word-is (i - job.leaves) few) }
+
+  -- ---- the count
+
+  module _ (apart : NoneBegins (all_paths touched)) (n : ℕ) (alike : BeginAlike touched n) where
+    first : HasPath 0
+    first = path-of 0 shape.some
+
+    like_first : (path : List ℕ) → Has (all_paths touched) path → (n ≤ length path) × (take n path ≡ take n first.path)
+    unfolding first
+    like_first path has =
+        let one = alike-all touched shape n alike path has in
+        let two = alike-all touched shape n alike first.path first.has in
+        (one.0, same-take path first.path n one.0 two.0 (one.1 ∙ sym two.1))
+
+    some-copies : n ≤ length (job.way 0) → length (prefixes_of n [] (all_paths touched)) ≡ copied job n
+    some-copies short = omega (arith, length-within P F (fronts_distinct n [] (all_paths touched)) to, length-within F P distinct back, length-upto job n (ways job), copied-some job n short)
+      where
+        P : List (List ℕ)
+        P = prefixes_of n [] (all_paths touched)
+
+        F : List (List ℕ)
+        F = take n (job.way 0) ∷ fronts_upto job n (ways job)
+
+        front-way : (i : ℕ) (path : List ℕ) → IsWayOf i path → n ≤ length (job.way i) → take n (job.way i) ≡ take n path
+        front-way i path is low = ap (take n) (sym is.same) ∙ take-take n (length (job.way i)) path low
+
+        begin : (i : ℕ) → i < ways job → take n (job.way i) ≡ take n (job.way 0)
+        begin i here = front-way i one.path one.is proper ∙ like.1 ∙ sym (front-way 0 first.path first.is short)
+          where
+            one : HasPath i
+            one = path-of i here
+
+            like : (n ≤ length one.path) × (take n one.path ≡ take n first.path)
+            like = like_first one.path one.has
+
+            proper : n ≤ length (job.way i)
+            proper = go (cases_eq n (length one.path))
+              where
+                go : (n ≡ length one.path) ⊎ (n ≡ length one.path → ⊥) → n ≤ length (job.way i)
+                go (inl e) =
+                    absurd (apart one.path first.path one.has first.has n (omega (arith, short, first.is.long)) (sym like.1 ∙ ap (λ k. take k one.path) e ∙ (begins-self one.path).same))
+                go (inr other) = omega (arith, like.0, other, one.is.long)
+
+        to : (q : List ℕ) → Has P q → Has F q
+        to q has =
+            let f = (fronts_sound n [] (all_paths touched) q has).0 in
+            let way = way-of f.path f.has in
+            let low : f.count ≤ length (job.way way.which) = omega (arith, f.high, way.is.long) in
+            let at : q ≡ take f.count (job.way way.which) = f.same ∙ sym (take-take f.count (length (job.way way.which)) f.path low) ∙ ap (take f.count) way.is.same in
+            go f.count way.which way.is.here f.low low at (cases_eq f.count n)
+          where
+            go : (c i : ℕ) → i < ways job → n ≤ c → c ≤ length (job.way i) → q ≡ take c (job.way i) → (c ≡ n) ⊎ (c ≡ n → ⊥) → Has F q
+            go c i here low high at (inl e) = inl (sym (at ∙ ap (λ d. take d (job.way i)) e ∙ begin i here))
+            go c i here low high at (inr more) = inr (subst (Has (fronts_upto job n (ways job))) (sym at) (upto-complete job n (ways job) i c here (omega (arith, low, more)) high))
+
+        front-of : (c i : ℕ) → i < ways job → n ≤ c → c ≤ length (job.way i) → Has P (take c (job.way i))
+        front-of c i here low high =
+            let one = path-of i here in
+            fronts_complete n [] (all_paths touched) (take c (job.way i)) apart
+            (record { path = one.path; has = one.has; count = c; low = low; high = omega (arith, high, one.is.long); same = ap (take c) (sym one.is.same) ∙ take-take c (length (job.way i)) one.path high }) refl
+
+        back : (q : List ℕ) → Has F q → Has P q
+        back q (inl e) = subst (Has P) e (front-of n 0 shape.some (omega arith) short)
+        back q (inr more) =
+            let f = upto-sound job n (ways job) q more in
+            subst (Has P) (sym f.same) (front-of f.depth f.which f.early (omega (arith, f.low)) f.high)
+
+        distinct : AreDistinct F
+        distinct = (
+          (λ has.
+              let f = upto-sound job n (ways job) (take n (job.way 0)) has in
+              omega (arith, short, f.low, f.high, length-take n (job.way 0), length-take f.depth (job.way f.which), ap (λ (p : List ℕ). length p) f.same)),
+          distinct-upto job n (ways job),
+        )
+
+    -- the cover is the only touched word
+    no-copies : length (job.way 0) < n → length (prefixes_of n [] (all_paths touched)) ≡ copied job n
+    no-copies past = omega (arith, length-within (prefixes_of n [] (all_paths touched)) [] (fronts_distinct n [] (all_paths touched)) none, copied-none job n past)
+      where
+        whole : n ≡ length first.path
+        whole = omega (arith, past, (like_first first.path first.has).0, first.is.long)
+
+        short : (path : List ℕ) → Has (all_paths touched) path → length path ≤ n
+        short path has = go (cases_lt n (length path))
+          where
+            go : (n < length path) ⊎ (length path ≤ n) → length path ≤ n
+            go (inl more) = absurd (apart first.path path first.has has n more ((like_first path has).1 ∙ ap (λ k. take k first.path) whole ∙ (begins-self first.path).same))
+            go (inr few) = few
+
+        none : (q : List ℕ) → Has (prefixes_of n [] (all_paths touched)) q → ⊥
+        none q has =
+            let f = (fronts_sound n [] (all_paths touched) q has).0 in
+            omega (arith, f.low, f.high, short f.path f.has)
+
+    pub copied-need : length (prefixes_of n [] (all_paths touched)) ≡ copied job n
+    copied-need = go (cases_lt (length (job.way 0)) n)
+      where
+        go : (length (job.way 0) < n) ⊎ (n ≤ length (job.way 0)) → length (prefixes_of n [] (all_paths touched)) ≡ copied job n
+        go (inl past) = no-copies past
+        go (inr short) = some-copies short
+
+-- ---- of touched words that can be committed
+
+module _ (old : Image) (bound : ℕ → ℕ) (touched : Touched) (free : ℕ → Bool) (wf : IsWellFormed old) (can : CanCommit old bound touched free) where
+  front-pointer : (other : List ℕ) → Has (all_paths touched) other → (m : ℕ) → m < length other → IsTreePointer old bound (trail_of other m)
+  front-pointer other has m low =
+      let way = way-of touched can.shape other has in
+      let short : m ≤ length ((job_of touched).way way.which) = omega (arith, low, way.is.long) in
+      subst (IsTreePointer old bound)
+      (ap (λ p. trail_of p m) (sym way.is.same) ∙ trail_of-take other (length ((job_of touched).way way.which)) m short)
+      (ways-fronts old bound touched free wf can way.which way.is.here m short)
+
+  no-pointer : (path : List ℕ) → Has (all_paths touched) path → IsTreePointer old bound (trail_of path (length path)) → ⊥
+  no-pointer = paths-by touched can.shape (λ path. IsTreePointer old bound (trail_of path (length path)) → ⊥)
+      (λ run k e low high one. leaf-plain old bound can.forest run (is-run touched can.shape run e) (run-in old bound touched free wf can run e) (k / 512 - run.off / 4096) (k % 512) (omega (arith, low, high))
+      (subst (IsTreePointer old bound) (run-trail run k low) one))
+      (λ i here one. can.contents i here one)
+
+  -- no touched path is a proper front of another
+  pub none-begins : NoneBegins (all_paths touched)
+  none-begins path other has also m low same =
+      let size : length path ≡ m = ap (λ (p : List ℕ). length p) (sym same) ∙ length-take m other ∙ omega (arith, low) in
+      no-pointer path has
+      (subst (IsTreePointer old bound) (sym (ap (trail_of path) size ∙ ap (λ p. trail_of p m) (sym same) ∙ trail_of-take other m m (omega arith))) (front-pointer other also m low))

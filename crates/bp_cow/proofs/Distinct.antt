@@ -8,6 +8,7 @@ use Rattle.bp_layout.specs.Members.{Has}
 use Rattle.bp_layout.specs.Need.{is_prefix, prefixes_from, prefixes_of}
 use Rattle.bp_shapes.specs.Trail.{trail_of}
 use Rattle.bp_shapes.proofs.PathTrails.{slot-trail_of}
+use Rattle.bp_cow.specs.Touched.{NoneBegins}
 
 abbrev pub AreDistinct : {A : Type 0} → List A → Type 0
 AreDistinct [] = Unit {0}
@@ -213,10 +214,6 @@ fronts_distinct shortest earlier (path ∷ paths) =
         let begins : is_prefix q path ≡ true = subst (λ p. is_prefix p path ≡ true) (sym at.3) (is-front path at.0 (omega (arith, at.1, at.2))) in
         let found : list_any (is_prefix q) (path ∷ earlier) ≡ true = rw begins refl in
         absurd (cc)
-
--- no path is a proper front of another
-abbrev pub NoneBegins : List (List ℕ) → Type 0
-NoneBegins paths = (path other : List ℕ) → Has paths path → Has paths other → (n : ℕ) → n < length other → take n other ≢ path
 
 pub fronts_complete : (shortest : ℕ) (earlier paths : List (List ℕ)) (q : List ℕ) → NoneBegins paths → IsFrontOf shortest paths q → list_any (is_prefix q) earlier ≡ false → Has (prefixes_of shortest earlier paths) q
 fronts_complete shortest earlier [] q apart front none = absurd front.has

@@ -99,6 +99,15 @@ whole-word path some =
 
 -- ---- all ways
 
+module _ (touched : Touched) where
+  pub word-way : (i : ℕ) → (job_of touched).way ((job_of touched).leaves + i) ≡ above (path_of (word_paths touched) i)
+  word-way i =
+      let back : leaves_of touched.run + i - leaves_of touched.run ≡ i = omega arith in
+      way-word touched.run (word_paths touched) (leaves_of touched.run + i) (omega arith) ∙ ap (λ k. above (path_of (word_paths touched) k)) back
+
+  pub leaf-way : (run : Run) → touched.run ≡ Some run → (j : ℕ) → j < run_leaves run → (job_of touched).way j ≡ run_way run j
+  leaf-way run e j low = ap (λ r. way_of r (word_paths touched) j) e ∙ way-leaf run (word_paths touched) j low
+
 module _ (old : Image) (bound : ℕ → ℕ) (touched : Touched) (free : ℕ → Bool) (wf : IsWellFormed old) (can : CanCommit old bound touched free) where
   abbrev paths : List (List ℕ)
   paths = word_paths touched
@@ -146,20 +155,12 @@ module _ (old : Image) (bound : ℕ → ℕ) (touched : Touched) (free : ℕ →
       let less : d < length (path_of paths i) - 1 = omega (arith, low, length-above (path_of paths i)) in
       subst (λ n. n < 512) (sym (get_or-take (length (path_of paths i) - 1) (path_of paths i) d 0 less)) (can.shape.slots i d here (omega (arith, less))))
 
-  pub word-way : (i : ℕ) → (job_of touched).way ((job_of touched).leaves + i) ≡ above (path_of paths i)
-  word-way i =
-      let back : leaves_of touched.run + i - leaves_of touched.run ≡ i = omega arith in
-      way-word touched.run paths (leaves_of touched.run + i) (omega arith) ∙ ap (λ k. above (path_of paths k)) back
-
   pub word-trail : (i : ℕ) → i < length touched.words.items → word_trail (job_of touched) i ≡ trail_of (path_of paths i) (length (path_of paths i))
   word-trail i here =
-      ap (λ p. last_slot (path_of paths i) ∷ trail_of p (length p)) (word-way i) ∙ whole-word (path_of paths i) (can.shape.words i here)
-
-  pub leaf-way : (run : Run) → touched.run ≡ Some run → (j : ℕ) → j < run_leaves run → (job_of touched).way j ≡ run_way run j
-  leaf-way run e j low = ap (λ r. way_of r paths j) e ∙ way-leaf run paths j low
+      ap (λ p. last_slot (path_of paths i) ∷ trail_of p (length p)) (word-way touched i) ∙ whole-word (path_of paths i) (can.shape.words i here)
 
   pub leaf-end : (run : Run) → touched.run ≡ Some run → (j : ℕ) → j < run_leaves run → end_of (job_of touched) j ≡ trail_of (run_way run j) (length (run_way run j))
-  leaf-end run e j low = ap (λ p. trail_of p (length p)) (leaf-way run e j low)
+  leaf-end run e j low = ap (λ p. trail_of p (length p)) (leaf-way touched run e j low)
 
   pub leaves-low : (run : Run) → touched.run ≡ Some run → (j : ℕ) → j < (job_of touched).leaves → j < run_leaves run
   leaves-low run e j low = subst (λ r. j < leaves_of r) e low
@@ -192,7 +193,7 @@ module _ (old : Image) (bound : ℕ → ℕ) (touched : Touched) (free : ℕ →
             let less : d < length (path_of paths 0) = omega (arith, subst (λ p. d ≤ length p) way low, length-above (path_of paths 0), len) in
             ap (λ p. trail_of p d) way ∙ above-trail (path_of paths 0) d less ∙ ap (λ r. trail_of (end_path_of r paths 0) d) (sym e)
         go (Some run) e =
-            let way : (job_of touched).way 0 ≡ run_way run 0 = leaf-way run e 0 (omega arith) in
+            let way : (job_of touched).way 0 ≡ run_way run 0 = leaf-way touched run e 0 (omega arith) in
             let leaf : run.off / 8 / 512 ≡ run.off / 4096 + 0 = omega arith in
             ap (λ p. trail_of p d) way ∙ front-run_way run 0 (run.off / 8) d leaf (subst (λ p. d ≤ length p) way low) ∙ ap (λ r. trail_of (end_path_of r paths 0) d) (sym e)
 
@@ -241,7 +242,7 @@ module _ (old : Image) (bound : ℕ → ℕ) (touched : Touched) (free : ℕ →
 
         long : n ≤ length (run_way run j)
         long =
-            let way : (job_of touched).way 0 ≡ run_way run 0 = leaf-way run e 0 (omega arith) in
+            let way : (job_of touched).way 0 ≡ run_way run 0 = leaf-way touched run e 0 (omega arith) in
             omega (arith, subst (λ p. n ≤ length p) way short, length-run_way run 0, length-run_way run j)
 
         some : 0 < length run.bytes.now
@@ -291,8 +292,8 @@ module _ (old : Image) (bound : ℕ → ℕ) (touched : Touched) (free : ℕ →
           leaf-plain old bound can.forest run (is-run run e) (run-in run e) j slot less (subst (λ q. IsTreePointer old bound (slot ∷ q)) (leaf-end run e j less) one)));
       long = λ j low. with-run (length ((job_of touched).way j) ≡ length ((job_of touched).way 0)) j low (λ run e.
           let less = leaves-low run e j low in
-          let one : (job_of touched).way j ≡ run_way run j = leaf-way run e j less in
-          let two : (job_of touched).way 0 ≡ run_way run 0 = leaf-way run e 0 (omega arith) in
+          let one : (job_of touched).way j ≡ run_way run j = leaf-way touched run e j less in
+          let two : (job_of touched).way 0 ≡ run_way run 0 = leaf-way touched run e 0 (omega arith) in
           ap (λ (p : List ℕ). length p) one ∙ length-run_way run j ∙ sym (length-run_way run 0) ∙ ap (λ (p : List ℕ). length p) (sym two));
       apart = λ j l low small same. with-run (j ≡ l) j low (λ run e.
           let less = leaves-low run e j low in
@@ -312,7 +313,7 @@ module _ (old : Image) (bound : ℕ → ℕ) (touched : Touched) (free : ℕ →
           let len : 1 ≤ length (path_of paths 0) = can.shape.words 0 (omega (arith, some)) in
           ap (λ r. length (end_path_of r paths 0)) e ∙ omega (arith, len, length-above (path_of paths 0)) ∙ ap (λ (p : List ℕ). length p + 1) (sym way)
       go (Some run) e =
-          let way : (job_of touched).way 0 ≡ run_way run 0 = leaf-way run e 0 (omega arith) in
+          let way : (job_of touched).way 0 ≡ run_way run 0 = leaf-way touched run e 0 (omega arith) in
           ap (λ r. length (end_path_of r paths 0)) e ∙ omega (arith, length-run_path run (run.off / 8), length-run_way run 0) ∙ ap (λ (p : List ℕ). length p + 1) (sym way)
 
   pub alike-less : (m : ℕ) → BeginAlike touched (suc m) → BeginAlike touched m
@@ -424,7 +425,7 @@ module _ (old : Image) (bound : ℕ → ℕ) (touched : Touched) (free : ℕ →
         last_is = ap (λ r. end_path_of r paths 1) e
 
         way_is : (job_of touched).way 0 ≡ run_way run 0
-        way_is = leaf-way run e 0 (omega arith)
+        way_is = leaf-way touched run e 0 (omega arith)
 
         size : m ≡ length run.root.items + run.height
         size = sym long ∙ ap (λ (p : List ℕ). length p) way_is ∙ length-run_way run 0

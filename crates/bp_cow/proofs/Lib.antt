@@ -13,6 +13,7 @@ pub mod CommitLaws
 pub mod RunLaws
 pub mod QuietCopies
 pub mod CoverLaws
+pub mod CommonPaths
 pub mod RunFronts
 pub mod JobLaws
 pub mod StageEnd
@@ -21,5 +22,6 @@ pub mod Distinct
 pub mod Values
 pub mod JobFronts
 pub mod CopiesNeed
+pub mod CoverOf
 pub mod CallerLaws
 pub mod PerformsLaws

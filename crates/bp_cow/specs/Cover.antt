@@ -1,9 +1,10 @@
 -- The cover of touched words.
 use Rattle.std.specs.Prelude.{◌≡◌, ◌≢◌, ℕ, zero, suc, ◌+◌, ◌-◌, ◌/◌, ◌<◌, ◌≤◌, List, length, take, Option, None, Some}
-use Rattle.bp_layout.specs.Words.{Image}
+use Rattle.bp_layout.specs.Words.{Image, block_count}
 use Rattle.bp_shapes.specs.Trail.{block_on, trail_of}
-use Rattle.bp_layout.specs.WordPaths.{WordPath}
-use Rattle.bp_cow.specs.Touched.{run_path, run_end, path_of, word_paths}
+use Rattle.bp_layout.specs.Need.{cover_of, copies_of}
+use Rattle.bp_layout.specs.WordPaths.{WordPath, is_pointed}
+use Rattle.bp_cow.specs.Touched.{run_path, run_end, path_of, word_paths, all_paths}
 use Rattle.bp_cow.specs.declared.touched.Run.{Run}
 use Rattle.bp_cow.specs.declared.touched.Touched.{Touched}
 
@@ -29,6 +30,10 @@ pub record BeginAlike (touched : Touched) (count : ℕ) : Type 0 where
   pub long : (i : ℕ) → i < ends touched → count ≤ length (end_path touched i)
   pub same : (i : ℕ) → i < ends touched → trail_of (end_path touched i) count ≡ trail_of (end_path touched 0) count
 
+-- the pointers on the way to the cover lead to blocks of the image
+abbrev pub LeadsInside : Image → Touched → Type 0
+LeadsInside image touched = (d : ℕ) → BeginAlike touched (d + 1) → block_on image (trail_of (end_path touched 0) d) < block_count image
+
 -- So many slots are the longest front with which all touched paths begin and which exists: no pointer that a proper front of it names is null.
 pub record CoverHas (image : Image) (touched : Touched) (count : ℕ) : Type 0 where
   pub alike : BeginAlike touched count
@@ -39,3 +44,13 @@ pub record CoverHas (image : Image) (touched : Touched) (count : ℕ) : Type 0 w
 pub record IsCover (image : Image) (touched : Touched) (path : WordPath) : Type 0 where
   pub front : path ≡ take (length path) (end_path touched 0)
   pub has : CoverHas image touched (length path)
+
+-- The same by its definition: the cover of a commit, the pointers whose blocks it copies, and how many these are.
+abbrev pub commit_cover : Image → Touched → WordPath
+commit_cover image touched = cover_of (is_pointed image) (all_paths touched)
+
+abbrev pub copied_paths : Image → Touched → List WordPath
+copied_paths image touched = copies_of (is_pointed image) (all_paths touched)
+
+abbrev pub copied_count : Image → Touched → ℕ
+copied_count image touched = length (copied_paths image touched)

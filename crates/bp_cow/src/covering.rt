@@ -1,10 +1,9 @@
 //! The cover: the longest path that exists and with which all touched paths begin.
 
 ghost use Rattle.std.specs.Prelude.{◌≡◌, ◌≢◌, ℕ, ◌+◌, ◌<◌, ◌≤◌, length, slice_index, true, false};
-ghost use Rattle.bp_layout.specs.Words.{block_count};
 ghost use Rattle.bp_shapes.specs.Trail.{block_on, place_on, trail_of};
 ghost use Rattle.pm_region.specs.Memory.{current_words};
-ghost use Rattle.bp_cow.specs.Cover.{end_path, ends, BeginAlike, CoverHas, IsCover};
+ghost use Rattle.bp_cow.specs.Cover.{end_path, ends, BeginAlike, LeadsInside, CoverHas, commit_cover};
 ghost use Rattle.bp_cow.specs.Touched.{IsTouched};
 ghost use Rattle.bp_cow.specs.Found.{IsAt};
 
@@ -99,7 +98,7 @@ fn below<R: Region>(region: &R, touched: &Touched<'_>, found: Found) -> u64
 pub(crate) fn find_cover<R: Region>(region: &R, touched: &Touched<'_>) -> Found
     requires touched { IsTouched touched.now }
     requires some { 512 ≤ length (current_words (R.memory region.now)) }
-    requires in_range { (d : ℕ) → BeginAlike touched.now (d + 1) → block_on (current_words (R.memory region.now)) (trail_of (end_path touched.now 0) d) < block_count (current_words (R.memory region.now)) }
+    requires in_range { LeadsInside (current_words (R.memory region.now)) touched.now }
     ensures at { IsAt (current_words (R.memory region.now)) touched.now result }
     ensures has { CoverHas (current_words (R.memory region.now)) touched.now result.len }
 {
@@ -117,12 +116,12 @@ pub(crate) fn find_cover<R: Region>(region: &R, touched: &Touched<'_>) -> Found
     found
 }
 
-/// The longest path that exists and with which all touched paths begin. No block has to be free for it.
+/// The cover of the touched words: the longest path that exists and begins each of their paths. No block has to be free for it.
 pub fn cover<R: Region>(region: &R, touched: &Touched<'_>) -> Slots
     requires touched { IsTouched touched.now }
     requires some { 512 ≤ length (current_words (R.memory region.now)) }
-    requires in_range { (d : ℕ) → BeginAlike touched.now (d + 1) → block_on (current_words (R.memory region.now)) (trail_of (end_path touched.now 0) d) < block_count (current_words (R.memory region.now)) }
-    ensures { IsCover (current_words (R.memory region.now)) touched.now result.items }
+    requires in_range { LeadsInside (current_words (R.memory region.now)) touched.now }
+    ensures { result.items ≡ commit_cover (current_words (R.memory region.now)) touched.now }
 {
     let found = find_cover(region, touched);
     let mut path = Slots::new();

@@ -5,7 +5,6 @@ ghost use Rattle.bp_changes.specs.Commits.{Commits};
 ghost use Rattle.bp_shapes.specs.Forest.{IsExactSet, IsForest, IsTreePointer, tree_trail};
 ghost use Rattle.bp_layout.specs.Inode.{kind_of, root_of, size_of};
 ghost use Rattle.bp_layout.specs.Members.{Has};
-ghost use Rattle.bp_layout.specs.Need.{prefixes_of};
 ghost use Rattle.bp_layout.specs.Reached.{IsReached};
 ghost use Rattle.bp_shapes.specs.Trail.{Trail, word_on, trail_of, LeadsTo};
 ghost use Rattle.bp_layout.specs.Tree.{IsFull, HasBlock};
@@ -14,9 +13,9 @@ ghost use Rattle.bp_layout.specs.Words.{word, height_of, byte_of};
 ghost use Rattle.bp_layout.specs.WellFormed.{IsWellFormed};
 ghost use Rattle.bp_cow.specs.CanCommit.{IsRunIn, CanCommit};
 ghost use Rattle.bp_cow.specs.Committed.{IsCommitted, after_commit, changes_of};
-ghost use Rattle.bp_cow.specs.Cover.{end_path, BeginAlike, CoverHas};
-ghost use Rattle.bp_cow.specs.Job.{copied, IsTurned};
-ghost use Rattle.bp_cow.specs.Touched.{IsTouched, run_path, run_end, run_word, run_byte, path_of, word_paths, all_paths, job_of};
+ghost use Rattle.bp_cow.specs.Cover.{end_path, BeginAlike, LeadsInside, IsCover, commit_cover};
+ghost use Rattle.bp_cow.specs.Job.{IsTurned};
+ghost use Rattle.bp_cow.specs.Touched.{IsTouched, NoneBegins, run_path, run_end, run_word, run_byte, path_of, word_paths, all_paths, job_of};
 ghost use Rattle.bp_cow.specs.declared.touched.Run.{Run};
 
 use crate::touched::{Run, Touched};
@@ -28,12 +27,18 @@ pub fn all_touched_paths_begin_alike(touched: &Touched<'_>)
     ensures same { (count : ℕ) (path : WordPath) → BeginAlike touched.now count → Has (all_paths touched.now) path → trail_of path count ≡ trail_of (end_path touched.now 0) count }
 {}
 
-/// As many blocks are copied as there are proper fronts of touched paths that begin with the cover, each counted once, at the
-/// first touched path that it begins.
-pub fn copies_are_counted_once(image: &[u64], touched: &Touched<'_>)
+/// The cover of touched words is a path with which all of them begin, which exists, and which can't be longer; and no other path is.
+pub fn a_cover_is_determined(image: &[u64], touched: &Touched<'_>)
+    requires { IsTouched touched.now }
+    ensures is { IsCover image.now touched.now (commit_cover image.now touched.now) }
+    ensures only { (path : WordPath) → IsCover image.now touched.now path → path ≡ commit_cover image.now touched.now }
+{}
+
+/// Of touched words that can be committed, the cover and its need can be asked for.
+pub fn what_can_be_committed_has_a_cover(image: &[u64], touched: &Touched<'_>)
     requires { IsWellFormed image.now }
-    ensures { (bound : ℕ → ℕ) (free : ℕ → Bool) (cover : ℕ) → CanCommit image.now bound touched.now free → CoverHas image.now touched.now cover →
-        length (prefixes_of cover [] (all_paths touched.now)) ≡ copied (job_of touched.now) cover }
+    ensures inside { (bound : ℕ → ℕ) (free : ℕ → Bool) → CanCommit image.now bound touched.now free → LeadsInside image.now touched.now }
+    ensures apart { (bound : ℕ → ℕ) (free : ℕ → Bool) → CanCommit image.now bound touched.now free → NoneBegins (all_paths touched.now) }
 {}
 
 /// After a commit each touched word has the value that it is given, a word of the run its new bytes beside those that it had,

@@ -1,12 +1,10 @@
 //! How many blocks a commit copies.
 
 ghost use Rattle.std.specs.Prelude.{◌≡◌, ℕ, ◌+◌, ◌*◌, ◌<◌, ◌≤◌, length};
-ghost use Rattle.bp_shapes.specs.Trail.{block_on, trail_of};
-ghost use Rattle.bp_layout.specs.Words.{block_count};
 ghost use Rattle.pm_region.specs.Memory.{current_words};
-ghost use Rattle.bp_cow.specs.Cover.{end_path, BeginAlike, CoverHas};
-ghost use Rattle.bp_cow.specs.Job.{ways, copied, turns, turned_for, turned_upto};
-ghost use Rattle.bp_cow.specs.Touched.{IsTouched, job_of};
+ghost use Rattle.bp_cow.specs.Cover.{LeadsInside, copied_count};
+ghost use Rattle.bp_cow.specs.Job.{ways, turns, turned_for};
+ghost use Rattle.bp_cow.specs.Touched.{IsTouched, NoneBegins, all_paths, job_of};
 
 use crate::covering::find_cover;
 use crate::touched::Touched;
@@ -47,12 +45,14 @@ fn turned_for(touched: &Touched<'_>, i: usize, from: usize) -> u32
     count
 }
 
-/// How many blocks the commit copies, and takes. No block has to be free for it.
+/// How many blocks a commit of the touched words copies, and takes: as many as pointers stand on their paths from the cover down.
+/// No block has to be free for it.
 pub fn need_cover<R: Region>(region: &R, touched: &Touched<'_>) -> u32
     requires touched { IsTouched touched.now }
     requires some { 512 ≤ length (current_words (R.memory region.now)) }
-    requires in_range { (d : ℕ) → BeginAlike touched.now (d + 1) → block_on (current_words (R.memory region.now)) (trail_of (end_path touched.now 0) d) < block_count (current_words (R.memory region.now)) }
-    ensures { (cover : ℕ) → CoverHas (current_words (R.memory region.now)) touched.now cover → result ≡ copied (job_of touched.now) cover }
+    requires in_range { LeadsInside (current_words (R.memory region.now)) touched.now }
+    requires apart { NoneBegins (all_paths touched.now) }
+    ensures { result ≡ copied_count (current_words (R.memory region.now)) touched.now }
 {
     let from = find_cover(region, touched).len;
     if touched.way_len(0) < from {

@@ -10,7 +10,8 @@ use crate::Numbers;
 /// A number that is taken was the first of the list, and the rest of the list is left.
 #[tactic(auto, using(crate::proofs::Members::members_least))]
 pub fn takes_the_first<Kind>(free: &mut Numbers<Kind>) -> Option<u32>
-    ensures { MatchOption result ((members free.old ≡ []) × (members free.new ≡ [])) (λ i. members free.old ≡ i ∷ members free.new) }
+    ensures { MatchOption result ((members free.old ≡ []) × (members free.new ≡ []))
+        (λ i. members free.old ≡ i ∷ members free.new) }
 {
     free.take()
 }

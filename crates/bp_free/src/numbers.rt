@@ -121,7 +121,8 @@ impl<Kind> Numbers<Kind> {
 
     /// Takes the least number out, `None` where none is free.
     pub fn take(&mut self) -> Option<u32>
-        ensures { MatchOption result ((members self.old ≡ []) × (self.new ≡ self.old)) (λ i. IsLeast self.old i × (self.new ≡ without self.old i)) }
+        ensures { MatchOption result ((members self.old ≡ []) × (self.new ≡ self.old))
+            (λ i. IsLeast self.old i × (self.new ≡ without self.old i)) }
     {
         let i = self.first()?;
         self.claim(i);

@@ -1,6 +1,7 @@
 pub mod Cuts
 pub mod CrashLaws
 pub mod KeptCalls
+pub mod KeptIndices
 pub mod KeepingLaws
 pub mod Deciding
 pub mod MayLaws

@@ -2,7 +2,7 @@ ghost use Rattle.std.specs.Prelude.{◌≡◌, ℕ, ◌⊎◌, Bool, IsTrue, Lis
 ghost use Rattle.pm_epochs.specs.declared.event.Event.{Event};
 ghost use Rattle.pm_epochs.specs.declared.event.Event.TheVariants.{Store, Barrier, Mark};
 ghost use Rattle.pm_epochs.specs.Log.{words_after, marks, IsClosed};
-ghost use Rattle.pm_epochs.specs.Replay.{Cut, IsRight, IsReplay, kept_calls, IsGreatestKept};
+ghost use Rattle.pm_epochs.specs.Replay.{Cut, IsRight, IsReplay, kept_calls, kept_stores, kept_indices, events_at, IsGreatestKept};
 ghost use Rattle.pm_epochs.specs.Crash.{CrashRight, IsQuiet, commit};
 ghost use Rattle.pm_epochs.specs.May.{StoresMay, EachMay, links_of, AnyOf};
 
@@ -18,13 +18,21 @@ pub trait Likeness {
 
 /// The kept calls of a right cut are as many as have each store before their mark kept.
 pub fn kept_calls_are_greatest()
-    ensures { (events : List Event) (cut : Cut) → IsRight events cut → IsGreatestKept events cut (kept_calls events cut) }
+    ensures { (events : List Event) (cut : Cut) → IsRight events cut →
+        IsGreatestKept events cut (kept_calls events cut) }
+{}
+
+/// The stores that a cut keeps are those at the indices that it keeps, in order: at an index before its moment, of an epoch
+/// before its own, or of its own where the mask has the store's place true.
+pub fn kept_stores_by_index()
+    ensures { (events : List Event) (cut : Cut) → kept_stores events cut ≡ events_at events (kept_indices events cut) }
 {}
 
 /// Where each store of the first log has a barrier behind it, a replay of two logs in a row is one of the
 /// first, or one of the second over the words that the first leaves.
 pub fn replays_of_joined_logs()
-    ensures { (base : List ℕ) (first rest : List Event) → IsClosed first → (image : List ℕ) → IsReplay base (first ++ rest) image →
+    ensures { (base : List ℕ) (first rest : List Event) → IsClosed first →
+        (image : List ℕ) → IsReplay base (first ++ rest) image →
         IsReplay base first image ⊎ IsReplay (words_after base first) rest image }
 {}
 
@@ -43,7 +51,8 @@ pub fn quiet_where_nobody_looks<L: Likeness>()
 
 /// Links in one epoch are quiet where nobody sees which of them are done.
 pub fn quiet_whichever_is_kept<L: Likeness>()
-    ensures { (base : List ℕ) (links : List (ℕ × ℕ)) → AnyOf L.same base base links → IsQuiet L.same base (links_of links ++ Barrier ∷ []) }
+    ensures { (base : List ℕ) (links : List (ℕ × ℕ)) → AnyOf L.same base base links →
+        IsQuiet L.same base (links_of links ++ Barrier ∷ []) }
 {}
 
 /// A quiet preparation with one store alone in its epoch is quiet where that leaves words like those before.
@@ -60,7 +69,8 @@ pub fn right_logs_in_a_row<L: Likeness>()
 
 /// A call that prepares quietly and then commits by one store alone in its epoch is right.
 pub fn committed_call<L: Likeness>()
-    ensures right { (base : List ℕ) (prepared : List Event) (word value : ℕ) → marks prepared ≡ 0 → IsQuiet L.same base prepared →
+    ensures right { (base : List ℕ) (prepared : List Event) (word value : ℕ) → marks prepared ≡ 0 →
+        IsQuiet L.same base prepared →
         let new = words_after base (prepared ++ commit word value) in
         L.same new new → CrashRight L.same base (prepared ++ commit word value ++ Mark ∷ []) }
     ensures closed { (prepared : List Event) (word value : ℕ) → IsClosed (prepared ++ commit word value ++ Mark ∷ []) }
@@ -74,5 +84,6 @@ pub fn call_without_store<L: Likeness>()
 
 /// What a crash may leave in the middle of a call it may leave at the call's end.
 pub fn replays_of_a_front()
-    ensures { (base : List ℕ) (front rest : List Event) (image : List ℕ) → IsReplay base front image → IsReplay base (front ++ rest) image }
+    ensures { (base : List ℕ) (front rest : List Event) (image : List ℕ) → IsReplay base front image →
+        IsReplay base (front ++ rest) image }
 {}

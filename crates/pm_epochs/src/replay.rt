@@ -59,7 +59,8 @@ impl Keeper<'_> {
 
 /// How many stores an epoch has, or none where there are fewer barriers.
 fn epoch_len(events: &[Event], epoch: usize) -> Option<usize>
-    ensures { MatchOption result (barriers events.now < epoch) (λ count. (epoch ≤ barriers events.now) × (count ≡ epoch_stores epoch events.now)) }
+    ensures { MatchOption result (barriers events.now < epoch)
+        (λ count. (epoch ≤ barriers events.now) × (count ≡ epoch_stores epoch events.now)) }
 {
     let mut left = epoch;
     let mut count = 0;

@@ -11,7 +11,7 @@ use Rattle.bp_changes.specs.SameContent.{IsReadByWords, ReadsAs}
 use Rattle.bp_changes.specs.SameMeaning.{SameMeaning}
 use Rattle.bp_changes.specs.Harmless.{IsHarmless, Agrees}
 use Rattle.bp_layout.specs.Members.{Has, Each}
-use Rattle.bp_changes.proofs.Frame.{root-same, size-same}
+use Rattle.bp_changes.proofs.Frame.{root-kept, size-same}
 use Rattle.bp_shapes.proofs.Roots.{null_tree}
 use Rattle.pm_epochs.proofs.PieceLaws.{IsPiece-more}
 use Rattle.pm_region.specs.Memory.{Memory, current_words}
@@ -23,7 +23,7 @@ use Rattle.bp_append.specs.Given.{given, given_at}
 use Rattle.bp_append.specs.Grown.{Roots, Makes}
 use Rattle.bp_append.specs.Prepared.{CanPrepare, PreparesWith, most_stores, need_for}
 use Rattle.bp_append.proofs.ChildrenLaws.{built_as}
-use Rattle.bp_append.proofs.PrepLaws.{in_free_harmless, agrees_of, words_new, epochs_quiet, meaning_middle, wf_middle, reached_middle, place_middle, still_free}
+use Rattle.bp_append.proofs.PrepLaws.{in_free_harmless, no_root_in_free, agrees_of, words_new, epochs_quiet, meaning_middle, wf_middle, reached_middle, place_middle, still_free}
 use Rattle.bp_append.proofs.ReadyLaws.{built_reads, null_byte, IsReady, prepared}
 
 pub quiet_more : (barriers stores more : ℕ) (old new : Memory) → stores ≤ more → AddsQuiet Same barriers stores old new → AddsQuiet Same barriers more old new
@@ -97,8 +97,12 @@ module _ (first new : Memory) (free_old free_new : List ℕ) (t place from to : 
   sizes : size_of middle t ≡ size_of old t
   sizes = size-same old middle can.well agrees t can.reached
 
+  roots_stay : (u : ℕ) → IsReached old u → root_of middle u ≡ root_of old u
+  roots_stay u r =
+      root-kept old middle can.well agrees u r (λ p there. may_frame _ 0 _ first makes.between made.stores p (λ v m. no_root_in_free old can.well made.taken taken_low taken_free u p r there m))
+
   roots : root_of middle t ≡ root_of old t
-  roots = root-same old middle can.well agrees t can.reached
+  roots = roots_stay t can.reached
 
   free_middle : (taken : List ℕ) → Each (λ b. IsLiveBlock old b → ⊥) taken → Each (λ b. IsLiveBlock middle b → ⊥) taken
   free_middle [] all = tt
@@ -115,7 +119,7 @@ module _ (first new : Memory) (free_old free_new : List ℕ) (t place from to : 
         (λ by. none_below (by_old old middle t (meaning_middle old middle can.well agrees t place can.reached at) can.reached by)) order null made.tree (free_middle made.taken taken_free)
         (λ i low. given_before from raw (0 + i) (omega (arith, low, can.behind))));
     sizes = λ u r. size-same old middle can.well agrees u r;
-    roots = λ u r away. root-same old middle can.well agrees u r;
+    roots = λ u r away. roots_stay u r;
   }
 
   pub null_quiet : AddsQuiet Same 2 (most_stores (need_for old t from to)) first new

@@ -2,7 +2,7 @@
 use Rattle.std.proofs.Common.{◌≡◌, ℕ, suc, ◌+◌, ◌*◌, ◌/◌, ◌%◌, ◌<◌, ◌≤◌, List, [], ◌∷◌, ◌++◌, length, set, refl, sym, ◌∙◌, subst, arith, inl, inr}
 use Rattle.std.proofs.lemmas.List.{append_assoc}
 use Rattle.bp_layout.specs.Words.{Image, word, height_of}
-use Rattle.bp_layout.specs.Tree.{node}
+use Rattle.bp_layout.specs.Tree.{node, HasBlock}
 use Rattle.bp_layout.specs.Inode.{root_of, size_of, inode_count, RootPlace}
 use Rattle.bp_layout.specs.Reached.{IsReached, IsLiveBlock}
 use Rattle.bp_layout.specs.Reached.IsReached.{inode_file}
@@ -19,7 +19,7 @@ use Rattle.bp_changes.proofs.Frame.{keeps, meaning-same, same-by_agreement, root
 use Rattle.bp_changes.proofs.SameMeaning.{reached-back, well_formed-same}
 use Rattle.bp_layout.proofs.SameLaws.{same_symmetric, same_transitive}
 use Rattle.bp_changes.proofs.Stores.{harmless_here}
-use Rattle.bp_changes.proofs.Separation.{free-harmless}
+use Rattle.bp_changes.proofs.Separation.{stands_in_block, free-harmless}
 use Rattle.bp_changes.proofs.ReachedOn.{reached_on}
 use Rattle.pm_epochs.specs.declared.event.Event.TheVariants.{Store, Barrier}
 use Rattle.pm_epochs.specs.Crash.{IsPartialEquivalence}
@@ -44,6 +44,20 @@ pub in_free_harmless : (old : Image) → IsWellFormed old → (blocks : List ℕ
 in_free_harmless old wf blocks low free w v m =
     let place : 512 * (w / 512) + w % 512 ≡ w = omega arith in
     subst (λ p. IsHarmless old p v) place (free-harmless old wf (w / 512) (w % 512) v (each_has _ blocks (w / 512) low m) (omega arith) (each_has _ blocks (w / 512) free m))
+
+-- and no root word stands in it
+pub no_root_in_free : (old : Image) → IsWellFormed old → (blocks : List ℕ) → Each (λ b. 1 ≤ b) blocks → Each (λ b. IsLiveBlock old b → ⊥) blocks → (t place : ℕ) → IsReached old t →
+    RootPlace old t place → InBlocks blocks place → ⊥
+no_root_in_free old wf blocks low free t place reached (top first two) m = let some : 1 ≤ place / 512 = each_has _ blocks (place / 512) low m in omega (arith, some, two)
+no_root_in_free old wf blocks low free t place reached (inode some stands) m =
+    let in_file : t < inode_count old = reached-in_file old wf t reached in
+    let here : node old (root_of old 0) (height_of (root_of old 0)) ((8 * t + 1) / 512) ≡ place / 512 = omega (arith, stands.at) in
+    each_has _ blocks (place / 512) free m (record {
+      tree = 0;
+      reached = inode_file;
+      has = subst (HasBlock old (root_of old 0) (size_of old 0)) here
+          (stands_in_block old 0 (height_of (root_of old 0)) (8 * t + 1) place stands (live_content _ _ (8 * t + 1) (omega (arith, in_file))));
+    })
 
 pub agrees_of : (old new : Image) → EachMay (IsHarmless old) old new → Agrees old new
 agrees_of old new all = record {
@@ -105,7 +119,7 @@ module _ (old middle : Image) (wf : IsWellFormed old) (agrees : Agrees old middl
       go : RootPlace old t place → RootPlace middle t place
       go (top first two) = top first two
       go (inode some stands) =
-          let two : word middle 2 ≡ word old 2 = root-same old middle wf agrees 0 inode_file in
+          let two : word middle 2 ≡ word old 2 = root-same old middle wf agrees 0 inode_file (omega (arith, wf.some_inodes)) in
           let in_file : t < inode_count old = reached-in_file old wf t reached in
           let below : 8 * (8 * t + 1) < size_of old 0 = omega (arith, in_file) in
           let same : node middle (root_of old 0) (height_of (root_of old 0)) ((8 * t + 1) / 512) ≡ node old (root_of old 0) (height_of (root_of old 0)) ((8 * t + 1) / 512) =

@@ -13,8 +13,8 @@ use Rattle.bp_layout.specs.Members.{Has, Each, AreApart}
 use Rattle.bp_shapes.specs.Links.{CanHang, raised_by, IsChain}
 use Rattle.bp_layout.specs.Stores.{after_stores}
 use Rattle.bp_layout.proofs.TreeLaws.{node-kept, live_above, live_pointer_word}
-use Rattle.bp_changes.proofs.Frame.{keeps, root-same, size-same}
-use Rattle.bp_shapes.proofs.Behind.{behind_of, behind_harmless}
+use Rattle.bp_changes.proofs.Frame.{keeps, root-kept, size-same}
+use Rattle.bp_shapes.proofs.Behind.{behind_of, behind_harmless, no_root_behind}
 use Rattle.bp_changes.proofs.ReachedOn.{reached_on, meaning_on}
 use Rattle.bp_shapes.proofs.Reshape as reshape
 use Rattle.bp_shapes.proofs.NullLink as null_link
@@ -38,7 +38,7 @@ use Rattle.bp_append.specs.Prepared.{CanPrepare, PreparesWith, most_stores, need
 use Rattle.bp_append.proofs.VisitDone.{extended_old, extended_new}
 use Rattle.bp_append.proofs.HangBuilt.{hang_built, in_taken}
 use Rattle.bp_append.proofs.NeedLaws.{tall_low}
-use Rattle.bp_append.proofs.PrepLaws.{in_free_harmless, agrees_of, after_append, words_new, epochs_quiet, meaning_middle, wf_middle, reached_middle, place_middle, still_free}
+use Rattle.bp_append.proofs.PrepLaws.{in_free_harmless, no_root_in_free, agrees_of, after_append, words_new, epochs_quiet, meaning_middle, wf_middle, reached_middle, place_middle, still_free}
 use Rattle.bp_append.proofs.ReadyLaws.{IsReady, prepared}
 use Rattle.bp_append.proofs.TwoLinks as two
 use Rattle.bp_append.proofs.NullPrepared.{quiet_more, full_by_words}
@@ -95,8 +95,15 @@ module _ (first new : Memory) (free_old free_new : List ℕ) (t place from to : 
   sizes : size_of middle t ≡ size_of old t
   sizes = size-same old middle can.well agrees t can.reached
 
+  roots_stay : (u : ℕ) → IsReached old u → root_of middle u ≡ root_of old u
+  roots_stay u r =
+      root-kept old middle can.well agrees u r (λ p there. may_frame _ 0 _ first grows.between grows.stores p (λ v m. elim m [
+        | inl own ↦ no_root_in_free old can.well (grows.visited ++ grows.raised) taken_low taken_free u p r there own
+        | inr behind ↦ no_root_behind old can.well t p v (behind_of old t p v can.reached behind) u r there
+      ]))
+
   roots : root_of middle t ≡ root_of old t
-  roots = root-same old middle can.well agrees t can.reached
+  roots = roots_stay t can.reached
 
   meaning : SameMeaning old middle
   meaning = meaning_middle old middle can.well agrees t place can.reached at
@@ -144,7 +151,7 @@ module _ (first new : Memory) (free_old free_new : List ℕ) (t place from to : 
     at = place_there;
     reads = reads_alone;
     sizes = λ u r. size-same old middle can.well agrees u r;
-    roots = λ u r away. root-same old middle can.well agrees u r;
+    roots = λ u r away. roots_stay u r;
   }
 
   -- ---- with a pointer that waited
@@ -220,7 +227,7 @@ module _ (first new : Memory) (free_old free_new : List ℕ) (t place from to : 
       reads = two.reads_middle middle well t hangs.depth hangs.index hung_place (block_of pointer) hang grows.chain chain_there not_chain;
       sizes = λ u r. reshape.size-same middle hung_image well t (root_of middle t) (null_link.hung_reshapes middle well t hangs.depth hangs.index hung_place (block_of pointer) hang) u (reached_on old middle meaning u r) ∙ size-same old middle can.well agrees u r;
       roots = λ u r away. reshape.root-same middle hung_image well t (root_of middle t) (null_link.hung_reshapes middle well t hangs.depth hangs.index hung_place (block_of pointer) hang) u (reached_on old middle meaning u r) away
-          ∙ root-same old middle can.well agrees u r;
+          ∙ roots_stay u r;
     }
 
   -- ---- both

@@ -1,9 +1,8 @@
 -- What a preparation keeps: inodes, entries, blocks, and what is free.
-use Rattle.std.proofs.Common.{◌≡◌, ◌⊎◌, ℕ, zero, suc, ◌<◌, Bool, true, false, ◌==◌, set, Some, refl, sym, ◌∙◌, ap, arith, inl, inr}
-use Rattle.std.proofs.lemmas.Bool.{cases_eq, eqb-false}
+use Rattle.std.proofs.Common.{◌≡◌, ℕ, zero, suc, ◌<◌, Bool, true, false, ◌==◌, Some, refl, sym, ◌∙◌, ap, arith}
+use Rattle.std.proofs.lemmas.Bool.{eqb-false}
 use Rattle.bp_layout.specs.Words.{Image}
-use Rattle.bp_layout.specs.Tree.{HasBlock}
-use Rattle.bp_layout.specs.Inode.{kind_of, root_of, size_of, RootPlace}
+use Rattle.bp_layout.specs.Inode.{kind_of, size_of}
 use Rattle.bp_layout.specs.Directory.{Name, EntryNames, inumber_at, entry_count, is_named, slot_named, empty_slot}
 use Rattle.bp_layout.specs.Reached.{IsReached, IsLiveBlock, IsFreeBlock}
 use Rattle.bp_layout.specs.Reached.IsReached.{inode_file, root_directory, named}
@@ -12,18 +11,12 @@ use Rattle.bp_layout.specs.Free.{IsFreeInode}
 use Rattle.bp_changes.specs.Harmless.{Agrees}
 use Rattle.bp_layout.specs.Lookup.{Path, lookup}
 use Rattle.bp_layout.specs.Same.{Same}
-use Rattle.bp_changes.specs.SameContent.{ReadsAs, IsReadByWords}
 use Rattle.bp_changes.specs.SameMeaning.{SameMeaning}
-use Rattle.bp_layout.proofs.TreeLaws.{has_block-stays, has_block-kept}
-use Rattle.bp_layout.proofs.SmallTrees.{empty_has_none}
 use Rattle.bp_layout.proofs.Finding.{find-same}
 use Rattle.bp_layout.proofs.View.{SameDirectories, lookup_from-same}
 use Rattle.bp_changes.proofs.SameMeaning.{view-same, reached-back, well_formed-same, same-by_meaning}
 use Rattle.bp_changes.proofs.Frame as frame
-use Rattle.bp_shapes.proofs.Reshape as reshape
-use Rattle.bp_shapes.proofs.Reshape.{Reshapes}
-use Rattle.bp_shapes.proofs.RootLink.{root_reshapes}
-use Rattle.bp_shapes.proofs.Roots.{empty_reads}
+use Rattle.bp_changes.proofs.ReachedOn.{meaning_on}
 use Rattle.bp_calls.proofs.EnteredLaws.{KeepsBlocks}
 
 -- The second image means the same, with the same blocks and as many inodes. Words that nobody reads may be others.
@@ -39,43 +32,10 @@ agrees_prepared old new wf agrees = record {
   meaning = frame.meaning-same old new wf agrees;
   blocks = record {
     back = λ t b reached has. frame.has_block-back old new wf agrees t b reached has;
-    stay = λ t b reached has. frame.at_old old new wf agrees (λ r s. HasBlock new r s b) t reached
-        (has_block-stays old new (root_of old t) (size_of old t) (frame.keeps old new wf agrees t reached) b has);
+    stay = λ t b reached has. frame.has_block-on old new wf agrees t b reached has;
   };
   inode_bytes = frame.size-same old new wf agrees 0 inode_file;
 }
-
--- the root word of a tree without bytes may be any
-pub root_prepared : (old : Image) → IsWellFormed old → (t place other : ℕ) → IsReached old t → size_of old t ≡ 0 → RootPlace old t place → IsPrepared old (set old place other)
-root_prepared old wf t place other reached empty at = record {
-  meaning = reshape.reshaped_meaning old (set old place other) wf t other reshapes;
-  blocks = record {
-    back = λ u b r has. back u b r (cases_eq u t) has;
-    stay = λ u b r has. stay u b r (cases_eq u t) has;
-  };
-  inode_bytes = reshapes.inode_bytes;
-}
-  where
-    reads : ReadsAs (IsReadByWords old t) old (size_of old t) (root_of old t) other
-    reads = rw empty (empty_reads (IsReadByWords old t) old (root_of old t) other)
-
-    reshapes : Reshapes old (set old place other) t other
-    reshapes = root_reshapes old wf t place other reached at reads
-
-    no_bytes : (u : ℕ) → IsReached old u → u ≡ t → size_of (set old place other) u ≡ 0
-    no_bytes u r e = reshape.size-same old (set old place other) wf t other reshapes u r ∙ ap (size_of old) e ∙ empty
-
-    back : (u b : ℕ) → IsReached old u → (u ≡ t) ⊎ (u ≡ t → ⊥) → HasBlock (set old place other) (root_of (set old place other) u) (size_of (set old place other) u) b → HasBlock old (root_of old u) (size_of old u) b
-    back u b r (inl e) has = absurd (empty_has_none (set old place other) (root_of (set old place other) u) b (rw (no_bytes u r e) at has))
-    back u b r (inr apart) has =
-        has_block-kept old (set old place other) (root_of old u) (size_of old u) (reshape.keeps old (set old place other) wf t other reshapes u r apart) b
-        (rw (reshape.root-same old (set old place other) wf t other reshapes u r apart, reshape.size-same old (set old place other) wf t other reshapes u r) at has)
-
-    stay : (u b : ℕ) → IsReached old u → (u ≡ t) ⊎ (u ≡ t → ⊥) → HasBlock old (root_of old u) (size_of old u) b → HasBlock (set old place other) (root_of (set old place other) u) (size_of (set old place other) u) b
-    stay u b r (inl e) has = absurd (empty_has_none old (root_of old u) b (rw (ap (size_of old) e ∙ empty) at has))
-    stay u b r (inr apart) has =
-        rw (reshape.root-same old (set old place other) wf t other reshapes u r apart, reshape.size-same old (set old place other) wf t other reshapes u r)
-        (has_block-stays old (set old place other) (root_of old u) (size_of old u) (reshape.keeps old (set old place other) wf t other reshapes u r apart) b has)
 
 -- ---- what stays
 
@@ -182,22 +142,7 @@ prepared_self image wf = record {
 
 pub prepared_on : (first second third : Image) → IsWellFormed first → IsPrepared first second → IsPrepared second third → IsPrepared first third
 prepared_on first second third wf one two = record {
-  meaning = record {
-    whole = two.meaning.whole ∙ one.meaning.whole;
-    marked = two.meaning.marked ∙ one.meaning.marked;
-    counted = two.meaning.counted ∙ one.meaning.counted;
-    kind = λ t r. two.meaning.kind t (on t r) ∙ one.meaning.kind t r;
-    size = λ i r. two.meaning.size i (on (suc i) r) ∙ one.meaning.size i r;
-    inode_blocks = two.meaning.inode_blocks;
-    inodes = omega (arith, one.meaning.inodes, two.meaning.inodes);
-    inumber = λ i s r kind low. two.meaning.inumber i s (on i r) (one.meaning.kind i r ∙ kind) (rw (size_after first second wf one i r) low) ∙ one.meaning.inumber i s r kind low;
-    entry = λ i s j f r n few. two.meaning.entry i s j f (on i r) (names_after first second wf one i s j r n) few ∙ one.meaning.entry i s j f r n few;
-    bytes = λ i o r kind low. two.meaning.bytes i o (on i r) (one.meaning.kind i r ∙ kind) (rw (size_after first second wf one i r) low) ∙ one.meaning.bytes i o r kind low;
-    sound = λ t r. two.meaning.sound t (on t r);
-    apart = λ t u b r q has also. two.meaning.apart t u b (on t r) (on u q) has also;
-    full_inode_file = two.meaning.full_inode_file;
-    full_directories = λ i r kind. two.meaning.full_directories i (on i r) (one.meaning.kind i r ∙ kind);
-  };
+  meaning = meaning_on first second third one.meaning two.meaning;
   blocks = record {
     back = λ t b r has. one.blocks.back t b r (two.blocks.back t b (on t r) has);
     stay = λ t b r has. two.blocks.stay t b (on t r) (one.blocks.stay t b r has);

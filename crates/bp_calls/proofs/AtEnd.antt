@@ -16,8 +16,7 @@ use Rattle.bp_calls.proofs.NeedLaws.{need_behind}
 use Rattle.bp_calls.proofs.OpenPlaces.{content_open, each_weaker, size_covered}
 use Rattle.bp_calls.proofs.StandsLaws.{enters_well_formed, prepared_stands}
 use Rattle.bp_calls.specs.Sets.{AreExact}
-use Rattle.bp_calls.specs.Spare.{IsUnread}
-use Rattle.bp_calls.specs.Spare.IsUnread.{spare}
+use Rattle.bp_calls.specs.Spare.{IsSpare}
 use Rattle.bp_calls.specs.Steps.{CanName}
 use Rattle.bp_calls.specs.Written.{HasInodeAt, HasNameAt, IsWithin}
 use Rattle.bp_free.specs.Set.{Set, without}
@@ -44,8 +43,7 @@ use Rattle.bp_calls.proofs.InSlot.{inode_inside}
 use Rattle.bp_calls.proofs.ReadBack.{name_read, inode_stays, new_inode}
 use Rattle.bp_calls.proofs.SetLaws.{exact_prepared, exact_grown_in_leaf}
 use Rattle.bp_calls.proofs.Spares.{no_inode_file, row_stands, one_content, spare_behind}
-use Rattle.bp_calls.proofs.Trees.{SameTrees, word_kept, stands_kept}
-use Rattle.bp_calls.proofs.Unread.{unread_trees}
+use Rattle.bp_calls.proofs.Trees.{SameTrees, spare_trees, word_kept, stands_kept}
 
 module _ (first second third last : Memory) (i j at entry place : ℕ) (name : Name) (kind : Kind) (can : CanName (current_words first) i j name) (vacant : empty_slot (current_words first) i ≡ None) (part : size_of (current_words first) i % 4096 ≢ 0)
     (inode_at : ContentStandsAt (current_words first) 0 (8 * j + 0) at) (entry_at : ContentStandsAt (current_words first) i (32 * (size_of (current_words first) i / 256)) entry)
@@ -81,7 +79,7 @@ module _ (first second third last : Memory) (i j at entry place : ℕ) (name : N
   word_stands f p few e = row_stands image i (32 * slot) f (32 * slot + f) entry p refl e (omega (arith, few)) entry_at
 
   abbrev Inside : ℕ → Type 0
-  Inside p = IsUnread image i p × IsOpen image [] p
+  Inside p = IsSpare image p × IsOpen image [] p
 
   entry_inside : (p v : ℕ) → AnyAt (IsWithin entry 32) p v → AnyAt Inside p v
   entry_inside p v inside =
@@ -89,7 +87,7 @@ module _ (first second third last : Memory) (i j at entry place : ℕ) (name : N
       let high : p < entry + 32 = inside.high in
       let f : ℕ = p - entry in
       let stands : ContentStandsAt image i (32 * slot + f) p = word_stands f p (omega arith) (omega arith) in
-      (spare (spare_behind image wf i (32 * slot + f) p reached (omega (arith, entries)) (leaf f (omega arith)) stands), content_open image [] i (32 * slot + f) p reached (leaf f (omega arith)) stands)
+      (spare_behind image wf i (32 * slot + f) p reached (omega (arith, entries)) (leaf f (omega arith)) stands, content_open image [] i (32 * slot + f) p reached (leaf f (omega arith)) stands)
 
   all_inside : AddsMay (AnyAt Inside) 0 35 first third
   all_inside = may_twice (AnyAt Inside) 0 3 first 0 32 second third
@@ -97,7 +95,7 @@ module _ (first second third last : Memory) (i j at entry place : ℕ) (name : N
       (may_weaker (AnyAt (IsWithin entry 32)) (AnyAt Inside) 0 32 second third entry_inside entry_stores)
 
   trees_of : (other : Image) → EachMay (AnyAt Inside) image other → SameTrees image other
-  trees_of other all = unread_trees image wf i reached not_file other (each_weaker Inside (IsUnread image i) image other (λ p both. both.0) all)
+  trees_of other all = spare_trees image other wf (each_weaker Inside (IsSpare image) image other (λ p both. both.0) all)
 
   trees : SameTrees image mid
   trees = trees_of mid (each_after (AnyAt Inside) 0 35 first third all_inside)

@@ -19,8 +19,7 @@ use Rattle.bp_tree.specs.Performs.IsOpen.{in_taken}
 use Rattle.pm_epochs.specs.Log.{StoresTo}
 use Rattle.pm_epochs.proofs.MayLaws.{StoresMay-append, StoresMay-weaker}
 use Rattle.bp_calls.specs.Sets.{AreExact}
-use Rattle.bp_calls.specs.Spare.{IsUnread}
-use Rattle.bp_calls.specs.Spare.IsUnread.{spare, dead_root}
+use Rattle.bp_calls.specs.Spare.{IsSpare}
 use Rattle.bp_calls.specs.Steps.{CanName}
 use Rattle.bp_calls.specs.Written.{AddsFrom, HasInodeAt, HasNameAt, IsWithin}
 use Rattle.bp_free.specs.Set.{Set, without}
@@ -51,9 +50,8 @@ use Rattle.bp_calls.proofs.GrownLaws.{grown}
 use Rattle.bp_calls.proofs.InSlot.{inode_inside}
 use Rattle.bp_calls.proofs.ReadBack.{name_read, inode_stays, new_inode}
 use Rattle.bp_calls.proofs.SetLaws.{exact_prepared, exact_grown_first}
-use Rattle.bp_calls.proofs.Spares.{no_inode_file, row_stands, one_content, not_in_free, spare_free}
-use Rattle.bp_calls.proofs.Trees.{SameTrees, word_kept, stands_kept}
-use Rattle.bp_calls.proofs.Unread.{unread_trees}
+use Rattle.bp_calls.proofs.Spares.{no_inode_file, row_stands, one_content, not_in_free, spare_free, spare_root}
+use Rattle.bp_calls.proofs.Trees.{SameTrees, spare_trees, word_kept, stands_kept}
 use Rattle.bp_calls.proofs.Writes.{stored_here}
 
 module _ (first second third fourth last : Memory) (i j b at root_place place : ℕ) (name : Name) (kind : Kind) (can : CanName (current_words first) i j name) (vacant : empty_slot (current_words first) i ≡ None) (none : size_of (current_words first) i ≡ 0)
@@ -85,7 +83,7 @@ module _ (first second third fourth last : Memory) (i j b at root_place place : 
   new_in_file = can.free.high
 
   abbrev Inside : ℕ → Type 0
-  Inside p = IsUnread image i p × IsOpen image (b ∷ []) p
+  Inside p = IsSpare image p × IsOpen image (b ∷ []) p
 
   entry_inside : (p v : ℕ) → AnyAt (IsWithin (512 * b) 32) p v → AnyAt Inside p v
   entry_inside p v inside =
@@ -93,11 +91,11 @@ module _ (first second third fourth last : Memory) (i j b at root_place place : 
       let high : p < 512 * b + 32 = inside.high in
       let f : ℕ = p - 512 * b in
       let at_word : 512 * b + f ≡ p = omega arith in
-      (subst (IsUnread image i) at_word (spare (spare_free image wf b f free (omega arith))), in_taken (inl (omega arith)))
+      (subst (IsSpare image) at_word (spare_free image wf b f free (omega arith)), in_taken (inl (omega arith)))
 
   early : AddsMay (AnyAt Inside) 0 4 first third
   early = may_twice (AnyAt Inside) 0 1 first 0 3 second third
-      (may_one (AnyAt Inside) first second root_place (4096 * b) (dead_root none root_at, content_open image (b ∷ []) 0 (8 * i + 1) root_place inode_file (omega (arith, in_file)) root_at) roots)
+      (may_one (AnyAt Inside) first second root_place (4096 * b) (spare_root image wf i root_place reached not_file none root_at, content_open image (b ∷ []) 0 (8 * i + 1) root_place inode_file (omega (arith, in_file)) root_at) roots)
       (may_weaker (AnyAt (IsWithin at 3)) (AnyAt Inside) 0 3 second third (inode_inside image wf i j at name (b ∷ []) can inode_at) fills)
 
   abbrev all_inside : AddsMay (AnyAt Inside) 0 36 first fourth
@@ -113,7 +111,7 @@ module _ (first second third fourth last : Memory) (i j b at root_place place : 
   stored = StoresTo-behind (InBlock b) early.added entry_stores.part.added (stored_wider (λ p. p ≡ 512 * b) (InBlock b) (λ p e. omega (arith, e)) entry_stores.part.added entry_stores.starts)
 
   trees_of : (other : Image) → EachMay (AnyAt Inside) image other → SameTrees image other
-  trees_of other all = unread_trees image wf i reached not_file other (each_weaker Inside (IsUnread image i) image other (λ p both. both.0) all)
+  trees_of other all = spare_trees image other wf (each_weaker Inside (IsSpare image) image other (λ p both. both.0) all)
 
   trees : SameTrees image mid
   trees = trees_of mid (each_after (AnyAt Inside) 0 36 first fourth all_inside)

@@ -19,8 +19,7 @@ use Rattle.bp_changes.proofs.ContentStore.{root_stays}
 use Rattle.bp_layout.specs.Directory.{empty_slot}
 use Rattle.bp_layout.specs.Inode.{size_of, ContentStandsAt, root_of, inode_count}
 use Rattle.bp_calls.specs.Sets.{AreExact}
-use Rattle.bp_calls.specs.Spare.{IsUnread}
-use Rattle.bp_calls.specs.Spare.IsUnread.{spare}
+use Rattle.bp_calls.specs.Spare.{IsSpare}
 use Rattle.bp_calls.specs.Steps.{CanName}
 use Rattle.bp_calls.specs.Written.{HasInodeAt, HasNameAt, IsWithin}
 use Rattle.bp_free.specs.Set.{Set, without}
@@ -44,26 +43,25 @@ use Rattle.bp_calls.proofs.EnteredLaws.{Enters, entered}
 use Rattle.bp_calls.proofs.ReadBack.{name_read, inode_stays, new_inode}
 use Rattle.bp_calls.proofs.SetLaws.{exact_prepared, exact_entered}
 use Rattle.bp_calls.proofs.Spares.{no_inode_file, row_stands, one_content, spare_inode, spare_entry}
-use Rattle.bp_calls.proofs.Trees.{SameTrees, word_kept, stands_kept}
-use Rattle.bp_calls.proofs.Unread.{unread_trees}
+use Rattle.bp_calls.proofs.Trees.{SameTrees, spare_trees, word_kept, stands_kept}
 
 -- stores to an inode that nobody reaches
-pub inode_unread : (image : Image) → IsWellFormed image → (i j at : ℕ) (name : Name) → CanName image i j name → ContentStandsAt image 0 (8 * j + 0) at → (p v : ℕ) → AnyAt (IsWithin at 3) p v → AnyAt (IsUnread image i) p v
-inode_unread image wf i j at name can stands p v inside =
+pub inode_spare : (image : Image) → IsWellFormed image → (i j at : ℕ) (name : Name) → CanName image i j name → ContentStandsAt image 0 (8 * j + 0) at → (p v : ℕ) → AnyAt (IsWithin at 3) p v → AnyAt (IsSpare image) p v
+inode_spare image wf i j at name can stands p v inside =
     let low : at ≤ p = inside.low in
     let high : p < at + 3 = inside.high in
     let f : ℕ = p - at in
-    spare (spare_inode image wf j f p can.free (omega arith) (row_stands image 0 (8 * j + 0) f (8 * j + f) at p (omega arith) (omega arith) (omega arith) stands))
+    spare_inode image wf j f p can.free (omega arith) (row_stands image 0 (8 * j + 0) f (8 * j + f) at p (omega arith) (omega arith) (omega arith) stands)
 
 -- where the file has its words: nobody reads them, and they are in a live block
 pub inode_inside : (image : Image) → IsWellFormed image → (i j at : ℕ) (name : Name) (taken : List ℕ) → CanName image i j name → ContentStandsAt image 0 (8 * j + 0) at → (p v : ℕ) → AnyAt (IsWithin at 3) p v →
-    AnyAt (λ q. IsUnread image i q × IsOpen image taken q) p v
+    AnyAt (λ q. IsSpare image q × IsOpen image taken q) p v
 inode_inside image wf i j at name taken can stands p v inside =
     let low : at ≤ p = inside.low in
     let high : p < at + 3 = inside.high in
     let f : ℕ = p - at in
     let in_file : j < inode_count image = can.free.high in (
-      inode_unread image wf i j at name can stands p v inside,
+      inode_spare image wf i j at name can stands p v inside,
       content_open image taken 0 (8 * j + f) p inode_file (omega (arith, in_file)) (row_stands image 0 (8 * j + 0) f (8 * j + f) at p (omega arith) (omega arith) (omega arith) stands),
     )
 
@@ -98,7 +96,7 @@ module _ (first second third last : Memory) (i s j at entry : ℕ) (name : Name)
   word_stands f few = row_stands image i (32 * s + 0) f (32 * s + f) entry (entry + f) (omega arith) refl (omega (arith, few)) entry_at
 
   abbrev Inside : ℕ → Type 0
-  Inside p = IsUnread image i p × IsOpen image [] p
+  Inside p = IsSpare image p × IsOpen image [] p
 
   name_inside : (p v : ℕ) → AnyAt (IsWithin (entry + 1) 31) p v → AnyAt Inside p v
   name_inside p v inside =
@@ -106,7 +104,7 @@ module _ (first second third last : Memory) (i s j at entry : ℕ) (name : Name)
       let high : p < entry + 1 + 31 = inside.high in
       let f : ℕ = p - entry in
       let stands : ContentStandsAt image i (32 * s + f) p = row_stands image i (32 * s + 0) f (32 * s + f) entry p (omega arith) (omega arith) (omega arith) entry_at in
-      (spare (spare_entry image wf i s f p reached can.lacks.directory in_size empty (omega arith) (omega arith) stands), content_open image [] i (32 * s + f) p reached (omega (arith, in_size)) stands)
+      (spare_entry image wf i s f p reached can.lacks.directory in_size empty (omega arith) (omega arith) stands, content_open image [] i (32 * s + f) p reached (omega (arith, in_size)) stands)
 
   all_inside : AddsMay (AnyAt Inside) 0 34 first third
   all_inside = may_twice (AnyAt Inside) 0 3 first 0 31 second third
@@ -114,7 +112,7 @@ module _ (first second third last : Memory) (i s j at entry : ℕ) (name : Name)
       (may_weaker (AnyAt (IsWithin (entry + 1) 31)) (AnyAt Inside) 0 31 second third name_inside spells)
 
   trees_of : (other : Image) → EachMay (AnyAt Inside) image other → SameTrees image other
-  trees_of other all = unread_trees image wf i reached not_file other (each_weaker Inside (IsUnread image i) image other (λ p both. both.0) all)
+  trees_of other all = spare_trees image other wf (each_weaker Inside (IsSpare image) image other (λ p both. both.0) all)
 
   trees : SameTrees image mid
   trees = trees_of mid (each_after (AnyAt Inside) 0 34 first third all_inside)

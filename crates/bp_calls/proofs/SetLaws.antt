@@ -6,7 +6,7 @@ use Rattle.bp_free.specs.Set.{Set, has, without}
 use Rattle.bp_free.proofs.Members.{has_without_same, has_without_other, has_past}
 use Rattle.bp_layout.specs.Words.{Image}
 use Rattle.bp_layout.specs.Tree.{HasBlock}
-use Rattle.bp_layout.specs.Inode.{root_of, size_of, ContentStandsAt, RootPlace}
+use Rattle.bp_layout.specs.Inode.{root_of, size_of, ContentStandsAt}
 use Rattle.bp_layout.specs.Directory.{Name, IsName, slot_named}
 use Rattle.bp_layout.specs.Reached.{IsReached, IsLiveBlock, IsFreeBlock}
 use Rattle.bp_layout.specs.WellFormed.{IsWellFormed}
@@ -20,7 +20,7 @@ use Rattle.bp_calls.specs.Sets.{AreExact}
 use Rattle.bp_calls.proofs.EnteredLaws.{Enters, KeepsBlocks, entered, entered_blocks}
 use Rattle.bp_calls.proofs.GrownLaws.{GrowsBlocks, grown, grown_blocks}
 use Rattle.bp_calls.proofs.BehindLaws.{has_more, behind_same_blocks, first_block, has_first}
-use Rattle.bp_calls.proofs.AfterLaws.{IsPrepared, agrees_prepared, root_prepared, live_before_too, live_after, reached_before, reached_after}
+use Rattle.bp_calls.proofs.AfterLaws.{IsPrepared, agrees_prepared, live_before_too, live_after, reached_before, reached_after}
 
 -- ---- one number less
 
@@ -101,10 +101,6 @@ exact_prepared old new wf prepared blocks inodes exact = record {
 
 pub exact_agrees : (old new : Image) → IsWellFormed old → Agrees old new → (blocks inodes : Set) → AreExact old blocks inodes → AreExact new blocks inodes
 exact_agrees old new wf agrees = exact_prepared old new wf (agrees_prepared old new wf agrees)
-
-pub exact_root : (old : Image) → IsWellFormed old → (t place other : ℕ) → IsReached old t → size_of old t ≡ 0 → RootPlace old t place → (blocks inodes : Set) → AreExact old blocks inodes →
-    AreExact (set old place other) blocks inodes
-exact_root old wf t place other reached empty at = exact_prepared old (set old place other) wf (root_prepared old wf t place other reached empty at)
 
 -- ---- over one more name
 

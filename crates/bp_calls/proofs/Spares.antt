@@ -1,6 +1,6 @@
 -- Which words are spare: those of an inode that nobody reaches, those of an empty entry but its inumber, those behind the
--- size, and those of a free block.
-use Rattle.std.proofs.Common.{◌≡◌, ◌≢◌, ℕ, suc, ◌+◌, ◌*◌, ◌/◌, ◌%◌, ◌<◌, ◌≤◌, sym, ◌∙◌, ap, subst, arith}
+-- size, those of a free block, and the root word of a tree without bytes.
+use Rattle.std.proofs.Common.{◌≡◌, ◌≢◌, ℕ, zero, suc, ◌+◌, ◌*◌, ◌/◌, ◌%◌, ◌<◌, ◌≤◌, refl, sym, ◌∙◌, ap, subst, arith}
 use Rattle.bp_calls.specs.Spare.{IsSpare}
 use Rattle.bp_layout.specs.Directory.{inumber_at, entry_count}
 use Rattle.bp_layout.specs.Free.{IsFreeInode}
@@ -12,7 +12,7 @@ use Rattle.bp_layout.specs.WellFormed.{IsWellFormed}
 use Rattle.bp_layout.specs.Words.{Image, height_of}
 use Rattle.bp_shapes.proofs.Behind.{behind_harmless}
 use Rattle.bp_layout.proofs.Reached.{reached-in_file}
-use Rattle.bp_changes.proofs.Separation.{SameWord, one_place, one_place_in_nodes, free-harmless}
+use Rattle.bp_changes.proofs.Separation.{SameWord, one_place, one_place_in_nodes, free-harmless, dead_root-harmless}
 use Rattle.bp_layout.proofs.TreeLaws.{live_pointer_word, live_content}
 use Rattle.bp_calls.proofs.Trees.{live_leaf}
 
@@ -66,7 +66,7 @@ pub spare_inode : (image : Image) → IsWellFormed image → (j f place : ℕ) �
 spare_inode image wf j f place free few stands value = record {
   superblock = λ low. let high = place_high image wf 0 (8 * j + f) place inode_file below stands in absurd (omega (arith, low, high));
   pointers = λ t d k r live stand. absurd (no_pointer_here image wf 0 (8 * j + f) place inode_file below stands t d k r live stand);
-  inodes = λ i g r low stand.
+  inodes = λ i g r low read stand.
       let in_file : suc i < inode_count image = reached-in_file image wf (suc i) r in
       let same = at 0 (8 * suc i + g) inode_file (omega (arith, in_file, low)) stand in
       let inode : suc i ≡ j = omega (arith, same.1, few, low) in
@@ -88,7 +88,7 @@ pub spare_entry : (image : Image) → IsWellFormed image → (i s f place : ℕ)
 spare_entry image wf i s f place reached kind in_size empty some few stands value = record {
   superblock = λ low. let high = place_high image wf i (32 * s + f) place reached below stands in absurd (omega (arith, low, high));
   pointers = λ t d k r live stand. absurd (no_pointer_here image wf i (32 * s + f) place reached below stands t d k r live stand);
-  inodes = λ u g r low stand.
+  inodes = λ u g r low read stand.
       let in_file : suc u < inode_count image = reached-in_file image wf (suc u) r in
       let same = at 0 (8 * suc u + g) inode_file (omega (arith, in_file, low)) stand in
       absurd (no_inode_file image i 2 kind (omega arith) same.0);
@@ -128,3 +128,8 @@ spare_behind image wf t k place reached behind leaf stands value =
 -- words of a free block
 pub spare_free : (image : Image) → IsWellFormed image → (b s : ℕ) → IsFreeBlock image b → s < 512 → IsSpare image (512 * b + s)
 spare_free image wf b s free low value = free-harmless image wf b s value free.low low free.free
+
+-- the root word of a file or a directory without bytes
+pub spare_root : (image : Image) → IsWellFormed image → (i place : ℕ) → IsReached image i → i ≢ 0 → size_of image i ≡ 0 → ContentStandsAt image 0 (8 * i + 1) place → IsSpare image place
+spare_root image wf zero place reached inode none stands value = absurd (inode refl)
+spare_root image wf (suc i) place reached inode none stands value = dead_root-harmless image wf i place value reached none stands

@@ -1,15 +1,17 @@
 -- An image whose reached trees stand where those of another stand.
-use Rattle.std.proofs.Common.{◌≡◌, ◌⊎◌, ℕ, suc, ◌+◌, ◌*◌, ◌/◌, ◌%◌, ◌<◌, sym, ◌∙◌, ap, arith, inl, inr}
-use Rattle.std.proofs.lemmas.Bool.{cases_eq}
-use Rattle.bp_changes.specs.Harmless.{Agrees}
+use Rattle.std.proofs.Common.{◌≡◌, ◌⊎◌, ℕ, ◌+◌, ◌*◌, ◌/◌, ◌%◌, ◌<◌, sym, ◌∙◌, ap, arith, inl, inr}
+use Rattle.bp_changes.specs.Harmless.{IsHarmless, Agrees}
 use Rattle.bp_layout.specs.Inode.{ContentStandsAt, root_of, size_of}
 use Rattle.bp_layout.specs.Reached.{IsReached}
 use Rattle.bp_layout.specs.Tree.{node, content_word, IsLivePointer}
 use Rattle.bp_layout.specs.WellFormed.{IsWellFormed}
 use Rattle.bp_layout.specs.Words.{Image, word, height_of, slot_word}
 use Rattle.bp_changes.proofs.Frame as frame
-use Rattle.bp_layout.proofs.TreeLaws.{KeepsPointers, node-kept, live_above, live_pointer_word, slot_word-at, word_at-suc}
-use Rattle.bp_calls.proofs.AfterLaws.{IsPrepared, agrees_prepared, prepared_on, reached_after, size_after}
+use Rattle.bp_changes.proofs.Stores.{harmless_here}
+use Rattle.pm_epochs.specs.May.{AnyAt, EachMay}
+use Rattle.bp_calls.specs.Spare.{IsSpare}
+use Rattle.bp_layout.proofs.TreeLaws.{KeepsPointers, node-kept, slot_word-at, word_at-suc}
+use Rattle.bp_calls.proofs.AfterLaws.{IsPrepared, agrees_prepared}
 
 -- The second image means the same, and its trees stand where those of the first stand. A tree without bytes may have another root word.
 pub record SameTrees (old new : Image) : Type 0 where
@@ -21,35 +23,17 @@ pub record SameTrees (old new : Image) : Type 0 where
 pub agreed_trees : (old new : Image) → IsWellFormed old → Agrees old new → SameTrees old new
 agreed_trees old new wf agrees = record {
   prepared = agrees_prepared old new wf agrees;
-  root = λ t r some. frame.root-same old new wf agrees t r;
+  root = frame.root-same old new wf agrees;
   keeps = frame.keeps old new wf agrees;
 }
 
--- one after another
-pub trees_on : (old mid new : Image) → IsWellFormed old → SameTrees old mid → SameTrees mid new → SameTrees old new
-trees_on old mid new wf one two = record {
-  prepared = prepared_on old mid new wf one.prepared two.prepared;
-  root = λ t r some. two.root t (on t r) (rw (size_after old mid wf one.prepared t r) some) ∙ one.root t r some;
-  keeps = λ t r. go t r (cases_eq (size_of old t) 0);
-}
+-- stores of any values at places that nobody reads
+pub spare_trees : (old new : Image) → IsWellFormed old → EachMay (AnyAt (IsSpare old)) old new → SameTrees old new
+spare_trees old new wf all = agreed_trees old new wf (record { whole = all.size; each = λ place. go place (all.each place) })
   where
-    on : (t : ℕ) → IsReached old t → IsReached mid t
-    on = reached_after old mid wf one.prepared
-
-    up : (t d k : ℕ) → IsLivePointer (root_of old t) (size_of old t) (suc d) k → IsLivePointer (root_of old t) (size_of old t) d (k / 512)
-    up t d k live = live_above _ _ d k (live_pointer_word _ _ (suc d) k live)
-
-    go : (t : ℕ) → IsReached old t → (size_of old t ≡ 0) ⊎ (size_of old t ≡ 0 → ⊥) → KeepsPointers old new (root_of old t) (size_of old t)
-    go t r (inl none) = record { kept = λ d k live. absurd (let low : 0 < size_of old t = omega (arith, live.live) in omega (arith, low, none)) }
-    go t r (inr some) = record {
-      kept = λ d k live.
-          let root : root_of mid t ≡ root_of old t = one.root t r (omega (arith, some)) in
-          let size : size_of mid t ≡ size_of old t = size_after old mid wf one.prepared t r in
-          let lives : IsLivePointer (root_of mid t) (size_of mid t) (suc d) k = rw (root, size) live in
-          let above : node mid (root_of old t) d (k / 512) ≡ node old (root_of old t) d (k / 512) = node-kept old mid (root_of old t) (size_of old t) (one.keeps t r) d (k / 512) (up t d k live) in
-          let second : slot_word new (node mid (root_of old t) d (k / 512)) (k % 512) ≡ slot_word mid (node mid (root_of old t) d (k / 512)) (k % 512) = (rw root at ((two.keeps t (on t r)).kept d k lives)) in
-          (rw above at second) ∙ (one.keeps t r).kept d k live;
-    }
+    go : (place : ℕ) → (word new place ≡ word old place) ⊎ AnyAt (IsSpare old) place (word new place) → IsHarmless old place (word new place)
+    go place (inl same) = rw same (harmless_here old place)
+    go place (inr any) = any (word new place)
 
 -- ---- what stands at the places of the first image
 

@@ -1,8 +1,8 @@
--- Where the live words of an image stand: in live blocks, and no two at one place.
+-- Where the live words of an image stand: in live blocks, and no two at one place. So words that are none may be any.
 use Rattle.std.proofs.Common.{◌≡◌, ℕ, suc, ◌+◌, ◌*◌, ◌/◌, ◌%◌, ◌<◌, ◌≤◌, refl, sym, ◌∙◌, ap, subst, arith}
-use Rattle.bp_layout.specs.Words.{Image}
+use Rattle.bp_layout.specs.Words.{Image, height_of}
 use Rattle.bp_layout.specs.Tree.{node, IsLiveWord, IsLivePointer, HasBlock}
-use Rattle.bp_layout.specs.Inode.{root_of, size_of, inode_count, StandsAt}
+use Rattle.bp_layout.specs.Inode.{kind_of, root_of, size_of, inode_count, StandsAt, ContentStandsAt}
 use Rattle.bp_layout.specs.Reached.{IsReached, IsLiveBlock}
 use Rattle.bp_layout.specs.Reached.IsReached.{inode_file}
 use Rattle.bp_layout.specs.WellFormed.{IsWellFormed}
@@ -65,10 +65,47 @@ free-harmless image wf b s value low in_block free =
     record {
       superblock = λ h. absurd (omega arith);
       pointers = λ t d k reached live stands. absurd (not_live t d k reached (live_pointer_word _ _ (suc d) k live) stands);
-      inodes = λ i f reached few stands.
+      inodes = λ i f reached few read stands.
           let in_file : suc i < inode_count image = reached-in_file image wf (suc i) reached in
           absurd (not_live 0 _ (8 * suc i + f) inode_file (live_content (root_of image 0) (size_of image 0) (8 * suc i + f) (omega (arith, in_file, few))) stands);
       inumbers = λ i slot reached kind in_size stands. absurd (not_live i _ (32 * slot + 0) reached (live_content _ _ (32 * slot + 0) (omega (arith, in_size))) stands);
       names = λ i slot j f reached names few stands. absurd (not_live i _ (32 * slot + f) reached (live_content _ _ (32 * slot + f) (omega (arith, names.in_size, few))) stands);
       bytes = λ i o reached kind below stands. absurd (not_live i _ (o / 8) reached (live_content _ _ (o / 8) (omega (arith, below))) stands);
     }
+
+-- the root word of a file or a directory without bytes may be anything
+pub dead_root-harmless : (image : Image) → IsWellFormed image → (i place value : ℕ) → IsReached image (suc i) → size_of image (suc i) ≡ 0 →
+    ContentStandsAt image 0 (8 * suc i + 1) place → IsHarmless image place value
+dead_root-harmless image wf i place value reached none stands = record {
+  superblock = λ low. absurd (stands.present (omega (arith, stands.at, low)));
+  pointers = λ t d k also live stand.
+      let same = same_word t d k also (live_pointer_word _ _ (suc d) k live) stand in
+      let root : height_of (root_of image 0) ≡ height_of (root_of image t) = ap (λ (x : ℕ). height_of (root_of image x)) same.tree in
+      absurd (omega (arith, live.height, root, same.depth));
+  inodes = λ j f also few read stand.
+      let in_file : suc j < inode_count image = reached-in_file image wf (suc j) also in
+      let same = same_content 0 (8 * suc j + f) inode_file (omega (arith, in_file, few)) stand in
+      let inode : j ≡ i = omega (arith, same.index, few) in
+      let some : 0 < size_of image (suc j) = read (omega (arith, same.index, few)) in
+      let empty : size_of image (suc j) ≡ 0 = ap (λ (x : ℕ). size_of image (suc x)) inode ∙ none in
+      absurd (omega (arith, some, empty));
+  inumbers = λ t s also kind in_size stand. absurd (no_kind t 2 kind (omega arith) (same_content t (32 * s + 0) also (omega (arith, in_size)) stand).tree);
+  names = λ t s j f also names few stand.
+      absurd (no_kind t 2 names.directory (omega arith) (same_content t (32 * s + f) also (omega (arith, names.in_size, few)) stand).tree);
+  bytes = λ t o also kind below stand. absurd (no_kind t 1 kind (omega arith) (same_content t (o / 8) also (omega (arith, below)) stand).tree);
+}
+  where
+    below_size : 8 * (8 * suc i + 1) < size_of image 0
+    below_size = let in_file : suc i < inode_count image = reached-in_file image wf (suc i) reached in omega (arith, in_file)
+
+    same_word : (t d k : ℕ) → IsReached image t → IsLiveWord (root_of image t) (size_of image t) (suc d) k → StandsAt image t d k place →
+        SameWord 0 (height_of (root_of image 0)) (8 * suc i + 1) t d k
+    same_word t d k also live stand =
+        one_place image wf 0 (height_of (root_of image 0)) (8 * suc i + 1) t d k place inode_file also (live_content _ _ (8 * suc i + 1) below_size) live stands stand
+
+    same_content : (t k : ℕ) → IsReached image t → 8 * k < size_of image t → ContentStandsAt image t k place →
+        SameWord 0 (height_of (root_of image 0)) (8 * suc i + 1) t (height_of (root_of image t)) k
+    same_content t k also low stand = same_word t (height_of (root_of image t)) k also (live_content _ _ k low) stand
+
+    no_kind : (t kind : ℕ) → kind_of image t ≡ kind → 1 ≤ kind → 0 ≡ t → ⊥
+    no_kind t kind is some e = let zero_kind : 0 ≡ kind = subst (λ (x : ℕ). kind_of image x ≡ kind) (sym e) is in omega (arith, zero_kind, some)

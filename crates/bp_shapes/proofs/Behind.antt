@@ -2,7 +2,8 @@
 use Rattle.std.proofs.Common.{◌≡◌, ℕ, suc, ◌+◌, ◌*◌, ◌/◌, ◌%◌, ◌<◌, ◌≤◌, sym, ◌∙◌, ap, arith}
 use Rattle.bp_layout.specs.Words.{Image, height_of}
 use Rattle.bp_layout.specs.Tree.{IsLiveWord, IsLivePointer}
-use Rattle.bp_layout.specs.Inode.{root_of, size_of, inode_count, StandsAt, ContentStandsAt}
+use Rattle.bp_layout.specs.Inode.{root_of, size_of, inode_count, StandsAt, ContentStandsAt, RootPlace}
+use Rattle.bp_layout.specs.Inode.RootPlace.{top, inode}
 use Rattle.bp_layout.specs.Reached.{IsReached}
 use Rattle.bp_layout.specs.Reached.IsReached.{inode_file}
 use Rattle.bp_layout.specs.WellFormed.{IsWellFormed}
@@ -38,13 +39,20 @@ module _ (image : Image) (wf : IsWellFormed image) (t place value : ℕ) (behind
       let over = behind.ends bottom in
       omega (arith, over, size, below, same.index)
 
+  -- and no root word
+  pub no_root_behind : (u : ℕ) → IsReached image u → RootPlace image u place → ⊥
+  no_root_behind u reached (top first two) = behind.stands.present (omega (arith, behind.stands.at, two))
+  no_root_behind u reached (inode some stands) =
+      let in_file : u < inode_count image = reached-in_file image wf u reached in
+      not_whole 0 (8 * u + 1) inode_file (omega (arith, in_file)) stands
+
   pub behind_harmless : IsHarmless image place value
   behind_harmless = record {
     superblock = λ low. absurd (behind.stands.present (omega (arith, behind.stands.at, low)));
     pointers = λ u d k reached live stands.
         let same = same_word u d k reached (live_pointer_word _ _ (suc d) k live) stands in
         absurd (behind.no_pointer (moved u d k same live));
-    inodes = λ i f reached few stands.
+    inodes = λ i f reached few read stands.
         let in_file : suc i < inode_count image = reached-in_file image wf (suc i) reached in
         absurd (not_whole 0 (8 * suc i + f) inode_file (omega (arith, in_file, few)) stands);
     inumbers = λ i s reached kind in_size stands. absurd (not_whole i (32 * s + 0) reached (omega (arith, in_size)) stands);

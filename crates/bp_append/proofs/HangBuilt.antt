@@ -71,8 +71,8 @@ module _ (image : Image) (t d k place block level size : ℕ) (bytes : ℕ → �
       }
 
   -- its blocks are those taken
-  pub in_taken : (e l r : ℕ) → IsUnder d k e l r → IsLivePointer (root_of image t) (size_of image t) e l → node image (4096 * block) r l ≢ 0 → Has taken (node image (4096 * block) r l)
-  in_taken e l r b alive present =
+  pub in_below : (e l r : ℕ) → IsUnder d k e l r → IsLivePointer (root_of image t) (size_of image t) e l → node image (4096 * block) r l ≢ 0 → Has taken (node image (4096 * block) r l)
+  in_below e l r b alive present =
       built.blocks _ (record { depth = r; index = rest_of r l; pointer = live_below e l r b alive; named = sym (node_below image block level low r l); not_null = present })
 
   pub hang_built : CanHang image t d k place block

@@ -1,39 +1,31 @@
 -- The whole preparation of a tree without blocks: nobody sees it, and the tree is ready.
-use Rattle.std.proofs.Common.{◌≡◌, ◌⊎◌, ℕ, ◌+◌, ◌*◌, ◌<◌, ◌≤◌, List, [], ◌∷◌, length, refl, sym, ◌∙◌, ap, subst, subst₂, arith, rules, inl, inr, get_or-set_other, le_trans}
+use Rattle.std.proofs.Common.{◌≡◌, ◌⊎◌, ℕ, ◌+◌, ◌*◌, ◌/◌, ◌<◌, ◌≤◌, List, [], ◌∷◌, length, refl, sym, ◌∙◌, ap, subst, subst₂, arith, rules, inl, inr, get_or-set_other, le_trans}
 use Rattle.std.proofs.lemmas.Bool.{cases_eq}
 use Rattle.bp_layout.specs.Words.{Image, block_of, height_of}
 use Rattle.bp_layout.specs.Tree.{byte, HasBlock, IsFull}
 use Rattle.bp_layout.specs.Inode.{root_of, size_of, RootPlace}
 use Rattle.bp_layout.specs.Reached.{IsReached, IsLiveBlock}
 use Rattle.bp_layout.specs.WellFormed.{IsWellFormed}
-use Rattle.bp_layout.specs.Same.{Same}
 use Rattle.bp_changes.specs.SameContent.{IsReadByWords, ReadsAs}
 use Rattle.bp_changes.specs.SameMeaning.{SameMeaning}
 use Rattle.bp_changes.specs.Harmless.{IsHarmless, Agrees}
 use Rattle.bp_layout.specs.Members.{Has, Each}
 use Rattle.bp_changes.proofs.Frame.{root-kept, size-same}
 use Rattle.bp_shapes.proofs.Roots.{null_tree}
-use Rattle.pm_epochs.proofs.PieceLaws.{IsPiece-more}
+use Rattle.bp_tree.specs.Performs.IsOpen.{in_taken}
 use Rattle.pm_region.specs.Memory.{Memory, current_words}
-use Rattle.pm_region.specs.Safe.{AddsMay, AddsQuiet}
+use Rattle.bp_append.specs.Built.{InBlocks}
+use Rattle.bp_append.specs.Filled.{IsUsable}
+use Rattle.bp_append.specs.Stores.{prep_stores}
 use Rattle.pm_region.proofs.MayLaws.{may_weaker, may_frame, each_after}
-use Rattle.bp_append.proofs.FillLaws.{each_has, each_left, block_row}
+use Rattle.bp_append.proofs.FillLaws.{each_has, each_left, usable_left, block_row}
 use Rattle.bp_append.proofs.TwoLinks.{any_root_link}
 use Rattle.bp_append.specs.Given.{given, given_at}
 use Rattle.bp_append.specs.Grown.{Roots, Makes}
-use Rattle.bp_append.specs.Prepared.{CanPrepare, PreparesWith, most_stores, need_for}
+use Rattle.bp_append.specs.Prepared.{CanPrepare, PreparesWith, need_for}
 use Rattle.bp_append.proofs.ChildrenLaws.{built_as}
-use Rattle.bp_append.proofs.PrepLaws.{in_free_harmless, no_root_in_free, agrees_of, words_new, epochs_quiet, meaning_middle, wf_middle, reached_middle, place_middle, still_free}
+use Rattle.bp_append.proofs.PrepLaws.{open_root, free_taken, in_free_harmless, no_root_in_free, agrees_of, words_new, epochs_taking, meaning_middle, wf_middle, reached_middle, place_middle, still_free}
 use Rattle.bp_append.proofs.ReadyLaws.{built_reads, null_byte, IsReady, prepared}
-
-pub quiet_more : (barriers stores more : ℕ) (old new : Memory) → stores ≤ more → AddsQuiet Same barriers stores old new → AddsQuiet Same barriers more old new
-quiet_more barriers stores more old new few part = record {
-  added = part.added;
-  adds = part.adds;
-  quiet = part.quiet;
-  closed = part.closed;
-  piece = IsPiece-more _ _ barriers more part.added (omega arith) few part.piece;
-}
 
 by_old : (old new : Image) (t : ℕ) → SameMeaning old new → IsReached old t → IsReadByWords new t → IsReadByWords old t
 by_old old new t same reached (inl e) = inl e
@@ -66,14 +58,14 @@ module _ (first new : Memory) (free_old free_new : List ℕ) (t place from to : 
   taken_free : Each (λ b. IsLiveBlock old b → ⊥) made.taken
   taken_free = each_left _ made.taken free_new (rw made.takes at can.unused)
 
-  taken_low : Each (λ b. 1 ≤ b) made.taken
-  taken_low = each_left _ made.taken free_new (rw made.takes at can.usable.low)
+  usable : IsUsable (length first.base / 512) made.taken
+  usable = usable_left (length first.base / 512) free_old made.taken free_new made.takes can.usable
 
-  harmless : AddsMay (IsHarmless old) 0 (512 * length made.taken) first makes.between
-  harmless = may_weaker _ _ 0 _ first makes.between (λ w v m. in_free_harmless old can.well made.taken taken_low taken_free w v m) made.stores
+  harmless : (w v : ℕ) → InBlocks made.taken w → IsHarmless old w v
+  harmless w v m = in_free_harmless old can.well made.taken usable.low taken_free w v m
 
   agrees : Agrees old middle
-  agrees = agrees_of old middle (each_after (IsHarmless old) 0 _ first makes.between harmless)
+  agrees = agrees_of old middle (each_after (IsHarmless old) 0 _ first makes.between (may_weaker _ (IsHarmless old) 0 _ first makes.between harmless made.stores.part))
 
   -- it has no byte and no block
   none_below : IsReadByWords old t → size_of old t ≡ 0
@@ -99,7 +91,7 @@ module _ (first new : Memory) (free_old free_new : List ℕ) (t place from to : 
 
   roots_stay : (u : ℕ) → IsReached old u → root_of middle u ≡ root_of old u
   roots_stay u r =
-      root-kept old middle can.well agrees u r (λ p there. may_frame _ 0 _ first makes.between made.stores p (λ v m. no_root_in_free old can.well made.taken taken_low taken_free u p r there m))
+      root-kept old middle can.well agrees u r (λ p there. may_frame _ 0 _ first makes.between made.stores.part p (λ v m. no_root_in_free old can.well made.taken usable.low taken_free u p r there m))
 
   roots : root_of middle t ≡ root_of old t
   roots = roots_stay t can.reached
@@ -122,18 +114,15 @@ module _ (first new : Memory) (free_old free_new : List ℕ) (t place from to : 
     roots = λ u r away. roots_stay u r;
   }
 
-  pub null_quiet : AddsQuiet Same 2 (most_stores (need_for old t from to)) first new
-  null_quiet =
-      quiet_more 2 _ _ first new (omega (arith, made.counted))
-      (epochs_quiet first makes.between new (512 * length made.taken) ((place, makes.top) ∷ []) can.well harmless makes.ends
-      (any_root_link middle null_ready.well t place makes.top null_ready.reached null_ready.at null_ready.reads))
-
-  pub null_prepared : PreparesWith old (current_words new) free_old free_new t from to raw
+  pub null_prepared : PreparesWith first new free_old free_new t from to raw
   null_prepared = record {
     taken = made.taken;
     takes = made.takes;
     counted = made.counted;
-    ready = rw (words_new first makes.between new (512 * length made.taken) ((place, makes.top) ∷ []) can.well harmless makes.ends)
+    adds = epochs_taking first makes.between new made.taken (λ w v. InBlocks made.taken w) (512 * length made.taken) ((place, makes.top) ∷ []) can.well made.stores harmless makes.ends
+        (prep_stores (size_of old t) from to (need_for old t from to)) (few _ _ _ made.counted) (any_root_link middle null_ready.well t place makes.top null_ready.reached null_ready.at null_ready.reads)
+        usable.apart (free_taken first made.taken usable taken_free) (λ w v m. in_taken m) (open_root old can.well t place can.reached at made.taken, tt);
+    ready = rw (words_new makes.between new ((place, makes.top) ∷ []) makes.ends)
         (prepared old middle can.well t place makes.top from to raw made.taken can.reached at null_ready taken_free (given_at from raw 0) (from ≡ 0)
         (built_as middle makes.top to (given_at from raw 0) (given_at from raw 0) (Has made.taken) (λ b. HasBlock old (root_of old t) (size_of old t) b ⊎ Has made.taken b) (from ≡ 0) (from ≡ 0)
         (λ i low. refl) (λ b m. inr m) (λ b m. elim m [ inl has ↦ absurd (no_block_old b has) | inr taken ↦ taken ]) (λ p. p) made.tree)
@@ -142,8 +131,11 @@ module _ (first new : Memory) (free_old free_new : List ℕ) (t place from to : 
         (λ by. can.by_words by ∙ none_below by)
         made.height order
         (λ u b k r away has few beyond. get_or-set_other middle place (512 * b + k) makes.top 0 beyond
-        ∙ may_frame _ 0 _ first makes.between made.stores (512 * b + k) (λ v m. each_has (λ c. IsLiveBlock old c → ⊥) made.taken b taken_free (subst (Has made.taken) (block_row b k few) m) (record { tree = u; reached = r; has = has }))));
+        ∙ may_frame _ 0 _ first makes.between made.stores.part (512 * b + k) (λ v m. each_has (λ c. IsLiveBlock old c → ⊥) made.taken b taken_free (subst (Has made.taken) (block_row b k few) m) (record { tree = u; reached = r; has = has }))));
   }
     where
       zero_plus : (o : ℕ) → 0 + o ≡ o
       zero_plus o = omega arith
+
+      few : (taken needed behind : ℕ) → taken ≡ needed → 512 * taken + 1 ≤ 512 * needed + behind + 2
+      few taken needed behind e = omega (arith, e)

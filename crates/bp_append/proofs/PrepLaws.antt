@@ -1,17 +1,17 @@
 -- A prepared tree in its image: nobody sees the preparation, and the tree is ready.
-use Rattle.std.proofs.Common.{◌≡◌, ℕ, suc, ◌+◌, ◌*◌, ◌/◌, ◌%◌, ◌<◌, ◌≤◌, List, [], ◌∷◌, ◌++◌, length, set, refl, sym, ◌∙◌, subst, arith, inl, inr}
+use Rattle.std.proofs.Common.{◌≡◌, ℕ, ◌+◌, ◌*◌, ◌/◌, ◌%◌, ◌<◌, ◌≤◌, List, [], ◌∷◌, ◌++◌, length, set, refl, sym, ◌∙◌, subst, arith, inl, inr}
 use Rattle.std.proofs.lemmas.List.{append_assoc}
 use Rattle.bp_layout.specs.Words.{Image, word, height_of}
 use Rattle.bp_layout.specs.Tree.{node, HasBlock}
-use Rattle.bp_layout.specs.Inode.{root_of, size_of, inode_count, RootPlace}
-use Rattle.bp_layout.specs.Reached.{IsReached, IsLiveBlock}
+use Rattle.bp_layout.specs.Inode.{root_of, size_of, inode_count, RootPlace, ContentStandsAt}
+use Rattle.bp_layout.specs.Reached.{IsReached, IsLiveBlock, IsFreeBlock}
 use Rattle.bp_layout.specs.Reached.IsReached.{inode_file}
 use Rattle.bp_layout.specs.WellFormed.{IsWellFormed}
 use Rattle.bp_layout.specs.Same.{Same}
 use Rattle.bp_changes.specs.SameMeaning.{SameMeaning}
 use Rattle.bp_changes.specs.Harmless.{IsHarmless, Agrees}
 use Rattle.bp_layout.specs.Inode.RootPlace.{top, inode}
-use Rattle.bp_layout.specs.Members.{Each}
+use Rattle.bp_layout.specs.Members.{Each, AreApart}
 use Rattle.bp_layout.specs.Stores.{after_stores}
 use Rattle.bp_layout.proofs.TreeLaws.{node-kept, live_above, live_content}
 use Rattle.bp_layout.proofs.Reached.{reached-in_file}
@@ -21,17 +21,21 @@ use Rattle.bp_layout.proofs.SameLaws.{same_symmetric, same_transitive}
 use Rattle.bp_changes.proofs.Stores.{harmless_here}
 use Rattle.bp_changes.proofs.Separation.{stands_in_block, free-harmless}
 use Rattle.bp_changes.proofs.ReachedOn.{reached_on}
-use Rattle.pm_epochs.specs.declared.event.Event.TheVariants.{Store, Barrier}
+use Rattle.pm_epochs.specs.declared.event.Event.{Event}
+use Rattle.pm_epochs.specs.declared.event.Event.TheVariants.{Barrier}
 use Rattle.pm_epochs.specs.Crash.{IsPartialEquivalence}
-use Rattle.pm_epochs.specs.Log.{words_after, IsPiece, IsClosed}
-use Rattle.pm_epochs.specs.May.{EachMay, AnyOf, links_of}
-use Rattle.pm_epochs.proofs.MayLaws.{quiet_prepared}
+use Rattle.pm_epochs.specs.Log.{words_after, StoresTo, IsClosed}
+use Rattle.pm_epochs.specs.May.{AnyAt, StoresMay, EachMay, AnyOf, links_of}
+use Rattle.pm_epochs.proofs.MayLaws.{quiet_prepared, StoresMay-append, StoresMay-weaker}
 use Rattle.pm_epochs.proofs.CrashLaws.{IsClosed-barrier}
-use Rattle.pm_epochs.proofs.PieceLaws.{IsPiece-append, IsPiece-more, IsPiece-none, IsPiece-store, IsPiece-barrier}
+use Rattle.pm_epochs.proofs.PieceLaws.{IsPiece-append, IsPiece-more, IsPiece-links_of, IsPiece-barrier, StoresTo-front}
 use Rattle.pm_region.specs.Memory.{Memory, current_words, Adds}
-use Rattle.pm_region.specs.Safe.{AddsMay, AddsQuiet}
-use Rattle.pm_region.proofs.MemoryLaws.{adds_both, current_words-adds}
-use Rattle.pm_region.proofs.MayLaws.{each_after}
+use Rattle.pm_region.proofs.MemoryLaws.{adds_both, current_words-adds, length-current_words}
+use Rattle.bp_tree.specs.Performs.{InBlock, IsOpen, AddsTaking}
+use Rattle.bp_tree.specs.Performs.IsOpen.{in_live, at_root}
+use Rattle.bp_tree.proofs.PerformsLaws.{each-as}
+use Rattle.bp_append.specs.Into.{AddsInto}
+use Rattle.bp_append.specs.Filled.{IsUsable}
 use Rattle.bp_append.specs.Built.{InBlocks}
 use Rattle.bp_append.specs.Grown.{Links}
 use Rattle.bp_append.proofs.FillLaws.{each_has}
@@ -40,6 +44,31 @@ pub equivalence : IsPartialEquivalence Same
 equivalence = record { symmetric = same_symmetric; transitive = same_transitive }
 
 -- a word of a free block may be anything
+-- the root word of an inode is in a block of the inode file
+root_block : (old : Image) → IsWellFormed old → (t place : ℕ) → IsReached old t → ContentStandsAt old 0 (8 * t + 1) place → IsLiveBlock old (place / 512)
+root_block old wf t place reached stands =
+    let in_file : t < inode_count old = reached-in_file old wf t reached in
+    let here : node old (root_of old 0) (height_of (root_of old 0)) ((8 * t + 1) / 512) ≡ place / 512 = omega (arith, stands.at) in
+    record {
+      tree = 0;
+      reached = inode_file;
+      has = subst (HasBlock old (root_of old 0) (size_of old 0)) here
+          (stands_in_block old 0 (height_of (root_of old 0)) (8 * t + 1) place stands (live_content _ _ (8 * t + 1) (omega (arith, in_file))));
+    }
+
+-- so a preparation may store to it
+pub open_root : (old : Image) → IsWellFormed old → (t place : ℕ) → IsReached old t → RootPlace old t place → (taken : List ℕ) → IsOpen old taken place
+open_root old wf t place reached (top first two) taken = at_root two
+open_root old wf t place reached (inode some stands) taken = in_live (root_block old wf t place reached stands)
+
+-- blocks that were usable and not live are free
+pub free_taken : (memory : Memory) (taken : List ℕ) → IsUsable (length memory.base / 512) taken → Each (λ b. IsLiveBlock (current_words memory) b → ⊥) taken → Each (IsFreeBlock (current_words memory)) taken
+free_taken memory [] usable unused = tt
+free_taken memory (b ∷ taken) usable unused = (
+  record { low = usable.low.0; high = rw (length-current_words memory) usable.high.0; free = unused.0 },
+  free_taken memory taken (record { low = usable.low.1; high = usable.high.1; apart = usable.apart.1 }) unused.1,
+)
+
 pub in_free_harmless : (old : Image) → IsWellFormed old → (blocks : List ℕ) → Each (λ b. 1 ≤ b) blocks → Each (λ b. IsLiveBlock old b → ⊥) blocks → (w v : ℕ) → InBlocks blocks w → IsHarmless old w v
 in_free_harmless old wf blocks low free w v m =
     let place : 512 * (w / 512) + w % 512 ≡ w = omega arith in
@@ -49,25 +78,13 @@ in_free_harmless old wf blocks low free w v m =
 pub no_root_in_free : (old : Image) → IsWellFormed old → (blocks : List ℕ) → Each (λ b. 1 ≤ b) blocks → Each (λ b. IsLiveBlock old b → ⊥) blocks → (t place : ℕ) → IsReached old t →
     RootPlace old t place → InBlocks blocks place → ⊥
 no_root_in_free old wf blocks low free t place reached (top first two) m = let some : 1 ≤ place / 512 = each_has _ blocks (place / 512) low m in omega (arith, some, two)
-no_root_in_free old wf blocks low free t place reached (inode some stands) m =
-    let in_file : t < inode_count old = reached-in_file old wf t reached in
-    let here : node old (root_of old 0) (height_of (root_of old 0)) ((8 * t + 1) / 512) ≡ place / 512 = omega (arith, stands.at) in
-    each_has _ blocks (place / 512) free m (record {
-      tree = 0;
-      reached = inode_file;
-      has = subst (HasBlock old (root_of old 0) (size_of old 0)) here
-          (stands_in_block old 0 (height_of (root_of old 0)) (8 * t + 1) place stands (live_content _ _ (8 * t + 1) (omega (arith, in_file))));
-    })
+no_root_in_free old wf blocks low free t place reached (inode some stands) m = each_has _ blocks (place / 512) free m (root_block old wf t place reached stands)
 
 pub agrees_of : (old new : Image) → EachMay (IsHarmless old) old new → Agrees old new
 agrees_of old new all = record {
   whole = all.size;
   each = λ place. elim (all.each place) [ inl same ↦ subst (IsHarmless old place) (sym same) (harmless_here old place) | inr may ↦ may ];
 }
-
-piece_links : (links : List (ℕ × ℕ)) → IsPiece 0 (length links) (links_of links)
-piece_links [] = IsPiece-none
-piece_links (link ∷ links) = IsPiece-more _ _ 0 (suc (length links)) (Store link.0 link.1 ∷ links_of links) (omega arith) (omega arith) (IsPiece-append 0 1 0 (length links) (Store link.0 link.1 ∷ []) (links_of links) (IsPiece-store link.0 link.1) (piece_links links))
 
 after_links : (words : Image) (links : List (ℕ × ℕ)) → words_after words (links_of links ++ Barrier ∷ []) ≡ after_stores words links
 after_links words [] = refl
@@ -77,30 +94,47 @@ pub after_append : (words : Image) (xs ys : List (ℕ × ℕ)) → after_stores 
 after_append words [] ys = refl
 after_append words (x ∷ xs) ys = after_append (set words x.0 x.1) xs ys
 
--- two epochs: stores that nobody sees, and links of which any may be done
-module _ (old between new : Memory) (most : ℕ) (links : List (ℕ × ℕ)) (well : IsWellFormed (current_words old)) (harmless : AddsMay (IsHarmless (current_words old)) 0 most old between) (ends : Links between new links) where
-  agrees : Agrees (current_words old) (current_words between)
-  agrees = agrees_of (current_words old) (current_words between) (each_after (IsHarmless (current_words old)) 0 most old between harmless)
+pub words_new : (between new : Memory) (links : List (ℕ × ℕ)) → Links between new links → current_words new ≡ after_stores (current_words between) links
+words_new between new links ends = current_words-adds between new (Barrier ∷ (links_of links ++ Barrier ∷ [])) ends ∙ after_links (current_words between) links
 
-  pub words_new : current_words new ≡ after_stores (current_words between) links
-  words_new = current_words-adds between new (Barrier ∷ (links_of links ++ Barrier ∷ [])) ends ∙ after_links (current_words between) links
+-- Two epochs: stores that nobody sees, into each of the blocks that are taken, and links of which any may be done.
+module _ (old between new : Memory) (taken : List ℕ) (May : ℕ → ℕ → Type 0) (most : ℕ) (links : List (ℕ × ℕ)) (well : IsWellFormed (current_words old)) (stores : AddsInto taken May most old between)
+    (harmless : (w v : ℕ) → May w v → IsHarmless (current_words old) w v) (ends : Links between new links) where
+  abbrev events : List Event
+  events = stores.part.added
 
-  pub epochs_quiet : AnyOf Same (current_words between) (current_words between) links → AddsQuiet Same 2 (most + length links) old new
-  epochs_quiet any =
-      let events = harmless.added in
-      let words : current_words between ≡ words_after (current_words old) harmless.added = current_words-adds old between harmless.added harmless.adds in
-      let joined : harmless.added ++ (Barrier ∷ (links_of links ++ Barrier ∷ [])) ≡ (harmless.added ++ Barrier ∷ []) ++ (links_of links ++ Barrier ∷ []) = sym (append_assoc harmless.added (Barrier ∷ []) (links_of links ++ Barrier ∷ [])) in
-      record {
-        added = (harmless.added ++ Barrier ∷ []) ++ (links_of links ++ Barrier ∷ []);
-        adds = subst (Adds old new) joined (adds_both old between new harmless.added (Barrier ∷ (links_of links ++ Barrier ∷ [])) harmless.adds ends);
-        quiet = quiet_prepared Same equivalence (IsHarmless (current_words old)) (current_words old) harmless.added links
-            (λ image all. same-by_agreement (current_words old) image well (agrees_of (current_words old) image all)) harmless.may
-            (subst (λ ws. AnyOf Same ws ws links) words any);
-        closed = subst IsClosed (append_assoc (harmless.added ++ Barrier ∷ []) (links_of links) (Barrier ∷ [])) (IsClosed-barrier ((harmless.added ++ Barrier ∷ []) ++ links_of links) [] tt);
-        piece = IsPiece-more _ _ 2 (most + length links) ((harmless.added ++ Barrier ∷ []) ++ (links_of links ++ Barrier ∷ [])) (omega arith) (omega arith)
-            (IsPiece-append _ _ _ _ (harmless.added ++ Barrier ∷ []) (links_of links ++ Barrier ∷ []) (IsPiece-append 0 most 1 0 harmless.added (Barrier ∷ []) harmless.piece IsPiece-barrier)
-            (IsPiece-append 0 (length links) 1 0 (links_of links) (Barrier ∷ []) (piece_links links) IsPiece-barrier));
-      }
+  abbrev Open : ℕ → Type 0
+  Open = IsOpen (current_words old) taken
+
+  words_between : current_words between ≡ words_after (current_words old) events
+  words_between = current_words-adds old between events stores.part.adds
+
+  joined : events ++ (Barrier ∷ (links_of links ++ Barrier ∷ [])) ≡ (events ++ Barrier ∷ []) ++ (links_of links ++ Barrier ∷ [])
+  joined = sym (append_assoc events (Barrier ∷ []) (links_of links ++ Barrier ∷ []))
+
+  pub epochs_taking : (more : ℕ) → most + length links ≤ more → AnyOf Same (current_words between) (current_words between) links → AreApart taken → Each (IsFreeBlock (current_words old)) taken →
+      ((w v : ℕ) → May w v → IsOpen (current_words old) taken w) → StoresMay (AnyAt (IsOpen (current_words old) taken)) (links_of links) → AddsTaking taken 2 more old new
+  epochs_taking more few any once free opens open_links = record {
+    part = record {
+      added = (events ++ Barrier ∷ []) ++ (links_of links ++ Barrier ∷ []);
+      adds = subst (Adds old new) joined (adds_both old between new events (Barrier ∷ (links_of links ++ Barrier ∷ [])) stores.part.adds ends);
+      quiet = quiet_prepared Same equivalence (IsHarmless (current_words old)) (current_words old) events links
+          (λ image all. same-by_agreement (current_words old) image well (agrees_of (current_words old) image all)) (StoresMay-weaker May (IsHarmless (current_words old)) harmless events stores.part.may)
+          (subst (λ ws. AnyOf Same ws ws links) words_between any);
+      closed = subst IsClosed (append_assoc (events ++ Barrier ∷ []) (links_of links) (Barrier ∷ [])) (IsClosed-barrier ((events ++ Barrier ∷ []) ++ links_of links) [] tt);
+      piece = IsPiece-more _ _ 2 more ((events ++ Barrier ∷ []) ++ (links_of links ++ Barrier ∷ [])) (omega arith) (omega (arith, few))
+          (IsPiece-append _ _ _ _ (events ++ Barrier ∷ []) (links_of links ++ Barrier ∷ []) (IsPiece-append 0 most 1 0 events (Barrier ∷ []) stores.part.piece IsPiece-barrier)
+          (IsPiece-append 0 (length links) 1 0 (links_of links) (Barrier ∷ []) (IsPiece-links_of links) IsPiece-barrier));
+    };
+    takes = record {
+      once = once;
+      free = free;
+      stored = each-as (λ b. StoresTo (InBlock b) events) (λ b. StoresTo (InBlock b) ((events ++ Barrier ∷ []) ++ (links_of links ++ Barrier ∷ [])))
+          (λ b found. StoresTo-front (InBlock b) (events ++ Barrier ∷ []) (links_of links ++ Barrier ∷ []) (StoresTo-front (InBlock b) events (Barrier ∷ []) found)) taken stores.stored;
+      only = StoresMay-append (AnyAt Open) (events ++ Barrier ∷ []) (links_of links ++ Barrier ∷ [])
+          (StoresMay-append (AnyAt Open) events (Barrier ∷ []) (StoresMay-weaker May (AnyAt Open) opens events stores.part.may) tt) (StoresMay-append (AnyAt Open) (links_of links) (Barrier ∷ []) open_links tt);
+    };
+  }
 
 -- the image after the first epoch
 module _ (old middle : Image) (wf : IsWellFormed old) (agrees : Agrees old middle) (t place : ℕ) (reached : IsReached old t) (at : RootPlace old t place) where

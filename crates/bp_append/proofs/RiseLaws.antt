@@ -13,10 +13,11 @@ use Rattle.pm_epochs.specs.declared.event.Event.TheVariants.{Store}
 use Rattle.pm_region.specs.Memory.{Memory, current_words, room_in, Adds}
 use Rattle.pm_region.specs.Safe.{AddsMay}
 use Rattle.pm_region.proofs.MemoryLaws.{current_words-adds, base-adds, length-current_words}
-use Rattle.pm_region.proofs.MayLaws.{may_none, may_one, may_weaker, may_more, may_twice, may_frame, room_after_may}
+use Rattle.pm_region.proofs.MayLaws.{may_one, may_frame, room_after_may}
+use Rattle.bp_append.proofs.IntoLaws.{into_none, into_one, into_more, into_twice}
 use Rattle.bp_append.specs.Given.{given, given_at}
 use Rattle.bp_append.specs.Tally.{tally, met}
-use Rattle.bp_append.specs.Built.{IsBuilt, Children}
+use Rattle.bp_append.specs.Built.{InBlocks, IsBuilt, Children}
 use Rattle.bp_append.specs.Filled.{IsUsable, CanFill, Fills}
 use Rattle.bp_append.specs.Risen.{idle, idles, edge, Outside, CanRise, risen, Rises}
 use Rattle.bp_append.proofs.TallyLaws.{span-suc, span-positive, met_none, met_one, tally_split, begins_at}
@@ -172,9 +173,10 @@ module _ (old stored : Memory) (free_old free_middle : List ℕ) (root block fro
     taken = block ∷ fills.taken;
     takes = takes ∙ ap (λ f. block ∷ f) fills.takes;
     counted = sums _ _ _ _ _ (fills.counted ∙ ap (λ n. tally (suc (height_of root)) (max from (span (height_of root))) n) whole_is) (cost old free_old root from to can);
-    stores = may_more _ 0 _ 0 _ old new (omega arith) (most _ _ (fills.counted))
-        (may_twice _ 0 1 old 0 _ stored new (may_one _ old stored (block * 512) (4096 * block_of root) (inl (omega arith)) adds)
-        (may_weaker _ _ 0 _ stored new (λ w v m. elim m [ inl t ↦ inr t | inr filled ↦ inl (omega (arith, filled.at, filled.few)) ]) fills.stores));
+    stores = into_more (block ∷ fills.taken) (block ∷ fills.taken) _ _ _ _ old new (λ b m. m) (λ w v m. m) (most _ _ _ fills.counted fills.few)
+        (into_twice (block ∷ []) fills.taken (λ place value. InBlocks (block ∷ fills.taken) place) 1 _ old stored new
+        (into_one (λ place value. InBlocks (block ∷ fills.taken) place) block (block * 512) (4096 * block_of root) old stored (omega arith) (inl (omega arith)) adds)
+        (into_more fills.taken fills.taken _ _ _ _ stored new (λ b m. m) (λ w v m. elim m [ inl t ↦ inr t | inr filled ↦ inl (omega (arith, filled.at, filled.few)) ]) (omega arith) fills.stores));
     chain = block ∷ [];
     named = refl;
     tall = omega arith;
@@ -187,8 +189,8 @@ module _ (old stored : Memory) (free_old free_middle : List ℕ) (root block fro
       sums : (taken here all low spare : ℕ) → taken ≡ here → all + spare ≡ low + 1 + here → suc taken + low ≡ all + spare
       sums taken here all low spare a b = omega (arith, a, b)
 
-      most : (taken here : ℕ) → taken ≡ here → 1 + (512 * here + 512) ≤ 512 * suc taken + (suc (height_of root) - height_of root)
-      most taken here e = omega (arith, e)
+      most : (taken here own : ℕ) → taken ≡ here → own ≤ 512 → 1 + (512 * here + own) ≤ 512 * suc taken + (suc (height_of root) - height_of root)
+      most taken here own e few = omega (arith, e, few)
 
       block_low : (1 ≤ block) × (block < length old.base / 512)
       block_low = (usable_all.low.0, usable_all.high.0)
@@ -212,7 +214,7 @@ module _ (old stored : Memory) (free_old free_middle : List ℕ) (root block fro
       whole_stored = ap length words_stored ∙ length-set (current_words old) (block * 512) (4096 * block_of root)
 
       whole_new : length (current_words new) ≡ length (current_words stored)
-      whole_new = may_length _ 0 _ stored new fills.stores
+      whole_new = may_length _ 0 _ stored new fills.stores.part
 
       slot_zero : slot_word (current_words new) block 0 ≡ 4096 * block_of root
       slot_zero =
@@ -220,7 +222,7 @@ module _ (old stored : Memory) (free_old free_middle : List ℕ) (root block fro
           let row : block * 512 / 512 ≡ block = omega arith in
           slot_word-at (current_words new) block 0 (λ e. omega (arith, e, block_low.0))
           ∙ ap (λ p. get_or (current_words new) p 0) at
-          ∙ may_frame _ 0 _ stored new fills.stores (block * 512) (λ v m. elim m [
+          ∙ may_frame _ 0 _ stored new fills.stores.part (block * 512) (λ v m. elim m [
             | inl t ↦ block_apart block (subst (Has fills.taken) row t) refl
             | inr filled ↦
                 let over = filled.node (height_of root) refl in
@@ -232,7 +234,7 @@ module _ (old stored : Memory) (free_old free_middle : List ℕ) (root block fro
       -- a word of a block that was not free
       old_word : (x k : ℕ) → k < 512 → (Has free_old x → ⊥) → get_or (current_words new) (512 * x + k) 0 ≡ get_or (current_words old) (512 * x + k) 0
       old_word x k few out =
-          may_frame _ 0 _ stored new fills.stores (512 * x + k) (λ v m. elim m [
+          may_frame _ 0 _ stored new fills.stores.part (512 * x + k) (λ v m. elim m [
             | inl t ↦ out (in_old x (subst (Has fills.taken) (block_row x k few) t))
             | inr filled ↦ (let here : block ≡ x = omega (arith, filled.at, filled.few, few) in out (subst (Has free_old) here block_old))
           ])
@@ -323,7 +325,7 @@ rises_none memory free raw root from to low = record {
   taken = [];
   takes = refl;
   counted = omega (arith, idles_none from to (height_of root) (height_of root) (omega arith));
-  stores = may_more _ 0 0 0 _ memory memory (omega arith) (omega arith) (may_none _ memory);
+  stores = into_more [] [] _ _ 0 _ memory memory (λ b m. m) (λ w v m. m) (omega arith) (into_none (λ place value. InBlocks [] place) memory);
   chain = [];
   named = refl;
   tall = omega arith;
@@ -395,9 +397,10 @@ module _ (first middle last : Memory) (free_first free_middle free_last raw : Li
     taken = one.taken ++ two.taken;
     takes = one.takes ∙ ap (λ f. one.taken ++ f) two.takes ∙ sym (append_assoc one.taken two.taken free_last);
     counted = counts _ _ _ _ _ _ _ _ _ (length-append one.taken two.taken) one.counted two.counted idle_sum;
-    stores = may_more _ 0 _ 0 _ first last (omega arith) (most _ _ _ (length-append one.taken two.taken))
-        (may_twice _ 0 _ first 0 _ middle last (may_weaker _ _ 0 _ first middle (λ w v m. has_left one.taken two.taken (w / 512) m) one.stores)
-        (may_weaker _ _ 0 _ middle last (λ w v m. has_right one.taken two.taken (w / 512) m) two.stores));
+    stores = into_more (one.taken ++ two.taken) (one.taken ++ two.taken) _ _ _ _ first last (λ b m. m) (λ w v m. m) (most _ _ _ (length-append one.taken two.taken))
+        (into_twice one.taken two.taken (λ place value. InBlocks (one.taken ++ two.taken) place) _ _ first middle last
+        (into_more one.taken one.taken _ _ _ _ first middle (λ b m. m) (λ w v m. has_left one.taken two.taken (w / 512) m) (omega arith) one.stores)
+        (into_more two.taken two.taken _ _ _ _ middle last (λ b m. m) (λ w v m. has_right one.taken two.taken (w / 512) m) (omega arith) two.stores));
     chain = one.chain ++ two.chain;
     named = two.named ∙ ap (λ r. raised_by r two.chain) one.named ∙ sym (raised_append root one.chain two.chain);
     tall = omega (arith, one.tall, two.tall, height_mid, length-append one.chain two.chain);
@@ -405,7 +408,7 @@ module _ (first middle last : Memory) (free_first free_middle free_last raw : Li
     apart = apart_append one.chain two.chain one.apart two.apart (λ b m n. apart_both b (one.inside b m) (in_two b (two.inside b n)));
     down = down_append (current_words last) root one.chain two.chain
         (down_kept (current_words middle) (current_words last) root one.chain (λ b m. slot_framed (current_words middle) (current_words last) b 0
-        (may_frame _ 0 _ middle last two.stores (512 * b + 0) (λ v t. apart_both b (one.inside b m) (in_two b (subst (Has two.taken) (block_row b 0 (omega arith)) t))))) one.down)
+        (may_frame _ 0 _ middle last two.stores.part (512 * b + 0) (λ v t. apart_both b (one.inside b m) (in_two b (subst (Has two.taken) (block_row b 0 (omega arith)) t))))) one.down)
         (subst (λ r. LeadDown (current_words last) r two.chain) one.named two.down);
     tree = λ links out sound not_free.
         let below = one.tree links out sound not_free in
@@ -445,9 +448,9 @@ module _ (first middle last : Memory) (free_first free_middle free_last raw : Li
 pub can_next : (first middle : Memory) (free_first free_middle raw : List ℕ) (root top low mid height from to : ℕ) → CanRise first free_first low height from to → low ≤ mid → mid < height → Rises first middle free_first free_middle root top low mid from to raw →
     CanRise middle free_middle mid (suc mid) from to
 can_next first middle free_first free_middle raw root top low mid height from to can order less rises =
-    let base = may_base _ 0 _ first middle rises.stores in
+    let base = may_base _ 0 _ first middle rises.stores.part in
     let lengths : length free_first ≡ length rises.taken + length free_middle = (let e = ap length rises.takes in omega (arith, e, length-append rises.taken free_middle)) in
-    let room = room_after_may _ 0 _ first middle rises.stores in
+    let room = room_after_may _ 0 _ first middle rises.stores.part in
     let e : suc mid + (height - suc mid) ≡ height = omega (arith, less) in
     let rising = subst (λ h. edge from to (suc mid) + idles from to low (suc mid) ≤ edge from to h + idles from to low h) e (edge_rises from to low (suc mid) (height - suc mid) (omega (arith, order))) in
     let more = idles_more from to low mid order in

@@ -1,5 +1,5 @@
 -- The whole preparation of a tree with blocks: nobody sees it, and the tree is ready.
-use Rattle.std.proofs.Common.{◌≡◌, ◌≢◌, ℕ, suc, ◌+◌, ◌-◌, ◌*◌, ◌/◌, ◌%◌, ◌<◌, ◌≤◌, List, [], ◌∷◌, ◌++◌, length, min, set, get_or, refl, sym, ◌∙◌, ap, subst, subst₂, arith, rules, inl, inr, get_or-set_other, le_trans}
+use Rattle.std.proofs.Common.{◌≡◌, ◌≢◌, ◌⊎◌, ℕ, suc, ◌+◌, ◌-◌, ◌*◌, ◌/◌, ◌%◌, ◌<◌, ◌≤◌, List, [], ◌∷◌, ◌++◌, length, min, set, get_or, refl, sym, ◌∙◌, ap, subst, subst₂, arith, rules, inl, inr, get_or-set_other, le_trans}
 use Rattle.bp_layout.specs.Words.{Image, block_of, height_of}
 use Rattle.bp_layout.specs.Tree.{node, span, IsLivePointer, HasBlock, IsFull}
 use Rattle.bp_layout.specs.Inode.{root_of, size_of, RootPlace, StandsAt}
@@ -9,7 +9,7 @@ use Rattle.bp_layout.specs.Same.{Same}
 use Rattle.bp_changes.specs.SameContent.{IsReadByWords, ReadsAs}
 use Rattle.bp_changes.specs.SameMeaning.{SameMeaning}
 use Rattle.bp_changes.specs.Harmless.{IsHarmless, Agrees}
-use Rattle.bp_layout.specs.Members.{Has, Each, AreApart}
+use Rattle.bp_layout.specs.Members.{Has, Each}
 use Rattle.bp_shapes.specs.Links.{CanHang, raised_by, IsChain}
 use Rattle.bp_layout.specs.Stores.{after_stores}
 use Rattle.bp_layout.proofs.TreeLaws.{node-kept, live_above, live_pointer_word}
@@ -18,14 +18,18 @@ use Rattle.bp_shapes.proofs.Behind.{behind_of, behind_harmless, no_root_behind}
 use Rattle.bp_changes.proofs.ReachedOn.{reached_on, meaning_on}
 use Rattle.bp_shapes.proofs.Reshape as reshape
 use Rattle.bp_shapes.proofs.NullLink as null_link
-use Rattle.pm_epochs.specs.May.{AnyOf}
+use Rattle.pm_epochs.specs.May.{AnyAt, StoresMay, AnyOf, links_of}
+use Rattle.bp_shapes.specs.Behind.{IsBehindIn}
+use Rattle.bp_tree.specs.Performs.{IsOpen}
+use Rattle.bp_tree.specs.Performs.IsOpen.{in_taken, in_live}
 use Rattle.pm_region.specs.Memory.{Memory, current_words}
-use Rattle.pm_region.specs.Safe.{AddsMay, AddsQuiet}
+use Rattle.bp_append.specs.Filled.{IsUsable}
+use Rattle.bp_append.specs.Stores.{prep_stores}
 use Rattle.pm_region.proofs.MemoryLaws.{length-current_words}
 use Rattle.pm_region.proofs.MayLaws.{may_weaker, may_frame, each_after}
-use Rattle.bp_append.specs.Built.{IsBuilt}
+use Rattle.bp_append.specs.Built.{InBlocks, IsBuilt}
 use Rattle.bp_append.proofs.ChildrenLaws.{has_left, has_right}
-use Rattle.bp_append.proofs.FillLaws.{each_has, each_left, apart_parts, block_row}
+use Rattle.bp_append.proofs.FillLaws.{each_has, each_left, apart_left, apart_parts, usable_left, block_row}
 use Rattle.bp_append.proofs.VisitLaws.{beside as links_beside}
 use Rattle.bp_append.proofs.TwoLinks.{any_root_link, any_two_links}
 use Rattle.bp_layout.specs.Nodes.{height_with}
@@ -34,14 +38,14 @@ use Rattle.bp_append.specs.Given.{given, given_at}
 use Rattle.bp_append.specs.Visited.{extended, Hangs, AreHung}
 use Rattle.bp_append.specs.Visited.AreHung.{no_link, one_link}
 use Rattle.bp_append.specs.Grown.{Grows}
-use Rattle.bp_append.specs.Prepared.{CanPrepare, PreparesWith, most_stores, need_for}
+use Rattle.bp_append.specs.Prepared.{CanPrepare, PreparesWith, need_for}
 use Rattle.bp_append.proofs.VisitDone.{extended_old, extended_new}
-use Rattle.bp_append.proofs.HangBuilt.{hang_built, in_taken}
+use Rattle.bp_append.proofs.HangBuilt.{hang_built, in_below}
 use Rattle.bp_append.proofs.NeedLaws.{tall_low}
-use Rattle.bp_append.proofs.PrepLaws.{in_free_harmless, no_root_in_free, agrees_of, after_append, words_new, epochs_quiet, meaning_middle, wf_middle, reached_middle, place_middle, still_free}
+use Rattle.bp_append.proofs.PrepLaws.{open_root, free_taken, in_free_harmless, no_root_in_free, agrees_of, after_append, words_new, epochs_taking, meaning_middle, wf_middle, reached_middle, place_middle, still_free}
 use Rattle.bp_append.proofs.ReadyLaws.{IsReady, prepared}
 use Rattle.bp_append.proofs.TwoLinks as two
-use Rattle.bp_append.proofs.NullPrepared.{quiet_more, full_by_words}
+use Rattle.bp_append.proofs.NullPrepared.{full_by_words}
 
 given_before : (from : ℕ) (raw : List ℕ) (o : ℕ) → o < from → given from raw o ≡ 0
 given_before from raw o low = search (rules, low)
@@ -77,28 +81,44 @@ module _ (first new : Memory) (free_old free_new : List ℕ) (t place from to : 
   taken_free : Each (λ b. IsLiveBlock old b → ⊥) (grows.visited ++ grows.raised)
   taken_free = each_left _ (grows.visited ++ grows.raised) free_new (rw grows.takes at can.unused)
 
-  taken_low : Each (λ b. 1 ≤ b) (grows.visited ++ grows.raised)
-  taken_low = each_left _ (grows.visited ++ grows.raised) free_new (rw grows.takes at can.usable.low)
+  usable : IsUsable (length first.base / 512) (grows.visited ++ grows.raised)
+  usable = usable_left (length first.base / 512) free_old (grows.visited ++ grows.raised) free_new grows.takes can.usable
 
-  taken_high : Each (λ b. b < length first.base / 512) (grows.visited ++ grows.raised)
-  taken_high = each_left _ (grows.visited ++ grows.raised) free_new (rw grows.takes at can.usable.high)
+  -- what may be stored before the links
+  abbrev May : ℕ → ℕ → Type 0
+  May w v = InBlocks (grows.visited ++ grows.raised) w ⊎ IsBehindIn old (root_of old t) (size_of old t) w v
 
-  harmless : AddsMay (IsHarmless old) 0 (512 * length (grows.visited ++ grows.raised) + 2051) first grows.between
-  harmless = may_weaker _ _ 0 _ first grows.between (λ w v m. elim m [
-    | inl own ↦ in_free_harmless old can.well (grows.visited ++ grows.raised) taken_low taken_free w v own
-    | inr behind ↦ behind_harmless old can.well t w v (behind_of old t w v can.reached behind)
-  ]) grows.stores
+  harmless : (w v : ℕ) → May w v → IsHarmless old w v
+  harmless w v (inl own) = in_free_harmless old can.well (grows.visited ++ grows.raised) usable.low taken_free w v own
+  harmless w v (inr behind) = behind_harmless old can.well t w v (behind_of old t w v can.reached behind)
 
   agrees : Agrees old middle
-  agrees = agrees_of old middle (each_after (IsHarmless old) 0 _ first grows.between harmless)
+  agrees = agrees_of old middle (each_after (IsHarmless old) 0 _ first grows.between (may_weaker May (IsHarmless old) 0 _ first grows.between harmless grows.stores.part))
+
+  -- a word behind the size is in a block of the tree
+  behind_block : (w v : ℕ) → IsBehindIn old (root_of old t) (size_of old t) w v → HasBlock old (root_of old t) (size_of old t) (w / 512)
+  behind_block w v behind = record {
+    depth = behind.depth;
+    index = behind.index / 512;
+    pointer = behind.parent;
+    named = row behind.depth behind.index behind.at;
+    not_null = λ e. behind.present (row behind.depth behind.index behind.at ∙ e);
+  }
+    where
+      row : (d i : ℕ) → 512 * node old (root_of old t) d (i / 512) + i % 512 ≡ w → node old (root_of old t) d (i / 512) ≡ w / 512
+      row d i e = omega (arith, e)
+
+  opens : (w v : ℕ) → May w v → IsOpen old (grows.visited ++ grows.raised) w
+  opens w v (inl own) = in_taken own
+  opens w v (inr behind) = in_live (record { tree = t; reached = can.reached; has = behind_block w v behind })
 
   sizes : size_of middle t ≡ size_of old t
   sizes = size-same old middle can.well agrees t can.reached
 
   roots_stay : (u : ℕ) → IsReached old u → root_of middle u ≡ root_of old u
   roots_stay u r =
-      root-kept old middle can.well agrees u r (λ p there. may_frame _ 0 _ first grows.between grows.stores p (λ v m. elim m [
-        | inl own ↦ no_root_in_free old can.well (grows.visited ++ grows.raised) taken_low taken_free u p r there own
+      root-kept old middle can.well agrees u r (λ p there. may_frame _ 0 _ first grows.between grows.stores.part p (λ v m. elim m [
+        | inl own ↦ no_root_in_free old can.well (grows.visited ++ grows.raised) usable.low taken_free u p r there own
         | inr behind ↦ no_root_behind old can.well t p v (behind_of old t p v can.reached behind) u r there
       ]))
 
@@ -126,8 +146,8 @@ module _ (first new : Memory) (free_old free_new : List ℕ) (t place from to : 
   chain_there : IsChain middle (root_of middle t) grows.chain
   chain_there = record {
     low = rw roots (omega (arith, grows.tall, tall_low (root_of old t) (size_of old t) to (can.well.sound t can.reached).low));
-    in_range = each_of _ grows.chain (λ b m. let low = each_has (λ c. c < length first.base / 512) (grows.visited ++ grows.raised) b taken_high (in_taken_chain b m) in omega (arith, low, agrees.whole, length-current_words first));
-    not_null = each_of _ grows.chain (λ b m e. let low = each_has (λ c. 1 ≤ c) (grows.visited ++ grows.raised) b taken_low (in_taken_chain b m) in omega (arith, low, e));
+    in_range = each_of _ grows.chain (λ b m. let low = each_has (λ c. c < length first.base / 512) (grows.visited ++ grows.raised) b usable.high (in_taken_chain b m) in omega (arith, low, agrees.whole, length-current_words first));
+    not_null = each_of _ grows.chain (λ b m e. let low = each_has (λ c. 1 ≤ c) (grows.visited ++ grows.raised) b usable.low (in_taken_chain b m) in omega (arith, low, e));
     free = each_of _ grows.chain (λ b m. free_there b (in_taken_chain b m));
     apart = grows.apart;
     down = rw roots grows.down;
@@ -202,15 +222,11 @@ module _ (first new : Memory) (free_old free_new : List ℕ) (t place from to : 
 
     not_chain : (b : ℕ) → null_link.InSubtree middle well t hangs.depth hangs.index hung_place (block_of pointer) hang b → Each (λ c. c ≢ b) grows.chain
     not_chain b inside =
-        let live_block = in_taken middle t hangs.depth hangs.index hung_place (block_of pointer) hangs.live.level (min (to - hangs.index * span hangs.live.level) (span hangs.live.level)) (given_at from raw (hangs.index * span hangs.live.level)) hangs.below
+        let live_block = in_below middle t hangs.depth hangs.index hung_place (block_of pointer) hangs.live.level (min (to - hangs.index * span hangs.live.level) (span hangs.live.level)) (given_at from raw (hangs.index * span hangs.live.level)) hangs.below
         (from ≤ hangs.index * span hangs.live.level) there low_level height_there live_there (nodes_same (suc hangs.depth) hangs.index hangs.live ∙ hangs.null) stands_there built_there below_free wide_there zeros_there
         inside.depth inside.index inside.rank inside.below inside.pointer (λ e. inside.not_null (sym inside.named ∙ e)) in
         let mine : Has grows.visited b = hangs.inside b (subst (Has hangs.below) inside.named live_block) in
         each_of _ grows.chain (λ c m e. apart_parts grows.visited grows.raised b (apart_left (grows.visited ++ grows.raised) free_new (rw grows.takes at can.usable.apart)) mine (subst (Has grows.raised) e (grows.inside c m)))
-      where
-        apart_left : (xs ys : List ℕ) → AreApart (xs ++ ys) → AreApart xs
-        apart_left [] ys apart = tt
-        apart_left (x ∷ xs) ys apart = (each_left _ xs ys apart.0, apart_left xs ys apart.1)
 
     abbrev hung_image : Image
     hung_image = set middle hung_place (4096 * block_of pointer)
@@ -247,10 +263,14 @@ module _ (first new : Memory) (free_old free_new : List ℕ) (t place from to : 
       go (no_link e) = rw e (omega arith)
       go (one_link hung_place pointer e hangs part) = rw e (omega arith)
 
-  pub tree_quiet : AddsQuiet Same 2 (most_stores (need_for old t from to)) first new
-  tree_quiet =
-      quiet_more 2 _ _ first new (omega (arith, grows.counted, few_links))
-      (epochs_quiet first grows.between new (512 * length (grows.visited ++ grows.raised) + 2051) (grows.links ++ (place, raised_by (root_of old t) grows.chain) ∷ []) can.well harmless grows.ends any_links)
+  open_links : StoresMay (AnyAt (IsOpen old (grows.visited ++ grows.raised))) (links_of (grows.links ++ (place, raised_by (root_of old t) grows.chain) ∷ []))
+  open_links = go grows.hung
+    where
+      go : AreHung old middle (root_of old t) (size_of old t) from to raw grows.visited (λ p. HasBlock old (root_of old t) (size_of old t) (p / 512)) grows.links →
+          StoresMay (AnyAt (IsOpen old (grows.visited ++ grows.raised))) (links_of (grows.links ++ (place, raised_by (root_of old t) grows.chain) ∷ []))
+      go (no_link e) = rw e (open_root old can.well t place can.reached at (grows.visited ++ grows.raised), tt)
+      go (one_link hung_place pointer e hangs part) =
+          rw e (in_live (record { tree = t; reached = can.reached; has = part }), (open_root old can.well t place can.reached at (grows.visited ++ grows.raised), tt))
 
   ready_links : IsReady old (after_stores middle grows.links) t place (raised_by (root_of old t) grows.chain)
   ready_links = go grows.hung
@@ -266,23 +286,21 @@ module _ (first new : Memory) (free_old free_new : List ℕ) (t place from to : 
   frame u b k r away has few beyond =
       get_or-set_other (after_stores middle grows.links) place (512 * b + k) (raised_by (root_of old t) grows.chain) 0 beyond
       ∙ links_beside grows.links old middle (root_of old t) (size_of old t) from to raw grows.visited (λ p. HasBlock old (root_of old t) (size_of old t) (p / 512)) grows.hung middle (512 * b + k) (λ part. own (subst (HasBlock old (root_of old t) (size_of old t)) (block_row b k few) part))
-      ∙ may_frame _ 0 _ first grows.between grows.stores (512 * b + k) (λ v m. elim m [
+      ∙ may_frame _ 0 _ first grows.between grows.stores.part (512 * b + k) (λ v m. elim m [
         | inl mine ↦ each_has (λ c. IsLiveBlock old c → ⊥) (grows.visited ++ grows.raised) b taken_free (subst (Has (grows.visited ++ grows.raised)) (block_row b k few) mine) (record { tree = u; reached = r; has = has })
-        | inr behind ↦ own (subst (HasBlock old (root_of old t) (size_of old t)) (same_block behind.depth behind.index behind.at)
-            (record { depth = behind.depth; index = behind.index / 512; pointer = behind.parent; named = refl; not_null = behind.present }))
+        | inr behind ↦ own (subst (HasBlock old (root_of old t) (size_of old t)) (block_row b k few) (behind_block (512 * b + k) v behind))
       ])
     where
       own : HasBlock old (root_of old t) (size_of old t) b → ⊥
       own mine = away (can.well.apart u t b r can.reached has mine)
 
-      same_block : (d i : ℕ) → 512 * node old (root_of old t) d (i / 512) + i % 512 ≡ 512 * b + k → node old (root_of old t) d (i / 512) ≡ b
-      same_block d i e = omega (arith, e, few)
-
-  pub tree_prepared : PreparesWith old (current_words new) free_old free_new t from to raw
+  pub tree_prepared : PreparesWith first new free_old free_new t from to raw
   tree_prepared = record {
     taken = grows.visited ++ grows.raised;
     takes = grows.takes;
     counted = grows.counted;
+    adds = epochs_taking first grows.between new (grows.visited ++ grows.raised) May _ (grows.links ++ (place, raised_by (root_of old t) grows.chain) ∷ []) can.well grows.stores harmless grows.ends
+        (prep_stores (size_of old t) from to (need_for old t from to)) (few _ _ _ _ grows.counted few_links) any_links usable.apart (free_taken first (grows.visited ++ grows.raised) usable taken_free) opens open_links;
     ready = rw words_last
         (prepared old (after_stores middle grows.links) can.well t place (raised_by (root_of old t) grows.chain) from to raw (grows.visited ++ grows.raised) can.reached at ready_links taken_free
         (extended old (root_of old t) (size_of old t) from raw 0) (IsFull old (root_of old t) (size_of old t) × (from ≡ size_of old t)) grows.tree
@@ -295,8 +313,11 @@ module _ (first new : Memory) (free_old free_new : List ℕ) (t place from to : 
       zero_plus : (o : ℕ) → 0 + o ≡ o
       zero_plus o = omega arith
 
+      few : (taken needed behind links : ℕ) → taken ≡ needed → links ≤ 2 → 512 * taken + behind + links ≤ 512 * needed + behind + 2
+      few taken needed behind links e low = omega (arith, e, low)
+
       words_last : current_words new ≡ set (after_stores middle grows.links) place (raised_by (root_of old t) grows.chain)
-      words_last = words_new first grows.between new (512 * length (grows.visited ++ grows.raised) + 2051) (grows.links ++ (place, raised_by (root_of old t) grows.chain) ∷ []) can.well harmless grows.ends
+      words_last = words_new grows.between new (grows.links ++ (place, raised_by (root_of old t) grows.chain) ∷ []) grows.ends
           ∙ after_append middle grows.links ((place, raised_by (root_of old t) grows.chain) ∷ [])
 
       raised_height : (r : ℕ) (chain : List ℕ) → height_of r + length chain ≤ 7 → height_of (raised_by r chain) ≡ height_of r + length chain

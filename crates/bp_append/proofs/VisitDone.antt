@@ -10,13 +10,14 @@ use Rattle.bp_layout.proofs.TreeLaws.{slot_word-at}
 use Rattle.bp_shapes.proofs.Roots.{null_tree, null_words}
 use Rattle.pm_region.specs.Memory.{Memory, current_words}
 use Rattle.pm_region.proofs.MemoryLaws.{length-current_words}
-use Rattle.pm_region.proofs.MayLaws.{may_weaker, may_more, may_frame}
+use Rattle.pm_region.proofs.MayLaws.{may_frame}
 use Rattle.bp_append.specs.Given.{given, given_at}
 use Rattle.bp_append.specs.Tally.{tally}
 use Rattle.bp_append.specs.Built.{IsBuilt}
 use Rattle.bp_append.specs.Filled.{Builds}
 use Rattle.bp_append.specs.Visited.{extended, Hangs, AreHung, CanVisit, Visits, IsLast, VisitsSlot}
 use Rattle.bp_append.specs.Visited.AreHung.{no_link, one_link}
+use Rattle.bp_append.proofs.IntoLaws.{into_more}
 use Rattle.bp_append.proofs.ChildrenLaws.{has_left, built_kept, built_as}
 use Rattle.bp_append.proofs.FillLaws.{may_length, slot_framed, block_row}
 use Rattle.bp_append.proofs.VisitLaws.{beside, whole_links, word_bits, kid_own, block_taken, kid_aligned, kid_named, kid_is, null_spine}
@@ -65,7 +66,7 @@ module _ (old : Memory) (free_old : List ℕ) (root size below start block slot 
     taken = visits.taken;
     takes = visits.takes;
     counted = visits.counted;
-    stores = may_weaker _ _ 0 _ old new (λ w v m. elim m [ inl e ↦ inl e | inr part ↦ inr (record { behind = part.behind; has = in_kid (w / 512) part.has }) ]) visits.stores;
+    stores = into_more visits.taken visits.taken _ _ _ _ old new (λ b m. m) (λ w v m. elim m [ inl e ↦ inl e | inr part ↦ inr (record { behind = part.behind; has = in_kid (w / 512) part.has }) ]) (omega arith) visits.stores;
     hung = hung_kept (current_words old) (current_words new) (current_words new) root size from to raw visits.taken visits.taken _ _ links refl (λ b s m few. refl) (λ b m. m) (λ place has. inl (in_kid (place / 512) has)) visits.hung;
     word = rw same_word (word_bits old free_old root size below start block slot from to can last);
     tree = subst (λ r. IsBuilt (after_stores (current_words new) links) r (min (to - begin) (span below)) (extended (current_words old) kid size from raw begin)
@@ -93,7 +94,7 @@ module _ (old : Memory) (free_old : List ℕ) (root size below start block slot 
       same_word : slot_word (after_stores (current_words new) links) block slot ≡ slot_word (current_words old) block slot
       same_word = slot_framed (current_words old) (after_stores (current_words new) links) block slot
           (beside links (current_words old) (current_words new) root size from to raw visits.taken _ visits.hung (current_words new) (512 * block + slot) not_part
-          ∙ may_frame _ 0 _ old new visits.stores (512 * block + slot)
+          ∙ may_frame _ 0 _ old new visits.stores.part (512 * block + slot)
           (λ v m. elim m [ inl t ↦ block_free (subst (λ f. Has f block) (sym visits.takes) (has_left visits.taken free_new block (subst (Has visits.taken) place_block t))) | inr part ↦ not_part part.has ]))
 
   -- ---- at a null
@@ -106,7 +107,7 @@ module _ (old : Memory) (free_old : List ℕ) (root size below start block slot 
     taken = built.taken;
     takes = built.takes;
     counted = sums _ _ _ built.counted (null_spine old free_old root size below start block slot from to can last null);
-    stores = may_more _ 0 _ 0 _ old new (omega arith) (more _ _ built.counted) (may_weaker _ _ 0 _ old new (λ w v m. inl m) built.stores);
+    stores = into_more built.taken built.taken _ _ _ _ old new (λ b m. m) (λ w v m. inl m) (more _ _ _ built.counted) built.stores;
     hung = hung which;
     word = rw here built.bits;
     tree = subst (λ w. IsBuilt (after_stores (current_words new) links) (w + below) (min (to - begin) (span below)) (extended (current_words old) kid size from raw begin)
@@ -121,8 +122,8 @@ module _ (old : Memory) (free_old : List ℕ) (root size below start block slot 
       sums : (a b c : ℕ) → a ≡ c → b ≡ 0 → a + b ≡ c
       sums a b c p q = omega (arith, p, q)
 
-      more : (a b : ℕ) → a ≡ b → 512 * b ≤ 512 * a + 512 * suc below
-      more a b e = omega (arith, e)
+      more : (a b own : ℕ) → a ≡ b → 512 * b ≤ 512 * a + own
+      more a b own e = omega (arith, e)
 
       not_block : (b : ℕ) → Has built.taken b → b ≢ block
       not_block b m e = block_taken old free_old root size below start block slot from to can last (subst (λ f. Has f block) (sym built.takes) (has_left built.taken free_new block (subst (Has built.taken) e m)))
@@ -139,7 +140,7 @@ module _ (old : Memory) (free_old : List ℕ) (root size below start block slot 
 
       in_image : 512 * block + slot < length (current_words new)
       in_image =
-          let same = may_length _ 0 _ old new built.stores in
+          let same = may_length _ 0 _ old new built.stores.part in
           let base = length-current_words old in
           omega (arith, same, base, can.in_range, last.few)
 
@@ -148,7 +149,7 @@ module _ (old : Memory) (free_old : List ℕ) (root size below start block slot 
         where
           go : (((pointer ≡ 0) × (links ≡ [])) ⊎ (links ≡ (512 * block + slot, pointer) ∷ [])) → get_or (after_stores (current_words new) links) (512 * block + slot) 0 ≡ pointer
           go (inl both) = rw both.1
-              (may_frame _ 0 _ old new built.stores (512 * block + slot) (λ v m. not_block block (subst (Has built.taken) place_block m) refl)
+              (may_frame _ 0 _ old new built.stores.part (512 * block + slot) (λ v m. not_block block (subst (Has built.taken) place_block m) refl)
               ∙ sym (slot_word-at (current_words old) block slot (λ e. omega (arith, e, can.some_block))) ∙ word_null ∙ sym both.0)
           go (inr e) = rw e (get_or-set_same (current_words new) (512 * block + slot) pointer 0 in_image)
 

@@ -1,17 +1,18 @@
 -- A tree is prepared in two epochs: stores that nobody sees, and then the links.
-use Rattle.std.specs.Prelude.{◌≡◌, ◌⊎◌, ℕ, ◌+◌, ◌*◌, ◌/◌, ◌%◌, ◌<◌, ◌≤◌, List, [], ◌∷◌, ◌++◌, length}
+use Rattle.std.specs.Prelude.{◌≡◌, ◌⊎◌, ℕ, suc, ◌+◌, ◌*◌, ◌/◌, ◌%◌, ◌<◌, ◌≤◌, List, [], ◌∷◌, ◌++◌, length}
 use Rattle.pm_epochs.specs.declared.event.Event.TheVariants.{Barrier}
 use Rattle.pm_epochs.specs.May.{links_of}
 use Rattle.bp_layout.specs.Words.{height_of}
 use Rattle.bp_layout.specs.Tree.{HasBlock, IsSound, IsFull}
-use Rattle.bp_limits.specs.Limits.{max_size}
+use Rattle.bp_limits.specs.Limits.{max_size, max_height}
 use Rattle.bp_layout.specs.Nodes.{nodes_for, height_with}
 use Rattle.bp_layout.specs.Members.{Has, AreApart}
 use Rattle.bp_shapes.specs.Links.{raised_by, LeadDown}
 use Rattle.bp_shapes.specs.Behind.{IsBehindIn}
 use Rattle.bp_layout.specs.Stores.{after_stores}
 use Rattle.pm_region.specs.Memory.{Memory, current_words, room_in, Adds}
-use Rattle.pm_region.specs.Safe.{AddsMay}
+use Rattle.bp_append.specs.Into.{AddsInto}
+use Rattle.bp_append.specs.Stores.{stores_behind}
 use Rattle.bp_append.specs.Given.{given_at}
 use Rattle.bp_append.specs.Built.{InBlocks, IsBuilt}
 use Rattle.bp_append.specs.Filled.{IsUsable}
@@ -27,7 +28,7 @@ pub record CanGrow (memory : Memory) (free : List ℕ) (root size from to : ℕ)
   pub usable : IsUsable (length memory.base / 512) free
   pub outside : (b : ℕ) → Has free b → HasBlock (current_words memory) root size b → ⊥
   pub enough : length (nodes_for (current_words memory) root size from to) ≤ length free
-  pub room : 512 * length (nodes_for (current_words memory) root size from to) + 2055 ≤ room_in memory
+  pub room : 512 * (length (nodes_for (current_words memory) root size from to) + suc max_height) + 4 ≤ room_in memory
 
 -- the links in an epoch of their own
 abbrev pub Links : Memory → Memory → List (ℕ × ℕ) → Type 0
@@ -40,7 +41,8 @@ pub record Grows (old new : Memory) (free_old free_new : List ℕ) (place root s
   pub takes : free_old ≡ (visited ++ raised) ++ free_new
   pub counted : length (visited ++ raised) ≡ length (nodes_for (current_words old) root size from to)
   pub between : Memory
-  pub stores : AddsMay (λ p value. InBlocks (visited ++ raised) p ⊎ IsBehindIn (current_words old) root size p value) 0 (512 * length (visited ++ raised) + 2051) old between
+  pub stores : AddsInto (visited ++ raised) (λ p value. InBlocks (visited ++ raised) p ⊎ IsBehindIn (current_words old) root size p value)
+      (512 * length (visited ++ raised) + stores_behind size from to max_height) old between
   pub links : List (ℕ × ℕ)
   pub hung : AreHung (current_words old) (current_words between) root size from to bytes visited (λ p. HasBlock (current_words old) root size (p / 512)) links
   pub chain : List ℕ
@@ -62,7 +64,7 @@ pub record Roots (old new : Memory) (free_old free_new : List ℕ) (root size fr
   pub taken : List ℕ
   pub takes : free_old ≡ taken ++ free_new
   pub counted : length taken ≡ length (nodes_for (current_words old) root size from to)
-  pub stores : AddsMay (λ p value. InBlocks taken p) 0 (512 * length taken) old new
+  pub stores : AddsInto taken (λ p value. InBlocks taken p) (512 * length taken) old new
   pub height : height_of top ≡ height_with root size to
   pub bits : top % 4096 ≡ height_of top
   pub tree : IsBuilt (current_words new) top to (given_at from bytes 0) (Has taken) (from ≡ 0)

@@ -6,12 +6,14 @@ use Rattle.bp_layout.specs.Inode.{root_of, size_of}
 use Rattle.bp_layout.specs.Reached.{IsReached, IsLiveBlock}
 use Rattle.bp_layout.specs.WellFormed.{IsWellFormed}
 use Rattle.bp_layout.specs.WordPaths.{WordPath, tree_path}
-use Rattle.bp_limits.specs.Limits.{max_size}
+use Rattle.bp_limits.specs.Limits.{max_size, max_height}
 use Rattle.bp_layout.specs.Nodes.{nodes_for, height_with}
 use Rattle.bp_layout.specs.Members.{Has, Each}
 use Rattle.bp_changes.specs.SameContent.{IsReadByWords}
 use Rattle.bp_changes.specs.SameMeaning.{SameMeaning}
 use Rattle.pm_region.specs.Memory.{Memory, current_words, room_in}
+use Rattle.bp_tree.specs.Performs.{AddsTaking}
+use Rattle.bp_append.specs.Stores.{prep_stores}
 use Rattle.bp_append.specs.Given.{given}
 use Rattle.bp_append.specs.Filled.{IsUsable}
 
@@ -32,15 +34,11 @@ pub record CanPrepare (memory : Memory) (free : List ℕ) (t : ℕ) (path : Word
   pub usable : IsUsable (length memory.base / 512) free
   pub unused : Each (λ b. IsLiveBlock (current_words memory) b → ⊥) free
   pub enough : need_for (current_words memory) t from to ≤ length free
-  pub room : 512 * need_for (current_words memory) t from to + 2055 ≤ room_in memory
+  pub room : 512 * (need_for (current_words memory) t from to + suc max_height) + 4 ≤ room_in memory
 
 -- the path leads to the root word of such a tree
 abbrev pub IsPreparable : Memory → List ℕ → WordPath → ℕ → ℕ → Type 0
 IsPreparable memory free path from to = (t : ℕ) × CanPrepare memory free t path from to
-
--- the most stores of a preparation that takes so many blocks: those in blocks of the tree, and the links
-abbrev pub most_stores : ℕ → ℕ
-most_stores need = 512 * need + 2053
 
 -- Tree t is ready for the bytes up to the end: these are the given ones, in its old blocks and those taken. Nothing else has changed that an image means, nor a live word of another tree but the root word of t.
 pub record Prepares (old new : Image) (t from to : ℕ) (bytes taken : List ℕ) : Type 0 where
@@ -59,9 +57,10 @@ pub record Prepares (old new : Image) (t from to : ℕ) (bytes taken : List ℕ)
   pub others : (u d k : ℕ) → IsReached old u → u ≢ t → IsLiveWord (root_of old u) (size_of old u) (suc d) k → ((u ≡ 0) → (d ≡ height_of (root_of old 0)) → (k ≡ 8 * t + 1) → ⊥) →
       word_at new (root_of new u) (suc d) k ≡ word_at old (root_of old u) (suc d) k
 
--- the blocks are the first of the free ones, as many as are needed
-pub record PreparesWith (old new : Image) (free_old free_new : List ℕ) (t from to : ℕ) (bytes : List ℕ) : Type 0 where
+-- The blocks are the first of the free ones, as many as are needed. Nobody sees the stores at any moment of a crash, each of these blocks gets one, and no other block that was free does.
+pub record PreparesWith (old new : Memory) (free_old free_new : List ℕ) (t from to : ℕ) (bytes : List ℕ) : Type 0 where
   pub taken : List ℕ
   pub takes : free_old ≡ taken ++ free_new
-  pub counted : length taken ≡ need_for old t from to
-  pub ready : Prepares old new t from to bytes taken
+  pub counted : length taken ≡ need_for (current_words old) t from to
+  pub adds : AddsTaking taken 2 (prep_stores (size_of (current_words old) t) from to (need_for (current_words old) t from to)) old new
+  pub ready : Prepares (current_words old) (current_words new) t from to bytes taken

@@ -6,7 +6,7 @@ use Rattle.bp_layout.specs.Members.{Has, AreApart}
 use Rattle.bp_shapes.specs.Links.{raised_by, LeadDown}
 use Rattle.bp_layout.specs.Stores.{after_stores}
 use Rattle.pm_region.specs.Memory.{Memory, current_words, room_in}
-use Rattle.pm_region.specs.Safe.{AddsMay}
+use Rattle.bp_append.specs.Into.{AddsInto}
 use Rattle.bp_append.specs.Given.{given}
 use Rattle.bp_append.specs.Tally.{tally}
 use Rattle.bp_append.specs.Built.{InBlocks, IsBuilt}
@@ -48,7 +48,7 @@ pub record Rises (old new : Memory) (free_old free_new : List ℕ) (root top low
   pub taken : List ℕ
   pub takes : free_old ≡ taken ++ free_new
   pub counted : length taken + edge from to low ≡ edge from to height + idles from to low height
-  pub stores : AddsMay (λ place value. InBlocks taken place) 0 (512 * length taken + (height - low)) old new
+  pub stores : AddsInto taken (λ place value. InBlocks taken place) (512 * length taken + (height - low)) old new
   pub chain : List ℕ
   pub named : top ≡ raised_by root chain
   pub tall : height_of root + length chain ≡ height

@@ -7,8 +7,9 @@ use Rattle.bp_layout.specs.Members.{Has}
 use Rattle.bp_shapes.specs.Behind.{IsBehindIn}
 use Rattle.bp_layout.specs.Stores.{after_stores}
 use Rattle.pm_region.specs.Memory.{Memory, current_words, room_in}
-use Rattle.pm_region.specs.Safe.{AddsMay}
 use Rattle.bp_append.specs.declared.visiting.Link.{Link}
+use Rattle.bp_append.specs.Into.{AddsInto}
+use Rattle.bp_append.specs.Stores.{stores_behind}
 use Rattle.bp_append.specs.Given.{given, given_at}
 use Rattle.bp_append.specs.Tally.{tally}
 use Rattle.bp_append.specs.Spine.{spine}
@@ -74,7 +75,8 @@ pub record Visits (old new : Memory) (free_old free_new : List ℕ) (root size l
   pub taken : List ℕ
   pub takes : free_old ≡ taken ++ free_new
   pub counted : length taken + spine (current_words old) root size from to (suc level) ≡ tally (suc level) (max from start) (min to (start + span level))
-  pub stores : AddsMay (λ place value. InBlocks taken place ⊎ IsBehindPart (current_words old) root size (4096 * block + level) (size - start) place value) 0 (512 * length taken + 512 * suc level) old new
+  pub stores : AddsInto taken (λ place value. InBlocks taken place ⊎ IsBehindPart (current_words old) root size (4096 * block + level) (size - start) place value)
+      (512 * length taken + stores_behind size from to level) old new
   pub hung : AreHung (current_words old) (current_words new) root size from to bytes taken (λ place. HasBlock (current_words old) (4096 * block + level) (size - start) (place / 512)) links
   pub tree : IsBuilt (after_stores (current_words new) links) (4096 * block + level) (min (to - start) (span level)) (extended (current_words old) (4096 * block + level) size from bytes start)
       (λ b. HasBlock (current_words old) (4096 * block + level) (size - start) b ⊎ Has taken b) (IsFull (current_words old) (4096 * block + level) (size - start) × (from ≡ size))
@@ -90,8 +92,8 @@ pub record VisitsSlot (old new : Memory) (free_old free_new : List ℕ) (root si
   pub taken : List ℕ
   pub takes : free_old ≡ taken ++ free_new
   pub counted : length taken + spine (current_words old) root size from to (suc below) ≡ tally (suc below) (max from (start + slot * span below)) (min to (start + slot * span below + span below))
-  pub stores : AddsMay (λ place value. InBlocks taken place ⊎ IsBehindPart (current_words old) root size (child (current_words old) block below slot) (size - (start + slot * span below)) place value) 0
-      (512 * length taken + 512 * suc below) old new
+  pub stores : AddsInto taken (λ place value. InBlocks taken place ⊎ IsBehindPart (current_words old) root size (child (current_words old) block below slot) (size - (start + slot * span below)) place value)
+      (512 * length taken + stores_behind size from to below) old new
   pub hung : AreHung (current_words old) (current_words new) root size from to bytes taken
       (λ place. HasBlock (current_words old) (child (current_words old) block below slot) (size - (start + slot * span below)) (place / 512) ⊎ (place ≡ 512 * block + slot)) links
   pub word : slot_word (after_stores (current_words new) links) block slot % 4096 ≡ 0

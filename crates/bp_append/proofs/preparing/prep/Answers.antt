@@ -8,8 +8,8 @@ use Rattle.pm_region.proofs.MemoryLaws.{length-current_words}
 use Rattle.bp_append.specs.Grown.{CanGrow, Grows, Makes}
 use Rattle.bp_append.specs.Prepared.{CanPrepare}
 use Rattle.bp_append.proofs.PlaceLaws.{Leads, leads_to, grow_can, some_blocks, no_blocks}
-use Rattle.bp_append.proofs.NullPrepared.{null_quiet, null_prepared}
-use Rattle.bp_append.proofs.TreePrepared.{tree_quiet, tree_prepared}
+use Rattle.bp_append.proofs.NullPrepared.{null_prepared}
+use Rattle.bp_append.proofs.TreePrepared.{tree_prepared}
 use Rattle.bp_append.proofs.preparing.prep.Goals as goal
 
 leads : (memory : Memory) (free : List ℕ) (t : ℕ) (path : WordPath) (from to : ℕ) → CanPrepare memory free t path from to → Leads (current_words memory) t path
@@ -70,19 +70,8 @@ prepare_null-requires-clause-place g c = let low = place_low _ _ _ _ _ _ _ c.req
 pub prepare_null-requires-clause-null : goal.prepare_null-requires-clause-null
 prepare_null-requires-clause-null g c = no_blocks c.load-2.result (block_of c.load.result) (sym c.has_blocks.ensures ∙ c.if-has_blocks.false)
 
-pub returns-then-has_blocks-clause-quiet : goal.returns-then-has_blocks-clause-quiet
-returns-then-has_blocks-clause-quiet g c = λ tree can.
-    let first = g.R.Region.memory c.args.parts.now.region in
-    let both = roots first (members c.args.parts.now.blocks) tree c.args.at.now.items c.args.from c.args.new_end c.address-place.result c.load.result c.load-2.result can c.address-place.ensures.address c.load.ensures c.load-2.ensures in
-    let there = leads first (members c.args.parts.now.blocks) tree c.args.at.now.items c.args.from c.args.new_end can in
-    let some = some_blocks c.load-2.result (block_of c.load.result) (sym c.has_blocks.ensures ∙ c.if-has_blocks.true) in
-    tree_quiet first (g.R.Region.memory c.prepare_tree.new.region) (members c.args.parts.now.blocks) (members c.prepare_tree.new.blocks) tree c.address-place.result c.args.from c.args.new_end c.args.at.now.items c.args.bytes.now can
-    (subst (RootPlace (current_words first) tree) (sym c.address-place.ensures.address) there.stands)
-    (subst₂ (λ r s. Grows first (g.R.Region.memory c.prepare_tree.new.region) (members c.args.parts.now.blocks) (members c.prepare_tree.new.blocks) c.address-place.result r s c.args.from c.args.new_end c.args.bytes.now) both.0 both.1 c.prepare_tree.ensures.grows)
-    (subst (λ s. 0 < s) both.1 some.0) (subst (λ r. 1 ≤ block_of r) both.0 some.1)
-
-pub returns-then-has_blocks-clause-ready : goal.returns-then-has_blocks-clause-ready
-returns-then-has_blocks-clause-ready g c = λ tree can.
+pub returns-then-has_blocks-clause-prepares : goal.returns-then-has_blocks-clause-prepares
+returns-then-has_blocks-clause-prepares g c = λ tree can.
     let first = g.R.Region.memory c.args.parts.now.region in
     let both = roots first (members c.args.parts.now.blocks) tree c.args.at.now.items c.args.from c.args.new_end c.address-place.result c.load.result c.load-2.result can c.address-place.ensures.address c.load.ensures c.load-2.ensures in
     let there = leads first (members c.args.parts.now.blocks) tree c.args.at.now.items c.args.from c.args.new_end can in
@@ -92,19 +81,8 @@ returns-then-has_blocks-clause-ready g c = λ tree can.
     (subst₂ (λ r s. Grows first (g.R.Region.memory c.prepare_tree.new.region) (members c.args.parts.now.blocks) (members c.prepare_tree.new.blocks) c.address-place.result r s c.args.from c.args.new_end c.args.bytes.now) both.0 both.1 c.prepare_tree.ensures.grows)
     (subst (λ s. 0 < s) both.1 some.0) (subst (λ r. 1 ≤ block_of r) both.0 some.1)
 
-pub returns-else-has_blocks-clause-quiet : goal.returns-else-has_blocks-clause-quiet
-returns-else-has_blocks-clause-quiet g c = λ tree can.
-    let first = g.R.Region.memory c.args.parts.now.region in
-    let both = roots first (members c.args.parts.now.blocks) tree c.args.at.now.items c.args.from c.args.new_end c.address-place.result c.load.result c.load-2.result can c.address-place.ensures.address c.load.ensures c.load-2.ensures in
-    let there = leads first (members c.args.parts.now.blocks) tree c.args.at.now.items c.args.from c.args.new_end can in
-    let none = no_blocks c.load-2.result (block_of c.load.result) (sym c.has_blocks.ensures ∙ c.if-has_blocks.false) in
-    null_quiet first (g.R.Region.memory c.prepare_null.new.region) (members c.args.parts.now.blocks) (members c.prepare_null.new.blocks) tree c.address-place.result c.args.from c.args.new_end c.args.at.now.items c.args.bytes.now can
-    (subst (RootPlace (current_words first) tree) (sym c.address-place.ensures.address) there.stands)
-    (subst₂ (λ r s. Makes first (g.R.Region.memory c.prepare_null.new.region) (members c.args.parts.now.blocks) (members c.prepare_null.new.blocks) c.address-place.result r s c.args.from c.args.new_end c.args.bytes.now) both.0 both.1 c.prepare_null.ensures.makes)
-    (subst₂ (λ r s. (s ≡ 0) ⊎ (block_of r ≡ 0)) both.0 both.1 none)
-
-pub returns-else-has_blocks-clause-ready : goal.returns-else-has_blocks-clause-ready
-returns-else-has_blocks-clause-ready g c = λ tree can.
+pub returns-else-has_blocks-clause-prepares : goal.returns-else-has_blocks-clause-prepares
+returns-else-has_blocks-clause-prepares g c = λ tree can.
     let first = g.R.Region.memory c.args.parts.now.region in
     let both = roots first (members c.args.parts.now.blocks) tree c.args.at.now.items c.args.from c.args.new_end c.address-place.result c.load.result c.load-2.result can c.address-place.ensures.address c.load.ensures c.load-2.ensures in
     let there = leads first (members c.args.parts.now.blocks) tree c.args.at.now.items c.args.from c.args.new_end can in

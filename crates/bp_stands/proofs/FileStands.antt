@@ -1,37 +1,77 @@
 -- The plain tree of an image in which the bytes of one file have changed.
-use Rattle.std.proofs.Common.{◌≡◌, ℕ, suc, Bool, true, false, set, Some, refl, sym, ◌∙◌}
-use Rattle.std.specs.FinMap.{get, insert, get-insert}
+use Rattle.std.proofs.Common.{◌≡◌, ◌⊎◌, ℕ, suc, List, Bool, true, false, set, Option, None, Some, refl, sym, ◌∙◌, subst, inl, inr}
+use Rattle.std.proofs.lemmas.Bool.{cases_eq}
+use Rattle.std.specs.FinMap.{get, get-insert}
 use Rattle.std.specs.Ordering.{eq_by_cmp}
 use Rattle.bp_layout.specs.Words.{Image}
 use Rattle.bp_layout.specs.Tree.{content}
 use Rattle.bp_layout.specs.Inode.{root_of, size_of}
-use Rattle.bp_layout.specs.Lookup.{Path, Node, lookup, shown}
+use Rattle.bp_layout.specs.Lookup.{Path, lookup, shown}
 use Rattle.bp_layout.specs.Lookup.Node.{file}
 use Rattle.bp_layout.specs.WellFormed.{IsWellFormed}
 use Rattle.bp_layout.proofs.Paths.{path_once}
 use Rattle.bp_changes.specs.Effects.{ChangesFile}
 use Rattle.bp_changes.proofs.ChangesFile.{well_formed-same, shown_file, shown_other}
 use Rattle.bp_changes.proofs.Resize.{CanResize, resize_changes, bytes_of_file}
+use Rattle.bp_plain.specs.Plain.{with_bytes}
 use Rattle.bp_plain.specs.PlainTree.{FileTree, path_cmp}
 use Rattle.bp_plain.specs.Stands.{Stands}
 use Rattle.bp_plain.proofs.Uniqueness.{path_cmp-IsTotalOrder, same_path_from, other_path_from}
+use Rattle.bp_stands.specs.EachPath.{HasBytesAtEach}
 
--- the tree has the file's new bytes
-pub file_stands : (old new : Image) (x : ℕ) (wf : IsWellFormed old) → ChangesFile old new x → (tree : FileTree) (path : Path) → Stands old tree → lookup old path ≡ Some x →
-    Stands new (insert tree path (file (content new (root_of new x) (size_of new x))))
-file_stands old new x wf same tree path stands at = record { well_formed = well_formed-same old new x wf same; shows = λ q. go q (eq_by_cmp path_cmp q path) refl }
+-- the tree has the file's new bytes at each path that shows it
+pub file_stands : (old new : Image) (x : ℕ) → IsWellFormed old → ChangesFile old new x → (tree after : FileTree) → Stands old tree →
+    HasBytesAtEach old x (content new (root_of new x) (size_of new x)) tree after → Stands new after
+file_stands old new x wf changes tree after stands given = record {
+  well_formed = well_formed-same old new x wf changes;
+  shows = λ path. go path (lookup old path) refl;
+}
   where
-    node : Node
-    node = file (content new (root_of new x) (size_of new x))
+    at_inode : (path : Path) (u : ℕ) → lookup old path ≡ Some u → (u ≡ x) ⊎ (u ≡ x → ⊥) → get after path ≡ shown new path
+    at_inode path u found (inl e) =
+        let there : lookup old path ≡ Some x = subst (λ v. lookup old path ≡ Some v) e found in
+        given.there path there ∙ sym (shown_file old new x wf changes path there)
+    at_inode path u found (inr other) =
+        let elsewhere : lookup old path ≡ Some x → ⊥ = λ here. other (some_once u x (sym found ∙ here)) in
+        given.elsewhere path elsewhere ∙ stands.shows path ∙ sym (shown_other old new x wf changes path elsewhere)
+      where
+        some_once : (a b : ℕ) → ◌≡◌ {A = Option ℕ} (Some a) (Some b) → a ≡ b
+        some_once a b e = cc
 
-    go : (q : Path) (b : Bool) → eq_by_cmp path_cmp q path ≡ b → get (insert tree path node) q ≡ shown new q
-    go q true e = get-insert path_cmp-IsTotalOrder tree path node q ∙ rw (e, same_path_from q path e) (sym (shown_file old new x wf same path at))
-    go q false e =
-        get-insert path_cmp-IsTotalOrder tree path node q
-        ∙ rw (e, shown_other old new x wf same q (λ found. other_path_from q path e (path_once old wf q path x found at))) (stands.shows q)
+    go : (path : Path) (found : Option ℕ) → lookup old path ≡ found → get after path ≡ shown new path
+    go path None e =
+        let elsewhere : lookup old path ≡ Some x → ⊥ = λ here. none_some x (sym e ∙ here) in
+        given.elsewhere path elsewhere ∙ stands.shows path ∙ sym (shown_other old new x wf changes path elsewhere)
+      where
+        none_some : (a : ℕ) → ◌≡◌ {A = Option ℕ} None (Some a) → ⊥
+        none_some a e = absurd (cc)
+    go path (Some u) e = at_inode path u e (cases_eq u x)
+
+-- where one path shows it
+pub one_path : (old : Image) (x : ℕ) (bytes : List ℕ) → IsWellFormed old → (tree : FileTree) (path : Path) → lookup old path ≡ Some x →
+    HasBytesAtEach old x bytes tree (with_bytes tree path bytes)
+one_path old x bytes wf tree path at = record {
+  there = λ other found. there other (path_once old wf other path x found at);
+  elsewhere = λ other apart. go other apart (eq_by_cmp path_cmp other path) refl;
+}
+  where
+    there : (other : Path) → other ≡ path → get (with_bytes tree path bytes) other ≡ Some (file bytes)
+    there other same = by_test (eq_by_cmp path_cmp other path) refl
+      where
+        by_test : (b : Bool) → eq_by_cmp path_cmp other path ≡ b → get (with_bytes tree path bytes) other ≡ Some (file bytes)
+        by_test true e = get-insert path_cmp-IsTotalOrder tree path (file bytes) other ∙ rw e refl
+        by_test false e = absurd (other_path_from other path e same)
+
+    go : (other : Path) → (lookup old other ≡ Some x → ⊥) → (b : Bool) → eq_by_cmp path_cmp other path ≡ b → get (with_bytes tree path bytes) other ≡ get tree other
+    go other apart true e = absurd (apart (subst (λ p. lookup old p ≡ Some x) (sym (same_path_from other path e)) at))
+    go other apart false e = get-insert path_cmp-IsTotalOrder tree path (file bytes) other ∙ rw e refl
 
 -- the tree has the file with the bytes below its new size
-pub resize_stands : (old : Image) (wf : IsWellFormed old) (n size place : ℕ) → CanResize old n size place → (tree : FileTree) (path : Path) → Stands old tree → lookup old path ≡ Some (suc n) →
-    Stands (set old place size) (insert tree path (file (content old (root_of old (suc n)) size)))
+pub resize_stands : (old : Image) (wf : IsWellFormed old) (n size place : ℕ) → CanResize old n size place → (tree : FileTree) (path : Path) →
+    Stands old tree → lookup old path ≡ Some (suc n) →
+    Stands (set old place size) (with_bytes tree path (content old (root_of old (suc n)) size))
 resize_stands old wf n size place can tree path stands at =
-    rw (← bytes_of_file old wf n size place can) (file_stands old (set old place size) (suc n) wf (resize_changes old wf n size place can) tree path stands at)
+    let changes : ChangesFile old (set old place size) (suc n) = resize_changes old wf n size place can in
+    let bytes : List ℕ = content (set old place size) (root_of (set old place size) (suc n)) (size_of (set old place size) (suc n)) in
+    rw (← bytes_of_file old wf n size place can)
+    (file_stands old (set old place size) (suc n) wf changes tree _ stands (one_path old (suc n) bytes wf tree path at))

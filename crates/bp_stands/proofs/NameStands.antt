@@ -1,6 +1,6 @@
 -- The plain tree of an image that has one more name, or one fewer.
 use Rattle.std.proofs.Common.{◌≡◌, ℕ, ◌+◌, ◌*◌, [], ◌∷◌, ◌++◌, Bool, true, false, ◌==◌, if◌then◌else◌, set, Some, refl, sym, ◌∙◌, subst₂}
-use Rattle.std.specs.FinMap.{get, insert, remove, get-insert, get-remove}
+use Rattle.std.specs.FinMap.{get, get-insert, get-remove}
 use Rattle.std.specs.Ordering.{eq_by_cmp}
 use Rattle.bp_layout.specs.Words.{Image}
 use Rattle.bp_layout.specs.Inode.{kind_of, ContentStandsAt}
@@ -14,6 +14,7 @@ use Rattle.bp_changes.proofs.AddsNames.{names_added, node_of_new, linked_well_fo
 use Rattle.bp_changes.proofs.Link.{CanLink, AddsEntry, entry_adds, name_of_new}
 use Rattle.bp_changes.proofs.LinkInPlace.{store_adds}
 use Rattle.bp_changes.proofs.Unlink as unlink
+use Rattle.bp_plain.specs.Plain.{with_node, without}
 use Rattle.bp_plain.specs.PlainTree.{FileTree, path_cmp}
 use Rattle.bp_plain.specs.Stands.{Stands}
 use Rattle.bp_plain.proofs.Uniqueness.{path_cmp-IsTotalOrder, same_path_from, other_path_from}
@@ -22,10 +23,10 @@ use Rattle.bp_plain.proofs.Uniqueness.{path_cmp-IsTotalOrder, same_path_from, ot
 
 -- the tree gains one entry
 pub added_stands : (old new : Image) (i : ℕ) (name : Name) (j : ℕ) → AddsName old new i name j → (parent : Path) → lookup old parent ≡ Some i →
-    (tree : FileTree) → Stands old tree → IsWellFormed new → Stands new (insert tree (parent ++ name ∷ []) (node_of new j))
+    (tree : FileTree) → Stands old tree → IsWellFormed new → Stands new (with_node tree (parent ++ name ∷ []) (node_of new j))
 added_stands old new i name j adds parent at tree stands wf = record { well_formed = wf; shows = λ path. go path (eq_by_cmp path_cmp path (parent ++ name ∷ [])) refl }
   where
-    go : (path : Path) (b : Bool) → eq_by_cmp path_cmp path (parent ++ name ∷ []) ≡ b → get (insert tree (parent ++ name ∷ []) (node_of new j)) path ≡ shown new path
+    go : (path : Path) (b : Bool) → eq_by_cmp path_cmp path (parent ++ name ∷ []) ≡ b → get (with_node tree (parent ++ name ∷ []) (node_of new j)) path ≡ shown new path
     go path true e =
         get-insert path_cmp-IsTotalOrder tree (parent ++ name ∷ []) (node_of new j) path
         ∙ rw (e, same_path_from path (parent ++ name ∷ []) e) (sym (shown_there old new i name j adds parent at))
@@ -34,23 +35,25 @@ added_stands old new i name j adds parent at tree stands wf = record { well_form
         ∙ rw (e, shown_elsewhere old new i name j adds parent at path (other_path_from path (parent ++ name ∷ []) e)) (stands.shows path)
 
 -- the same of an entry at a slot of a directory
-pub names_stand : (old new : Image) (wf : IsWellFormed old) (i s j : ℕ) → AddsNames old new i s j → (tree : FileTree) (parent : Path) → Stands old tree → lookup old parent ≡ Some i →
-    Stands new (insert tree (parent ++ name_at new i s ∷ []) (if kind_of new j == 1 then file [] else dir))
+pub names_stand : (old new : Image) (wf : IsWellFormed old) (i s j : ℕ) → AddsNames old new i s j →
+    (tree : FileTree) (parent : Path) → Stands old tree → lookup old parent ≡ Some i →
+    Stands new (with_node tree (parent ++ name_at new i s ∷ []) (if kind_of new j == 1 then file [] else dir))
 names_stand old new wf i s j adds tree parent stands at =
     rw (← node_of_new old new wf i s j adds)
     (added_stands old new i (name_at new i s) j (names_added old new wf i s j adds) parent at tree stands (linked_well_formed old new wf i s j adds))
 
 -- the same where an inumber comes into an empty entry
-pub link_stands : (old new : Image) (wf : IsWellFormed old) (i s j : ℕ) → CanLink old i s j → AddsEntry old new i s j → (tree : FileTree) (parent : Path) → Stands old tree → lookup old parent ≡ Some i →
-    Stands new (insert tree (parent ++ name_at old i s ∷ []) (if kind_of old j == 1 then file [] else dir))
+pub link_stands : (old new : Image) (wf : IsWellFormed old) (i s j : ℕ) → CanLink old i s j → AddsEntry old new i s j →
+    (tree : FileTree) (parent : Path) → Stands old tree → lookup old parent ≡ Some i →
+    Stands new (with_node tree (parent ++ name_at old i s ∷ []) (if kind_of old j == 1 then file [] else dir))
 link_stands old new wf i s j can adds tree parent stands at =
-    subst₂ (λ n k. Stands new (insert tree (parent ++ n ∷ []) (if k == 1 then file [] else dir))) (name_of_new old new wf i s j can adds) (adds.kind j can.in_file)
+    subst₂ (λ n k. Stands new (with_node tree (parent ++ n ∷ []) (if k == 1 then file [] else dir))) (name_of_new old new wf i s j can adds) (adds.kind j can.in_file)
     (names_stand old new wf i s j (entry_adds old new wf i s j can adds) tree parent stands at)
 
 -- the same by one store in place
 pub store_stands : (old : Image) (wf : IsWellFormed old) (i s j place : ℕ) → CanLink old i s j → ContentStandsAt old i (32 * s + 0) place →
     (tree : FileTree) (parent : Path) → Stands old tree → lookup old parent ≡ Some i →
-    Stands (set old place j) (insert tree (parent ++ name_at old i s ∷ []) (if kind_of old j == 1 then file [] else dir))
+    Stands (set old place j) (with_node tree (parent ++ name_at old i s ∷ []) (if kind_of old j == 1 then file [] else dir))
 store_stands old wf i s j place can stands tree parent at found =
     link_stands old (set old place j) wf i s j can (store_adds old wf i s j place can stands) tree parent at found
 
@@ -58,11 +61,11 @@ store_stands old wf i s j place can stands tree parent at found =
 
 -- the tree loses the name
 pub unlink_stands : (old new : Image) (wf : IsWellFormed old) (i s j : ℕ) → CanUnlink old i s j → RemovesEntry old new i s →
-    (parent : Path) → lookup old parent ≡ Some i → (tree : FileTree) → Stands old tree → Stands new (remove tree (parent ++ name_at old i s ∷ []))
+    (parent : Path) → lookup old parent ≡ Some i → (tree : FileTree) → Stands old tree → Stands new (without tree (parent ++ name_at old i s ∷ []))
 unlink_stands old new wf i s j can removes parent at tree stands =
     record { well_formed = unlink.unlinked_well_formed old new wf i s j can removes; shows = λ path. go path (eq_by_cmp path_cmp path (parent ++ name_at old i s ∷ [])) refl }
   where
-    go : (path : Path) (b : Bool) → eq_by_cmp path_cmp path (parent ++ name_at old i s ∷ []) ≡ b → get (remove tree (parent ++ name_at old i s ∷ [])) path ≡ shown new path
+    go : (path : Path) (b : Bool) → eq_by_cmp path_cmp path (parent ++ name_at old i s ∷ []) ≡ b → get (without tree (parent ++ name_at old i s ∷ [])) path ≡ shown new path
     go path true e =
         get-remove path_cmp-IsTotalOrder tree (parent ++ name_at old i s ∷ []) path
         ∙ rw (e, same_path_from path (parent ++ name_at old i s ∷ []) e) (sym (unlink.shown_there old new wf i s j can removes parent at))

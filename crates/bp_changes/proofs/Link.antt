@@ -2,6 +2,7 @@
 use Rattle.std.proofs.Common.{◌≡◌, ◌≢◌, ◌⊎◌, ℕ, ◌+◌, ◌*◌, ◌/◌, ◌%◌, ◌<◌, ◌≤◌, length, sym, ◌∙◌, ap, subst, subst₂, arith, inl, inr}
 use Rattle.std.proofs.lemmas.Bool.{cases_eq}
 use Rattle.std.proofs.lemmas.List.FromFn.{length-map-range_with_len}
+use Rattle.bp_limits.specs.Limits.{max_name}
 use Rattle.bp_layout.specs.Words.{Image, byte_of}
 use Rattle.bp_layout.specs.Tree.{byte}
 use Rattle.bp_layout.specs.Inode.{kind_of, root_of, size_of, inode_count}
@@ -56,10 +57,10 @@ module _ (old new : Image) (wf : IsWellFormed old) (i s j : ℕ) (can : CanLink 
   inumber_stays : (u r : ℕ) → IsReached old u → kind_of old u ≡ 2 → r < entry_count old u → ((i ≡ u) → (s ≡ r) → ⊥) → inumber_at new u r ≡ inumber_at old u r
   inumber_stays u r reached kind in_size other = entry_word_stays u r 0 reached kind in_size (omega arith) (λ e same. other e (omega (arith, same)))
 
-  name_stays : (u r : ℕ) → IsReached old u → kind_of old u ≡ 2 → r < entry_count old u → length (name_at old u r) ≤ 240 → name_at new u r ≡ name_at old u r
+  name_stays : (u r : ℕ) → IsReached old u → kind_of old u ≡ 2 → r < entry_count old u → length (name_at old u r) ≤ max_name → name_at new u r ≡ name_at old u r
   name_stays u r reached kind in_size few =
-      let short : entry_word old u r 1 ≤ 240 = (rw length-map-range_with_len at few) in
-      let byte_stays : (o : ℕ) → o < 240 → byte new (root_of new u) (256 * r + 16 + o) ≡ byte old (root_of old u) (256 * r + 16 + o) =
+      let short : entry_word old u r 1 ≤ max_name = (rw length-map-range_with_len at few) in
+      let byte_stays : (o : ℕ) → o < max_name → byte new (root_of new u) (256 * r + 16 + o) ≡ byte old (root_of old u) (256 * r + 16 + o) =
       λ o low.
       let number : (256 * r + 16 + o) / 8 ≡ 32 * r + (2 + o / 8) = omega arith in
       rw number (ap (λ w. byte_of w ((256 * r + 16 + o) % 8)) (entry_word_stays u r (2 + o / 8) reached kind in_size (omega (arith, low)) (λ e same. omega (arith, same, low)))) in

@@ -2,6 +2,7 @@
 use Rattle.std.proofs.Common.{◌≡◌, ◌⊎◌, ℕ, suc, ◌+◌, ◌*◌, ◌/◌, ◌%◌, ◌<◌, ◌≤◌, Bool, true, false, ◌==◌, length, Option, None, Some, refl, sym, ◌∙◌, ap, subst, subst₂, arith, inl, inr}
 use Rattle.std.proofs.lemmas.Bool.{cases_eq, eqb-true}
 use Rattle.std.proofs.lemmas.List.FromFn.{length-map-range_with_len}
+use Rattle.bp_limits.specs.Limits.{max_name}
 use Rattle.bp_layout.specs.Words.{Image, byte_of}
 use Rattle.bp_layout.specs.Tree.{byte}
 use Rattle.bp_layout.specs.Inode.{kind_of, root_of, size_of, inode_count}
@@ -31,10 +32,10 @@ module _ (old new : Image) (wf : IsWellFormed old) (i s k r j : ℕ) (can : CanM
   inumber_stays u x reached kind low one two =
       moves.entry u x 0 reached kind low (omega arith) (λ e same. one (sym e) (omega (arith, same))) (λ e same. two (sym e) (omega (arith, same)))
 
-  name_stays : (u x : ℕ) → IsReached old u → kind_of old u ≡ 2 → x < entry_count old u → length (name_at old u x) ≤ 240 → name_at new u x ≡ name_at old u x
+  name_stays : (u x : ℕ) → IsReached old u → kind_of old u ≡ 2 → x < entry_count old u → length (name_at old u x) ≤ max_name → name_at new u x ≡ name_at old u x
   name_stays u x reached kind low few =
-      let short : entry_word old u x 1 ≤ 240 = (rw length-map-range_with_len at few) in
-      let byte_stays : (o : ℕ) → o < 240 → byte new (root_of new u) (256 * x + 16 + o) ≡ byte old (root_of old u) (256 * x + 16 + o) =
+      let short : entry_word old u x 1 ≤ max_name = (rw length-map-range_with_len at few) in
+      let byte_stays : (o : ℕ) → o < max_name → byte new (root_of new u) (256 * x + 16 + o) ≡ byte old (root_of old u) (256 * x + 16 + o) =
       λ o small.
       let number : (256 * x + 16 + o) / 8 ≡ 32 * x + (2 + o / 8) = omega arith in
       rw number (ap (λ w. byte_of w ((256 * x + 16 + o) % 8))

@@ -2,6 +2,7 @@
 use Rattle.std.proofs.Common.{◌≡◌, ◌⊎◌, ℕ, suc, ◌+◌, ◌*◌, ◌/◌, ◌%◌, ◌<◌, ◌≤◌, Bool, true, false, ◌==◌, Option, None, Some, refl, sym, ◌∙◌, ap, ap₂, subst, arith, inl, inr}
 use Rattle.std.proofs.lemmas.Bool.{cases_eq, eqb-true}
 use Rattle.std.proofs.lemmas.List.FromFn.{length-map-range_with_len}
+use Rattle.bp_limits.specs.Limits.{max_name}
 use Rattle.bp_layout.specs.Words.{Image, byte_of}
 use Rattle.bp_layout.specs.Tree.{byte}
 use Rattle.bp_layout.specs.Inode.{kind_of, root_of, size_of, inode_count}
@@ -46,8 +47,8 @@ module _ (old new : Image) (wf : IsWellFormed old) (i s j : ℕ) (spells : Respe
   name_stays : (u x l : ℕ) → IsReached old u → EntryNames old u x l → ((u ≡ i) → (x ≡ s) → ⊥) → name_at new u x ≡ name_at old u x
   name_stays u x l reached n other =
       let form : IsName (name_at old u x) = wf.names u x l reached n in
-      let short : entry_word old u x 1 ≤ 240 = (rw length-map-range_with_len at form.short) in
-      let byte_stays : (o : ℕ) → o < 240 → byte new (root_of new u) (256 * x + 16 + o) ≡ byte old (root_of old u) (256 * x + 16 + o) =
+      let short : entry_word old u x 1 ≤ max_name = (rw length-map-range_with_len at form.short) in
+      let byte_stays : (o : ℕ) → o < max_name → byte new (root_of new u) (256 * x + 16 + o) ≡ byte old (root_of old u) (256 * x + 16 + o) =
       λ o small.
       let number : (256 * x + 16 + o) / 8 ≡ 32 * x + (2 + o / 8) = omega arith in
       rw number (ap (λ w. byte_of w ((256 * x + 16 + o) % 8)) (spells.entry u x l (2 + o / 8) reached n (omega (arith, small)) other)) in

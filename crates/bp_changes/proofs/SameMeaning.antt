@@ -1,6 +1,7 @@
 -- Two images with the same meaning: the theorem behind every step that a reader of the tree does not see.
 use Rattle.std.proofs.Common.{◌≡◌, ℕ, zero, suc, ◌+◌, ◌*◌, ◌/◌, ◌%◌, ◌<◌, ◌≤◌, sym, ◌∙◌, ap, le_trans, suc-ne-zero, arith}
 use Rattle.std.proofs.lemmas.List.FromFn.{length-map-range_with_len}
+use Rattle.bp_limits.specs.Limits.{max_name}
 use Rattle.bp_layout.specs.Words.{Image, byte_of}
 use Rattle.bp_layout.specs.Tree.{byte}
 use Rattle.bp_layout.specs.Inode.{kind_of, root_of, size_of, inode_count}
@@ -18,7 +19,7 @@ module _ (old new : Image) (wf : IsWellFormed old) (same : SameMeaning old new) 
   size-same zero kind e reached = absurd (suc-ne-zero kind (sym e))
   size-same (suc i) kind e reached = same.size i reached
 
-  name_byte-same : (i slot j o : ℕ) → IsReached old i → EntryNames old i slot j → o < 240 →
+  name_byte-same : (i slot j o : ℕ) → IsReached old i → EntryNames old i slot j → o < max_name →
       byte new (root_of new i) (256 * slot + 16 + o) ≡ byte old (root_of old i) (256 * slot + 16 + o)
   name_byte-same i slot j o reached names low =
       let number : (256 * slot + 16 + o) / 8 ≡ 32 * slot + (2 + o / 8) = omega arith in
@@ -27,7 +28,7 @@ module _ (old new : Image) (wf : IsWellFormed old) (same : SameMeaning old new) 
   name-same : (i slot j : ℕ) → IsReached old i → EntryNames old i slot j → name_at new i slot ≡ name_at old i slot
   name-same i slot j reached names =
       let form : IsName (name_at old i slot) = wf.names i slot j reached names in
-      let short : entry_word old i slot 1 ≤ 240 = (rw length-map-range_with_len at form.short) in
+      let short : entry_word old i slot 1 ≤ max_name = (rw length-map-range_with_len at form.short) in
       rw (same.entry i slot j 1 reached names (omega arith))
       (map-same _ _ 0 (entry_word old i slot 1) (λ o low high. name_byte-same i slot j o reached names (omega (arith, high, short))))
 

@@ -3,6 +3,7 @@ use Rattle.std.proofs.Common.{◌≡◌, ◌⊎◌, ℕ, suc, ◌+◌, ◌*◌, 
 use Rattle.std.specs.Option.{option_map}
 use Rattle.std.proofs.lemmas.Bool.{cases_eq, eqb-true}
 use Rattle.std.proofs.lemmas.List.FromFn.{length-map-range_with_len}
+use Rattle.bp_limits.specs.Limits.{max_name}
 use Rattle.bp_layout.specs.Words.{Image, byte_of}
 use Rattle.bp_layout.specs.Tree.{byte}
 use Rattle.bp_layout.specs.Inode.{kind_of, root_of, size_of, inode_count}
@@ -32,8 +33,8 @@ module _ (old new : Image) (wf : IsWellFormed old) (i s j : ℕ) (can : CanUnlin
   name_stays : (u r k : ℕ) → IsReached old u → EntryNames old u r k → name_at new u r ≡ name_at old u r
   name_stays u r k reached n =
       let form : IsName (name_at old u r) = wf.names u r k reached n in
-      let short : entry_word old u r 1 ≤ 240 = (rw length-map-range_with_len at form.short) in
-      let byte_stays : (o : ℕ) → o < 240 → byte new (root_of new u) (256 * r + 16 + o) ≡ byte old (root_of old u) (256 * r + 16 + o) =
+      let short : entry_word old u r 1 ≤ max_name = (rw length-map-range_with_len at form.short) in
+      let byte_stays : (o : ℕ) → o < max_name → byte new (root_of new u) (256 * r + 16 + o) ≡ byte old (root_of old u) (256 * r + 16 + o) =
       λ o low.
       let number : (256 * r + 16 + o) / 8 ≡ 32 * r + (2 + o / 8) = omega arith in
       rw number (ap (λ w. byte_of w ((256 * r + 16 + o) % 8)) (removes.entry u r (2 + o / 8) reached n.directory n.in_size (omega (arith, low)) (λ e same. omega (arith, same, low)))) in

@@ -1,4 +1,5 @@
--- What a change makes of an image: told of the trees that the first image reaches, by slots and inodes. The second image may have its trees in other blocks.
+-- What a change makes of an image: told of the trees that the first image reaches, by slots and inodes. The second image may
+-- have its trees in other blocks.
 use Rattle.std.specs.Prelude.{◌≡◌, ◌≢◌, ◌⊎◌, ℕ, ◌+◌, ◌*◌, ◌%◌, ◌<◌, ◌≤◌, length}
 use Rattle.bp_limits.specs.Limits.{super_magic, super_blocks, entry_size}
 use Rattle.bp_layout.specs.Words.{Image, word}
@@ -7,7 +8,8 @@ use Rattle.bp_layout.specs.Inode.{kind_of, root_of, size_of, inode_count}
 use Rattle.bp_layout.specs.Directory.{EntryNames, IsName, name_at, inumber_at, entry_word, entry_count}
 use Rattle.bp_layout.specs.Reached.{IsReached}
 
--- The image is as long, with its mark and its count. Each tree is sound, no block is in two, and none is missing in the inode file and in directories.
+-- The image is as long, with its mark and its count. Each tree is sound, no block is in two, and none is missing in the inode
+-- file and in directories.
 pub record KeepsTrees (old new : Image) : Type 0 where
   pub whole : length new ≡ length old
   pub marked : word new super_magic ≡ word old super_magic
@@ -27,7 +29,8 @@ pub record ChangesFile (old new : Image) (x : ℕ) : Type 0 where
   pub trees : KeepsTrees old new
   pub kind : (t : ℕ) → IsReached old t → kind_of new t ≡ kind_of old t
   pub size : (t : ℕ) → IsReached old t → t ≢ x → size_of new t ≡ size_of old t
-  pub inumber : (i s : ℕ) → IsReached old i → kind_of old i ≡ 2 → s < entry_count old i → inumber_at new i s ≡ inumber_at old i s
+  pub inumber : (i s : ℕ) → IsReached old i → kind_of old i ≡ 2 → s < entry_count old i →
+      inumber_at new i s ≡ inumber_at old i s
   pub entry : (i s j f : ℕ) → IsReached old i → EntryNames old i s j → f < 32 → entry_word new i s f ≡ entry_word old i s f
   pub bytes : (i o : ℕ) → IsReached old i → i ≢ x → kind_of old i ≡ 1 → o < size_of old i →
       byte new (root_of new i) o ≡ byte old (root_of old i) o
@@ -40,7 +43,8 @@ pub record IsNewEntry (i s j u r k : ℕ) : Type 0 where
   pub slot : r ≡ s
   pub inode : k ≡ j
 
--- One more entry, at slot s of directory i, for an inode without bytes that nobody named. The slot was empty, or the directory grew by it.
+-- One more entry, at slot s of directory i, for an inode without bytes that nobody named. The slot was empty, or the directory
+-- grew by it.
 pub record AddsNames (old new : Image) (i s j : ℕ) : Type 0 where
   pub reached : IsReached old i
   pub fresh : IsReached old j → ⊥
@@ -114,7 +118,8 @@ pub record RespellsEntry (old new : Image) (i s j : ℕ) : Type 0 where
   pub trees : KeepsTrees old new
   pub kind : (u : ℕ) → u < inode_count old → kind_of new u ≡ kind_of old u
   pub size : (u : ℕ) → u < inode_count old → size_of new u ≡ size_of old u
-  pub inumber : (u x : ℕ) → IsReached old u → kind_of old u ≡ 2 → x < entry_count old u → inumber_at new u x ≡ inumber_at old u x
+  pub inumber : (u x : ℕ) → IsReached old u → kind_of old u ≡ 2 → x < entry_count old u →
+      inumber_at new u x ≡ inumber_at old u x
   pub entry : (u x l f : ℕ) → IsReached old u → EntryNames old u x l → f < 32 → ((u ≡ i) → (x ≡ s) → ⊥) →
       entry_word new u x f ≡ entry_word old u x f
   pub name : IsName (name_at new i s)

@@ -1,5 +1,6 @@
 -- When a second image means the same as the first: told of the trees that the first one reaches, so by inodes and not by paths.
 use Rattle.std.specs.Prelude.{◌≡◌, ℕ, suc, ◌%◌, ◌<◌, ◌≤◌, length}
+use Rattle.bp_limits.specs.Limits.{super_magic, super_blocks, block_size}
 use Rattle.bp_layout.specs.Words.{Image, word}
 use Rattle.bp_layout.specs.Tree.{byte, HasBlock, IsSound, IsFull}
 use Rattle.bp_layout.specs.Inode.{kind_of, root_of, size_of}
@@ -8,16 +9,18 @@ use Rattle.bp_layout.specs.Reached.{IsReached}
 
 pub record SameMeaning (old new : Image) : Type 0 where
   pub whole : length new ≡ length old
-  pub marked : word new 0 ≡ word old 0
-  pub counted : word new 1 ≡ word old 1
+  pub marked : word new super_magic ≡ word old super_magic
+  pub counted : word new super_blocks ≡ word old super_blocks
   pub kind : (t : ℕ) → IsReached old t → kind_of new t ≡ kind_of old t
   pub size : (i : ℕ) → IsReached old (suc i) → size_of new (suc i) ≡ size_of old (suc i)
   -- the inode file may grow
-  pub inode_blocks : size_of new 0 % 4096 ≡ 0
+  pub inode_blocks : size_of new 0 % block_size ≡ 0
   pub inodes : size_of old 0 ≤ size_of new 0
-  pub inumber : (i s : ℕ) → IsReached old i → kind_of old i ≡ 2 → s < entry_count old i → inumber_at new i s ≡ inumber_at old i s
+  pub inumber : (i s : ℕ) → IsReached old i → kind_of old i ≡ 2 → s < entry_count old i →
+      inumber_at new i s ≡ inumber_at old i s
   pub entry : (i s j f : ℕ) → IsReached old i → EntryNames old i s j → f < 32 → entry_word new i s f ≡ entry_word old i s f
-  pub bytes : (i o : ℕ) → IsReached old i → kind_of old i ≡ 1 → o < size_of old i → byte new (root_of new i) o ≡ byte old (root_of old i) o
+  pub bytes : (i o : ℕ) → IsReached old i → kind_of old i ≡ 1 → o < size_of old i →
+      byte new (root_of new i) o ≡ byte old (root_of old i) o
   pub sound : (t : ℕ) → IsReached old t → IsSound new (root_of new t) (size_of new t)
   pub apart : (t u b : ℕ) → IsReached old t → IsReached old u →
       HasBlock new (root_of new t) (size_of new t) b → HasBlock new (root_of new u) (size_of new u) b → t ≡ u

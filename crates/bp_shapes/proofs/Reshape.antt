@@ -1,6 +1,7 @@
 -- One tree of an image gets another shape and holds the same: every other tree stays, and the image means the same.
 use Rattle.std.proofs.Common.{le_of_eq, ◌≡◌, ◌≢◌, ◌⊎◌, ℕ, zero, suc, ◌+◌, ◌*◌, ◌/◌, ◌%◌, ◌<◌, ◌≤◌, length, refl, sym, ◌∙◌, ap, subst, subst₂, arith, inl, inr}
 use Rattle.std.proofs.lemmas.Bool.{cases_eq}
+use Rattle.bp_limits.specs.Limits.{super_magic, super_blocks, super_root, super_size}
 use Rattle.bp_layout.specs.Words.{Image, word, height_of, slot_word, byte_of}
 use Rattle.bp_layout.specs.Tree.{node, content_word, byte, IsLiveWord, HasBlock, IsSound, IsFull}
 use Rattle.bp_layout.specs.Inode.{inode_word, kind_of, root_of, size_of, inode_count}
@@ -18,10 +19,10 @@ use Rattle.bp_changes.proofs.SameMeaning.{same-by_meaning}
 pub record Reshapes (old new : Image) (t root : ℕ) : Type 0 where
   pub reached : IsReached old t
   pub whole : length new ≡ length old
-  pub marked : word new 0 ≡ word old 0
-  pub counted : word new 1 ≡ word old 1
-  pub inode_bytes : word new 3 ≡ word old 3
-  pub top : t ≢ 0 → word new 2 ≡ word old 2
+  pub marked : word new super_magic ≡ word old super_magic
+  pub counted : word new super_blocks ≡ word old super_blocks
+  pub inode_bytes : word new super_size ≡ word old super_size
+  pub top : t ≢ 0 → word new super_root ≡ word old super_root
   pub here : root_of new t ≡ root
   -- the live words of the other trees stay, but the root word of t
   pub others : (u e l : ℕ) → IsReached old u → u ≢ t → IsLiveWord (root_of old u) (size_of old u) (suc e) l →

@@ -1,5 +1,6 @@
 -- The trees of an image on their trails.
 use Rattle.std.specs.Prelude.{◌≡◌, ℕ, zero, suc, ◌+◌, ◌*◌, ◌/◌, ◌%◌, ◌<◌, ◌≤◌, [], ◌∷◌, Bool, true, false}
+use Rattle.bp_limits.specs.Limits.{super_root, inode_size}
 use Rattle.bp_layout.specs.Words.{Image, word, block_count, height_of}
 use Rattle.bp_layout.specs.Tree.{IsLivePointer, HasBlock, IsSound}
 use Rattle.bp_layout.specs.Inode.{root_of}
@@ -22,9 +23,10 @@ tree_trail height t depth index = along (root_trail height t) depth index
 -- the reached trees under other sizes: each is sound, and no block is in two
 pub record IsForest (image : Image) (bound : ℕ → ℕ) : Type 0 where
   pub some : 0 < bound 0
-  pub in_file : (i : ℕ) → IsReached image (suc i) → 64 * suc i + 64 ≤ bound 0
+  pub in_file : (i : ℕ) → IsReached image (suc i) → inode_size * suc i + inode_size ≤ bound 0
   pub sound : (t : ℕ) → IsReached image t → IsSound image (root_of image t) (bound t)
-  pub apart : (t u b : ℕ) → IsReached image t → IsReached image u → HasBlock image (root_of image t) (bound t) b → HasBlock image (root_of image u) (bound u) b → t ≡ u
+  pub apart : (t u b : ℕ) → IsReached image t → IsReached image u →
+      HasBlock image (root_of image t) (bound t) b → HasBlock image (root_of image u) (bound u) b → t ≡ u
 
 -- a pointer of a reached tree that is live under these sizes
 pub record IsTreePointer (image : Image) (bound : ℕ → ℕ) (p : Trail) : Type 0 where
@@ -33,7 +35,7 @@ pub record IsTreePointer (image : Image) (bound : ℕ → ℕ) (p : Trail) : Typ
   pub index : ℕ
   pub reached : IsReached image tree
   pub live : IsLivePointer (root_of image tree) (bound tree) depth index
-  pub named : tree_trail (height_of (word image 2)) tree depth index ≡ p
+  pub named : tree_trail (height_of (word image super_root)) tree depth index ≡ p
 
 -- a word of a block to which no pointer leads
 pub record IsUnseen (image : Image) (bound : ℕ → ℕ) (place : ℕ) : Type 0 where

@@ -1,5 +1,7 @@
--- A trail names a word by the slots through which one goes to it, the last slot first. The empty trail is the root word of the inode file.
+-- A trail names a word by the slots through which one goes to it, the last slot first. The empty trail is the root word of the
+-- inode file.
 use Rattle.std.specs.Prelude.{◌≡◌, ◌≢◌, ℕ, zero, suc, ◌+◌, ◌*◌, ◌<◌, List, [], ◌∷◌, length, slice_index}
+use Rattle.bp_limits.specs.Limits.{super_root}
 use Rattle.bp_layout.specs.Words.{Image, word, block_count, block_of, slot_word}
 
 abbrev pub Trail : Type 0
@@ -7,7 +9,7 @@ Trail = List ℕ
 
 -- the word to which a trail leads; under a null all is 0
 unfoldable pub word_on : Image → Trail → ℕ
-word_on image [] = word image 2
+word_on image [] = word image super_root
 word_on image (slot ∷ above) = slot_word image (block_of (word_on image above)) slot
 
 -- the block to which that word points
@@ -16,7 +18,7 @@ block_on image trail = block_of (word_on image trail)
 
 -- the place of that word
 abbrev pub place_on : Image → Trail → ℕ
-place_on image [] = 2
+place_on image [] = super_root
 place_on image (slot ∷ above) = 512 * block_on image above + slot
 
 -- the pointers that are followed: a set of trails that has all above each of its own

@@ -12,6 +12,8 @@ use Rattle.bp_layout.specs.Members.{Has, Each}
 use Rattle.bp_changes.specs.SameContent.{IsReadByWords}
 use Rattle.bp_changes.specs.SameMeaning.{SameMeaning}
 use Rattle.pm_region.specs.Memory.{Memory, current_words, room_in}
+use Rattle.bp_free.specs.Set.{members}
+use Rattle.bp_free.specs.declared.parts.Parts.{Parts}
 use Rattle.bp_tree.specs.Performs.{AddsTaking}
 use Rattle.bp_append.specs.Stores.{prep_stores}
 use Rattle.bp_append.specs.Given.{given}
@@ -35,10 +37,6 @@ pub record CanPrepare (memory : Memory) (free : List ℕ) (t : ℕ) (path : Word
   pub unused : Each (λ b. IsLiveBlock (current_words memory) b → ⊥) free
   pub enough : need_for (current_words memory) t from to ≤ length free
   pub room : 512 * (need_for (current_words memory) t from to + suc max_height) + 4 ≤ room_in memory
-
--- the path leads to the root word of such a tree
-abbrev pub IsPreparable : Memory → List ℕ → WordPath → ℕ → ℕ → Type 0
-IsPreparable memory free path from to = (t : ℕ) × CanPrepare memory free t path from to
 
 -- Tree t is ready for the bytes up to the end: these are the given ones, in its old blocks and those taken. Nothing else has changed that an image means, nor a live word of another tree but the root word of t.
 pub record Prepares (old new : Image) (t from to : ℕ) (bytes taken : List ℕ) : Type 0 where
@@ -64,3 +62,14 @@ pub record PreparesWith (old new : Memory) (free_old free_new : List ℕ) (t fro
   pub counted : length taken ≡ need_for (current_words old) t from to
   pub adds : AddsTaking taken 2 (prep_stores (size_of (current_words old) t) from to (need_for (current_words old) t from to)) old new
   pub ready : Prepares (current_words old) (current_words new) t from to bytes taken
+
+-- ---- what is asked and had of the parts of a file system
+
+-- the path leads to the root word of such a tree
+abbrev pub IsPreparable : {R : Type 0} → (R → Memory) → Parts R → WordPath → ℕ → ℕ → Type 0
+IsPreparable memory parts path from to = (t : ℕ) × CanPrepare (memory parts.region) (members parts.blocks) t path from to
+
+-- the tree to whose root word the path leads is prepared
+abbrev pub PreparesAt : {R : Type 0} → (R → Memory) → Parts R → Parts R → WordPath → ℕ → ℕ → List ℕ → Type 0
+PreparesAt memory old new path from to bytes =
+    (t : ℕ) → CanPrepare (memory old.region) (members old.blocks) t path from to → PreparesWith (memory old.region) (memory new.region) (members old.blocks) (members new.blocks) t from to bytes

@@ -1,5 +1,6 @@
 -- Trees in the slots of a block, and the tree over them.
 use Rattle.std.proofs.Common.{◌≡◌, ◌≢◌, ◌⊎◌, ℕ, suc, ◌+◌, ◌*◌, ◌/◌, ◌%◌, ◌<◌, ◌≤◌, List, [], ◌∷◌, ◌++◌, length, refl, sym, ◌∙◌, ap, subst, arith, inl, inr, mod-lt, div-add-mod', mul-le-mul_right, lt_of_lt_of_le}
+use Rattle.bp_limits.specs.Limits.{max_height}
 use Rattle.std.proofs.lemmas.Bool.{cases_eq}
 use Rattle.bp_layout.specs.Words.{Image, block_count, block_of, height_of, slot_word, byte_of}
 use Rattle.bp_layout.specs.Tree.{node, byte, span, IsLiveWord, HasBlock, IsSound, IsFull}
@@ -195,7 +196,7 @@ module _ (image : Image) (block level size : ℕ) (At Also : ℕ → Type 0) (by
 -- ---- trees
 
 -- a null is a tree of zeros in no blocks
-pub built_null : (image : Image) (level size : ℕ) (bytes : ℕ → ℕ) (Full : Type 0) → 0 < block_count image → level ≤ 3 → size ≤ span level → ((i : ℕ) → i < size → bytes i ≡ 0) → (Full → ⊥) → IsBuilt image (0 + level) size bytes (Has []) Full
+pub built_null : (image : Image) (level size : ℕ) (bytes : ℕ → ℕ) (Full : Type 0) → 0 < block_count image → level ≤ max_height → size ≤ span level → ((i : ℕ) → i < size → bytes i ≡ 0) → (Full → ⊥) → IsBuilt image (0 + level) size bytes (Has []) Full
 built_null image level size bytes Full some low fits zeros none =
     let height : height_of (0 + level) ≡ level = omega (arith, low) in
     let null : block_of (0 + level) ≡ 0 = omega (arith, low) in

@@ -1,5 +1,6 @@
 -- What `build` made may be hung in the place of a null.
 use Rattle.std.proofs.Common.{◌≡◌, ◌≢◌, ℕ, zero, suc, ◌+◌, ◌*◌, ◌/◌, ◌%◌, ◌<◌, ◌≤◌, List, refl, sym, ◌∙◌, ap, arith, pow-suc}
+use Rattle.bp_limits.specs.Limits.{max_height}
 use Rattle.bp_layout.specs.Words.{Image, block_of, height_of, slot_word, byte_of}
 use Rattle.bp_layout.specs.Tree.{word_at, node, byte, covered, span, IsLivePointer, HasBlock}
 use Rattle.bp_layout.specs.Inode.{root_of, size_of, StandsAt}
@@ -23,7 +24,7 @@ same_number (suc d) k l slots rests =
     let up : k / 512 ≡ l / 512 = same_number d (k / 512) (l / 512) slots (omega (arith, rests)) in
     omega (arith, up, rests)
 
-module _ (image : Image) (block level : ℕ) (low : level ≤ 3) where
+module _ (image : Image) (block level : ℕ) (low : level ≤ max_height) where
   node_below : (r l : ℕ) → node image (4096 * block) r l ≡ node image (4096 * block + level) r (rest_of r l)
   node_below zero l = ap block_of (word_at-zero image (4096 * block) l) ∙ omega (arith, low) ∙ sym (ap block_of (word_at-zero image (4096 * block + level) 0))
   node_below (suc r) l =
@@ -42,7 +43,7 @@ module _ (image : Image) (block level : ℕ) (low : level ≤ 3) where
       ∙ sym (word_at-suc image (4096 * block + level) r (rest_of (suc r) l) ∙ rw (row, column) refl)
 
 -- a pointer that is null, a place for it, and a tree under new blocks that is zero below the size
-module _ (image : Image) (t d k place block level size : ℕ) (bytes : ℕ → ℕ) (taken : List ℕ) (Full : Type 0) (reached : IsReached image t) (low : level ≤ 3) (height : suc d + level ≡ height_of (root_of image t))
+module _ (image : Image) (t d k place block level size : ℕ) (bytes : ℕ → ℕ) (taken : List ℕ) (Full : Type 0) (reached : IsReached image t) (low : level ≤ max_height) (height : suc d + level ≡ height_of (root_of image t))
     (live : k * span level < size_of image t) (null : node image (root_of image t) (suc d) k ≡ 0) (stands : StandsAt image t d k place)
     (built : IsBuilt image (4096 * block + level) size bytes (Has taken) Full) (free : Each (λ b. IsLiveBlock image b → ⊥) taken)
     (wide : (x : ℕ) → x < span level → k * span level + x < size_of image t → x < size) (zeros : (i : ℕ) → k * span level + i < size_of image t → bytes i ≡ 0) where

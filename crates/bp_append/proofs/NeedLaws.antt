@@ -1,5 +1,6 @@
 -- The blocks that a preparation takes are the nodes that the tree lacks.
 use Rattle.std.proofs.Common.{◌≡◌, ◌≢◌, ◌⊎◌, ℕ, zero, suc, ◌+◌, ◌-◌, ◌*◌, ◌/◌, ◌<◌, ◌≤◌, min, max, List, [], ◌∷◌, ◌++◌, length, map, filter, flat_map, Bool, true, false, cond, not, ◌&&◌, ◌==◌, nat_lt, nat_le, if◌then◌else◌, refl, sym, ◌∙◌, ap, arith, rules, inl, inr, lt-ltb, le-ltb, le-leb, mul-le-mul_right, ne_eqb, le_trans}
+use Rattle.bp_limits.specs.Limits.{max_height, max_size}
 use Rattle.std.specs.List.{range_with_len}
 use Rattle.std.proofs.lemmas.Bool.{cases_lt, cases_eq, lt-leb}
 use Rattle.std.proofs.lemmas.List.{length-append, append-nil}
@@ -14,7 +15,7 @@ use Rattle.bp_append.specs.Tally.{met, tally}
 use Rattle.bp_append.specs.Spine.{spine_at, spine}
 use Rattle.bp_append.specs.Risen.{idle, idles, edge}
 use Rattle.bp_append.specs.Needs.{raised_at, needs}
-use Rattle.bp_append.proofs.TallyLaws.{span-suc, span-positive, met_some, tally_none}
+use Rattle.bp_append.proofs.TallyLaws.{span-positive, met_some, tally_none, span-rising}
 use Rattle.std.proofs.Math.Nat.{lt-div-mul-add}
 use Rattle.std.proofs.lemmas.List.FromFn.{filter_of_map_range_with_len_more, length-map-range_with_len}
 use Rattle.bp_append.proofs.RiseLaws.{idles_none, idles_more}
@@ -254,10 +255,10 @@ module _ (image : Image) (root size from to : ℕ) (behind : size ≤ from) wher
 
 -- ---- heights
 
-pub height_for_low : (bytes : ℕ) → height_for bytes ≤ 3
+pub height_for_low : (bytes : ℕ) → height_for bytes ≤ max_height
 height_for_low bytes = search (rules)
 
-pub height_for_fits : (bytes : ℕ) → bytes ≤ span 3 → bytes ≤ span (height_for bytes)
+pub height_for_fits : (bytes : ℕ) → bytes ≤ max_size → bytes ≤ span (height_for bytes)
 height_for_fits bytes fits = search (rules)
 
 pub tall_enough : (root size to : ℕ) → 0 < size → height_of root ≤ height_with root size to
@@ -272,27 +273,20 @@ need_is image root size from to behind = go (cases_eq size 0) (cases_eq (block_o
     go (inr some) (inr present) = law_present image root size from to behind (omega (arith, some)) present (tall_enough root size to (omega (arith, some)))
 
 -- the tree of that height holds the end
-pub tall_fits : (root size to : ℕ) → to ≤ span 3 → to ≤ span (height_with root size to)
+pub tall_fits : (root size to : ℕ) → to ≤ max_size → to ≤ span (height_with root size to)
 tall_fits root size to fits = go (cases_eq size 0)
   where
-    spans : (a b : ℕ) → a ≤ b → span a ≤ span b
-    spans a zero less = let e : a ≡ 0 = omega (arith, less) in rw e (omega arith)
-    spans a (suc b) less = elim (cases_lt a (suc b)) [
-      | inl lower ↦ let up = spans a b (omega (arith, lower)) in omega (arith, up, span-suc b)
-      | inr over ↦ let e : a ≡ suc b = omega (arith, less, over) in rw e (omega arith)
-    ]
-
     go : (size ≡ 0) ⊎ (size ≡ 0 → ⊥) → to ≤ span (height_with root size to)
     go (inl e) = rw e (height_for_fits to fits)
     go (inr some) =
         let h : height_with root size to ≡ max (height_of root) (height_for to) = rw (ne_eqb size 0 some) refl in
-        let up = spans (height_for to) (max (height_of root) (height_for to)) (omega arith) in
+        let up = span-rising (height_for to) (max (height_of root) (height_for to)) (omega arith) in
         rw h (le_trans (height_for_fits to fits) up)
 
-pub tall_low : (root size to : ℕ) → (0 < size → height_of root ≤ 3) → height_with root size to ≤ 3
+pub tall_low : (root size to : ℕ) → (0 < size → height_of root ≤ max_height) → height_with root size to ≤ max_height
 tall_low root size to low = go (cases_eq size 0)
   where
-    go : (size ≡ 0) ⊎ (size ≡ 0 → ⊥) → height_with root size to ≤ 3
+    go : (size ≡ 0) ⊎ (size ≡ 0 → ⊥) → height_with root size to ≤ max_height
     go (inl e) = rw e (height_for_low to)
     go (inr some) =
         let h : height_with root size to ≡ max (height_of root) (height_for to) = rw (ne_eqb size 0 some) refl in

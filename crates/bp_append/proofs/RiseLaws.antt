@@ -1,5 +1,6 @@
 -- Higher nodes over a tree, one after another.
-use Rattle.std.proofs.Common.{◌≡◌, ◌≢◌, ◌⊎◌, ℕ, zero, suc, ◌+◌, ◌-◌, ◌*◌, ◌/◌, ◌^◌, ◌<◌, ◌≤◌, min, max, List, [], ◌∷◌, ◌++◌, length, set, get_or, true, false, nat_lt, refl, sym, ◌∙◌, ap, subst, subst₂, arith, inl, inr, get_or-set_same, get_or-set_other, lt-ltb, le-ltb, lt_of_mul-lt-mul_right, le_trans}
+use Rattle.std.proofs.Common.{◌≡◌, ◌≢◌, ◌⊎◌, ℕ, zero, suc, ◌+◌, ◌-◌, ◌*◌, ◌/◌, ◌<◌, ◌≤◌, min, max, List, [], ◌∷◌, ◌++◌, length, set, get_or, true, false, nat_lt, refl, sym, ◌∙◌, ap, subst, subst₂, arith, inl, inr, get_or-set_same, get_or-set_other, lt-ltb, le-ltb, lt_of_mul-lt-mul_right, le_trans}
+use Rattle.bp_limits.specs.Limits.{max_height}
 use Rattle.std.proofs.lemmas.Bool.{cases_eq, cases_lt}
 use Rattle.std.proofs.lemmas.List.{append_assoc, length-append, length-set}
 use Rattle.bp_layout.specs.Words.{Image, block_of, height_of, slot_word}
@@ -20,7 +21,7 @@ use Rattle.bp_append.specs.Tally.{tally, met}
 use Rattle.bp_append.specs.Built.{InBlocks, IsBuilt, Children}
 use Rattle.bp_append.specs.Filled.{IsUsable, CanFill, Fills}
 use Rattle.bp_append.specs.Risen.{idle, idles, edge, Outside, CanRise, risen, Rises}
-use Rattle.bp_append.proofs.TallyLaws.{span-suc, span-positive, met_none, met_one, tally_split, begins_at}
+use Rattle.bp_append.proofs.TallyLaws.{span-suc, span-positive, met_none, met_one, tally_split, begins_at, span-most, span-rising}
 use Rattle.bp_append.proofs.ChildrenLaws.{has_left, has_right, has_either, built_kept, built_as, built_node, children_one, children_as, children_bytes, children_kept, children_both}
 use Rattle.bp_append.proofs.FillLaws.{usable_rest, may_length, may_base, each_has, apart_parts, slot_framed, block_row}
 use Rattle.bp_append.proofs.VisitLaws.{whole_links, alike}
@@ -130,13 +131,6 @@ module _ (old stored : Memory) (free_old free_middle : List ℕ) (root block fro
   whole_is : min to (0 + span (suc (height_of root))) ≡ min to (span (suc (height_of root)))
   whole_is = omega arith
 
-  few_span : (l : ℕ) → l ≤ 3 → 0 + span l ≤ 2 ^ 40
-  few_span zero low = omega arith
-  few_span (suc zero) low = omega arith
-  few_span (suc (suc zero)) low = omega arith
-  few_span (suc (suc (suc zero))) low = omega arith
-  few_span (suc (suc (suc (suc l)))) low = absurd (omega (arith, low))
-
   pub raise_fill_can : CanFill stored free_middle block (suc (height_of root)) 0 (span (height_of root)) from to
   raise_fill_can = record {
     flat = can.most;
@@ -148,7 +142,7 @@ module _ (old stored : Memory) (free_old free_middle : List ℕ) (root block fro
     first = 1;
     node = λ below e. let same : height_of root ≡ below = omega (arith, e) in subst (λ l. span (height_of root) ≡ 0 + 1 * span l) same (omega arith);
     begun = can.some;
-    few = few_span (suc (height_of root)) can.most;
+    few = (let most = span-most (suc (height_of root)) can.most in omega (arith, most));
     few_to = can.few_to;
     some_block = usable_all.low.0;
     in_range = rw base usable_all.high.0;
@@ -320,7 +314,7 @@ module _ (old stored : Memory) (free_old free_middle : List ℕ) (root block fro
 
 -- ---- one node after another
 
-pub rises_none : (memory : Memory) (free raw : List ℕ) (root from to : ℕ) → height_of root ≤ 3 → Rises memory memory free free root root (height_of root) (height_of root) from to raw
+pub rises_none : (memory : Memory) (free raw : List ℕ) (root from to : ℕ) → height_of root ≤ max_height → Rises memory memory free free root root (height_of root) (height_of root) from to raw
 rises_none memory free raw root from to low = record {
   taken = [];
   takes = refl;
@@ -419,7 +413,7 @@ module _ (first middle last : Memory) (free_first free_middle free_last raw : Li
         (λ i small. same_byte links i (below.bytes_are i) (omega (arith, small)) (cases_lt i (span mid)))
         (λ b m. elim m [ inl has ↦ elim (below.blocks b has) [ inl old ↦ inl old | inr t ↦ inr (has_left one.taken two.taken b t) ] | inr t ↦ inr (has_right one.taken two.taken b t) ])
         (λ b m. elim m [ inl old ↦ inl (below.has b (inl old)) | inr t ↦ elim (has_either one.taken two.taken b t) [ inl l ↦ inl (below.has b (inr l)) | inr r ↦ inr r ] ])
-        (λ both. (below.full both, le_trans both.1 (spans low mid order)))
+        (λ both. (below.full both, le_trans both.1 (span-rising low mid order)))
         above;
   }
     where
@@ -429,19 +423,12 @@ module _ (first middle last : Memory) (free_first free_middle free_last raw : Li
       most : (len here there : ℕ) → len ≡ here + there → (512 * here + (mid - low)) + (512 * there + (high - mid)) ≤ 512 * len + (high - low)
       most len here there e = omega (arith, e, order, rest)
 
-      spans : (a b : ℕ) → a ≤ b → span a ≤ span b
-      spans a zero less = let e : a ≡ 0 = omega (arith, less) in rw e (omega arith)
-      spans a (suc b) less = elim (cases_lt a (suc b)) [
-        | inl lower ↦ let up = spans a b (omega (arith, lower)) in omega (arith, up, span-suc b)
-        | inr over ↦ let e : a ≡ suc b = omega (arith, less, over) in rw e (omega arith)
-      ]
-
       same_byte : (links : List (ℕ × ℕ)) (i : ℕ) →
           (i < min to (span mid) → byte (after_stores (current_words middle) links) mid_root i ≡ risen (after_stores (current_words first) links) root low from raw i) → i < to → (i < span mid) ⊎ (span mid ≤ i) →
           risen (after_stores (current_words middle) links) mid_root mid from raw i ≡ risen (after_stores (current_words first) links) root low from raw i
       same_byte links i below small (inl inside) = rw (lt-ltb i (span mid) inside) (below (omega (arith, small, inside)))
       same_byte links i below small (inr over) =
-          let wide = spans low mid order in
+          let wide = span-rising low mid order in
           rw (le-ltb i (span mid) over, le-ltb i (span low) (le_trans wide over)) refl
 
 -- what is left for the next node

@@ -1,5 +1,6 @@
 -- The whole preparation of a tree with blocks: nobody sees it, and the tree is ready.
 use Rattle.std.proofs.Common.{◌≡◌, ◌≢◌, ◌⊎◌, ℕ, suc, ◌+◌, ◌-◌, ◌*◌, ◌/◌, ◌%◌, ◌<◌, ◌≤◌, List, [], ◌∷◌, ◌++◌, length, min, set, get_or, refl, sym, ◌∙◌, ap, subst, subst₂, arith, rules, inl, inr, get_or-set_other, le_trans}
+use Rattle.bp_limits.specs.Limits.{max_height}
 use Rattle.bp_layout.specs.Words.{Image, block_of, height_of}
 use Rattle.bp_layout.specs.Tree.{node, span, IsLivePointer, HasBlock, IsFull}
 use Rattle.bp_layout.specs.Inode.{root_of, size_of, RootPlace, StandsAt}
@@ -192,7 +193,7 @@ module _ (first new : Memory) (free_old free_new : List ℕ) (t place from to : 
     above_live : IsLivePointer (root_of old t) (size_of old t) hangs.depth (hangs.index / 512)
     above_live = live_above _ _ hangs.depth hangs.index (live_pointer_word _ _ (suc hangs.depth) hangs.index hangs.live)
 
-    low_level : hangs.live.level ≤ 3
+    low_level : hangs.live.level ≤ max_height
     low_level = let low = (can.well.sound t can.reached).low some in omega (arith, hangs.live.height, low)
 
     built_there : IsBuilt middle (4096 * block_of pointer + hangs.live.level) (min (to - hangs.index * span hangs.live.level) (span hangs.live.level)) (given_at from raw (hangs.index * span hangs.live.level)) (Has hangs.below) (from ≤ hangs.index * span hangs.live.level)

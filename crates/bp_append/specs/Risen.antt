@@ -1,5 +1,6 @@
 -- Higher nodes over a tree, and what they hold behind it.
-use Rattle.std.specs.Prelude.{◌≡◌, ◌⊎◌, ℕ, zero, suc, ◌+◌, ◌-◌, ◌*◌, ◌/◌, ◌^◌, ◌<◌, ◌≤◌, min, nat_lt, if◌then◌else◌, List, [], ◌∷◌, ◌++◌, length}
+use Rattle.std.specs.Prelude.{◌≡◌, ◌⊎◌, ℕ, zero, suc, ◌+◌, ◌-◌, ◌*◌, ◌/◌, ◌<◌, ◌≤◌, min, nat_lt, if◌then◌else◌, List, [], ◌∷◌, ◌++◌, length}
+use Rattle.bp_limits.specs.Limits.{max_height, max_size}
 use Rattle.bp_layout.specs.Words.{Image, height_of}
 use Rattle.bp_layout.specs.Tree.{byte, span, HasBlock, IsSound, IsFull}
 use Rattle.bp_layout.specs.Members.{Has, AreApart}
@@ -32,9 +33,9 @@ Outside free (link ∷ links) = (Has free (link.0 / 512) → ⊥) × Outside fre
 
 -- There are free blocks and room for the nodes above a tree.
 pub record CanRise (memory : Memory) (free : List ℕ) (low height from to : ℕ) : Type 0 where
-  pub most : height ≤ 3
+  pub most : height ≤ max_height
   pub some : 0 < to
-  pub few_to : to ≤ 2 ^ 40
+  pub few_to : to ≤ 2 * max_size
   pub usable : IsUsable (length memory.base / 512) free
   pub enough : edge from to height + idles from to low height ≤ length free + edge from to low
   pub room : 512 * (edge from to height + idles from to low height) + (height - low) ≤ room_in memory + 512 * edge from to low

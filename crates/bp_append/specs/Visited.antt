@@ -1,5 +1,6 @@
 -- What going down a tree to its last byte makes behind its size.
-use Rattle.std.specs.Prelude.{◌≡◌, ◌≢◌, ◌⊎◌, ℕ, suc, ◌+◌, ◌-◌, ◌*◌, ◌/◌, ◌%◌, ◌^◌, ◌<◌, ◌≤◌, min, max, nat_lt, if◌then◌else◌, List, [], ◌∷◌, ◌++◌, length, Option, None, Some}
+use Rattle.std.specs.Prelude.{◌≡◌, ◌≢◌, ◌⊎◌, ℕ, suc, ◌+◌, ◌-◌, ◌*◌, ◌/◌, ◌%◌, ◌<◌, ◌≤◌, min, max, nat_lt, if◌then◌else◌, List, [], ◌∷◌, ◌++◌, length, Option, None, Some}
+use Rattle.bp_limits.specs.Limits.{max_height, max_size}
 use Rattle.bp_layout.specs.Words.{Image, height_of, slot_word}
 use Rattle.bp_layout.specs.Tree.{node, byte, span, IsLivePointer, HasBlock, IsSound, IsFull}
 use Rattle.bp_layout.specs.Pieces.{child}
@@ -53,14 +54,14 @@ pub record CanVisit (memory : Memory) (free : List ℕ) (root size level start b
   pub depth : ℕ
   pub index : ℕ
   pub height : depth + level ≡ height_of root
-  pub low : level ≤ 3
+  pub low : level ≤ max_height
   pub aligned : start ≡ index * span level
   pub begun : start < size
   pub inside : size ≤ start + span level
   pub behind : size ≤ from
   pub order : size ≤ to
-  pub few : start + span level ≤ 2 ^ 40
-  pub few_to : to ≤ 2 ^ 40
+  pub few : start + span level ≤ 2 * max_size
+  pub few_to : to ≤ 2 * max_size
   pub named : node (current_words memory) root depth index ≡ block
   pub some_block : 1 ≤ block
   pub in_range : block < length memory.base / 512

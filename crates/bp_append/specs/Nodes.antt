@@ -44,9 +44,9 @@ abbrev pub VisitsNode : {R : Type 0} → (R → Memory) → R → R → Set → 
 VisitsNode memory old new blocks_old blocks_new tree node wanted bytes hung =
     Visits (memory old) (memory new) (members blocks_old) (members blocks_new) tree.root tree.size node.level node.start node.block wanted.from wanted.to bytes (links_in hung)
 
--- the part below one slot of a node
-abbrev pub VisitsBelow : {R : Type 0} → (R → Memory) → R → R → Set → Set → Tree → Node → ℕ → Wanted → List ℕ → Option Link → Type 0
-VisitsBelow memory old new blocks_old blocks_new tree node slot wanted bytes hung =
+-- the part below one slot of a node is gone through
+abbrev pub Passes : {R : Type 0} → (R → Memory) → R → R → Set → Set → Tree → Node → ℕ → Wanted → List ℕ → Option Link → Type 0
+Passes memory old new blocks_old blocks_new tree node slot wanted bytes hung =
     VisitsSlot (memory old) (memory new) (members blocks_old) (members blocks_new) tree.root tree.size (node.level - 1) node.start node.block slot wanted.from wanted.to bytes (links_in hung)
 
 abbrev pub CanHang : {R : Type 0} → (R → Memory) → R → Set → Node → ℕ → Wanted → Type 0
@@ -64,6 +64,10 @@ CanRaise memory old blocks root height wanted = CanRise (memory old) (members bl
 abbrev pub Raises : {R : Type 0} → (R → Memory) → R → R → Set → Set → ℕ → ℕ → Wanted → List ℕ → ℕ → Type 0
 Raises memory old new blocks_old blocks_new root height wanted bytes top =
     Rises (memory old) (memory new) (members blocks_old) (members blocks_new) root top (height_of root) height wanted.from wanted.to bytes
+
+-- by one node
+abbrev pub RaisesOnce : {R : Type 0} → (R → Memory) → R → R → Set → Set → ℕ → Wanted → List ℕ → ℕ → Type 0
+RaisesOnce memory old new blocks_old blocks_new root wanted bytes top = Raises memory old new blocks_old blocks_new root (suc (height_of root)) wanted bytes top
 
 -- ---- a whole tree
 

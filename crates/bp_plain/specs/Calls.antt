@@ -3,10 +3,6 @@ use Rattle.std.specs.Prelude.{ℕ, List}
 use Rattle.bp_layout.specs.declared.fields.Kind.{Kind}
 use Rattle.bp_layout.specs.Directory.{Name}
 
--- the most bytes that one call reads or writes
-abbrev pub most_bytes : ℕ
-most_bytes = 65536
-
 pub data Call : Type 0 where
   create : List ℕ → Call
   mkdir : List ℕ → Call

@@ -5,13 +5,13 @@ use Rattle.std.specs.FinMap.{get, insert, remove, entries, from_entries}
 use Rattle.bp_layout.specs.Directory.{Name}
 use Rattle.bp_layout.specs.Lookup.{Path, Node}
 use Rattle.bp_layout.specs.Lookup.Node.{dir, file}
-use Rattle.bp_limits.specs.Limits.{max_size}
+use Rattle.bp_limits.specs.Limits.{max_size, max_write}
 use Rattle.bp_layout.specs.Below.{same_path, rest_below}
 use Rattle.bp_plain.specs.PlainTree.{FileTree}
 use Rattle.bp_layout.specs.PathText.{parse}
 use Rattle.bp_layout.specs.declared.fields.Kind.{Kind}
 use Rattle.bp_layout.specs.declared.fields.Kind.TheVariants.{File, Dir}
-use Rattle.bp_plain.specs.Calls.{Call, Refusal, Answer, most_bytes}
+use Rattle.bp_plain.specs.Calls.{Call, Refusal, Answer}
 use Rattle.bp_plain.specs.Calls.Call.{create, mkdir, unlink, rmdir, list, stat, read, write, truncate, rename}
 use Rattle.bp_plain.specs.Calls.Refusal.{bad_path, not_found, not_dir, is_dir, exists, not_empty, into_self, is_root, too_long, too_big}
 use Rattle.bp_plain.specs.Calls.Answer.{done, bytes, file_of, dir_of, names, refused}
@@ -92,7 +92,7 @@ abbrev pub refusal : FileTree → Call → Option Refusal
 refusal tree (create text) = on_path text (λ p. first (when (is_root_path p) exists ∷ walk_parent tree p ∷ when (is_some (get tree p)) exists ∷ []))
 refusal tree (mkdir text) = on_path text (λ p. first (when (is_root_path p) exists ∷ walk_parent tree p ∷ when (is_some (get tree p)) exists ∷ []))
 refusal tree (read text off len) = on_path text (λ p. first (walk tree p ∷ when (is_dir_at tree p) is_dir ∷ []))
-refusal tree (write text off new) = on_path text (λ p. first (when (nat_lt most_bytes (length new)) too_long ∷ walk tree p ∷ when (is_dir_at tree p) is_dir
+refusal tree (write text off new) = on_path text (λ p. first (when (nat_lt max_write (length new)) too_long ∷ walk tree p ∷ when (is_dir_at tree p) is_dir
     ∷ when (nat_lt 0 (length new) && nat_lt max_size (off + length new)) too_big ∷ []))
 refusal tree (truncate text size) = on_path text (λ p. first (walk tree p ∷ when (is_dir_at tree p) is_dir ∷ when (nat_lt max_size size) too_big ∷ []))
 refusal tree (unlink text) = on_path text (λ p. first (when (is_root_path p) is_dir ∷ walk tree p ∷ when (is_dir_at tree p) is_dir ∷ []))

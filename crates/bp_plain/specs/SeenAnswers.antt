@@ -1,12 +1,13 @@
 -- The answers of the program as those of the definitions.
 use Rattle.std.specs.Prelude.{ℕ, ◌≡◌, ◌≤◌, List, length, take}
 use Rattle.std.specs.Vec.{vec_len}
+use Rattle.bp_limits.specs.Limits.{max_read}
 use Rattle.bp_plain.specs.declared.replies.Answer.{Answer as GivenAnswer}
 use Rattle.bp_plain.specs.declared.replies.Answer.TheVariants as given
 use Rattle.bp_plain.specs.declared.replies.Held.{Held}
 use Rattle.bp_plain.specs.declared.replies.Held.TheVariants as held
 use Rattle.bp_plain.specs.declared.replies.Reply.TheInside.{Inside}
-use Rattle.bp_plain.specs.Calls.{Answer, most_bytes}
+use Rattle.bp_plain.specs.Calls.{Answer}
 use Rattle.bp_plain.specs.Calls.Answer.{done, bytes, file_of, dir_of, names, refused}
 use Rattle.bp_plain.specs.ReplyView.{ReplyView}
 use Rattle.bp_plain.specs.Seen.{refusal_of}
@@ -33,14 +34,14 @@ reply_seen reply = record { answer = held_answer reply.held reply.buffer.items; 
 
 -- the bytes that are answered are no more than one call reads
 abbrev pub IsShortAnswer : GivenAnswer → Type 0
-IsShortAnswer (given.Bytes content) = length content.now ≤ most_bytes
+IsShortAnswer (given.Bytes content) = length content.now ≤ max_read
 IsShortAnswer _ = Unit {0}
 
 abbrev pub HeldFits : Held → Type 0
-HeldFits (held.Bytes count) = count ≤ most_bytes
+HeldFits (held.Bytes count) = count ≤ max_read
 HeldFits _ = Unit {0}
 
 -- the buffer has all the bytes that one call reads, and no more are answered
 pub record FitsBuffer (reply : Inside) : Type 0 where
-  pub whole : vec_len reply.buffer ≡ most_bytes
+  pub whole : vec_len reply.buffer ≡ max_read
   pub few : HeldFits reply.held

@@ -8,7 +8,7 @@ mod replies;
 
 pub use calls::Call;
 pub use errors::FsError;
-pub use replies::{Answer, MOST_BYTES, Reply};
+pub use replies::{Answer, Reply};
 
 #[cfg(test)]
 mod tests;

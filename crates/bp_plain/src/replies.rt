@@ -1,17 +1,15 @@
 //! How a call was answered.
 
+ghost use Rattle.bp_limits.specs.Limits.{max_read};
 ghost use Rattle.bp_plain.specs.Calls.Answer.{bytes, dir_of, done, file_of, names, refused};
-ghost use Rattle.bp_plain.specs.Calls.{most_bytes};
 ghost use Rattle.bp_plain.specs.Seen.{refusal_of};
 ghost use Rattle.std.specs.Prelude.{IfOk, length, take, ◌≡◌, ◌≤◌};
 
 use crate::errors::FsError;
 use bp_layout::Listing;
+use bp_limits::MAX_READ;
 use std::alloc::{AllocError, Global};
 use std::marker::Model;
-
-/// The most bytes that one call reads or writes, and so the most that a reply holds.
-pub const MOST_BYTES: usize = 65_536;
 
 /// The answer of a call.
 #[derive(Clone, Copy)]
@@ -71,7 +69,7 @@ impl Reply {
     pub fn new(alloc: Global) -> Result<Reply, AllocError>
         ensures { IfOk result (λ reply. reply.answer ≡ done) }
     {
-        let buffer = vec![in alloc; 0u8; MOST_BYTES]?;
+        let buffer = vec![in alloc; 0u8; MAX_READ]?;
         Ok(Reply {
             held: Held::Done,
             buffer,
@@ -97,7 +95,7 @@ impl Reply {
     pub fn buffer(&mut self) -> &mut [u8]
         ensures* lends { sem 𝓛 (Lends the_row (Array byte 0) self.entry result (lent_out self.old)) }
         ensures bytes { result.now ≡ self.old.buffer }
-        ensures len { length result.now ≡ most_bytes }
+        ensures len { length result.now ≡ max_read }
     {
         self.set_done();
         self.buffer.as_mut_slice()
@@ -145,7 +143,7 @@ impl Reply {
 
     /// Answers the first `n` bytes of the buffer, at most 65,536.
     pub fn set_bytes(&mut self, n: usize)
-        requires { n ≤ most_bytes }
+        requires { n ≤ max_read }
         ensures answer { self.new.answer ≡ bytes (take n self.old.buffer) }
         ensures buffer { self.new.buffer ≡ self.old.buffer }
     {

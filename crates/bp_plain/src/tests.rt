@@ -1,6 +1,6 @@
 // Each call once, and the numbers and words of refusals.
+ghost use Rattle.bp_limits.specs.Limits.{max_read};
 ghost use Rattle.bp_plain.specs.Calls.Answer.{bytes};
-ghost use Rattle.bp_plain.specs.Calls.{most_bytes};
 ghost use Rattle.std.specs.Prelude.{drop, length, ◌++◌, ◌≡◌, ◌≤◌};
 
 use super::*;
@@ -32,7 +32,7 @@ fn refusals(rt: HostRuntime) {
 
 // A caller knows what it answers by the memory that it was lent.
 fn answer_bytes(reply: &mut Reply, content: &[u8])
-    requires { length content.now ≤ most_bytes }
+    requires { length content.now ≤ max_read }
     ensures { reply.new.answer ≡ bytes content.now }
 {
     copy_to(content, reply.buffer());

@@ -3,7 +3,7 @@ use Rattle.std.proofs.Common.{◌≡◌, ℕ, ◌≤◌, List, [], ◌∷◌, �
 use Rattle.std.proofs.lemmas.List.{length-map}
 use Rattle.std.specs.List.{list_any, slice_split, AllByRecursion}
 use Rattle.std.specs.Prelude.{bytes_eq}
-use Rattle.bp_plain.specs.Calls.{most_bytes}
+use Rattle.bp_limits.specs.Limits.{max_read}
 use Rattle.bp_plain.specs.Calls.Call.{create, list, stat, read}
 use Rattle.bp_script.specs.Commands.{asked_by, bare_command, command_by_words, is_empty_word, long_command, number_of, path_command, read_command, words_of, written_command}
 use Rattle.bp_script.specs.Commands.Command.{bad_syntax, file_call, space, sync}
@@ -44,7 +44,7 @@ path_len-path verb path = go (bytes_eq verb (codes "create")) (bytes_eq verb (co
 path_len-read : (path : List ℕ) (off len : Option ℕ) → path_len (read_command path off len) ≤ length path
 path_len-read path None len = omega arith
 path_len-read path (Some off) None = omega arith
-path_len-read path (Some off) (Some len) = go (nat_le len most_bytes)
+path_len-read path (Some off) (Some len) = go (nat_le len max_read)
   where
     go : (a : Bool) → path_len (if a then file_call (read path off len) else bad_syntax) ≤ length path
     go true = omega arith

@@ -4,7 +4,8 @@ use Rattle.std.specs.List.{slice_split, join_by, list_all, list_any}
 use Rattle.std.specs.Char.{is_ascii_digit}
 use Rattle.std.specs.Str.Parse.{digits_value}
 use Rattle.percent_encoding.specs.Percent.{percent_decode}
-use Rattle.bp_plain.specs.Calls.{Call, most_bytes}
+use Rattle.bp_limits.specs.Limits.{max_line, max_read}
+use Rattle.bp_plain.specs.Calls.{Call}
 use Rattle.bp_plain.specs.Calls.Call.{create, mkdir, unlink, rmdir, list, stat, read, write, truncate, rename}
 
 pub data Command : Type 0 where
@@ -16,10 +17,6 @@ pub data Command : Type 0 where
   bad_syntax : Command
   -- a line with too many bytes
   too_long : Command
-
--- the most bytes of a line
-abbrev pub most_line : ℕ
-most_line = 140000
 
 -- the words of a line: the parts round each single space
 abbrev pub words_of : List ℕ → List (List ℕ)
@@ -49,7 +46,7 @@ number_of word = if is_numeral word && nat_lt (digits_value 10 word) 18446744073
 -- ---- the table, with paths as they are written
 
 abbrev pub read_command : List ℕ → Option ℕ → Option ℕ → Command
-read_command path (Some off) (Some len) = if nat_le len most_bytes then file_call (read path off len) else bad_syntax
+read_command path (Some off) (Some len) = if nat_le len max_read then file_call (read path off len) else bad_syntax
 read_command path off len = bad_syntax
 
 -- lines of one word, of two and of four
@@ -115,4 +112,4 @@ in_grammar line = decoded (written_command line)
 
 -- what any line asks for
 abbrev pub command_of : List ℕ → Command
-command_of line = if nat_lt most_line (length line) then too_long else in_grammar line
+command_of line = if nat_lt max_line (length line) then too_long else in_grammar line

@@ -1,29 +1,32 @@
 -- The text of each line that the program writes.
 use Rattle.std.specs.Prelude.{ℕ, ◌≤◌, List, length, codes, decimal, ◌++◌}
 use Rattle.bp_limits.specs.Limits.{max_name}
-use Rattle.bp_plain.specs.Calls.{most_bytes}
-use Rattle.bp_plain.specs.Seen.{refusal_of}
+use Rattle.bp_plain.specs.declared.replies.Answer.{Answer}
+use Rattle.bp_plain.specs.declared.replies.Answer.TheVariants as answer
+use Rattle.bp_plain.specs.SeenAnswers.{answer_seen, IsShortAnswer}
 use Rattle.bp_script.specs.declared.replies.Said.{Said}
 use Rattle.bp_script.specs.declared.replies.Said.TheVariants as said
 use Rattle.bp_script.specs.declared.notices.Notice.{Notice}
 use Rattle.bp_script.specs.declared.notices.Notice.TheVariants as notice
-use Rattle.bp_script.specs.Texts.{done_text, data_text, entry_text, end_text, file_text, dir_text, space_text, refusal_text, syntax_text, long_line_text}
+use Rattle.bp_script.specs.Texts.{answer_text, done_text, entry_text, end_text, space_text, syntax_text, long_line_text}
 
 abbrev pub said_text : Said → List ℕ
-said_text said.Done = done_text
-said_text (said.Bytes content) = data_text content.now
+said_text (said.Answer given) = answer_text (answer_seen given)
 said_text (said.Name kind name) = entry_text (kind, name.now)
 said_text said.End = end_text
-said_text (said.FileOf size) = file_text size
-said_text (said.DirOf count) = dir_text count
+said_text said.Synced = done_text
 said_text (said.Space free live) = space_text free live
-said_text (said.Refused error) = refusal_text (refusal_of error)
 said_text said.Syntax = syntax_text
 said_text said.LongLine = long_line_text
 
--- bytes and names are no longer than those of a reply
+-- an answer of one line, with no more bytes than one call reads
+abbrev pub IsLine : Answer → Type 0
+IsLine (answer.Names listing) = ⊥
+IsLine given = IsShortAnswer given
+
+-- an answer is one line, and a name is no longer than names are
 abbrev pub FitsReply : Said → Type 0
-FitsReply (said.Bytes content) = length content.now ≤ most_bytes
+FitsReply (said.Answer given) = IsLine given
 FitsReply (said.Name kind name) = length name.now ≤ max_name
 FitsReply _ = Unit {0}
 

@@ -6,9 +6,9 @@ mod notices;
 mod pieces;
 mod replies;
 
-pub use lines::{Decoded, Line, MOST_LINE, Syntax};
-pub use notices::{Notice, announce};
-pub use replies::{MOST_TEXT, Said, say};
+pub use lines::{Decoded, Line, Syntax};
+pub use notices::{MAX_NOTICE, Notice, announce};
+pub use replies::{Said, say};
 
 #[cfg(test)]
 mod tests;

@@ -13,13 +13,11 @@ ghost use Rattle.std.specs.Char.{is_ascii_digit};
 ghost use mathlib.Core.Option.{none};
 
 use arrayvec::ArrayVec;
-use bp_plain::{Call, MOST_BYTES};
+use bp_limits::MAX_READ;
+use bp_plain::Call;
 use percent_encoding::percent_decode;
 use std::alloc::{AllocError, Global};
 use thiserror::Error;
-
-/// The most bytes of a line.
-pub const MOST_LINE: usize = 140_000;
 
 /// The most words of a line.
 const MOST_WORDS: usize = 4;
@@ -209,7 +207,7 @@ fn read(path: &[u8], off: Option<u64>, len: Option<u64>) -> Result<Line<'_>, Syn
 {
     match (off, len) {
         (Some(off), Some(len)) => {
-            if len <= MOST_BYTES as u64 {
+            if len <= MAX_READ as u64 {
                 Ok(Line::Call(Call::Read {
                     path,
                     off,

@@ -5,6 +5,9 @@ ghost use Rattle.std.specs.Prelude.{drop, length, take, ◌+◌, ◌++◌, ◌�
 
 use crate::pieces::write_pieces;
 
+/// The room in bytes that serves every notice: five lines, each below 256 bytes.
+pub const MAX_NOTICE: usize = 1_280;
+
 /// What the program tells besides replies.
 #[derive(Clone, Copy, Debug, PartialEq, Eq)]
 pub enum Notice {
@@ -52,7 +55,7 @@ pub enum Notice {
 
 /// Writes a notice, one line with its newline, to the front of `into`, and tells how many bytes it is.
 pub fn announce(notice: &Notice, into: &mut [u8]) -> usize
-    requires { 128 ≤ length into.old }
+    requires { MAX_NOTICE ≤ length into.old }
     ensures front { take result into.new ≡ notice_text notice.now }
     ensures whole { into.new ≡ notice_text notice.now ++ drop result into.old }
     ensures len { result ≡ length (notice_text notice.now) }
@@ -126,7 +129,7 @@ fn announce_clean(
     free: u32,
     into: &mut [u8],
 ) -> usize
-    requires { 128 ≤ length into.old }
+    requires { MAX_NOTICE ≤ length into.old }
     ensures whole { into.new ≡ clean_text files dirs bytes live free ++ drop result into.old }
     ensures len { result ≡ length (clean_text files dirs bytes live free) }
 {

@@ -1,31 +1,26 @@
 //! The lines of replies.
 
-ghost use Rattle.bp_limits.specs.Limits.{max_name};
-ghost use Rattle.bp_plain.specs.Calls.{most_bytes};
+ghost use Rattle.bp_limits.specs.Limits.{max_name, max_read, max_text};
 ghost use Rattle.bp_plain.specs.Seen.{refusal_of};
-ghost use Rattle.bp_script.specs.Sayings.{FitsReply, said_text};
-ghost use Rattle.bp_script.specs.Texts.{data_text, entry_text, kind_letter, name_text, refusal_text};
+ghost use Rattle.bp_plain.specs.SeenAnswers.{answer_seen};
+ghost use Rattle.bp_script.specs.Sayings.{FitsReply, IsLine, said_text};
+ghost use Rattle.bp_script.specs.Texts.{answer_text, data_text, entry_text, kind_letter, name_text, refusal_text};
 ghost use Rattle.std.specs.Prelude.{drop, length, take, ◌*◌, ◌++◌, ◌≡◌, ◌≤◌};
 
 use crate::pieces::{put, put_digits, write_pieces};
 use arrayvec::ArrayVec;
 use bp_layout::Kind;
-use bp_plain::FsError;
+use bp_plain::{Answer, FsError};
 use percent_encoding::{AsciiSet, CONTROLS, ascii_set, percent_encode};
-
-/// The room in bytes that serves every line of a reply.
-pub const MOST_TEXT: usize = 140_000;
 
 /// The bytes of ASCII that a name's text escapes: control bytes, the space, `%` and `/`.
 const ESCAPED: AsciiSet = ascii_set!(CONTROLS.add(b' ').add(b'%').add(b'/'));
 
 /// A line of a reply.
-#[derive(Clone, Copy, Debug)]
+#[derive(Clone, Copy)]
 pub enum Said<'a> {
-    /// The call was carried out.
-    Done,
-    /// Bytes of a file.
-    Bytes(&'a [u8]),
+    /// The answer of a call. One of names is none of these: each name is a line of its own.
+    Answer(Answer<'a>),
     /// A name of a directory.
     Name {
         /// What the name stands for.
@@ -35,10 +30,8 @@ pub enum Said<'a> {
     },
     /// The end of the names of a directory.
     End,
-    /// A file of so many bytes.
-    FileOf(u64),
-    /// A directory with so many names.
-    DirOf(u64),
+    /// All calls so far are durable.
+    Synced,
     /// How full the volume is.
     Space {
         /// The blocks that are free.
@@ -46,8 +39,6 @@ pub enum Said<'a> {
         /// The blocks that are in use, the first of the file not among them.
         live: u32,
     },
-    /// The call was refused.
-    Refused(FsError),
     /// The line was none of a script.
     Syntax,
     /// The line had too many bytes.
@@ -56,7 +47,7 @@ pub enum Said<'a> {
 
 /// Writes a line of a reply with its newline to the front of `into`, and tells how many bytes it is.
 pub fn say(said: &Said<'_>, into: &mut [u8]) -> usize
-    requires room { 140000 ≤ length into.old }
+    requires room { max_text ≤ length into.old }
     requires short { FitsReply said.now }
     ensures front { take result into.new ≡ said_text said.now }
     ensures whole { into.new ≡ said_text said.now ++ drop result into.old }
@@ -64,18 +55,10 @@ pub fn say(said: &Said<'_>, into: &mut [u8]) -> usize
     ensures fits { result ≤ length into.new }
 {
     match *said {
-        Said::Done => write_pieces(into, &[b"ok\n"]),
-        Said::Bytes(content) => say_bytes(content, into),
+        Said::Answer(answer) => say_answer(answer, into),
         Said::Name { kind, name } => say_name(kind, name, into),
         Said::End => write_pieces(into, &[b"end\n"]),
-        Said::FileOf(size) => {
-            let mut digits = itoa::Buffer::new();
-            write_pieces(into, &[b"file ", digits.format(size).as_bytes(), b"\n"])
-        }
-        Said::DirOf(count) => {
-            let mut digits = itoa::Buffer::new();
-            write_pieces(into, &[b"dir ", digits.format(count).as_bytes(), b"\n"])
-        }
+        Said::Synced => write_pieces(into, &[b"ok\n"]),
         Said::Space { free, live } => {
             let mut left = itoa::Buffer::new();
             let mut used = itoa::Buffer::new();
@@ -90,15 +73,37 @@ pub fn say(said: &Said<'_>, into: &mut [u8]) -> usize
                 ],
             )
         }
-        Said::Refused(error) => say_refused(error, into),
         Said::Syntax => write_pieces(into, &[b"err 20 syntax\n"]),
         Said::LongLine => write_pieces(into, &[b"err 21 line\n"]),
     }
 }
 
+/// Writes the line of an answer.
+fn say_answer(answer: Answer<'_>, into: &mut [u8]) -> usize
+    requires room { max_text ≤ length into.old }
+    requires short { IsLine answer }
+    ensures whole { into.new ≡ answer_text (answer_seen answer.entry) ++ drop result into.old }
+    ensures len { result ≡ length (answer_text (answer_seen answer.entry)) }
+{
+    match answer {
+        Answer::Done => write_pieces(into, &[b"ok\n"]),
+        Answer::Bytes(content) => say_bytes(content, into),
+        Answer::FileOf(size) => {
+            let mut digits = itoa::Buffer::new();
+            write_pieces(into, &[b"file ", digits.format(size).as_bytes(), b"\n"])
+        }
+        Answer::DirOf(count) => {
+            let mut digits = itoa::Buffer::new();
+            write_pieces(into, &[b"dir ", digits.format(count).as_bytes(), b"\n"])
+        }
+        Answer::Names(_) => unreachable!(),
+        Answer::Refused(error) => say_refused(error, into),
+    }
+}
+
 /// Writes the line of a refusal.
 fn say_refused(error: FsError, into: &mut [u8]) -> usize
-    requires { 140000 ≤ length into.old }
+    requires { max_text ≤ length into.old }
     ensures whole { into.new ≡ refusal_text (refusal_of error) ++ drop result into.old }
     ensures len { result ≡ length (refusal_text (refusal_of error)) }
 {
@@ -130,7 +135,7 @@ fn say_refused(error: FsError, into: &mut [u8]) -> usize
 
 /// Writes the line of a name.
 fn say_name(kind: Kind, name: &[u8], into: &mut [u8]) -> usize
-    requires room { 140000 ≤ length into.old }
+    requires room { max_text ≤ length into.old }
     requires short { length name.now ≤ max_name }
     ensures whole { into.new ≡ entry_text (kind, name.now) ++ drop result into.old }
     ensures len { result ≡ length (entry_text (kind, name.now)) }
@@ -175,8 +180,8 @@ fn escaped(name: &[u8]) -> ArrayVec<u8, 720>
 
 /// Writes the line of bytes of a file.
 fn say_bytes(content: &[u8], into: &mut [u8]) -> usize
-    requires room { 140000 ≤ length into.old }
-    requires short { length content.now ≤ most_bytes }
+    requires room { max_text ≤ length into.old }
+    requires short { length content.now ≤ max_read }
     ensures whole { into.new ≡ data_text content.now ++ drop result into.old }
     ensures len { result ≡ length (data_text content.now) }
 {

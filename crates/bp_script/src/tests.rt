@@ -3,7 +3,8 @@ ghost use Rattle.bp_script.specs.Sayings.{FitsReply};
 
 use super::*;
 use bp_layout::Kind;
-use bp_plain::{Call, FsError};
+use bp_limits::{MAX_NAME, MAX_TEXT};
+use bp_plain::{Answer, Call, FsError};
 use std::process::Abort;
 use std::test::Fail;
 
@@ -105,55 +106,42 @@ fn lines_outside_the_table(rt: HostRuntime) -> Result<(), Fail> {
 fn says(rt: &impl Abort, said: &Said<'_>, into: &mut [u8], want: &[u8])
     requires { FitsReply said.now }
 {
-    assert!(rt; into.len() >= MOST_TEXT);
+    assert!(rt; into.len() >= MAX_TEXT);
     let end = say(said, into);
-    assert!(rt; &into[..end] == want, "{said:?}");
+    assert!(rt; &into[..end] == want, "{want:?}");
 }
 
 #[test]
 fn reply_texts(rt: HostRuntime) -> Result<(), Fail> {
-    let mut into = vec![in rt.alloc(); 0u8; MOST_TEXT]?;
+    let mut into = vec![in rt.alloc(); 0u8; MAX_TEXT]?;
     let into = into.as_mut_slice();
     let full = FsError::NoSpace { need: 5, free: 4 };
-    says(&rt, &Said::Done, into, b"ok\n");
+    let answers: [(Answer<'_>, &[u8]); 9] = [
+        (Answer::Done, b"ok\n"),
+        (Answer::FileOf(549_755_813_888), b"file 549755813888\n"),
+        (Answer::DirOf(0), b"dir 0\n"),
+        (Answer::Refused(FsError::BadPath), b"err 1 badpath\n"),
+        (Answer::Refused(FsError::NotDir), b"err 3 notdir\n"),
+        (Answer::Refused(full), b"err 11 nospace 5 4\n"),
+        (Answer::Refused(FsError::Later), b"err 22 later\n"),
+        (Answer::Bytes(&[0, 10, 255, 0xab]), b"data 000affab\n"),
+        (Answer::Bytes(&[]), b"data -\n"),
+    ];
+    for (answer, want) in answers {
+        assert!(rt; !matches!(answer, Answer::Names(_)));
+        says(&rt, &Said::Answer(answer), into, want);
+    }
     says(&rt, &Said::End, into, b"end\n");
-    says(
-        &rt,
-        &Said::FileOf(549_755_813_888),
-        into,
-        b"file 549755813888\n",
-    );
-    says(&rt, &Said::DirOf(0), into, b"dir 0\n");
+    says(&rt, &Said::Synced, into, b"ok\n");
     says(&rt, &Said::Space { free: 6, live: 1 }, into, b"space 6 1\n");
-    says(
-        &rt,
-        &Said::Refused(FsError::BadPath),
-        into,
-        b"err 1 badpath\n",
-    );
-    says(
-        &rt,
-        &Said::Refused(FsError::NotDir),
-        into,
-        b"err 3 notdir\n",
-    );
-    says(&rt, &Said::Refused(full), into, b"err 11 nospace 5 4\n");
-    says(&rt, &Said::Refused(FsError::Later), into, b"err 22 later\n");
     says(&rt, &Said::Syntax, into, b"err 20 syntax\n");
     says(&rt, &Said::LongLine, into, b"err 21 line\n");
-    says(
-        &rt,
-        &Said::Bytes(&[0, 10, 255, 0xab]),
-        into,
-        b"data 000affab\n",
-    );
-    says(&rt, &Said::Bytes(&[]), into, b"data -\n");
     Ok(())
 }
 
 #[test]
 fn name_texts(rt: HostRuntime) -> Result<(), Fail> {
-    let mut into = vec![in rt.alloc(); 0u8; MOST_TEXT]?;
+    let mut into = vec![in rt.alloc(); 0u8; MAX_TEXT]?;
     let rows: [(Kind, &[u8], &[u8]); 5] = [
         (Kind::Dir, b"d", b"entry d d\n"),
         (Kind::File, b"a b", b"entry f a%20b\n"),
@@ -162,7 +150,7 @@ fn name_texts(rt: HostRuntime) -> Result<(), Fail> {
         (Kind::File, b"plain.TXT-_", b"entry f plain.TXT-_\n"),
     ];
     for (kind, name, want) in rows {
-        assert!(rt; name.len() <= 240);
+        assert!(rt; name.len() <= MAX_NAME);
         says(&rt, &Said::Name { kind, name }, &mut into, want);
     }
     Ok(())
@@ -170,7 +158,7 @@ fn name_texts(rt: HostRuntime) -> Result<(), Fail> {
 
 #[test]
 fn notices(rt: HostRuntime) {
-    let mut into = [0u8; 128];
+    let mut into = [0u8; MAX_NOTICE];
     let rows: [(Notice, &[u8]); 8] = [
         (Notice::Formatted { blocks: 8, free: 6 }, b"formatted 8 6\n"),
         (Notice::NotFormatted, b"err 30 notformatted\n"),

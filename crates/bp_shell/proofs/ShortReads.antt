@@ -3,7 +3,8 @@ use Rattle.std.proofs.Common.{refl, sym, subst, ◌≡◌, ℕ, List, [], ◌∷
 use Rattle.std.specs.Prelude.{Option, Some, None, nat_le, bytes_eq, codes, if◌then◌else◌}
 use Rattle.std.specs.List.{list_any}
 use Rattle.std.proofs.lemmas.Bool.{leb-true}
-use Rattle.bp_plain.specs.Calls.{Call, most_bytes}
+use Rattle.bp_limits.specs.Limits.{max_read}
+use Rattle.bp_plain.specs.Calls.{Call}
 use Rattle.bp_plain.specs.Calls.Call.{create, mkdir, unlink, rmdir, list, stat, read, write, truncate, rename}
 use Rattle.bp_volume.specs.Seen.{IsShortCall}
 use Rattle.bp_script.specs.Commands.{Command, in_grammar, words_of, command_by_words, path_command, long_command, bare_command, read_command, number_of, decoded, is_empty_word}
@@ -18,10 +19,10 @@ short_either true first second one other = one
 short_either false first second one other = other
 
 short_read : (path : List ℕ) (off len : Option ℕ) → IsShort (read_command path off len)
-short_read path (Some off) (Some len) = go (nat_le len most_bytes) refl
+short_read path (Some off) (Some len) = go (nat_le len max_read) refl
   where
-    go : (few : Bool) → nat_le len most_bytes ≡ few → IsShort (if few then file_call (read path off len) else bad_syntax)
-    go true e = leb-true len most_bytes e
+    go : (few : Bool) → nat_le len max_read ≡ few → IsShort (if few then file_call (read path off len) else bad_syntax)
+    go true e = leb-true len max_read e
     go false e = tt
 short_read path None len = tt
 short_read path (Some off) None = tt

@@ -1,6 +1,6 @@
 -- What the memory of a run holds of a line.
 use Rattle.std.specs.Prelude.{ℕ, List, length, nat_lt, Option, Some, None, if◌then◌else◌}
-use Rattle.bp_script.specs.Commands.{most_line}
+use Rattle.bp_limits.specs.Limits.{max_line}
 use Rattle.bp_shell.specs.declared.work.Work.{Work}
 
 -- the line, or the first 140,001 bytes of one that is longer
@@ -9,4 +9,4 @@ held_line work = work.buffers.line.items
 
 -- a line that is not too long
 abbrev pub line_of : List ℕ → Option (List ℕ)
-line_of held = if nat_lt most_line (length held) then None else Some held
+line_of held = if nat_lt max_line (length held) then None else Some held

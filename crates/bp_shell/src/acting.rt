@@ -12,7 +12,8 @@ use crate::outcome::Outcome;
 use crate::saving::save;
 use crate::work::LineBuffers;
 use bp_io::{Failed, Files};
-use bp_script::{Line, MOST_LINE, Syntax};
+use bp_limits::MAX_LINE;
+use bp_script::{Line, Syntax};
 use bp_volume::Volume;
 use pm_region::Region;
 use std::alloc::Global;
@@ -35,7 +36,7 @@ pub(crate) fn act<R: Region, F: Files>(
     ensures line { buffers.new.line.items ≡ buffers.old.line.items }
     ensures cause { HasCause (F.faults files.old) (F.faults files.new) result }
 {
-    if buffers.line.len() > MOST_LINE {
+    if buffers.line.len() > MAX_LINE {
         return Ok(Outcome::TooLong);
     }
     match buffers.decoded.line(&buffers.line) {

@@ -8,7 +8,7 @@ ghost use Rattle.std.specs.Prelude.{◌<◌, ◌≡◌, ℕ, OnErr, OnOk, length
 
 use crate::sending::send;
 use bp_io::{Failed, Sink};
-use bp_script::{Notice, announce};
+use bp_script::{MAX_NOTICE, Notice, announce};
 
 /// Prints a line. Where the sink failed, it took a proper front of it.
 pub(crate) fn print<K: Sink>(notice: &Notice, out: &mut K) -> Result<(), Failed>
@@ -16,7 +16,7 @@ pub(crate) fn print<K: Sink>(notice: &Notice, out: &mut K) -> Result<(), Failed>
     ensures some { OnErr result ((count : ℕ) × (count < length (notice_text notice.now)) × Appends (K.taken out.old) (K.taken out.new) (take count (notice_text notice.now))) }
     ensures cause { HasCause (K.faults out.old) (K.faults out.new) result }
 {
-    let mut text = [0u8; 128];
+    let mut text = [0u8; MAX_NOTICE];
     let count = announce(notice, &mut text);
     send(out, &text[..count])
 }

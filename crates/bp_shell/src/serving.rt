@@ -15,7 +15,7 @@ use crate::acting::act;
 use crate::telling::tell;
 use crate::work::{LineBuffers, Work};
 use bp_io::{Failed, Files, Sink, Source};
-use bp_script::MOST_LINE;
+use bp_limits::MAX_LINE;
 use bp_volume::Volume;
 use pm_region::Region;
 use std::alloc::Global;
@@ -110,7 +110,7 @@ fn take_byte<R: Region, K: Sink, F: Files>(
         buffers.line.clear();
         return status;
     }
-    if buffers.line.len() <= MOST_LINE {
+    if buffers.line.len() <= MAX_LINE {
         match buffers.line.push(byte) {
             Ok(()) => {}
             Err(_) => unreachable!(),

@@ -3,6 +3,7 @@
 ghost use Rattle.std.specs.Prelude.{◌≡◌, ◌<◌, ℕ, OnOk, OnErr, length, take, vec_len};
 ghost use Rattle.std.specs.Io.KnownBytes.{Appends};
 ghost use Rattle.bp_io.specs.Causes.{HasCause};
+ghost use Rattle.bp_limits.specs.Limits.{max_text};
 ghost use Rattle.bp_plain.specs.Calls.Answer.{names};
 ghost use Rattle.bp_script.specs.Sayings.{said_text, FitsReply};
 ghost use Rattle.bp_script.specs.Texts.{answer_text, reply_text};
@@ -18,8 +19,8 @@ use bp_script::{Said, say};
 // Tells one line of a reply.
 fn tell_line<K: Sink>(said: &Said<'_>, text: &mut Vec<u8>, out: &mut K) -> Result<(), Failed>
     requires short { FitsReply said.now }
-    requires room { vec_len text.old ≡ 140000 }
-    ensures room { vec_len text.new ≡ 140000 }
+    requires room { vec_len text.old ≡ max_text }
+    ensures room { vec_len text.new ≡ max_text }
     ensures all { OnOk result (Appends (K.taken out.old) (K.taken out.new) (said_text said.now)) }
     ensures some { OnErr result ((n : ℕ) × (n < length (said_text said.now)) × Appends (K.taken out.old) (K.taken out.new) (take n (said_text said.now))) }
     ensures cause { HasCause (K.faults out.old) (K.faults out.new) result }
@@ -30,8 +31,8 @@ fn tell_line<K: Sink>(said: &Said<'_>, text: &mut Vec<u8>, out: &mut K) -> Resul
 
 // Tells a line for each name, and the line that ends a listing.
 fn tell_names<K: Sink>(listing: &Listing, text: &mut Vec<u8>, out: &mut K) -> Result<(), Failed>
-    requires room { vec_len text.old ≡ 140000 }
-    ensures room { vec_len text.new ≡ 140000 }
+    requires room { vec_len text.old ≡ max_text }
+    ensures room { vec_len text.new ≡ max_text }
     ensures all { OnOk result (Appends (K.taken out.old) (K.taken out.new) (answer_text (names listing.now))) }
     ensures some { OnErr result ((n : ℕ) × (n < length (answer_text (names listing.now))) × Appends (K.taken out.old) (K.taken out.new) (take n (answer_text (names listing.now)))) }
     ensures cause { HasCause (K.faults out.old) (K.faults out.new) result }
@@ -49,19 +50,15 @@ fn tell_names<K: Sink>(listing: &Listing, text: &mut Vec<u8>, out: &mut K) -> Re
 
 // Tells the answer of a call.
 fn tell_answer<K: Sink>(reply: &Reply, text: &mut Vec<u8>, out: &mut K) -> Result<(), Failed>
-    requires room { vec_len text.old ≡ 140000 }
-    ensures room { vec_len text.new ≡ 140000 }
+    requires room { vec_len text.old ≡ max_text }
+    ensures room { vec_len text.new ≡ max_text }
     ensures all { OnOk result (Appends (K.taken out.old) (K.taken out.new) (answer_text reply.now.answer)) }
     ensures some { OnErr result ((n : ℕ) × (n < length (answer_text reply.now.answer)) × Appends (K.taken out.old) (K.taken out.new) (take n (answer_text reply.now.answer))) }
     ensures cause { HasCause (K.faults out.old) (K.faults out.new) result }
 {
     match reply.answer() {
-        Answer::Done => tell_line(&Said::Done, text, out),
-        Answer::Bytes(bytes) => tell_line(&Said::Bytes(bytes), text, out),
-        Answer::FileOf(size) => tell_line(&Said::FileOf(size), text, out),
-        Answer::DirOf(count) => tell_line(&Said::DirOf(count), text, out),
         Answer::Names(listing) => tell_names(listing, text, out),
-        Answer::Refused(error) => tell_line(&Said::Refused(error), text, out),
+        answer => tell_line(&Said::Answer(answer), text, out),
     }
 }
 
@@ -72,15 +69,15 @@ pub(crate) fn tell<K: Sink>(
     text: &mut Vec<u8>,
     out: &mut K,
 ) -> Result<(), Failed>
-    requires room { vec_len text.old ≡ 140000 }
-    ensures room { vec_len text.new ≡ 140000 }
+    requires room { vec_len text.old ≡ max_text }
+    ensures room { vec_len text.new ≡ max_text }
     ensures all { OnOk result (Appends (K.taken out.old) (K.taken out.new) (reply_text (reply_of outcome reply.now.answer))) }
     ensures some { OnErr result ((n : ℕ) × (n < length (reply_text (reply_of outcome reply.now.answer))) × Appends (K.taken out.old) (K.taken out.new) (take n (reply_text (reply_of outcome reply.now.answer)))) }
     ensures cause { HasCause (K.faults out.old) (K.faults out.new) result }
 {
     match outcome {
         Outcome::Answered => tell_answer(reply, text, out),
-        Outcome::Synced => tell_line(&Said::Done, text, out),
+        Outcome::Synced => tell_line(&Said::Synced, text, out),
         Outcome::Counted { free, live } => tell_line(&Said::Space { free, live }, text, out),
         Outcome::BadSyntax => tell_line(&Said::Syntax, text, out),
         Outcome::TooLong => tell_line(&Said::LongLine, text, out),

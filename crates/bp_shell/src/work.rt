@@ -3,8 +3,9 @@
 ghost use Rattle.bp_script.specs.Lines.{decoded_room};
 ghost use Rattle.std.specs.Prelude.{◌≡◌, ◌≤◌, IfOk, [], vec_capacity, vec_len};
 
+use bp_limits::{MAX_LINE, MAX_TEXT};
 use bp_plain::Reply;
-use bp_script::{Decoded, MOST_LINE, MOST_TEXT};
+use bp_script::Decoded;
 use std::alloc::{AllocError, Global};
 
 const PIECE: usize = 65_536;
@@ -40,10 +41,10 @@ impl Work {
         ensures { IfOk result (λ work. held_line work ≡ []) }
     {
         let buffers = LineBuffers {
-            line: Vec::with_capacity(alloc, MOST_LINE + 1)?,
-            decoded: Decoded::new(alloc, MOST_LINE)?,
+            line: Vec::with_capacity(alloc, MAX_LINE + 1)?,
+            decoded: Decoded::new(alloc, MAX_LINE)?,
             reply: Reply::new(alloc)?,
-            text: vec![in alloc; 0; MOST_TEXT]?,
+            text: vec![in alloc; 0; MAX_TEXT]?,
         };
         Ok(Work {
             buffers,
@@ -55,7 +56,7 @@ impl Work {
     pub fn set_line(&mut self, bytes: &[u8])
         ensures { held_line self.new ≡ take 140001 bytes.now }
     {
-        let kept = bytes.len().min(MOST_LINE + 1);
+        let kept = bytes.len().min(MAX_LINE + 1);
         self.buffers.line.clear();
         match self.buffers.line.extend_from_slice(&bytes[..kept]) {
             Ok(()) => {}
@@ -68,7 +69,7 @@ impl Work {
         ensures { option_map (λ bytes. bytes.now) result ≡ line_of (held_line self.now) }
     {
         let line = &self.buffers.line;
-        if line.len() <= MOST_LINE {
+        if line.len() <= MAX_LINE {
             Some(line)
         } else {
             None

@@ -4,7 +4,8 @@ use Rattle.bp_layout.specs.declared.fields.Kind.{Kind}
 use Rattle.bp_layout.specs.declared.fields.Stat.{Stat}
 use Rattle.bp_layout.specs.declared.fields.Stat.TheVariants as stat
 use Rattle.bp_plain.specs.declared.errors.FsError.{FsError}
-use Rattle.bp_plain.specs.Calls.{Answer, Call, most_bytes}
+use Rattle.bp_limits.specs.Limits.{max_read}
+use Rattle.bp_plain.specs.Calls.{Answer, Call}
 use Rattle.bp_plain.specs.Calls.Call.{read}
 use Rattle.bp_plain.specs.Calls.Answer.{done, bytes, file_of, dir_of, names, refused}
 use Rattle.bp_plain.specs.Seen.{refusal_of}
@@ -35,5 +36,5 @@ read_answer (Err error) content = refused (refusal_of error)
 
 -- a read asks for no more bytes than a reply holds
 abbrev pub IsShortCall : Call → Type 0
-IsShortCall (read text off len) = len ≤ most_bytes
+IsShortCall (read text off len) = len ≤ max_read
 IsShortCall _ = Unit {0}

@@ -1,7 +1,7 @@
 //! Results of calls as replies.
 
 ghost use Rattle.std.specs.Prelude.{◌≡◌, ◌≤◌, IfOk};
-ghost use Rattle.bp_plain.specs.Calls.{most_bytes};
+ghost use Rattle.bp_limits.specs.Limits.{max_read};
 ghost use Rattle.bp_volume.specs.Seen.{list_answer_of, read_answer, stat_answer_of, unit_answer};
 
 use bp_layout::{Listing, Stat};
@@ -40,7 +40,7 @@ pub(crate) fn tell_list(reply: &mut Reply, outcome: Result<Listing, FsError>)
 
 /// Tells the result of `read`, whose bytes stand in the reply's memory.
 pub(crate) fn tell_read(reply: &mut Reply, outcome: Result<usize, FsError>)
-    requires { IfOk outcome (λ count. count ≤ most_bytes) }
+    requires { IfOk outcome (λ count. count ≤ max_read) }
     ensures { reply.new.answer ≡ read_answer outcome reply.old.buffer }
 {
     match outcome {

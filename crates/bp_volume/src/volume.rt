@@ -5,7 +5,7 @@ ghost use Rattle.bp_layout.specs.Free.{HasFree};
 ghost use Rattle.bp_layout.specs.WellFormed.{IsWellFormed};
 ghost use Rattle.bp_layout.specs.Words.{block_count};
 ghost use Rattle.pm_region.specs.Memory.{current_words, drained, room_in, with_room};
-ghost use Rattle.bp_plain.specs.Calls.{most_bytes};
+ghost use Rattle.bp_limits.specs.Limits.{max_read};
 ghost use Rattle.bp_plain.specs.Calls.Call.{create, list, read, stat};
 ghost use Rattle.bp_plain.specs.PlainTree.{empty_tree};
 ghost use Rattle.bp_plain.specs.Seen.{call_of};
@@ -224,7 +224,7 @@ impl<R: Region> Volume<R> {
 
     /// Reads bytes into the memory of a reply, and tells the result there.
     fn apply_read(&mut self, path: &[u8], off: u64, len: usize, reply: &mut Reply)
-        requires { len ≤ most_bytes }
+        requires { len ≤ max_read }
         ensures { FileCall self.old (read path.now off len) reply.new.answer self.new }
     {
         let told = self.read_front(path, off, len, reply.buffer());

@@ -21,6 +21,6 @@ returns-then-byte-eq10-clause-stops g c = λ e name saved file rest.
 pub returns-in-Ok-clause-serves : goal.returns-in-Ok-clause-serves
 returns-in-Ok-clause-serves g c = λ _ name saved file. serves_quietly _ _ saved _ _ _ _ file (λ rest. commands_at_byte c.args.buffers.now.line.items rest c.args.byte (search rules) ∙ ap (λ l. commands_from l rest) (search rules))
 
-pub returns-else-len-le-MOST_LINE-clause-serves : goal.returns-else-len-le-MOST_LINE-clause-serves
-returns-else-len-le-MOST_LINE-clause-serves g c = λ _ name saved file. serves_quietly _ _ saved _ _ _ _ file (λ rest. commands_at_byte c.args.buffers.now.line.items rest c.args.byte (search rules)
+pub returns-else-len-le-MAX_LINE-clause-serves : goal.returns-else-len-le-MAX_LINE-clause-serves
+returns-else-len-le-MAX_LINE-clause-serves g c = λ _ name saved file. serves_quietly _ _ saved _ _ _ _ file (λ rest. commands_at_byte c.args.buffers.now.line.items rest c.args.byte (search rules)
     ∙ commands_too_long (c.args.buffers.now.line.items ++ c.args.byte ∷ []) c.args.buffers.now.line.items rest (omega (arith, length-append c.args.buffers.now.line.items (c.args.byte ∷ []))) (omega arith))

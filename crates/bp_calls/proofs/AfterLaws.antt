@@ -11,13 +11,13 @@ use Rattle.bp_layout.specs.Free.{IsFreeInode}
 use Rattle.bp_changes.specs.Harmless.{Agrees}
 use Rattle.bp_layout.specs.Lookup.{Path, lookup}
 use Rattle.bp_layout.specs.Same.{Same}
+use Rattle.bp_changes.specs.Effects.{KeepsBlocks}
 use Rattle.bp_changes.specs.SameMeaning.{SameMeaning}
 use Rattle.bp_layout.proofs.Finding.{find-same}
 use Rattle.bp_layout.proofs.View.{SameDirectories, lookup_from-same}
 use Rattle.bp_changes.proofs.SameMeaning.{view-same, reached-back, well_formed-same, same-by_meaning}
 use Rattle.bp_changes.proofs.Frame as frame
 use Rattle.bp_changes.proofs.ReachedOn.{meaning_on}
-use Rattle.bp_calls.proofs.EnteredLaws.{KeepsBlocks}
 
 -- The second image means the same, with the same blocks and as many inodes. Words that nobody reads may be others.
 pub record IsPrepared (old new : Image) : Type 0 where

@@ -1,20 +1,17 @@
 -- The inumber comes into a ready entry: the directory gains the name, and no tree changes its blocks.
-use Rattle.std.proofs.Common.{◌≡◌, ◌≢◌, ℕ, ◌+◌, ◌*◌, ◌/◌, ◌%◌, ◌<◌, ◌≤◌, length, set, Option, None, Some, refl, sym, ◌∙◌, ap, subst₂, arith}
+use Rattle.std.proofs.Common.{◌≡◌, ◌≢◌, ℕ, ◌+◌, ◌*◌, ◌/◌, ◌%◌, ◌<◌, ◌≤◌, length, set, Option, None, Some, refl, sym, ◌∙◌, ap, arith}
 use Rattle.std.proofs.lemmas.List.FromFn.{length-map-range_with_len}
 use Rattle.bp_layout.specs.Words.{Image, byte_of}
-use Rattle.bp_layout.specs.Tree.{byte, HasBlock}
-use Rattle.bp_layout.specs.Inode.{kind_of, root_of, size_of, inode_count, ContentStandsAt}
+use Rattle.bp_layout.specs.Tree.{byte}
+use Rattle.bp_layout.specs.Inode.{kind_of, ContentStandsAt}
 use Rattle.bp_layout.specs.Directory.{Name, EntryNames, IsName, word_in, name_in, name_at, slot_named, lookup_in}
 use Rattle.bp_layout.specs.Reached.{IsReached}
 use Rattle.bp_layout.specs.WellFormed.{IsWellFormed}
-use Rattle.bp_layout.proofs.TreeLaws.{KeepsPointers, has_block-kept, has_block-stays}
 use Rattle.bp_layout.proofs.Finding.{map-same}
-use Rattle.bp_layout.proofs.Reached.{reached-in_file}
 use Rattle.bp_layout.proofs.LookupLaws.{Shows, lookup_in-found}
-use Rattle.bp_changes.proofs.ContentStore.{pointers_stay, root_stays, size_stays}
-use Rattle.bp_changes.specs.Effects.{AddsNames}
+use Rattle.bp_changes.specs.Effects.{AddsNames, KeepsBlocks}
 use Rattle.bp_changes.proofs.Link.{CanLink, entry_adds, name_of_new, kinds_stay}
-use Rattle.bp_changes.proofs.LinkInPlace.{store_adds}
+use Rattle.bp_changes.proofs.LinkInPlace.{store_adds, store_blocks}
 use Rattle.bp_calls.specs.Entered.{IsNewInode, IsReadyEntry}
 
 -- The second image has one more name: that of inode j, of this kind, at slot s of directory i.
@@ -22,11 +19,6 @@ pub record Enters (old new : Image) (i s j : ℕ) (name : Name) (kind : ℕ) : T
   pub adds : AddsNames old new i s j
   pub spelled : name_at new i s ≡ name
   pub kind_is : kind_of new j ≡ kind
-
--- each tree that the first image reaches has the same blocks in the second
-pub record KeepsBlocks (old new : Image) : Type 0 where
-  pub back : (t b : ℕ) → IsReached old t → HasBlock new (root_of new t) (size_of new t) b → HasBlock old (root_of old t) (size_of old t) b
-  pub stay : (t b : ℕ) → IsReached old t → HasBlock old (root_of old t) (size_of old t) b → HasBlock new (root_of new t) (size_of new t) b
 
 -- a name that no entry has
 pub not_named : (image : Image) → IsWellFormed image → (i : ℕ) (name : Name) → IsReached image i → slot_named image i name ≡ None →
@@ -77,27 +69,5 @@ module _ (old : Image) (wf : IsWellFormed old) (i s j kind place : ℕ) (name : 
     kind_is = kinds_stay old (set old place j) wf i s j ready_links (store_adds old wf i s j place ready_links stands) j fresh.free.high ∙ fresh.kind_is;
   }
 
-  below : 8 * (32 * s + 0) < size_of old i
-  below = let in_size : s < size_of old i / 256 = ready.slot in omega (arith, in_size)
-
-  in_inodes : (t : ℕ) → IsReached old t → t < inode_count old
-  in_inodes = reached-in_file old wf
-
-  roots : (t : ℕ) → t < inode_count old → root_of (set old place j) t ≡ root_of old t
-  roots = root_stays old wf i (32 * s + 0) place j ready.reached (directory_inode old i ready.directory) below stands
-
-  sizes : (t : ℕ) → t < inode_count old → size_of (set old place j) t ≡ size_of old t
-  sizes = size_stays old wf i (32 * s + 0) place j ready.reached (directory_inode old i ready.directory) below stands
-
-  keeps : (t : ℕ) → IsReached old t → KeepsPointers old (set old place j) (root_of old t) (size_of old t)
-  keeps = pointers_stay old wf i (32 * s + 0) place j ready.reached (directory_inode old i ready.directory) below stands
-
   pub entered_blocks : KeepsBlocks old (set old place j)
-  entered_blocks = record {
-    back = λ t b reached has.
-        has_block-kept old (set old place j) (root_of old t) (size_of old t) (keeps t reached) b
-        (subst₂ (λ r z. HasBlock (set old place j) r z b) (roots t (in_inodes t reached)) (sizes t (in_inodes t reached)) has);
-    stay = λ t b reached has.
-        subst₂ (λ r z. HasBlock (set old place j) r z b) (sym (roots t (in_inodes t reached))) (sym (sizes t (in_inodes t reached)))
-        (has_block-stays old (set old place j) (root_of old t) (size_of old t) (keeps t reached) b has);
-  }
+  entered_blocks = store_blocks old wf i s j place ready.reached ready.directory ready.slot stands

@@ -13,11 +13,11 @@ use Rattle.bp_layout.specs.WellFormed.{IsWellFormed}
 use Rattle.bp_layout.specs.Free.{AreFreeBlocks, AreFreeInodes, IsFreeInode}
 use Rattle.bp_changes.specs.Harmless.{Agrees}
 use Rattle.bp_layout.proofs.SmallTrees.{empty_has_none}
-use Rattle.bp_changes.specs.Effects.{AddsNames}
+use Rattle.bp_changes.specs.Effects.{AddsNames, KeepsBlocks}
 use Rattle.bp_changes.proofs.AddsNames.{reached_cases, reached_stays}
 use Rattle.bp_calls.specs.Entered.{IsNewInode, IsReadyEntry, IsReadyBehind}
 use Rattle.bp_calls.specs.Sets.{AreExact}
-use Rattle.bp_calls.proofs.EnteredLaws.{Enters, KeepsBlocks, entered, entered_blocks}
+use Rattle.bp_calls.proofs.EnteredLaws.{Enters, entered, entered_blocks}
 use Rattle.bp_calls.proofs.GrownLaws.{GrowsBlocks, grown, grown_blocks}
 use Rattle.bp_calls.proofs.BehindLaws.{has_more, behind_same_blocks, first_block, has_first}
 use Rattle.bp_calls.proofs.AfterLaws.{IsPrepared, agrees_prepared, live_before_too, live_after, reached_before, reached_after}

@@ -59,6 +59,19 @@ module _ (old new : Image) (x : ℕ) (wf : IsWellFormed old) (same : ChangesFile
   reached-back _ root_directory = root_directory
   reached-back _ (named {i} {j} slot r n) = named slot (reached-back i r) (names-back i slot j (reached-back i r) n)
 
+  names-on : (i s j : ℕ) → IsReached old i → EntryNames old i s j → EntryNames new i s j
+  names-on i s j reached n = record {
+    directory = same.kind i reached ∙ n.directory;
+    in_size = rw (directory_size i reached n.directory) n.in_size;
+    inumber = same.inumber i s reached n.directory n.in_size ∙ n.inumber;
+    not_empty = n.not_empty;
+  }
+
+  pub reached-on : (t : ℕ) → IsReached old t → IsReached new t
+  reached-on _ inode_file = inode_file
+  reached-on _ root_directory = root_directory
+  reached-on _ (named {i} {j} slot r n) = named slot (reached-on i r) (names-on i slot j r n)
+
   pub well_formed-same : IsWellFormed new
   well_formed-same =
       let inodes : size_of new 0 ≡ size_of old 0 = same.size 0 inode_file not_zero in

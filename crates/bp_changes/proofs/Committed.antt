@@ -8,7 +8,8 @@ use Rattle.bp_layout.specs.Reached.{IsReached}
 use Rattle.bp_layout.specs.Reached.IsReached.{inode_file}
 use Rattle.bp_changes.specs.Commits.{only, Commits}
 use Rattle.bp_changes.specs.SameContent.{IsReadByWords}
-use Rattle.bp_changes.proofs.Link.{CanLink, AddsEntry}
+use Rattle.bp_changes.proofs.Link.{CanLink}
+use Rattle.bp_changes.specs.Effects.{SetsInumber}
 
 only-here : (t k value : ℕ) → only t k value t k ≡ Some value
 only-here t k value = rw (eq-eqb t t refl, eq-eqb k k refl) refl
@@ -45,7 +46,7 @@ module _ (old new : Image) (i k value : ℕ) (inode : i ≢ 0) (commits : Commit
   size-kept (suc u) low = inode_word-kept u 2 low (omega arith) (λ e. omega (arith, e))
 
 -- a commit of an inumber into an empty entry
-pub commit_adds : (old new : Image) (i s j : ℕ) → CanLink old i s j → Commits old new (only i (32 * s + 0) j) → AddsEntry old new i s j
+pub commit_adds : (old new : Image) (i s j : ℕ) → CanLink old i s j → Commits old new (only i (32 * s + 0) j) → SetsInumber old new i s j
 commit_adds old new i s j can commits =
     let inode : i ≢ 0 = λ e. absurd (zero_is_none old (subst (λ x. kind_of old x ≡ 2) e can.directory)) in
     let in_size : s < size_of old i / 256 = can.in_size in
@@ -61,7 +62,7 @@ commit_adds old new i s j can commits =
       };
       kind = kind-kept old new i (32 * s + 0) j inode commits;
       size = size-kept old new i (32 * s + 0) j inode commits;
-      entered = word-committed old new i (32 * s + 0) j inode commits can.reached can.directory (omega (arith, in_size));
+      inumber = word-committed old new i (32 * s + 0) j inode commits can.reached can.directory (omega (arith, in_size));
       entry = λ u r f reached kind low few other.
           word-kept old new i (32 * s + 0) j inode commits u (32 * r + f) reached (inr kind) (omega (arith, low, few)) (λ e. absurd (zero_is_none old (subst (λ x. kind_of old x ≡ 2) e kind)))
           (λ e same. other (sym e) (sym same));

@@ -10,7 +10,7 @@ use Rattle.bp_layout.specs.Directory.{EntryNames, IsName, name_at, inumber_at, e
 use Rattle.bp_layout.specs.Reached.{IsReached}
 use Rattle.bp_layout.specs.Reached.IsReached.{inode_file}
 use Rattle.bp_layout.specs.WellFormed.{IsWellFormed}
-use Rattle.bp_changes.specs.Effects.{KeepsTrees, AddsNames, IsNewEntry}
+use Rattle.bp_changes.specs.Effects.{SetsInumber, AddsNames, IsNewEntry}
 use Rattle.bp_layout.proofs.Finding.{map-same}
 use Rattle.bp_layout.proofs.Reached.{reached-in_file}
 
@@ -27,17 +27,7 @@ pub record CanLink (old : Image) (i s j : ℕ) : Type 0 where
   pub name : IsName (name_at old i s)
   pub new_name : (r k : ℕ) → EntryNames old i r k → name_at old i r ≢ name_at old i s
 
--- The second image has the inumber in that entry, and all else as it was. Its trees may stand in other blocks.
-pub record AddsEntry (old new : Image) (i s j : ℕ) : Type 0 where
-  pub trees : KeepsTrees old new
-  pub kind : (u : ℕ) → u < inode_count old → kind_of new u ≡ kind_of old u
-  pub size : (u : ℕ) → u < inode_count old → size_of new u ≡ size_of old u
-  pub entered : inumber_at new i s ≡ j
-  pub entry : (u r f : ℕ) → IsReached old u → kind_of old u ≡ 2 → r < entry_count old u → f < 32 → ((i ≡ u) → (32 * s + 0 ≡ 32 * r + f) → ⊥) →
-      entry_word new u r f ≡ entry_word old u r f
-  pub bytes : (u o : ℕ) → IsReached old u → kind_of old u ≡ 1 → o < size_of old u → byte new (root_of new u) o ≡ byte old (root_of old u) o
-
-module _ (old new : Image) (wf : IsWellFormed old) (i s j : ℕ) (can : CanLink old i s j) (adds : AddsEntry old new i s j) where
+module _ (old new : Image) (wf : IsWellFormed old) (i s j : ℕ) (can : CanLink old i s j) (adds : SetsInumber old new i s j) where
   in_inodes : (t : ℕ) → IsReached old t → t < inode_count old
   in_inodes = reached-in_file old wf
 
@@ -48,7 +38,7 @@ module _ (old new : Image) (wf : IsWellFormed old) (i s j : ℕ) (can : CanLink 
   sizes_stay = adds.size
 
   inumber_here : inumber_at new i s ≡ j
-  inumber_here = adds.entered
+  inumber_here = adds.inumber
 
   entry_word_stays : (u r f : ℕ) → IsReached old u → kind_of old u ≡ 2 → r < entry_count old u → f < 32 → ((i ≡ u) → (32 * s + 0 ≡ 32 * r + f) → ⊥) →
       entry_word new u r f ≡ entry_word old u r f

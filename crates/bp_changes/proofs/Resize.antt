@@ -8,7 +8,7 @@ use Rattle.bp_layout.specs.Inode.{inode_word, kind_of, root_of, size_of, inode_c
 use Rattle.bp_layout.specs.Reached.{IsReached}
 use Rattle.bp_layout.specs.Reached.IsReached.{inode_file}
 use Rattle.bp_layout.specs.WellFormed.{IsWellFormed}
-use Rattle.bp_layout.proofs.TreeLaws.{KeepsPointers, content-kept, slot_word-same, word_at-suc, live_pointer_word, live_content, live_above, sound-kept, full-kept, has_block-kept}
+use Rattle.bp_layout.proofs.TreeLaws.{KeepsPointers, content-kept, slot_word-same, word_at-suc, live_pointer_word, live_content, live_above, sound-kept, full-kept, has_block-kept, has_block-stays}
 use Rattle.bp_layout.proofs.Finding.{map-same}
 use Rattle.bp_layout.proofs.Reached.{reached-in_file}
 use Rattle.bp_changes.proofs.Separation.{stands_in_block}
@@ -125,15 +125,25 @@ module _ (old : Image) (wf : IsWellFormed old) (n size place : ℕ) (can : CanRe
       rw (root_stays t (in_file t reached), size_stays t (in_file t reached) other) (sound-kept old (set old place size) (root_of old t) (size_of old t) (keeps t reached) whole (wf.sound t reached))
 
   -- the blocks of each tree are the old ones, and of the file those that its new size brings in
-  block_of_file : (b : ℕ) → HasBlock (set old place size) (root_of (set old place size) (suc n)) (size_of (set old place size) (suc n)) b → HasBlock old (root_of old (suc n)) size b
+  pub block_of_file : (b : ℕ) → HasBlock (set old place size) (root_of (set old place size) (suc n)) (size_of (set old place size) (suc n)) b → HasBlock old (root_of old (suc n)) size b
   block_of_file b has =
       has_block-kept old (set old place size) (root_of old (suc n)) size keeps_new b
       (subst₂ (λ r z. HasBlock (set old place size) r z b) (root_stays (suc n) (in_file (suc n) can.reached)) size_here has)
 
-  block_of_other : (t b : ℕ) → IsReached old t → t ≢ suc n → HasBlock (set old place size) (root_of (set old place size) t) (size_of (set old place size) t) b → HasBlock old (root_of old t) (size_of old t) b
+  pub block_of_other : (t b : ℕ) → IsReached old t → t ≢ suc n → HasBlock (set old place size) (root_of (set old place size) t) (size_of (set old place size) t) b → HasBlock old (root_of old t) (size_of old t) b
   block_of_other t b reached other has =
       has_block-kept old (set old place size) (root_of old t) (size_of old t) (keeps t reached) b
       (subst₂ (λ r z. HasBlock (set old place size) r z b) (root_stays t (in_file t reached)) (size_stays t (in_file t reached) other) has)
+
+  pub block_on_file : (b : ℕ) → HasBlock old (root_of old (suc n)) size b → HasBlock (set old place size) (root_of (set old place size) (suc n)) (size_of (set old place size) (suc n)) b
+  block_on_file b has =
+      subst₂ (λ r z. HasBlock (set old place size) r z b) (sym (root_stays (suc n) (in_file (suc n) can.reached))) (sym size_here)
+      (has_block-stays old (set old place size) (root_of old (suc n)) size keeps_new b has)
+
+  pub block_on_other : (t b : ℕ) → IsReached old t → t ≢ suc n → HasBlock old (root_of old t) (size_of old t) b → HasBlock (set old place size) (root_of (set old place size) t) (size_of (set old place size) t) b
+  block_on_other t b reached other has =
+      subst₂ (λ r z. HasBlock (set old place size) r z b) (sym (root_stays t (in_file t reached))) (sym (size_stays t (in_file t reached) other))
+      (has_block-stays old (set old place size) (root_of old t) (size_of old t) (keeps t reached) b has)
 
   HasAt : ℕ → ℕ → Type 0
   HasAt t b = HasBlock (set old place size) (root_of (set old place size) t) (size_of (set old place size) t) b

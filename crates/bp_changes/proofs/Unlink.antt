@@ -1,5 +1,5 @@
 -- An inumber that becomes 0 takes that name from its directory, and changes nothing else.
-use Rattle.std.proofs.Common.{◌≡◌, ◌⊎◌, ℕ, suc, ◌+◌, ◌*◌, ◌/◌, ◌%◌, ◌<◌, ◌≤◌, [], ◌∷◌, ◌++◌, Bool, true, false, ◌==◌, length, Option, None, Some, refl, sym, ◌∙◌, ap, subst₂, arith, inl, inr, length-append}
+use Rattle.std.proofs.Common.{◌≡◌, ◌⊎◌, ℕ, suc, ◌+◌, ◌*◌, ◌/◌, ◌%◌, ◌<◌, ◌≤◌, [], ◌∷◌, ◌++◌, Bool, true, false, ◌==◌, length, Option, None, Some, refl, sym, ◌∙◌, ap, subst, subst₂, arith, inl, inr, length-append}
 use Rattle.std.specs.Option.{option_map}
 use Rattle.std.proofs.lemmas.Bool.{cases_eq, eqb-true}
 use Rattle.std.proofs.lemmas.List.FromFn.{length-map-range_with_len}
@@ -59,7 +59,7 @@ module _ (old new : Image) (wf : IsWellFormed old) (i s j : ℕ) (can : CanUnlin
       low = rw (count_stays u reached) at n.in_size
 
       other : (u ≡ i) → (r ≡ s) → ⊥
-      other e f = n.not_empty (sym n.inumber ∙ subst₂ (λ x y. inumber_at new x y ≡ 0) (sym e) (sym f) removes.emptied)
+      other e f = n.not_empty (sym n.inumber ∙ subst₂ (λ x y. inumber_at new x y ≡ 0) (sym e) (sym f) removes.inumber)
 
   names_stay : (u r k : ℕ) → IsReached old u → EntryNames old u r k → ((u ≡ i) → (r ≡ s) → ⊥) → EntryNames new u r k
   names_stay u r k reached n other = record {
@@ -69,7 +69,7 @@ module _ (old new : Image) (wf : IsWellFormed old) (i s j : ℕ) (can : CanUnlin
     not_empty = n.not_empty;
   }
 
-  reached_back : (t : ℕ) → IsReached new t → IsReached old t
+  pub reached_back : (t : ℕ) → IsReached new t → IsReached old t
   reached_back _ inode_file = inode_file
   reached_back _ root_directory = root_directory
   reached_back _ (named {i = u} {j = k} r from n) = named r (reached_back u from) (names_back u r k (reached_back u from) n).before
@@ -79,6 +79,26 @@ module _ (old new : Image) (wf : IsWellFormed old) (i s j : ℕ) (can : CanUnlin
 
   name_back : (u r k : ℕ) → IsReached new u → EntryNames new u r k → name_at new u r ≡ name_at old u r
   name_back u r k reached n = let e : IsReached old u × EntryNames old u r k = entry_back u r k reached n in name_stays u r k e.0 e.1
+
+  -- the inode of the entry is not reached any more
+  pub not_reached : IsReached new j → ⊥
+  not_reached reached = go j reached refl
+    where
+      go : (t : ℕ) → IsReached new t → t ≡ j → ⊥
+      go _ inode_file e = can.entry.not_empty (sym e)
+      go _ root_directory e = wf.not_root i s j can.reached can.entry (sym e)
+      go _ (named {i = u} {j = k} r from n) e =
+          let kept : IsKept u r k = names_back u r k (reached_back u from) n in
+          let same : (u ≡ i) × (r ≡ s) = wf.named_once u r i s j (reached_back u from) can.reached (subst (EntryNames old u r) e kept.before) can.entry in
+          kept.other same.0 same.1
+
+  -- and all others are
+  pub reached_stays : (t : ℕ) → IsReached old t → (t ≡ j → ⊥) → IsReached new t
+  reached_stays _ inode_file other = inode_file
+  reached_stays _ root_directory other = root_directory
+  reached_stays _ (named {i = u} {j = k} r from n) other =
+      named r (reached_stays u from (λ e. can.alone r k (subst (λ x. EntryNames old x r k) e n)))
+      (names_stay u r k from n (λ e f. other (sym n.inumber ∙ subst₂ (λ x y. inumber_at old x y ≡ j) (sym e) (sym f) can.entry.inumber)))
 
   pub unlinked_well_formed : IsWellFormed new
   unlinked_well_formed =

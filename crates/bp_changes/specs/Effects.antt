@@ -20,6 +20,11 @@ pub record KeepsTrees (old new : Image) : Type 0 where
   pub full_inode_file : IsFull new (root_of new 0) (size_of new 0)
   pub full_directories : (i : ℕ) → IsReached old i → kind_of old i ≡ 2 → IsFull new (root_of new i) (size_of new i)
 
+-- each tree has the blocks that it had
+pub record KeepsBlocks (old new : Image) : Type 0 where
+  pub back : (t b : ℕ) → IsReached old t → HasBlock new (root_of new t) (size_of new t) b → HasBlock old (root_of old t) (size_of old t) b
+  pub stay : (t b : ℕ) → IsReached old t → HasBlock old (root_of old t) (size_of old t) b → HasBlock new (root_of new t) (size_of new t) b
+
 -- ---- the bytes of one file
 
 -- the bytes of file x and their number may be others
@@ -34,6 +39,19 @@ pub record ChangesFile (old new : Image) (x : ℕ) : Type 0 where
   pub entry : (i s j f : ℕ) → IsReached old i → EntryNames old i s j → f < 32 → entry_word new i s f ≡ entry_word old i s f
   pub bytes : (i o : ℕ) → IsReached old i → i ≢ x → kind_of old i ≡ 1 → o < size_of old i →
       byte new (root_of new i) o ≡ byte old (root_of old i) o
+
+-- ---- an inumber
+
+-- this inumber at slot s of directory i, and all else as it was
+pub record SetsInumber (old new : Image) (i s value : ℕ) : Type 0 where
+  pub trees : KeepsTrees old new
+  pub kind : (u : ℕ) → u < inode_count old → kind_of new u ≡ kind_of old u
+  pub size : (u : ℕ) → u < inode_count old → size_of new u ≡ size_of old u
+  pub inumber : inumber_at new i s ≡ value
+  pub entry : (u r f : ℕ) → IsReached old u → kind_of old u ≡ 2 → r < entry_count old u → f < 32 →
+      ((i ≡ u) → (32 * s + 0 ≡ 32 * r + f) → ⊥) → entry_word new u r f ≡ entry_word old u r f
+  pub bytes : (u o : ℕ) → IsReached old u → kind_of old u ≡ 1 → o < size_of old u →
+      byte new (root_of new u) o ≡ byte old (root_of old u) o
 
 -- ---- one name more
 
@@ -73,16 +91,9 @@ pub record CanUnlink (old : Image) (i s j : ℕ) : Type 0 where
   pub entry : EntryNames old i s j
   pub alone : (r k : ℕ) → EntryNames old j r k → ⊥
 
--- an empty entry at slot s of directory i, and all else as it was
-pub record RemovesEntry (old new : Image) (i s : ℕ) : Type 0 where
-  pub trees : KeepsTrees old new
-  pub kind : (u : ℕ) → u < inode_count old → kind_of new u ≡ kind_of old u
-  pub size : (u : ℕ) → u < inode_count old → size_of new u ≡ size_of old u
-  pub emptied : inumber_at new i s ≡ 0
-  pub entry : (u r f : ℕ) → IsReached old u → kind_of old u ≡ 2 → r < entry_count old u → f < 32 →
-      ((i ≡ u) → (32 * s + 0 ≡ 32 * r + f) → ⊥) → entry_word new u r f ≡ entry_word old u r f
-  pub bytes : (u o : ℕ) → IsReached old u → kind_of old u ≡ 1 → o < size_of old u →
-      byte new (root_of new u) o ≡ byte old (root_of old u) o
+-- an empty entry there, and all else as it was
+abbrev pub RemovesEntry : Image → Image → ℕ → ℕ → Type 0
+RemovesEntry old new i s = SetsInumber old new i s 0
 
 -- ---- a name moved
 

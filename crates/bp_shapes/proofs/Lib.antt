@@ -11,3 +11,4 @@ pub mod PathTrails
 pub mod Unseen
 pub mod FreeSets
 pub mod Behind
+pub mod Freed

@@ -2,6 +2,8 @@
 
 -- what lies behind a size
 pub mod Behind
+-- which blocks come back
+pub mod Freed
 -- the ways to words, and all trees on them
 pub mod Trail
 pub mod Forest

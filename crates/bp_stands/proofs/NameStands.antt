@@ -9,9 +9,9 @@ use Rattle.bp_layout.specs.Lookup.{Path, node_of, lookup, shown}
 use Rattle.bp_layout.specs.Lookup.Node.{dir, file}
 use Rattle.bp_layout.specs.WellFormed.{IsWellFormed}
 use Rattle.bp_layout.proofs.Paths.{AddsName, shown_there, shown_elsewhere}
-use Rattle.bp_changes.specs.Effects.{AddsNames, CanUnlink, RemovesEntry}
+use Rattle.bp_changes.specs.Effects.{SetsInumber, AddsNames, CanUnlink, RemovesEntry}
 use Rattle.bp_changes.proofs.AddsNames.{names_added, node_of_new, linked_well_formed}
-use Rattle.bp_changes.proofs.Link.{CanLink, AddsEntry, entry_adds, name_of_new}
+use Rattle.bp_changes.proofs.Link.{CanLink, entry_adds, name_of_new}
 use Rattle.bp_changes.proofs.LinkInPlace.{store_adds}
 use Rattle.bp_changes.proofs.Unlink as unlink
 use Rattle.bp_plain.specs.Plain.{with_node, without}
@@ -43,7 +43,7 @@ names_stand old new wf i s j adds tree parent stands at =
     (added_stands old new i (name_at new i s) j (names_added old new wf i s j adds) parent at tree stands (linked_well_formed old new wf i s j adds))
 
 -- the same where an inumber comes into an empty entry
-pub link_stands : (old new : Image) (wf : IsWellFormed old) (i s j : ℕ) → CanLink old i s j → AddsEntry old new i s j →
+pub link_stands : (old new : Image) (wf : IsWellFormed old) (i s j : ℕ) → CanLink old i s j → SetsInumber old new i s j →
     (tree : FileTree) (parent : Path) → Stands old tree → lookup old parent ≡ Some i →
     Stands new (with_node tree (parent ++ name_at old i s ∷ []) (if kind_of old j == 1 then file [] else dir))
 link_stands old new wf i s j can adds tree parent stands at =

@@ -1,75 +1,150 @@
--- A commit of one inumber adds or removes that entry.
-use Rattle.std.proofs.Common.{◌≡◌, ◌≢◌, ℕ, zero, suc, ◌+◌, ◌*◌, ◌/◌, ◌%◌, ◌<◌, Bool, true, false, ◌==◌, None, Some, refl, sym, ◌∙◌, subst, arith, eq-eqb, inl, inr, ◌≤◌}
-use Rattle.std.proofs.lemmas.Bool.{eqb-true}
-use Rattle.bp_layout.specs.Words.{Image}
+-- What a commit makes of an image: a name moved, a name spelled anew, the bytes of one file. It may give any values to words that nobody reads.
+use Rattle.std.proofs.Common.{◌≡◌, ◌≢◌, ◌⊎◌, ℕ, zero, suc, ◌+◌, ◌*◌, ◌/◌, ◌%◌, ◌<◌, ◌≤◌, refl, sym, ◌∙◌, ap, subst, arith, inl, inr}
+use Rattle.bp_layout.specs.Words.{Image, byte_of}
 use Rattle.bp_layout.specs.Tree.{content_word, byte}
 use Rattle.bp_layout.specs.Inode.{inode_word, kind_of, root_of, size_of, inode_count}
+use Rattle.bp_layout.specs.Directory.{EntryNames, IsName, name_at, entry_count}
 use Rattle.bp_layout.specs.Reached.{IsReached}
 use Rattle.bp_layout.specs.Reached.IsReached.{inode_file}
-use Rattle.bp_changes.specs.Commits.{only, Commits}
+use Rattle.bp_layout.specs.WellFormed.{IsWellFormed}
+use Rattle.bp_layout.proofs.Reached.{reached-in_file}
+use Rattle.bp_changes.specs.Commits.{Changes, word_after, CommitsOnly}
+use Rattle.bp_changes.specs.Effects.{SetsInumber, CanMoveEntry, MovesEntry, RespellsEntry, ChangesFile}
 use Rattle.bp_changes.specs.SameContent.{IsReadByWords}
-use Rattle.bp_changes.proofs.Link.{CanLink}
-use Rattle.bp_changes.specs.Effects.{SetsInumber}
 
-only-here : (t k value : ℕ) → only t k value t k ≡ Some value
-only-here t k value = rw (eq-eqb t t refl, eq-eqb k k refl) refl
+no_directory : (image : Image) (t : ℕ) → kind_of image t ≡ 2 → t ≢ 0
+no_directory image t two e = let zero_kind : kind_of image 0 ≡ 2 = subst (λ x. kind_of image x ≡ 2) e two in omega (arith, zero_kind)
 
-only-other : (t k value u l : ℕ) → ((u ≡ t) → (l ≡ k) → ⊥) → only t k value u l ≡ None
-only-other t k value u l other = go (u == t) refl (l == k) refl
+module _ (old new : Image) (changes : Changes) (Changed : ℕ → ℕ → Type 0) (only : CommitsOnly old new changes Changed) where
+  -- ---- words
+
+  pub word_committed : (t k : ℕ) → IsReached old t → IsReadByWords old t → 8 * k + 8 ≤ size_of old t → (t ≡ 0 → k % 8 ≢ 1) →
+      content_word new (root_of new t) k ≡ word_after changes old t k
+  word_committed t k reached by_words below no_root = only.commits.words t k reached by_words (omega (arith, below)) no_root
+
+  pub word-kept : (t k : ℕ) → IsReached old t → IsReadByWords old t → 8 * k + 8 ≤ size_of old t → (t ≡ 0 → k % 8 ≢ 1) → (Changed t k → ⊥) →
+      content_word new (root_of new t) k ≡ content_word old (root_of old t) k
+  word-kept t k reached by_words below no_root still = word_committed t k reached by_words below no_root ∙ only.kept t k reached (omega (arith, below)) still
+
+  pub byte-kept : (t o : ℕ) → IsReached old t → kind_of old t ≡ 1 → o < size_of old t → (Changed t (o / 8) → ⊥) →
+      byte new (root_of new t) o ≡ byte old (root_of old t) o
+  byte-kept t o reached kind low still =
+      only.commits.bytes t o reached kind (omega (arith, low)) ∙ ap (λ w. byte_of w (o % 8)) (only.kept t (o / 8) reached (omega (arith, low)) still)
+
+  pub inode_word-kept : (i f : ℕ) → suc i < inode_count old → f < 8 → f ≢ 1 → (Changed 0 (8 * suc i + f) → ⊥) → inode_word new (suc i) f ≡ inode_word old (suc i) f
+  inode_word-kept i f low few no_root still =
+      word-kept 0 (8 * suc i + f) inode_file (inl refl) (omega (arith, low, few)) (λ e same. no_root (omega (arith, same, few))) still
+
+  pub kind-kept : (t : ℕ) → t < inode_count old → (Changed 0 (8 * t + 0) → ⊥) → kind_of new t ≡ kind_of old t
+  kind-kept zero low still = refl
+  kind-kept (suc i) low still = inode_word-kept i 0 low (omega arith) (λ e. omega (arith, e)) still
+
+  pub size-kept : (t : ℕ) → t < inode_count old → (Changed 0 (8 * t + 2) → ⊥) → size_of new t ≡ size_of old t
+  size-kept zero low still = only.commits.inode_bytes
+  size-kept (suc i) low still = inode_word-kept i 2 low (omega arith) (λ e. omega (arith, e)) still
+
+-- ---- an inumber
+
+pub commit_sets : (old new : Image) (changes : Changes) (i s value : ℕ) → IsReached old i → kind_of old i ≡ 2 → s < entry_count old i →
+    CommitsOnly old new changes (λ t k. (t ≡ i) × (k ≡ 32 * s + 0)) → word_after changes old i (32 * s + 0) ≡ value → SetsInumber old new i s value
+commit_sets old new changes i s value reached directory in_size only is = record {
+  trees = only.commits.trees;
+  kind = λ u low. kind-kept old new changes _ only u low (λ here. no_directory old i directory (sym here.0));
+  size = λ u low. size-kept old new changes _ only u low (λ here. no_directory old i directory (sym here.0));
+  inumber =
+      word_committed old new changes _ only i (32 * s + 0) reached (inr directory) (omega (arith, in_size)) (λ e. absurd (no_directory old i directory e)) ∙ is;
+  entry = λ u r f also kind low few other.
+      word-kept old new changes _ only u (32 * r + f) also (inr kind) (omega (arith, low, few)) (λ e. absurd (no_directory old u kind e)) (λ here. other (sym here.0) (sym here.1));
+  bytes = λ u o also kind low.
+      byte-kept old new changes _ only u o also kind low
+      (λ here. let two : kind_of old u ≡ 2 = subst (λ x. kind_of old x ≡ 2) (sym here.0) directory in omega (arith, kind, two));
+}
+
+-- ---- a name moved
+
+pub commit_moves : (old new : Image) (changes : Changes) (i s k r j : ℕ) → CanMoveEntry old i s k r j →
+    CommitsOnly old new changes (λ t l. ((t ≡ i) × (l ≡ 32 * s + 0)) ⊎ ((t ≡ k) × (l ≡ 32 * r + 0))) →
+    word_after changes old i (32 * s + 0) ≡ 0 → word_after changes old k (32 * r + 0) ≡ j → MovesEntry old new i s k r j
+commit_moves old new changes i s k r j can only emptied entered = record {
+  trees = only.commits.trees;
+  kind = λ u low. kind-kept old new changes _ only u low no_inode;
+  size = λ u low. size-kept old new changes _ only u low no_inode;
+  emptied = word_committed old new changes _ only i (32 * s + 0) can.reached (inr can.entry.directory) (omega (arith, can.entry.in_size)) (λ e. absurd (no_directory old i can.entry.directory e)) ∙ emptied;
+  entered = word_committed old new changes _ only k (32 * r + 0) can.target (inr can.directory) (omega (arith, can.in_size)) (λ e. absurd (no_directory old k can.directory e)) ∙ entered;
+  entry = λ u x f also kind low few one two.
+      word-kept old new changes _ only u (32 * x + f) also (inr kind) (omega (arith, low, few)) (λ e. absurd (no_directory old u kind e))
+      (λ here. elim here [ inl source ↦ one (sym source.0) (sym source.1) | inr target ↦ two (sym target.0) (sym target.1) ]);
+  bytes = λ u o also kind low.
+      byte-kept old new changes _ only u o also kind low
+      (λ here. elim here [
+        | inl source ↦ no_file u i kind can.entry.directory source.0
+        | inr target ↦ no_file u k kind can.directory target.0
+      ]);
+}
   where
-    go : (b : Bool) → (u == t) ≡ b → (c : Bool) → (l == k) ≡ c → only t k value u l ≡ None
-    go false at c here = rw at refl
-    go true at false here = rw (at, here) refl
-    go true at true here = absurd (other (eqb-true u t at) (eqb-true l k here))
+    no_inode : {l : ℕ} → ((0 ≡ i) × (l ≡ 32 * s + 0)) ⊎ ((0 ≡ k) × (l ≡ 32 * r + 0)) → ⊥
+    no_inode (inl source) = no_directory old i can.entry.directory (sym source.0)
+    no_inode (inr target) = no_directory old k can.directory (sym target.0)
 
-module _ (old new : Image) (i k value : ℕ) (inode : i ≢ 0) (commits : Commits old new (only i k value)) where
-  pub word-committed : IsReached old i → kind_of old i ≡ 2 → 8 * k + 8 ≤ size_of old i → content_word new (root_of new i) k ≡ value
-  word-committed reached kind below = commits.words i k reached (inr kind) (omega (arith, below)) (λ e. absurd (inode e)) ∙ rw (only-here i k value) refl
+    no_file : (u d : ℕ) → kind_of old u ≡ 1 → kind_of old d ≡ 2 → u ≡ d → ⊥
+    no_file u d kind directory e = let two : kind_of old u ≡ 2 = subst (λ x. kind_of old x ≡ 2) (sym e) directory in omega (arith, kind, two)
 
-  pub word-kept : (u l : ℕ) → IsReached old u → IsReadByWords old u → 8 * l + 8 ≤ size_of old u → (u ≡ 0 → l % 8 ≢ 1) → ((u ≡ i) → (l ≡ k) → ⊥) →
-      content_word new (root_of new u) l ≡ content_word old (root_of old u) l
-  word-kept u l reached by_words below no_root other = commits.words u l reached by_words (omega (arith, below)) no_root ∙ rw (only-other i k value u l other) refl
+-- ---- a name spelled anew
 
-  pub byte-kept : (u o : ℕ) → IsReached old u → kind_of old u ≡ 1 → u ≢ i → o < size_of old u → byte new (root_of new u) o ≡ byte old (root_of old u) o
-  byte-kept u o reached kind other low = commits.bytes u o reached kind (omega (arith, low)) ∙ rw (only-other i k value u (o / 8) (λ e _. other e)) refl
+pub commit_respells : (old new : Image) (changes : Changes) (i s j : ℕ) → IsWellFormed old → IsReached old i → EntryNames old i s j →
+    CommitsOnly old new changes (λ t l. (t ≡ i) × (32 * s + 1 ≤ l) × (l < 32 * s + 32)) →
+    IsName (name_at new i s) → name_at old i s ≢ name_at new i s → ((x l : ℕ) → EntryNames old i x l → x ≢ s → name_at old i x ≢ name_at new i s) →
+    RespellsEntry old new i s j
+commit_respells old new changes i s j wf reached names only name changed new_name = record {
+  reached = reached;
+  names = names;
+  trees = only.commits.trees;
+  kind = λ u low. kind-kept old new changes _ only u low (λ here. no_directory old i names.directory (sym here.0));
+  size = λ u low. size-kept old new changes _ only u low (λ here. no_directory old i names.directory (sym here.0));
+  inumber = λ u x also kind low.
+      word-kept old new changes _ only u (32 * x + 0) also (inr kind) (omega (arith, low)) (λ e. absurd (no_directory old u kind e))
+      (λ here. omega (arith, here.1, here.2));
+  entry = λ u x l f also n few other.
+      word-kept old new changes _ only u (32 * x + f) also (inr n.directory) (omega (arith, n.in_size, few)) (λ e. absurd (no_directory old u n.directory e))
+      (λ here. other here.0 (omega (arith, here.1, here.2, few)));
+  name = name;
+  changed = changed;
+  new_name = new_name;
+  bytes = λ u o also kind low.
+      byte-kept old new changes _ only u o also kind low
+      (λ here. let two : kind_of old u ≡ 2 = subst (λ x. kind_of old x ≡ 2) (sym here.0) names.directory in omega (arith, kind, two));
+}
 
-  pub inode_word-kept : (u f : ℕ) → suc u < inode_count old → f < 8 → f ≢ 1 → inode_word new (suc u) f ≡ inode_word old (suc u) f
-  inode_word-kept u f low few no_root =
-      word-kept 0 (8 * suc u + f) inode_file (inl refl) (omega (arith, low, few)) (λ e same. no_root (omega (arith, same, few))) (λ e. absurd (inode (sym e)))
+-- ---- the bytes of one file, and its size
 
-  pub kind-kept : (u : ℕ) → u < inode_count old → kind_of new u ≡ kind_of old u
-  kind-kept zero low = refl
-  kind-kept (suc u) low = inode_word-kept u 0 low (omega arith) (λ e. omega (arith, e))
-
-  pub size-kept : (u : ℕ) → u < inode_count old → size_of new u ≡ size_of old u
-  size-kept zero low = commits.inode_bytes
-  size-kept (suc u) low = inode_word-kept u 2 low (omega arith) (λ e. omega (arith, e))
-
--- a commit of an inumber into an empty entry
-pub commit_adds : (old new : Image) (i s j : ℕ) → CanLink old i s j → Commits old new (only i (32 * s + 0) j) → SetsInumber old new i s j
-commit_adds old new i s j can commits =
-    let inode : i ≢ 0 = λ e. absurd (zero_is_none old (subst (λ x. kind_of old x ≡ 2) e can.directory)) in
-    let in_size : s < size_of old i / 256 = can.in_size in
-    record {
-      trees = record {
-        whole = commits.whole;
-        marked = commits.marked;
-        counted = commits.counted;
-        sound = commits.sound;
-        apart = commits.apart;
-        full_inode_file = commits.full_inode_file;
-        full_directories = commits.full_directories;
-      };
-      kind = kind-kept old new i (32 * s + 0) j inode commits;
-      size = size-kept old new i (32 * s + 0) j inode commits;
-      inumber = word-committed old new i (32 * s + 0) j inode commits can.reached can.directory (omega (arith, in_size));
-      entry = λ u r f reached kind low few other.
-          word-kept old new i (32 * s + 0) j inode commits u (32 * r + f) reached (inr kind) (omega (arith, low, few)) (λ e. absurd (zero_is_none old (subst (λ x. kind_of old x ≡ 2) e kind)))
-          (λ e same. other (sym e) (sym same));
-      bytes = λ u o reached kind low.
-          byte-kept old new i (32 * s + 0) j inode commits u o reached kind
-          (λ e. let two : kind_of old u ≡ 2 = subst (λ x. kind_of old x ≡ 2) (sym e) can.directory in absurd (omega (arith, kind, two))) low;
-    }
+pub commit_writes : (old new : Image) (changes : Changes) (x : ℕ) → IsWellFormed old → IsReached old x → kind_of old x ≡ 1 →
+    CommitsOnly old new changes (λ t l. (t ≡ x) ⊎ ((t ≡ 0) × (l ≡ 8 * x + 2))) → ChangesFile old new x
+commit_writes old new changes x wf reached is_file only = record {
+  reached = reached;
+  is_file = is_file;
+  trees = only.commits.trees;
+  kind = λ t also. kind-kept old new changes _ only t (reached-in_file old wf t also) (λ here. elim here [
+    | inl e ↦ not_zero e
+    | inr size ↦ omega (arith, size.1)
+  ]);
+  size = λ t also other. size-kept old new changes _ only t (reached-in_file old wf t also) (λ here. elim here [
+    | inl e ↦ not_zero e
+    | inr size ↦ other (omega (arith, size.1))
+  ]);
+  inumber = λ i s also kind low.
+      word-kept old new changes _ only i (32 * s + 0) also (inr kind) (omega (arith, low)) (λ e. absurd (no_directory old i kind e)) (in_directory i kind);
+  entry = λ i s j f also n few.
+      word-kept old new changes _ only i (32 * s + f) also (inr n.directory) (omega (arith, n.in_size, few)) (λ e. absurd (no_directory old i n.directory e)) (in_directory i n.directory);
+  bytes = λ i o also other kind low.
+      byte-kept old new changes _ only i o also kind low (λ here. elim here [
+        | inl e ↦ other e
+        | inr size ↦ (let zero_kind : kind_of old 0 ≡ 1 = subst (λ y. kind_of old y ≡ 1) size.0 kind in omega (arith, zero_kind))
+      ]);
+}
   where
-    zero_is_none : (image : Image) → kind_of image 0 ≡ 2 → ⊥
-    zero_is_none image two = omega (arith, two)
+    not_zero : 0 ≡ x → ⊥
+    not_zero e = let zero_kind : kind_of old 0 ≡ 1 = subst (λ y. kind_of old y ≡ 1) (sym e) is_file in omega (arith, zero_kind)
+
+    in_directory : (i : ℕ) {l : ℕ} → kind_of old i ≡ 2 → (i ≡ x) ⊎ ((i ≡ 0) × (l ≡ 8 * x + 2)) → ⊥
+    in_directory i kind (inl e) = let one : kind_of old i ≡ 1 = subst (λ y. kind_of old y ≡ 1) (sym e) is_file in omega (arith, kind, one)
+    in_directory i kind (inr size) = no_directory old i kind size.0

@@ -3,8 +3,8 @@
 -- when an image means the same as another
 pub mod SameMeaning
 pub mod SameContent
--- what nobody sees, what a commit makes
+-- what nobody sees
 pub mod Harmless
-pub mod Commits
--- what each change makes of an image
+-- what each change makes of an image, and what a commit makes of its words
 pub mod Effects
+pub mod Commits

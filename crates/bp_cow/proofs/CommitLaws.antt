@@ -161,17 +161,19 @@ module _ (old now : Image) (bound : ℕ → ℕ) (forest : IsForest old bound) (
     -- told on content words
     pub committed_commits : IsFull old (root_of old 0) (bound 0) → ((i : ℕ) → IsReached old i → kind_of old i ≡ 2 → IsFull old (root_of old i) (bound i)) → Commits old now (changes_of old job)
     committed_commits file directories = record {
-      whole = stage.whole;
-      marked = stage.superblock 0 (omega arith) (omega arith);
-      counted = stage.superblock 1 (omega arith) (omega arith);
+      trees = record {
+        whole = stage.whole;
+        marked = stage.superblock 0 (omega arith) (omega arith);
+        counted = stage.superblock 1 (omega arith) (omega arith);
+        sound = sound_now;
+        apart = apart_now;
+        full_inode_file = full_now 0 inode_file file;
+        full_directories = λ i r kind. full_now i r (directories i r kind);
+      };
       inode_bytes = stage.superblock 3 (omega arith) (omega arith);
       words = λ t k r by_words below no_root. content_now t k r (omega (arith, below)) no_root;
       bytes = λ i o r kind low.
           ap (λ w. byte_of w (o % 8)) (content_now i (o / 8) r (omega (arith, low)) (λ none. absurd (no_kind i none kind)));
-      sound = sound_now;
-      apart = apart_now;
-      full_inode_file = full_now 0 inode_file file;
-      full_directories = λ i r kind. full_now i r (directories i r kind);
     }
       where
         no_kind : (i : ℕ) → i ≡ 0 → kind_of old i ≡ 1 → ⊥

@@ -9,7 +9,6 @@ pub mod LookupLaws
 pub mod Paths
 pub mod Addresses
 pub mod Existence
-pub mod Props
 pub mod Below
 pub mod ChecksLaws
 pub mod OnePlace

@@ -3,7 +3,7 @@ use Rattle.std.proofs.Common.{◌≡◌, ℕ, zero, suc, ◌<◌, Bool, true, fa
 use Rattle.std.proofs.lemmas.Bool.{eqb-false}
 use Rattle.bp_layout.specs.Words.{Image}
 use Rattle.bp_layout.specs.Inode.{kind_of, size_of}
-use Rattle.bp_layout.specs.Directory.{Name, EntryNames, inumber_at, entry_count, is_named, slot_named, empty_slot}
+use Rattle.bp_layout.specs.Directory.{Name, EntryNames, inumber_at, name_at, entry_count, is_named, slot_named, empty_slot}
 use Rattle.bp_layout.specs.Reached.{IsReached, IsLiveBlock, IsFreeBlock}
 use Rattle.bp_layout.specs.Reached.IsReached.{inode_file, root_directory, named}
 use Rattle.bp_layout.specs.WellFormed.{IsWellFormed}
@@ -63,6 +63,9 @@ module _ (old new : Image) (wf : IsWellFormed old) (prepared : IsPrepared old ne
     inumber = prepared.meaning.inumber i s reached n.directory n.in_size ∙ n.inumber;
     not_empty = n.not_empty;
   }
+
+  pub name_after : (i s j : ℕ) → IsReached old i → EntryNames old i s j → name_at new i s ≡ name_at old i s
+  name_after i s j reached n = alike.name i s j reached n
 
   pub reached_after : (t : ℕ) → IsReached old t → IsReached new t
   reached_after _ inode_file = inode_file

@@ -1,7 +1,7 @@
 -- A new inode, an entry behind the last one of a leaf that is not full, and then the directory's size.
-use Rattle.std.proofs.Common.{◌≡◌, ◌≢◌, ℕ, ◌+◌, ◌-◌, ◌*◌, ◌/◌, ◌%◌, ◌<◌, ◌≤◌, [], true, None, set, refl, sym, ◌∙◌, ap, subst, arith}
+use Rattle.std.proofs.Common.{◌≡◌, ◌≢◌, ℕ, ◌+◌, ◌-◌, ◌*◌, ◌/◌, ◌%◌, ◌<◌, ◌≤◌, [], true, None, unwrap_or, set, refl, sym, ◌∙◌, ap, subst, arith}
 use Rattle.bp_calls.specs.Entered.{IsNewInode, IsReadyBehind}
-use Rattle.bp_calls.specs.Created.{GainsName}
+use Rattle.bp_calls.specs.Created.{EntersName}
 use Rattle.bp_layout.specs.Need.{cover}
 use Rattle.bp_layout.specs.Need.Change.{enters as gains}
 use Rattle.bp_layout.specs.WordPaths.{address}
@@ -14,13 +14,15 @@ use Rattle.pm_region.proofs.MemoryLaws.{room_in-piece}
 use Rattle.pm_epochs.proofs.PieceLaws.{IsPiece-commit}
 use Rattle.bp_calls.proofs.NeedLaws.{need_behind}
 use Rattle.bp_calls.proofs.OpenPlaces.{content_open, each_weaker, size_covered}
-use Rattle.bp_calls.proofs.StandsLaws.{enters_well_formed, prepared_stands}
+use Rattle.bp_calls.proofs.StandsLaws.{enters_well_formed, enters_over}
 use Rattle.bp_calls.specs.Sets.{AreExact}
 use Rattle.bp_calls.specs.Spare.{IsSpare}
 use Rattle.bp_calls.specs.Steps.{CanName}
-use Rattle.bp_calls.specs.Written.{HasInodeAt, HasNameAt, IsWithin}
+use Rattle.bp_dirs.specs.Written.{HasNameAt}
+use Rattle.bp_inodes.specs.Filled.{FillsInode}
+use Rattle.bp_tree.specs.Within.{IsWithin}
 use Rattle.bp_free.specs.Set.{Set, without}
-use Rattle.bp_layout.specs.Directory.{Name, slot_named}
+use Rattle.bp_layout.specs.Directory.{Name, entry_count, slot_named}
 use Rattle.bp_layout.specs.Fields.{kind_word}
 use Rattle.bp_layout.specs.Inode.{ContentStandsAt, kind_of, root_of, size_of, inode_count}
 use Rattle.bp_layout.specs.Reached.{IsReached}
@@ -39,16 +41,16 @@ use Rattle.bp_calls.proofs.AfterLaws.{prepared_well_formed, prepared_same, kind_
 use Rattle.bp_calls.proofs.BehindLaws.{ready_behind, behind_in_leaf}
 use Rattle.bp_calls.proofs.EnteredLaws.{Enters}
 use Rattle.bp_calls.proofs.GrownLaws.{grown}
-use Rattle.bp_calls.proofs.InSlot.{inode_inside}
+use Rattle.bp_calls.proofs.InSlot.{inode_inside, inode_row}
 use Rattle.bp_calls.proofs.ReadBack.{name_read, inode_stays, new_inode}
 use Rattle.bp_calls.proofs.SetLaws.{exact_prepared, exact_grown_in_leaf}
 use Rattle.bp_calls.proofs.Spares.{no_inode_file, row_stands, one_content, spare_behind}
 use Rattle.bp_calls.proofs.Trees.{SameTrees, spare_trees, word_kept, stands_kept}
 
-module _ (first second third last : Memory) (i j at entry place : ℕ) (name : Name) (kind : Kind) (can : CanName (current_words first) i j name) (vacant : empty_slot (current_words first) i ≡ None) (part : size_of (current_words first) i % 4096 ≢ 0)
-    (inode_at : ContentStandsAt (current_words first) 0 (8 * j + 0) at) (entry_at : ContentStandsAt (current_words first) i (32 * (size_of (current_words first) i / 256)) entry)
+module _ (first second third last : Memory) (i j entry place : ℕ) (name : Name) (kind : Kind) (can : CanName (current_words first) i j name) (vacant : empty_slot (current_words first) i ≡ None) (part : size_of (current_words first) i % 4096 ≢ 0)
+    (entry_at : ContentStandsAt (current_words first) i (32 * (size_of (current_words first) i / 256)) entry)
     (size_at : ContentStandsAt (current_words first) 0 (8 * i + 2) place)
-    (fills : AddsMay (AnyAt (IsWithin at 3)) 0 3 first second) (inode : HasInodeAt (current_words second) at (kind_word kind))
+    (filled : FillsInode first second j (kind_word kind))
     (entry_stores : AddsMay (AnyAt (IsWithin entry 32)) 0 32 second third) (inumber : word (current_words third) entry ≡ j) (named : HasNameAt (current_words third) entry name)
     (commits : Adds third last (commit place (size_of (current_words first) i + 256))) where
   abbrev image : Image
@@ -56,6 +58,12 @@ module _ (first second third last : Memory) (i j at entry place : ℕ) (name : N
 
   abbrev mid : Image
   mid = current_words third
+
+  abbrev at : ℕ
+  at = filled.place
+
+  inode_at : ContentStandsAt image 0 (8 * j + 0) at
+  inode_at = inode_row image j at filled.stands
 
   abbrev slot : ℕ
   slot = size_of image i / 256
@@ -91,7 +99,7 @@ module _ (first second third last : Memory) (i j at entry place : ℕ) (name : N
 
   all_inside : AddsMay (AnyAt Inside) 0 35 first third
   all_inside = may_twice (AnyAt Inside) 0 3 first 0 32 second third
-      (may_weaker (AnyAt (IsWithin at 3)) (AnyAt Inside) 0 3 first second (inode_inside image wf i j at name [] can inode_at) fills)
+      (may_weaker (AnyAt (IsWithin at 3)) (AnyAt Inside) 0 3 first second (inode_inside image wf i j at name [] can inode_at) filled.stores)
       (may_weaker (AnyAt (IsWithin entry 32)) (AnyAt Inside) 0 32 second third entry_inside entry_stores)
 
   trees_of : (other : Image) → EachMay (AnyAt Inside) image other → SameTrees image other
@@ -117,7 +125,7 @@ module _ (first second third last : Memory) (i j at entry place : ℕ) (name : N
       not_file same.0
 
   fresh : IsNewInode mid j (kind_word kind)
-  fresh = new_inode image mid wf trees j at kind can.free inode_at (inode_stays second third at entry 32 32 (kind_word kind) entry_stores apart inode)
+  fresh = new_inode image mid wf trees j at kind can.free inode_at (inode_stays second third at entry 32 32 (kind_word kind) entry_stores apart filled.inode)
 
   size_stays : size_of mid i ≡ size_of image i
   size_stays = size_after image mid wf trees.prepared i reached
@@ -152,11 +160,15 @@ module _ (first second third last : Memory) (i j at entry place : ℕ) (name : N
   enters : Enters mid (current_words last) i (size_of mid i / 256) j name (kind_word kind)
   enters = subst (λ w. Enters mid w i (size_of mid i / 256) j name (kind_word kind)) (sym committed) (grown mid mid_well_formed i j (kind_word kind) place name fresh ready can.lacks.form (missing ∙ can.lacks.missing) mid_size)
 
-  pub end_performs : Performs first last (gains i true) (GainsName i name kind)
-  end_performs = performs_stores first last (gains i true) (GainsName i name kind) (AnyAt Inside) 35 third place (size_of image i + 256) [] (λ other all. prepared_same image other wf (trees_of other all).prepared) all_inside commits
+  -- its entry is behind the last
+  behind : size_of mid i / 256 ≡ unwrap_or (empty_slot image i) (entry_count image i)
+  behind = ap (λ n. n / 256) (size_after image mid wf trees.prepared i reached) ∙ sym (ap (λ o. unwrap_or o (entry_count image i)) vacant)
+
+  pub end_performs : Performs first last (gains i true) (EntersName i name kind)
+  end_performs = performs_stores first last (gains i true) (EntersName i name kind) (AnyAt Inside) 35 third place (size_of image i + 256) [] (λ other all. prepared_same image other wf (trees_of other all).prepared) all_inside commits
       tt tt tt (λ p v both. both.1) (sym (subst (λ w. address w (cover image (gains i true)) ≡ place) (sym committed) (size_covered image mid i place (size_of mid i + 256) wf mid_well_formed trees reached can.lacks.directory vacant mid_size)))
       (omega arith) (sym (need_behind image i wf reached can.lacks.directory vacant (omega (arith, part)) part)) (content_open image [] 0 (8 * i + 2) place inode_file (omega (arith, in_file)) size_at)
-      (enters_well_formed mid (current_words last) mid_well_formed i (size_of mid i / 256) j (kind_word kind) name enters) (prepared_stands image mid (current_words last) wf trees.prepared i (size_of mid i / 256) j name kind enters)
+      (enters_well_formed mid (current_words last) mid_well_formed i (size_of mid i / 256) j (kind_word kind) name enters) (enters_over image mid (current_words last) wf trees.prepared i (size_of mid i / 256) j name kind can.free behind enters)
 
   pub end_few : room_in first ≤ room_in last + 63
   end_few =

@@ -1,7 +1,7 @@
 -- A new inode, an entry in a free block, to which the root word of a directory without bytes points, and then the size.
-use Rattle.std.proofs.Common.{◌≡◌, ◌≢◌, ℕ, ◌+◌, ◌-◌, ◌*◌, ◌/◌, ◌%◌, ◌<◌, ◌≤◌, [], ◌∷◌, ◌++◌, length, true, None, inl, set, sym, ◌∙◌, ap, subst, arith}
+use Rattle.std.proofs.Common.{◌≡◌, ◌≢◌, ℕ, ◌+◌, ◌-◌, ◌*◌, ◌/◌, ◌%◌, ◌<◌, ◌≤◌, [], ◌∷◌, ◌++◌, length, true, None, unwrap_or, inl, set, refl, sym, ◌∙◌, ap, subst, arith}
 use Rattle.bp_calls.specs.Entered.{IsNewInode, IsReadyBehind}
-use Rattle.bp_calls.specs.Created.{GainsName}
+use Rattle.bp_calls.specs.Created.{EntersName}
 use Rattle.bp_layout.specs.Need.{cover}
 use Rattle.bp_layout.specs.Need.Change.{enters as gains}
 use Rattle.bp_layout.specs.WordPaths.{address}
@@ -14,17 +14,19 @@ use Rattle.pm_region.proofs.MemoryLaws.{room_in-piece, adds_both}
 use Rattle.pm_epochs.proofs.PieceLaws.{IsPiece-commit, IsPiece-append, StoresTo-behind}
 use Rattle.bp_calls.proofs.NeedLaws.{need_first}
 use Rattle.bp_calls.proofs.OpenPlaces.{content_open, each_weaker, size_covered}
-use Rattle.bp_calls.proofs.StandsLaws.{enters_well_formed, prepared_stands}
+use Rattle.bp_calls.proofs.StandsLaws.{enters_well_formed, enters_over}
 use Rattle.bp_tree.specs.Performs.IsOpen.{in_taken}
 use Rattle.pm_epochs.specs.Log.{StoresTo}
 use Rattle.pm_epochs.proofs.MayLaws.{StoresMay-append, StoresMay-weaker}
 use Rattle.bp_calls.specs.Sets.{AreExact}
 use Rattle.bp_calls.specs.Spare.{IsSpare}
 use Rattle.bp_calls.specs.Steps.{CanName}
-use Rattle.bp_calls.specs.Written.{AddsFrom, HasInodeAt, HasNameAt, IsWithin}
+use Rattle.bp_dirs.specs.Written.{AddsFrom, HasNameAt}
+use Rattle.bp_inodes.specs.Filled.{FillsInode, HasInodeAt}
+use Rattle.bp_tree.specs.Within.{IsWithin}
 use Rattle.bp_free.specs.Set.{Set, without}
 use Rattle.bp_inodes.proofs.InodeWords.{root_word-of}
-use Rattle.bp_layout.specs.Directory.{Name, slot_named}
+use Rattle.bp_layout.specs.Directory.{Name, entry_count, slot_named}
 use Rattle.bp_layout.specs.Fields.{kind_word}
 use Rattle.bp_layout.specs.Inode.{ContentStandsAt, root_of, size_of, inode_count}
 use Rattle.bp_layout.specs.Reached.{IsReached, IsFreeBlock}
@@ -47,18 +49,18 @@ use Rattle.bp_calls.proofs.AfterLaws.{prepared_well_formed, prepared_same, kind_
 use Rattle.bp_calls.proofs.BehindLaws.{ready_behind, behind_first}
 use Rattle.bp_calls.proofs.EnteredLaws.{Enters}
 use Rattle.bp_calls.proofs.GrownLaws.{grown}
-use Rattle.bp_calls.proofs.InSlot.{inode_inside}
+use Rattle.bp_calls.proofs.InSlot.{inode_inside, inode_row}
 use Rattle.bp_calls.proofs.ReadBack.{name_read, inode_stays, new_inode}
+use Rattle.bp_calls.proofs.Rooms.{base_after}
 use Rattle.bp_calls.proofs.SetLaws.{exact_prepared, exact_grown_first}
 use Rattle.bp_calls.proofs.Spares.{no_inode_file, row_stands, one_content, not_in_free, spare_free, spare_root}
 use Rattle.bp_calls.proofs.Trees.{SameTrees, spare_trees, word_kept, stands_kept}
-use Rattle.bp_calls.proofs.Writes.{stored_here}
+use Rattle.bp_tree.proofs.OneStore.{stored_here, stored_elsewhere}
 
-module _ (first second third fourth last : Memory) (i j b at root_place place : ℕ) (name : Name) (kind : Kind) (can : CanName (current_words first) i j name) (vacant : empty_slot (current_words first) i ≡ None) (none : size_of (current_words first) i ≡ 0)
+module _ (first second third fourth last : Memory) (i j b root_place place : ℕ) (name : Name) (kind : Kind) (can : CanName (current_words first) i j name) (vacant : empty_slot (current_words first) i ≡ None) (none : size_of (current_words first) i ≡ 0)
     (free : IsFreeBlock (current_words first) b) (root_low : root_place < length first.base)
-    (inode_at : ContentStandsAt (current_words first) 0 (8 * j + 0) at) (root_at : ContentStandsAt (current_words first) 0 (8 * i + 1) root_place) (size_at : ContentStandsAt (current_words first) 0 (8 * i + 2) place)
-    (roots : Adds first second (Store root_place (4096 * b) ∷ []))
-    (fills : AddsMay (AnyAt (IsWithin at 3)) 0 3 second third) (inode : HasInodeAt (current_words third) at (kind_word kind))
+    (root_at : ContentStandsAt (current_words first) 0 (8 * i + 1) root_place) (size_at : ContentStandsAt (current_words first) 0 (8 * i + 2) place)
+    (filled : FillsInode first second j (kind_word kind)) (roots : Adds second third (Store root_place (4096 * b) ∷ []))
     (entry_stores : AddsFrom (512 * b) 32 32 third fourth) (inumber : word (current_words fourth) (512 * b) ≡ j) (named : HasNameAt (current_words fourth) (512 * b) name)
     (commits : Adds fourth last (commit place 256)) where
   abbrev image : Image
@@ -66,6 +68,12 @@ module _ (first second third fourth last : Memory) (i j b at root_place place : 
 
   abbrev mid : Image
   mid = current_words fourth
+
+  abbrev at : ℕ
+  at = filled.place
+
+  inode_at : ContentStandsAt image 0 (8 * j + 0) at
+  inode_at = inode_row image j at filled.stands
 
   wf : IsWellFormed image
   wf = can.lacks.well_formed
@@ -94,9 +102,9 @@ module _ (first second third fourth last : Memory) (i j b at root_place place : 
       (subst (IsSpare image) at_word (spare_free image wf b f free (omega arith)), in_taken (inl (omega arith)))
 
   early : AddsMay (AnyAt Inside) 0 4 first third
-  early = may_twice (AnyAt Inside) 0 1 first 0 3 second third
-      (may_one (AnyAt Inside) first second root_place (4096 * b) (spare_root image wf i root_place reached not_file none root_at, content_open image (b ∷ []) 0 (8 * i + 1) root_place inode_file (omega (arith, in_file)) root_at) roots)
-      (may_weaker (AnyAt (IsWithin at 3)) (AnyAt Inside) 0 3 second third (inode_inside image wf i j at name (b ∷ []) can inode_at) fills)
+  early = may_twice (AnyAt Inside) 0 3 first 0 1 second third
+      (may_weaker (AnyAt (IsWithin at 3)) (AnyAt Inside) 0 3 first second (inode_inside image wf i j at name (b ∷ []) can inode_at) filled.stores)
+      (may_one (AnyAt Inside) second third root_place (4096 * b) (spare_root image wf i root_place reached not_file none root_at, content_open image (b ∷ []) 0 (8 * i + 1) root_place inode_file (omega (arith, in_file)) root_at) roots)
 
   abbrev all_inside : AddsMay (AnyAt Inside) 0 36 first fourth
   all_inside = record {
@@ -144,17 +152,29 @@ module _ (first second third fourth last : Memory) (i j b at root_place place : 
       let inodes : i ≡ j = omega (arith, same.1) in
       can.free.free (subst (IsReached image) inodes reached)
 
+  -- so the new inode stays
+  rooted : HasInodeAt (current_words third) at (kind_word kind)
+  rooted = record {
+    kind_is = elsewhere 0 at (omega arith) (omega arith) ∙ filled.inode.kind_is;
+    root = elsewhere 1 (at + 1) (omega arith) refl ∙ filled.inode.root;
+    size = elsewhere 2 (at + 2) (omega arith) refl ∙ filled.inode.size;
+  }
+    where
+      elsewhere : (f p : ℕ) → f < 3 → p ≡ at + f → word (current_words third) p ≡ word (current_words second) p
+      elsewhere f p few is =
+          stored_elsewhere second third root_place (4096 * b) roots p
+          (λ e. root_apart (subst (IsWithin at 3) e (record { low = omega (arith, is); high = omega (arith, is, few) })))
+
   root_word : word mid root_place ≡ 4096 * b
   root_word =
       may_frame (AnyAt (IsWithin (512 * b) 32)) 0 32 third fourth entry_stores.part root_place (λ v inside. beside (8 * i + 1) root_place (omega (arith, in_file)) root_at inside)
-      ∙ may_frame (AnyAt (IsWithin at 3)) 0 3 second third fills root_place (λ v inside. root_apart inside)
-      ∙ stored_here first second root_place (4096 * b) roots root_low
+      ∙ stored_here second third root_place (4096 * b) roots (rw (base_after (AnyAt (IsWithin at 3)) 3 first second filled.stores) root_low)
 
   mid_root : root_of mid i ≡ 4096 * b
   mid_root = root_word-of mid i (omega (arith, not_file)) ∙ word_kept image mid trees 0 (8 * i + 1) root_place inode_file (omega (arith, in_file)) root_at ∙ root_word
 
   fresh : IsNewInode mid j (kind_word kind)
-  fresh = new_inode image mid wf trees j at kind can.free inode_at (inode_stays third fourth at (512 * b) 32 32 (kind_word kind) entry_stores.part apart inode)
+  fresh = new_inode image mid wf trees j at kind can.free inode_at (inode_stays third fourth at (512 * b) 32 32 (kind_word kind) entry_stores.part apart rooted)
 
   mid_none : size_of mid i ≡ 0
   mid_none = size_after image mid wf trees.prepared i reached ∙ none
@@ -199,11 +219,15 @@ module _ (first second third fourth last : Memory) (i j b at root_place place : 
   enters : Enters mid (current_words last) i (size_of mid i / 256) j name (kind_word kind)
   enters = subst (λ w. Enters mid w i (size_of mid i / 256) j name (kind_word kind)) (sym committed) (grown mid mid_well_formed i j (kind_word kind) place name fresh ready can.lacks.form (missing ∙ can.lacks.missing) mid_size)
 
-  pub first_performs : Performs first last (gains i true) (GainsName i name kind)
-  first_performs = performs_stores first last (gains i true) (GainsName i name kind) (AnyAt Inside) 36 fourth place 256 (b ∷ []) (λ other all. prepared_same image other wf (trees_of other all).prepared) all_inside commits
+  -- its entry is behind the last
+  behind : size_of mid i / 256 ≡ unwrap_or (empty_slot image i) (entry_count image i)
+  behind = ap (λ n. n / 256) (size_after image mid wf trees.prepared i reached) ∙ sym (ap (λ o. unwrap_or o (entry_count image i)) vacant)
+
+  pub first_performs : Performs first last (gains i true) (EntersName i name kind)
+  first_performs = performs_stores first last (gains i true) (EntersName i name kind) (AnyAt Inside) 36 fourth place 256 (b ∷ []) (λ other all. prepared_same image other wf (trees_of other all).prepared) all_inside commits
       (tt, tt) (free, tt) (stored, tt) (λ p v both. both.1) (sym (subst (λ w. address w (cover image (gains i true)) ≡ place) (sym committed) (size_covered image mid i place (size_of mid i + 256) wf mid_well_formed trees reached can.lacks.directory vacant mid_size)))
       (omega arith) (sym (need_first image i wf reached can.lacks.directory vacant none)) (content_open image (b ∷ []) 0 (8 * i + 2) place inode_file (omega (arith, in_file)) size_at)
-      (enters_well_formed mid (current_words last) mid_well_formed i (size_of mid i / 256) j (kind_word kind) name enters) (prepared_stands image mid (current_words last) wf trees.prepared i (size_of mid i / 256) j name kind enters)
+      (enters_well_formed mid (current_words last) mid_well_formed i (size_of mid i / 256) j (kind_word kind) name enters) (enters_over image mid (current_words last) wf trees.prepared i (size_of mid i / 256) j name kind can.free behind enters)
 
   pub first_few : room_in first ≤ room_in last + 63
   first_few =

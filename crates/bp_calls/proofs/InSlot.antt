@@ -1,7 +1,7 @@
 -- A new inode, a name in an empty entry, and then the inumber.
-use Rattle.std.proofs.Common.{◌≡◌, ◌≢◌, ℕ, ◌+◌, ◌-◌, ◌*◌, ◌/◌, ◌%◌, ◌<◌, ◌≤◌, List, [], suc, true, Some, ap₂, set, refl, sym, ◌∙◌, ap, subst, arith}
+use Rattle.std.proofs.Common.{◌≡◌, ◌≢◌, ℕ, ◌+◌, ◌-◌, ◌*◌, ◌/◌, ◌%◌, ◌<◌, ◌≤◌, List, [], suc, true, Some, unwrap_or, ap₂, set, refl, sym, ◌∙◌, ap, subst, arith}
 use Rattle.bp_calls.specs.Entered.{IsNewInode, IsReadyEntry}
-use Rattle.bp_calls.specs.Created.{GainsName}
+use Rattle.bp_calls.specs.Created.{EntersName}
 use Rattle.bp_layout.specs.Need.{cover}
 use Rattle.bp_layout.specs.Need.Change.{enters as gains}
 use Rattle.bp_layout.specs.WordPaths.{address, tree_path}
@@ -14,14 +14,16 @@ use Rattle.pm_region.proofs.MemoryLaws.{room_in-piece}
 use Rattle.pm_epochs.proofs.PieceLaws.{IsPiece-commit}
 use Rattle.bp_calls.proofs.NeedLaws.{cover_in_slot, need_in_slot}
 use Rattle.bp_calls.proofs.OpenPlaces.{content_open, each_weaker, stands_stored, root_word_stays, content_address}
-use Rattle.bp_calls.proofs.StandsLaws.{enters_well_formed, prepared_stands}
+use Rattle.bp_calls.proofs.StandsLaws.{enters_well_formed, enters_over}
 use Rattle.bp_changes.proofs.ContentStore.{root_stays}
 use Rattle.bp_layout.specs.Directory.{empty_slot}
 use Rattle.bp_layout.specs.Inode.{size_of, ContentStandsAt, root_of, inode_count}
 use Rattle.bp_calls.specs.Sets.{AreExact}
 use Rattle.bp_calls.specs.Spare.{IsSpare}
 use Rattle.bp_calls.specs.Steps.{CanName}
-use Rattle.bp_calls.specs.Written.{HasInodeAt, HasNameAt, IsWithin}
+use Rattle.bp_dirs.specs.Written.{HasNameAt}
+use Rattle.bp_inodes.specs.Filled.{FillsInode}
+use Rattle.bp_tree.specs.Within.{IsWithin}
 use Rattle.bp_free.specs.Set.{Set, without}
 use Rattle.bp_layout.specs.Directory.{Name, entry_count, inumber_at, slot_named}
 use Rattle.bp_layout.specs.Fields.{kind_word}
@@ -40,10 +42,15 @@ use Rattle.pm_region.proofs.MayLaws.{may_twice, may_weaker, each_after}
 use Rattle.pm_region.proofs.MemoryLaws.{current_words-adds}
 use Rattle.bp_calls.proofs.AfterLaws.{prepared_well_formed, prepared_same, kind_after, size_after, reached_after, slot_named_after}
 use Rattle.bp_calls.proofs.EnteredLaws.{Enters, entered}
+use Rattle.bp_calls.proofs.Refusals.{found_empty}
 use Rattle.bp_calls.proofs.ReadBack.{name_read, inode_stays, new_inode}
 use Rattle.bp_calls.proofs.SetLaws.{exact_prepared, exact_entered}
 use Rattle.bp_calls.proofs.Spares.{no_inode_file, row_stands, one_content, spare_inode, spare_entry}
 use Rattle.bp_calls.proofs.Trees.{SameTrees, spare_trees, word_kept, stands_kept}
+
+-- the row of an inode's words
+pub inode_row : (image : Image) (j at : ℕ) → ContentStandsAt image 0 (8 * j) at → ContentStandsAt image 0 (8 * j + 0) at
+inode_row image j at stands = let same : 8 * j ≡ 8 * j + 0 = omega arith in subst (λ k. ContentStandsAt image 0 k at) same stands
 
 -- stores to an inode that nobody reaches
 pub inode_spare : (image : Image) → IsWellFormed image → (i j at : ℕ) (name : Name) → CanName image i j name → ContentStandsAt image 0 (8 * j + 0) at → (p v : ℕ) → AnyAt (IsWithin at 3) p v → AnyAt (IsSpare image) p v
@@ -72,9 +79,8 @@ entry_stands image i s entry root same at present =
     let leaf : node image root (height_of root) ((32 * s + 0) / 512) ≡ node image (root_of image i) (height_of (root_of image i)) ((32 * s + 0) / 512) = ap (λ r. node image r (height_of r) ((32 * s + 0) / 512)) same in
     record { present = λ null. present (leaf ∙ null); at = ap (λ b. 512 * b + (32 * s + 0) % 512) (sym leaf) ∙ sym at }
 
-module _ (first second third last : Memory) (i s j at entry : ℕ) (name : Name) (kind : Kind) (can : CanName (current_words first) i j name) (in_size : s < entry_count (current_words first) i)
-    (empty : inumber_at (current_words first) i s ≡ 0) (found : empty_slot (current_words first) i ≡ Some s) (inode_at : ContentStandsAt (current_words first) 0 (8 * j + 0) at) (entry_at : ContentStandsAt (current_words first) i (32 * s + 0) entry)
-    (fills : AddsMay (AnyAt (IsWithin at 3)) 0 3 first second) (inode : HasInodeAt (current_words second) at (kind_word kind))
+module _ (first second third last : Memory) (i s j entry : ℕ) (name : Name) (kind : Kind) (can : CanName (current_words first) i j name)
+    (found : empty_slot (current_words first) i ≡ Some s) (entry_at : ContentStandsAt (current_words first) i (32 * s + 0) entry) (filled : FillsInode first second j (kind_word kind))
     (spells : AddsMay (AnyAt (IsWithin (entry + 1) 31)) 0 31 second third) (named : HasNameAt (current_words third) entry name)
     (commits : Adds third last (commit entry j)) where
   abbrev image : Image
@@ -82,6 +88,18 @@ module _ (first second third last : Memory) (i s j at entry : ℕ) (name : Name)
 
   abbrev mid : Image
   mid = current_words third
+
+  abbrev at : ℕ
+  at = filled.place
+
+  inode_at : ContentStandsAt image 0 (8 * j + 0) at
+  inode_at = inode_row image j at filled.stands
+
+  in_size : s < entry_count image i
+  in_size = (found_empty image i s found).0
+
+  empty : inumber_at image i s ≡ 0
+  empty = (found_empty image i s found).1
 
   wf : IsWellFormed image
   wf = can.lacks.well_formed
@@ -108,7 +126,7 @@ module _ (first second third last : Memory) (i s j at entry : ℕ) (name : Name)
 
   all_inside : AddsMay (AnyAt Inside) 0 34 first third
   all_inside = may_twice (AnyAt Inside) 0 3 first 0 31 second third
-      (may_weaker (AnyAt (IsWithin at 3)) (AnyAt Inside) 0 3 first second (inode_inside image wf i j at name [] can inode_at) fills)
+      (may_weaker (AnyAt (IsWithin at 3)) (AnyAt Inside) 0 3 first second (inode_inside image wf i j at name [] can inode_at) filled.stores)
       (may_weaker (AnyAt (IsWithin (entry + 1) 31)) (AnyAt Inside) 0 31 second third name_inside spells)
 
   trees_of : (other : Image) → EachMay (AnyAt Inside) image other → SameTrees image other
@@ -134,7 +152,7 @@ module _ (first second third last : Memory) (i s j at entry : ℕ) (name : Name)
       not_file same.0
 
   fresh : IsNewInode mid j (kind_word kind)
-  fresh = new_inode image mid wf trees j at kind can.free inode_at (inode_stays second third at (entry + 1) 31 31 (kind_word kind) spells apart inode)
+  fresh = new_inode image mid wf trees j at kind can.free inode_at (inode_stays second third at (entry + 1) 31 31 (kind_word kind) spells apart filled.inode)
 
   ready : IsReadyEntry mid i s name
   ready = record {
@@ -197,11 +215,11 @@ module _ (first second third last : Memory) (i s j at entry : ℕ) (name : Name)
       (stands_stored mid mid_well_formed i (32 * s + 0) entry j mid_reached mid_below mid_entry
       (root_stays mid mid_well_formed i (32 * s + 0) entry j mid_reached not_file mid_below mid_entry i mid_in_file))
 
-  pub slot_performs : Performs first last (gains i true) (GainsName i name kind)
-  slot_performs = performs_stores first last (gains i true) (GainsName i name kind) (AnyAt Inside) 34 third entry j [] (λ other all. prepared_same image other wf (trees_of other all).prepared) all_inside commits tt tt tt
+  pub slot_performs : Performs first last (gains i true) (EntersName i name kind)
+  slot_performs = performs_stores first last (gains i true) (EntersName i name kind) (AnyAt Inside) 34 third entry j [] (λ other all. prepared_same image other wf (trees_of other all).prepared) all_inside commits tt tt tt
       (λ p v both. both.1) (sym (subst (λ w. address w (cover image (gains i true)) ≡ entry) (sym committed) covered_after)) (omega arith) (sym (need_in_slot image i wf reached can.lacks.directory s found))
       (content_open image [] i (32 * s + 0) entry reached (omega (arith, in_size)) entry_at) (subst IsWellFormed (sym committed) after_well_formed)
-      (prepared_stands image mid (current_words last) wf trees.prepared i s j name kind enters)
+      (enters_over image mid (current_words last) wf trees.prepared i s j name kind can.free (sym (ap (λ o. unwrap_or o (entry_count image i)) found)) enters)
 
   pub slot_few : room_in first ≤ room_in last + 63
   slot_few =

@@ -9,7 +9,6 @@ pub mod NeedLaws
 pub mod FreeCounts
 pub mod Trees
 pub mod Spares
-pub mod Writes
 pub mod Rooms
 pub mod ReadBack
 pub mod InSlot

@@ -1,7 +1,9 @@
 -- What was written is read: a new inode, and a name in an entry; and what one more name makes of the image and its tree.
 use Rattle.std.proofs.Common.{◌≡◌, ℕ, ◌+◌, ◌*◌, ◌/◌, ◌%◌, ◌<◌, ◌≤◌, length, get_or, ◌∙◌, ap, arith}
 use Rattle.bp_calls.specs.Entered.{IsNewInode}
-use Rattle.bp_calls.specs.Written.{HasInodeAt, HasNameAt, IsWithin}
+use Rattle.bp_dirs.specs.Written.{HasNameAt}
+use Rattle.bp_inodes.specs.Filled.{HasInodeAt}
+use Rattle.bp_tree.specs.Within.{IsWithin}
 use Rattle.bp_inodes.proofs.InodeWords.{kind_word-of, size_word-of}
 use Rattle.bp_layout.specs.Directory.{Name, name_in}
 use Rattle.bp_layout.specs.Fields.{kind_word}
@@ -55,6 +57,7 @@ pub inode_stays : (old new : Memory) (at start count most kind : ℕ) → AddsMa
     HasInodeAt (current_words old) at kind → HasInodeAt (current_words new) at kind
 inode_stays old new at start count most kind stores apart has = record {
   kind_is = may_frame (AnyAt (IsWithin start count)) 0 most old new stores at (λ v inside. apart at (omega arith) (omega arith) inside) ∙ has.kind_is;
+  root = may_frame (AnyAt (IsWithin start count)) 0 most old new stores (at + 1) (λ v inside. apart (at + 1) (omega arith) (omega arith) inside) ∙ has.root;
   size = may_frame (AnyAt (IsWithin start count)) 0 most old new stores (at + 2) (λ v inside. apart (at + 2) (omega arith) (omega arith) inside) ∙ has.size;
 }
 

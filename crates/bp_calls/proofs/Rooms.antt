@@ -28,12 +28,6 @@ row_in_range memory wf t k place count reached below fits stands =
     (wf.sound t reached).in_range _ _ (live_leaf (root_of (current_words memory) t) (size_of (current_words memory) t) (k / 512) below) in
     omega (arith, low, stands.at, fits, wf.whole, length-current_words memory)
 
--- so do those of a free inode
-pub inode_in_range : (memory : Memory) → IsWellFormed (current_words memory) → (j place : ℕ) → IsFreeInode (current_words memory) j → ContentStandsAt (current_words memory) 0 (8 * j + 0) place → place + 3 ≤ length memory.base
-inode_in_range memory wf j place free stands =
-    let high : j < inode_count (current_words memory) = free.high in
-    row_in_range memory wf 0 (8 * j + 0) place 3 inode_file (omega (arith, high)) (omega arith) stands
-
 -- what a tree of the greatest height covers
 low_cover : (height : ℕ) → height ≤ 3 → covered (suc height) ≤ 549755813888
 low_cover zero low = omega arith

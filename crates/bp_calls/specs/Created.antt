@@ -1,14 +1,16 @@
--- What a call that creates a name does to a region before its mark, and why it is refused.
-use Rattle.std.specs.Prelude.{◌≡◌, ℕ, ◌%◌, ◌<◌, [], ◌∷◌, ◌++◌, true, false, None, Some}
+-- What a call that creates a name makes of an image, and why it is refused.
+use Rattle.std.specs.Prelude.{◌≡◌, ℕ, ◌%◌, ◌<◌, [], ◌∷◌, ◌++◌, true, false, None, Some, unwrap_or}
 use Rattle.std.specs.FinMap.{insert}
-use Rattle.bp_layout.specs.Directory.{Name, empty_slot}
-use Rattle.bp_layout.specs.Free.{HasFree, TellsFreeInode}
-use Rattle.bp_layout.specs.Inode.{size_of}
+use Rattle.bp_layout.specs.Directory.{Name, empty_slot, entry_count, name_at}
+use Rattle.bp_layout.specs.Free.{HasFree, IsFreeInode, TellsFreeInode}
+use Rattle.bp_layout.specs.Inode.{kind_of, size_of}
 use Rattle.bp_layout.specs.Lookup.{Path, Node, lookup}
 use Rattle.bp_layout.specs.Lookup.Node.{dir, file}
 use Rattle.bp_layout.specs.Need.{need}
 use Rattle.bp_layout.specs.Need.Change.{enters}
 use Rattle.bp_layout.specs.Words.{Image}
+use Rattle.bp_layout.specs.Fields.{kind_word}
+use Rattle.bp_changes.specs.Effects.{AddsNames}
 use Rattle.bp_layout.specs.declared.fields.Kind.{Kind}
 use Rattle.bp_layout.specs.declared.fields.Kind.TheVariants.{File, Dir}
 use Rattle.bp_plain.specs.PlainTree.{FileTree}
@@ -27,7 +29,18 @@ pub record NeedsLeaf (image : Image) (i : ℕ) : Type 0 where
   pub some : 0 < size_of image i
   pub full : size_of image i % 4096 ≡ 0
 
--- The directory gains the name: the second image stands for the tree with an empty file or directory there.
+-- The name comes into directory i: its least empty entry, or one behind the last where none is empty, names an inode of this kind, without bytes, that was free.
+-- All other entries keep their slots, their names and what they name.
+pub record EntersName (i : ℕ) (name : Name) (kind : Kind) (old new : Image) : Type 0 where
+  pub slot : ℕ
+  pub inode : ℕ
+  pub free : IsFreeInode old inode
+  pub slot_is : slot ≡ unwrap_or (empty_slot old i) (entry_count old i)
+  pub adds : AddsNames old new i slot inode
+  pub name_is : name_at new i slot ≡ name
+  pub kind_is : kind_of new inode ≡ kind_word kind
+
+-- The directory gains the name: wherever a path finds it, the second image stands for the tree with an empty file or directory there.
 abbrev pub GainsName : ℕ → Name → Kind → Image → Image → Type 0
 GainsName i name kind old new = (tree : FileTree) (here : Path) → Stands old tree → lookup old here ≡ Some i → Stands new (insert tree (here ++ name ∷ []) (empty_node kind))
 

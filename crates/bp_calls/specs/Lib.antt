@@ -2,6 +2,5 @@ pub mod Sets
 pub mod Entered
 pub mod Created
 pub mod Spare
-pub mod Written
 pub mod Steps
 pub mod Sample

@@ -1,7 +1,7 @@
 //! New names.
 
 ghost use Rattle.std.specs.Prelude.{◌≡◌, ◌≢◌, ◌%◌, ◌<◌, ◌≤◌, [], None, ◌+◌, true, IfErr, OnErr, OnOk};
-ghost use Rattle.bp_calls.specs.Created.{GainsName, IsRefused, NeedsLeaf};
+ghost use Rattle.bp_calls.specs.Created.{EntersName, IsRefused, NeedsLeaf};
 ghost use Rattle.bp_calls.specs.Sets.{AreExact};
 ghost use Rattle.bp_layout.specs.Free.{TellsFreeInode};
 ghost use Rattle.bp_layout.specs.Need.Change.{enters};
@@ -92,7 +92,7 @@ pub fn create<R: Region>(
     requires name { IsName name.now }
     requires new { slot_named (current_words (R.memory parts.old.region)) dir name.now ≡ None }
     requires room { 64 ≤ room_in (R.memory parts.old.region) }
-    ensures performs { OnOk result (Performs (R.memory parts.old.region) (R.memory parts.new.region) (enters dir true) (GainsName dir name.now kind)) }
+    ensures performs { OnOk result (Performs (R.memory parts.old.region) (R.memory parts.new.region) (enters dir true) (EntersName dir name.now kind)) }
     ensures few { OnOk result (room_in (R.memory parts.old.region) ≤ room_in (R.memory parts.new.region) + 63) }
     ensures inode { OnOk result (TellsFreeInode (current_words (R.memory parts.old.region)) true) }
     ensures leaf { OnOk result (¬ NeedsLeaf (current_words (R.memory parts.old.region)) dir) }

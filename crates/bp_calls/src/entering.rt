@@ -2,10 +2,10 @@
 
 ghost use Rattle.std.specs.Prelude.{None, Some, true, ◌≡◌, ◌≢◌, ◌+◌, ◌%◌, ◌*◌, ◌/◌, ◌<◌, ◌≤◌, length};
 ghost use Rattle.bp_calls.specs.Sets.{AreExact};
-ghost use Rattle.bp_calls.specs.Created.{GainsName};
+ghost use Rattle.bp_calls.specs.Created.{EntersName};
 ghost use Rattle.bp_calls.specs.Steps.{CanName};
 ghost use Rattle.bp_free.specs.Set.{Set, without};
-ghost use Rattle.bp_layout.specs.Directory.{empty_slot, entry_count, inumber_at};
+ghost use Rattle.bp_layout.specs.Directory.{empty_slot};
 ghost use Rattle.bp_layout.specs.Inode.{ContentStandsAt, kind_of, root_of, size_of};
 ghost use Rattle.bp_layout.specs.Reached.{IsFreeBlock, IsReached};
 ghost use Rattle.bp_layout.specs.WellFormed.{IsWellFormed};
@@ -13,9 +13,8 @@ ghost use Rattle.bp_layout.specs.Need.Change.{enters};
 ghost use Rattle.bp_tree.specs.Performs.{Performs};
 ghost use Rattle.pm_region.specs.Memory.{current_words, room_in};
 
-use crate::writing::{put_entry, put_inode, put_name};
-use bp_dirs::entry_place;
-use bp_inodes::place;
+use bp_dirs::{entry_place, put_entry, put_name};
+use bp_inodes::{fill, place};
 use bp_inplace::commit_word;
 use bp_layout::Kind;
 use bp_tree::{Tree, leaf_block};
@@ -46,18 +45,15 @@ pub(crate) fn enter_slot<R: Region>(
     kind: Kind,
 )
     requires can { CanName (current_words (R.memory region.old)) dir inode name.now }
-    requires slot { slot < entry_count (current_words (R.memory region.old)) dir }
-    requires empty { inumber_at (current_words (R.memory region.old)) dir slot ≡ 0 }
     requires found { empty_slot (current_words (R.memory region.old)) dir ≡ Some slot }
     requires room { 64 ≤ room_in (R.memory region.old) }
-    ensures performs { Performs (R.memory region.old) (R.memory region.new) (enters dir true) (GainsName dir name.now kind) }
+    ensures performs { Performs (R.memory region.old) (R.memory region.new) (enters dir true) (EntersName dir name.now kind) }
     ensures few { room_in (R.memory region.old) ≤ room_in (R.memory region.new) + 63 }
     ensures exact { (blocks inodes : Set) → AreExact (current_words (R.memory region.old)) blocks inodes → AreExact (current_words (R.memory region.new)) blocks (without inodes inode) }
 {
     let tree = tree_of(region, dir);
-    let at = place(region, inode, 0);
     let entry = entry_place(region, tree, slot, 0);
-    put_inode(region, at, kind);
+    fill(region, inode, kind);
     put_name(region, entry, name);
     commit_word(region, entry, u64::from(inode));
 }
@@ -82,15 +78,14 @@ pub(crate) fn enter_behind<R: Region>(region: &mut R, dir: u32, inode: u32, name
     requires none { empty_slot (current_words (R.memory region.old)) dir ≡ None }
     requires not_full { size_of (current_words (R.memory region.old)) dir % 4096 ≢ 0 }
     requires room { 64 ≤ room_in (R.memory region.old) }
-    ensures performs { Performs (R.memory region.old) (R.memory region.new) (enters dir true) (GainsName dir name.now kind) }
+    ensures performs { Performs (R.memory region.old) (R.memory region.new) (enters dir true) (EntersName dir name.now kind) }
     ensures few { room_in (R.memory region.old) ≤ room_in (R.memory region.new) + 63 }
     ensures exact { (blocks inodes : Set) → AreExact (current_words (R.memory region.old)) blocks inodes → AreExact (current_words (R.memory region.new)) blocks (without inodes inode) }
 {
     let size = tree_of(region, dir).size;
     let size_place = place(region, dir, 2);
-    let at = place(region, inode, 0);
     let entry = place_behind(region, dir);
-    put_inode(region, at, kind);
+    fill(region, inode, kind);
     put_entry(region, entry, inode, name);
     commit_word(region, size_place, size + 256);
 }
@@ -109,15 +104,14 @@ pub(crate) fn enter_first<R: Region>(
     requires empty { size_of (current_words (R.memory region.old)) dir ≡ 0 }
     requires block { IsFreeBlock (current_words (R.memory region.old)) block }
     requires room { 64 ≤ room_in (R.memory region.old) }
-    ensures performs { Performs (R.memory region.old) (R.memory region.new) (enters dir true) (GainsName dir name.now kind) }
+    ensures performs { Performs (R.memory region.old) (R.memory region.new) (enters dir true) (EntersName dir name.now kind) }
     ensures few { room_in (R.memory region.old) ≤ room_in (R.memory region.new) + 63 }
     ensures exact { (blocks inodes : Set) → AreExact (current_words (R.memory region.old)) blocks inodes → AreExact (current_words (R.memory region.new)) (without blocks block) (without inodes inode) }
 {
     let root_place = place(region, dir, 1);
     let size_place = place(region, dir, 2);
-    let at = place(region, inode, 0);
+    fill(region, inode, kind);
     region.store(root_place, 4096 * u64::from(block));
-    put_inode(region, at, kind);
     put_entry(region, 512 * block, inode, name);
     commit_word(region, size_place, 256);
 }

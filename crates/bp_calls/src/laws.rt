@@ -1,9 +1,10 @@
 //! Laws of the paths of words, and of what a new name needs. Each is the contract of a function that does nothing.
 
 ghost use Rattle.std.specs.Prelude.{◌≡◌, ◌≢◌, ℕ, ◌*◌, ◌%◌, ◌<◌, ◌≤◌, [], None, Some, true, length};
-ghost use Rattle.bp_calls.specs.Created.{NeedsLeaf};
+ghost use Rattle.bp_calls.specs.Created.{EntersName, GainsName, NeedsLeaf};
+ghost use Rattle.bp_layout.specs.declared.fields.Kind.{Kind};
 ghost use Rattle.bp_free.specs.Set.{has, members};
-ghost use Rattle.bp_layout.specs.Directory.{empty_slot};
+ghost use Rattle.bp_layout.specs.Directory.{Name, empty_slot};
 ghost use Rattle.bp_layout.specs.Free.{AreFreeBlocks, HasFree};
 ghost use Rattle.bp_layout.specs.Inode.{kind_of, root_of, size_of};
 ghost use Rattle.bp_layout.specs.Need.{Change, content_path, existing_from, height_after, is_there_after, need};
@@ -57,4 +58,10 @@ pub fn set_has_the_free(image: &[u64], blocks: &Blocks)
     requires room { length blocks.now ≡ block_count image.now }
     ensures count { HasFree image.now (length (members blocks.now)) }
     ensures none { members blocks.now ≡ [] → HasFree image.now 0 }
+{}
+
+/// A directory into which a name came gains it in the plain tree, at each path that finds the directory.
+pub fn entered_names_are_gained(old: &[u64], new: &[u64])
+    requires { IsWellFormed old.now }
+    ensures { (i : ℕ) (name : Name) (kind : Kind) → EntersName i name kind old.now new.now → GainsName i name kind old.now new.now }
 {}

@@ -7,7 +7,6 @@ mod fault;
 pub mod laws;
 #[cfg(test)]
 mod tests;
-mod writing;
 
 pub use creating::create;
 pub use fault::CreateFault;

@@ -1,2 +1,3 @@
 pub mod EntryAt
 pub mod Names
+pub mod Written

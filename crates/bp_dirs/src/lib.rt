@@ -7,5 +7,9 @@
 mod directory;
 mod entry_at;
 mod name_words;
+mod writing;
 
-pub use directory::{count, entry, entry_place, find, free_slot, inumber, is_empty};
+pub use directory::{
+    count, entry, entry_place, entry_unless_empty, find, free_slot, inumber, is_empty,
+};
+pub use writing::{put_entry, put_name};

@@ -1,2 +1,3 @@
 pub mod FewInodes
 pub mod InodeWords
+pub mod Filling

@@ -7,9 +7,15 @@ ghost use Rattle.std.specs.Prelude.{◌≡◌, ◌+◌, ◌*◌, ◌<◌, ◌≤
 ghost use Rattle.bp_layout.specs.Tree.{IsFull, IsSound};
 ghost use Rattle.bp_layout.specs.Inode.{ContentStandsAt, inode_count, kind_of, root_of, size_of};
 ghost use Rattle.bp_layout.specs.Fields.{kind_word};
-ghost use Rattle.pm_region.specs.Memory.{current_words};
+ghost use Rattle.bp_layout.specs.Free.{IsFreeInode};
+ghost use Rattle.bp_layout.specs.WellFormed.{IsWellFormed};
+ghost use Rattle.bp_inodes.specs.Filled.{FillsInode, HasInodeAt};
+ghost use Rattle.bp_tree.specs.Within.{IsWithin};
+ghost use Rattle.pm_epochs.specs.May.{AnyAt};
+ghost use Rattle.pm_region.specs.Memory.{current_words, room_in};
+ghost use Rattle.pm_region.specs.Safe.{AddsMay};
 
-use bp_layout::Inode;
+use bp_layout::{Inode, Kind};
 use bp_tree::{Tree, content_place, leaf_block, load_slot};
 use pm_region::Region;
 
@@ -57,4 +63,29 @@ pub fn place<R: Region>(region: &R, i: u32, field: u32) -> u32
     ensures in_range { result < length (current_words (R.memory region.now)) }
 {
     content_place(region, inode_file(region), 8 * i as u64 + field as u64)
+}
+
+/// Makes the inode at a word of the region a file or a directory without bytes.
+fn put<R: Region>(region: &mut R, place: u32, kind: Kind)
+    requires in_range { place + 3 ≤ length (R.memory region.old).base }
+    requires room { 3 ≤ room_in (R.memory region.old) }
+    ensures stores { AddsMay (AnyAt (IsWithin place 3)) 0 3 (R.memory region.old) (R.memory region.new) }
+    ensures inode { HasInodeAt (current_words (R.memory region.new)) place (kind_word kind) }
+{
+    // Words are counted in 32 bits, so that the last place fits.
+    let _words = region.words();
+    region.store(place, kind.word());
+    region.store(place + 1, 0);
+    region.store(place + 2, 0);
+}
+
+/// Makes an inode that nobody reaches a file or a directory without bytes, by stores to its words alone.
+pub fn fill<R: Region>(region: &mut R, i: u32, kind: Kind)
+    requires well_formed { IsWellFormed (current_words (R.memory region.old)) }
+    requires free { IsFreeInode (current_words (R.memory region.old)) i }
+    requires room { 3 ≤ room_in (R.memory region.old) }
+    ensures { FillsInode (R.memory region.old) (R.memory region.new) i (kind_word kind) }
+{
+    let at = place(region, i, 0);
+    put(region, at, kind);
 }

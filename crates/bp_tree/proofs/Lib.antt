@@ -11,3 +11,4 @@ pub mod RegionWords
 pub mod SetSizes
 pub mod StepDown
 pub mod StoredBytes
+pub mod OneStore

@@ -2,67 +2,67 @@ use Rattle.std.proofs.Common.{◌+◌, ◌*◌, arith}
 use Rattle.pm_epochs.specs.May.{AnyAt}
 use Rattle.pm_region.specs.Memory.{current_words}
 use Rattle.bp_layout.specs.Reached.IsReached.{inode_file}
-use Rattle.bp_calls.specs.Written.{IsWithin}
+use Rattle.bp_tree.specs.Within.{IsWithin}
 use Rattle.bp_calls.proofs.InSlot.{slot_performs, slot_few, slot_exact, entry_stands}
-use Rattle.bp_calls.proofs.Rooms.{base_after, room_after, row_in_range, inode_in_range}
+use Rattle.bp_calls.proofs.Refusals.{found_empty}
+use Rattle.bp_calls.proofs.Rooms.{base_after, room_after, row_in_range}
 use Rattle.bp_calls.proofs.entering.enter_slot.Goals as goal
 
-pub place-at-requires-clause-sound : goal.place-at-requires-clause-sound
-place-at-requires-clause-sound g c = c.requires.can.lacks.well_formed.sound 0 inode_file
-
-pub put_inode-requires-clause-in_range : goal.put_inode-requires-clause-in_range
-put_inode-requires-clause-in_range g c = inode_in_range (g.R.Region.memory c.args.region.now) c.requires.can.lacks.well_formed c.args.inode c.place-at.result c.requires.can.free c.place-at.ensures.place
+pub entry_place-entry-requires-clause-live : goal.entry_place-entry-requires-clause-live
+entry_place-entry-requires-clause-live g c =
+    let live = (found_empty (current_words (g.R.Region.memory c.args.region.now)) c.args.dir c.args.slot c.requires.found).0 in
+    rw c.tree_of-tree.ensures.size live
 
 pub put_name-requires-clause-in_range : goal.put_name-requires-clause-in_range
 put_name-requires-clause-in_range g c =
     let memory = g.R.Region.memory in
-    let first = row_in_range (memory c.args.region.now) c.requires.can.lacks.well_formed c.args.dir (32 * c.args.slot + 0) c.entry_place-entry.result 32 c.requires.can.lacks.reached (omega (arith, c.requires.slot)) (omega arith)
+    let first = row_in_range (memory c.args.region.now) c.requires.can.lacks.well_formed c.args.dir (32 * c.args.slot + 0) c.entry_place-entry.result 32 c.requires.can.lacks.reached (omega (arith, (found_empty (current_words (memory c.args.region.now)) c.args.dir c.args.slot c.requires.found).0)) (omega arith)
     (entry_stands (current_words (memory c.args.region.now)) c.args.dir c.args.slot c.entry_place-entry.result c.tree_of-tree.result.root c.tree_of-tree.ensures.root c.entry_place-entry.ensures.place c.entry_place-entry.ensures.present) in
-    let same = base_after (AnyAt (IsWithin c.place-at.result 3)) 3 (memory c.args.region.now) (memory c.put_inode.new.region) c.put_inode.ensures.stores in
+    let same = base_after (AnyAt (IsWithin c.fill.ensures.place 3)) 3 (memory c.args.region.now) (memory c.fill.new.region) c.fill.ensures.stores in
     omega (arith, first, same)
 
 pub put_name-requires-clause-room : goal.put_name-requires-clause-room
 put_name-requires-clause-room g c =
     let memory = g.R.Region.memory in
-    let left = room_after (AnyAt (IsWithin c.place-at.result 3)) 3 (memory c.args.region.now) (memory c.put_inode.new.region) c.put_inode.ensures.stores in
+    let left = room_after (AnyAt (IsWithin c.fill.ensures.place 3)) 3 (memory c.args.region.now) (memory c.fill.new.region) c.fill.ensures.stores in
     omega (arith, c.requires.room, left)
 
 pub commit_word-requires-clause-in_range : goal.commit_word-requires-clause-in_range
 commit_word-requires-clause-in_range g c =
     let memory = g.R.Region.memory in
-    let first = row_in_range (memory c.args.region.now) c.requires.can.lacks.well_formed c.args.dir (32 * c.args.slot + 0) c.entry_place-entry.result 32 c.requires.can.lacks.reached (omega (arith, c.requires.slot)) (omega arith)
+    let first = row_in_range (memory c.args.region.now) c.requires.can.lacks.well_formed c.args.dir (32 * c.args.slot + 0) c.entry_place-entry.result 32 c.requires.can.lacks.reached (omega (arith, (found_empty (current_words (memory c.args.region.now)) c.args.dir c.args.slot c.requires.found).0)) (omega arith)
     (entry_stands (current_words (memory c.args.region.now)) c.args.dir c.args.slot c.entry_place-entry.result c.tree_of-tree.result.root c.tree_of-tree.ensures.root c.entry_place-entry.ensures.place c.entry_place-entry.ensures.present) in
-    let same = base_after (AnyAt (IsWithin c.place-at.result 3)) 3 (memory c.args.region.now) (memory c.put_inode.new.region) c.put_inode.ensures.stores in
-    let also = base_after _ 31 (memory c.put_inode.new.region) (memory c.put_name.new.region) c.put_name.ensures.stores in
+    let same = base_after (AnyAt (IsWithin c.fill.ensures.place 3)) 3 (memory c.args.region.now) (memory c.fill.new.region) c.fill.ensures.stores in
+    let also = base_after _ 31 (memory c.fill.new.region) (memory c.put_name.new.region) c.put_name.ensures.stores in
     omega (arith, first, same, also)
 
 pub commit_word-requires-clause-room : goal.commit_word-requires-clause-room
 commit_word-requires-clause-room g c =
     let memory = g.R.Region.memory in
-    let left = room_after (AnyAt (IsWithin c.place-at.result 3)) 3 (memory c.args.region.now) (memory c.put_inode.new.region) c.put_inode.ensures.stores in
-    let less = room_after _ 31 (memory c.put_inode.new.region) (memory c.put_name.new.region) c.put_name.ensures.stores in
+    let left = room_after (AnyAt (IsWithin c.fill.ensures.place 3)) 3 (memory c.args.region.now) (memory c.fill.new.region) c.fill.ensures.stores in
+    let less = room_after _ 31 (memory c.fill.new.region) (memory c.put_name.new.region) c.put_name.ensures.stores in
     omega (arith, c.requires.room, left, less)
 
 pub returns-clause-performs : goal.returns-clause-performs
 returns-clause-performs g c =
     let memory = g.R.Region.memory in
-    slot_performs (memory c.args.region.now) (memory c.put_inode.new.region) (memory c.put_name.new.region) (memory c.commit_word.new.region) c.args.dir c.args.slot c.args.inode c.place-at.result c.entry_place-entry.result c.args.name.now c.args.kind
-    c.requires.can c.requires.slot c.requires.empty c.requires.found c.place-at.ensures.place
+    slot_performs (memory c.args.region.now) (memory c.fill.new.region) (memory c.put_name.new.region) (memory c.commit_word.new.region) c.args.dir c.args.slot c.args.inode c.entry_place-entry.result c.args.name.now c.args.kind
+    c.requires.can c.requires.found
     (entry_stands (current_words (memory c.args.region.now)) c.args.dir c.args.slot c.entry_place-entry.result c.tree_of-tree.result.root c.tree_of-tree.ensures.root c.entry_place-entry.ensures.place c.entry_place-entry.ensures.present)
-    c.put_inode.ensures.stores c.put_inode.ensures.inode c.put_name.ensures.stores c.put_name.ensures.name (rw c.from.ensures at c.commit_word.ensures)
+    c.fill.ensures c.put_name.ensures.stores c.put_name.ensures.name (rw c.from.ensures at c.commit_word.ensures)
 
 pub returns-clause-few : goal.returns-clause-few
 returns-clause-few g c =
     let memory = g.R.Region.memory in
-    slot_few (memory c.args.region.now) (memory c.put_inode.new.region) (memory c.put_name.new.region) (memory c.commit_word.new.region) c.args.dir c.args.slot c.args.inode c.place-at.result c.entry_place-entry.result c.args.name.now c.args.kind
-    c.requires.can c.requires.slot c.requires.empty c.requires.found c.place-at.ensures.place
+    slot_few (memory c.args.region.now) (memory c.fill.new.region) (memory c.put_name.new.region) (memory c.commit_word.new.region) c.args.dir c.args.slot c.args.inode c.entry_place-entry.result c.args.name.now c.args.kind
+    c.requires.can c.requires.found
     (entry_stands (current_words (memory c.args.region.now)) c.args.dir c.args.slot c.entry_place-entry.result c.tree_of-tree.result.root c.tree_of-tree.ensures.root c.entry_place-entry.ensures.place c.entry_place-entry.ensures.present)
-    c.put_inode.ensures.stores c.put_inode.ensures.inode c.put_name.ensures.stores c.put_name.ensures.name (rw c.from.ensures at c.commit_word.ensures)
+    c.fill.ensures c.put_name.ensures.stores c.put_name.ensures.name (rw c.from.ensures at c.commit_word.ensures)
 
 pub returns-clause-exact : goal.returns-clause-exact
 returns-clause-exact g c =
     let memory = g.R.Region.memory in
-    slot_exact (memory c.args.region.now) (memory c.put_inode.new.region) (memory c.put_name.new.region) (memory c.commit_word.new.region) c.args.dir c.args.slot c.args.inode c.place-at.result c.entry_place-entry.result c.args.name.now c.args.kind
-    c.requires.can c.requires.slot c.requires.empty c.requires.found c.place-at.ensures.place
+    slot_exact (memory c.args.region.now) (memory c.fill.new.region) (memory c.put_name.new.region) (memory c.commit_word.new.region) c.args.dir c.args.slot c.args.inode c.entry_place-entry.result c.args.name.now c.args.kind
+    c.requires.can c.requires.found
     (entry_stands (current_words (memory c.args.region.now)) c.args.dir c.args.slot c.entry_place-entry.result c.tree_of-tree.result.root c.tree_of-tree.ensures.root c.entry_place-entry.ensures.place c.entry_place-entry.ensures.present)
-    c.put_inode.ensures.stores c.put_inode.ensures.inode c.put_name.ensures.stores c.put_name.ensures.name (rw c.from.ensures at c.commit_word.ensures)
+    c.fill.ensures c.put_name.ensures.stores c.put_name.ensures.name (rw c.from.ensures at c.commit_word.ensures)

@@ -1,6 +1,6 @@
 use Rattle.std.proofs.Common.{arith}
-use Rattle.bp_calls.proofs.Writes.{name_begun, name_more, room_so_far}
-use Rattle.bp_calls.proofs.writing.put_name.Goals as goal
+use Rattle.bp_dirs.proofs.NameStores.{name_begun, name_more, room_so_far}
+use Rattle.bp_dirs.proofs.writing.put_name.Goals as goal
 
 pub loop-i-init : goal.loop-i-init
 loop-i-init g c = name_begun _ _ c.args.place c.args.name.now c.requires.in_range c.store.ensures

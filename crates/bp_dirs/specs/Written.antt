@@ -1,26 +1,17 @@
--- What is written before a name is shown: an inode, and an entry.
-use Rattle.std.specs.Prelude.{◌≡◌, ℕ, ◌+◌, ◌/◌, ◌%◌, ◌<◌, ◌≤◌, length, slice_index}
+-- What is stored of an entry.
+use Rattle.std.specs.Prelude.{◌≡◌, ℕ, ◌+◌, ◌/◌, ◌%◌, ◌<◌, length, slice_index}
 use Rattle.bp_layout.specs.Directory.{Name}
 use Rattle.bp_layout.specs.Words.{Image, word, byte_of}
+use Rattle.bp_tree.specs.Within.{IsWithin}
 use Rattle.pm_epochs.specs.Log.{IsStoredIn}
 use Rattle.pm_epochs.specs.May.{AnyAt}
 use Rattle.pm_region.specs.Memory.{Memory}
 use Rattle.pm_region.specs.Safe.{AddsMay}
 
--- one of so many places from the first on
-pub record IsWithin (first count place : ℕ) : Type 0 where
-  pub low : first ≤ place
-  pub high : place < first + count
-
--- stores to such places, one of them to the first
+-- stores to places in a row, one of them to the first
 pub record AddsFrom (first count most : ℕ) (old new : Memory) : Type 0 where
   pub part : AddsMay (AnyAt (IsWithin first count)) 0 most old new
   pub starts : IsStoredIn part.added first
-
--- an inode of this kind, without bytes, stands at this place
-pub record HasInodeAt (image : Image) (place kind : ℕ) : Type 0 where
-  pub kind_is : word image place ≡ kind
-  pub size : word image (place + 2) ≡ 0
 
 -- the length and the bytes of a name stand in the entry at this place
 pub record HasNameAt (image : Image) (place : ℕ) (name : Name) : Type 0 where

@@ -1,33 +1,19 @@
-//! Stores of a new inode, and of an entry that names it.
+//! Stores of an entry.
 
 ghost use Rattle.std.specs.Prelude.{◌≡◌, ◌+◌, ◌≤◌, length};
-ghost use Rattle.bp_calls.specs.Written.{AddsFrom, HasInodeAt, HasNameAt, IsWithin};
-ghost use Rattle.bp_layout.specs.Fields.{kind_word};
-ghost use Rattle.bp_limits.specs.Limits.{max_name};
+ghost use Rattle.bp_dirs.specs.Written.{AddsFrom, HasNameAt};
 ghost use Rattle.bp_layout.specs.Words.{word};
+ghost use Rattle.bp_limits.specs.Limits.{max_name};
+ghost use Rattle.bp_tree.specs.Within.{IsWithin};
 ghost use Rattle.pm_epochs.specs.May.{AnyAt};
 ghost use Rattle.pm_region.specs.Memory.{current_words, room_in};
 ghost use Rattle.pm_region.specs.Safe.{AddsMay};
 
-use bp_layout::{Kind, name_word};
+use bp_layout::name_word;
 use pm_region::Region;
 
-/// Makes the inode at a place a file or a directory without bytes.
-pub(crate) fn put_inode<R: Region>(region: &mut R, place: u32, kind: Kind)
-    requires in_range { place + 3 ≤ length (R.memory region.old).base }
-    requires room { 3 ≤ room_in (R.memory region.old) }
-    ensures stores { AddsMay (AnyAt (IsWithin place 3)) 0 3 (R.memory region.old) (R.memory region.new) }
-    ensures inode { HasInodeAt (current_words (R.memory region.new)) place (kind_word kind) }
-{
-    // Words are counted in 32 bits, so that the last place fits.
-    let _words = region.words();
-    region.store(place, kind.word());
-    region.store(place + 1, 0);
-    region.store(place + 2, 0);
-}
-
-/// Writes a name into the entry at a place: its length, and its bytes.
-pub(crate) fn put_name<R: Region>(region: &mut R, place: u32, name: &[u8])
+/// Writes a name into the entry at a word of the region: its length in bytes, and its bytes.
+pub fn put_name<R: Region>(region: &mut R, place: u32, name: &[u8])
     requires in_range { place + 32 ≤ length (R.memory region.old).base }
     requires short { length name.now ≤ max_name }
     requires room { 31 ≤ room_in (R.memory region.old) }
@@ -41,8 +27,8 @@ pub(crate) fn put_name<R: Region>(region: &mut R, place: u32, name: &[u8])
     }
 }
 
-/// Writes an inumber and a name into the entry at a place.
-pub(crate) fn put_entry<R: Region>(region: &mut R, place: u32, inode: u32, name: &[u8])
+/// Writes an inumber and a name into the entry at a word of the region.
+pub fn put_entry<R: Region>(region: &mut R, place: u32, inode: u32, name: &[u8])
     requires in_range { place + 32 ≤ length (R.memory region.old).base }
     requires short { length name.now ≤ max_name }
     requires room { 32 ≤ room_in (R.memory region.old) }

@@ -1,5 +1,5 @@
--- Stores of an inode and of a name, one after another.
-use Rattle.std.proofs.Common.{◌≡◌, ◌≢◌, ◌⊎◌, ℕ, ◌+◌, ◌*◌, ◌/◌, ◌%◌, ◌<◌, ◌≤◌, List, [], ◌∷◌, length, get_or, ◌∙◌, ap, arith, inl, inr, refl, get_or-set_same, get_or-set_other}
+-- The stores of a name, one after another, and of an entry.
+use Rattle.std.proofs.Common.{◌≡◌, ◌⊎◌, ℕ, ◌+◌, ◌*◌, ◌/◌, ◌%◌, ◌<◌, ◌≤◌, List, [], ◌∷◌, length, get_or, ◌∙◌, ap, arith, inl, inr, refl}
 use Rattle.std.proofs.lemmas.Bool.{cases_eq}
 use Rattle.pm_epochs.specs.declared.event.Event.TheVariants.{Store}
 use Rattle.pm_epochs.specs.May.{AnyAt}
@@ -7,47 +7,12 @@ use Rattle.pm_region.specs.Memory.{Memory, current_words, room_in, Adds}
 use Rattle.pm_region.specs.Safe.{AddsMay}
 use Rattle.pm_epochs.proofs.MayLaws.{StoresMay-weaker}
 use Rattle.pm_epochs.proofs.PieceLaws.{IsPiece-append, IsPiece-store}
-use Rattle.pm_region.proofs.MemoryLaws.{adds_both, base-adds, current_words-adds, room_in-adds, length-current_words}
+use Rattle.pm_region.proofs.MemoryLaws.{adds_both, base-adds}
 use Rattle.pm_region.proofs.MayLaws.{may_one, may_store, may_more, may_frame, room_after_may}
 use Rattle.bp_layout.specs.Words.{word, byte_of}
-use Rattle.bp_calls.specs.Written.{AddsFrom, HasInodeAt, HasNameAt, IsWithin}
-
--- a memory after one store
-module _ (old new : Memory) (place value : ℕ) (adds : Adds old new (Store place value ∷ [])) where
-  pub stored_here : place < length old.base → word (current_words new) place ≡ value
-  stored_here low =
-      let inside : place < length (current_words old) = omega (arith, low, length-current_words old) in
-      rw (current_words-adds old new _ adds) (get_or-set_same (current_words old) place value 0 inside)
-
-  pub stored_elsewhere : (other : ℕ) → other ≢ place → word (current_words new) other ≡ word (current_words old) other
-  stored_elsewhere other apart = rw (current_words-adds old new _ adds) (get_or-set_other (current_words old) place other value 0 apart)
-
-  pub base_stays : length new.base ≡ length old.base
-  base_stays = ap length (base-adds old new _ adds)
-
-  pub room_less : room_in old ≤ room_in new + 1
-  room_less = let left = room_in-adds old new _ adds in omega (arith, left)
-
-module _ (first second third last : Memory) (place kind : ℕ) (in_range : place + 3 ≤ length first.base)
-    (one : Adds first second (Store place kind ∷ [])) (two : Adds second third (Store (place + 1) 0 ∷ [])) (three : Adds third last (Store (place + 2) 0 ∷ [])) where
-  pub filled_stores : AddsMay (AnyAt (IsWithin place 3)) 0 3 first last
-  filled_stores =
-      may_store (AnyAt (IsWithin place 3)) 0 2 first third last (place + 2) 0
-      (may_store (AnyAt (IsWithin place 3)) 0 1 first second third (place + 1) 0
-      (may_one (AnyAt (IsWithin place 3)) first second place kind (record { low = omega arith; high = omega arith }) one)
-      (record { low = omega arith; high = omega arith }) two)
-      (record { low = omega arith; high = omega arith }) three
-
-  pub filled_inode : HasInodeAt (current_words last) place kind
-  filled_inode =
-      let second_base = base_stays first second place kind one in
-      let third_base = base_stays second third (place + 1) 0 two in
-      record {
-        kind_is = stored_elsewhere third last (place + 2) 0 three place (λ e. omega (arith, e))
-            ∙ stored_elsewhere second third (place + 1) 0 two place (λ e. omega (arith, e))
-            ∙ stored_here first second place kind one (omega (arith, in_range));
-        size = stored_here third last (place + 2) 0 three (omega (arith, in_range, second_base, third_base));
-      }
+use Rattle.bp_tree.specs.Within.{IsWithin}
+use Rattle.bp_tree.proofs.OneStore.{stored_here, stored_elsewhere}
+use Rattle.bp_dirs.specs.Written.{AddsFrom, HasNameAt}
 
 -- the length of a name and its first words
 pub record NameSoFar (old new : Memory) (place words : ℕ) (name : List ℕ) : Type 0 where

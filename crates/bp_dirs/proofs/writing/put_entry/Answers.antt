@@ -1,6 +1,6 @@
 use Rattle.std.proofs.Common.{arith}
-use Rattle.bp_calls.proofs.Writes.{entry_stores, entry_inumber}
-use Rattle.bp_calls.proofs.writing.put_entry.Goals as goal
+use Rattle.bp_dirs.proofs.NameStores.{entry_stores, entry_inumber}
+use Rattle.bp_dirs.proofs.writing.put_entry.Goals as goal
 
 pub returns-clause-stores : goal.returns-clause-stores
 returns-clause-stores g c =

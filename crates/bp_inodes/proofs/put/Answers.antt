@@ -1,5 +1,5 @@
-use Rattle.bp_calls.proofs.Writes.{filled_stores, filled_inode}
-use Rattle.bp_calls.proofs.writing.put_inode.Goals as goal
+use Rattle.bp_inodes.proofs.Filling.{filled_stores, filled_inode}
+use Rattle.bp_inodes.proofs.put.Goals as goal
 
 pub returns : goal.returns
 returns g c =

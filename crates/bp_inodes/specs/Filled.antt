@@ -1,0 +1,21 @@
+-- What is stored where an inode is new.
+use Rattle.std.specs.Prelude.{◌≡◌, ℕ, ◌+◌, ◌*◌}
+use Rattle.bp_layout.specs.Inode.{ContentStandsAt}
+use Rattle.bp_layout.specs.Words.{Image, word}
+use Rattle.bp_tree.specs.Within.{IsWithin}
+use Rattle.pm_epochs.specs.May.{AnyAt}
+use Rattle.pm_region.specs.Memory.{Memory, current_words}
+use Rattle.pm_region.specs.Safe.{AddsMay}
+
+-- an inode of this kind, without a block and without bytes, stands at this place
+pub record HasInodeAt (image : Image) (place kind : ℕ) : Type 0 where
+  pub kind_is : word image place ≡ kind
+  pub root : word image (place + 1) ≡ 0
+  pub size : word image (place + 2) ≡ 0
+
+-- Stores to the kind, the root word and the size of inode i alone, three at most, after which it is of this kind and has no bytes.
+pub record FillsInode (old new : Memory) (i kind : ℕ) : Type 0 where
+  pub place : ℕ
+  pub stands : ContentStandsAt (current_words old) 0 (8 * i) place
+  pub stores : AddsMay (AnyAt (IsWithin place 3)) 0 3 old new
+  pub inode : HasInodeAt (current_words new) place kind

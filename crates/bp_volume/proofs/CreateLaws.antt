@@ -22,12 +22,12 @@ use Rattle.bp_plain.specs.Plain.{plain, is_changing, refusal, walk_parent, answe
 use Rattle.bp_calls.specs.Created.{IsRefused, NeedsLeaf}
 use Rattle.bp_calls.specs.Created.IsRefused.{no_inode as no_free_inode, no_leaf, no_block}
 use Rattle.bp_calls.specs.declared.fault.CreateFault.TheVariants.{Later, NoSpace}
-use Rattle.bp_volume.specs.Step.{Steps, IsLater, IsChange, NewIn, Fits, last_of}
+use Rattle.bp_volume.specs.Step.{Steps, IsLater, IsChange, NamesNew, Fits, last_of}
 use Rattle.bp_volume.specs.Step.Steps.{changed}
 use Rattle.bp_volume.specs.Step.IsLater.{no_inode, full_leaf}
 use Rattle.bp_volume.specs.Step.IsChange.{by_create}
 use Rattle.bp_volume.specs.FileCall.{has_changed}
-use Rattle.bp_volume.specs.Told.{Tells, NamesNew, refusal_of_new}
+use Rattle.bp_volume.specs.Told.{Tells, refusal_of_new}
 use Rattle.bp_volume.proofs.StepLaws.{later_steps, no_space_steps}
 use Rattle.bp_volume.proofs.WalkLaws.{dir_at, get-next, walk-found}
 
@@ -84,9 +84,6 @@ module _ (image : Image) (path : Path) (below : path ≢ []) (i : ℕ) (parent :
     create_goes missing = refusals-name ∙ ap (λ o. first (when (is_some o) exists ∷ [])) (get-name ∙ ap (λ o. option_map (node_of image) (option_map (inumber_at image i) o)) missing)
 
 module _ (image : Image) (text : List ℕ) (i : ℕ) (name : Name) (names : NamesNew image text i name) where
-  pub new_here : NewIn image text i name
-  new_here = record { path = names.path; parsed = names.parsed; parent = names.new.parent; last = names.new.last; missing = names.new.missing }
-
   not_refused : (tree : FileTree) → Stands image tree → refusal tree (create text) ≡ None
   not_refused tree stands =
       refusal-create tree text names.path names.parsed
@@ -96,11 +93,11 @@ module _ (image : Image) (text : List ℕ) (i : ℕ) (name : Name) (names : Name
   create_changes tree stands = ap (λ o. is_none o && true) (not_refused tree stands)
 
   -- the text spells no other path, so its parent is no other directory
-  same_directory : (k : ℕ) (other : Name) → NewIn image text k other → k ≡ i
+  same_directory : (k : ℕ) (other : Name) → NamesNew image text k other → k ≡ i
   same_directory k other new =
       let same : Some new.path ≡ Some names.path = sym new.parsed ∙ names.parsed in
       let paths : new.path ≡ names.path = cc in
-      let found : Some k ≡ Some i = sym new.parent ∙ ap (λ p. lookup image (parent_of p)) paths ∙ names.new.parent in
+      let found : Some k ≡ Some i = sym new.new.parent ∙ ap (λ p. lookup image (parent_of p)) paths ∙ names.new.parent in
       cc
 
   -- where no inode is free, or the directory needs a leaf, this version can't do it
@@ -108,8 +105,8 @@ module _ (image : Image) (text : List ℕ) (i : ℕ) (name : Name) (names : Name
   create_later why tree stands = later_steps image tree (create text) (create_changes tree stands) (go why)
     where
       go : IsRefused image i Later → IsLater image (create text)
-      go (no_free_inode none) = no_inode new_here none
-      go (no_leaf full) = full_leaf new_here full.none full.some full.full
+      go (no_free_inode none) = no_inode names none
+      go (no_leaf full) = full_leaf names full.none full.some full.full
 
   module _ (tells : TellsFreeInode image true) (leaf : ¬ NeedsLeaf image i) where
     not_later : IsLater image (create text) → ⊥
@@ -127,7 +124,7 @@ module _ (image : Image) (text : List ℕ) (i : ℕ) (name : Name) (names : Name
     pub create_no_space : (needed free : ℕ) → need image (enters i true) ≡ needed → HasFree image free → free < needed → Tells image (create text) (refused (no_space needed free))
     create_no_space needed free needs has short tree stands =
         no_space_steps image tree (create text) needed free (create_changes tree stands) not_later
-        (record { change = enters i true; is = by_create new_here tells; needs = needs; has = has }) short
+        (record { change = enters i true; is = by_create names tells; needs = needs; has = has }) short
 
     module _ (room : (free : ℕ) → HasFree image free → need image (enters i true) ≤ free) where
       fits : Fits image (create text)

@@ -14,8 +14,8 @@ use Rattle.bp_plain.specs.Calls.{Refusal}
 use Rattle.bp_plain.specs.Calls.Refusal.{exists}
 use Rattle.bp_plain.specs.Plain.{on_parsed, walk, parent_of}
 use Rattle.bp_path.specs.Walk.{Walked, walk_from, in_directory}
-use Rattle.bp_volume.specs.Step.{last_of}
-use Rattle.bp_volume.specs.Told.{StopsWalk, IsNewIn, RefusesNew, refusal_of_new, refusal_of_walk}
+use Rattle.bp_volume.specs.Step.{IsNewIn, last_of}
+use Rattle.bp_volume.specs.Told.{StopsWalk, RefusesNew, refusal_of_new, refusal_of_walk}
 use Rattle.bp_volume.proofs.WalkLaws.{walk-image, walk_parent-image}
 use Rattle.bp_volume.proofs.CreateLaws.{create_stopped, create_there}
 

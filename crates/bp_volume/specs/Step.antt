@@ -1,8 +1,8 @@
 -- What a call may make of an image.
 use Rattle.std.specs.Prelude.{◌≡◌, ◌≢◌, ℕ, ◌%◌, ◌<◌, ◌≤◌, List, [], ◌∷◌, length, Bool, true, false, None, Some}
 use Rattle.bp_layout.specs.Words.{Image}
-use Rattle.bp_layout.specs.Directory.{Name, slot_named, empty_slot}
-use Rattle.bp_layout.specs.Inode.{size_of}
+use Rattle.bp_layout.specs.Directory.{Name, IsName, slot_named, empty_slot}
+use Rattle.bp_layout.specs.Inode.{kind_of, size_of}
 use Rattle.bp_layout.specs.Lookup.{Path, lookup}
 use Rattle.bp_plain.specs.PlainTree.{FileTree}
 use Rattle.bp_plain.specs.Stands.{Stands}
@@ -28,14 +28,22 @@ pub record StandsIn (image : Image) (text : List ℕ) (i s : ℕ) : Type 0 where
   pub parent : lookup image (parent_of path) ≡ Some i
   pub slot : slot_named image i (last_of path) ≡ Some s
 
--- the path's directory has this inode, and no entry of this name
-pub record NewIn (image : Image) (text : List ℕ) (i : ℕ) (name : Name) : Type 0 where
-  pub path : Path
-  pub parsed : parse text ≡ Some path
+-- the path is a name in directory i, which doesn't have it
+pub record IsNewIn (image : Image) (path : Path) (i : ℕ) (name : Name) : Type 0 where
+  pub below : path ≢ []
   pub parent : lookup image (parent_of path) ≡ Some i
   pub last : last_of path ≡ name
+  pub directory : kind_of image i ≡ 2
+  pub form : IsName name
   pub missing : slot_named image i name ≡ None
 
+-- the text spells such a path
+pub record NamesNew (image : Image) (text : List ℕ) (i : ℕ) (name : Name) : Type 0 where
+  pub path : Path
+  pub parsed : parse text ≡ Some path
+  pub new : IsNewIn image path i name
+
+-- the text spells a path to this inode
 pub record IsAt (image : Image) (text : List ℕ) (i : ℕ) : Type 0 where
   pub path : Path
   pub parsed : parse text ≡ Some path
@@ -43,15 +51,15 @@ pub record IsAt (image : Image) (text : List ℕ) (i : ℕ) : Type 0 where
 
 -- what a changing call changes
 pub data IsChange (image : Image) : Call → Change → Type 0 where
-  by_create : {text : List ℕ} {name : Name} {i : ℕ} {free : Bool} → NewIn image text i name → TellsFreeInode image free → IsChange image (create text) (enters i free)
-  by_mkdir : {text : List ℕ} {name : Name} {i : ℕ} {free : Bool} → NewIn image text i name → TellsFreeInode image free → IsChange image (mkdir text) (enters i free)
+  by_create : {text : List ℕ} {name : Name} {i : ℕ} {free : Bool} → NamesNew image text i name → TellsFreeInode image free → IsChange image (create text) (enters i free)
+  by_mkdir : {text : List ℕ} {name : Name} {i : ℕ} {free : Bool} → NamesNew image text i name → TellsFreeInode image free → IsChange image (mkdir text) (enters i free)
   by_write : {text new : List ℕ} {i off : ℕ} → IsAt image text i → IsChange image (write text off new) (writes i off (length new))
   by_truncate : {text : List ℕ} {i size : ℕ} → IsAt image text i → IsChange image (truncate text size) (resizes i size)
   by_unlink : {text : List ℕ} {i s : ℕ} → StandsIn image text i s → IsChange image (unlink text) (leaves i s)
   by_rmdir : {text : List ℕ} {i s : ℕ} → StandsIn image text i s → IsChange image (rmdir text) (leaves i s)
   onto : {from to : List ℕ} {i s j r : ℕ} → StandsIn image from i s → StandsIn image to j r → IsChange image (rename from to) (replaces i s j r)
-  across : {from to : List ℕ} {i s j : ℕ} {name : Name} → StandsIn image from i s → NewIn image to j name → i ≢ j → IsChange image (rename from to) (moves i s j)
-  within : {from to : List ℕ} {i s : ℕ} {name : Name} → StandsIn image from i s → NewIn image to i name → IsChange image (rename from to) (respells i s (length name))
+  across : {from to : List ℕ} {i s j : ℕ} {name : Name} → StandsIn image from i s → NamesNew image to j name → i ≢ j → IsChange image (rename from to) (moves i s j)
+  within : {from to : List ℕ} {i s : ℕ} {name : Name} → StandsIn image from i s → NamesNew image to i name → IsChange image (rename from to) (respells i s (length name))
 
 -- a changing call, the blocks that it needs, and those that are free
 pub record HasNeed (image : Image) (call : Call) (needed free : ℕ) : Type 0 where
@@ -67,8 +75,8 @@ Fits image call = (needed free : ℕ) → HasNeed image call needed free → nee
 -- What this version can't do yet: create a file where no inode is free, or where the directory has no empty entry and its
 -- leaves are full.
 pub data IsLater (image : Image) : Call → Type 0 where
-  no_inode : {text : List ℕ} {name : Name} {i : ℕ} → NewIn image text i name → TellsFreeInode image false → IsLater image (create text)
-  full_leaf : {text : List ℕ} {name : Name} {i : ℕ} → NewIn image text i name → empty_slot image i ≡ None → 0 < size_of image i → size_of image i % 4096 ≡ 0 →
+  no_inode : {text : List ℕ} {name : Name} {i : ℕ} → NamesNew image text i name → TellsFreeInode image false → IsLater image (create text)
+  full_leaf : {text : List ℕ} {name : Name} {i : ℕ} → NamesNew image text i name → empty_slot image i ≡ None → 0 < size_of image i → size_of image i % 4096 ≡ 0 →
       IsLater image (create text)
 
 -- The image stands for a tree. A changing call that needs more blocks than are free is refused; want of memory may be

@@ -1,19 +1,16 @@
 -- Calls that change nothing, as images tell them.
-use Rattle.std.specs.Prelude.{◌≡◌, ◌≢◌, ℕ, List, [], ◌∷◌, false, Option, None, Some, is_some}
+use Rattle.std.specs.Prelude.{◌≡◌, ℕ, List, [], ◌∷◌, false, Option, None, Some, is_some}
 use Rattle.bp_layout.specs.Words.{Image}
 use Rattle.std.specs.FinMap.{get}
-use Rattle.bp_layout.specs.Directory.{Name, IsName, slot_named}
-use Rattle.bp_layout.specs.Inode.{kind_of}
-use Rattle.bp_layout.specs.Lookup.{Path, lookup}
-use Rattle.bp_layout.specs.PathText.{parse}
+use Rattle.bp_layout.specs.Lookup.{Path}
 use Rattle.bp_plain.specs.PlainTree.{FileTree}
 use Rattle.bp_plain.specs.Stands.{Stands}
 use Rattle.bp_plain.specs.Calls.{Call, Answer, Refusal}
-use Rattle.bp_plain.specs.Plain.{on_path, refusal, walk, walk_parent, first, when, is_root_path, parent_of}
+use Rattle.bp_plain.specs.Plain.{on_path, refusal, walk, walk_parent, first, when, is_root_path}
 use Rattle.bp_plain.specs.Calls.Refusal.{not_found, not_dir, exists}
 use Rattle.bp_path.specs.Walk.{Walked}
 use Rattle.bp_path.specs.Walk.Walked.{found, missing, in_file}
-use Rattle.bp_volume.specs.Step.{Steps, last_of}
+use Rattle.bp_volume.specs.Step.{Steps}
 use Rattle.bp_volume.specs.FileCall.{has_changed}
 
 -- the call changes nothing, and this may be its answer
@@ -33,21 +30,6 @@ StopsWalk image text why = (tree : FileTree) → Stands image tree → on_path t
 -- the plain call is refused so
 abbrev pub Refuses : Image → Call → Refusal → Type 0
 Refuses image call why = (tree : FileTree) → Stands image tree → refusal tree call ≡ Some why
-
--- the path is a name in directory i, which doesn't have it
-pub record IsNewIn (image : Image) (path : Path) (i : ℕ) (name : Name) : Type 0 where
-  pub below : path ≢ []
-  pub parent : lookup image (parent_of path) ≡ Some i
-  pub last : last_of path ≡ name
-  pub directory : kind_of image i ≡ 2
-  pub form : IsName name
-  pub missing : slot_named image i name ≡ None
-
--- the text spells such a path
-pub record NamesNew (image : Image) (text : List ℕ) (i : ℕ) (name : Name) : Type 0 where
-  pub path : Path
-  pub parsed : parse text ≡ Some path
-  pub new : IsNewIn image path i name
 
 -- the refusals that a new file at a path may meet, in order
 abbrev pub refusal_of_new : FileTree → Path → Option Refusal

@@ -7,7 +7,8 @@ ghost use Rattle.bp_plain.specs.Calls.Answer.{refused};
 ghost use Rattle.bp_plain.specs.Calls.Call.{create};
 ghost use Rattle.bp_plain.specs.Seen.{refusal_of};
 ghost use Rattle.bp_volume.specs.Created.{CreatesFile};
-ghost use Rattle.bp_volume.specs.Told.{NamesNew, Tells};
+ghost use Rattle.bp_volume.specs.Step.{NamesNew};
+ghost use Rattle.bp_volume.specs.Told.{Tells};
 ghost use Rattle.pm_region.specs.Memory.{current_words, room_in};
 
 use crate::walking::{NewName, new_name};

@@ -9,8 +9,8 @@ ghost use Rattle.bp_layout.specs.WellFormed.{IsWellFormed};
 ghost use Rattle.bp_path.specs.Places.{fault_of};
 ghost use Rattle.bp_plain.specs.Calls.Call.{create};
 ghost use Rattle.bp_plain.specs.Seen.{refusal_of};
-ghost use Rattle.bp_volume.specs.Step.{IsAt};
-ghost use Rattle.bp_volume.specs.Told.{IsNewIn, NamesNew, Refuses, RefusesNew, StopsWalk, refusal_of_walk};
+ghost use Rattle.bp_volume.specs.Step.{IsAt, IsNewIn, NamesNew};
+ghost use Rattle.bp_volume.specs.Told.{Refuses, RefusesNew, StopsWalk, refusal_of_walk};
 ghost use Rattle.pm_region.specs.Memory.{current_words};
 
 use bp_dirs::find;

@@ -17,3 +17,5 @@ pub mod InFirst
 pub mod Refusals
 pub mod Samples
 pub mod OpenPlaces
+pub mod ReadingLaws
+pub mod AskedLaws

@@ -4,3 +4,4 @@ pub mod Created
 pub mod Spare
 pub mod Steps
 pub mod Sample
+pub mod Asked

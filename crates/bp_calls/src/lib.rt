@@ -5,8 +5,10 @@ mod creating;
 mod entering;
 mod fault;
 pub mod laws;
+mod reading;
 #[cfg(test)]
 mod tests;
 
 pub use creating::create;
 pub use fault::CreateFault;
+pub use reading::{list, read, stat};

@@ -1,8 +1,7 @@
 -- What calls that ask answer.
 use Rattle.std.proofs.Common.{◌≡◌, ◌≢◌, ℕ, zero, suc, ◌<◌, ◌≤◌, ◌-◌, ◌==◌, List, [], ◌∷◌, length, take, drop, min, Bool, true, false, not, Option, None, Some, refl, sym, ◌∙◌, ap, arith}
 use Rattle.std.specs.Prelude.{unwrap_or, nat_le, if◌then◌else◌}
-use Rattle.std.proofs.lemmas.Bool.{leb-true, leb-false}
-use Rattle.std.proofs.lemmas.List.{length-drop, take_min}
+use Rattle.std.proofs.lemmas.Bool.{eqb-true, eqb-false}
 use Rattle.std.specs.FinMap.{get}
 use Rattle.std.proofs.lemmas.List.FromFn.{length-map-range_with_len}
 use Rattle.bp_layout.specs.Words.{Image}
@@ -13,7 +12,6 @@ use Rattle.bp_layout.specs.Reached.{IsReached}
 use Rattle.bp_layout.specs.Lookup.{Path, lookup}
 use Rattle.bp_layout.specs.Lookup.Node.{dir, file}
 use Rattle.bp_layout.specs.declared.fields.Kind.{Kind}
-use Rattle.bp_layout.proofs.Reached.{reached-in_file}
 use Rattle.bp_plain.specs.PlainTree.{FileTree}
 use Rattle.bp_plain.specs.Stands.{Stands}
 use Rattle.bp_plain.specs.Calls.{Answer, Refusal}
@@ -23,24 +21,16 @@ use Rattle.bp_plain.specs.Calls.Answer.{refused, bytes, names, file_of, dir_of}
 use Rattle.bp_plain.specs.Plain.{walk, refusal, on_parsed, first, when, listing, stat_answer, path_of, bytes_in, bytes_at}
 use Rattle.bp_layout.specs.WellFormed.{IsWellFormed}
 use Rattle.bp_dirs.specs.Names.{name_count}
-use Rattle.bp_tree.specs.Bytes.{content_part}
-use Rattle.bp_tree.proofs.ContentParts.{content_part-is}
 use Rattle.bp_volume.specs.Step.{IsAt}
 use Rattle.bp_volume.specs.Told.{Tells, StopsWalk}
 use Rattle.bp_volume.proofs.WalkLaws.{some_inode, reached_at, node_at, dir_at, walk-found}
 use Rattle.bp_volume.proofs.EntryLaws.{length-entries}
-use Rattle.bp_volume.proofs.ReadingLaws.{IsInode, few_inode, length-seen}
+use Rattle.bp_calls.specs.Asked.{stat_of}
+use Rattle.bp_calls.proofs.ReadingLaws.{IsInode, inode_reached, length-seen}
+use Rattle.bp_volume.specs.Seen.{stat_seen}
 use Rattle.bp_volume.proofs.StepLaws.{refused_steps, answer_steps, memory_steps, refusal-list_stopped, refusal-list_walked, refusal-read_stopped, refusal-read_walked}
 
 module _ (image : Image) (wf : IsWellFormed image) where
-  -- a reached inode is in the inode file
-  pub inode_reached : (i : ℕ) → IsReached image i → 1 ≤ i → IsInode image wf i
-  inode_reached zero reached low = absurd (omega arith)
-  inode_reached (suc i) reached low =
-      let high : suc i < inode_count image = reached-in_file image wf (suc i) reached in
-      let kinds : (1 ≤ kind_of image (suc i)) × (kind_of image (suc i) ≤ 2) = wf.kinds i reached in
-      record { low = omega arith; high = high; few = few_inode image wf (suc i) high; least = kinds.0; most = kinds.1 }
-
   pub at_reached : (text : List ℕ) (i : ℕ) → IsAt image text i → IsReached image i
   at_reached text i at = reached_at image wf at.path i at.inode
 
@@ -59,6 +49,18 @@ module _ (image : Image) (i : ℕ) (tree : FileTree) (here : Path) (stands : Sta
   stat-dir kind =
       ap (stat_answer tree here) (node_at image tree stands here i at ∙ ap (λ b. Some (if b then file (content image (root_of image i) (size_of image i)) else dir)) (ap (λ k. k == 1) kind))
       ∙ ap dir_of (length-entries image tree stands here i at kind ∙ length-seen image i)
+
+  pub stat_says : 1 ≤ i → stat_answer tree here (get tree here) ≡ stat_seen (stat_of image i)
+  stat_says low = go (kind_of image i == 1) refl
+    where
+      inode : IsInode image stands.well_formed i
+      inode = inode_reached image stands.well_formed i (reached_at image stands.well_formed here i at) low
+
+      go : (b : Bool) → (kind_of image i == 1) ≡ b → stat_answer tree here (get tree here) ≡ stat_seen (stat_of image i)
+      go true is = rw is (stat-file (eqb-true _ _ is))
+      go false is =
+          let other : kind_of image i ≢ 1 = eqb-false _ _ is in
+          rw is (stat-dir (omega (arith, other, inode.least, inode.most)))
 
 -- ---- calls
 
@@ -116,23 +118,3 @@ module _ (image : Image) (text : List ℕ) where
         node_at image tree stands at.path i at.inode ∙ ap (λ k. Some (if k == 1 then file (content image (root_of image i) (size_of image i)) else dir)) kind in
         answer_steps image tree (read text off len) (bytes told) (refusal_of_read off len tree stands ∙ ap (λ k. first (when (k == 2) is_dir ∷ [])) kind) refl
         (ap (λ p. bytes (take len (drop off (bytes_at tree p)))) path_is ∙ ap (λ o. bytes (take len (drop off (bytes_in o)))) node ∙ ap bytes (sym says))
-
--- as many bytes as there are from an offset on
-pub read_part : (image : Image) (root size off len count : ℕ) → count ≡ min len (size - off) → content_part image root off count ≡ take len (drop off (content image root size))
-read_part image root size off len count is = go (nat_le off size) refl
-  where
-    whole : List ℕ
-    whole = content image root size
-
-    size_is : length whole ≡ size
-    size_is = length-map-range_with_len (byte image root) 0 size
-
-    same : take count (drop off whole) ≡ take len (drop off whole)
-    same = ap (λ n. take n (drop off whole)) (is ∙ ap (min len) (sym (length-drop off whole ∙ ap (λ n. n - off) size_is))) ∙ take_min len (drop off whole)
-
-    go : (b : Bool) → nat_le off size ≡ b → content_part image root off count ≡ take len (drop off whole)
-    go true at = content_part-is image root size off count (omega (arith, is, leb-true off size at)) ∙ same
-    go false at =
-        let none : count ≡ 0 = omega (arith, is, leb-false off size at) in
-        let empty : content_part image root off count ≡ [] = rw none refl in
-        empty ∙ sym (ap (λ n. take n (drop off whole)) none) ∙ same

@@ -8,6 +8,7 @@ use Rattle.std.specs.Cmp.{Equal-is}
 use Rattle.std.specs.Cmp.Lexicographic.{nat_list_cmp_total, same_text}
 use Rattle.std.specs.FinMap.{get}
 use Rattle.std.specs.FinMap.Entries.{find}
+use Rattle.std.proofs.lemmas.List.{map-id}
 use Rattle.std.proofs.lemmas.Bool.{eqb-false}
 use Rattle.std.proofs.lemmas.Cmp.{tied_itself}
 use Rattle.std.proofs.lemmas.Slice.Eq.{bytes_eq-Decides}
@@ -22,7 +23,7 @@ use Rattle.bp_layout.specs.declared.fields.Kind.{Kind}
 use Rattle.bp_plain.specs.PlainTree.{FileTree}
 use Rattle.bp_plain.specs.Stands.{Stands}
 use Rattle.bp_plain.specs.Plain.{kind_of_node, listing}
-use Rattle.bp_volume.specs.Listed.{kind_seen, entry_seen, entries_seen}
+use Rattle.bp_calls.specs.Asked.{ListsNames, kind_seen, entry_seen, entries_seen}
 use Rattle.bp_volume.proofs.WalkLaws.{reached_at, get-next}
 use Rattle.bp_volume.proofs.ListingLaws.{name_cmp, by_name, AreApart, name_cmp-IsAntisymmetric, length-listing, sorted-listing, comes_before, keyed}
 
@@ -129,3 +130,7 @@ module _ (image : Image) (tree : FileTree) (stands : Stands image tree) (here : 
       keyed_seen : (items : List Item) → map (keyed seen) items ≡ map by_name (map seen items)
       keyed_seen [] = refl
       keyed_seen (x ∷ xs) = ap (λ ys. by_name (seen x) ∷ ys) (keyed_seen xs)
+
+  -- what a directory is told to have is the plain listing
+  pub listing-names : (names : List (Kind × Name)) → ListsNames image i names → names ≡ listing tree here
+  listing-names names lists = sym (map-id names) ∙ listing-entries (λ e. e) (entries_seen image i (entry_count image i)) names (map-id (entries_seen image i (entry_count image i))) lists.all lists.sorted

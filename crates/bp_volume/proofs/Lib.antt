@@ -4,7 +4,6 @@ pub mod EntryLaws
 pub mod StepLaws
 pub mod FileCallLaws
 pub mod CreateLaws
-pub mod ReadingLaws
 pub mod AskingLaws
 pub mod CreatedLaws
 pub mod LaidLaws

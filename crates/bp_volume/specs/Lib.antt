@@ -1,9 +1,7 @@
 pub mod Step
 pub mod FileCall
 pub mod Volume
-pub mod Listed
 pub mod Told
 pub mod Laid
-pub mod Directories
 pub mod Seen
 pub mod Created

@@ -4,7 +4,6 @@
 mod asking;
 mod creating;
 mod laying;
-mod listing;
 mod replying;
 mod sets;
 mod space;

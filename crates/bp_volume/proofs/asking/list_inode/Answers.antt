@@ -1,37 +1,37 @@
 use Rattle.std.proofs.Common.{◌∙◌, sym, ap}
 use Rattle.bp_layout.specs.Fields.{kind_word}
-use Rattle.bp_volume.proofs.AskingLaws.{inode_reached, at_reached, at_low, list_file, list_memory, list_tells}
-use Rattle.bp_volume.proofs.ReadingLaws.{inode_file_sound}
+use Rattle.bp_volume.proofs.AskingLaws.{at_reached, at_low, list_file, list_memory, list_tells}
+use Rattle.bp_calls.proofs.ReadingLaws.{inode_file_sound, inode_reached}
+use Rattle.bp_volume.proofs.EntryLaws.{listing-names}
 use Rattle.bp_volume.proofs.asking.list_inode.Goals as goal
 
-pub get-inode-requires-clause-sound : goal.get-inode-requires-clause-sound
-get-inode-requires-clause-sound g c = inode_file_sound _ c.requires.well_formed
+pub get-requires-clause-sound : goal.get-requires-clause-sound
+get-requires-clause-sound g c = inode_file_sound _ c.requires.well_formed
 
-pub get-inode-requires-clause-some : goal.get-inode-requires-clause-some
-get-inode-requires-clause-some g c = at_low _ c.requires.well_formed c.args.text.now c.args.i c.requires.at
+pub get-requires-clause-some : goal.get-requires-clause-some
+get-requires-clause-some g c = at_low _ c.requires.well_formed c.args.text.now c.args.i c.requires.at
 
-pub get-inode-requires-clause-there : goal.get-inode-requires-clause-there
-get-inode-requires-clause-there g c = (inode_reached _ c.requires.well_formed c.args.i (at_reached _ c.requires.well_formed c.args.text.now c.args.i c.requires.at) (at_low _ c.requires.well_formed c.args.text.now c.args.i c.requires.at)).high
+pub get-requires-clause-there : goal.get-requires-clause-there
+get-requires-clause-there g c = (inode_reached _ c.requires.well_formed c.args.i (at_reached _ c.requires.well_formed c.args.text.now c.args.i c.requires.at) (at_low _ c.requires.well_formed c.args.text.now c.args.i c.requires.at)).high
 
-pub get-inode-requires-clause-least : goal.get-inode-requires-clause-least
-get-inode-requires-clause-least g c = (inode_reached _ c.requires.well_formed c.args.i (at_reached _ c.requires.well_formed c.args.text.now c.args.i c.requires.at) (at_low _ c.requires.well_formed c.args.text.now c.args.i c.requires.at)).least
+pub get-requires-clause-least : goal.get-requires-clause-least
+get-requires-clause-least g c = (inode_reached _ c.requires.well_formed c.args.i (at_reached _ c.requires.well_formed c.args.text.now c.args.i c.requires.at) (at_low _ c.requires.well_formed c.args.text.now c.args.i c.requires.at)).least
 
-pub get-inode-requires-clause-most : goal.get-inode-requires-clause-most
-get-inode-requires-clause-most g c = (inode_reached _ c.requires.well_formed c.args.i (at_reached _ c.requires.well_formed c.args.text.now c.args.i c.requires.at) (at_low _ c.requires.well_formed c.args.text.now c.args.i c.requires.at)).most
+pub get-requires-clause-most : goal.get-requires-clause-most
+get-requires-clause-most g c = (inode_reached _ c.requires.well_formed c.args.i (at_reached _ c.requires.well_formed c.args.text.now c.args.i c.requires.at) (at_low _ c.requires.well_formed c.args.text.now c.args.i c.requires.at)).most
 
-pub list_directory-requires-clause-directory : goal.list_directory-requires-clause-directory
-list_directory-requires-clause-directory g c = record {
-  reached = at_reached _ c.requires.well_formed c.args.text.now c.args.i c.requires.at;
-  kind = sym c.get-inode.ensures.kind ∙ ap kind_word c.in-Dir.is;
-  root_is = c.get-inode.ensures.root;
-  size_is = c.get-inode.ensures.size;
-}
+pub list-requires-clause-reached : goal.list-requires-clause-reached
+list-requires-clause-reached g c = at_reached _ c.requires.well_formed c.args.text.now c.args.i c.requires.at
+
+pub list-requires-clause-directory : goal.list-requires-clause-directory
+list-requires-clause-directory g c = sym c.get.ensures.kind ∙ ap kind_word c.in-Dir.is
 
 pub returns-in-File : goal.returns-in-File
-returns-in-File g c = list_file _ c.args.text.now c.args.i c.requires.at (sym c.get-inode.ensures.kind ∙ ap kind_word c.in-File.is)
+returns-in-File g c = list_file _ c.args.text.now c.args.i c.requires.at (sym c.get.ensures.kind ∙ ap kind_word c.in-File.is)
 
 pub returns-in-Ok : goal.returns-in-Ok
-returns-in-Ok g c = list_tells _ c.args.text.now c.args.i c.requires.at (sym c.get-inode.ensures.kind ∙ ap kind_word c.in-Dir.is) _ c.in-Ok.ensures
+returns-in-Ok g c = list_tells _ c.args.text.now c.args.i c.requires.at (sym c.get.ensures.kind ∙ ap kind_word c.in-Dir.is) _
+    (λ tree here stands at. listing-names _ tree stands here c.args.i at (sym c.get.ensures.kind ∙ ap kind_word c.in-Dir.is) _ c.in-Ok.ensures)
 
 pub returns-in-Err : goal.returns-in-Err
-returns-in-Err g c = list_memory _ c.args.text.now c.args.i c.requires.at (sym c.get-inode.ensures.kind ∙ ap kind_word c.in-Dir.is)
+returns-in-Err g c = list_memory _ c.args.text.now c.args.i c.requires.at (sym c.get.ensures.kind ∙ ap kind_word c.in-Dir.is)

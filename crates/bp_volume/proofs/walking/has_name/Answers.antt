@@ -1,5 +1,4 @@
-use Rattle.bp_volume.proofs.AskingLaws.{inode_reached}
-use Rattle.bp_volume.proofs.ReadingLaws.{inode_file_sound}
+use Rattle.bp_calls.proofs.ReadingLaws.{inode_file_sound, inode_reached}
 use Rattle.bp_volume.proofs.walking.has_name.Goals as goal
 
 pub get-inode-requires-clause-sound : goal.get-inode-requires-clause-sound

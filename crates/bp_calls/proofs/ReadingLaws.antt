@@ -9,14 +9,14 @@ use Rattle.bp_layout.specs.Inode.{kind_of, root_of, size_of, inode_count}
 use Rattle.bp_layout.specs.Directory.{Name, IsName, EntryNames, word_in, inumber_in, inumber_at, name_at, entry_count}
 use Rattle.bp_layout.specs.Fields.{kind_word}
 use Rattle.bp_layout.specs.Reached.{IsReached}
+use Rattle.bp_layout.proofs.Reached.{reached-in_file}
 use Rattle.bp_layout.specs.Reached.IsReached.{inode_file, named}
 use Rattle.bp_layout.specs.declared.fields.Kind.{Kind}
 use Rattle.bp_layout.specs.declared.fields.Kind.TheVariants.{File, Dir}
 use Rattle.bp_layout.specs.WellFormed.{IsWellFormed}
 use Rattle.bp_inodes.proofs.FewInodes.{few_inodes}
 use Rattle.bp_dirs.specs.Names.{name_count}
-use Rattle.bp_volume.specs.Directories.{IsDirectory}
-use Rattle.bp_volume.specs.Listed.{kind_seen, entry_seen, entries_seen}
+use Rattle.bp_calls.specs.Asked.{kind_seen, entry_seen, entries_seen}
 
 -- a kind, by its word
 pub kind_from_word : (kind : Kind) (word : ℕ) → kind_word kind ≡ word → kind ≡ kind_seen word
@@ -41,20 +41,28 @@ module _ (image : Image) (wf : IsWellFormed image) where
     pub least : 1 ≤ kind_of image j
     pub most : kind_of image j ≤ 2
 
-  module _ (i root size : ℕ) (directory : IsDirectory image i root size) (slot : ℕ) (live : slot < size / 256) (some : inumber_in image root slot ≢ 0) where
+  -- a reached inode is in the inode file
+  pub inode_reached : (i : ℕ) → IsReached image i → 1 ≤ i → IsInode i
+  inode_reached zero reached low = absurd (omega arith)
+  inode_reached (suc i) reached low =
+      let high : suc i < inode_count image = reached-in_file image wf (suc i) reached in
+      let kinds : (1 ≤ kind_of image (suc i)) × (kind_of image (suc i) ≤ 2) = wf.kinds i reached in
+      record { low = omega arith; high = high; few = few_inode (suc i) high; least = kinds.0; most = kinds.1 }
+
+  module _ (i root size : ℕ) (reached : IsReached image i) (kind : kind_of image i ≡ 2) (root_is : root ≡ root_of image i) (size_is : size ≡ size_of image i) (slot : ℕ) (live : slot < size / 256) (some : inumber_in image root slot ≢ 0) where
     names_here : EntryNames image i slot (inumber_in image root slot)
     names_here = record {
-      directory = directory.kind;
-      in_size = omega (arith, live, directory.size_is);
-      inumber = ap (λ r. inumber_in image r slot) (sym directory.root_is);
+      directory = kind;
+      in_size = omega (arith, live, size_is);
+      inumber = ap (λ r. inumber_in image r slot) (sym root_is);
       not_empty = some;
     }
 
     name_here : IsName (name_at image i slot)
-    name_here = wf.names i slot (inumber_in image root slot) directory.reached names_here
+    name_here = wf.names i slot (inumber_in image root slot) reached names_here
 
     name_length : word_in image root slot 1 ≡ length (name_at image i slot)
-    name_length = ap (λ r. word_in image r slot 1) directory.root_is ∙ sym (length-map-range_with_len _ 0 (word_in image (root_of image i) slot 1))
+    name_length = ap (λ r. word_in image r slot 1) root_is ∙ sym (length-map-range_with_len _ 0 (word_in image (root_of image i) slot 1))
 
     pub name_least : 1 ≤ word_in image root slot 1
     name_least = omega (arith, name_length, name_here.not_empty)
@@ -65,14 +73,14 @@ module _ (image : Image) (wf : IsWellFormed image) where
     pub inode_here : IsInode (inumber_in image root slot)
     inode_here = go (inumber_in image root slot) refl
       where
-        reached : IsReached image (inumber_in image root slot)
-        reached = named slot directory.reached names_here
+        names_reached : IsReached image (inumber_in image root slot)
+        names_reached = named slot reached names_here
 
         go : (j : ℕ) → inumber_in image root slot ≡ j → IsInode (inumber_in image root slot)
         go zero at = absurd (some at)
         go (suc j) at =
-            let high : inumber_in image root slot < inode_count image = wf.inumbers i slot (inumber_in image root slot) directory.reached names_here in
-            let kinds : (1 ≤ kind_of image (suc j)) × (kind_of image (suc j) ≤ 2) = wf.kinds j (subst (IsReached image) at reached) in
+            let high : inumber_in image root slot < inode_count image = wf.inumbers i slot (inumber_in image root slot) reached names_here in
+            let kinds : (1 ≤ kind_of image (suc j)) × (kind_of image (suc j) ≤ 2) = wf.kinds j (subst (IsReached image) at names_reached) in
             rw at (record { low = omega arith; high = omega (arith, high, at); few = subst (λ k. k < 1048576) at (few_inode (inumber_in image root slot) high); least = kinds.0; most = kinds.1 })
 
 -- ---- one more entry

@@ -1,0 +1,37 @@
+-- What is read of a file, and the names of a directory once they are sorted.
+use Rattle.std.proofs.Common.{◌≡◌, ℕ, ◌-◌, ◌+◌, ◌<◌, ◌≤◌, List, [], ◌∷◌, length, map, take, drop, min, Bool, true, false, refl, sym, ◌∙◌, ap, ap₂, arith, get_or, IsPermutation, IsSortedBy}
+use Rattle.std.specs.Prelude.{nat_le}
+use Rattle.std.proofs.lemmas.Bool.{leb-true, leb-false}
+use Rattle.std.proofs.lemmas.List.{get_or-map, length-drop, length-map, take_min}
+use Rattle.std.proofs.lemmas.List.FromFn.{length-map-range_with_len}
+use Rattle.bp_layout.specs.Words.{Image}
+use Rattle.bp_layout.specs.Tree.{byte, content}
+use Rattle.bp_tree.specs.Bytes.{content_part}
+use Rattle.bp_tree.proofs.ContentParts.{content_part-is}
+
+-- as many bytes as there are from an offset on
+pub read_part : (image : Image) (root size off len count : ℕ) → count ≡ min len (size - off) → content_part image root off count ≡ take len (drop off (content image root size))
+read_part image root size off len count is = go (nat_le off size) refl
+  where
+    whole : List ℕ
+    whole = content image root size
+
+    size_is : length whole ≡ size
+    size_is = length-map-range_with_len (byte image root) 0 size
+
+    same : take count (drop off whole) ≡ take len (drop off whole)
+    same = ap (λ n. take n (drop off whole)) (is ∙ ap (min len) (sym (length-drop off whole ∙ ap (λ n. n - off) size_is))) ∙ take_min len (drop off whole)
+
+    go : (b : Bool) → nat_le off size ≡ b → content_part image root off count ≡ take len (drop off whole)
+    go true at = content_part-is image root size off count (omega (arith, is, leb-true off size at)) ∙ same
+    go false at =
+        let none : count ≡ 0 = omega (arith, is, leb-false off size at) in
+        let empty : content_part image root off count ≡ [] = rw none refl in
+        empty ∙ sym (ap (λ n. take n (drop off whole)) none) ∙ same
+
+-- what is sorted stays so where each element is told by another
+pub sorted-map : {A B : Type 0} (f : A → B) (before : B → B → Bool) (xs : List A) → IsSortedBy (λ x y. before (f x) (f y)) xs → IsSortedBy before (map f xs)
+sorted-map f before [] up k d low high = absurd (omega (arith, high))
+sorted-map f before (x ∷ xs) up k d low high =
+    let inside : k + 1 < length (x ∷ xs) = omega (arith, high, length-map (x ∷ xs) f) in
+    ap₂ before (get_or-map f (x ∷ xs) (k + 1) x d inside) (get_or-map f (x ∷ xs) k x d (omega (arith, inside))) ∙ up k x low inside

@@ -1,0 +1,46 @@
+-- What calls that change nothing tell of an inode.
+use Rattle.std.specs.Prelude.{◌≡◌, ℕ, List, Bool, ◌==◌, Option, None, Some, if◌then◌else◌}
+use Rattle.std.specs.List.{filter_map, range_with_len}
+use Rattle.std.specs.List.Sorted.{IsPermutation, IsSortedBy}
+use Rattle.std.specs.Ordering.{nat_cmp, is_lt}
+use Rattle.std.specs.Cmp.Lexicographic.{slice_cmp}
+use Rattle.bp_dirs.specs.Names.{name_count}
+use Rattle.bp_layout.specs.Words.{Image}
+use Rattle.bp_layout.specs.Tree.{content}
+use Rattle.bp_layout.specs.Inode.{kind_of, root_of, size_of}
+use Rattle.bp_layout.specs.Directory.{Name, entry_count, inumber_at, name_at}
+use Rattle.bp_layout.specs.declared.fields.Kind.{Kind}
+use Rattle.bp_layout.specs.declared.fields.Kind.TheVariants.{File, Dir}
+use Rattle.bp_layout.specs.declared.fields.Stat.{Stat}
+use Rattle.bp_layout.specs.declared.fields.Stat.TheVariants as stat
+
+-- the bytes of a file
+abbrev pub bytes_of : Image → ℕ → List ℕ
+bytes_of image i = content image (root_of image i) (size_of image i)
+
+-- a file's size, or how many names a directory has
+abbrev pub stat_of : Image → ℕ → Stat
+stat_of image i = if kind_of image i == 1 then stat.File (size_of image i) else stat.Dir (name_count image (root_of image i) (size_of image i))
+
+-- ---- the entries of a directory that name an inode
+
+-- the kind of an inode, by its kind word
+abbrev pub kind_seen : ℕ → Kind
+kind_seen word = if word == 1 then File else Dir
+
+-- the kind and the name of an entry
+abbrev pub entry_seen : Image → ℕ → ℕ → Option (Kind × Name)
+entry_seen image i slot = if inumber_at image i slot == 0 then None else Some (kind_seen (kind_of image (inumber_at image i slot)), name_at image i slot)
+
+-- those of the first entries of directory i
+abbrev pub entries_seen : Image → ℕ → ℕ → List (Kind × Name)
+entries_seen image i count = filter_map (entry_seen image i) (range_with_len 0 count)
+
+-- the name of one comes before that of the other, in the order of bytes
+abbrev pub comes_before : Kind × Name → Kind × Name → Bool
+comes_before one other = is_lt (slice_cmp nat_cmp one.1 other.1)
+
+-- all names in directory i, each with its kind, in the order of their bytes
+pub record ListsNames (image : Image) (i : ℕ) (names : List (Kind × Name)) : Type 0 where
+  pub all : IsPermutation (entries_seen image i (entry_count image i)) names
+  pub sorted : IsSortedBy comes_before names

@@ -2,18 +2,22 @@
 use Rattle.std.specs.Prelude.{◌≡◌, List, ℕ, ◌<◌, ◌≤◌, length, filter, Bool, true}
 use Rattle.std.specs.List.{range_with_len}
 use Rattle.bp_layout.specs.Words.{Image, block_count}
-use Rattle.bp_layout.specs.Inode.{inode_count}
-use Rattle.bp_layout.specs.Reached.{IsReached, IsFreeBlock}
+use Rattle.bp_layout.specs.Inode.{inode_count, size_of}
+use Rattle.bp_layout.specs.Reached.{IsReached, IsUnheld}
 
 pub record IsFreeInode (image : Image) (i : ℕ) : Type 0 where
   pub low : 2 ≤ i
   pub high : i < inode_count image
   pub free : IsReached image i → ⊥
 
--- the set has just the free blocks
-pub record AreFreeBlocks (image : Image) (set : ℕ → Bool) : Type 0 where
-  pub free : (b : ℕ) → set b ≡ true → IsFreeBlock image b
-  pub all : (b : ℕ) → IsFreeBlock image b → set b ≡ true
+-- the set has just the blocks that none of these trees has, under a size for each
+pub record AreUnheld (image : Image) (Tree : ℕ → Type 0) (bound : ℕ → ℕ) (set : ℕ → Bool) : Type 0 where
+  pub free : (b : ℕ) → set b ≡ true → IsUnheld image Tree bound b
+  pub all : (b : ℕ) → IsUnheld image Tree bound b → set b ≡ true
+
+-- so just the free blocks
+abbrev pub AreFreeBlocks : Image → (ℕ → Bool) → Type 0
+AreFreeBlocks image = AreUnheld image (IsReached image) (size_of image)
 
 -- the set has just the free inodes
 pub record AreFreeInodes (image : Image) (set : ℕ → Bool) : Type 0 where

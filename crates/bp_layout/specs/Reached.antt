@@ -11,12 +11,21 @@ pub data IsReached (image : Image) : ℕ → Type 0 where
   root_directory : IsReached image 1
   named : {i j : ℕ} → (slot : ℕ) → IsReached image i → EntryNames image i slot j → IsReached image j
 
-pub record IsLiveBlock (image : Image) (block : ℕ) : Type 0 where
+-- one of these trees, under a size for each, has the block
+pub record HoldsBlock (image : Image) (Tree : ℕ → Type 0) (bound : ℕ → ℕ) (block : ℕ) : Type 0 where
   pub tree : ℕ
-  pub reached : IsReached image tree
-  pub has : HasBlock image (root_of image tree) (size_of image tree) block
+  pub reached : Tree tree
+  pub has : HasBlock image (root_of image tree) (bound tree) block
 
-pub record IsFreeBlock (image : Image) (block : ℕ) : Type 0 where
+-- the block is not the first, and none of these trees has it
+pub record IsUnheld (image : Image) (Tree : ℕ → Type 0) (bound : ℕ → ℕ) (block : ℕ) : Type 0 where
   pub low : 1 ≤ block
   pub high : block < block_count image
-  pub free : IsLiveBlock image block → ⊥
+  pub free : HoldsBlock image Tree bound block → ⊥
+
+-- the case of the trees that the image reaches, under their own sizes
+abbrev pub IsLiveBlock : Image → ℕ → Type 0
+IsLiveBlock image = HoldsBlock image (IsReached image) (size_of image)
+
+abbrev pub IsFreeBlock : Image → ℕ → Type 0
+IsFreeBlock image = IsUnheld image (IsReached image) (size_of image)

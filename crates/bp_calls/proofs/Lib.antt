@@ -4,7 +4,6 @@ pub mod BehindLaws
 pub mod AfterLaws
 pub mod SetLaws
 pub mod StandsLaws
-pub mod ExistingPaths
 pub mod NeedLaws
 pub mod FreeCounts
 pub mod Trees

@@ -20,7 +20,7 @@ use Rattle.bp_layout.proofs.Finding.{find-passes}
 use Rattle.bp_layout.proofs.TreeLaws.{span-is}
 use Rattle.bp_calls.specs.Created.{NeedsLeaf}
 use Rattle.bp_calls.proofs.FreeCounts.{some_free}
-use Rattle.bp_calls.proofs.ExistingPaths.{AllThere, inode_path-there, content_path-there, cover-one, copied-one}
+use Rattle.bp_tree.proofs.ExistingPaths.{AllThere, inode_path-there, content_path-there, cover-one, copied-one}
 
 -- ---- the height of a tree that has room
 

@@ -2,6 +2,7 @@ pub mod Below
 pub mod BlockCounts
 pub mod ContentParts
 pub mod Digits
+pub mod ExistingPaths
 pub mod NextSlot
 pub mod PathLaws
 pub mod PerformsLaws

@@ -1,0 +1,8 @@
+use Rattle.std.proofs.Common.{◌≡◌, suc}
+use Rattle.bp_layout.specs.Inode.{size_of}
+use Rattle.bp_append.proofs.GrowsFile.{grown_size, grown_performs}
+use Rattle.bp_append.proofs.laws.grown_files_are_performed.Goals as goal
+
+pub returns : goal.returns
+returns c = λ old middle new free rest path n size place grows.
+    grown_performs old middle new free rest path n size place grows (λ image after. size_of after (suc n) ≡ size) (grown_size old middle new free rest path n size place grows)

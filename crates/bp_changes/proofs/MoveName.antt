@@ -24,7 +24,8 @@ lookup_from-join image u (first ∷ a) b = go (λ v. lookup_from-join image v a 
     go rest None = refl
     go rest (Some v) = rest v
 
-not_longer : (path : Path) (name : Name) (rest : Path) → path ≡ (path ++ name ∷ []) ++ rest → ⊥
+-- no path lies below a name in itself
+pub not_longer : (path : Path) (name : Name) (rest : Path) → path ≡ (path ++ name ∷ []) ++ rest → ⊥
 not_longer path name rest e = omega (arith, ap length e, length-append (path ++ name ∷ []) rest, length-append path (name ∷ []))
 
 -- What the names of two images are where name `was` of directory i, which named j, has become name `now` of directory k.

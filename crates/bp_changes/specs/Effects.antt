@@ -1,4 +1,4 @@
--- What a change makes of an image: told of the trees that the first image reaches, by slots and inodes. The second image may
+-- What a change makes of an image: told of the trees that the first image reaches, by slots and inodes. The second may
 -- have its trees in other blocks.
 use Rattle.std.specs.Prelude.{◌≡◌, ◌≢◌, ◌⊎◌, ℕ, ◌+◌, ◌*◌, ◌%◌, ◌<◌, ◌≤◌, length}
 use Rattle.bp_limits.specs.Limits.{super_magic, super_blocks, entry_size}
@@ -8,8 +8,8 @@ use Rattle.bp_layout.specs.Inode.{kind_of, root_of, size_of, inode_count}
 use Rattle.bp_layout.specs.Directory.{EntryNames, IsName, name_at, inumber_at, entry_word, entry_count}
 use Rattle.bp_layout.specs.Reached.{IsReached}
 
--- The image is as long, with its mark and its count. Each tree is sound, no block is in two, and none is missing in the inode
--- file and in directories.
+-- The image is as long, with its mark and its count. Each tree is sound, no block is in two, and none is missing in the
+-- inode file and in directories.
 pub record KeepsTrees (old new : Image) : Type 0 where
   pub whole : length new ≡ length old
   pub marked : word new super_magic ≡ word old super_magic
@@ -22,8 +22,10 @@ pub record KeepsTrees (old new : Image) : Type 0 where
 
 -- each tree has the blocks that it had
 pub record KeepsBlocks (old new : Image) : Type 0 where
-  pub back : (t b : ℕ) → IsReached old t → HasBlock new (root_of new t) (size_of new t) b → HasBlock old (root_of old t) (size_of old t) b
-  pub stay : (t b : ℕ) → IsReached old t → HasBlock old (root_of old t) (size_of old t) b → HasBlock new (root_of new t) (size_of new t) b
+  pub back : (t b : ℕ) → IsReached old t →
+      HasBlock new (root_of new t) (size_of new t) b → HasBlock old (root_of old t) (size_of old t) b
+  pub stay : (t b : ℕ) → IsReached old t →
+      HasBlock old (root_of old t) (size_of old t) b → HasBlock new (root_of new t) (size_of new t) b
 
 -- ---- the bytes of one file
 
@@ -36,7 +38,8 @@ pub record ChangesFile (old new : Image) (x : ℕ) : Type 0 where
   pub size : (t : ℕ) → IsReached old t → t ≢ x → size_of new t ≡ size_of old t
   pub inumber : (i s : ℕ) → IsReached old i → kind_of old i ≡ 2 → s < entry_count old i →
       inumber_at new i s ≡ inumber_at old i s
-  pub entry : (i s j f : ℕ) → IsReached old i → EntryNames old i s j → f < 32 → entry_word new i s f ≡ entry_word old i s f
+  pub entry : (i s j f : ℕ) → IsReached old i → EntryNames old i s j → f < 32 →
+      entry_word new i s f ≡ entry_word old i s f
   pub bytes : (i o : ℕ) → IsReached old i → i ≢ x → kind_of old i ≡ 1 → o < size_of old i →
       byte new (root_of new i) o ≡ byte old (root_of old i) o
 
@@ -61,8 +64,8 @@ pub record IsNewEntry (i s j u r k : ℕ) : Type 0 where
   pub slot : r ≡ s
   pub inode : k ≡ j
 
--- One more entry, at slot s of directory i, for an inode without bytes that nobody named. The slot was empty, or the directory
--- grew by it.
+-- One more entry, at slot s of directory i, for an inode without bytes that nobody named. The slot was empty, or the
+-- directory grew by it.
 pub record AddsNames (old new : Image) (i s j : ℕ) : Type 0 where
   pub reached : IsReached old i
   pub fresh : IsReached old j → ⊥

@@ -14,7 +14,8 @@ pub record SameContent (ByWords : Type 0) (old new : Image) (size root other : �
   pub words : ByWords → (k : ℕ) → 8 * k + 8 ≤ size → content_word new other k ≡ content_word old root k
   pub bytes : (o : ℕ) → o < size → byte new other o ≡ byte old root o
 
--- In this image the second root word, at this size, is as good as the first: the same content, in blocks of the first and free ones.
+-- In this image the second root word, at this size, is as good as the first: the same content, in blocks of the first
+-- and free ones.
 pub record ReadsAs (ByWords : Type 0) (image : Image) (size root other : ℕ) : Type 0 where
   pub sound : IsSound image other size
   pub content : SameContent ByWords image image size root other

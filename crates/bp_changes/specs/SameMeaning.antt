@@ -1,4 +1,5 @@
--- When a second image means the same as the first: told of the trees that the first one reaches, so by inodes and not by paths.
+-- When a second image means the same as the first: told of the trees that the first one reaches, so by inodes and not
+-- by paths.
 use Rattle.std.specs.Prelude.{◌≡◌, ℕ, suc, ◌%◌, ◌<◌, ◌≤◌, length}
 use Rattle.bp_limits.specs.Limits.{super_magic, super_blocks, block_size}
 use Rattle.bp_layout.specs.Words.{Image, word}
@@ -18,7 +19,8 @@ pub record SameMeaning (old new : Image) : Type 0 where
   pub inodes : size_of old 0 ≤ size_of new 0
   pub inumber : (i s : ℕ) → IsReached old i → kind_of old i ≡ 2 → s < entry_count old i →
       inumber_at new i s ≡ inumber_at old i s
-  pub entry : (i s j f : ℕ) → IsReached old i → EntryNames old i s j → f < 32 → entry_word new i s f ≡ entry_word old i s f
+  pub entry : (i s j f : ℕ) → IsReached old i → EntryNames old i s j → f < 32 →
+      entry_word new i s f ≡ entry_word old i s f
   pub bytes : (i o : ℕ) → IsReached old i → kind_of old i ≡ 1 → o < size_of old i →
       byte new (root_of new i) o ≡ byte old (root_of old i) o
   pub sound : (t : ℕ) → IsReached old t → IsSound new (root_of new t) (size_of new t)

@@ -5,8 +5,8 @@ use Rattle.bp_layout.specs.Tree.{node, IsLivePointer}
 use Rattle.bp_layout.specs.Inode.{root_of, size_of, StandsAt}
 use Rattle.bp_layout.specs.Reached.{IsReached}
 
--- A word of a present node of tree t that is behind the size, or the word in which the size lies, whose live bytes the value
--- keeps.
+-- A word of a present node of tree t that is behind the size, or the word in which the size lies, whose live bytes the
+-- value keeps.
 pub record IsBehind (image : Image) (t place value : ℕ) : Type 0 where
   pub reached : IsReached image t
   pub depth : ℕ

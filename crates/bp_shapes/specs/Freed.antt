@@ -19,7 +19,11 @@ pub record IsCutOff (image : Image) (root size cut block : ℕ) : Type 0 where
 
 -- Each tree has the blocks that it had, and tree x those that it has under its new size.
 pub record ResizesBlocks (old new : Image) (x : ℕ) : Type 0 where
-  pub back : (t b : ℕ) → IsReached old t → t ≢ x → HasBlock new (root_of new t) (size_of new t) b → HasBlock old (root_of old t) (size_of old t) b
-  pub stay : (t b : ℕ) → IsReached old t → t ≢ x → HasBlock old (root_of old t) (size_of old t) b → HasBlock new (root_of new t) (size_of new t) b
-  pub back_here : (b : ℕ) → HasBlock new (root_of new x) (size_of new x) b → HasBlock old (root_of old x) (size_of new x) b
-  pub stay_here : (b : ℕ) → HasBlock old (root_of old x) (size_of new x) b → HasBlock new (root_of new x) (size_of new x) b
+  pub back : (t b : ℕ) → IsReached old t → t ≢ x →
+      HasBlock new (root_of new t) (size_of new t) b → HasBlock old (root_of old t) (size_of old t) b
+  pub stay : (t b : ℕ) → IsReached old t → t ≢ x →
+      HasBlock old (root_of old t) (size_of old t) b → HasBlock new (root_of new t) (size_of new t) b
+  pub back_here : (b : ℕ) →
+      HasBlock new (root_of new x) (size_of new x) b → HasBlock old (root_of old x) (size_of new x) b
+  pub stay_here : (b : ℕ) →
+      HasBlock old (root_of old x) (size_of new x) b → HasBlock new (root_of new x) (size_of new x) b

@@ -12,8 +12,8 @@ pub data IsUnder (d k : ℕ) : ℕ → ℕ → ℕ → Type 0 where
   here : {e l : ℕ} → e ≡ suc d → l ≡ k → IsUnder d k e l 0
   under : {e l r : ℕ} → IsUnder d k e (l / 512) r → IsUnder d k (suc e) l (suc r)
 
--- Pointer k at depth d + 1 of tree t is null and live. The block's tree, which is to stand there, is free, sound, and zero below
--- the size.
+-- Pointer k at depth d + 1 of tree t is null and live. The block's tree, which is to stand there, is free, sound, and
+-- zero below the size.
 pub record CanHang (image : Image) (t d k place block : ℕ) : Type 0 where
   pub reached : IsReached image t
   pub live : IsLivePointer (root_of image t) (size_of image t) (suc d) k
@@ -27,7 +27,8 @@ pub record CanHang (image : Image) (t d k place block : ℕ) : Type 0 where
       node image (4096 * block) r l ≢ 0 → IsLiveBlock image (node image (4096 * block) r l) → ⊥
   pub once : (e l r f m q : ℕ) → IsUnder d k e l r → IsUnder d k f m q →
       IsLivePointer (root_of image t) (size_of image t) e l → IsLivePointer (root_of image t) (size_of image t) f m →
-      node image (4096 * block) r l ≢ 0 → node image (4096 * block) r l ≡ node image (4096 * block) q m → (e ≡ f) × (l ≡ m)
+      node image (4096 * block) r l ≢ 0 → node image (4096 * block) r l ≡ node image (4096 * block) q m →
+      (e ≡ f) × (l ≡ m)
   pub zero_bytes : (o r : ℕ) → IsUnder d k (height_of (root_of image t)) (o / 8 / 512) r → o < size_of image t →
       byte_of (word_at image (4096 * block) (suc r) (o / 8)) (o % 8) ≡ 0
 
@@ -43,7 +44,8 @@ raised_by root (block ∷ blocks) = raised_by (raised root block) blocks
 -- each block's first slot points to the one below it
 abbrev pub LeadDown : Image → ℕ → List ℕ → Type 0
 LeadDown image root [] = Unit {0}
-LeadDown image root (block ∷ blocks) = (slot_word image block 0 ≡ 4096 * block_of root) × LeadDown image (raised root block) blocks
+LeadDown image root (block ∷ blocks) =
+    (slot_word image block 0 ≡ 4096 * block_of root) × LeadDown image (raised root block) blocks
 
 -- free blocks that lead down to the root's block
 pub record IsChain (image : Image) (root : ℕ) (blocks : List ℕ) : Type 0 where

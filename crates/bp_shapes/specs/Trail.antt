@@ -1,5 +1,5 @@
--- A trail names a word by the slots through which one goes to it, the last slot first. The empty trail is the root word of the
--- inode file.
+-- A trail names a word by the slots through which one goes to it, the last slot first. The empty trail is the root
+-- word of the inode file.
 use Rattle.std.specs.Prelude.{◌≡◌, ◌≢◌, ℕ, zero, suc, ◌+◌, ◌*◌, ◌<◌, List, [], ◌∷◌, length, slice_index}
 use Rattle.bp_limits.specs.Limits.{super_root}
 use Rattle.bp_layout.specs.Words.{Image, word, block_count, block_of, slot_word}

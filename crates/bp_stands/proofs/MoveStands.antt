@@ -1,12 +1,15 @@
 -- The plain tree of an image in which a name has moved, or is spelled anew.
 use Rattle.std.proofs.Common.{◌≡◌, ℕ, [], ◌∷◌, ◌++◌, Option, None, Some, refl, sym, ◌∙◌, ap}
 use Rattle.bp_layout.specs.Words.{Image}
-use Rattle.bp_layout.specs.Directory.{Name}
+use Rattle.bp_layout.specs.Directory.{Name, name_at}
 use Rattle.bp_layout.specs.Lookup.{Path, lookup, shown}
 use Rattle.bp_layout.specs.WellFormed.{IsWellFormed}
 use Rattle.bp_layout.specs.Below.{rest_below}
 use Rattle.bp_layout.proofs.Below.{rest_below-is}
-use Rattle.bp_changes.proofs.MoveName.{MovesName, shown_target, shown_source, shown_elsewhere, target_aside, target_empty}
+use Rattle.bp_changes.specs.Effects.{CanMoveEntry, MovesEntry, RespellsEntry}
+use Rattle.bp_changes.proofs.Move.{entry_moves, moved_well_formed}
+use Rattle.bp_changes.proofs.Respell.{respell_moves, respelled_well_formed}
+use Rattle.bp_changes.proofs.MoveName.{MovesName, not_longer, shown_target, shown_source, shown_elsewhere, target_aside, target_empty}
 use Rattle.bp_plain.specs.PlainTree.{FileTree}
 use Rattle.bp_plain.specs.Stands.{Stands}
 use Rattle.bp_plain.specs.Plain.{moved}
@@ -30,3 +33,27 @@ module _ (old new : Image) (i : ℕ) (was : Name) (k : ℕ) (now : Name) (j : �
           rw e (stands.shows ((from ++ was ∷ []) ++ rest) ∙ sym ((shown_target old new i was k now j moves from to from_is to_is outside aside) rest) ∙ ap (shown new) (sym (rest_below-is (to ++ now ∷ []) path rest e)))
       go path None e (Some rest) f = rw (e, f) (sym ((shown_source old new i was k now j moves from to from_is to_is outside aside) rest) ∙ ap (shown new) (sym (rest_below-is (from ++ was ∷ []) path rest f)))
       go path None e None f = rw (e, f) (stands.shows path ∙ sym ((shown_elsewhere old new i was k now j moves from to from_is to_is outside aside) path e f))
+
+-- an inumber has come from one entry into another
+pub entry_move_stands : (old new : Image) (wf : IsWellFormed old) (i s k r j : ℕ) → CanMoveEntry old i s k r j → MovesEntry old new i s k r j →
+    (from to : Path) → lookup old from ≡ Some i → lookup old to ≡ Some k →
+    rest_below (from ++ name_at old i s ∷ []) to ≡ None → rest_below (to ++ name_at old k r ∷ []) from ≡ None →
+    (tree : FileTree) → Stands old tree → Stands new (moved (from ++ name_at old i s ∷ []) (to ++ name_at old k r ∷ []) tree)
+entry_move_stands old new wf i s k r j can moves from to from_is to_is outside aside tree stands =
+    move_stands old new i (name_at old i s) k (name_at old k r) j (entry_moves old new wf i s k r j can moves) from to from_is to_is outside aside
+    tree stands (moved_well_formed old new wf i s k r j can moves)
+
+-- no path lies below a name in itself
+not_below : (path : Path) (name : Name) → rest_below (path ++ name ∷ []) path ≡ None
+not_below path name = go (rest_below (path ++ name ∷ []) path) refl
+  where
+    go : (rest : Option Path) → rest_below (path ++ name ∷ []) path ≡ rest → rest_below (path ++ name ∷ []) path ≡ None
+    go None e = e
+    go (Some rest) e = absurd (not_longer path name rest (rest_below-is (path ++ name ∷ []) path rest e))
+
+-- an entry is spelled anew
+pub respell_stands : (old new : Image) (wf : IsWellFormed old) (i s j : ℕ) → RespellsEntry old new i s j → (from : Path) → lookup old from ≡ Some i →
+    (tree : FileTree) → Stands old tree → Stands new (moved (from ++ name_at old i s ∷ []) (from ++ name_at new i s ∷ []) tree)
+respell_stands old new wf i s j spells from from_is tree stands =
+    move_stands old new i (name_at old i s) i (name_at new i s) j (respell_moves old new wf i s j spells) from from from_is from_is
+    (not_below from (name_at old i s)) (not_below from (name_at new i s)) tree stands (respelled_well_formed old new wf i s j spells)

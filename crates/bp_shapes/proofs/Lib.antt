@@ -12,3 +12,4 @@ pub mod Unseen
 pub mod FreeSets
 pub mod Behind
 pub mod Freed
+pub mod ExactSets

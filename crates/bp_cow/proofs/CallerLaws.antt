@@ -1,10 +1,11 @@
 -- Touched words that can be committed under the sizes that the image has: one word of a tree, and a run.
 use Rattle.std.proofs.Common.{◌≡◌, ◌≢◌, ℕ, suc, ◌-◌, ◌*◌, ◌%◌, ◌<◌, ◌≤◌, length, Bool, None, Some, sym, ◌∙◌, ap, subst, arith}
+use Rattle.bp_layout.specs.Free.{AreFreeBlocks}
 use Rattle.bp_layout.specs.Words.{Image, word, height_of}
 use Rattle.bp_layout.specs.Inode.{root_of, size_of}
 use Rattle.bp_layout.specs.Reached.{IsReached}
 use Rattle.bp_layout.specs.WellFormed.{IsWellFormed}
-use Rattle.bp_shapes.specs.Forest.{IsExactSet, tree_trail, IsForest, IsTreePointer}
+use Rattle.bp_shapes.specs.Forest.{tree_trail, IsForest, IsTreePointer}
 use Rattle.bp_shapes.specs.Trail.{trail_of}
 use Rattle.bp_shapes.proofs.FreeSets.{wf_forest, content_fronts, content_no_pointer}
 use Rattle.bp_cow.specs.declared.touched.Run.{Run}
@@ -12,7 +13,7 @@ use Rattle.bp_cow.specs.declared.touched.Touched.{Touched}
 use Rattle.bp_cow.specs.Touched.{IsTouched, path_of, word_paths}
 use Rattle.bp_cow.specs.CanCommit.{IsRunIn, HasRunIn, CanCommit}
 
-module _ (old : Image) (wf : IsWellFormed old) (touched : Touched) (shape : IsTouched touched) (free : ℕ → Bool) (exact : IsExactSet old (IsTreePointer old (size_of old)) free) where
+module _ (old : Image) (wf : IsWellFormed old) (touched : Touched) (shape : IsTouched touched) (free : ℕ → Bool) (exact : AreFreeBlocks old free) where
   forest : IsForest old (size_of old)
   forest = wf_forest old wf
 

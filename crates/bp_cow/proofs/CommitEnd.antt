@@ -8,26 +8,39 @@ use Rattle.pm_epochs.proofs.CrashLaws.{quiet_none}
 use Rattle.pm_epochs.proofs.PieceLaws.{IsPiece-commit, IsPiece-more}
 use Rattle.pm_region.specs.Memory.{Memory, current_words, Adds}
 use Rattle.pm_region.proofs.MemoryLaws.{current_words-adds}
-use Rattle.bp_free.specs.Set.{Set, has}
+use Rattle.bp_free.specs.Set.{Set, has, members}
 use Rattle.bp_layout.specs.Words.{Image, word}
 use Rattle.bp_layout.specs.WellFormed.{IsWellFormed}
 use Rattle.bp_layout.specs.Same.{Same}
 use Rattle.bp_shapes.specs.Forest.{IsExactSet, IsTreePointer}
 use Rattle.bp_shapes.specs.Trail.{Trail, word_on, block_on, place_on, trail_of}
 use Rattle.bp_layout.proofs.SameLaws.{same_self}
-use Rattle.bp_shapes.proofs.PathTrails.{front-trail_of}
+use Rattle.bp_shapes.proofs.ExactSets.{unheld_exact}
 use Rattle.bp_cow.specs.declared.touched.Touched.{Touched}
 use Rattle.bp_cow.specs.declared.covering.Found.{Found}
 use Rattle.bp_cow.specs.Adds.{AddsCopyCommit}
-use Rattle.bp_cow.specs.Job.{Job, copies, copied, IsTurned}
+use Rattle.bp_cow.specs.Job.{Job, ways, copies, copied, IsAnew, IsTurned}
+use Rattle.bp_cow.specs.Plan.{Plan}
+use Rattle.bp_cow.specs.Turned.{IsTurnedOver}
 use Rattle.bp_cow.specs.Committed.{IsCommitted, after_commit}
 use Rattle.bp_cow.specs.Touched.{job_of, only_value}
 use Rattle.bp_cow.specs.Cover.{end_path, BeginAlike, CoverHas}
 use Rattle.bp_cow.specs.Found.{IsAt}
 use Rattle.bp_cow.specs.CanCommit.{CanCommit}
-use Rattle.bp_cow.specs.Commit.{CommitsTouched}
 use Rattle.bp_cow.proofs.CoverLaws.{at-word, some-ends}
-use Rattle.bp_cow.proofs.JobLaws.{in_place, first-length}
+use Rattle.bp_cow.proofs.JobLaws.{can_build, in_place, first-length}
+use Rattle.bp_cow.proofs.StageEnd.{stage_committed}
+
+-- What a commit does, told by the code's numbers: the slots of the cover, and the set of the blocks that are free after the last store.
+pub record CommitsCopies (bound : ℕ → ℕ) (touched : Touched) (old new : Memory) (blocks blocks_after : Set) : Type 0 where
+  pub cover : ℕ
+  pub has_cover : CoverHas (current_words old) touched cover
+  pub taken : Set
+  pub count : length (members blocks) ≡ length (members taken) + copied (job_of touched) cover
+  pub size : length taken ≡ length blocks
+  pub commit : AddsCopyCommit (has blocks) (has taken) (place_on (current_words old) (trail_of (end_path touched 0) cover)) (513 * copied (job_of touched) cover + length touched.words.items + 1) old new
+  pub words : IsCommitted (current_words old) (current_words new) (IsTreePointer (current_words old) bound) (IsTurned (job_of touched) cover) (after_commit (current_words old) (job_of touched))
+  pub exact : IsExactSet (current_words new) (IsTreePointer (current_words old) bound) (has blocks_after)
 
 -- the same pointers under another name
 pub committed_same : (old new : Image) (Pointer turned other : Trail → Type 0) (after : Trail → ℕ) → ((q : Trail) → turned q → other q) → ((q : Trail) → other q → turned q) →
@@ -109,19 +122,23 @@ module _ (bound : ℕ → ℕ) (touched : Touched) (first last : Memory) (blocks
   same-block : (p : Trail) → IsTreePointer old bound p → block_on (current_words last) p ≡ block_on old p
   same-block p live = ap (λ w. w / 4096) (committed.kept p live (λ none. none))
 
+  exact-old : IsExactSet old (IsTreePointer old bound) (has blocks)
+  exact-old = unheld_exact old bound can.forest (has blocks) can.exact
+
   exact-still : IsExactSet (current_words last) (IsTreePointer old bound) (has blocks)
   exact-still = record {
-    live = λ b one. can.exact.live b (record { trail = one.trail; pointer = one.pointer; named = sym (same-block one.trail one.pointer) ∙ one.named; not_null = one.not_null });
-    dead = λ b low high none. can.exact.dead b low (subst (λ n. b < n / 512) committed.whole high) (λ one. none (record { trail = one.trail; pointer = one.pointer; named = same-block one.trail one.pointer ∙ one.named; not_null = one.not_null }));
-    in_range = λ b is. let range = can.exact.in_range b is in (range.0, subst (λ n. b < n / 512) (sym committed.whole) range.1);
+    live = λ b one. exact-old.live b (record { trail = one.trail; pointer = one.pointer; named = sym (same-block one.trail one.pointer) ∙ one.named; not_null = one.not_null });
+    dead = λ b low high none. exact-old.dead b low (subst (λ n. b < n / 512) committed.whole high) (λ one. none (record { trail = one.trail; pointer = one.pointer; named = same-block one.trail one.pointer ∙ one.named; not_null = one.not_null }));
+    in_range = λ b is. let range = exact-old.in_range b is in (range.0, subst (λ n. b < n / 512) (sym committed.whole) range.1);
   }
 
-  pub commits_one : CommitsTouched bound touched first last blocks blocks
+  pub commits_one : CommitsCopies bound touched first last blocks blocks
   commits_one = record {
     cover = found.len;
     has_cover = longest;
     taken = blocks;
     count = omega (arith, copied-none (job_of touched) found.len past);
+    size = refl;
     commit = record {
       value = only_value touched (word old found.place);
       commit = record {
@@ -141,3 +158,29 @@ module _ (bound : ℕ → ℕ) (touched : Touched) (first last : Memory) (blocks
     where
       clash : (b : Bool) → b ≡ true → b ≡ false → ⊥
       clash b one two = absurd (cc)
+
+-- ---- the cover is a pointer, and blocks are copied
+
+module _ (bound : ℕ → ℕ) (touched : Touched) (first last : Memory) (blocks : Set) (wf : IsWellFormed (current_words first)) (can : CanCommit (current_words first) bound touched (has blocks))
+    (found : Found) (at : IsAt (current_words first) touched found) (longest : CoverHas (current_words first) touched found.len) (short : found.len ≤ length ((job_of touched).way 0))
+    (top : ℕ) (free : ℕ → Bool) (after taken : Set) where
+  abbrev plan : Plan
+  plan = record { old = current_words first; bound = bound; free = has blocks; job = job_of touched; place = found.place; top = top; taken = free }
+
+  pub commits_turned : IsTurnedOver plan touched found.len found.place blocks taken first last → IsExactSet (current_words last) (IsTreePointer (current_words first) bound) (has after) →
+      CommitsCopies bound touched first last blocks after
+  commits_turned done exact =
+      let same : copied (job_of touched) found.len ≡ copies (job_of touched) found.len = copied-some (job_of touched) found.len short in
+      record {
+        cover = found.len;
+        has_cover = longest;
+        taken = taken;
+        count = omega (arith, done.count, same);
+        size = done.size;
+        commit = subst (λ p. AddsCopyCommit (has blocks) (has taken) p (513 * copied (job_of touched) found.len + length touched.words.items + 1) first last) (sym at.place)
+            (looser (has blocks) (has taken) found.place _ _ first last (omega (arith, same)) done.commit);
+        words = committed_same (current_words first) (current_words last) (IsTreePointer (current_words first) bound) (IsAnew (job_of touched) found.len (ways (job_of touched)) found.len) (IsTurned (job_of touched) found.len) _
+            (λ q n. record { copies = short; anew = n }) (λ q t. t.anew)
+            (stage_committed plan found.len (current_words last) (has taken) (can_build (current_words first) bound touched (has blocks) wf can found.len at.alike short found.place at.exists at.place) done.stage);
+        exact = exact;
+      }

@@ -23,6 +23,13 @@ use Rattle.bp_cow.proofs.CoverLaws.{some-ends}
 use Rattle.bp_cow.proofs.Distinct.{same-take}
 use Rattle.bp_cow.proofs.RunFronts.{trail_of-take}
 
+-- what begins alike begins alike as far as any shorter front
+pub alike_front : (touched : Touched) (n m : ℕ) → m ≤ n → BeginAlike touched n → BeginAlike touched m
+alike_front touched n m low alike = record {
+  long = λ i here. omega (arith, low, alike.long i here);
+  same = λ i here. front-trail_of (end_path touched i) (end_path touched 0) n m (alike.same i here) low;
+}
+
 -- the cover is the longest
 pub cover_once : (image : Image) (touched : Touched) (n m : ℕ) → CoverHas image touched n → CoverHas image touched m → n ≡ m
 cover_once image touched n m one two = go (cases_eq n m) (cases_lt n m)
@@ -30,10 +37,7 @@ cover_once image touched n m one two = go (cases_eq n m) (cases_lt n m)
     less : (a b : ℕ) → a < b → CoverHas image touched a → CoverHas image touched b → ⊥
     less a b low first second =
         second.exists a low
-        (first.longest (record {
-          long = λ i here. omega (arith, low, second.alike.long i here);
-          same = λ i here. front-trail_of (end_path touched i) (end_path touched 0) b (a + 1) (second.alike.same i here) (omega (arith, low));
-        }))
+        (first.longest (alike_front touched b (a + 1) (omega (arith, low)) second.alike))
 
     go : (n ≡ m) ⊎ (n ≡ m → ⊥) → (n < m) ⊎ (m ≤ n) → n ≡ m
     go (inl e) any = e

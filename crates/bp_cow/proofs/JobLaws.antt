@@ -11,6 +11,7 @@ use Rattle.bp_shapes.specs.Trail.{Trail, word_on, block_on, place_on, trail_of, 
 use Rattle.bp_shapes.specs.Trail.IsPlaced.{at_top, in_block}
 use Rattle.bp_shapes.specs.Forest.{along, root_trail, tree_trail, IsForest, IsTreePointer}
 use Rattle.bp_shapes.proofs.ForestLaws.{pointers, skeleton, short, same_pointer, same_trail, IsShort}
+use Rattle.bp_shapes.proofs.ExactSets.{unheld_exact}
 use Rattle.bp_shapes.proofs.FreeSets.{pointer_fronts}
 use Rattle.bp_shapes.proofs.PathTrails.{trail_of-next, front-trail_of}
 use Rattle.bp_cow.specs.declared.touched.Run.{Run}
@@ -197,7 +198,7 @@ module _ (old : Image) (bound : ℕ → ℕ) (touched : Touched) (free : ℕ →
             let leaf : run.off / 8 / 512 ≡ run.off / 4096 + 0 = omega arith in
             ap (λ p. trail_of p d) way ∙ front-run_way run 0 (run.off / 8) d leaf (subst (λ p. d ≤ length p) way low) ∙ ap (λ r. trail_of (end_path_of r paths 0) d) (sym e)
 
-    first-pointer : (d : ℕ) → d ≤ length ((job_of touched).way 0) → IsTreePointer old bound (trail_of first d)
+    pub first-pointer : (d : ℕ) → d ≤ length ((job_of touched).way 0) → IsTreePointer old bound (trail_of first d)
     first-pointer d low = subst (IsTreePointer old bound) (first-front d low) (ways-fronts 0 some-ways d low)
 
     -- a word's path, among the paths that tell
@@ -279,7 +280,7 @@ module _ (old : Image) (bound : ℕ → ℕ) (touched : Touched) (free : ℕ →
       some_blocks = let least = wf.at_least in omega (arith, least);
       whole = wf.whole;
       forest = can.forest;
-      exact = can.exact;
+      exact = unheld_exact old bound can.forest free can.exact;
       below = λ i here. (begin-way i here).0;
       short = ways-short;
       cover = λ i here. (begin-way i here).1 ∙ sym (first-front n short);

@@ -25,3 +25,4 @@ pub mod CopiesNeed
 pub mod CoverOf
 pub mod CallerLaws
 pub mod PerformsLaws
+pub mod CommitTaking

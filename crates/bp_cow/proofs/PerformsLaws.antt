@@ -75,7 +75,7 @@ module _ (start now : ℕ → Bool) (word most : ℕ) (old new : Memory) (done :
       let is : IsFreeBlock (current_words old) b = free b was in
       has-filter (gone start now) (range_with_len 0 (block_count (current_words old))) b (has-range 0 (block_count (current_words old)) b (omega arith) (omega (arith, is.high))) (gone_of (start b) (now b) was none)
 
-  of_copy : (b : ℕ) → Has copies b → (start b ≡ true) × (now b ≡ false)
+  pub of_copy : (b : ℕ) → Has copies b → (start b ≡ true) × (now b ≡ false)
   of_copy b has = of_gone (start b) (now b) (filtered (gone start now) (range_with_len 0 (block_count (current_words old))) b has)
 
   pub copies_taken : TakesBlocks (current_words old) copies done.commit.prepared

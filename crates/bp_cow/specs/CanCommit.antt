@@ -1,9 +1,10 @@
 -- What a commit asks.
 use Rattle.std.specs.Prelude.{◌≡◌, ◌≢◌, ℕ, suc, ◌-◌, ◌/◌, ◌<◌, ◌≤◌, length, Bool, Option, None, Some}
+use Rattle.bp_layout.specs.Free.{AreUnheld}
 use Rattle.bp_layout.specs.Words.{Image, word, height_of}
 use Rattle.bp_layout.specs.Inode.{root_of, size_of}
 use Rattle.bp_layout.specs.Reached.{IsReached}
-use Rattle.bp_shapes.specs.Forest.{IsExactSet, root_trail, IsForest, IsTreePointer}
+use Rattle.bp_shapes.specs.Forest.{root_trail, IsForest, IsTreePointer}
 use Rattle.bp_shapes.specs.Trail.{trail_of}
 use Rattle.bp_cow.specs.Touched.{IsTouched, run_end, run_path, path_of, word_paths}
 use Rattle.bp_cow.specs.declared.touched.Run.{Run}
@@ -22,12 +23,12 @@ HasRunIn old bound None = Unit {0}
 HasRunIn old bound (Some run) = IsRunIn old bound run
 
 -- `bound`: of each tree the greater of its size and the size that it is given. Under these sizes the reached trees are sound, no block is in two, and the free blocks
--- are just those to which no pointer leads. Each proper front of a touched path is a pointer, and no touched path is one.
+-- are just those that none of them has. Each proper front of a touched path is a pointer, and no touched path is one.
 pub record CanCommit (old : Image) (bound : ℕ → ℕ) (touched : Touched) (free : ℕ → Bool) : Type 0 where
   pub shape : IsTouched touched
   pub forest : IsForest old bound
   pub sizes : (t : ℕ) → IsReached old t → size_of old t ≤ bound t
-  pub exact : IsExactSet old (IsTreePointer old bound) free
+  pub exact : AreUnheld old (IsReached old) bound free
   pub pointers : (i d : ℕ) → i < length touched.words.items → d < length (path_of (word_paths touched) i) → IsTreePointer old bound (trail_of (path_of (word_paths touched) i) d)
   pub contents : (i : ℕ) → i < length touched.words.items → ¬ IsTreePointer old bound (trail_of (path_of (word_paths touched) i) (length (path_of (word_paths touched) i)))
   pub run : HasRunIn old bound touched.run

@@ -1,23 +1,43 @@
 -- What a commit does.
-use Rattle.std.specs.Prelude.{◌≡◌, ℕ, ◌+◌, ◌*◌, length}
-use Rattle.bp_free.specs.Set.{Set, has, members}
-use Rattle.bp_shapes.specs.Trail.{place_on, trail_of}
-use Rattle.bp_shapes.specs.Forest.{IsExactSet, IsTreePointer}
+use Rattle.std.specs.Prelude.{◌≡◌, ℕ, ◌+◌, ◌*◌, List, length, true}
 use Rattle.pm_region.specs.Memory.{Memory, current_words}
-use Rattle.bp_cow.specs.Adds.{AddsCopyCommit}
-use Rattle.bp_cow.specs.Job.{copied, IsTurned}
+use Rattle.pm_region.specs.Safe.{AddsCommit}
+use Rattle.bp_limits.specs.Limits.{block_words}
+use Rattle.bp_free.specs.Set.{Set, has}
+use Rattle.bp_layout.specs.Free.{AreUnheld}
+use Rattle.bp_layout.specs.Members.{Each}
+use Rattle.bp_layout.specs.Reached.{IsReached}
+use Rattle.bp_layout.specs.Same.{Same}
+use Rattle.bp_layout.specs.WordPaths.{address}
+use Rattle.bp_layout.specs.Words.{Image}
+use Rattle.bp_shapes.specs.Forest.{IsTreePointer}
+use Rattle.bp_tree.specs.Performs.{TakesBlocks}
 use Rattle.bp_cow.specs.Committed.{IsCommitted, after_commit}
-use Rattle.bp_cow.specs.Cover.{end_path, CoverHas}
+use Rattle.bp_cow.specs.Cover.{commit_cover, copied_count}
+use Rattle.bp_cow.specs.Job.{IsTurned}
 use Rattle.bp_cow.specs.Touched.{job_of}
 use Rattle.bp_cow.specs.declared.touched.Touched.{Touched}
 
--- By one store at the word of the cover, alone in its epoch after a quiet preparation, each touched word has its value. `taken`: the blocks that are free at that store. The blocks that it
--- needed were taken from those that were free, each is stored to, and nothing else is stored to before it. In the end just the blocks to which no pointer leads are free.
+-- the stores that a commit makes at most: those of the words of each copy and of the pointer to it, of the touched words, and the last one
+abbrev pub commit_stores : Image → Touched → ℕ
+commit_stores image touched = (block_words + 1) * copied_count image touched + length touched.words.items + 1
+
+-- the word of the cover
+abbrev pub cover_word : Image → Touched → ℕ
+cover_word image touched = address image (commit_cover image touched)
+
+-- By one store at the word of the cover, alone in its epoch after a quiet preparation, each touched word has its value. Before it there are stores to the blocks that are taken
+-- for the copies, to each of them, and nowhere else. In the end just the blocks that no reached tree has are free, so those that were copied are.
 pub record CommitsTouched (bound : ℕ → ℕ) (touched : Touched) (old new : Memory) (blocks blocks_after : Set) : Type 0 where
-  pub cover : ℕ
-  pub has_cover : CoverHas (current_words old) touched cover
-  pub taken : Set
-  pub count : length (members blocks) ≡ length (members taken) + copied (job_of touched) cover
-  pub commit : AddsCopyCommit (has blocks) (has taken) (place_on (current_words old) (trail_of (end_path touched 0) cover)) (513 * copied (job_of touched) cover + length touched.words.items + 1) old new
-  pub words : IsCommitted (current_words old) (current_words new) (IsTreePointer (current_words old) bound) (IsTurned (job_of touched) cover) (after_commit (current_words old) (job_of touched))
-  pub exact : IsExactSet (current_words new) (IsTreePointer (current_words old) bound) (has blocks_after)
+  pub value : ℕ
+  pub commit : AddsCommit Same (cover_word (current_words old) touched) value 2 (commit_stores (current_words old) touched) old new
+  pub taken : List ℕ
+  pub takes : TakesBlocks (current_words old) taken commit.prepared
+  pub number : length taken ≡ copied_count (current_words old) touched
+  -- the blocks were in the set of free ones
+  pub from : Each (λ b. has blocks b ≡ true) taken
+  -- the pointers above the cover's word stay
+  pub stays : address (current_words new) (commit_cover (current_words old) touched) ≡ cover_word (current_words old) touched
+  pub words : IsCommitted (current_words old) (current_words new) (IsTreePointer (current_words old) bound) (IsTurned (job_of touched) (length (commit_cover (current_words old) touched)))
+      (after_commit (current_words old) (job_of touched))
+  pub exact : AreUnheld (current_words new) (IsReached (current_words old)) bound (has blocks_after)

@@ -1,22 +1,18 @@
 //! The commit.
 
-ghost use Rattle.std.specs.Prelude.{◌≡◌, ◌≢◌, ℕ, ◌+◌, ◌-◌, ◌*◌, ◌/◌, ◌<◌, ◌≤◌, length, true, false};
+ghost use Rattle.std.specs.Prelude.{◌≡◌, ◌≢◌, ℕ, ◌+◌, ◌/◌, ◌<◌, ◌≤◌, length, false};
 ghost use Rattle.bp_free.specs.Set.{Set, has, members};
 ghost use Rattle.bp_layout.specs.Words.{word, block_count};
 ghost use Rattle.bp_shapes.specs.Forest.{IsExactSet, IsTreePointer};
-ghost use Rattle.bp_layout.specs.Inode.{size_of};
-ghost use Rattle.bp_layout.specs.Reached.{IsReached};
 ghost use Rattle.bp_layout.specs.WellFormed.{IsWellFormed};
 ghost use Rattle.pm_epochs.specs.Crash.{commit};
 ghost use Rattle.pm_region.specs.Memory.{current_words, room_in, Adds};
-ghost use Rattle.bp_cow.specs.Adds.{AddsCopyCommit};
 ghost use Rattle.bp_cow.specs.CanCommit.{CanCommit};
-ghost use Rattle.bp_cow.specs.Commit.{CommitsTouched};
-ghost use Rattle.bp_cow.specs.Cover.{CoverHas};
-ghost use Rattle.bp_cow.specs.Job.{ways, copies, copied, value_upto, laid_on, IsAnew};
-ghost use Rattle.bp_cow.specs.Plan.{Plan, planned, CanMake};
-ghost use Rattle.bp_cow.specs.Stage.{IsStage};
-ghost use Rattle.bp_cow.specs.Touched.{IsTouched, job_of, only_value};
+ghost use Rattle.bp_cow.specs.Commit.{CommitsTouched, commit_stores};
+ghost use Rattle.bp_cow.specs.Cover.{copied_count};
+ghost use Rattle.bp_cow.specs.Plan.{Plan};
+ghost use Rattle.bp_cow.specs.Touched.{IsTouched, only_value};
+ghost use Rattle.bp_cow.specs.Turned.{CanTurn, IsTurnedOver};
 
 use crate::build::make;
 use crate::covering::find_cover;
@@ -24,6 +20,7 @@ use crate::giving::give_back;
 use crate::touched::Touched;
 use bp_free::{Blocks, Parts};
 use bp_inplace::commit_word;
+use bp_limits::BLOCK_SIZE;
 use pm_region::Region;
 
 /// Copies the blocks from the cover down with the touched words in place, and turns the cover's pointer to the copies. The
@@ -37,25 +34,18 @@ fn turn_over<R: Region>(
 )
     ghost plan: { Plan }
     requires touched { IsTouched touched.now }
-    requires can { CanMake (planned plan touched.now) from }
-    requires old { plan.old ≡ current_words (R.memory region.old) }
-    requires free { plan.free ≡ has blocks.old }
-    requires place { place ≡ plan.place }
-    requires well { IsWellFormed plan.old }
-    requires sizes { (t : ℕ) → IsReached plan.old t → size_of plan.old t ≤ plan.bound t }
-    requires some { copies (job_of touched.now) from ≤ length (members blocks.old) }
-    requires room { 513 * copies (job_of touched.now) from + (job_of touched.now).words + 3 ≤ room_in (R.memory region.old) }
-    ensures commit { AddsCopyCommit (has blocks.old) (has blocks.new) place (513 * copies (job_of touched.now) from + (job_of touched.now).words) (R.memory region.old) (R.memory region.new) }
-    ensures words { IsStage plan.old (current_words (R.memory region.new)) (IsTreePointer plan.old plan.bound) (IsAnew (job_of touched.now) from (ways (job_of touched.now)) from)
-        (value_upto (job_of touched.now) (job_of touched.now).words) (laid_on plan.old (job_of touched.now)) (has blocks.new) }
+    requires can { CanTurn plan touched.now from place blocks.old (R.memory region.old) }
+    ensures done { IsTurnedOver plan touched.now from place blocks.old blocks.new (R.memory region.old) (R.memory region.new) }
     ensures others { (w : ℕ) → w ≢ place → plan.free (w / 512) ≡ false → word (current_words (R.memory region.new)) w ≡ word plan.old w }
-    ensures count { length (members blocks.old) ≡ length (members blocks.new) + copies (job_of touched.now) from }
-    ensures size { length blocks.new ≡ length blocks.old }
     ensures base { length (R.memory region.new).base ≡ length (R.memory region.old).base }
 {
     let pointer = region.load(place);
     let top = make(region, blocks, touched, from, place);
-    commit_word(region, place, top as u64 * 4096 + pointer % 4096);
+    commit_word(
+        region,
+        place,
+        top as u64 * BLOCK_SIZE + pointer % BLOCK_SIZE,
+    );
 }
 
 /// The same, and the blocks that were left are given back.
@@ -68,19 +58,9 @@ fn commit_copies<R: Region>(
 )
     ghost plan: { Plan }
     requires touched { IsTouched touched.now }
-    requires can { CanMake (planned plan touched.now) from }
-    requires old { plan.old ≡ current_words (R.memory region.old) }
-    requires free { plan.free ≡ has blocks.old }
-    requires place { place ≡ plan.place }
-    requires well { IsWellFormed plan.old }
-    requires sizes { (t : ℕ) → IsReached plan.old t → size_of plan.old t ≤ plan.bound t }
+    requires can { CanTurn plan touched.now from place blocks.old (R.memory region.old) }
     requires fits { block_count plan.old ≤ length blocks.old }
-    requires some { copies (job_of touched.now) from ≤ length (members blocks.old) }
-    requires room { 513 * copies (job_of touched.now) from + (job_of touched.now).words + 3 ≤ room_in (R.memory region.old) }
-    ensures commit { (taken : Set) × (length (members blocks.old) ≡ length (members taken) + copies (job_of touched.now) from)
-        × AddsCopyCommit (has blocks.old) (has taken) place (513 * copies (job_of touched.now) from + (job_of touched.now).words) (R.memory region.old) (R.memory region.new)
-        × IsStage plan.old (current_words (R.memory region.new)) (IsTreePointer plan.old plan.bound) (IsAnew (job_of touched.now) from (ways (job_of touched.now)) from)
-        (value_upto (job_of touched.now) (job_of touched.now).words) (laid_on plan.old (job_of touched.now)) (has taken) }
+    ensures done { (taken : Set) × IsTurnedOver plan touched.now from place blocks.old taken (R.memory region.old) (R.memory region.new) }
     ensures exact { IsExactSet (current_words (R.memory region.new)) (IsTreePointer plan.old plan.bound) (has blocks.new) }
     ensures size { length blocks.new ≡ length blocks.old }
 {
@@ -110,8 +90,8 @@ pub fn commit<R: Region>(parts: &mut Parts<R>, touched: &Touched<'_>)
     requires well_formed { IsWellFormed (current_words (R.memory parts.old.region)) }
     requires can { CanCommit (current_words (R.memory parts.old.region)) bound touched.now (has parts.old.blocks) }
     requires fits { block_count (current_words (R.memory parts.old.region)) ≤ length parts.old.blocks }
-    requires some { (cover : ℕ) → CoverHas (current_words (R.memory parts.old.region)) touched.now cover → copied (job_of touched.now) cover ≤ length (members parts.old.blocks) }
-    requires room { (cover : ℕ) → CoverHas (current_words (R.memory parts.old.region)) touched.now cover → 513 * copied (job_of touched.now) cover + length touched.now.words.items + 3 ≤ room_in (R.memory parts.old.region) }
+    requires some { copied_count (current_words (R.memory parts.old.region)) touched.now ≤ length (members parts.old.blocks) }
+    requires room { commit_stores (current_words (R.memory parts.old.region)) touched.now + 2 ≤ room_in (R.memory parts.old.region) }
     ensures commits { CommitsTouched bound touched.now (R.memory parts.old.region) (R.memory parts.new.region) parts.old.blocks parts.new.blocks }
     ensures size { length parts.new.blocks ≡ length parts.old.blocks }
     ensures inodes { parts.new.inodes ≡ parts.old.inodes }

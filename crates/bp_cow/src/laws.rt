@@ -2,7 +2,8 @@
 
 ghost use Rattle.std.specs.Prelude.{◌≡◌, ◌≢◌, ℕ, suc, ◌+◌, ◌-◌, ◌*◌, ◌/◌, ◌<◌, ◌≤◌, [], ◌∷◌, length, slice_index, Some, Bool, ◌%◌, None};
 ghost use Rattle.bp_changes.specs.Commits.{Commits};
-ghost use Rattle.bp_shapes.specs.Forest.{IsExactSet, IsForest, IsTreePointer, tree_trail};
+ghost use Rattle.bp_shapes.specs.Forest.{IsForest, IsTreePointer, tree_trail};
+ghost use Rattle.bp_layout.specs.Free.{AreFreeBlocks};
 ghost use Rattle.bp_layout.specs.Inode.{kind_of, root_of, size_of};
 ghost use Rattle.bp_layout.specs.Members.{Has};
 ghost use Rattle.bp_layout.specs.Reached.{IsReached};
@@ -82,10 +83,10 @@ pub fn commits_are_told_on_trees(old: &[u64], new: &[u64], touched: &Touched<'_>
 pub fn a_word_or_a_run_can_be_committed(image: &[u64], touched: &Touched<'_>)
     requires well_formed { IsWellFormed image.now }
     requires touched { IsTouched touched.now }
-    ensures word { (free : ℕ → Bool) (t k : ℕ) → IsExactSet image.now (IsTreePointer image.now (size_of image.now)) free → touched.now.run ≡ None → length touched.now.words.items ≡ 1 →
+    ensures word { (free : ℕ → Bool) (t k : ℕ) → AreFreeBlocks image.now free → touched.now.run ≡ None → length touched.now.words.items ≡ 1 →
         IsReached image.now t → 8 * k < size_of image.now t → (t ≡ 0 → k % 8 ≢ 1) →
         trail_of (path_of (word_paths touched.now) 0) (length (path_of (word_paths touched.now) 0)) ≡ tree_trail (height_of (word image.now 2)) t (suc (height_of (root_of image.now t))) k →
         CanCommit image.now (size_of image.now) touched.now free }
-    ensures run { (free : ℕ → Bool) (run : Run) → IsExactSet image.now (IsTreePointer image.now (size_of image.now)) free → touched.now.run ≡ Some run → length touched.now.words.items ≡ 0 →
+    ensures run { (free : ℕ → Bool) (run : Run) → AreFreeBlocks image.now free → touched.now.run ≡ Some run → length touched.now.words.items ≡ 0 →
         IsRunIn image.now (size_of image.now) run → CanCommit image.now (size_of image.now) touched.now free }
 {}

@@ -1,9 +1,11 @@
 -- What a commit gives its caller: it takes the blocks that its copies need and no others, and the word of the cover stays where it is.
 use Rattle.std.proofs.Common.{◌≡◌, ◌≢◌, ◌⊎◌, ℕ, zero, suc, ◌+◌, ◌*◌, ◌/◌, ◌<◌, ◌≤◌, List, [], ◌∷◌, ◌++◌, length, filter, Bool, true, false, refl, sym, ◌∙◌, ap, subst, arith, lt_of_lt_of_le}
+use Rattle.std.specs.Prelude.{nat_le}
 use Rattle.std.specs.List.{range_with_len, slice_index}
 use Rattle.pm_epochs.specs.Crash.{commit}
 use Rattle.pm_epochs.specs.Log.{IsPiece}
 use Rattle.pm_region.specs.Memory.{Memory, current_words, Adds}
+use Rattle.bp_limits.specs.Limits.{block_words}
 use Rattle.bp_free.specs.Set.{Set, has, members}
 use Rattle.bp_free.proofs.Members.{filter_none}
 use Rattle.bp_layout.specs.Free.{numbers_below}
@@ -19,15 +21,15 @@ use Rattle.bp_shapes.specs.Trail.{Trail, block_on, place_on, trail_of}
 use Rattle.bp_shapes.proofs.ExactSets.{exact-unheld, led_held}
 use Rattle.bp_shapes.proofs.FreeSets.{wf_forest}
 use Rattle.bp_shapes.proofs.PathTrails.{AreNodes, address-on, length-trail_of}
-use Rattle.bp_tree.specs.Performs.{IsOpen, Performs, most_stores}
+use Rattle.bp_tree.specs.Performs.{IsOpen, AddsTaking, Performs, most_stores}
 use Rattle.bp_tree.specs.Performs.IsOpen.{in_live, at_root}
-use Rattle.bp_tree.proofs.PerformsLaws.{each-of, performs_committed}
+use Rattle.bp_tree.proofs.PerformsLaws.{each-of, each-has, performs_committed, performs_twice}
 use Rattle.bp_cow.specs.declared.touched.Touched.{Touched}
 use Rattle.bp_cow.specs.CanCommit.{CanCommit}
 use Rattle.bp_cow.specs.Commit.{CommitsTouched, commit_stores, cover_word}
 use Rattle.bp_cow.specs.Committed.{IsCommitted, after_commit}
 use Rattle.bp_cow.specs.Cover.{end_path, BeginAlike, CoverHas, commit_cover, copied_count}
-use Rattle.bp_cow.specs.Job.{front, ways, copied, IsAnew, IsTurned}
+use Rattle.bp_cow.specs.Job.{Job, front, ways, begins, copied, turned_for, turned_upto, IsAnew, IsTurned}
 use Rattle.bp_cow.specs.Job.IsAnew.{is_cover, is_begun, is_front}
 use Rattle.bp_cow.specs.Touched.{IsTouched, all_paths, job_of}
 use Rattle.bp_cow.proofs.CommitEnd.{CommitsCopies}
@@ -35,7 +37,7 @@ use Rattle.bp_cow.proofs.CommitLaws.{led_has, has_led}
 use Rattle.bp_cow.proofs.CopiesNeed.{alike-all, none-begins}
 use Rattle.bp_cow.proofs.CoverLaws.{some-ends, end-slots}
 use Rattle.bp_cow.proofs.CoverOf.{alike_front, nodes_of, cover_has, cover_length, cover_front, cover_address, count_is}
-use Rattle.bp_cow.proofs.JobLaws.{first-length, first-pointer}
+use Rattle.bp_cow.proofs.JobLaws.{first-length, first-pointer, ways-short}
 use Rattle.bp_cow.proofs.PerformsLaws.{copies, of_copy, copies_taken, copies_counted}
 
 -- numbers past which none is in count for nothing
@@ -197,3 +199,55 @@ module _ (old new : Memory) (change : Change) (Effect : Image → Image → Type
   commit_performs covers count few inside well_formed effect =
       performs_committed old new change Effect (cover_word (current_words old) touched) done.value 2 (commit_stores (current_words old) touched) done.taken done.commit done.takes
       (sym done.stays ∙ ap (address (current_words new)) covers) (omega arith) few (done.number ∙ count) inside well_formed effect
+
+-- And so does a commit after a preparation. What the set has that the commit is given was free before, and the preparation did not take it.
+module _ (old middle new : Memory) (change : Change) (Effect : Image → Image → Type 0) (bound : ℕ → ℕ) (touched : Touched) (blocks after : Set) (first : List ℕ) (most_barriers most : ℕ)
+    (prepared : AddsTaking first most_barriers most old middle) (done : CommitsTouched bound touched middle new blocks after) where
+  pub commit_performs_after : ((b : ℕ) → IsLiveBlock (current_words middle) b → IsLiveBlock (current_words old) b ⊎ Has first b) →
+      ((b : ℕ) → has blocks b ≡ true → IsFreeBlock (current_words old) b × (Has first b → ⊥)) →
+      commit_cover (current_words middle) touched ≡ cover (current_words old) change → most_barriers ≤ 6 →
+      most + commit_stores (current_words middle) touched ≤ most_stores (need (current_words old) change) → length first + copied_count (current_words middle) touched ≡ need (current_words old) change →
+      IsOpen (current_words middle) done.taken (cover_word (current_words middle) touched) →
+      IsWellFormed (current_words new) → Effect (current_words old) (current_words new) → Performs old new change Effect
+  commit_performs_after live free covers few_barriers few count inside well_formed effect =
+      performs_twice old new change Effect middle (cover_word (current_words middle) touched) done.value most_barriers most 2 (commit_stores (current_words middle) touched) first done.taken prepared done.commit done.takes
+      live (λ b took. free b (each-has (λ c. has blocks c ≡ true) done.taken b done.from took)) (sym done.stays ∙ ap (address (current_words new)) covers) (omega (arith, few_barriers)) few
+      (omega (arith, done.number, count)) inside well_formed effect
+
+-- ---- how many blocks are copied at most
+
+turned_few : (job : Job) (from i depth : ℕ) → turned_for job from i depth ≤ depth
+turned_few job from i zero = omega arith
+turned_few job from i (suc depth) = go (nat_le from depth) refl (begins job from i (front job i (suc depth))) refl (turned_few job from i depth)
+  where
+    go : (x : Bool) → nat_le from depth ≡ x → (y : Bool) → begins job from i (front job i (suc depth)) ≡ y → turned_for job from i depth ≤ depth → turned_for job from i (suc depth) ≤ suc depth
+    go false e y f rest = rw e (omega (arith, rest))
+    go true e true f rest = rw (e, f) (omega (arith, rest))
+    go true e false f rest = rw (e, f) (omega (arith, rest))
+
+upto_few : (job : Job) (from count : ℕ) → ((i : ℕ) → i < count → length (job.way i) ≤ 11) → turned_upto job from count ≤ 11 * count
+upto_few job from zero short = omega arith
+upto_few job from (suc i) short =
+    let rest : turned_upto job from i ≤ 11 * i = upto_few job from i (λ k low. short k (omega (arith, low))) in
+    let one : turned_for job from i (length (job.way i)) ≤ length (job.way i) = turned_few job from i (length (job.way i)) in
+    let few : length (job.way i) ≤ 11 = short i (omega arith) in
+    omega (arith, rest, one, few)
+
+module _ (image : Image) (bound : ℕ → ℕ) (touched : Touched) (free : ℕ → Bool) (wf : IsWellFormed image) (can : CanCommit image bound touched free) where
+  -- a way has at most 11 pointers
+  pub copied_few : copied_count image touched ≤ 1 + 11 * ways (job_of touched)
+  copied_few = subst (λ n. n ≤ 1 + 11 * ways (job_of touched)) (count_is touched can.shape image (none-begins image bound touched free wf can) from (cover_has touched can.shape image)) (go (nat_le from (length ((job_of touched).way 0))) refl)
+    where
+      from : ℕ
+      from = length (commit_cover image touched)
+
+      all : turned_upto (job_of touched) from (ways (job_of touched)) ≤ 11 * ways (job_of touched)
+      all = upto_few (job_of touched) from (ways (job_of touched)) (ways-short image bound touched free wf can)
+
+      go : (x : Bool) → nat_le from (length ((job_of touched).way 0)) ≡ x → copied (job_of touched) from ≤ 1 + 11 * ways (job_of touched)
+      go true e = rw e (omega (arith, all))
+      go false e = rw e (omega arith)
+
+  -- so with a run of few leaves the stores are few: 32 words and 17 leaves, those of 65,536 bytes, make at most 540 copies
+  pub stores_few : (job_of touched).leaves ≤ 17 → commit_stores image touched ≤ block_words * copied_count image touched + 573
+  stores_few few = omega (arith, copied_few, few, can.shape.few)

@@ -144,7 +144,7 @@ module _ (old : Image) (bound : ℕ → ℕ) (touched : Touched) (free : ℕ →
       let less : d < length (path_of paths i) = omega (arith, low, length-above (path_of paths i), some) in
       subst (IsTreePointer old bound) (sym (above-trail (path_of paths i) d less)) (can.pointers i d here less))
 
-  ways-short : (i : ℕ) → i < ways (job_of touched) → length ((job_of touched).way i) ≤ 11
+  pub ways-short : (i : ℕ) → i < ways (job_of touched) → length ((job_of touched).way i) ≤ 11
   ways-short = ways-by (λ p. length p ≤ 11)
       (λ run j e low. let short = (is-run run e).short in omega (arith, short, length-run_way run j))
       (λ i here. omega (arith, can.shape.short i here, length-above (path_of paths i)))

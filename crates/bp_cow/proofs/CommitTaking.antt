@@ -1,5 +1,5 @@
 -- What a commit gives its caller: it takes the blocks that its copies need and no others, and the word of the cover stays where it is.
-use Rattle.std.proofs.Common.{◌≡◌, ◌≢◌, ◌⊎◌, ℕ, zero, suc, ◌+◌, ◌*◌, ◌/◌, ◌<◌, ◌≤◌, List, [], ◌∷◌, ◌++◌, length, filter, Bool, true, false, refl, sym, ◌∙◌, ap, subst, arith, lt_of_lt_of_le}
+use Rattle.std.proofs.Common.{◌≡◌, ◌⊎◌, ℕ, zero, suc, ◌+◌, ◌*◌, ◌/◌, ◌<◌, ◌≤◌, List, ◌++◌, length, filter, Bool, true, false, refl, sym, ◌∙◌, ap, subst, arith, lt_of_lt_of_le}
 use Rattle.std.specs.Prelude.{nat_le}
 use Rattle.std.specs.List.{range_with_len, slice_index}
 use Rattle.pm_epochs.specs.Crash.{commit}
@@ -20,7 +20,7 @@ use Rattle.bp_shapes.specs.Forest.{IsTreePointer}
 use Rattle.bp_shapes.specs.Trail.{Trail, block_on, place_on, trail_of}
 use Rattle.bp_shapes.proofs.ExactSets.{exact-unheld, led_held}
 use Rattle.bp_shapes.proofs.FreeSets.{wf_forest}
-use Rattle.bp_shapes.proofs.PathTrails.{AreNodes, address-on, length-trail_of}
+use Rattle.bp_shapes.proofs.PathTrails.{address-on, length-trail_of}
 use Rattle.bp_tree.specs.Performs.{IsOpen, AddsTaking, Performs, most_stores}
 use Rattle.bp_tree.specs.Performs.IsOpen.{in_live, at_root}
 use Rattle.bp_tree.proofs.PerformsLaws.{each-of, each-has, performs_committed, performs_twice}
@@ -28,7 +28,7 @@ use Rattle.bp_cow.specs.declared.touched.Touched.{Touched}
 use Rattle.bp_cow.specs.CanCommit.{CanCommit}
 use Rattle.bp_cow.specs.Commit.{CommitsTouched, commit_stores, cover_word}
 use Rattle.bp_cow.specs.Committed.{IsCommitted, after_commit}
-use Rattle.bp_cow.specs.Cover.{end_path, BeginAlike, CoverHas, commit_cover, copied_count}
+use Rattle.bp_cow.specs.Cover.{end_path, CoverHas, commit_cover, copied_count}
 use Rattle.bp_cow.specs.Job.{Job, front, ways, begins, copied, turned_for, turned_upto, IsAnew, IsTurned}
 use Rattle.bp_cow.specs.Job.IsAnew.{is_cover, is_begun, is_front}
 use Rattle.bp_cow.specs.Touched.{IsTouched, all_paths, job_of}

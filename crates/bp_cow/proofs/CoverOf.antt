@@ -1,9 +1,9 @@
 -- The cover that is found is the cover by its definition.
-use Rattle.std.proofs.Common.{◌≡◌, ◌≢◌, ◌⊎◌, ℕ, zero, suc, ◌+◌, ◌-◌, ◌/◌, ◌<◌, ◌≤◌, List, [], ◌∷◌, ◌++◌, length, take, not, Bool, Option, None, Some, true, false, refl, sym, ◌∙◌, ap, subst, arith, inl, inr}
+use Rattle.std.proofs.Common.{◌≡◌, ◌≢◌, ◌⊎◌, ℕ, zero, suc, ◌+◌, ◌-◌, ◌/◌, ◌<◌, ◌≤◌, List, [], length, take, not, Bool, Option, None, Some, true, false, refl, sym, ◌∙◌, ap, subst, arith, inl, inr}
 use Rattle.std.specs.Prelude.{◌==◌}
 use Rattle.std.specs.List.{slice_index}
-use Rattle.std.proofs.lemmas.Bool.{cases_eq, cases_lt, eqb-true, eqb-false}
-use Rattle.std.proofs.lemmas.List.{length-map, length-take}
+use Rattle.std.proofs.lemmas.Bool.{cases_eq, cases_lt, eqb-true}
+use Rattle.std.proofs.lemmas.List.{length-take}
 use Rattle.bp_layout.specs.Members.{Has}
 use Rattle.bp_layout.specs.Need.{common_all, prefixes_of}
 use Rattle.bp_layout.specs.WordPaths.{WordPath, address, is_pointed}
@@ -16,7 +16,7 @@ use Rattle.bp_cow.specs.declared.touched.Run.{Run}
 use Rattle.bp_cow.specs.declared.touched.Touched.{Touched}
 use Rattle.bp_cow.specs.Cover.{end_path, end_path_of, ends, ends_of, BeginAlike, CoverHas, IsCover, commit_cover, copied_count}
 use Rattle.bp_cow.specs.Job.{copied}
-use Rattle.bp_cow.specs.Touched.{IsRun, HasRun, IsTouched, NoneBegins, all_paths, run_end, run_path, run_paths, path_of, word_paths, job_of}
+use Rattle.bp_cow.specs.Touched.{HasRun, IsTouched, NoneBegins, all_paths, run_end, word_paths, job_of}
 use Rattle.bp_cow.proofs.CommonPaths.{Begins, Exists, all-begin, all-most, existing}
 use Rattle.bp_cow.proofs.CopiesNeed.{alike-all, has-word, has-of-run, copied-need}
 use Rattle.bp_cow.proofs.CoverLaws.{some-ends}

@@ -54,9 +54,6 @@ module _ (plan : Plan) (from : ℕ) (can : CanMake plan from) where
     pub start_to : (0 < copy) × (512 * copy + 512 ≤ length plan.old)
     start_to = let range = can.exact.in_range copy takes.was in (range.0, omega (arith, range.1, can.whole))
 
-    pub start_apart : block_of (word plan.old plan.place) ≡ copy → ⊥
-    start_apart e = let used : plan.free copy ≡ false = ap plan.free (sym e) ∙ start_used in let was = takes.was in absurd (cc)
-
     pub start_taken : (place : ℕ) → place / 512 ≡ copy → IsTakenWord plan.free free_after place
     start_taken place e = record { was = ap plan.free e ∙ takes.was; gone = ap free_after e ∙ takes.gone }
 

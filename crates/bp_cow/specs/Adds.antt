@@ -1,19 +1,21 @@
 -- The stores that make copies: they go to blocks that were free, and to each of them that is taken.
-use Rattle.std.specs.Prelude.{◌≡◌, ℕ, ◌/◌, Bool, true, false}
+use Rattle.std.specs.Prelude.{◌≡◌, ◌⊎◌, ℕ, ◌/◌, Bool, true, false}
 use Rattle.pm_epochs.specs.Log.{StoresTo}
 use Rattle.pm_epochs.specs.May.{AnyAt, StoresMay}
 use Rattle.bp_layout.specs.Same.{Same}
 use Rattle.pm_region.specs.Memory.{Memory}
+use Rattle.bp_free.specs.Set.{Set, has}
+use Rattle.bp_tree.specs.Performs.{InBlock}
 use Rattle.pm_region.specs.Safe.{AddsMay, AddsCommit}
 
--- a word of a block
-abbrev pub IsWordOf : ℕ → ℕ → Type 0
-IsWordOf block word = word / 512 ≡ block
+-- a word of a block, or one word more
+abbrev pub InBlockOr : ℕ → ℕ → ℕ → Type 0
+InBlockOr block place word = InBlock block word ⊎ (word ≡ place)
 
 -- stores to some words, one of them to a block
 pub record AddsInto (Inside : ℕ → Type 0) (block most : ℕ) (old new : Memory) : Type 0 where
   pub part : AddsMay (AnyAt Inside) 0 most old new
-  pub some : StoresTo (IsWordOf block) part.added
+  pub some : StoresTo (InBlock block) part.added
 
 -- a word of a block that has been taken
 pub record IsTakenWord (start now : ℕ → Bool) (word : ℕ) : Type 0 where
@@ -23,13 +25,17 @@ pub record IsTakenWord (start now : ℕ → Bool) (word : ℕ) : Type 0 where
 -- Stores to blocks that have been taken since the start, to each that has been taken since `before`.
 pub record AddsCopies (start before after : ℕ → Bool) (most : ℕ) (old new : Memory) : Type 0 where
   pub part : AddsMay (AnyAt (IsTakenWord start after)) 0 most old new
-  pub each : (b : ℕ) → before b ≡ true → after b ≡ false → StoresTo (IsWordOf b) part.added
+  pub each : (b : ℕ) → before b ≡ true → after b ≡ false → StoresTo (InBlock b) part.added
   pub fewer : (b : ℕ) → after b ≡ true → before b ≡ true
+
+-- the same by the sets themselves
+abbrev pub StoresCopies : (ℕ → Bool) → Set → Set → ℕ → Memory → Memory → Type 0
+StoresCopies start before after most old new = AddsCopies start (has before) (has after) most old new
 
 -- A quiet preparation and one store alone in its epoch, at this word. The stores before it go to blocks that have been taken since the start, to each of them one at least.
 pub record AddsCopyCommit (start taken : ℕ → Bool) (word most : ℕ) (old new : Memory) : Type 0 where
   pub value : ℕ
   pub commit : AddsCommit Same word value 2 most old new
   pub only : StoresMay (AnyAt (IsTakenWord start taken)) commit.prepared
-  pub each : (b : ℕ) → start b ≡ true → taken b ≡ false → StoresTo (IsWordOf b) commit.prepared
+  pub each : (b : ℕ) → start b ≡ true → taken b ≡ false → StoresTo (InBlock b) commit.prepared
   pub fewer : (b : ℕ) → taken b ≡ true → start b ≡ true

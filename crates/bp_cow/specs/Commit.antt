@@ -1,9 +1,9 @@
 -- What a commit does.
-use Rattle.std.specs.Prelude.{◌≡◌, ℕ, ◌+◌, ◌*◌, List, length, true}
-use Rattle.pm_region.specs.Memory.{Memory, current_words}
+use Rattle.std.specs.Prelude.{◌≡◌, ℕ, ◌+◌, ◌*◌, ◌≤◌, List, length, true}
+use Rattle.pm_region.specs.Memory.{Memory, current_words, room_in}
 use Rattle.pm_region.specs.Safe.{AddsCommit}
 use Rattle.bp_limits.specs.Limits.{block_words}
-use Rattle.bp_free.specs.Set.{Set, has}
+use Rattle.bp_free.specs.Set.{Set, has, members}
 use Rattle.bp_layout.specs.Free.{AreUnheld}
 use Rattle.bp_layout.specs.Members.{Each}
 use Rattle.bp_layout.specs.Reached.{IsReached}
@@ -21,6 +21,13 @@ use Rattle.bp_cow.specs.declared.touched.Touched.{Touched}
 -- the stores that a commit makes at most: those of the words of each copy and of the pointer to it, of the touched words, and the last one
 abbrev pub commit_stores : Image → Touched → ℕ
 commit_stores image touched = (block_words + 1) * copied_count image touched + length touched.words.items + 1
+
+-- as many blocks are free as it copies, and the log has room for its stores and for the barriers around the last one
+abbrev pub HasBlocks : Memory → Touched → Set → Type 0
+HasBlocks memory touched blocks = copied_count (current_words memory) touched ≤ length (members blocks)
+
+abbrev pub HasRoom : Memory → Touched → Type 0
+HasRoom memory touched = commit_stores (current_words memory) touched + 2 ≤ room_in memory
 
 -- the word of the cover
 abbrev pub cover_word : Image → Touched → ℕ

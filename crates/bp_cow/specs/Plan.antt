@@ -1,10 +1,13 @@
 -- What the making of copies is about, what it asks, and how far it has come.
-use Rattle.std.specs.Prelude.{◌≡◌, ℕ, ◌*◌, ◌-◌, ◌<◌, ◌≤◌, ◌∷◌, length, slice_index, slice_set, Bool}
+use Rattle.std.specs.Prelude.{◌≡◌, ℕ, ◌+◌, ◌*◌, ◌-◌, ◌<◌, ◌≤◌, ◌∷◌, length, slice_index, slice_set, Bool}
+use Rattle.pm_region.specs.Memory.{Memory, current_words}
+use Rattle.bp_limits.specs.Limits.{block_words}
+use Rattle.bp_free.specs.Set.{Set, has}
 use Rattle.bp_layout.specs.Words.{Image, word, block_count}
 use Rattle.bp_shapes.specs.Trail.{block_on, place_on, IsPlaced}
 use Rattle.bp_shapes.specs.Forest.{IsExactSet, IsForest, IsTreePointer}
 use Rattle.bp_cow.specs.Copies.{with_block}
-use Rattle.bp_cow.specs.Job.{Job, ways, front, end_of, word_trail, IsAnew, value_upto, laid_on}
+use Rattle.bp_cow.specs.Job.{Job, ways, front, end_of, word_trail, IsAnew, value_upto, laid_on, turned_for, turned_upto}
 use Rattle.bp_cow.specs.Stage.{IsBuilding}
 use Rattle.bp_cow.specs.Touched.{job_of}
 use Rattle.bp_cow.specs.declared.touched.Touched.{Touched}
@@ -64,6 +67,31 @@ CanMake plan from = CanBuild plan.old plan.bound plan.job from plan.place plan.f
 -- the block at a depth of a way
 abbrev pub reached : Plan → ℕ → ℕ → Image → ℕ
 reached plan i depth now = block_on (seen plan now) (front plan.job i depth)
+
+-- the same, by the words of a memory and the free blocks
+abbrev pub MadeIn : Plan → Touched → ℕ → ℕ → ℕ → Memory → Set → Type 0
+MadeIn plan touched from i depth memory blocks = IsMade (planned plan touched) from i depth (current_words memory) (has blocks)
+
+abbrev pub reached_in : Plan → Touched → ℕ → ℕ → Memory → ℕ
+reached_in plan touched i depth memory = reached (planned plan touched) i depth (current_words memory)
+
+-- how many pointers a way has, and how many of them are turned for it, and for all ways
+abbrev pub way_end : Touched → ℕ → ℕ
+way_end touched i = length ((job_of touched).way i)
+
+abbrev pub way_turns : Touched → ℕ → ℕ → ℕ
+way_turns touched from i = turned_for (job_of touched) from i (way_end touched i)
+
+-- one, where a way leads to a word that is given a value
+abbrev pub way_words : Touched → ℕ → ℕ
+way_words touched i = i + 1 - (job_of touched).leaves - (i - (job_of touched).leaves)
+
+abbrev pub all_turns : Touched → ℕ → ℕ
+all_turns touched from = turned_upto (job_of touched) from (ways (job_of touched))
+
+-- the stores for so many pointers that are turned: the words of each copy, and the pointer to it
+abbrev pub turn_stores : ℕ → ℕ
+turn_stores count = (block_words + 1) * count
 
 -- there is such a way, and it has such a depth
 pub record IsOnWay (plan : Plan) (from i depth : ℕ) : Type 0 where

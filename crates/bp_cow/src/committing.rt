@@ -1,15 +1,15 @@
 //! The commit.
 
 ghost use Rattle.std.specs.Prelude.{◌≡◌, ◌≢◌, ℕ, ◌+◌, ◌/◌, ◌<◌, ◌≤◌, length, false};
-ghost use Rattle.bp_free.specs.Set.{Set, has, members};
+ghost use Rattle.bp_free.specs.Set.{Set, has};
+ghost use Rattle.bp_limits.specs.Limits.{block_words};
 ghost use Rattle.bp_layout.specs.Words.{word, block_count};
 ghost use Rattle.bp_shapes.specs.Forest.{IsExactSet, IsTreePointer};
 ghost use Rattle.bp_layout.specs.WellFormed.{IsWellFormed};
 ghost use Rattle.pm_epochs.specs.Crash.{commit};
 ghost use Rattle.pm_region.specs.Memory.{current_words, room_in, Adds};
 ghost use Rattle.bp_cow.specs.CanCommit.{CanCommit};
-ghost use Rattle.bp_cow.specs.Commit.{CommitsTouched, commit_stores};
-ghost use Rattle.bp_cow.specs.Cover.{copied_count};
+ghost use Rattle.bp_cow.specs.Commit.{CommitsTouched, HasBlocks, HasRoom};
 ghost use Rattle.bp_cow.specs.Plan.{Plan};
 ghost use Rattle.bp_cow.specs.Touched.{IsTouched, only_value};
 ghost use Rattle.bp_cow.specs.Turned.{CanTurn, IsTurnedOver};
@@ -23,8 +23,8 @@ use bp_inplace::commit_word;
 use bp_limits::BLOCK_SIZE;
 use pm_region::Region;
 
-/// Copies the blocks from the cover down with the touched words in place, and turns the cover's pointer to the copies. The
-/// blocks that were left are not yet given back.
+/// Copies the blocks from the cover down with the touched words in place, and turns the cover's pointer to the copies.
+/// The blocks that were left are not yet given back.
 fn turn_over<R: Region>(
     region: &mut R,
     blocks: &mut Blocks,
@@ -35,17 +35,16 @@ fn turn_over<R: Region>(
     ghost plan: { Plan }
     requires touched { IsTouched touched.now }
     requires can { CanTurn plan touched.now from place blocks.old (R.memory region.old) }
-    ensures done { IsTurnedOver plan touched.now from place blocks.old blocks.new (R.memory region.old) (R.memory region.new) }
-    ensures others { (w : ℕ) → w ≢ place → plan.free (w / 512) ≡ false → word (current_words (R.memory region.new)) w ≡ word plan.old w }
+    ensures done { IsTurnedOver plan touched.now from place blocks.old blocks.new
+        (R.memory region.old) (R.memory region.new) }
+    ensures others { (w : ℕ) → w ≢ place → plan.free (w / block_words) ≡ false →
+        word (current_words (R.memory region.new)) w ≡ word plan.old w }
     ensures base { length (R.memory region.new).base ≡ length (R.memory region.old).base }
 {
     let pointer = region.load(place);
     let top = make(region, blocks, touched, from, place);
-    commit_word(
-        region,
-        place,
-        top as u64 * BLOCK_SIZE + pointer % BLOCK_SIZE,
-    );
+    let turned = top as u64 * BLOCK_SIZE + pointer % BLOCK_SIZE;
+    commit_word(region, place, turned);
 }
 
 /// The same, and the blocks that were left are given back.
@@ -60,8 +59,10 @@ fn commit_copies<R: Region>(
     requires touched { IsTouched touched.now }
     requires can { CanTurn plan touched.now from place blocks.old (R.memory region.old) }
     requires fits { block_count plan.old ≤ length blocks.old }
-    ensures done { (taken : Set) × IsTurnedOver plan touched.now from place blocks.old taken (R.memory region.old) (R.memory region.new) }
-    ensures exact { IsExactSet (current_words (R.memory region.new)) (IsTreePointer plan.old plan.bound) (has blocks.new) }
+    ensures done { (taken : Set) × IsTurnedOver plan touched.now from place blocks.old taken
+        (R.memory region.old) (R.memory region.new) }
+    ensures exact { IsExactSet (current_words (R.memory region.new))
+        (IsTreePointer plan.old plan.bound) (has blocks.new) }
     ensures size { length blocks.new ≡ length blocks.old }
 {
     let _words = region.words();
@@ -76,23 +77,25 @@ fn commit_one<R: Region>(region: &mut R, touched: &Touched<'_>, place: u32)
     requires touched { IsTouched touched.now }
     requires place { place < length (current_words (R.memory region.old)) }
     requires room { 3 ≤ room_in (R.memory region.old) }
-    ensures { Adds (R.memory region.old) (R.memory region.new) (commit place (only_value touched.now (word (current_words (R.memory region.old)) place))) }
+    ensures { Adds (R.memory region.old) (R.memory region.new)
+        (commit place (only_value touched.now (word (current_words (R.memory region.old)) place))) }
 {
     let old = region.load(place);
     commit_word(region, place, touched.only_value(old));
 }
 
-/// Gives the touched words their values by one store at the word of the cover, alone in its epoch: of the value, where the cover
-/// is the only touched word, and else of a pointer to copies of the blocks from there to the touched words. The blocks that
-/// were copied are given back in the end.
+/// Gives the touched words their values by one store at the word of the cover, alone in its epoch: of the value, where the
+/// cover is the only touched word, and else of a pointer to copies of the blocks from there to the touched words. As many
+/// blocks are taken as `need_cover` tells. Those that were copied are given back in the end.
 pub fn commit<R: Region>(parts: &mut Parts<R>, touched: &Touched<'_>)
     ghost bound: { ℕ → ℕ }
     requires well_formed { IsWellFormed (current_words (R.memory parts.old.region)) }
     requires can { CanCommit (current_words (R.memory parts.old.region)) bound touched.now (has parts.old.blocks) }
     requires fits { block_count (current_words (R.memory parts.old.region)) ≤ length parts.old.blocks }
-    requires some { copied_count (current_words (R.memory parts.old.region)) touched.now ≤ length (members parts.old.blocks) }
-    requires room { commit_stores (current_words (R.memory parts.old.region)) touched.now + 2 ≤ room_in (R.memory parts.old.region) }
-    ensures commits { CommitsTouched bound touched.now (R.memory parts.old.region) (R.memory parts.new.region) parts.old.blocks parts.new.blocks }
+    requires some { HasBlocks (R.memory parts.old.region) touched.now parts.old.blocks }
+    requires room { HasRoom (R.memory parts.old.region) touched.now }
+    ensures commits { CommitsTouched bound touched.now
+        (R.memory parts.old.region) (R.memory parts.new.region) parts.old.blocks parts.new.blocks }
     ensures size { length parts.new.blocks ≡ length parts.old.blocks }
     ensures inodes { parts.new.inodes ≡ parts.old.inodes }
 {

@@ -1,6 +1,7 @@
 //! The cover: the longest path that exists and with which all touched paths begin.
 
 ghost use Rattle.std.specs.Prelude.{◌≡◌, ◌≢◌, ℕ, ◌+◌, ◌<◌, ◌≤◌, length, slice_index, true, false};
+ghost use Rattle.bp_limits.specs.Limits.{block_words};
 ghost use Rattle.bp_shapes.specs.Trail.{block_on, place_on, trail_of};
 ghost use Rattle.pm_region.specs.Memory.{current_words};
 ghost use Rattle.bp_cow.specs.Cover.{end_path, ends, BeginAlike, LeadsInside, CoverHas, commit_cover};
@@ -12,8 +13,8 @@ use bp_tree::Slots;
 use pm_region::Region;
 
 impl Touched<'_> {
-    /// How many paths tell with what all touched paths begin: those of the first and of the last word of the run, and those of the
-    /// words.
+    /// How many paths tell with what all touched paths begin: those of the first and of the last word of the run, and those
+    /// of the words.
     fn ends(&self) -> usize
         ensures { result ≡ ends self.now }
     {
@@ -79,13 +80,16 @@ pub(crate) struct Found {
     pub(crate) place: u32,
 }
 
-/// The block to which the word at the end of a front points with which all touched paths begin, 0 where no longer front is one.
+/// The block to which the word at the end of a front points with which all touched paths begin, 0 where no longer front is
+/// one.
 fn below<R: Region>(region: &R, touched: &Touched<'_>, found: Found) -> u64
     requires touched { IsTouched touched.now }
     requires at { IsAt (current_words (R.memory region.now)) touched.now found }
-    ensures none { result ≡ 0 → BeginAlike touched.now (found.len + 1) → block_on (current_words (R.memory region.now)) (trail_of (end_path touched.now 0) found.len) ≡ 0 }
+    ensures none { result ≡ 0 → BeginAlike touched.now (found.len + 1) →
+        block_on (current_words (R.memory region.now)) (trail_of (end_path touched.now 0) found.len) ≡ 0 }
     ensures some { result ≢ 0 → BeginAlike touched.now (found.len + 1) }
-    ensures block { result ≢ 0 → result ≡ block_on (current_words (R.memory region.now)) (trail_of (end_path touched.now 0) found.len) }
+    ensures block { result ≢ 0 →
+        result ≡ block_on (current_words (R.memory region.now)) (trail_of (end_path touched.now 0) found.len) }
 {
     if touched.goes_on(found.len) {
         region.load(found.place) >> 12
@@ -97,7 +101,7 @@ fn below<R: Region>(region: &R, touched: &Touched<'_>, found: Found) -> u64
 /// Follows the path with which all touched paths begin as far as it exists.
 pub(crate) fn find_cover<R: Region>(region: &R, touched: &Touched<'_>) -> Found
     requires touched { IsTouched touched.now }
-    requires some { 512 ≤ length (current_words (R.memory region.now)) }
+    requires some { block_words ≤ length (current_words (R.memory region.now)) }
     requires in_range { LeadsInside (current_words (R.memory region.now)) touched.now }
     ensures at { IsAt (current_words (R.memory region.now)) touched.now result }
     ensures has { CoverHas (current_words (R.memory region.now)) touched.now result.len }
@@ -116,10 +120,11 @@ pub(crate) fn find_cover<R: Region>(region: &R, touched: &Touched<'_>) -> Found
     found
 }
 
-/// The cover of the touched words: the longest path that exists and begins each of their paths. No block has to be free for it.
+/// The cover of the touched words: the longest path that exists and begins each of their paths. No block has to be free for
+/// it.
 pub fn cover<R: Region>(region: &R, touched: &Touched<'_>) -> Slots
     requires touched { IsTouched touched.now }
-    requires some { 512 ≤ length (current_words (R.memory region.now)) }
+    requires some { block_words ≤ length (current_words (R.memory region.now)) }
     requires in_range { LeadsInside (current_words (R.memory region.now)) touched.now }
     ensures { result.items ≡ commit_cover (current_words (R.memory region.now)) touched.now }
 {

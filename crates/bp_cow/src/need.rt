@@ -1,6 +1,7 @@
 //! How many blocks a commit copies.
 
 ghost use Rattle.std.specs.Prelude.{◌≡◌, ℕ, ◌+◌, ◌*◌, ◌<◌, ◌≤◌, length};
+ghost use Rattle.bp_limits.specs.Limits.{block_words};
 ghost use Rattle.pm_region.specs.Memory.{current_words};
 ghost use Rattle.bp_cow.specs.Cover.{LeadsInside, copied_count};
 ghost use Rattle.bp_cow.specs.Job.{ways, turns, turned_for};
@@ -45,11 +46,11 @@ fn turned_for(touched: &Touched<'_>, i: usize, from: usize) -> u32
     count
 }
 
-/// How many blocks a commit of the touched words copies, and takes: as many as pointers stand on their paths from the cover down.
-/// No block has to be free for it.
+/// How many blocks a commit of the touched words copies, and takes: as many as pointers stand on their paths from the cover
+/// down. No block has to be free for it.
 pub fn need_cover<R: Region>(region: &R, touched: &Touched<'_>) -> u32
     requires touched { IsTouched touched.now }
-    requires some { 512 ≤ length (current_words (R.memory region.now)) }
+    requires some { block_words ≤ length (current_words (R.memory region.now)) }
     requires in_range { LeadsInside (current_words (R.memory region.now)) touched.now }
     requires apart { NoneBegins (all_paths touched.now) }
     ensures { result ≡ copied_count (current_words (R.memory region.now)) touched.now }

@@ -12,7 +12,7 @@ use Rattle.bp_cow.specs.Touched.{job_of}
 use Rattle.bp_cow.proofs.AddsLaws.{copies_none, copies_into, copies_as}
 use Rattle.bp_cow.proofs.BuildFacts.{free_in_image}
 use Rattle.bp_cow.proofs.NeedLaws.{turns_one, turns_none}
-use Rattle.bp_cow.proofs.StepLaws.{place_low, place_used, slot_low, loaded, loaded_low, loaded_used, made_before, made_copy, copy_reached, stored_taken}
+use Rattle.bp_cow.proofs.StepLaws.{place_low, slot_low, loaded, loaded_low, made_before, made_copy, copy_reached, stored_taken}
 use Rattle.bp_cow.proofs.build.step.Goals as goal
 
 pub slot-requires-clause-i : goal.slot-requires-clause-i
@@ -54,14 +54,6 @@ turn-requires-clause-place g c =
 pub turn-requires-clause-from : goal.turn-requires-clause-from
 turn-requires-clause-from g c =
     rw c.slot.ensures (omega (arith, loaded_low (planned g.plan c.args.touched.now) c.args.from c.args.i c.args.depth (current_words (g.R.Region.memory c.args.region.now)) (has c.args.blocks.now) c.requires.1.1.0.can c.requires.1.1.0.here c.requires.1.1.0.low c.requires.1.1.0.high c.requires.1.1.1.1.0 c.args.block c.requires.1.1.1.1.1.0 c.requires.1.1.1.0))
-
-pub turn-requires-clause-from_used : goal.turn-requires-clause-from_used
-turn-requires-clause-from_used g c =
-    rw c.slot.ensures (loaded_used (planned g.plan c.args.touched.now) c.args.from c.args.i c.args.depth (current_words (g.R.Region.memory c.args.region.now)) (has c.args.blocks.now) c.requires.1.1.0.can c.requires.1.1.0.here c.requires.1.1.0.low c.requires.1.1.0.high c.requires.1.1.1.1.0 c.args.block c.requires.1.1.1.1.1.0 c.requires.1.1.1.0)
-
-pub turn-requires-clause-place_used : goal.turn-requires-clause-place_used
-turn-requires-clause-place_used g c =
-    rw c.slot.ensures (place_used (planned g.plan c.args.touched.now) c.args.from c.args.i c.args.depth (current_words (g.R.Region.memory c.args.region.now)) (has c.args.blocks.now) c.requires.1.1.0.can c.requires.1.1.0.here c.requires.1.1.0.low c.requires.1.1.0.high c.requires.1.1.1.1.0 c.args.block c.requires.1.1.1.1.1.0 (slice_index ((job_of c.args.touched.now).way c.args.i) c.args.depth) (slot_low (planned g.plan c.args.touched.now) c.args.from c.args.i c.args.depth (current_words (g.R.Region.memory c.args.region.now)) (has c.args.blocks.now) c.requires.1.1.0.can c.requires.1.1.0.here c.requires.1.1.0.low c.requires.1.1.0.high c.requires.1.1.1.1.0 c.args.block c.requires.1.1.1.1.1.0 c.requires.1.1.1.0))
 
 pub turn-requires-clause-free_low : goal.turn-requires-clause-free_low
 turn-requires-clause-free_low g c b is = (free_in_image g.plan.old (current_words (g.R.Region.memory c.args.region.now)) g.plan.place _ _ _ (pointers g.plan.old g.plan.bound c.requires.1.1.0.can.forest) _ _ _ (has c.args.blocks.now) c.requires.1.1.1.1.0 b is).0

@@ -6,7 +6,7 @@ use Rattle.bp_layout.specs.Inode.{root_of, size_of}
 use Rattle.bp_layout.specs.Reached.{IsReached}
 use Rattle.bp_shapes.specs.Forest.{root_trail, IsForest, IsTreePointer}
 use Rattle.bp_shapes.specs.Trail.{trail_of}
-use Rattle.bp_cow.specs.Touched.{IsTouched, run_end, run_path, path_of, word_paths}
+use Rattle.bp_cow.specs.Touched.{IsTouched, run_end, run_path, path_of, word_paths, end_trail, touched_trail}
 use Rattle.bp_cow.specs.declared.touched.Run.{Run}
 use Rattle.bp_cow.specs.declared.touched.Touched.{Touched}
 
@@ -29,11 +29,11 @@ pub record CanCommit (old : Image) (bound : ℕ → ℕ) (touched : Touched) (fr
   pub forest : IsForest old bound
   pub sizes : (t : ℕ) → IsReached old t → size_of old t ≤ bound t
   pub exact : AreUnheld old (IsReached old) bound free
-  pub pointers : (i d : ℕ) → i < length touched.words.items → d < length (path_of (word_paths touched) i) → IsTreePointer old bound (trail_of (path_of (word_paths touched) i) d)
-  pub contents : (i : ℕ) → i < length touched.words.items → ¬ IsTreePointer old bound (trail_of (path_of (word_paths touched) i) (length (path_of (word_paths touched) i)))
+  pub pointers : (i d : ℕ) → i < length touched.words.items → d < length (path_of (word_paths touched) i) →
+      IsTreePointer old bound (trail_of (path_of (word_paths touched) i) d)
+  pub contents : (i : ℕ) → i < length touched.words.items → ¬ IsTreePointer old bound (touched_trail touched i)
   pub run : HasRunIn old bound touched.run
   -- the paths are different, and none is that of a word of the run
-  pub apart : (i k : ℕ) → i < length touched.words.items → k < length touched.words.items →
-      trail_of (path_of (word_paths touched) i) (length (path_of (word_paths touched) i)) ≡ trail_of (path_of (word_paths touched) k) (length (path_of (word_paths touched) k)) → i ≡ k
+  pub apart : (i k : ℕ) → i < length touched.words.items → k < length touched.words.items → touched_trail touched i ≡ touched_trail touched k → i ≡ k
   pub beside : (run : Run) (i k : ℕ) → touched.run ≡ Some run → i < length touched.words.items → run.off / 8 ≤ k → k ≤ (run_end run - 1) / 8 →
-      trail_of (path_of (word_paths touched) i) (length (path_of (word_paths touched) i)) ≢ trail_of (run_path run k) (length (run_path run k))
+      touched_trail touched i ≢ end_trail (run_path run k)

@@ -33,6 +33,10 @@ HasRoom memory touched = commit_stores (current_words memory) touched + 2 ≤ ro
 abbrev pub cover_word : Image → Touched → ℕ
 cover_word image touched = address image (commit_cover image touched)
 
+-- what a commit makes of the words whose cover has so many slots
+abbrev pub IsCommittedBy : (ℕ → ℕ) → Touched → ℕ → Image → Image → Type 0
+IsCommittedBy bound touched cover old new = IsCommitted old new (IsTreePointer old bound) (IsTurned (job_of touched) cover) (after_commit old (job_of touched))
+
 -- By one store at the word of the cover, alone in its epoch after a quiet preparation, each touched word has its value. Before it there are stores to the blocks that are taken
 -- for the copies, to each of them, and nowhere else. In the end just the blocks that no reached tree has are free, so those that were copied are.
 pub record CommitsTouched (bound : ℕ → ℕ) (touched : Touched) (old new : Memory) (blocks blocks_after : Set) : Type 0 where
@@ -45,6 +49,5 @@ pub record CommitsTouched (bound : ℕ → ℕ) (touched : Touched) (old new : M
   pub from : Each (λ b. has blocks b ≡ true) taken
   -- the pointers above the cover's word stay
   pub stays : address (current_words new) (commit_cover (current_words old) touched) ≡ cover_word (current_words old) touched
-  pub words : IsCommitted (current_words old) (current_words new) (IsTreePointer (current_words old) bound) (IsTurned (job_of touched) (length (commit_cover (current_words old) touched)))
-      (after_commit (current_words old) (job_of touched))
+  pub words : IsCommittedBy bound touched (length (commit_cover (current_words old) touched)) (current_words old) (current_words new)
   pub exact : AreUnheld (current_words new) (IsReached (current_words old)) bound (has blocks_after)

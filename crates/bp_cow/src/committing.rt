@@ -84,9 +84,9 @@ fn commit_one<R: Region>(region: &mut R, touched: &Touched<'_>, place: u32)
     commit_word(region, place, touched.only_value(old));
 }
 
-/// Gives the touched words their values by one store at the word of the cover, alone in its epoch: of the value, where the
-/// cover is the only touched word, and else of a pointer to copies of the blocks from there to the touched words. As many
-/// blocks are taken as `need_cover` tells. Those that were copied are given back in the end.
+/// Gives the touched words their values by one store at the word of the cover, alone in its epoch: of the value,
+/// where the cover is the only touched word, and else of a pointer to copies of the blocks from there to the touched
+/// words. As many blocks are taken as `need_cover` tells. Those that were copied are given back in the end.
 pub fn commit<R: Region>(parts: &mut Parts<R>, touched: &Touched<'_>)
     ghost bound: { ℕ → ℕ }
     requires well_formed { IsWellFormed (current_words (R.memory parts.old.region)) }

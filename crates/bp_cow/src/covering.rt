@@ -13,8 +13,8 @@ use bp_tree::Slots;
 use pm_region::Region;
 
 impl Touched<'_> {
-    /// How many paths tell with what all touched paths begin: those of the first and of the last word of the run, and those
-    /// of the words.
+    /// How many paths tell with what all touched paths begin: those of the first and of the last word of the run, and
+    /// those of the words.
     fn ends(&self) -> usize
         ensures { result ≡ ends self.now }
     {
@@ -80,8 +80,8 @@ pub(crate) struct Found {
     pub(crate) place: u32,
 }
 
-/// The block to which the word at the end of a front points with which all touched paths begin, 0 where no longer front is
-/// one.
+/// The block to which the word at the end of a front points with which all touched paths begin, 0 where no longer
+/// front is one.
 fn below<R: Region>(region: &R, touched: &Touched<'_>, found: Found) -> u64
     requires touched { IsTouched touched.now }
     requires at { IsAt (current_words (R.memory region.now)) touched.now found }
@@ -120,8 +120,8 @@ pub(crate) fn find_cover<R: Region>(region: &R, touched: &Touched<'_>) -> Found
     found
 }
 
-/// The cover of the touched words: the longest path that exists and begins each of their paths. No block has to be free for
-/// it.
+/// The cover of the touched words: the longest path that exists and begins each of their paths. No block has to be
+/// free for it.
 pub fn cover<R: Region>(region: &R, touched: &Touched<'_>) -> Slots
     requires touched { IsTouched touched.now }
     requires some { block_words ≤ length (current_words (R.memory region.now)) }

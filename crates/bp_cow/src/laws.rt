@@ -1,6 +1,25 @@
 //! Laws of commits. Each is the contract of a function that does nothing.
 
-ghost use Rattle.std.specs.Prelude.{◌≡◌, ◌≢◌, ℕ, suc, ◌+◌, ◌-◌, ◌*◌, ◌/◌, ◌<◌, ◌≤◌, [], ◌∷◌, length, slice_index, Some, Bool, ◌%◌, None};
+ghost use Rattle.std.specs.Prelude.{
+  ◌≡◌,
+  ◌≢◌,
+  ℕ,
+  suc,
+  ◌+◌,
+  ◌-◌,
+  ◌*◌,
+  ◌/◌,
+  ◌%◌,
+  ◌<◌,
+  ◌≤◌,
+  ◌∷◌,
+  length,
+  slice_index,
+  Bool,
+  None,
+  Some,
+};
+ghost use Rattle.bp_limits.specs.Limits.{block_words, super_root};
 ghost use Rattle.bp_changes.specs.Commits.{Commits};
 ghost use Rattle.bp_shapes.specs.Forest.{IsForest, IsTreePointer, tree_trail};
 ghost use Rattle.bp_layout.specs.Free.{AreFreeBlocks};
@@ -13,10 +32,21 @@ ghost use Rattle.bp_layout.specs.WordPaths.{WordPath};
 ghost use Rattle.bp_layout.specs.Words.{word, height_of, byte_of};
 ghost use Rattle.bp_layout.specs.WellFormed.{IsWellFormed};
 ghost use Rattle.bp_cow.specs.CanCommit.{IsRunIn, CanCommit};
-ghost use Rattle.bp_cow.specs.Committed.{IsCommitted, after_commit, changes_of};
+ghost use Rattle.bp_cow.specs.Commit.{IsCommittedBy};
+ghost use Rattle.bp_cow.specs.Committed.{after_commit, changes_of};
 ghost use Rattle.bp_cow.specs.Cover.{end_path, BeginAlike, LeadsInside, IsCover, commit_cover};
-ghost use Rattle.bp_cow.specs.Job.{IsTurned};
-ghost use Rattle.bp_cow.specs.Touched.{IsTouched, NoneBegins, run_path, run_end, run_word, run_byte, path_of, word_paths, all_paths, job_of};
+ghost use Rattle.bp_cow.specs.Touched.{
+  IsTouched,
+  NoneBegins,
+  run_path,
+  run_end,
+  run_word,
+  run_byte,
+  all_paths,
+  end_trail,
+  touched_trail,
+  job_of,
+};
 ghost use Rattle.bp_cow.specs.declared.touched.Run.{Run};
 
 use crate::touched::{Run, Touched};
@@ -24,11 +54,14 @@ use crate::touched::{Run, Touched};
 /// Where the paths that tell the cover begin alike, all touched paths do.
 pub fn all_touched_paths_begin_alike(touched: &Touched<'_>)
     requires { IsTouched touched.now }
-    ensures long { (count : ℕ) (path : WordPath) → BeginAlike touched.now count → Has (all_paths touched.now) path → count ≤ length path }
-    ensures same { (count : ℕ) (path : WordPath) → BeginAlike touched.now count → Has (all_paths touched.now) path → trail_of path count ≡ trail_of (end_path touched.now 0) count }
+    ensures long { (count : ℕ) (path : WordPath) → BeginAlike touched.now count → Has (all_paths touched.now) path →
+        count ≤ length path }
+    ensures same { (count : ℕ) (path : WordPath) → BeginAlike touched.now count → Has (all_paths touched.now) path →
+        trail_of path count ≡ trail_of (end_path touched.now 0) count }
 {}
 
-/// The cover of touched words is a path with which all of them begin, which exists, and which can't be longer; and no other path is.
+/// The cover of touched words is a path with which all of them begin, which exists, and which can't be longer; and no
+/// other path is.
 pub fn a_cover_is_determined(image: &[u64], touched: &Touched<'_>)
     requires { IsTouched touched.now }
     ensures is { IsCover image.now touched.now (commit_cover image.now touched.now) }
@@ -38,55 +71,77 @@ pub fn a_cover_is_determined(image: &[u64], touched: &Touched<'_>)
 /// Of touched words that can be committed, the cover and its need can be asked for.
 pub fn what_can_be_committed_has_a_cover(image: &[u64], touched: &Touched<'_>)
     requires { IsWellFormed image.now }
-    ensures inside { (bound : ℕ → ℕ) (free : ℕ → Bool) → CanCommit image.now bound touched.now free → LeadsInside image.now touched.now }
-    ensures apart { (bound : ℕ → ℕ) (free : ℕ → Bool) → CanCommit image.now bound touched.now free → NoneBegins (all_paths touched.now) }
+    ensures inside { (bound : ℕ → ℕ) (free : ℕ → Bool) →
+        CanCommit image.now bound touched.now free → LeadsInside image.now touched.now }
+    ensures apart { (bound : ℕ → ℕ) (free : ℕ → Bool) →
+        CanCommit image.now bound touched.now free → NoneBegins (all_paths touched.now) }
 {}
 
-/// After a commit each touched word has the value that it is given, a word of the run its new bytes beside those that it had,
-/// and each other word the value that it had.
+/// After a commit each touched word has the value that it is given, a word of the run its new bytes beside those that
+/// it had, and each other word the value that it had.
 pub fn touched_words_have_their_values(image: &[u64], touched: &Touched<'_>)
     requires { IsWellFormed image.now }
-    ensures words { (bound : ℕ → ℕ) (free : ℕ → Bool) (i : ℕ) → CanCommit image.now bound touched.now free → i < length touched.now.words.items →
-        after_commit image.now (job_of touched.now) (trail_of (path_of (word_paths touched.now) i) (length (path_of (word_paths touched.now) i))) ≡ (job_of touched.now).value i }
-    ensures run { (bound : ℕ → ℕ) (free : ℕ → Bool) (run : Run) (k : ℕ) → CanCommit image.now bound touched.now free → touched.now.run ≡ Some run → run.off / 8 ≤ k → k ≤ (run_end run - 1) / 8 →
-        after_commit image.now (job_of touched.now) (trail_of (run_path run k) (length (run_path run k))) ≡ run_word run k (word_on image.now (trail_of (run_path run k) (length (run_path run k)))) }
-    ensures others { (bound : ℕ → ℕ) (free : ℕ → Bool) (slot : ℕ) (p : Trail) → CanCommit image.now bound touched.now free → slot < 512 →
-        ((i : ℕ) → i < length touched.now.words.items → slot ∷ p ≢ trail_of (path_of (word_paths touched.now) i) (length (path_of (word_paths touched.now) i))) →
-        ((run : Run) (k : ℕ) → touched.now.run ≡ Some run → run.off / 8 ≤ k → k ≤ (run_end run - 1) / 8 → slot ∷ p ≢ trail_of (run_path run k) (length (run_path run k))) →
+    ensures words { (bound : ℕ → ℕ) (free : ℕ → Bool) (i : ℕ) → CanCommit image.now bound touched.now free →
+        i < length touched.now.words.items →
+        after_commit image.now (job_of touched.now) (touched_trail touched.now i) ≡ (job_of touched.now).value i }
+    ensures run { (bound : ℕ → ℕ) (free : ℕ → Bool) (run : Run) (k : ℕ) →
+        CanCommit image.now bound touched.now free → touched.now.run ≡ Some run →
+        run.off / 8 ≤ k → k ≤ (run_end run - 1) / 8 →
+        after_commit image.now (job_of touched.now) (end_trail (run_path run k)) ≡
+        run_word run k (word_on image.now (end_trail (run_path run k))) }
+    ensures others { (bound : ℕ → ℕ) (free : ℕ → Bool) (slot : ℕ) (p : Trail) →
+        CanCommit image.now bound touched.now free → slot < block_words →
+        ((i : ℕ) → i < length touched.now.words.items → slot ∷ p ≢ touched_trail touched.now i) →
+        ((run : Run) (k : ℕ) → touched.now.run ≡ Some run → run.off / 8 ≤ k → k ≤ (run_end run - 1) / 8 →
+        slot ∷ p ≢ end_trail (run_path run k)) →
         after_commit image.now (job_of touched.now) (slot ∷ p) ≡ word_on image.now (slot ∷ p) }
 {}
 
 /// Each byte of a word of the run is the new one, or else the one that it had.
 pub fn words_of_a_run_have_its_bytes(run: &Run<'_>)
     requires { (i : ℕ) → slice_index run.now.bytes.now i < 256 }
-    ensures { (k old c : ℕ) → c < 8 → byte_of (run_word run.now k old) c ≡ run_byte run.now (8 * k + c) (byte_of old c) }
+    ensures { (k old c : ℕ) → c < 8 →
+        byte_of (run_word run.now k old) c ≡ run_byte run.now (8 * k + c) (byte_of old c) }
 {}
 
-/// A commit is told on the words of the trees: where the new sizes are within those that count, and no pointer of the inode file or
-/// of a directory is null under these, each content word has its value. The size of an inode is the value of its word. The blocks
-/// to which pointers lead are those of the trees under the sizes that count.
+/// A commit is told on the words of the trees: where the new sizes are within those that count, and no pointer of the
+/// inode file or of a directory is null under these, each content word has its value. The size of an inode is the
+/// value of its word. The blocks to which pointers lead are those of the trees under the sizes that count.
 pub fn commits_are_told_on_trees(old: &[u64], new: &[u64], touched: &Touched<'_>)
-    ensures told { (bound : ℕ → ℕ) (cover : ℕ) → IsForest old.now bound → IsCommitted old.now new.now (IsTreePointer old.now bound) (IsTurned (job_of touched.now) cover) (after_commit old.now (job_of touched.now)) →
-        ((t : ℕ) → IsReached old.now t → size_of old.now t ≤ bound t) → ((t : ℕ) → IsReached old.now t → size_of new.now t ≤ bound t) →
-        IsFull old.now (root_of old.now 0) (bound 0) → ((i : ℕ) → IsReached old.now i → kind_of old.now i ≡ 2 → IsFull old.now (root_of old.now i) (bound i)) →
+    ensures told { (bound : ℕ → ℕ) (cover : ℕ) → IsForest old.now bound →
+        IsCommittedBy bound touched.now cover old.now new.now →
+        ((t : ℕ) → IsReached old.now t → size_of old.now t ≤ bound t) →
+        ((t : ℕ) → IsReached old.now t → size_of new.now t ≤ bound t) → IsFull old.now (root_of old.now 0) (bound 0) →
+        ((i : ℕ) → IsReached old.now i → kind_of old.now i ≡ 2 → IsFull old.now (root_of old.now i) (bound i)) →
         Commits old.now new.now (changes_of old.now (job_of touched.now)) }
-    ensures sizes { (bound : ℕ → ℕ) (cover i : ℕ) → IsForest old.now bound → IsCommitted old.now new.now (IsTreePointer old.now bound) (IsTurned (job_of touched.now) cover) (after_commit old.now (job_of touched.now)) →
-        IsReached old.now (suc i) → size_of new.now (suc i) ≡ after_commit old.now (job_of touched.now) (tree_trail (height_of (word old.now 2)) 0 (suc (height_of (word old.now 2))) (8 * suc i + 2)) }
-    ensures blocks { (bound : ℕ → ℕ) (cover b : ℕ) → IsForest old.now bound → IsCommitted old.now new.now (IsTreePointer old.now bound) (IsTurned (job_of touched.now) cover) (after_commit old.now (job_of touched.now)) →
-        LeadsTo new.now (IsTreePointer old.now bound) b → (t : ℕ) × IsReached old.now t × HasBlock new.now (root_of new.now t) (bound t) b }
-    ensures led { (bound : ℕ → ℕ) (cover b t : ℕ) → IsForest old.now bound → IsCommitted old.now new.now (IsTreePointer old.now bound) (IsTurned (job_of touched.now) cover) (after_commit old.now (job_of touched.now)) →
-        IsReached old.now t → HasBlock new.now (root_of new.now t) (bound t) b → LeadsTo new.now (IsTreePointer old.now bound) b }
+    ensures sizes { (bound : ℕ → ℕ) (cover i : ℕ) → IsForest old.now bound →
+        IsCommittedBy bound touched.now cover old.now new.now →
+        IsReached old.now (suc i) → size_of new.now (suc i) ≡
+        after_commit old.now (job_of touched.now)
+        (tree_trail (height_of (word old.now super_root)) 0
+        (suc (height_of (word old.now super_root))) (8 * suc i + 2)) }
+    ensures blocks { (bound : ℕ → ℕ) (cover b : ℕ) → IsForest old.now bound →
+        IsCommittedBy bound touched.now cover old.now new.now →
+        LeadsTo new.now (IsTreePointer old.now bound) b →
+        (t : ℕ) × IsReached old.now t × HasBlock new.now (root_of new.now t) (bound t) b }
+    ensures led { (bound : ℕ → ℕ) (cover b t : ℕ) → IsForest old.now bound →
+        IsCommittedBy bound touched.now cover old.now new.now →
+        IsReached old.now t → HasBlock new.now (root_of new.now t) (bound t) b →
+        LeadsTo new.now (IsTreePointer old.now bound) b }
 {}
 
-/// One word of a tree that a well-formed image has below its size, but for a root word in the inode file, can be committed; and so
-/// can a run of a file or a directory, below its size.
+/// One word of a tree that a well-formed image has below its size, but for a root word in the inode file, can be
+/// committed; and so can a run of a file or a directory, below its size.
 pub fn a_word_or_a_run_can_be_committed(image: &[u64], touched: &Touched<'_>)
     requires well_formed { IsWellFormed image.now }
     requires touched { IsTouched touched.now }
-    ensures word { (free : ℕ → Bool) (t k : ℕ) → AreFreeBlocks image.now free → touched.now.run ≡ None → length touched.now.words.items ≡ 1 →
+    ensures word { (free : ℕ → Bool) (t k : ℕ) → AreFreeBlocks image.now free → touched.now.run ≡ None →
+        length touched.now.words.items ≡ 1 →
         IsReached image.now t → 8 * k < size_of image.now t → (t ≡ 0 → k % 8 ≢ 1) →
-        trail_of (path_of (word_paths touched.now) 0) (length (path_of (word_paths touched.now) 0)) ≡ tree_trail (height_of (word image.now 2)) t (suc (height_of (root_of image.now t))) k →
+        touched_trail touched.now 0 ≡
+        tree_trail (height_of (word image.now super_root)) t (suc (height_of (root_of image.now t))) k →
         CanCommit image.now (size_of image.now) touched.now free }
-    ensures run { (free : ℕ → Bool) (run : Run) → AreFreeBlocks image.now free → touched.now.run ≡ Some run → length touched.now.words.items ≡ 0 →
+    ensures run { (free : ℕ → Bool) (run : Run) → AreFreeBlocks image.now free → touched.now.run ≡ Some run →
+        length touched.now.words.items ≡ 0 →
         IsRunIn image.now (size_of image.now) run → CanCommit image.now (size_of image.now) touched.now free }
 {}

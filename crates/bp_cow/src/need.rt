@@ -46,8 +46,8 @@ fn turned_for(touched: &Touched<'_>, i: usize, from: usize) -> u32
     count
 }
 
-/// How many blocks a commit of the touched words copies, and takes: as many as pointers stand on their paths from the cover
-/// down. No block has to be free for it.
+/// How many blocks a commit of the touched words copies, and takes: as many as pointers stand on their paths from the
+/// cover down. No block has to be free for it.
 pub fn need_cover<R: Region>(region: &R, touched: &Touched<'_>) -> u32
     requires touched { IsTouched touched.now }
     requires some { block_words ≤ length (current_words (R.memory region.now)) }

@@ -26,3 +26,4 @@ pub mod CoverOf
 pub mod CallerLaws
 pub mod PerformsLaws
 pub mod CommitTaking
+pub mod RunTouched

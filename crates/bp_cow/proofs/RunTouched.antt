@@ -1,0 +1,81 @@
+-- A write below the size of a file touches the words of one run, and prepares nothing.
+use Rattle.std.proofs.Common.{◌≡◌, ℕ, suc, ◌+◌, ◌-◌, ◌/◌, ◌<◌, ◌≤◌, min, List, [], ◌∷◌, ◌++◌, length, map, Bool, true, false, Some, refl, sym, ◌∙◌, ap, arith}
+use Rattle.std.specs.Prelude.{nat_lt, if◌then◌else◌}
+use Rattle.std.specs.List.{range_with_len}
+use Rattle.std.proofs.lemmas.Bool.{lt-ltb, ltb-true}
+use Rattle.std.proofs.lemmas.List.{append-nil}
+use Rattle.bp_layout.specs.Inode.{root_of, size_of}
+use Rattle.bp_layout.specs.Need.{Change, Beyond, beyond, new_inodes, preparation, growth, height_after, content_path, inode_word_path, copied, need}
+use Rattle.bp_layout.specs.Need.Change.{writes}
+use Rattle.bp_layout.specs.Need as layout
+use Rattle.bp_layout.specs.WordPaths.{WordPath, digits, inode_path, tree_path}
+use Rattle.bp_layout.specs.Words.{Image, height_of}
+use Rattle.bp_layout.proofs.Finding.{map-same}
+use Rattle.bp_cow.specs.declared.touched.Run.{Run}
+use Rattle.bp_cow.specs.declared.touched.Touched.{Touched}
+use Rattle.bp_cow.specs.Touched.{run_end, run_path, run_paths, word_paths, all_paths}
+
+not_above : (a b : ℕ) → b ≤ a → nat_lt a b ≡ false
+not_above a b low = go (nat_lt a b) refl
+  where
+    go : (x : Bool) → nat_lt a b ≡ x → nat_lt a b ≡ false
+    go false e = e
+    go true e = absurd (omega (arith, low, ltb-true a b e))
+
+-- ---- a write below the size
+
+module _ (image : Image) (i off len : ℕ) (below : off + len ≤ size_of image i) where
+  abbrev change : Change
+  change = writes i off len
+
+  inside : nat_lt (size_of image i) (off + len) ≡ false
+  inside = not_above (size_of image i) (off + len) below
+
+  pub write_height : (t : ℕ) → height_after image change t ≡ height_of (root_of image t)
+  write_height t = rw inside refl
+
+  -- it prepares nothing
+  pub write_need : need image change ≡ length (copied image change)
+  write_need = rw inside (omega arith)
+
+  -- what is touched, by the tests of the definition
+  abbrev parts : Bool → ℕ → Bool → List WordPath
+  parts starts end past =
+      map (content_path image change i) (if starts then range_with_len (off / 8) (suc ((end - 1) / 8 - off / 8)) else []) ++ (if past then inode_word_path image change i 2 ∷ [] else [])
+
+  pub write_touched : 0 < len → layout.touched image change ≡ map (content_path image change i) (range_with_len (off / 8) (suc ((off + len - 1) / 8 - off / 8)))
+  write_touched some =
+      let starts : nat_lt off (size_of image i) ≡ true = lt-ltb off (size_of image i) (omega (arith, below, some)) in
+      let end : min (off + len) (size_of image i) ≡ off + len = omega (arith, below) in
+      ap (λ x. parts x (min (off + len) (size_of image i)) (nat_lt (size_of image i) (off + len))) starts
+      ∙ ap (λ n. parts true n (nat_lt (size_of image i) (off + len))) end
+      ∙ ap (parts true (off + len)) inside
+      ∙ append-nil (map (content_path image change i) (range_with_len (off / 8) (suc ((off + len - 1) / 8 - off / 8))))
+
+-- ---- the run of such a write
+
+module _ (image : Image) (touched : Touched) (run : Run) (i : ℕ) (one : touched.run ≡ Some run) (none : touched.words.items ≡ []) (root : run.root.items ≡ inode_path (height_of (root_of image 0)) (suc i) 1)
+    (height : run.height ≡ height_of (root_of image (suc i))) (some : 0 < length run.bytes.now) (below : run_end run ≤ size_of image (suc i)) where
+  abbrev write : Change
+  write = writes (suc i) run.off (length run.bytes.now)
+
+  same_path : (k : ℕ) → run_path run k ≡ content_path image write (suc i) k
+  same_path k =
+      ap (λ (p : WordPath). p ++ digits (suc run.height) k) root
+      ∙ ap (λ h. inode_path (height_of (root_of image 0)) (suc i) 1 ++ digits (suc h) k) height
+      ∙ sym (ap (λ h. tree_path h (suc i) (suc (height_after image write (suc i))) k) (write_height image (suc i) run.off (length run.bytes.now) below 0)
+      ∙ ap (λ h. tree_path (height_of (root_of image 0)) (suc i) (suc h) k) (write_height image (suc i) run.off (length run.bytes.now) below (suc i)))
+
+  same_paths : (from count : ℕ) → map (run_path run) (range_with_len from count) ≡ map (content_path image write (suc i)) (range_with_len from count)
+  same_paths from count = map-same (run_path run) (content_path image write (suc i)) from count (λ k low high. same_path k)
+
+  pub run_touched : all_paths touched ≡ layout.touched image write
+  run_touched =
+      ap (λ r. run_paths r ++ word_paths touched) one
+      ∙ ap (λ (words : List WordPath). run_paths (Some run) ++ words) no_words
+      ∙ append-nil (run_paths (Some run))
+      ∙ same_paths (run.off / 8) (suc ((run_end run - 1) / 8 - run.off / 8))
+      ∙ sym (write_touched image (suc i) run.off (length run.bytes.now) below some)
+    where
+      no_words : word_paths touched ≡ []
+      no_words = rw none refl

@@ -2,3 +2,6 @@ pub mod Uniqueness
 pub mod Existence
 pub mod Moved
 pub mod FormatStands
+pub mod Kept
+pub mod Parts
+pub mod PathLaws

@@ -6,3 +6,5 @@ pub mod Plain
 pub mod Seen
 pub mod ReplyView
 pub mod SeenAnswers
+pub mod TreeCode
+pub mod SeenTree

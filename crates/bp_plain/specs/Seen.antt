@@ -1,4 +1,6 @@
 -- The calls, refusals and answers of the program as those of the definitions.
+use Rattle.std.specs.Prelude.{◌≤◌}
+use Rattle.bp_limits.specs.Limits.{max_read}
 use Rattle.bp_plain.specs.declared.calls.Call.{Call as GivenCall}
 use Rattle.bp_plain.specs.declared.calls.Call.TheVariants as given
 use Rattle.bp_plain.specs.declared.errors.FsError.{FsError}
@@ -27,3 +29,8 @@ refusal_of fault.TooBig = too_big
 refusal_of (fault.NoSpace need free) = no_space need free
 refusal_of fault.Memory = no_memory
 refusal_of fault.Later = later
+
+-- a read asks for no more bytes than one call reads
+abbrev pub IsShortCall : Call → Type 0
+IsShortCall (read path off len) = len ≤ max_read
+IsShortCall call = Unit {0}

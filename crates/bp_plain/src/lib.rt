@@ -4,11 +4,14 @@
 mod calls;
 mod errors;
 pub mod laws;
+mod paths;
 mod replies;
+mod trees;
 
 pub use calls::Call;
 pub use errors::FsError;
 pub use replies::{Answer, Reply};
+pub use trees::Plain;
 
 #[cfg(test)]
 mod tests;

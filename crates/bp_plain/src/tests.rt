@@ -1,9 +1,6 @@
 // Each call once, and the numbers and words of refusals.
-ghost use Rattle.bp_limits.specs.Limits.{max_read};
-ghost use Rattle.bp_plain.specs.Calls.Answer.{bytes};
-ghost use Rattle.std.specs.Prelude.{drop, length, ◌++◌, ◌≡◌, ◌≤◌};
-
 use super::*;
+use crate::trees::answer_bytes;
 use std::test::Fail;
 
 #[test]
@@ -30,22 +27,6 @@ fn refusals(rt: HostRuntime) {
     }
 }
 
-// A caller knows what it answers by the memory that it was lent.
-fn answer_bytes(reply: &mut Reply, content: &[u8])
-    requires { length content.now ≤ max_read }
-    ensures { reply.new.answer ≡ bytes content.now }
-{
-    copy_to(content, reply.buffer());
-    reply.set_bytes(content.len());
-}
-
-fn copy_to(content: &[u8], into: &mut [u8])
-    requires { length content.now ≤ length into.old }
-    ensures { into.new ≡ content.now ++ drop (length content.now) into.old }
-{
-    into[..content.len()].copy_from_slice(content);
-}
-
 #[test]
 fn answers(rt: HostRuntime) -> Result<(), Fail> {
     let mut reply = Reply::new(rt.alloc())?;
@@ -68,5 +49,19 @@ fn answers(rt: HostRuntime) -> Result<(), Fail> {
     assert!(rt; matches!(reply.answer(), Answer::Names(_)));
     reply.set_done();
     assert!(rt; matches!(reply.answer(), Answer::Done));
+    Ok(())
+}
+
+#[test]
+fn plain_tree(rt: HostRuntime) -> Result<(), Fail> {
+    let alloc = rt.alloc();
+    let mut tree = Plain::new(alloc)?;
+    let mut reply = Reply::new(alloc)?;
+    tree.apply(alloc, &Call::Create(b"/a"), &mut reply)?;
+    assert!(rt; matches!(reply.answer(), Answer::Done));
+    tree.apply(alloc, &Call::Create(b"/a/x"), &mut reply)?;
+    assert!(rt; matches!(reply.answer(), Answer::Refused(FsError::NotDir)));
+    tree.apply(alloc, &Call::List(b"/"), &mut reply)?;
+    assert!(rt; matches!(reply.answer(), Answer::Names(listing) if listing.len() == 1));
     Ok(())
 }

@@ -1,0 +1,127 @@
+-- A map from lists of names to nodes as a plain tree.
+use Rattle.std.proofs.Common.{◌≡◌, ℕ, List, [], ◌∷◌, Bool, true, false, map, Option, None, Some, refl, sym, ◌∙◌, ap, subst, length, Bor, ◌++◌, ap₂, append_assoc}
+use Rattle.std.proofs.lemmas.List.{map-append}
+use lib.Dec.{T}
+use Rattle.std.specs.Option.{option_map, option_copied}
+use Rattle.std.specs.List.{filter_map, AllZip}
+use Rattle.std.specs.Ordering.{nat_cmp, is_eq, ordering_then, eq_by_cmp}
+use Rattle.std.specs.declared.cmp.Ordering.{Ordering}
+use Rattle.std.specs.declared.cmp.Ordering.TheVariants.{Less, Equal, Greater}
+use Rattle.std.specs.Cmp.Lexicographic.{slice_cmp}
+use Rattle.std.specs.Global.{Vec}
+use Rattle.std.specs.BTreeMap.{insert_entry, is_at}
+use Rattle.std.specs.Map.{lookup}
+use Rattle.std.specs.FinMap.{get, empty, insert, entries, from_sorted, get-from_sorted, entries-from_sorted, entries-insert, same_entries_map, empty_of_len, len-entries}
+use Rattle.std.specs.FinMap.Entries.{find, put, is_sorted, is_sorted-put}
+use Rattle.arrayvec.specs.ArrayVec.{ArrayVec}
+use Rattle.bp_layout.specs.declared.fields.Kind.{Kind}
+use Rattle.bp_layout.specs.Below.{rest_below}
+use Rattle.bp_layout.specs.Directory.{Name}
+use Rattle.bp_layout.specs.Listing.{listed}
+use Rattle.bp_layout.specs.Lookup.{Path, Node}
+use Rattle.bp_plain.specs.declared.trees.Node.{Node as Kept}
+use Rattle.bp_plain.specs.Plain.{kind_of_node, only_name}
+use Rattle.bp_plain.specs.PlainTree.{FileTree, path_cmp}
+use Rattle.bp_plain.specs.SeenTree.{names_of, node_seen, entry_seen}
+use Rattle.bp_plain.proofs.Uniqueness.{path_cmp-IsTotalOrder}
+
+-- the order of names and of paths in a program
+abbrev pub name_order : ArrayVec ℕ → ArrayVec ℕ → Ordering
+name_order a b = slice_cmp nat_cmp a.items b.items
+
+abbrev pub key_order : Vec (ArrayVec ℕ) → Vec (ArrayVec ℕ) → Ordering
+key_order a b = slice_cmp name_order a.items b.items
+
+-- is that of the definitions
+pub order_seen : (a b : List (ArrayVec ℕ)) → slice_cmp name_order a b ≡ path_cmp (names_of a) (names_of b)
+order_seen [] [] = refl
+order_seen [] (y ∷ ys) = refl
+order_seen (x ∷ xs) [] = refl
+order_seen (x ∷ xs) (y ∷ ys) = ap (ordering_then (name_order x y)) (order_seen xs ys)
+
+-- so a path finds the same node
+pub find_seen : (path : List (ArrayVec ℕ)) (es : List (Vec (ArrayVec ℕ) × Kept)) →
+    find path_cmp (names_of path) (map entry_seen es) ≡ option_map node_seen (lookup (is_at (λ key. slice_cmp name_order path key.items)) es)
+find_seen path [] = refl
+find_seen path (e ∷ es) = go (is_eq (slice_cmp name_order path e.0.items)) refl (find_seen path es)
+  where
+    go : (b : Bool) → is_eq (slice_cmp name_order path e.0.items) ≡ b → find path_cmp (names_of path) (map entry_seen es) ≡ option_map node_seen (lookup (is_at (λ key. slice_cmp name_order path key.items)) es) →
+        find path_cmp (names_of path) (map entry_seen (e ∷ es)) ≡ option_map node_seen (lookup (is_at (λ key. slice_cmp name_order path key.items)) (e ∷ es))
+    go true at rest = rw (sym (ap is_eq (order_seen path e.0.items)) ∙ at, at) refl
+    go false at rest = rw (sym (ap is_eq (order_seen path e.0.items)) ∙ at, at) rest
+
+pub passes : {b : Bool} → b ≡ true → T b
+passes e = subst T (sym e) tt
+
+pub get_seen : (path : List (ArrayVec ℕ)) (es : List (Vec (ArrayVec ℕ) × Kept)) → is_sorted path_cmp (map entry_seen es) ≡ true →
+    get (from_sorted {R = path_cmp} (map entry_seen es)) (names_of path) ≡ option_map node_seen (lookup (is_at (λ key. slice_cmp name_order path key.items)) es)
+get_seen path es sorted = get-from_sorted path_cmp (map entry_seen es) (names_of path) (passes sorted) ∙ find_seen path es
+
+-- a node that comes in
+pub put_seen : (es : List (Vec (ArrayVec ℕ) × Kept)) (key : Vec (ArrayVec ℕ)) (node : Kept) →
+    map entry_seen (insert_entry key_order es key node) ≡ put path_cmp (names_of key.items) (node_seen node) (map entry_seen es)
+put_seen [] key node = refl
+put_seen (e ∷ es) key node = go (key_order key e.0) refl (put_seen es key node)
+  where
+    go : (r : Ordering) → key_order key e.0 ≡ r → map entry_seen (insert_entry key_order es key node) ≡ put path_cmp (names_of key.items) (node_seen node) (map entry_seen es) →
+        map entry_seen (insert_entry key_order (e ∷ es) key node) ≡ put path_cmp (names_of key.items) (node_seen node) (map entry_seen (e ∷ es))
+    go Less at rest = rw (sym (order_seen key.items e.0.items) ∙ at, at) refl
+    go Equal at rest = rw (sym (order_seen key.items e.0.items) ∙ at, at) refl
+    go Greater at rest = rw (sym (order_seen key.items e.0.items) ∙ at, at) (ap (λ es. entry_seen e ∷ es) rest)
+
+true_from : (b : Bool) → T b → b ≡ true
+true_from true t = refl
+true_from false t = absurd t
+
+module _ (old : List (Vec (ArrayVec ℕ) × Kept)) (sorted : is_sorted path_cmp (map entry_seen old) ≡ true) (key : Vec (ArrayVec ℕ)) (node : Kept)
+    (new : List (Vec (ArrayVec ℕ) × Kept)) (is : new ≡ insert_entry key_order old key node) where
+  -- the order stays
+  pub sorted_after : is_sorted path_cmp (map entry_seen new) ≡ true
+  sorted_after =
+      ap (is_sorted path_cmp) (ap (map entry_seen) is ∙ put_seen old key node)
+      ∙ true_from _ (is_sorted-put path_cmp path_cmp-IsTotalOrder (names_of key.items) (node_seen node) (map entry_seen old) (passes sorted))
+
+  -- and the tree gains the node
+  pub tree_after_put : from_sorted {R = path_cmp} (map entry_seen new) ≡ insert (from_sorted {R = path_cmp} (map entry_seen old)) (names_of key.items) (node_seen node)
+  tree_after_put =
+      same_entries_map _ _
+      (entries-from_sorted path_cmp (map entry_seen new) (passes sorted_after) ∙ ap (map entry_seen) is ∙ put_seen old key node
+      ∙ ap (put path_cmp (names_of key.items) (node_seen node)) (sym (entries-from_sorted path_cmp (map entry_seen old) (passes sorted)))
+      ∙ sym (entries-insert path_cmp-IsTotalOrder (from_sorted {R = path_cmp} (map entry_seen old)) (names_of key.items) (node_seen node)))
+
+pub no_entries : (es : List (Vec (ArrayVec ℕ) × Kept)) → es ≡ [] → from_sorted {R = path_cmp} (map entry_seen es) ≡ empty
+no_entries es is = ap (λ xs. from_sorted {R = path_cmp} (map entry_seen xs)) is ∙ empty_of_len _ (len-entries _ ∙ ap length (entries-from_sorted path_cmp [] tt))
+
+pub all_entries : (es : List (Vec (ArrayVec ℕ) × Kept)) → is_sorted path_cmp (map entry_seen es) ≡ true → entries (from_sorted {R = path_cmp} (map entry_seen es)) ≡ map entry_seen es
+all_entries es sorted = entries-from_sorted path_cmp (map entry_seen es) (passes sorted)
+
+-- a node behind a reference
+pub node_behind : (found : Option (Bor Kept)) → option_map (λ node. node_seen node.now) found ≡ option_map node_seen (option_copied found)
+node_behind None = refl
+node_behind (Some node) = refl
+
+-- ---- the rows of a listing
+
+abbrev pub row : List (ArrayVec ℕ) → Path × Node → Option (Kind × Name)
+row dir entry = option_map (λ name. (kind_of_node entry.1, name)) (only_name (rest_below (names_of dir) entry.0))
+
+abbrev pub rows : List (ArrayVec ℕ) → List (Vec (ArrayVec ℕ) × Kept) → List (Kind × Name)
+rows dir es = filter_map (row dir) (map entry_seen es)
+
+-- a further row, which was found
+pub row_found : (dir : List (ArrayVec ℕ)) (e : Vec (ArrayVec ℕ) × Kept) (rest left : List (Vec (ArrayVec ℕ) × Kept)) (before after : List (Kind × ArrayVec ℕ)) (kind : Kind) (copy : ArrayVec ℕ) (name : Name) (whole : List (Kind × Name)) →
+    left ≡ e ∷ rest → Some name ≡ only_name (rest_below (names_of dir) (names_of e.0.items)) → after ≡ before ++ (kind, copy) ∷ [] → copy.items ≡ name → kind ≡ kind_of_node (node_seen e.1) →
+    listed before ++ rows dir left ≡ whole → listed after ++ rows dir rest ≡ whole
+row_found dir e rest left before after kind copy name whole is found more same kinds so_far =
+    let here : rows dir (e ∷ rest) ≡ (kind_of_node (node_seen e.1), name) ∷ rows dir rest = rw (sym found) refl in
+    ap (λ x. listed x ++ rows dir rest) more
+    ∙ ap (λ x. x ++ rows dir rest) (map-append (λ entry. (entry.0, entry.1.items)) before ((kind, copy) ∷ []))
+    ∙ append_assoc (listed before) ((kind, copy.items) ∷ []) (rows dir rest)
+    ∙ ap₂ (λ k n. listed before ++ (k, n) ∷ rows dir rest) kinds same
+    ∙ ap (λ x. listed before ++ x) (sym here) ∙ ap (λ es. listed before ++ rows dir es) (sym is) ∙ so_far
+
+pub same_bytes : (xs ys : List ℕ) → AllZip (λ x y. y ≡ x) xs ys → ys ≡ xs
+same_bytes [] [] all = refl
+same_bytes [] (y ∷ ys) all = absurd all
+same_bytes (x ∷ xs) [] all = absurd all
+same_bytes (x ∷ xs) (y ∷ ys) all = ap₂ (λ a b. a ∷ b) all.0 (same_bytes xs ys all.1)

@@ -1,0 +1,44 @@
+-- What contracts see of a plain tree that a program keeps.
+use Rattle.std.specs.Prelude.{◌≡◌, ◌++◌, ℕ, List, map, true, Option, None, Some, if◌then◌else◌}
+use Rattle.std.specs.List.{list_all}
+use Rattle.std.specs.Global.{Vec}
+use Rattle.std.specs.FinMap.{from_sorted}
+use Rattle.std.specs.FinMap.Entries.{is_sorted}
+use Rattle.arrayvec.specs.ArrayVec.{ArrayVec}
+use Rattle.bp_layout.specs.Directory.{Name}
+use Rattle.bp_layout.specs.Lookup.{Path, Node}
+use Rattle.bp_layout.specs.Lookup.Node.{dir, file}
+use Rattle.bp_layout.specs.PathText.{is_name}
+use Rattle.bp_plain.specs.declared.trees.Node.{Node as Kept}
+use Rattle.bp_plain.specs.declared.trees.Node.TheVariants as kept
+use Rattle.bp_plain.specs.declared.trees.Plain.TheInside.{Inside}
+use Rattle.bp_plain.specs.Calls.{Call, Answer}
+use Rattle.bp_plain.specs.Plain.{answer_or}
+use Rattle.bp_plain.specs.PlainTree.{FileTree, path_cmp}
+
+abbrev pub names_of : List (ArrayVec ℕ) → Path
+names_of names = map (λ name. name.items) names
+
+abbrev pub node_seen : Kept → Node
+node_seen kept.Dir = dir
+node_seen (kept.File content) = file content.items
+
+abbrev pub entry_seen : Vec (ArrayVec ℕ) × Kept → Path × Node
+entry_seen entry = (names_of entry.0.items, node_seen entry.1)
+
+abbrev pub entries_seen : Inside → List (Path × Node)
+entries_seen tree = map entry_seen tree.nodes.entries
+
+abbrev pub tree_seen : Inside → FileTree
+tree_seen tree = from_sorted (entries_seen tree)
+
+abbrev pub IsInOrder : Inside → Type 0
+IsInOrder tree = is_sorted path_cmp (entries_seen tree) ≡ true
+
+-- what a call that is not refused answers and makes
+abbrev pub carried_out : FileTree → Call → Answer × FileTree
+carried_out tree call = answer_or tree call None
+
+-- names behind others, where each of them is one
+abbrev pub all_names : Path → List Name → Option Path
+all_names before parts = if list_all is_name parts then Some (before ++ parts) else None

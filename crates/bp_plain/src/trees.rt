@@ -1,0 +1,339 @@
+//! The plain file tree as a program. It is slow and meant to be seen through: a volume is compared with it in tests.
+
+ghost use Rattle.bp_layout.specs.Below.{rest_below};
+ghost use Rattle.bp_layout.specs.Listing.{listed};
+ghost use Rattle.bp_limits.specs.Limits.{max_read};
+ghost use Rattle.bp_plain.specs.Calls.Answer.{bytes};
+ghost use Rattle.bp_plain.specs.Calls.Call.{create, list, read, stat};
+ghost use Rattle.bp_plain.specs.Plain as plain;
+ghost use Rattle.bp_plain.specs.Plain.{is_dir_at, listing};
+ghost use Rattle.bp_plain.specs.PlainTree.{empty_tree};
+ghost use Rattle.bp_plain.specs.Seen.{IsShortCall, call_of, refusal_of};
+ghost use Rattle.bp_plain.specs.SeenTree.{carried_out, names_of, node_seen};
+ghost use Rattle.std.specs.FinMap.{get};
+ghost use Rattle.std.specs.Prelude.{IfOk, OnErr, OnOk, [], ◌++◌, ◌∷◌, ◌≡◌, ◌≤◌, drop, is_some, length, map, option_map, take};
+
+use crate::calls::Call;
+use crate::errors::FsError;
+use crate::paths::{first, parent_of, parse, path_of, when};
+use crate::replies::Reply;
+use bp_layout::{Kind, Listing, Name};
+use std::alloc::{AllocError, Global};
+use std::collections::BTreeMap;
+use std::marker::Model;
+
+// What stands at a path.
+#[derive(Drop)]
+enum Node {
+    Dir,
+    File(Vec<u8>),
+}
+
+/// A file tree, with what stands at each path.
+#[derive(Drop)]
+pub struct Plain {
+    nodes: BTreeMap<Vec<Name>, Node>,
+}
+
+impl Model for Plain {
+    ghost use Rattle.bp_plain.specs.PlainTree.{FileTree};
+    ghost use Rattle.bp_plain.specs.TreeCode.{tree_code};
+
+    ghost Value = { FileTree };
+
+    ghost coded = { tree_code };
+
+    ghost use Rattle.bp_plain.specs.SeenTree.{IsInOrder, tree_seen};
+
+    ghost view = { tree_seen };
+
+    ghost invariant = { IsInOrder };
+}
+
+impl Plain {
+    /// The root directory alone.
+    pub fn new(alloc: Global) -> Result<Plain, AllocError>
+        ensures { IfOk result (λ tree. tree ≡ empty_tree) }
+    {
+        let mut nodes = BTreeMap::new(alloc);
+        nodes.insert(Vec::new(alloc), Node::Dir)?;
+        Ok(Plain { nodes })
+    }
+
+    /// Does a call, and puts its answer into the reply. A read asks for at most 65,536 bytes.
+    ///
+    /// # Errors
+    ///
+    /// `AllocError` for want of memory. The tree is then as it was.
+    pub fn apply(
+        &mut self,
+        alloc: Global,
+        call: &Call<'_>,
+        reply: &mut Reply,
+    ) -> Result<(), AllocError>
+        requires { IsShortCall (call_of call.now) }
+        ensures done { OnOk result ((reply.new.answer, self.new) ≡ plain.plain self.old (call_of call.now)) }
+        ensures kept { OnErr result (self.new ≡ self.old) }
+    {
+        match self.refusal(alloc, call)? {
+            Some(error) => {
+                reply.set_refused(error);
+                Ok(())
+            }
+            None => self.carry_out(alloc, call, reply),
+        }
+    }
+
+    // ---- refusals, in the order in which they are looked for
+
+    fn refusal(&self, alloc: Global, call: &Call<'_>) -> Result<Option<FsError>, AllocError>
+        ensures { IfOk result (λ found. option_map refusal_of found ≡ plain.refusal self.now (call_of call.now)) }
+    {
+        match *call {
+            Call::Create(text) => self.refuses_create(alloc, text),
+            Call::List(text) => self.refuses_list(alloc, text),
+            Call::Stat(text) => self.refuses_stat(alloc, text),
+            Call::Read { path, off, len } => self.refuses_read(alloc, path, off, len),
+        }
+    }
+
+    fn refuses_create(&self, alloc: Global, text: &[u8]) -> Result<Option<FsError>, AllocError>
+        ensures { IfOk result (λ found. option_map refusal_of found ≡ plain.refusal self.now (create text.now)) }
+    {
+        match parse(alloc, text)? {
+            None => Ok(Some(FsError::BadPath)),
+            Some(path) => Ok(first(&[
+                when(path.is_empty(), FsError::Exists),
+                self.walk_parent(&path),
+                when(self.has(&path), FsError::Exists),
+            ])),
+        }
+    }
+
+    fn refuses_list(&self, alloc: Global, text: &[u8]) -> Result<Option<FsError>, AllocError>
+        ensures { IfOk result (λ found. option_map refusal_of found ≡ plain.refusal self.now (list text.now)) }
+    {
+        match parse(alloc, text)? {
+            None => Ok(Some(FsError::BadPath)),
+            Some(path) => Ok(first(&[
+                self.walk(&path),
+                when(!self.is_dir(&path), FsError::NotDir),
+            ])),
+        }
+    }
+
+    fn refuses_stat(&self, alloc: Global, text: &[u8]) -> Result<Option<FsError>, AllocError>
+        ensures { IfOk result (λ found. option_map refusal_of found ≡ plain.refusal self.now (stat text.now)) }
+    {
+        match parse(alloc, text)? {
+            None => Ok(Some(FsError::BadPath)),
+            Some(path) => Ok(self.walk(&path)),
+        }
+    }
+
+    fn refuses_read(
+        &self,
+        alloc: Global,
+        text: &[u8],
+        _off: u64,
+        _len: usize,
+    ) -> Result<Option<FsError>, AllocError>
+        ensures { IfOk result (λ found. option_map refusal_of found ≡ plain.refusal self.now (read text.now _off _len)) }
+    {
+        match parse(alloc, text)? {
+            None => Ok(Some(FsError::BadPath)),
+            Some(path) => Ok(first(&[self.walk(&path), when(self.is_dir(&path), FsError::IsDir)])),
+        }
+    }
+
+    // The first name on the way that is sought in a file, or is missing.
+    fn walk(&self, path: &[Name]) -> Option<FsError>
+        ensures { option_map refusal_of result ≡ plain.walk self.now (names_of path.now) }
+    {
+        for depth in 0..path.len() {
+            if !self.is_dir(&path[..depth]) {
+                return Some(FsError::NotDir);
+            }
+            if !self.has(&path[..depth + 1]) {
+                return Some(FsError::NotFound);
+            }
+        }
+        None
+    }
+
+    fn walk_parent(&self, path: &[Name]) -> Option<FsError>
+        ensures { option_map refusal_of result ≡ plain.walk_parent self.now (names_of path.now) }
+    {
+        let parent = parent_of(path);
+        first(&[
+            self.walk(parent),
+            when(!self.is_dir(parent), FsError::NotDir),
+        ])
+    }
+
+    // ---- what a call makes and answers, where it is not refused
+
+    fn carry_out(
+        &mut self,
+        alloc: Global,
+        call: &Call<'_>,
+        reply: &mut Reply,
+    ) -> Result<(), AllocError>
+        requires { IsShortCall (call_of call.now) }
+        ensures done { OnOk result ((reply.new.answer, self.new) ≡ carried_out self.old (call_of call.now)) }
+        ensures kept { OnErr result (self.new ≡ self.old) }
+    {
+        match *call {
+            Call::Create(text) => self.create(alloc, text, reply),
+            Call::List(text) => self.list(alloc, text, reply),
+            Call::Stat(text) => self.stat(alloc, text, reply),
+            Call::Read { path, off, len } => self.read(alloc, path, off, len, reply),
+        }
+    }
+
+    fn create(&mut self, alloc: Global, text: &[u8], reply: &mut Reply) -> Result<(), AllocError>
+        ensures done { OnOk result ((reply.new.answer, self.new) ≡ carried_out self.old (create text.now)) }
+        ensures kept { OnErr result (self.new ≡ self.old) }
+    {
+        let path = path_of(alloc, text)?;
+        self.nodes.insert(path, Node::File(Vec::new(alloc)))?;
+        reply.set_done();
+        Ok(())
+    }
+
+    fn list(&self, alloc: Global, text: &[u8], reply: &mut Reply) -> Result<(), AllocError>
+        ensures { OnOk result ((reply.new.answer, self.now) ≡ carried_out self.now (list text.now)) }
+    {
+        let path = path_of(alloc, text)?;
+        let names = self.names(alloc, &path)?;
+        reply.set_names(Listing::of(names));
+        Ok(())
+    }
+
+    fn stat(&self, alloc: Global, text: &[u8], reply: &mut Reply) -> Result<(), AllocError>
+        ensures { OnOk result ((reply.new.answer, self.now) ≡ carried_out self.now (stat text.now)) }
+    {
+        let path = path_of(alloc, text)?;
+        match self.node(&path) {
+            Some(Node::File(content)) => reply.set_file(content.len() as u64),
+            _ => reply.set_dir(self.names(alloc, &path)?.len() as u64),
+        }
+        Ok(())
+    }
+
+    fn read(
+        &self,
+        alloc: Global,
+        text: &[u8],
+        off: u64,
+        len: usize,
+        reply: &mut Reply,
+    ) -> Result<(), AllocError>
+        requires { len ≤ max_read }
+        ensures { OnOk result ((reply.new.answer, self.now) ≡ carried_out self.now (read text.now off len)) }
+    {
+        let path = path_of(alloc, text)?;
+        answer_bytes(reply, part(self.bytes(&path), off, len));
+        Ok(())
+    }
+
+    // ---- what stands at a path
+
+    fn node(&self, path: &[Name]) -> Option<&Node>
+        ensures { option_map (λ node. node_seen node.now) result ≡ get self.now (names_of path.now) }
+    {
+        self.nodes.get(path)
+    }
+
+    fn has(&self, path: &[Name]) -> bool
+        ensures { result ≡ is_some (get self.now (names_of path.now)) }
+    {
+        self.node(path).is_some()
+    }
+
+    fn is_dir(&self, path: &[Name]) -> bool
+        ensures { result ≡ is_dir_at self.now (names_of path.now) }
+    {
+        match self.node(path) {
+            Some(Node::Dir) => true,
+            _ => false,
+        }
+    }
+
+    fn bytes(&self, path: &[Name]) -> &[u8]
+        ensures { result.now ≡ plain.bytes_at self.now (names_of path.now) }
+    {
+        match self.node(path) {
+            Some(Node::File(content)) => content.as_slice(),
+            _ => &[],
+        }
+    }
+
+    // The names in a directory with their kinds, in the order of their bytes.
+    fn names(&self, alloc: Global, dir: &[Name]) -> Result<Vec<(Kind, Name)>, AllocError>
+        ensures { IfOk result (λ names. listed names.items ≡ listing self.now (names_of dir.now)) }
+    {
+        let mut names = Vec::new(alloc);
+        for (path, node) in self.nodes.iter() {
+            if let Some(name) = name_below(dir, path.as_slice()) {
+                names.push((kind_of(node), name.clone()?))?;
+            }
+        }
+        Ok(names)
+    }
+}
+
+fn kind_of(node: &Node) -> Kind
+    ensures { result ≡ plain.kind_of_node (node_seen node.now) }
+{
+    match node {
+        Node::Dir => Kind::Dir,
+        Node::File(_) => Kind::File,
+    }
+}
+
+// The name of an entry of a directory, where a path is that of one.
+fn name_below<'a>(dir: &[Name], path: &'a [Name]) -> Option<&'a Name>
+    ensures { option_map (λ name. name.now.items) result ≡ plain.only_name (rest_below (names_of dir.now) (names_of path.now)) }
+{
+    match path.strip_prefix(dir) {
+        Some(rest) => only(rest),
+        None => None,
+    }
+}
+
+fn only(path: &[Name]) -> Option<&Name>
+    ensures { option_map (λ name. name.now.items) result ≡ plain.only_name (Some (names_of path.now)) }
+{
+    match path {
+        [name] => Some(name),
+        _ => None,
+    }
+}
+
+// At most so many bytes from an offset on.
+fn part(content: &[u8], off: u64, len: usize) -> &[u8]
+    ensures { result.now ≡ take len (drop off content.now) }
+{
+    if off >= content.len() as u64 {
+        return &[];
+    }
+    let rest = &content[off as usize..];
+    &rest[..rest.len().min(len)]
+}
+
+// Answers these bytes.
+pub(crate) fn answer_bytes(reply: &mut Reply, content: &[u8])
+    requires { length content.now ≤ max_read }
+    ensures { reply.new.answer ≡ bytes content.now }
+{
+    copy_to(content, reply.buffer());
+    reply.set_bytes(content.len());
+}
+
+fn copy_to(content: &[u8], into: &mut [u8])
+    requires { length content.now ≤ length into.old }
+    ensures { into.new ≡ content.now ++ drop (length content.now) into.old }
+{
+    into[..content.len()].copy_from_slice(content);
+}

@@ -134,3 +134,29 @@ existing there here (slot ∷ path) = go (there here) refl (existing there (here
       far = record { low = omega arith; exists = λ d low. absurd (omega (arith, low)); ends = λ low. ap there (append-nil here) ∙ e };
       is = rw e (sym (append-nil here));
     }
+
+-- two tests that agree as far as the path exists find the same
+pub existing_same : (there other : WordPath → Bool) (here path : WordPath) →
+    ((d : ℕ) → d < length path → ((e : ℕ) → e < d → other (here ++ take e path) ≡ true) → there (here ++ take d path) ≡ other (here ++ take d path)) →
+    existing_from there here path ≡ existing_from other here path
+existing_same there other here [] agree = refl
+existing_same there other here (slot ∷ path) agree = go (other here) refl (λ pointed. existing_same there other (here ++ slot ∷ []) path (deeper pointed))
+  where
+    part : (d : ℕ) → (here ++ slot ∷ []) ++ take d path ≡ here ++ take (suc d) (slot ∷ path)
+    part d = append_assoc here (slot ∷ []) (take d path)
+
+    first : there here ≡ other here
+    first = ap there (sym (append-nil here)) ∙ agree 0 (omega arith) (λ e low. absurd (omega (arith, low))) ∙ ap other (append-nil here)
+
+    deeper : other here ≡ true → (d : ℕ) → d < length path → ((e : ℕ) → e < d → other ((here ++ slot ∷ []) ++ take e path) ≡ true) →
+        there ((here ++ slot ∷ []) ++ take d path) ≡ other ((here ++ slot ∷ []) ++ take d path)
+    deeper pointed d low above = ap there (part d) ∙ agree (suc d) (omega (arith, low)) all ∙ ap other (sym (part d))
+      where
+        all : (e : ℕ) → e < suc d → other (here ++ take e (slot ∷ path)) ≡ true
+        all zero few = ap other (append-nil here) ∙ pointed
+        all (suc e) few = ap other (sym (part e)) ∙ above e (omega (arith, few))
+
+    go : (b : Bool) → other here ≡ b → (other here ≡ true → existing_from there (here ++ slot ∷ []) path ≡ existing_from other (here ++ slot ∷ []) path) →
+        existing_from there here (slot ∷ path) ≡ existing_from other here (slot ∷ path)
+    go true e rest = let same : there here ≡ true = first ∙ e in rw (same, e) (rest e)
+    go false e rest = let same : there here ≡ false = first ∙ e in rw (same, e) refl

@@ -1,18 +1,20 @@
 -- A write below the size of a file touches the words of one run, and prepares nothing.
-use Rattle.std.proofs.Common.{◌≡◌, ℕ, suc, ◌+◌, ◌-◌, ◌/◌, ◌<◌, ◌≤◌, min, List, [], ◌∷◌, ◌++◌, length, map, Bool, true, false, Some, refl, sym, ◌∙◌, ap, arith}
+use Rattle.std.proofs.Common.{◌≡◌, ℕ, suc, ◌+◌, ◌-◌, ◌/◌, ◌<◌, ◌≤◌, min, List, [], ◌∷◌, ◌++◌, length, map, Bool, true, false, Some, refl, sym, ◌∙◌, ap, arith, take}
 use Rattle.std.specs.Prelude.{nat_lt, if◌then◌else◌}
 use Rattle.std.specs.List.{range_with_len}
 use Rattle.std.proofs.lemmas.Bool.{lt-ltb, ltb-true}
 use Rattle.std.proofs.lemmas.List.{append-nil}
 use Rattle.bp_layout.specs.Inode.{root_of, size_of}
-use Rattle.bp_layout.specs.Need.{Change, Beyond, beyond, new_inodes, preparation, growth, height_after, content_path, inode_word_path, copied, need}
+use Rattle.bp_layout.specs.Need.{Change, Beyond, beyond, new_inodes, preparation, growth, height_after, content_path, inode_word_path, copied, need, is_there_after, common_all, cover_of, prefixes_of}
 use Rattle.bp_layout.specs.Need.Change.{writes}
 use Rattle.bp_layout.specs.Need as layout
-use Rattle.bp_layout.specs.WordPaths.{WordPath, digits, inode_path, tree_path}
+use Rattle.bp_layout.specs.WordPaths.{WordPath, digits, inode_path, tree_path, is_pointed}
 use Rattle.bp_layout.specs.Words.{Image, height_of}
 use Rattle.bp_layout.proofs.Finding.{map-same}
 use Rattle.bp_cow.specs.declared.touched.Run.{Run}
 use Rattle.bp_cow.specs.declared.touched.Touched.{Touched}
+use Rattle.bp_cow.specs.Cover.{commit_cover, copied_paths}
+use Rattle.bp_cow.proofs.CommonPaths.{existing_same}
 use Rattle.bp_cow.specs.Touched.{run_end, run_path, run_paths, word_paths, all_paths}
 
 not_above : (a b : ℕ) → b ≤ a → nat_lt a b ≡ false
@@ -79,3 +81,20 @@ module _ (image : Image) (touched : Touched) (run : Run) (i : ℕ) (one : touche
     where
       no_words : word_paths touched ≡ []
       no_words = rw none refl
+
+-- ---- the cover and the copies of a change
+
+-- Where all paths of the commit are those that the change touches, and a node is there just where a pointer of the common path leads to it, as far as that path exists,
+-- the commit has the cover and the copies of the change.
+module _ (image : Image) (change : Change) (touched : Touched) (same : all_paths touched ≡ layout.touched image change)
+    (agree : (d : ℕ) → d < length (common_all (all_paths touched)) → ((e : ℕ) → e < d → is_pointed image (take e (common_all (all_paths touched))) ≡ true) →
+    is_there_after image change (take d (common_all (all_paths touched))) ≡ is_pointed image (take d (common_all (all_paths touched)))) where
+  pub change_cover : commit_cover image touched ≡ layout.cover image change
+  change_cover =
+      sym (existing_same (is_there_after image change) (is_pointed image) [] (common_all (all_paths touched)) agree)
+      ∙ ap (λ (paths : List WordPath). cover_of (is_there_after image change) paths) same
+
+  pub change_copies : copied_paths image touched ≡ copied image change
+  change_copies =
+      ap (λ (path : WordPath). prefixes_of (length path) [] (all_paths touched)) change_cover
+      ∙ ap (λ (paths : List WordPath). prefixes_of (length (layout.cover image change)) [] paths) same

@@ -1,4 +1,5 @@
--- What the parts of a preparation owe and give, told in their own words: a region and its free blocks as a part begins and as it ends, a tree, a node, and the bytes that are wanted.
+-- What the parts of a preparation owe and give, told in their own words: a region and its free blocks as a part begins and as it ends, a tree, a node,
+-- and the bytes that are wanted.
 use Rattle.std.specs.Prelude.{ℕ, suc, ◌+◌, ◌-◌, ◌*◌, ◌≤◌, min, max, List, Option}
 use Rattle.bp_free.specs.Set.{Set, members}
 use Rattle.bp_layout.specs.Words.{height_of}

@@ -83,7 +83,7 @@ module _ (start now : ℕ → Bool) (word most : ℕ) (old new : Memory) (done :
     once = filter_apart (gone start now) 0 (block_count (current_words old));
     free = each-of (IsFreeBlock (current_words old)) copies (λ b has. free b (of_copy b has).0);
     stored = each-of (λ b. StoresTo (InBlock b) done.commit.prepared) copies (λ b has. done.each b (of_copy b has).0 (of_copy b has).1);
-    only = StoresMay-weaker (AnyAt (IsTakenWord start now)) (AnyAt (IsOpen (current_words old) copies)) (λ place value inside. in_taken (has_copy (place / 512) inside.was inside.gone)) done.commit.prepared done.only;
+    only = StoresMay-weaker (AnyAt (IsTakenWord start now)) (AnyAt (IsOpen (current_words old) copies)) (λ place value inside. in_taken (has_copy (place / 512) (ap start inside.inside ∙ inside.was) (ap now inside.inside ∙ inside.gone))) done.commit.prepared done.only;
   }
 
   -- so many, where both sets are told up to the number of blocks

@@ -1,5 +1,5 @@
 -- The stores of copies are quiet: they go to blocks to which no pointer leads.
-use Rattle.std.proofs.Common.{◌≡◌, ◌⊎◌, ℕ, ◌+◌, ◌/◌, ◌≤◌, Bool, false, subst, arith, inl, inr}
+use Rattle.std.proofs.Common.{◌≡◌, ◌⊎◌, ℕ, ◌+◌, ◌/◌, ◌≤◌, Bool, false, subst, arith, inl, inr, ap, ◌∙◌, true}
 use Rattle.pm_epochs.specs.Crash.{IsPartialEquivalence, IsQuiet, commit}
 use Rattle.pm_epochs.specs.May.{AnyAt, EachMay}
 use Rattle.pm_epochs.proofs.MayLaws.{quiet_may}
@@ -23,11 +23,11 @@ module _ (old : Image) (bound : ℕ → ℕ) (start taken : ℕ → Bool) (wf : 
     (exact : IsExactSet old (IsTreePointer old bound) start) where
   unseen : (place : ℕ) → IsTakenWord start taken place → IsUnseen old bound place
   unseen place one =
-      let low = (exact.in_range (place / 512) one.was).0 in
+      let low = (exact.in_range (place / 512) (ap start one.inside ∙ one.was)).0 in
       record { low = omega (arith, low); dead = λ has. clash (exact.live (place / 512) has) }
     where
       clash : start (place / 512) ≡ false → ⊥
-      clash used = let was = one.was in absurd (cc)
+      clash used = let was : start (place / 512) ≡ true = ap start one.inside ∙ one.was in absurd (cc)
 
   same : (image : Image) → EachMay (AnyAt (IsTakenWord start taken)) old image → Same old image
   same image each = same_symmetric image old (same_unseen old bound start wf forest sizes exact image each.size (λ place seen. go place seen (each.each place)))

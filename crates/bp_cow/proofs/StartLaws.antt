@@ -55,7 +55,7 @@ module _ (plan : Plan) (from : ℕ) (can : CanMake plan from) where
     start_to = let range = can.exact.in_range copy takes.was in (range.0, omega (arith, range.1, can.whole))
 
     pub start_taken : (place : ℕ) → place / 512 ≡ copy → IsTakenWord plan.free free_after place
-    start_taken place e = record { was = ap plan.free e ∙ takes.was; gone = ap free_after e ∙ takes.gone }
+    start_taken place e = record { block = copy; inside = e; was = takes.was; gone = takes.gone }
 
     pub start_made : (mid : Image) → EqualBut copy plan.old mid → ((slot : ℕ) → slot < 512 → slot_word mid copy slot ≡ patch_at plan.job 0 from slot (slot_word plan.old (block_of (word plan.old plan.place)) slot)) →
         IsMade (record plan { top = copy }) from 0 from mid free_after

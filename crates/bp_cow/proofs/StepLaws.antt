@@ -61,7 +61,7 @@ module _ (plan : Plan) (from i depth : ℕ) (now : Image) (free : ℕ → Bool) 
       pub place_taken : IsTakenWord plan.free free (512 * block + slot)
       place_taken =
           let at : (512 * block + slot) / 512 ≡ block = omega (arith, slot_low) in
-          record { was = ap plan.free (at ∙ is) ∙ fresh_free plan from i depth now free can made way live anew_here; gone = place_used }
+          record { block = (512 * block + slot) / 512; inside = refl; was = ap plan.free (at ∙ is) ∙ fresh_free plan from i depth now free can made way live anew_here; gone = place_used }
 
     module _ (more : depth < length (plan.job.way i)) where
       abbrev slot : ℕ
@@ -127,10 +127,10 @@ module _ (plan : Plan) (from i depth : ℕ) (now : Image) (free : ℕ → Bool) 
             ∙ ap (block_on (seen plan after)) (sym (trail_of-next (plan.job.way i) depth))
 
         pub stored_taken : (place : ℕ) → (place / 512 ≡ copy) ⊎ (place ≡ 512 * block + slot) → IsTakenWord plan.free free_after place
-        stored_taken place (inl e) = record { was = ap plan.free e ∙ still_free plan from i depth now free can made copy takes.was; gone = ap free_after e ∙ takes.gone }
+        stored_taken place (inl e) = record { block = copy; inside = e; was = still_free plan from i depth now free can made copy takes.was; gone = takes.gone }
         stored_taken place (inr e) =
             let one = place_taken slot slot_low in
-            rw e (record { was = one.was; gone = other (cases_eq ((512 * block + slot) / 512) copy) })
+            rw e (record { block = (512 * block + slot) / 512; inside = refl; was = ap plan.free one.inside ∙ one.was; gone = other (cases_eq ((512 * block + slot) / 512) copy) })
           where
             other : ((512 * block + slot) / 512 ≡ copy) ⊎ ((512 * block + slot) / 512 ≡ copy → ⊥) → free_after ((512 * block + slot) / 512) ≡ false
             other (inl same) = ap free_after same ∙ takes.gone

@@ -1,5 +1,5 @@
 -- The stores that make copies: they go to blocks that were free, and to each of them that is taken.
-use Rattle.std.specs.Prelude.{◌≡◌, ◌⊎◌, ℕ, ◌/◌, Bool, true, false}
+use Rattle.std.specs.Prelude.{◌≡◌, ◌⊎◌, ℕ, Bool, true, false}
 use Rattle.pm_epochs.specs.Log.{StoresTo}
 use Rattle.pm_epochs.specs.May.{AnyAt, StoresMay}
 use Rattle.bp_layout.specs.Same.{Same}
@@ -19,8 +19,10 @@ pub record AddsInto (Inside : ℕ → Type 0) (block most : ℕ) (old new : Memo
 
 -- a word of a block that has been taken
 pub record IsTakenWord (start now : ℕ → Bool) (word : ℕ) : Type 0 where
-  pub was : start (word / 512) ≡ true
-  pub gone : now (word / 512) ≡ false
+  pub block : ℕ
+  pub inside : InBlock block word
+  pub was : start block ≡ true
+  pub gone : now block ≡ false
 
 -- Stores to blocks that have been taken since the start, to each that has been taken since `before`.
 pub record AddsCopies (start before after : ℕ → Bool) (most : ℕ) (old new : Memory) : Type 0 where

@@ -56,7 +56,7 @@ returns-clause-others g c w other used =
     let old : g.plan.old ≡ (current_words (g.R.Region.memory c.args.region.now)) = c.requires.1.1.old in let place : c.args.place ≡ g.plan.place = c.requires.1.1.at in
     ap (λ (ws : List ℕ). word ws w) (current_words-adds (g.R.Region.memory c.make-top.new.region) (g.R.Region.memory c.commit_word.new.region) _ c.commit_word.ensures)
     ∙ get_or-set_other (current_words (g.R.Region.memory c.make-top.new.region)) c.args.place w _ 0 other
-    ∙ may_frame (AnyAt (IsTakenWord g.plan.free (has c.make-top.new.blocks))) 0 (512 + (513 * turned_upto (job_of c.args.touched.now) c.args.from (ways (job_of c.args.touched.now)) + (job_of c.args.touched.now).words)) (g.R.Region.memory c.args.region.now) (g.R.Region.memory c.make-top.new.region) c.make-top.ensures.stores.part w (λ value one. clash (g.plan.free (w / 512)) one.was used)
+    ∙ may_frame (AnyAt (IsTakenWord g.plan.free (has c.make-top.new.blocks))) 0 (512 + (513 * turned_upto (job_of c.args.touched.now) c.args.from (ways (job_of c.args.touched.now)) + (job_of c.args.touched.now).words)) (g.R.Region.memory c.args.region.now) (g.R.Region.memory c.make-top.new.region) c.make-top.ensures.stores.part w (λ value one. clash (g.plan.free (w / 512)) (ap g.plan.free one.inside ∙ one.was) used)
     ∙ ap (λ (ws : List ℕ). word ws w) (sym old)
   where
     clash : (b : Bool) → b ≡ true → b ≡ false → ⊥

@@ -13,15 +13,6 @@ use Rattle.bp_shapes.proofs.Roots.{null_tree, null_words}
 use Rattle.bp_append.specs.Built.{IsBuilt, InSlot, Children}
 use Rattle.bp_append.proofs.TallyLaws.{span-positive}
 
-pub has_left : (xs ys : List ℕ) (b : ℕ) → Has xs b → Has (xs ++ ys) b
-has_left [] ys b m = absurd m
-has_left (x ∷ xs) ys b (inl e) = inl e
-has_left (x ∷ xs) ys b (inr m) = inr (has_left xs ys b m)
-
-pub has_right : (xs ys : List ℕ) (b : ℕ) → Has ys b → Has (xs ++ ys) b
-has_right [] ys b m = m
-has_right (x ∷ xs) ys b m = inr (has_right xs ys b m)
-
 pub has_either : (xs ys : List ℕ) (b : ℕ) → Has (xs ++ ys) b → Has xs b ⊎ Has ys b
 has_either [] ys b m = inr m
 has_either (x ∷ xs) ys b (inl e) = inl (inl e)

@@ -12,7 +12,7 @@ use Rattle.bp_shapes.specs.Links.IsUnder.{here, under}
 use Rattle.bp_append.specs.Built.{IsBuilt}
 use Rattle.bp_layout.proofs.Pieces.{slot_of, rest_of, value, rest_low}
 use Rattle.bp_shapes.proofs.NullLink.{below_depth}
-use Rattle.bp_append.proofs.FillLaws.{each_has}
+use Rattle.bp_tree.proofs.PerformsLaws.{each-has}
 
 slot_below : (d k e l r : ℕ) → IsUnder d k e l r → slot_of r l ≡ k
 slot_below d k _ _ _ (here at index) = index
@@ -88,7 +88,7 @@ module _ (image : Image) (t d k place block level size : ℕ) (bytes : ℕ → �
         let same = node_below image block level low r l in
         let has : HasBlock image (4096 * block + level) size (node image (4096 * block) r l) =
         record { depth = r; index = rest_of r l; pointer = live_below e l r b alive; named = sym same; not_null = present } in
-        each_has (λ c. IsLiveBlock image c → ⊥) taken (node image (4096 * block) r l) free (built.blocks _ has) lives;
+        each-has (λ c. IsLiveBlock image c → ⊥) taken (node image (4096 * block) r l) free (built.blocks _ has) lives;
     once = λ e l r f m q b c alive also present same.
         let one = node_below image block level low r l in
         let two = node_below image block level low q m in

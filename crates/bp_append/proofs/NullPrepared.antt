@@ -18,7 +18,7 @@ use Rattle.bp_append.specs.Built.{InBlocks}
 use Rattle.bp_append.specs.Filled.{IsUsable}
 use Rattle.bp_append.specs.Stores.{prep_stores}
 use Rattle.pm_region.proofs.MayLaws.{may_weaker, may_frame, each_after}
-use Rattle.bp_append.proofs.FillLaws.{each_has, each_left, usable_left, block_row}
+use Rattle.bp_append.proofs.FillLaws.{each_left, usable_left, block_row}
 use Rattle.bp_append.proofs.TwoLinks.{any_root_link}
 use Rattle.bp_append.specs.Given.{given, given_at}
 use Rattle.bp_append.specs.Grown.{Roots, Makes}
@@ -26,6 +26,7 @@ use Rattle.bp_append.specs.Prepared.{CanPrepare, PreparesWith, need_for}
 use Rattle.bp_append.proofs.ChildrenLaws.{built_as}
 use Rattle.bp_append.proofs.PrepLaws.{open_root, free_taken, in_free_harmless, no_root_in_free, agrees_of, words_new, epochs_taking, meaning_middle, wf_middle, reached_middle, place_middle, still_free}
 use Rattle.bp_append.proofs.ReadyLaws.{built_reads, null_byte, IsReady, prepared}
+use Rattle.bp_tree.proofs.PerformsLaws.{each-has}
 
 by_old : (old new : Image) (t : ℕ) → SameMeaning old new → IsReached old t → IsReadByWords new t → IsReadByWords old t
 by_old old new t same reached (inl e) = inl e
@@ -131,7 +132,7 @@ module _ (first new : Memory) (free_old free_new : List ℕ) (t place from to : 
         (λ by. can.by_words by ∙ none_below by)
         made.height order
         (λ u b k r away has few beyond. get_or-set_other middle place (512 * b + k) makes.top 0 beyond
-        ∙ may_frame _ 0 _ first makes.between made.stores.part (512 * b + k) (λ v m. each_has (λ c. IsLiveBlock old c → ⊥) made.taken b taken_free (subst (Has made.taken) (block_row b k few) m) (record { tree = u; reached = r; has = has }))));
+        ∙ may_frame _ 0 _ first makes.between made.stores.part (512 * b + k) (λ v m. each-has (λ c. IsLiveBlock old c → ⊥) made.taken b taken_free (subst (Has made.taken) (block_row b k few) m) (record { tree = u; reached = r; has = has }))));
   }
     where
       zero_plus : (o : ℕ) → 0 + o ≡ o

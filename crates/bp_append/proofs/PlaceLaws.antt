@@ -21,7 +21,7 @@ use Rattle.pm_region.specs.Memory.{Memory, current_words}
 use Rattle.pm_region.proofs.MemoryLaws.{length-current_words}
 use Rattle.bp_append.specs.Grown.{CanGrow}
 use Rattle.bp_append.specs.Prepared.{CanPrepare}
-use Rattle.bp_append.proofs.FillLaws.{each_has}
+use Rattle.bp_tree.proofs.PerformsLaws.{each-has}
 
 -- what the path of a root word leads to
 pub record Leads (image : Image) (t : ℕ) (path : WordPath) : Type 0 where
@@ -93,7 +93,7 @@ grow_can memory free t path from to can = record {
   sound = can.well.sound t can.reached;
   some = let some : 8 ≤ block_count (current_words memory) = can.well.at_least in omega (arith, some, length-current_words memory);
   usable = can.usable;
-  outside = λ b m has. each_has (λ c. IsLiveBlock (current_words memory) c → ⊥) free b can.unused m (record { tree = t; reached = can.reached; has = has });
+  outside = λ b m has. each-has (λ c. IsLiveBlock (current_words memory) c → ⊥) free b can.unused m (record { tree = t; reached = can.reached; has = has });
   enough = can.enough;
   room = can.room;
 }

@@ -33,12 +33,11 @@ use Rattle.pm_region.specs.Memory.{Memory, current_words, Adds}
 use Rattle.pm_region.proofs.MemoryLaws.{adds_both, current_words-adds, length-current_words}
 use Rattle.bp_tree.specs.Performs.{InBlock, IsOpen, AddsTaking}
 use Rattle.bp_tree.specs.Performs.IsOpen.{in_live, at_root}
-use Rattle.bp_tree.proofs.PerformsLaws.{each-as}
+use Rattle.bp_tree.proofs.PerformsLaws.{each-as, each-has}
 use Rattle.bp_append.specs.Into.{AddsInto}
 use Rattle.bp_append.specs.Filled.{IsUsable}
 use Rattle.bp_append.specs.Built.{InBlocks}
 use Rattle.bp_append.specs.Grown.{Links}
-use Rattle.bp_append.proofs.FillLaws.{each_has}
 
 pub equivalence : IsPartialEquivalence Same
 equivalence = record { symmetric = same_symmetric; transitive = same_transitive }
@@ -72,13 +71,13 @@ free_taken memory (b ∷ taken) usable unused = (
 pub in_free_harmless : (old : Image) → IsWellFormed old → (blocks : List ℕ) → Each (λ b. 1 ≤ b) blocks → Each (λ b. IsLiveBlock old b → ⊥) blocks → (w v : ℕ) → InBlocks blocks w → IsHarmless old w v
 in_free_harmless old wf blocks low free w v m =
     let place : 512 * (w / 512) + w % 512 ≡ w = omega arith in
-    subst (λ p. IsHarmless old p v) place (free-harmless old wf (w / 512) (w % 512) v (each_has _ blocks (w / 512) low m) (omega arith) (each_has _ blocks (w / 512) free m))
+    subst (λ p. IsHarmless old p v) place (free-harmless old wf (w / 512) (w % 512) v (each-has _ blocks (w / 512) low m) (omega arith) (each-has _ blocks (w / 512) free m))
 
 -- and no root word stands in it
 pub no_root_in_free : (old : Image) → IsWellFormed old → (blocks : List ℕ) → Each (λ b. 1 ≤ b) blocks → Each (λ b. IsLiveBlock old b → ⊥) blocks → (t place : ℕ) → IsReached old t →
     RootPlace old t place → InBlocks blocks place → ⊥
-no_root_in_free old wf blocks low free t place reached (top first two) m = let some : 1 ≤ place / 512 = each_has _ blocks (place / 512) low m in omega (arith, some, two)
-no_root_in_free old wf blocks low free t place reached (inode some stands) m = each_has _ blocks (place / 512) free m (root_block old wf t place reached stands)
+no_root_in_free old wf blocks low free t place reached (top first two) m = let some : 1 ≤ place / 512 = each-has _ blocks (place / 512) low m in omega (arith, some, two)
+no_root_in_free old wf blocks low free t place reached (inode some stands) m = each-has _ blocks (place / 512) free m (root_block old wf t place reached stands)
 
 pub agrees_of : (old new : Image) → EachMay (IsHarmless old) old new → Agrees old new
 agrees_of old new all = record {

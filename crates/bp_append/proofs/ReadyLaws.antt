@@ -23,7 +23,7 @@ use Rattle.bp_append.specs.Given.{given}
 use Rattle.bp_append.specs.Built.{IsBuilt}
 use Rattle.bp_append.specs.Prepared.{Prepares}
 use Rattle.bp_append.proofs.ChildrenLaws.{built_kept}
-use Rattle.bp_append.proofs.FillLaws.{each_has}
+use Rattle.bp_tree.proofs.PerformsLaws.{each-has}
 
 -- ---- a new tree in the place of none
 
@@ -58,7 +58,7 @@ built_reads ByWords image size to root other bytes taken Full file fits null bui
     words = λ by k low. absurd (omega (arith, low, file by));
     bytes = λ o low. built.bytes_are o (lt_of_lt_of_le low fits) ∙ zeros o low ∙ sym (zero_old o low null);
   };
-  blocks = λ b has. inr (each_has (λ c. IsLiveBlock image c → ⊥) taken b free (built.blocks b (block_larger image other size to b fits has)));
+  blocks = λ b has. inr (each-has (λ c. IsLiveBlock image c → ⊥) taken b free (built.blocks b (block_larger image other size to b fits has)));
   full = λ full. full_of full null;
 }
   where
@@ -100,7 +100,7 @@ module _ (old image : Image) (wf : IsWellFormed old) (t place other from to : �
       (behind : (o : ℕ) → size_of old t ≤ o → o < to → bytes o ≡ given from raw o) (full : IsReadByWords old t → Full) (height : height_of other ≡ height_with (root_of old t) (size_of old t) to) (order : size_of old t ≤ to)
       (frame : (u b k : ℕ) → IsReached old u → u ≢ t → HasBlock old (root_of old u) (size_of old u) b → k < 512 → 512 * b + k ≢ place → get_or last (512 * b + k) 0 ≡ get_or old (512 * b + k) 0) where
     member_free : (b : ℕ) → HasBlock old (root_of old t) (size_of old t) b ⊎ Has taken b → HasBlock old (root_of old t) (size_of old t) b ⊎ (IsLiveBlock old b → ⊥)
-    member_free b m = elim m [ inl has ↦ inl has | inr t ↦ inr (each_has (λ c. IsLiveBlock old c → ⊥) taken b free t) ]
+    member_free b m = elim m [ inl has ↦ inl has | inr t ↦ inr (each-has (λ c. IsLiveBlock old c → ⊥) taken b free t) ]
 
     tree_last : IsBuilt last other to bytes (λ b. HasBlock old (root_of old t) (size_of old t) b ⊎ Has taken b) Full
     tree_last = built_kept image last other to bytes (λ b. HasBlock old (root_of old t) (size_of old t) b ⊎ Has taken b) Full whole
@@ -158,7 +158,7 @@ module _ (old image : Image) (wf : IsWellFormed old) (t place other from to : �
           let before : HasBlock old (root_of old u) (size_of old u) b = has_block-kept old last (root_of old u) (size_of old u) same_pointers b (subst₂ (λ r z. HasBlock last r z b) (roots_last u other_reached away) (sizes_last u other_reached) has) in
           elim (tree_last.blocks b mine) [
             | inl own ↦ away (wf.apart u t b other_reached reached before own)
-            | inr new ↦ each_has (λ c. IsLiveBlock old c → ⊥) taken b free new (record { tree = u; reached = other_reached; has = before })
+            | inr new ↦ each-has (λ c. IsLiveBlock old c → ⊥) taken b free new (record { tree = u; reached = other_reached; has = before })
           ]
 
     pub prepared : Prepares old last t from to raw taken

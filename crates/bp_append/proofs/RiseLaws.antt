@@ -5,7 +5,7 @@ use Rattle.std.proofs.lemmas.Bool.{cases_eq, cases_lt}
 use Rattle.std.proofs.lemmas.List.{append_assoc, length-append, length-set}
 use Rattle.bp_layout.specs.Words.{Image, block_of, height_of, slot_word}
 use Rattle.bp_layout.specs.Tree.{byte, span, HasBlock, IsSound, IsFull}
-use Rattle.bp_layout.specs.Members.{Has, Each, AreApart}
+use Rattle.bp_layout.specs.Members.{Has, AreApart}
 use Rattle.bp_layout.specs.Pieces.{piece}
 use Rattle.bp_shapes.specs.Links.{raised, raised_by, LeadDown}
 use Rattle.bp_layout.specs.Stores.{after_stores}
@@ -22,9 +22,10 @@ use Rattle.bp_append.specs.Built.{InBlocks, IsBuilt, Children}
 use Rattle.bp_append.specs.Filled.{IsUsable, CanFill, Fills}
 use Rattle.bp_append.specs.Risen.{idle, idles, edge, Outside, CanRise, risen, Rises}
 use Rattle.bp_append.proofs.TallyLaws.{span-suc, span-positive, met_none, met_one, tally_split, begins_at, span-most, span-rising}
-use Rattle.bp_append.proofs.ChildrenLaws.{has_left, has_right, has_either, built_kept, built_as, built_node, children_one, children_as, children_bytes, children_kept, children_both}
-use Rattle.bp_append.proofs.FillLaws.{usable_rest, may_length, may_base, each_has, apart_parts, slot_framed, block_row}
+use Rattle.bp_append.proofs.ChildrenLaws.{has_either, built_kept, built_as, built_node, children_one, children_as, children_bytes, children_kept, children_both}
+use Rattle.bp_append.proofs.FillLaws.{usable_rest, may_length, may_base, apart_parts, slot_framed, block_row}
 use Rattle.bp_append.proofs.VisitLaws.{whole_links, alike}
+use Rattle.bp_tree.proofs.PerformsLaws.{apart-append, each-has, has-behind, has-front}
 
 -- ---- counts
 
@@ -146,7 +147,7 @@ module _ (old stored : Memory) (free_old free_middle : List ℕ) (root block fro
     few_to = can.few_to;
     some_block = usable_all.low.0;
     in_range = rw base usable_all.high.0;
-    outside = λ m. each_has (λ c. c ≢ block) free_middle block usable_all.apart.0 m refl;
+    outside = λ m. each-has (λ c. c ≢ block) free_middle block usable_all.apart.0 m refl;
     usable = rw base (record { low = usable_all.low.1; high = usable_all.high.1; apart = usable_all.apart.1 });
     enough = subst (λ n. tally (suc (height_of root)) (max from (span (height_of root))) n ≤ length free_middle) (sym whole_is) (enough_of _ _ _ _ _ (cost old free_old root from to can) can.enough lengths);
     room = subst (λ n. 512 * tally (suc (height_of root)) (max from (span (height_of root))) n + 512 ≤ room_in stored) (sym whole_is) (room_of _ _ _ (room_in old) (room_in stored) (cost old free_old root from to can) can.room (room_after_may _ 0 1 old stored one_store));
@@ -190,7 +191,7 @@ module _ (old stored : Memory) (free_old free_middle : List ℕ) (root block fro
       block_low = (usable_all.low.0, usable_all.high.0)
 
       in_taken : (x : ℕ) → Has fills.taken x → Has free_middle x
-      in_taken x m = subst (λ f. Has f x) (sym fills.takes) (has_left fills.taken free_new x m)
+      in_taken x m = subst (λ f. Has f x) (sym fills.takes) (has-front fills.taken free_new x m)
 
       in_old : (x : ℕ) → Has fills.taken x → Has free_old x
       in_old x m = subst (λ f. Has f x) (sym takes) (inr (in_taken x m))
@@ -199,7 +200,7 @@ module _ (old stored : Memory) (free_old free_middle : List ℕ) (root block fro
       block_old = subst (λ f. Has f block) (sym takes) (inl refl)
 
       block_apart : (x : ℕ) → Has fills.taken x → x ≢ block
-      block_apart x m = each_has (λ c. c ≢ block) free_middle x usable_all.apart.0 (in_taken x m)
+      block_apart x m = each-has (λ c. c ≢ block) free_middle x usable_all.apart.0 (in_taken x m)
 
       words_stored : current_words stored ≡ set (current_words old) (block * 512) (4096 * block_of root)
       words_stored = current_words-adds old stored _ adds
@@ -342,18 +343,6 @@ raised_append : (root : ℕ) (xs ys : List ℕ) → raised_by root (xs ++ ys) �
 raised_append root [] ys = refl
 raised_append root (x ∷ xs) ys = raised_append (raised root x) xs ys
 
-apart_append : (xs ys : List ℕ) → AreApart xs → AreApart ys → ((b : ℕ) → Has xs b → Has ys b → ⊥) → AreApart (xs ++ ys)
-apart_append [] ys one two other = two
-apart_append (x ∷ xs) ys one two other = (each_both xs ys one.0 (each_of ys (λ b m e. other b (inl (sym e)) m)), apart_append xs ys one.1 two (λ b m n. other b (inr m) n))
-  where
-    each_of : (ys : List ℕ) → ((b : ℕ) → Has ys b → b ≢ x) → Each (λ b. b ≢ x) ys
-    each_of [] all = tt
-    each_of (y ∷ ys) all = (all y (inl refl), each_of ys (λ b m. all b (inr m)))
-
-    each_both : (xs ys : List ℕ) → Each (λ b. b ≢ x) xs → Each (λ b. b ≢ x) ys → Each (λ b. b ≢ x) (xs ++ ys)
-    each_both [] ys one two = two
-    each_both (z ∷ xs) ys one two = (one.0, each_both xs ys one.1 two)
-
 down_append : (image : Image) (root : ℕ) (xs ys : List ℕ) → LeadDown image root xs → LeadDown image (raised_by root xs) ys → LeadDown image root (xs ++ ys)
 down_append image root [] ys one two = two
 down_append image root (x ∷ xs) ys one two = (one.0, down_append image (raised root x) xs ys one.1 two)
@@ -365,13 +354,13 @@ down_kept old new root (x ∷ xs) same down = (same x (inl refl) ∙ down.0, dow
 module _ (first middle last : Memory) (free_first free_middle free_last raw : List ℕ) (root mid_root top low mid high from to : ℕ) (usable : AreApart free_first) (order : low ≤ mid) (rest : mid < high) (one_more : high ≡ suc mid) (height_mid : height_of mid_root ≡ mid)
     (one : Rises first middle free_first free_middle root mid_root low mid from to raw) (two : Rises middle last free_middle free_last mid_root top mid high from to raw) where
   in_one : (x : ℕ) → Has one.taken x → Has free_first x
-  in_one x m = subst (λ f. Has f x) (sym one.takes) (has_left one.taken free_middle x m)
+  in_one x m = subst (λ f. Has f x) (sym one.takes) (has-front one.taken free_middle x m)
 
   in_middle : (x : ℕ) → Has free_middle x → Has free_first x
-  in_middle x m = subst (λ f. Has f x) (sym one.takes) (has_right one.taken free_middle x m)
+  in_middle x m = subst (λ f. Has f x) (sym one.takes) (has-behind one.taken free_middle x m)
 
   in_two : (x : ℕ) → Has two.taken x → Has free_middle x
-  in_two x m = subst (λ f. Has f x) (sym two.takes) (has_left two.taken free_last x m)
+  in_two x m = subst (λ f. Has f x) (sym two.takes) (has-front two.taken free_last x m)
 
   apart_both : (x : ℕ) → Has one.taken x → Has free_middle x → ⊥
   apart_both x m n = apart_parts one.taken free_middle x (rw one.takes at usable) m n
@@ -393,13 +382,13 @@ module _ (first middle last : Memory) (free_first free_middle free_last raw : Li
     counted = counts _ _ _ _ _ _ _ _ _ (length-append one.taken two.taken) one.counted two.counted idle_sum;
     stores = into_more (one.taken ++ two.taken) (one.taken ++ two.taken) _ _ _ _ first last (λ b m. m) (λ w v m. m) (most _ _ _ (length-append one.taken two.taken))
         (into_twice one.taken two.taken (λ place value. InBlocks (one.taken ++ two.taken) place) _ _ first middle last
-        (into_more one.taken one.taken _ _ _ _ first middle (λ b m. m) (λ w v m. has_left one.taken two.taken (w / 512) m) (omega arith) one.stores)
-        (into_more two.taken two.taken _ _ _ _ middle last (λ b m. m) (λ w v m. has_right one.taken two.taken (w / 512) m) (omega arith) two.stores));
+        (into_more one.taken one.taken _ _ _ _ first middle (λ b m. m) (λ w v m. has-front one.taken two.taken (w / 512) m) (omega arith) one.stores)
+        (into_more two.taken two.taken _ _ _ _ middle last (λ b m. m) (λ w v m. has-behind one.taken two.taken (w / 512) m) (omega arith) two.stores));
     chain = one.chain ++ two.chain;
     named = two.named ∙ ap (λ r. raised_by r two.chain) one.named ∙ sym (raised_append root one.chain two.chain);
     tall = omega (arith, one.tall, two.tall, height_mid, length-append one.chain two.chain);
-    inside = λ b m. elim (has_either one.chain two.chain b m) [ inl l ↦ has_left one.taken two.taken b (one.inside b l) | inr r ↦ has_right one.taken two.taken b (two.inside b r) ];
-    apart = apart_append one.chain two.chain one.apart two.apart (λ b m n. apart_both b (one.inside b m) (in_two b (two.inside b n)));
+    inside = λ b m. elim (has_either one.chain two.chain b m) [ inl l ↦ has-front one.taken two.taken b (one.inside b l) | inr r ↦ has-behind one.taken two.taken b (two.inside b r) ];
+    apart = apart-append one.chain two.chain one.apart two.apart (λ b m n. apart_both b (one.inside b m) (in_two b (two.inside b n)));
     down = down_append (current_words last) root one.chain two.chain
         (down_kept (current_words middle) (current_words last) root one.chain (λ b m. slot_framed (current_words middle) (current_words last) b 0
         (may_frame _ 0 _ middle last two.stores.part (512 * b + 0) (λ v t. apart_both b (one.inside b m) (in_two b (subst (Has two.taken) (block_row b 0 (omega arith)) t))))) one.down)
@@ -411,7 +400,7 @@ module _ (first middle last : Memory) (free_first free_middle free_last raw : Li
         built_as (after_stores (current_words last) links) top (min to (span high)) (risen (after_stores (current_words middle) links) mid_root mid from raw) (risen (after_stores (current_words first) links) root low from raw) _
         (λ b. HasBlock (after_stores (current_words first) links) root (min to (span low)) b ⊎ Has (one.taken ++ two.taken) b) _ (IsFull (after_stores (current_words first) links) root (min to (span low)) × (from ≤ span low))
         (λ i small. same_byte links i (below.bytes_are i) (omega (arith, small)) (cases_lt i (span mid)))
-        (λ b m. elim m [ inl has ↦ elim (below.blocks b has) [ inl old ↦ inl old | inr t ↦ inr (has_left one.taken two.taken b t) ] | inr t ↦ inr (has_right one.taken two.taken b t) ])
+        (λ b m. elim m [ inl has ↦ elim (below.blocks b has) [ inl old ↦ inl old | inr t ↦ inr (has-front one.taken two.taken b t) ] | inr t ↦ inr (has-behind one.taken two.taken b t) ])
         (λ b m. elim m [ inl old ↦ inl (below.has b (inl old)) | inr t ↦ elim (has_either one.taken two.taken b t) [ inl l ↦ inl (below.has b (inr l)) | inr r ↦ inr r ] ])
         (λ both. (below.full both, le_trans both.1 (span-rising low mid order)))
         above;

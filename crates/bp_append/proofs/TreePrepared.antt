@@ -1,5 +1,5 @@
 -- The whole preparation of a tree with blocks: nobody sees it, and the tree is ready.
-use Rattle.std.proofs.Common.{◌≡◌, ◌≢◌, ◌⊎◌, ℕ, suc, ◌+◌, ◌-◌, ◌*◌, ◌/◌, ◌%◌, ◌<◌, ◌≤◌, List, [], ◌∷◌, ◌++◌, length, min, set, get_or, refl, sym, ◌∙◌, ap, subst, subst₂, arith, rules, inl, inr, get_or-set_other, le_trans}
+use Rattle.std.proofs.Common.{◌≡◌, ◌≢◌, ◌⊎◌, ℕ, suc, ◌+◌, ◌-◌, ◌*◌, ◌/◌, ◌%◌, ◌<◌, ◌≤◌, List, [], ◌∷◌, ◌++◌, length, min, set, get_or, sym, ◌∙◌, ap, subst, subst₂, arith, rules, inl, inr, get_or-set_other, le_trans}
 use Rattle.bp_limits.specs.Limits.{max_height}
 use Rattle.bp_layout.specs.Words.{Image, block_of, height_of}
 use Rattle.bp_layout.specs.Tree.{node, span, IsLivePointer, HasBlock, IsFull}
@@ -29,8 +29,7 @@ use Rattle.bp_append.specs.Stores.{prep_stores}
 use Rattle.pm_region.proofs.MemoryLaws.{length-current_words}
 use Rattle.pm_region.proofs.MayLaws.{may_weaker, may_frame, each_after}
 use Rattle.bp_append.specs.Built.{InBlocks, IsBuilt}
-use Rattle.bp_append.proofs.ChildrenLaws.{has_left, has_right}
-use Rattle.bp_append.proofs.FillLaws.{each_has, each_left, apart_left, apart_parts, usable_left, block_row}
+use Rattle.bp_append.proofs.FillLaws.{each_left, apart_left, apart_parts, usable_left, block_row}
 use Rattle.bp_append.proofs.VisitLaws.{beside as links_beside}
 use Rattle.bp_append.proofs.TwoLinks.{any_root_link, any_two_links}
 use Rattle.bp_layout.specs.Nodes.{height_with}
@@ -47,13 +46,10 @@ use Rattle.bp_append.proofs.PrepLaws.{open_root, free_taken, in_free_harmless, n
 use Rattle.bp_append.proofs.ReadyLaws.{IsReady, prepared}
 use Rattle.bp_append.proofs.TwoLinks as two
 use Rattle.bp_append.proofs.NullPrepared.{full_by_words}
+use Rattle.bp_tree.proofs.PerformsLaws.{each-has, each-of, has-behind, has-front}
 
 given_before : (from : ℕ) (raw : List ℕ) (o : ℕ) → o < from → given from raw o ≡ 0
 given_before from raw o low = search (rules, low)
-
-pub each_of : (P : ℕ → Type 0) (xs : List ℕ) → ((b : ℕ) → Has xs b → P b) → Each P xs
-each_of P [] all = tt
-each_of P (x ∷ xs) all = (all x (inl refl), each_of P xs (λ b m. all b (inr m)))
 
 module _ (first new : Memory) (free_old free_new : List ℕ) (t place from to : ℕ) (path raw : List ℕ) (can : CanPrepare first free_old t path from to) (at : RootPlace (current_words first) t place)
     (grows : Grows first new free_old free_new place (root_of (current_words first) t) (size_of (current_words first) t) from to raw)
@@ -139,24 +135,24 @@ module _ (first new : Memory) (free_old free_new : List ℕ) (t place from to : 
   place_there = place_middle old middle can.well agrees t place can.reached at
 
   in_taken_chain : (b : ℕ) → Has grows.chain b → Has (grows.visited ++ grows.raised) b
-  in_taken_chain b m = has_right grows.visited grows.raised b (grows.inside b m)
+  in_taken_chain b m = has-behind grows.visited grows.raised b (grows.inside b m)
 
   free_there : (b : ℕ) → Has (grows.visited ++ grows.raised) b → IsLiveBlock middle b → ⊥
-  free_there b m = still_free old middle can.well agrees t place can.reached at b (each_has (λ c. IsLiveBlock old c → ⊥) (grows.visited ++ grows.raised) b taken_free m)
+  free_there b m = still_free old middle can.well agrees t place can.reached at b (each-has (λ c. IsLiveBlock old c → ⊥) (grows.visited ++ grows.raised) b taken_free m)
 
   chain_there : IsChain middle (root_of middle t) grows.chain
   chain_there = record {
     low = rw roots (omega (arith, grows.tall, tall_low (root_of old t) (size_of old t) to (can.well.sound t can.reached).low));
-    in_range = each_of _ grows.chain (λ b m. let low = each_has (λ c. c < length first.base / 512) (grows.visited ++ grows.raised) b usable.high (in_taken_chain b m) in omega (arith, low, agrees.whole, length-current_words first));
-    not_null = each_of _ grows.chain (λ b m e. let low = each_has (λ c. 1 ≤ c) (grows.visited ++ grows.raised) b usable.low (in_taken_chain b m) in omega (arith, low, e));
-    free = each_of _ grows.chain (λ b m. free_there b (in_taken_chain b m));
+    in_range = each-of _ grows.chain (λ b m. let low = each-has (λ c. c < length first.base / 512) (grows.visited ++ grows.raised) b usable.high (in_taken_chain b m) in omega (arith, low, agrees.whole, length-current_words first));
+    not_null = each-of _ grows.chain (λ b m e. let low = each-has (λ c. 1 ≤ c) (grows.visited ++ grows.raised) b usable.low (in_taken_chain b m) in omega (arith, low, e));
+    free = each-of _ grows.chain (λ b m. free_there b (in_taken_chain b m));
     apart = grows.apart;
     down = rw roots grows.down;
   }
 
   -- the blocks of the tree are none of the chain
   fresh : (b : ℕ) → HasBlock middle (root_of middle t) (size_of middle t) b → Each (λ c. c ≢ b) grows.chain
-  fresh b has = each_of _ grows.chain (λ c m e. free_there c (in_taken_chain c m) (record { tree = t; reached = there; has = subst (HasBlock middle (root_of middle t) (size_of middle t)) (sym e) has }))
+  fresh b has = each-of _ grows.chain (λ c m e. free_there c (in_taken_chain c m) (record { tree = t; reached = there; has = subst (HasBlock middle (root_of middle t) (size_of middle t)) (sym e) has }))
 
   -- ---- with no pointer that waited
 
@@ -200,7 +196,7 @@ module _ (first new : Memory) (free_old free_new : List ℕ) (t place from to : 
     built_there = subst (λ p. IsBuilt middle (p + hangs.live.level) (min (to - hangs.index * span hangs.live.level) (span hangs.live.level)) (given_at from raw (hangs.index * span hangs.live.level)) (Has hangs.below) (from ≤ hangs.index * span hangs.live.level)) (sym pointer_is) hangs.built
 
     below_free : Each (λ b. IsLiveBlock middle b → ⊥) hangs.below
-    below_free = each_of _ hangs.below (λ b m. free_there b (has_left grows.visited grows.raised b (hangs.inside b m)))
+    below_free = each-of _ hangs.below (λ b m. free_there b (has-front grows.visited grows.raised b (hangs.inside b m)))
 
     height_there : suc hangs.depth + hangs.live.level ≡ height_of (root_of middle t)
     height_there = rw roots hangs.live.height
@@ -227,7 +223,7 @@ module _ (first new : Memory) (free_old free_new : List ℕ) (t place from to : 
         (from ≤ hangs.index * span hangs.live.level) there low_level height_there live_there (nodes_same (suc hangs.depth) hangs.index hangs.live ∙ hangs.null) stands_there built_there below_free wide_there zeros_there
         inside.depth inside.index inside.rank inside.below inside.pointer (λ e. inside.not_null (sym inside.named ∙ e)) in
         let mine : Has grows.visited b = hangs.inside b (subst (Has hangs.below) inside.named live_block) in
-        each_of _ grows.chain (λ c m e. apart_parts grows.visited grows.raised b (apart_left (grows.visited ++ grows.raised) free_new (rw grows.takes at can.usable.apart)) mine (subst (Has grows.raised) e (grows.inside c m)))
+        each-of _ grows.chain (λ c m e. apart_parts grows.visited grows.raised b (apart_left (grows.visited ++ grows.raised) free_new (rw grows.takes at can.usable.apart)) mine (subst (Has grows.raised) e (grows.inside c m)))
 
     abbrev hung_image : Image
     hung_image = set middle hung_place (4096 * block_of pointer)
@@ -288,7 +284,7 @@ module _ (first new : Memory) (free_old free_new : List ℕ) (t place from to : 
       get_or-set_other (after_stores middle grows.links) place (512 * b + k) (raised_by (root_of old t) grows.chain) 0 beyond
       ∙ links_beside grows.links old middle (root_of old t) (size_of old t) from to raw grows.visited (λ p. HasBlock old (root_of old t) (size_of old t) (p / 512)) grows.hung middle (512 * b + k) (λ part. own (subst (HasBlock old (root_of old t) (size_of old t)) (block_row b k few) part))
       ∙ may_frame _ 0 _ first grows.between grows.stores.part (512 * b + k) (λ v m. elim m [
-        | inl mine ↦ each_has (λ c. IsLiveBlock old c → ⊥) (grows.visited ++ grows.raised) b taken_free (subst (Has (grows.visited ++ grows.raised)) (block_row b k few) mine) (record { tree = u; reached = r; has = has })
+        | inl mine ↦ each-has (λ c. IsLiveBlock old c → ⊥) (grows.visited ++ grows.raised) b taken_free (subst (Has (grows.visited ++ grows.raised)) (block_row b k few) mine) (record { tree = u; reached = r; has = has })
         | inr behind ↦ own (subst (HasBlock old (root_of old t) (size_of old t)) (block_row b k few) (behind_block (512 * b + k) v behind))
       ])
     where

@@ -18,9 +18,10 @@ use Rattle.bp_append.specs.Filled.{Builds}
 use Rattle.bp_append.specs.Visited.{extended, Hangs, AreHung, CanVisit, Visits, IsLast, VisitsSlot}
 use Rattle.bp_append.specs.Visited.AreHung.{no_link, one_link}
 use Rattle.bp_append.proofs.IntoLaws.{into_more}
-use Rattle.bp_append.proofs.ChildrenLaws.{has_left, built_kept, built_as}
+use Rattle.bp_append.proofs.ChildrenLaws.{built_kept, built_as}
 use Rattle.bp_append.proofs.FillLaws.{may_length, slot_framed, block_row}
 use Rattle.bp_append.proofs.VisitLaws.{beside, whole_links, word_bits, kid_own, block_taken, kid_aligned, kid_named, kid_is, null_spine}
+use Rattle.bp_tree.proofs.PerformsLaws.{has-front}
 
 given_before : (from : ℕ) (raw : List ℕ) (o : ℕ) → o < from → given from raw o ≡ 0
 given_before from raw o low = search (rules, low)
@@ -95,7 +96,7 @@ module _ (old : Memory) (free_old : List ℕ) (root size below start block slot 
       same_word = slot_framed (current_words old) (after_stores (current_words new) links) block slot
           (beside links (current_words old) (current_words new) root size from to raw visits.taken _ visits.hung (current_words new) (512 * block + slot) not_part
           ∙ may_frame _ 0 _ old new visits.stores.part (512 * block + slot)
-          (λ v m. elim m [ inl t ↦ block_free (subst (λ f. Has f block) (sym visits.takes) (has_left visits.taken free_new block (subst (Has visits.taken) place_block t))) | inr part ↦ not_part part.has ]))
+          (λ v m. elim m [ inl t ↦ block_free (subst (λ f. Has f block) (sym visits.takes) (has-front visits.taken free_new block (subst (Has visits.taken) place_block t))) | inr part ↦ not_part part.has ]))
 
   -- ---- at a null
 
@@ -126,7 +127,7 @@ module _ (old : Memory) (free_old : List ℕ) (root size below start block slot 
       more a b own e = omega (arith, e)
 
       not_block : (b : ℕ) → Has built.taken b → b ≢ block
-      not_block b m e = block_taken old free_old root size below start block slot from to can last (subst (λ f. Has f block) (sym built.takes) (has_left built.taken free_new block (subst (Has built.taken) e m)))
+      not_block b m e = block_taken old free_old root size below start block slot from to can last (subst (λ f. Has f block) (sym built.takes) (has-front built.taken free_new block (subst (Has built.taken) e m)))
 
       word_null : slot_word (current_words old) block slot ≡ 0
       word_null = let bits = word_bits old free_old root size below start block slot from to can last in omega (arith, bits, null)

@@ -1,5 +1,5 @@
 -- What a line that was read asks for.
-use Rattle.std.specs.Prelude.{ℕ, length, max, Result, Ok, Err}
+use Rattle.std.specs.Prelude.{ℕ, List, length, max, min, Result, Ok, Err}
 use Rattle.std.specs.Vec.{vec_capacity}
 use Rattle.bp_plain.specs.Calls.{Call}
 use Rattle.bp_plain.specs.Calls.Call.{create, mkdir, unlink, rmdir, list, stat, read, write, truncate, rename}
@@ -13,7 +13,14 @@ use Rattle.bp_script.specs.Commands.Command.{file_call, sync, space, bad_syntax}
 
 -- the bytes of the longest line that can be decoded
 abbrev pub decoded_room : Decoded → ℕ
-decoded_room decoded = vec_capacity decoded.path
+decoded_room decoded = min (vec_capacity decoded.first) (vec_capacity decoded.second)
+
+-- what its two memories hold
+abbrev pub first_held : Decoded → List ℕ
+first_held decoded = decoded.first.items
+
+abbrev pub second_held : Decoded → List ℕ
+second_held decoded = decoded.second.items
 
 abbrev pub line_asks : Result Line Syntax → Command
 line_asks (Ok (asks.Call call)) = file_call (call_of call)

@@ -3,12 +3,14 @@
 ghost use Rattle.bp_plain.specs.Seen.{call_of};
 ghost use Rattle.bp_script.specs.Commands.Command.{bad_syntax};
 ghost use Rattle.bp_script.specs.Commands.{bare_command, command_by_words, decoded_call, in_grammar, is_empty_word, long_command, number_of, part_bytes, path_bytes, path_command, read_command, unslashed, words_of, written_command};
-ghost use Rattle.bp_script.specs.Lines.{decoded_room, line_asks, longest_path, path_len};
+ghost use Rattle.bp_script.specs.Lines.{decoded_room, first_held, line_asks, longest_path, path_len, second_held};
 ghost use Rattle.bp_script.specs.contracts.lines.Decoded.{the_row};
 ghost use Rattle.std.specs.Borrow.{follows_so, sem};
 ghost use Rattle.std.specs.List.{list_all, list_any, slice_split};
 ghost use Rattle.std.specs.Option.{option_map_or};
-ghost use Rattle.std.specs.Prelude.{IfNone, IfOk, IfSome, false, length, map, position, vec_capacity, vec_len, [], ◌∷◌, ◌+◌, ◌++◌, ◌==◌, ◌<◌, ◌≡◌, ◌≤◌, ⊤};
+ghost use Rattle.hex.specs.Hex.{decode_of};
+ghost use Rattle.std.specs.Result.{is_ok, result_ok};
+ghost use Rattle.std.specs.Prelude.{◌/◌, if◌then◌else◌, None, Some, IfNone, IfOk, IfSome, false, length, map, position, vec_capacity, vec_len, [], ◌∷◌, ◌+◌, ◌++◌, ◌==◌, ◌<◌, ◌≡◌, ◌≤◌, ⊤};
 ghost use Rattle.std.specs.Char.{is_ascii_digit};
 ghost use mathlib.Core.Option.{none};
 
@@ -41,10 +43,11 @@ pub enum Line<'a> {
 #[error("not a line of a script")]
 pub struct Syntax;
 
-/// Memory for the paths of a line, decoded.
+/// Memory for what two words of a line stand for, decoded. Each has the room of a line.
 #[derive(Drop)]
 pub struct Decoded {
-    path: Vec<u8>,
+    first: Vec<u8>,
+    second: Vec<u8>,
 }
 
 impl Decoded {
@@ -52,15 +55,16 @@ impl Decoded {
     pub fn new(alloc: Global, room: usize) -> Result<Decoded, AllocError>
         ensures { IfOk result (λ decoded. decoded_room decoded ≡ room) }
     {
-        let path = Vec::with_capacity(alloc, room)?;
-        Ok(Decoded { path })
+        let first = Vec::with_capacity(alloc, room)?;
+        let second = Vec::with_capacity(alloc, room)?;
+        Ok(Decoded { first, second })
     }
 
     /// The bytes of the longest line that it has memory for.
     pub fn room(&self) -> usize
         ensures { result ≡ decoded_room self.now }
     {
-        self.path.capacity()
+        self.first.capacity().min(self.second.capacity())
     }
 
     /// What a line of a script asks for, where it is one.
@@ -101,25 +105,94 @@ impl Decoded {
         ensures* keeps_room { sem 𝓛 (follows_so the_row the_row self.entry.ghost_name none (λ _ _. ⊤) (λ after. decoded_room self.old ≤ decoded_room after)) }
         ensures path { result.now ≡ path_bytes word.now }
     {
-        self.decode(word);
-        self.path.as_slice()
+        decode(word, &mut self.first);
+        self.first.as_slice()
     }
 
-    /// Decodes a word as a path.
-    fn decode(&mut self, word: &[u8])
-        requires { length word.now ≤ decoded_room self.old }
-        ensures path { self.new.path.items ≡ path_bytes word.now }
+    /// What the first memory holds.
+    pub fn first(&self) -> &[u8]
+        ensures { result.now ≡ first_held self.now }
+    {
+        self.first.as_slice()
+    }
+
+    /// What the second memory holds.
+    pub fn second(&self) -> &[u8]
+        ensures { result.now ≡ second_held self.now }
+    {
+        self.second.as_slice()
+    }
+
+    /// Decodes two words as paths, the one into the first memory and the other into the second.
+    pub fn pair(&mut self, one: &[u8], other: &[u8])
+        requires one { length one.now ≤ decoded_room self.old }
+        requires other { length other.now ≤ decoded_room self.old }
+        ensures first { first_held self.new ≡ path_bytes one.now }
+        ensures second { second_held self.new ≡ path_bytes other.now }
         ensures room { decoded_room self.old ≤ decoded_room self.new }
     {
-        self.path.clear();
-        let (first, mut left) = split_once(word, b'/');
-        add_part(first, &mut self.path);
-        while let Some(text) = left {
-            add_byte(b'/', &mut self.path);
-            let (part, more) = split_once(text, b'/');
-            add_part(part, &mut self.path);
-            left = more;
-        }
+        let Decoded { first, second } = self;
+        decode(one, first);
+        decode(other, second);
+    }
+
+    /// Decodes a word as a path into the first memory, and hexadecimal digits as bytes into the second.
+    ///
+    /// # Errors
+    ///
+    /// `Syntax` exactly where the digits are none of bytes.
+    pub fn path_and_bytes(&mut self, path: &[u8], digits: &[u8]) -> Result<(), Syntax>
+        requires path { length path.now ≤ decoded_room self.old }
+        requires digits { length digits.now ≤ decoded_room self.old }
+        ensures first { first_held self.new ≡ path_bytes path.now }
+        ensures second { result_ok (decode_of digits.now) ≡ (if is_ok result then Some (second_held self.new) else None) }
+        ensures room { decoded_room self.old ≤ decoded_room self.new }
+    {
+        let Decoded { first, second } = self;
+        decode(path, first);
+        decode_bytes(digits, second)
+    }
+}
+
+/// Decodes hexadecimal digits as bytes, in room that is there.
+fn decode_bytes(digits: &[u8], into: &mut Vec<u8>) -> Result<(), Syntax>
+    requires { length digits.now ≤ vec_capacity into.old }
+    ensures bytes { result_ok (decode_of digits.now) ≡ (if is_ok result then Some into.new.items else None) }
+    ensures room { vec_capacity into.old ≤ vec_capacity into.new }
+{
+    into.clear();
+    match into.resize(digits.len() / 2, 0) {
+        Ok(()) => {}
+        Err(_) => unreachable!(),
+    }
+    decode_into(digits, into.as_mut_slice())
+}
+
+/// The same into memory with half as many bytes.
+fn decode_into(digits: &[u8], into: &mut [u8]) -> Result<(), Syntax>
+    requires { length into.old ≡ length digits.now / 2 }
+    ensures { result_ok (decode_of digits.now) ≡ (if is_ok result then Some into.new else None) }
+{
+    match hex::decode_to_slice(digits, into) {
+        Ok(()) => Ok(()),
+        Err(_) => Err(Syntax),
+    }
+}
+
+/// Decodes a word as a path, in room that is there.
+fn decode(word: &[u8], into: &mut Vec<u8>)
+    requires { length word.now ≤ vec_capacity into.old }
+    ensures path { into.new.items ≡ path_bytes word.now }
+    ensures room { vec_capacity into.old ≤ vec_capacity into.new }
+{
+    into.clear();
+    let (first, mut left) = split_once(word, b'/');
+    add_part(first, into);
+    while let Some(text) = left {
+        add_byte(b'/', into);
+        let (part, more) = split_once(text, b'/');
+        add_part(part, into);
+        left = more;
     }
 }
 

@@ -103,6 +103,21 @@ fn lines_outside_the_table(rt: HostRuntime) -> Result<(), Fail> {
     Ok(())
 }
 
+#[test]
+fn two_words(rt: HostRuntime) -> Result<(), Fail> {
+    let mut decoded = Decoded::new(rt.alloc(), 64)?;
+    assert!(rt; decoded.room() >= 64);
+    decoded.pair(b"/a%20b", b"/c%2Fd");
+    assert_eq!(rt; decoded.first(), b"/a b".as_slice());
+    assert_eq!(rt; decoded.second(), b"/c\0d".as_slice());
+    assert_eq!(rt; decoded.path_and_bytes(b"/e", b"00fF"), Ok(()));
+    assert_eq!(rt; decoded.first(), b"/e".as_slice());
+    assert_eq!(rt; decoded.second(), b"\x00\xff".as_slice());
+    assert_eq!(rt; decoded.path_and_bytes(b"/e", b"00f"), Err(Syntax));
+    assert_eq!(rt; decoded.path_and_bytes(b"/e", b"0g"), Err(Syntax));
+    Ok(())
+}
+
 fn says(rt: &impl Abort, said: &Said<'_>, into: &mut [u8], want: &[u8])
     requires { FitsReply said.now }
 {

@@ -10,3 +10,4 @@ pub mod LaidLaws
 pub mod WalkingLaws
 pub mod SpaceLaws
 pub mod ReplyLaws
+pub mod HalfFormat

@@ -1,22 +1,25 @@
 //! The stores of a format.
 
 ghost use Rattle.std.specs.Prelude.{[], ◌*◌, ◌≡◌, ◌≤◌, length};
-ghost use Rattle.bp_layout.specs.Words.{block_count};
-ghost use Rattle.bp_volume.specs.Laid.{format_events};
+ghost use Rattle.bp_layout.specs.Words.{Image, block_count};
+ghost use Rattle.bp_limits.specs.Limits.{max_blocks, min_blocks};
+ghost use Rattle.bp_volume.specs.Laid.{IsLeftByFormat, format_events};
+ghost use Rattle.pm_epochs.specs.Replay.{IsReplay};
 ghost use Rattle.pm_region.specs.Memory.{Adds, room_in};
 
 use bp_limits::MAGIC;
 use pm_region::Region;
 
 /// Makes an empty file system of a region of 8 to 16,384 blocks of 512 words. Its stores are not written back until
-/// the region is drained: up to then a crash may leave a region that is not formatted.
+/// the region is drained: up to then a crash may leave the old words, or words without the mark.
 pub fn lay_out<R: Region>(region: &mut R)
     requires whole { length (R.memory region.old).base ≡ 512 * block_count (R.memory region.old).base }
-    requires least { 8 ≤ block_count (R.memory region.old).base }
-    requires most { block_count (R.memory region.old).base ≤ 16384 }
+    requires least { min_blocks ≤ block_count (R.memory region.old).base }
+    requires most { block_count (R.memory region.old).base ≤ max_blocks }
     requires fresh { (R.memory region.old).events ≡ [] }
     requires room { 16 ≤ room_in (R.memory region.old) }
-    ensures { Adds (R.memory region.old) (R.memory region.new) (format_events (block_count (R.memory region.old).base)) }
+    ensures stores { Adds (R.memory region.old) (R.memory region.new) (format_events (block_count (R.memory region.old).base)) }
+    ensures left { (image : Image) → IsReplay (R.memory region.new).base (R.memory region.new).events image → IsLeftByFormat (R.memory region.old).base image }
 {
     let blocks = region.words() / 512;
     // The mark is gone before any other word changes, and comes back once all of them are written back.

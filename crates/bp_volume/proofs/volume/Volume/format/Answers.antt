@@ -13,7 +13,7 @@ use Rattle.bp_volume.proofs.volume.Volume.format.Goals as goal
 pub unreachable-requires : goal.unreachable-requires
 unreachable-requires g c =
     let old : Memory = g.R.Region.memory c.args.region in
-    let made : g.R.Region.memory c.drain.new.self ≡ formatted_memory old = c.drain.ensures ∙ drained_format old _ c.requires.fresh c.lay_out.ensures in
+    let made : g.R.Region.memory c.drain.new.self ≡ formatted_memory old = c.drain.ensures ∙ drained_format old _ c.requires.fresh c.lay_out.ensures.stores in
     let wf : IsWellFormed (g.R.Region.memory c.drain.new.self).base =
     subst (λ (memory : Memory). IsWellFormed memory.base) (sym made) (formatted_well_formed old.base (block_count old.base) c.requires.whole c.requires.least c.requires.most) in
     true≢false (sym (c.in-Err.ensures.well_formed.1 wf))
@@ -21,5 +21,5 @@ unreachable-requires g c =
 pub returns-clause-empty : goal.returns-clause-empty
 returns-clause-empty g c =
     let old : Memory = g.R.Region.memory c.args.region in
-    let made : c.in-Ok-scanned.volume ≡ formatted_memory old = c.in-Ok-scanned.ensures.same ∙ c.drain.ensures ∙ drained_format old _ c.requires.fresh c.lay_out.ensures in
+    let made : c.in-Ok-scanned.volume ≡ formatted_memory old = c.in-Ok-scanned.ensures.same ∙ c.drain.ensures ∙ drained_format old _ c.requires.fresh c.lay_out.ensures.stores in
     subst (λ (memory : Memory). Stands (current_words memory) empty_tree) (sym made) (format_stands old.base (block_count old.base) c.requires.whole c.requires.least c.requires.most)

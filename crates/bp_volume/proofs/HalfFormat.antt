@@ -1,0 +1,81 @@
+-- What a crash in the middle of a format leaves, epoch by epoch.
+use Rattle.std.proofs.Common.{◌≡◌, ◌≢◌, ◌⊎◌, ℕ, zero, suc, ◌*◌, ◌<◌, ◌≤◌, List, [], ◌∷◌, ◌++◌, Bool, true, false, length, set, refl, sym, ◌∙◌, ap, subst, arith, inl, inr, get_or-set_same}
+use Rattle.pm_epochs.specs.declared.event.Event.{Event}
+use Rattle.pm_epochs.specs.declared.event.Event.TheVariants.{Store, Barrier}
+use Rattle.pm_epochs.specs.Log.{IsClosed, words_after}
+use Rattle.pm_epochs.specs.May.{AnyAt, StoresMay}
+use Rattle.pm_epochs.specs.Replay.{IsReplay, stores_of}
+use Rattle.pm_epochs.proofs.CrashLaws.{joined_replays}
+use Rattle.pm_epochs.proofs.Cuts.{kept_stores_right}
+use Rattle.pm_epochs.proofs.MayLaws.{EachMay-stored, StoresMay-stores_of, same_where_none}
+use Rattle.bp_layout.specs.Words.{Image, word}
+use Rattle.bp_limits.specs.Limits.{magic}
+use Rattle.bp_plain.specs.PlainTree.{empty_tree}
+use Rattle.bp_plain.specs.Stands.{Stands}
+use Rattle.bp_plain.proofs.FormatStands.{format_stands}
+use Rattle.bp_volume.specs.Laid.{IsLeftByFormat, format_events}
+use Rattle.bp_volume.specs.Laid.IsLeftByFormat.{untouched, unmarked, empty}
+
+-- a replay of some events keeps stores of some epochs and a mask
+replayed : (base : List ℕ) (events : List Event) (image : List ℕ) (found : IsReplay base events image) → words_after base (stores_of found.cut.epoch found.cut.mask events) ≡ image
+replayed base events image found = ap (words_after base) (sym (kept_stores_right events found.cut found.right)) ∙ found.words
+
+-- one store in an epoch of its own was done or not
+one_store : (base : List ℕ) (place value epoch : ℕ) (mask : List Bool) →
+    (words_after base (stores_of epoch mask (Store place value ∷ Barrier ∷ [])) ≡ base) ⊎ (words_after base (stores_of epoch mask (Store place value ∷ Barrier ∷ [])) ≡ set base place value)
+one_store base place value zero [] = inl refl
+one_store base place value zero (true ∷ mask) = inr refl
+one_store base place value zero (false ∷ mask) = inl refl
+one_store base place value (suc epoch) mask = inr refl
+
+-- a word at which the events store nothing stays
+word_stays : (base : List ℕ) (events : List Event) (place : ℕ) → StoresMay (AnyAt (λ p. p ≢ place)) events → (image : List ℕ) → IsReplay base events image → word image place ≡ word base place
+word_stays base events place may image found =
+    subst (λ w. word w place ≡ word base place) (replayed base events image found)
+    (same_where_none (AnyAt (λ p. p ≢ place)) base (words_after base (stores_of found.cut.epoch found.cut.mask events))
+    (EachMay-stored (AnyAt (λ p. p ≢ place)) base (stores_of found.cut.epoch found.cut.mask events) (StoresMay-stores_of (AnyAt (λ p. p ≢ place)) events found.cut.epoch found.cut.mask may)) place (λ value other. other refl))
+
+module _ (base : Image) (blocks : ℕ) (whole : length base ≡ 512 * blocks) (least : 8 ≤ blocks) (most : blocks ≤ 16384) where
+  abbrev unmarking : List Event
+  unmarking = Store 0 0 ∷ Barrier ∷ []
+
+  abbrev filling : List Event
+  filling = Store 1 blocks ∷ Store 2 0x1000 ∷ Store 3 4096 ∷ Store 520 2 ∷ Store 521 0 ∷ Store 522 0 ∷ Barrier ∷ []
+
+  abbrev marking : List Event
+  marking = Store 0 magic ∷ Barrier ∷ []
+
+  cleared : word (set base 0 0) 0 ≡ 0
+  cleared = get_or-set_same base 0 0 0 (omega (arith, whole, least))
+
+  filling_apart : StoresMay (AnyAt (λ p. p ≢ 0)) filling
+  filling_apart = (λ e. omega (arith, e), (λ e. omega (arith, e), (λ e. omega (arith, e), (λ e. omega (arith, e), (λ e. omega (arith, e), (λ e. omega (arith, e), tt))))))
+
+  filling_closed : IsClosed filling
+  filling_closed = (omega arith, (omega arith, (omega arith, (omega arith, (omega arith, (omega arith, tt))))))
+
+  filled : word (words_after (set base 0 0) filling) 0 ≡ 0
+  filled =
+      same_where_none (AnyAt (λ p. p ≢ 0)) (set base 0 0) (words_after (set base 0 0) filling)
+      (EachMay-stored (AnyAt (λ p. p ≢ 0)) (set base 0 0) filling filling_apart) 0 (λ value other. other refl) ∙ cleared
+
+  pub left_by_format : (image : List ℕ) → IsReplay base (format_events blocks) image → IsLeftByFormat base image
+  left_by_format image found = elim (joined_replays base unmarking (filling ++ marking) (omega arith, tt) image found) [
+    | inl early ↦ at_first early
+    | inr late ↦ elim (joined_replays (set base 0 0) filling marking filling_closed image late) [
+      | inl middle ↦ unmarked (word_stays (set base 0 0) filling 0 filling_apart image middle ∙ cleared)
+      | inr end ↦ at_last end
+    ]
+  ]
+    where
+      at_first : IsReplay base unmarking image → IsLeftByFormat base image
+      at_first early = elim (one_store base 0 0 early.cut.epoch early.cut.mask) [
+        | inl same ↦ untouched (sym (replayed base unmarking image early) ∙ same)
+        | inr done ↦ unmarked (ap (λ w. word w 0) (sym (replayed base unmarking image early) ∙ done) ∙ cleared)
+      ]
+
+      at_last : IsReplay (words_after (set base 0 0) filling) marking image → IsLeftByFormat base image
+      at_last end = elim (one_store (words_after (set base 0 0) filling) 0 magic end.cut.epoch end.cut.mask) [
+        | inl same ↦ unmarked (ap (λ w. word w 0) (sym (replayed (words_after (set base 0 0) filling) marking image end) ∙ same) ∙ filled)
+        | inr done ↦ empty (subst (λ w. Stands w empty_tree) (sym (sym (replayed (words_after (set base 0 0) filling) marking image end) ∙ done)) (format_stands base blocks whole least most))
+      ]

@@ -111,20 +111,6 @@ fn make(
     Some(create(parts, dir, name, kind))
 }
 
-/// Creates a name of each letter, and tells whether all were created.
-fn make_all(parts: &mut Parts<ListRegion>, parent: &[u8], letters: &[u8], kind: Kind) -> bool
-    requires well_formed { IsWellFormed (current_words parts.old.region) }
-    requires exact { AreExact (current_words parts.old.region) parts.old.blocks parts.old.inodes }
-    ensures well_formed { IsWellFormed (current_words parts.new.region) }
-    ensures exact { AreExact (current_words parts.new.region) parts.new.blocks parts.new.inodes }
-{
-    let mut all = true;
-    for letter in letters {
-        all &= make(parts, parent, &[*letter], kind) == Some(Ok(()));
-    }
-    all
-}
-
 /// A word, `None` behind the last.
 fn word(parts: &Parts<ListRegion>, place: u32) -> Option<u64> {
     if place < parts.region.words() {
@@ -152,55 +138,5 @@ fn a_name_goes_into_an_empty_slot_or_behind(rt: HostRuntime) -> Result<(), Fail>
     assert_eq!(rt; word(parts, 1088), Some(4));
     assert_eq!(rt; parts.blocks.count(), 5);
     assert_eq!(rt; parts.inodes.count(), 59);
-    Ok(())
-}
-
-#[test]
-fn a_first_name_takes_a_block_until_none_is_free(rt: HostRuntime) -> Result<(), Fail> {
-    let mut parts = sample(rt.alloc())?;
-    let parts = &mut parts;
-    assert!(rt; make_all(parts, b"", b"abcdef", Kind::Dir));
-    assert_eq!(rt; make(parts, b"a", b"x", Kind::Dir), Some(Ok(())));
-    assert_eq!(rt; word(parts, 529), Some(0x3000));
-    assert_eq!(rt; word(parts, 530), Some(256));
-    assert_eq!(rt; word(parts, 1536), Some(8));
-    assert_eq!(rt; parts.blocks.count(), 4);
-    assert!(rt; make_all(parts, b"b", b"x", Kind::File));
-    assert!(rt; make_all(parts, b"c", b"x", Kind::File));
-    assert!(rt; make_all(parts, b"d", b"x", Kind::File));
-    assert!(rt; make_all(parts, b"e", b"x", Kind::File));
-    let events = parts.region.event_count();
-    assert_eq!(rt;
-        make(parts, b"f", b"x", Kind::File),
-        Some(Err(CreateFault::NoSpace { need: 1, free: 0 }))
-    );
-    assert_eq!(rt; parts.region.event_count(), events);
-    assert_eq!(rt; parts.inodes.count(), 51);
-    Ok(())
-}
-
-#[test]
-fn a_full_leaf_and_a_want_of_inodes_are_for_later(rt: HostRuntime) -> Result<(), Fail> {
-    let mut parts = sample(rt.alloc())?;
-    let parts = &mut parts;
-    assert!(rt; make_all(parts, b"", b"abcdefghijklmnop", Kind::Dir));
-    assert_eq!(rt;
-        make(parts, b"", b"q", Kind::Dir),
-        Some(Err(CreateFault::Later))
-    );
-    assert_eq!(rt; parts.inodes.count(), 46);
-    assert!(rt; make_all(parts, b"a", b"abcdefghijklmnop", Kind::File));
-    assert!(rt; make_all(parts, b"b", b"abcdefghijklmnop", Kind::File));
-    assert!(rt; make_all(parts, b"c", b"abcdefghijklmn", Kind::File));
-    assert_eq!(rt; parts.inodes.count(), 0);
-    assert_eq!(rt;
-        make(parts, b"c", b"o", Kind::File),
-        Some(Err(CreateFault::Later))
-    );
-    assert_eq!(rt;
-        make(parts, b"d", b"o", Kind::File),
-        Some(Err(CreateFault::Later))
-    );
-    assert_eq!(rt; parts.blocks.count(), 2);
     Ok(())
 }

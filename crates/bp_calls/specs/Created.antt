@@ -9,6 +9,7 @@ use Rattle.bp_layout.specs.Lookup.Node.{dir, file}
 use Rattle.bp_layout.specs.Need.{need}
 use Rattle.bp_layout.specs.Need.Change.{enters}
 use Rattle.bp_layout.specs.Words.{Image}
+use Rattle.bp_limits.specs.Limits.{block_size}
 use Rattle.bp_layout.specs.Fields.{kind_word}
 use Rattle.bp_changes.specs.Effects.{AddsNames}
 use Rattle.bp_layout.specs.declared.fields.Kind.{Kind}
@@ -27,7 +28,7 @@ empty_node Dir = dir
 pub record NeedsLeaf (image : Image) (i : ℕ) : Type 0 where
   pub none : empty_slot image i ≡ None
   pub some : 0 < size_of image i
-  pub full : size_of image i % 4096 ≡ 0
+  pub full : size_of image i % block_size ≡ 0
 
 -- The name comes into directory i: its least empty entry, or one behind the last where none is empty, names an inode of this kind, without bytes, that was free.
 -- All other entries keep their slots, their names and what they name.

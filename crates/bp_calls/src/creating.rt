@@ -10,6 +10,7 @@ ghost use Rattle.bp_free.specs.Set.{IsLeast, members, without};
 ghost use Rattle.bp_layout.specs.Directory.{IsName, empty_slot, slot_named};
 ghost use Rattle.bp_layout.specs.Inode.{kind_of, size_of};
 ghost use Rattle.bp_layout.specs.Reached.{IsReached};
+ghost use Rattle.bp_limits.specs.Limits.{block_size};
 ghost use Rattle.bp_layout.specs.WellFormed.{IsWellFormed};
 ghost use Rattle.pm_region.specs.Memory.{current_words, room_in};
 
@@ -50,7 +51,7 @@ fn check_room<R: Region>(
     requires size { size ≡ size_of (current_words (R.memory parts.now.region)) dir }
     requires slot { slot ≡ empty_slot (current_words (R.memory parts.now.region)) dir }
     ensures inode { OnOk result (members parts.now.inodes ≢ []) }
-    ensures leaf { OnOk result (slot ≡ None → 0 < size → size % 4096 ≢ 0) }
+    ensures leaf { OnOk result (slot ≡ None → 0 < size → size % block_size ≢ 0) }
     ensures block { OnOk result (slot ≡ None → size ≡ 0 → members parts.now.blocks ≢ []) }
     ensures refused { IfErr result (IsRefused (current_words (R.memory parts.now.region)) dir) }
 {

@@ -8,6 +8,7 @@ ghost use Rattle.bp_free.specs.Set.{Set, without};
 ghost use Rattle.bp_layout.specs.Directory.{empty_slot};
 ghost use Rattle.bp_layout.specs.Inode.{ContentStandsAt, kind_of, root_of, size_of};
 ghost use Rattle.bp_layout.specs.Reached.{IsFreeBlock, IsReached};
+ghost use Rattle.bp_limits.specs.Limits.{block_size};
 ghost use Rattle.bp_layout.specs.WellFormed.{IsWellFormed};
 ghost use Rattle.bp_layout.specs.Need.Change.{enters};
 ghost use Rattle.bp_tree.specs.Performs.{Performs};
@@ -63,7 +64,7 @@ fn place_behind<R: Region>(region: &R, dir: u32) -> u32
     requires well_formed { IsWellFormed (current_words (R.memory region.now)) }
     requires reached { IsReached (current_words (R.memory region.now)) dir }
     requires directory { kind_of (current_words (R.memory region.now)) dir ≡ 2 }
-    requires not_full { size_of (current_words (R.memory region.now)) dir % 4096 ≢ 0 }
+    requires not_full { size_of (current_words (R.memory region.now)) dir % block_size ≢ 0 }
     ensures place { ContentStandsAt (current_words (R.memory region.now)) dir (32 * (size_of (current_words (R.memory region.now)) dir / 256)) result }
     ensures in_range { result + 32 ≤ length (current_words (R.memory region.now)) }
 {
@@ -76,7 +77,7 @@ fn place_behind<R: Region>(region: &R, dir: u32) -> u32
 pub(crate) fn enter_behind<R: Region>(region: &mut R, dir: u32, inode: u32, name: &[u8], kind: Kind)
     requires can { CanName (current_words (R.memory region.old)) dir inode name.now }
     requires none { empty_slot (current_words (R.memory region.old)) dir ≡ None }
-    requires not_full { size_of (current_words (R.memory region.old)) dir % 4096 ≢ 0 }
+    requires not_full { size_of (current_words (R.memory region.old)) dir % block_size ≢ 0 }
     requires room { 64 ≤ room_in (R.memory region.old) }
     ensures performs { Performs (R.memory region.old) (R.memory region.new) (enters dir true) (EntersName dir name.now kind) }
     ensures few { room_in (R.memory region.old) ≤ room_in (R.memory region.new) + 63 }

@@ -11,6 +11,7 @@ ghost use Rattle.bp_layout.specs.Need.{Change, content_path, existing_from, heig
 ghost use Rattle.bp_layout.specs.Need.Change.{enters};
 ghost use Rattle.bp_layout.specs.Reached.{IsFreeBlock, IsReached};
 ghost use Rattle.bp_layout.specs.Tree.{IsFull};
+ghost use Rattle.bp_limits.specs.Limits.{block_size};
 ghost use Rattle.bp_layout.specs.WellFormed.{IsWellFormed};
 ghost use Rattle.bp_layout.specs.Words.{block_count, height_of};
 
@@ -32,7 +33,7 @@ pub fn new_name_needs(image: &[u64], dir: u64)
     requires reached { IsReached image.now dir }
     requires directory { kind_of image.now dir ≡ 2 }
     ensures in_slot { (slot : ℕ) → empty_slot image.now dir ≡ Some slot → need image.now (enters dir true) ≡ 0 }
-    ensures behind { empty_slot image.now dir ≡ None → 0 < size_of image.now dir → size_of image.now dir % 4096 ≢ 0 → need image.now (enters dir true) ≡ 0 }
+    ensures behind { empty_slot image.now dir ≡ None → 0 < size_of image.now dir → size_of image.now dir % block_size ≢ 0 → need image.now (enters dir true) ≡ 0 }
     ensures first { empty_slot image.now dir ≡ None → size_of image.now dir ≡ 0 → need image.now (enters dir true) ≡ 1 }
 {}
 

@@ -9,7 +9,8 @@ use Rattle.bp_layout.specs.Free.{HasFree}
 use Rattle.bp_scan.specs.Totals.{HasLive}
 use Rattle.bp_io.specs.Files.{Known}
 use Rattle.bp_plain.specs.Calls.{Call, Answer}
-use Rattle.bp_volume.specs.FileCall.{FileCall, call_room}
+use Rattle.bp_limits.specs.Limits.{call_room}
+use Rattle.bp_volume.specs.FileCall.{FileCall}
 use Rattle.std.proofs.lemmas.Bool.{le-ltb}
 use Rattle.bp_script.specs.Commands.{Command, command_of, in_grammar}
 use Rattle.bp_script.specs.Commands.Command.{file_call, sync, space, bad_syntax, too_long}

@@ -20,7 +20,7 @@ use Rattle.bp_shell.specs.Session.{State, Line, Session}
 use Rattle.bp_script.specs.Commands.{Command}
 use Rattle.bp_script.specs.Commands.Command.{file_call, sync, space, bad_syntax, too_long}
 use Rattle.bp_script.specs.Texts.{Reply}
-use Rattle.bp_volume.specs.FileCall.{call_room}
+use Rattle.bp_limits.specs.Limits.{call_room}
 use Rattle.pm_epochs.proofs.CrashLaws.{crash_right_none}
 use Rattle.bp_plain.specs.Calls.{Refusal}
 use Rattle.std.specs.Prelude.{Option, Some, None, is_none, ◌&&◌, ◌⊎◌, nat_le, nat_lt, if◌then◌else◌}

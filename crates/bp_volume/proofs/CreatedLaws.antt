@@ -14,7 +14,8 @@ use Rattle.bp_plain.specs.declared.errors.FsError.{FsError}
 use Rattle.bp_plain.specs.Calls.Call.{create}
 use Rattle.bp_plain.specs.Calls.Answer.{done, refused}
 use Rattle.bp_plain.specs.Seen.{refusal_of}
-use Rattle.bp_volume.specs.FileCall.{FileCall, call_room}
+use Rattle.bp_limits.specs.Limits.{call_room}
+use Rattle.bp_volume.specs.FileCall.{FileCall}
 use Rattle.bp_volume.specs.Told.{Tells}
 use Rattle.bp_volume.specs.Created.{Changes, CreatesFile}
 use Rattle.bp_volume.specs.Seen.{unit_answer}

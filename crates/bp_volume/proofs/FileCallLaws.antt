@@ -13,7 +13,8 @@ use Rattle.bp_layout.specs.Same.{Same}
 use Rattle.bp_plain.specs.Calls.{Call, Answer}
 use Rattle.bp_volume.specs.Created.{Changes, PerformsCall}
 use Rattle.bp_volume.specs.Step.{IsChange}
-use Rattle.bp_volume.specs.FileCall.{FileCall, call_room}
+use Rattle.bp_limits.specs.Limits.{call_room}
+use Rattle.bp_volume.specs.FileCall.{FileCall}
 use Rattle.bp_volume.specs.Told.{Tells}
 use Rattle.bp_volume.specs.Volume.{IsVolume}
 

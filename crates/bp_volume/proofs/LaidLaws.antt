@@ -7,7 +7,7 @@ use Rattle.bp_free.specs.Set.{Set}
 use Rattle.bp_layout.specs.Same.{Same}
 use Rattle.bp_layout.specs.WellFormed.{IsWellFormed}
 use Rattle.bp_layout.specs.Words.{block_count}
-use Rattle.bp_volume.specs.FileCall.{call_room}
+use Rattle.bp_limits.specs.Limits.{call_room}
 use Rattle.bp_volume.specs.Laid.{format_events, formatted_memory}
 use Rattle.bp_volume.specs.Volume.{IsVolume}
 use Rattle.bp_volume.proofs.FileCallLaws.{same-equivalence}

@@ -6,6 +6,7 @@ use Rattle.pm_epochs.specs.Log.{marks}
 use Rattle.pm_epochs.specs.Crash.{CrashRight}
 use Rattle.pm_region.specs.Memory.{Memory, current_words, with_room, Adds}
 use Rattle.bp_layout.specs.Same.{Same}
+use Rattle.bp_limits.specs.Limits.{call_room}
 use Rattle.bp_plain.specs.PlainTree.{FileTree}
 use Rattle.bp_plain.specs.Stands.{Stands}
 use Rattle.bp_plain.specs.Calls.{Call, Answer}
@@ -23,10 +24,6 @@ is_refused _ = false
 -- the call changed the tree
 abbrev pub has_changed : FileTree → Call → Answer → Bool
 has_changed tree call answer = is_changing tree call && not (is_refused answer)
-
--- the room that makes a call drain first
-abbrev pub call_room : ℕ
-call_room = 65536
 
 -- the call made this change, at no more than it costs
 pub record IsShortCall (image : Image) (call : Call) (new : Image) (events : List Event) : Type 0 where

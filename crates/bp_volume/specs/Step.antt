@@ -1,6 +1,7 @@
 -- What a call may make of an image.
 use Rattle.std.specs.Prelude.{◌≡◌, ◌≢◌, ℕ, ◌%◌, ◌<◌, ◌≤◌, List, [], ◌∷◌, length, Bool, true, false, None, Some}
 use Rattle.bp_layout.specs.Words.{Image}
+use Rattle.bp_limits.specs.Limits.{block_size}
 use Rattle.bp_layout.specs.Directory.{Name, IsName, slot_named, empty_slot}
 use Rattle.bp_layout.specs.Inode.{kind_of, size_of}
 use Rattle.bp_layout.specs.Lookup.{Path, lookup}
@@ -76,7 +77,7 @@ Fits image call = (needed free : ℕ) → HasNeed image call needed free → nee
 -- leaves are full.
 pub data IsLater (image : Image) : Call → Type 0 where
   no_inode : {text : List ℕ} {name : Name} {i : ℕ} → NamesNew image text i name → TellsFreeInode image false → IsLater image (create text)
-  full_leaf : {text : List ℕ} {name : Name} {i : ℕ} → NamesNew image text i name → empty_slot image i ≡ None → 0 < size_of image i → size_of image i % 4096 ≡ 0 →
+  full_leaf : {text : List ℕ} {name : Name} {i : ℕ} → NamesNew image text i name → empty_slot image i ≡ None → 0 < size_of image i → size_of image i % block_size ≡ 0 →
       IsLater image (create text)
 
 -- The image stands for a tree. A changing call that needs more blocks than are free is refused; want of memory may be

@@ -7,7 +7,7 @@ use Rattle.bp_free.specs.Set.{Set}
 use Rattle.bp_layout.specs.Same.{Same}
 use Rattle.bp_layout.specs.WellFormed.{IsWellFormed}
 use Rattle.bp_layout.specs.Words.{block_count}
-use Rattle.bp_volume.specs.FileCall.{call_room}
+use Rattle.bp_limits.specs.Limits.{call_room}
 
 -- A crash at any moment leaves what some calls left, a call has its room, the words are a file system, the sets have just its
 -- free blocks and its free inodes, and a scan has its memory.

@@ -14,5 +14,6 @@ mod walking;
 
 pub use bp_scan::MountFault;
 pub use laying::lay_out;
+pub use sets::Sets;
 pub use space::Space;
 pub use volume::Volume;

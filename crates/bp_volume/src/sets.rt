@@ -2,23 +2,31 @@
 
 ghost use Rattle.std.specs.Prelude.{◌≡◌, ◌*◌, ◌≤◌, IfOk};
 ghost use Rattle.bp_free.specs.Set.{empty};
+ghost use Rattle.bp_limits.specs.Limits.{max_blocks};
 
 use bp_free::{Blocks, Inodes};
 use bp_scan::Pending;
 use std::alloc::{AllocError, Global};
 
-/// What a volume holds beside its region.
+/// What a volume holds beside its region, and what a scan of a region takes.
 #[derive(Drop)]
-pub(crate) struct Sets {
+pub struct Sets {
+    /// The free blocks.
     pub blocks: Blocks,
+    /// The free inodes.
     pub inodes: Inodes,
+    /// The memory of a scan.
     pub pending: Pending,
 }
 
 impl Sets {
-    /// Empty sets, and the memory of a scan, for a region of so many blocks. Fails where memory is out.
+    /// Empty sets, and the memory of a scan, for a region of so many blocks of 512 words, at most 16,384.
+    ///
+    /// # Errors
+    ///
+    /// Where there is no memory for them.
     pub fn new(alloc: Global, blocks: u32) -> Result<Sets, AllocError>
-        requires { blocks ≤ 16384 }
+        requires { blocks ≤ max_blocks }
         ensures blocks { IfOk result (λ sets. sets.blocks ≡ empty blocks) }
         ensures inodes { IfOk result (λ sets. sets.inodes ≡ empty (64 * blocks)) }
         ensures pending { IfOk result (λ sets. sets.pending ≡ 64 * blocks) }

@@ -4,6 +4,7 @@ ghost use Rattle.std.specs.Prelude.{[], ◌*◌, ◌∷◌, ◌≡◌, ◌⊎◌
 ghost use Rattle.bp_layout.specs.Free.{HasFree};
 ghost use Rattle.bp_layout.specs.WellFormed.{IsWellFormed};
 ghost use Rattle.bp_layout.specs.Words.{block_count};
+ghost use Rattle.bp_limits.specs.Limits.{call_room, max_blocks, min_blocks};
 ghost use Rattle.pm_region.specs.Memory.{current_words, drained, room_in, with_room};
 ghost use Rattle.bp_limits.specs.Limits.{max_read};
 ghost use Rattle.bp_plain.specs.Calls.Call.{create, list, read, stat};
@@ -12,7 +13,7 @@ ghost use Rattle.bp_plain.specs.Seen.{call_of};
 ghost use Rattle.bp_plain.specs.Stands.{Stands};
 ghost use Rattle.bp_scan.specs.Faults.{IsFault};
 ghost use Rattle.bp_scan.specs.Totals.{HasLive};
-ghost use Rattle.bp_volume.specs.FileCall.{FileCall, call_room};
+ghost use Rattle.bp_volume.specs.FileCall.{FileCall};
 ghost use Rattle.bp_volume.specs.Laid.{formatted_memory};
 ghost use Rattle.bp_volume.specs.Seen.{IsShortCall, list_answer_of, read_answer, stat_answer_of, unit_answer};
 
@@ -24,14 +25,12 @@ use crate::sets::Sets;
 use crate::space::Space;
 use bp_free::Parts;
 use bp_layout::{Listing, Stat};
+use bp_limits::CALL_ROOM;
 use bp_plain::{Call, FsError, Reply};
 use bp_scan::{MountFault, Pending, scan};
 use pm_region::Region;
 use std::alloc::Global;
 use std::marker::Model;
-
-/// The room in the log below which a call drains first: more events than any call adds.
-const CALL_ROOM: usize = 65_536;
 
 /// A file system over a region. Contracts see it as the region's memory.
 #[derive(Drop)]
@@ -59,8 +58,8 @@ impl<R: Region> Volume<R> {
     /// `Memory` where there is none for the volume. The region comes back as it was.
     pub fn format(alloc: Global, region: R) -> Result<Volume<R>, (R, MountFault)>
         requires whole { length (R.memory region).base ≡ 512 * block_count (R.memory region).base }
-        requires least { 8 ≤ block_count (R.memory region).base }
-        requires most { block_count (R.memory region).base ≤ 16384 }
+        requires least { min_blocks ≤ block_count (R.memory region).base }
+        requires most { block_count (R.memory region).base ≤ max_blocks }
         requires fresh { (R.memory region).events ≡ [] }
         requires roomy { call_room ≤ (R.memory region).capacity }
         ensures made { IfOk result (λ volume. volume ≡ formatted_memory (R.memory region)) }
@@ -90,8 +89,8 @@ impl<R: Region> Volume<R> {
     /// none for the volume. The region comes back as it was.
     pub fn mount(alloc: Global, region: R) -> Result<Volume<R>, (R, MountFault)>
         requires whole { length (R.memory region).base ≡ 512 * block_count (R.memory region).base }
-        requires least { 8 ≤ block_count (R.memory region).base }
-        requires most { block_count (R.memory region).base ≤ 16384 }
+        requires least { min_blocks ≤ block_count (R.memory region).base }
+        requires most { block_count (R.memory region).base ≤ max_blocks }
         requires fresh { (R.memory region).events ≡ [] }
         requires roomy { call_room ≤ (R.memory region).capacity }
         ensures same { IfOk result (λ volume. volume ≡ R.memory region) }
@@ -234,8 +233,8 @@ impl<R: Region> Volume<R> {
     /// Makes a volume of a region with an empty log whose image passes a scan.
     fn scanned(region: R, sets: Sets) -> Result<Volume<R>, (R, MountFault)>
         requires whole { length (R.memory region).base ≡ 512 * block_count (R.memory region).base }
-        requires least { 8 ≤ block_count (R.memory region).base }
-        requires most { block_count (R.memory region).base ≤ 16384 }
+        requires least { min_blocks ≤ block_count (R.memory region).base }
+        requires most { block_count (R.memory region).base ≤ max_blocks }
         requires fresh { (R.memory region).events ≡ [] }
         requires roomy { call_room ≤ (R.memory region).capacity }
         requires blocks { length sets.blocks ≡ block_count (R.memory region).base }
@@ -264,7 +263,7 @@ impl<R: Region> Volume<R> {
         }
     }
 
-    /// Drains where the events of a call might not fit.
+    /// Drains where the events of a call might not fit: the room that is kept is for more events than any call adds.
     fn make_room(&mut self)
         ensures memory { self.new ≡ with_room call_room self.old }
         ensures room { call_room ≤ room_in self.new }

@@ -1,0 +1,112 @@
+//! What a line of the input says.
+
+/// A device of a run.
+#[derive(Clone, Copy)]
+pub enum Device {
+    Files,
+    Sink,
+    Source,
+}
+
+impl Device {
+    fn named(name: &str) -> Option<Device> {
+        match name {
+            "files" => Some(Device::Files),
+            "sink" => Some(Device::Sink),
+            "source" => Some(Device::Source),
+            _ => None,
+        }
+    }
+
+    /// The word for it.
+    pub fn name(self) -> &'static str {
+        match self {
+            Device::Files => "files",
+            Device::Sink => "sink",
+            Device::Source => "source",
+        }
+    }
+}
+
+/// A line of the input. Numbers that are still text are read where they are used.
+#[derive(Clone, Copy)]
+pub enum Line<'a> {
+    /// An empty line, or one that begins with `#`.
+    Nothing,
+    /// A row of this name begins: FILE is missing, the script empty, and no device fails.
+    Row(&'a str),
+    /// FILE is a format of so many blocks.
+    Format(&'a str),
+    /// FILE is so many bytes of zeros.
+    Zeros(u64),
+    /// There is no FILE.
+    Missing,
+    /// What FILE is now is kept for later rows.
+    Keep,
+    /// FILE is what was kept.
+    Kept,
+    /// Words of FILE, each a place and a value.
+    Set(&'a str),
+    /// All words of FILE from the first place up to the second have the value.
+    Fill { from: u64, to: u64, value: u64 },
+    /// The calls of a device that fail, by their numbers from 0.
+    Fail(Device, &'a str),
+    /// The source gives pieces of at most so many bytes.
+    Piece(u64),
+    /// What is run.
+    Words(&'a str),
+    /// A line of the script.
+    Script(&'a str),
+    /// The last line of the script, without a newline.
+    Part(&'a str),
+    /// Run it.
+    Go,
+    /// Run it again and again, each time with another call of a device failing, from 0 up to a number of calls.
+    Sweep(Device, u64),
+}
+
+/// A number in decimal digits, or in hexadecimal ones behind `0x`.
+pub fn number(text: &str) -> Option<u64> {
+    match text.strip_prefix("0x") {
+        Some(digits) => u64::from_str_radix(digits, 16).ok(),
+        None => text.parse::<u64>().ok(),
+    }
+}
+
+fn fill(text: &str) -> Option<Line<'_>> {
+    let mut words = text.split_whitespace();
+    let from = number(words.next()?)?;
+    let to = number(words.next()?)?;
+    let value = number(words.next()?)?;
+    Some(Line::Fill { from, to, value })
+}
+
+/// Reads a line, `None` where it has no such form.
+pub fn read(line: &str) -> Option<Line<'_>> {
+    let (word, rest) = line.split_once(' ').unwrap_or((line, ""));
+    Some(match word {
+        "" | "#" => Line::Nothing,
+        "row" => Line::Row(rest),
+        "format" => Line::Format(rest),
+        "zeros" => Line::Zeros(number(rest)?),
+        "missing" => Line::Missing,
+        "keep" => Line::Keep,
+        "kept" => Line::Kept,
+        "set" => Line::Set(rest),
+        "fill" => fill(rest)?,
+        "fail" => {
+            let (device, numbers) = rest.split_once(' ')?;
+            Line::Fail(Device::named(device)?, numbers)
+        }
+        "piece" => Line::Piece(number(rest)?),
+        "words" => Line::Words(rest),
+        ">" => Line::Script(rest),
+        ">|" => Line::Part(rest),
+        "go" => Line::Go,
+        "sweep" => {
+            let (device, count) = rest.split_once(' ')?;
+            Line::Sweep(Device::named(device)?, number(count)?)
+        }
+        _ => return None,
+    })
+}

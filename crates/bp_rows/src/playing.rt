@@ -1,0 +1,66 @@
+//! Runs over the devices in memory.
+
+use crate::row::{MOST_BYTES, Row};
+use bp_io::{FairSource, MemFiles, MemSink, MemSource};
+use bp_shell::run;
+use std::alloc::{AllocError, Global};
+
+/// The room of the sink, in bytes.
+const ROOM: usize = 4_194_304;
+
+/// What a run leaves.
+#[derive(Drop)]
+pub struct Ran {
+    pub status: u8,
+    /// What the sink took.
+    pub told: Vec<u8>,
+    /// FILE, where there is one.
+    pub file: Option<Vec<u8>>,
+}
+
+/// Files with this image, of which these calls fail.
+fn files_of<'a>(
+    alloc: Global,
+    image: Option<&[u8]>,
+    fail_at: &'a [u64],
+) -> Result<MemFiles<'a>, AllocError> {
+    match image {
+        Some(bytes) if bytes.len() <= MOST_BYTES => MemFiles::new(alloc, Some(bytes), fail_at),
+        _ => MemFiles::new(alloc, None, fail_at),
+    }
+}
+
+fn image_of(alloc: Global, files: &MemFiles<'_>) -> Result<Option<Vec<u8>>, AllocError> {
+    match files.image() {
+        Some(bytes) => Ok(Some(Vec::from_slice(alloc, bytes)?)),
+        None => Ok(None),
+    }
+}
+
+/// The bytes of a format of so many blocks, `None` where the program refuses the number.
+pub fn formatted(alloc: Global, blocks: &str) -> Result<Option<Vec<u8>>, AllocError> {
+    let words = ["bpfs", "format", "f", "--blocks", blocks];
+    let mut files = files_of(alloc, None, &[])?;
+    let mut source = FairSource::new(b"");
+    let mut sink = MemSink::new(alloc, ROOM, &[])?;
+    if run(alloc, &words, &mut source, &mut sink, &mut files) != 0 {
+        return Ok(None);
+    }
+    image_of(alloc, &files)
+}
+
+/// Runs a row.
+pub fn play(alloc: Global, row: &Row) -> Result<Ran, AllocError> {
+    let failing = &row.failing;
+    let words: Vec<&str> = row.words.split_whitespace().collect(alloc)?;
+    let image = row.file.as_deref();
+    let mut files = files_of(alloc, image, &failing.files)?;
+    let mut source = MemSource::new(row.script.as_bytes(), row.piece.max(1), &failing.source);
+    let mut sink = MemSink::new(alloc, ROOM, &failing.sink)?;
+    let status = run(alloc, &words, &mut source, &mut sink, &mut files);
+    Ok(Ran {
+        status,
+        told: Vec::from_slice(alloc, sink.bytes())?,
+        file: image_of(alloc, &files)?,
+    })
+}

@@ -1,0 +1,150 @@
+//! A row: what FILE is, the script, what is run, and which calls fail.
+
+use crate::image::set_word;
+use crate::line::{Device, Line, number};
+use crate::playing::formatted;
+use crate::script::expand;
+use bp_limits::{BLOCK_SIZE, MAX_BLOCKS};
+use std::alloc::{AllocError, Global};
+
+/// The most bytes of FILE.
+pub const MOST_BYTES: usize = MAX_BLOCKS as usize * BLOCK_SIZE as usize;
+
+/// The numbers of the calls that fail, device by device.
+#[derive(Drop)]
+pub struct Failing {
+    pub files: Vec<u64>,
+    pub sink: Vec<u64>,
+    pub source: Vec<u64>,
+}
+
+impl Failing {
+    /// None fails.
+    pub fn none(alloc: Global) -> Failing {
+        Failing {
+            files: Vec::new(alloc),
+            sink: Vec::new(alloc),
+            source: Vec::new(alloc),
+        }
+    }
+
+    /// One more call of a device fails.
+    pub fn add(&mut self, device: Device, call: u64) -> Result<(), AllocError> {
+        match device {
+            Device::Files => self.files.push(call)?,
+            Device::Sink => self.sink.push(call)?,
+            Device::Source => self.source.push(call)?,
+        }
+        Ok(())
+    }
+}
+
+/// What is run.
+#[derive(Drop)]
+pub struct Row {
+    /// FILE, where there is one.
+    pub file: Option<Vec<u8>>,
+    pub words: String,
+    pub script: String,
+    /// The most bytes of a piece of the source.
+    pub piece: usize,
+    pub failing: Failing,
+}
+
+impl Row {
+    /// `run` over a file that is missing, with no script, and no call fails.
+    pub fn new(alloc: Global) -> Result<Row, AllocError> {
+        Ok(Row {
+            file: None,
+            words: String::from_str(alloc, "bpfs run f")?,
+            script: String::new(alloc),
+            piece: MOST_BYTES,
+            failing: Failing::none(alloc),
+        })
+    }
+
+    /// The next run of the row: over what FILE holds, with an empty script.
+    pub fn go_on(&mut self, alloc: Global, file: Option<Vec<u8>>) -> Result<(), AllocError> {
+        let fresh = Row::new(alloc)?;
+        *self = Row { file, ..fresh };
+        Ok(())
+    }
+
+    /// Sets what a line says. False is the answer where it can't be.
+    pub fn set(&mut self, alloc: Global, line: Line<'_>) -> Result<bool, AllocError> {
+        match line {
+            Line::Format(blocks) => {
+                self.file = formatted(alloc, blocks)?;
+                return Ok(self.file.is_some());
+            }
+            Line::Zeros(count) => return self.set_zeros(alloc, count),
+            Line::Missing => self.file = None,
+            Line::Set(pairs) => return Ok(self.set_words(pairs)),
+            Line::Fill { from, to, value } => return Ok(self.fill(from, to, value)),
+            Line::Fail(device, calls) => return self.fail(device, calls),
+            Line::Piece(most) => self.piece = most.min(MOST_BYTES as u64) as usize,
+            Line::Words(words) => self.words = String::from_str(alloc, words)?,
+            Line::Script(text) => {
+                let is_whole = expand(text, &mut self.script)?;
+                self.script.push_str("\n")?;
+                return Ok(is_whole);
+            }
+            Line::Part(text) => return expand(text, &mut self.script),
+            _ => {}
+        }
+        Ok(true)
+    }
+
+    fn set_zeros(&mut self, alloc: Global, count: u64) -> Result<bool, AllocError> {
+        if count > MOST_BYTES as u64 {
+            return Ok(false);
+        }
+        self.file = Some(vec![in alloc; 0u8; count as usize]?);
+        Ok(true)
+    }
+
+    fn set_word(&mut self, place: u64, value: u64) -> bool {
+        match &mut self.file {
+            Some(bytes) => set_word(bytes, place, value),
+            None => false,
+        }
+    }
+
+    fn set_words(&mut self, pairs: &str) -> bool {
+        let mut place = None;
+        for text in pairs.split_whitespace() {
+            let Some(number) = number(text) else {
+                return false;
+            };
+            match place {
+                None => place = Some(number),
+                Some(at) => {
+                    if !self.set_word(at, number) {
+                        return false;
+                    }
+                    place = None;
+                }
+            }
+        }
+        place.is_none()
+    }
+
+    fn fill(&mut self, from: u64, to: u64, value: u64) -> bool {
+        for place in from..to {
+            if !self.set_word(place, value) {
+                return false;
+            }
+        }
+        true
+    }
+
+    fn fail(&mut self, device: Device, calls: &str) -> Result<bool, AllocError> {
+        for text in calls.split_whitespace() {
+            let Some(call) = number(text) else {
+                return Ok(false);
+            };
+            self.failing.add(device, call)?;
+        }
+        Ok(true)
+    }
+}

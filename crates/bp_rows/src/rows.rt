@@ -1,0 +1,95 @@
+//! Rows, one line after another, and the report on their runs.
+
+use crate::line::{Device, Line, read};
+use crate::playing::play;
+use crate::row::{Failing, Row};
+use crate::showing::{show, show_short};
+use std::alloc::{AllocError, Global};
+
+/// The row that is being read, the image that is kept for later ones, and the report on the runs so far.
+#[derive(Drop)]
+pub struct Rows {
+    alloc: Global,
+    row: Row,
+    kept: Option<Vec<u8>>,
+    report: String,
+}
+
+fn copy_of(alloc: Global, file: &Option<Vec<u8>>) -> Result<Option<Vec<u8>>, AllocError> {
+    match file {
+        Some(bytes) => Ok(Some(Vec::from_slice(alloc, bytes)?)),
+        None => Ok(None),
+    }
+}
+
+impl Rows {
+    /// No row yet, and no report.
+    pub fn new(alloc: Global) -> Result<Rows, AllocError> {
+        Ok(Rows {
+            alloc,
+            row: Row::new(alloc)?,
+            kept: None,
+            report: String::new(alloc),
+        })
+    }
+
+    /// What is told of the runs.
+    pub fn report(&self) -> &str {
+        self.report.as_str()
+    }
+
+    /// Does what a line says. One that is no line of a row is told, and the next one is read.
+    pub fn take(&mut self, text: &str) -> Result<(), AllocError> {
+        let Some(line) = read(text) else {
+            return self.refuse(text);
+        };
+        match line {
+            Line::Row(name) => self.begin(name),
+            Line::Keep => {
+                self.kept = copy_of(self.alloc, &self.row.file)?;
+                Ok(())
+            }
+            Line::Kept => {
+                self.row.file = copy_of(self.alloc, &self.kept)?;
+                Ok(())
+            }
+            Line::Go => self.go(),
+            Line::Sweep(device, count) => self.sweep(device, count),
+            _ => {
+                if self.row.set(self.alloc, line)? {
+                    Ok(())
+                } else {
+                    self.refuse(text)
+                }
+            }
+        }
+    }
+
+    fn refuse(&mut self, text: &str) -> Result<(), AllocError> {
+        writeln!(self.report, "bad row: {text}")
+    }
+
+    fn begin(&mut self, name: &str) -> Result<(), AllocError> {
+        self.row = Row::new(self.alloc)?;
+        writeln!(self.report, "== {name}")
+    }
+
+    fn go(&mut self) -> Result<(), AllocError> {
+        let ran = play(self.alloc, &self.row)?;
+        show(&mut self.report, self.row.file.as_deref(), &ran)?;
+        self.row.go_on(self.alloc, ran.file)
+    }
+
+    fn sweep(&mut self, device: Device, count: u64) -> Result<(), AllocError> {
+        let name = device.name();
+        for call in 0..count {
+            self.row.failing = Failing::none(self.alloc);
+            self.row.failing.add(device, call)?;
+            let ran = play(self.alloc, &self.row)?;
+            write!(self.report, "  {name} {call}: ")?;
+            show_short(&mut self.report, self.row.file.as_deref(), &ran)?;
+        }
+        self.row.failing = Failing::none(self.alloc);
+        Ok(())
+    }
+}

@@ -1,0 +1,89 @@
+//! What is written of a run.
+
+use crate::image::word_at;
+use crate::playing::Ran;
+use std::alloc::AllocError;
+
+/// The most words of FILE that are written.
+const MOST_WORDS: usize = 16;
+
+/// The longest reply that is written whole.
+const MOST_REPLY: usize = 120;
+
+/// Writes the replies, the status and what FILE holds as compared with before.
+pub fn show(report: &mut String, before: Option<&[u8]>, ran: &Ran) -> Result<(), AllocError> {
+    show_replies(report, &ran.told)?;
+    let status = ran.status;
+    writeln!(report, "status {status}")?;
+    match &ran.file {
+        None => report.push_str("file missing\n"),
+        Some(bytes) => show_file(report, before, bytes),
+    }
+}
+
+fn show_replies(report: &mut String, told: &[u8]) -> Result<(), AllocError> {
+    let Ok(text) = str::from_utf8(told) else {
+        return report.push_str("replies that are no text\n");
+    };
+    for line in text.lines() {
+        let length = line.len();
+        if length <= MOST_REPLY {
+            writeln!(report, "  {line}")?;
+        } else {
+            let front = line.get(..MOST_REPLY).unwrap_or("");
+            writeln!(report, "  {front}.. {length} bytes")?;
+        }
+    }
+    if !text.is_empty() && !text.ends_with('\n') {
+        report.push_str("  without a newline\n")?;
+    }
+    Ok(())
+}
+
+/// How many words differ.
+pub fn changed_words(before: &[u8], after: &[u8]) -> usize {
+    (0..after.len() / 8)
+        .filter(|place| word_at(after, *place) != word_at(before, *place))
+        .count()
+}
+
+fn show_file(report: &mut String, before: Option<&[u8]>, after: &[u8]) -> Result<(), AllocError> {
+    let old = before.unwrap_or(&[]);
+    if before.is_some() && old == after {
+        return report.push_str("file same\n");
+    }
+    let length = after.len();
+    writeln!(report, "file {length} bytes")?;
+    let mut left = MOST_WORDS;
+    for place in 0..length / 8 {
+        let value = word_at(after, place);
+        if value != word_at(old, place) && left > 0 {
+            writeln!(report, "  {place} {value:#x}")?;
+            left -= 1;
+        }
+    }
+    let more = changed_words(old, after).saturating_sub(MOST_WORDS);
+    if more > 0 {
+        writeln!(report, "  and {more} more")?;
+    }
+    Ok(())
+}
+
+/// Writes a run of a sweep on one line: its status, how many lines were told, and how many words of FILE changed.
+pub fn show_short(report: &mut String, before: Option<&[u8]>, ran: &Ran) -> Result<(), AllocError> {
+    let status = ran.status;
+    let lines = ran.told.iter().filter(|byte| **byte == b'\n').count();
+    write!(report, "status {status}, lines {lines}, ")?;
+    let old = before.unwrap_or(&[]);
+    match &ran.file {
+        None => report.push_str("file missing\n"),
+        Some(bytes) if before.is_some() && old == bytes.as_slice() => {
+            report.push_str("file same\n")
+        }
+        Some(bytes) => {
+            let length = bytes.len();
+            let words = changed_words(old, bytes);
+            writeln!(report, "file {length} bytes, words changed {words}")
+        }
+    }
+}

@@ -18,3 +18,4 @@ pub mod Samples
 pub mod OpenPlaces
 pub mod ReadingLaws
 pub mod AskedLaws
+pub mod CutLaws

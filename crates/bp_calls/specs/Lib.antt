@@ -5,3 +5,5 @@ pub mod Spare
 pub mod Steps
 pub mod Sample
 pub mod Asked
+pub mod GivenBack
+pub mod CutBelow

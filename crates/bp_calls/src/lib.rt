@@ -4,6 +4,7 @@
 mod creating;
 mod entering;
 mod fault;
+mod giving;
 pub mod laws;
 mod reading;
 #[cfg(test)]

@@ -1,0 +1,264 @@
+-- The blocks of a tree behind a smaller size: those that it has under its size and not under the smaller one.
+use Rattle.std.proofs.Common.{◌≡◌, ◌≢◌, ◌⊎◌, ℕ, zero, suc, ◌+◌, ◌-◌, ◌*◌, ◌/◌, ◌<◌, ◌≤◌, min, true, false, refl, sym, ◌∙◌, ap, subst, subst₂, arith, inl, inr, lt_of_lt_of_le}
+use Rattle.std.proofs.lemmas.Bool.{cases_eq, cases_lt, cases_Bool, true≢false}
+use Rattle.std.proofs.Math.Nat.{le-div_iff_mul-le}
+use Rattle.bp_free.specs.Set.{Set, has}
+use Rattle.bp_layout.specs.Pieces.{child, piece, HasChildren, Joins}
+use Rattle.bp_layout.specs.Tree.{covered, span, node, HasBlock, IsLivePointer, IsSound}
+use Rattle.bp_layout.specs.Words.{Image, block_count, block_of, height_of}
+use Rattle.bp_layout.proofs.Addresses.{present_above}
+use Rattle.bp_layout.proofs.Pieces.{InChild, sound_shape, joined_block, child_block, splits}
+use Rattle.bp_layout.proofs.TreeLaws.{first_index, word_at-zero}
+use Rattle.bp_shapes.specs.Freed.{IsCutOff}
+use Rattle.bp_append.proofs.TallyLaws.{span-positive, div_order}
+use Rattle.bp_calls.specs.CutBelow.{IsCutTop, IsCutIn}
+use Rattle.bp_calls.specs.CutBelow.IsCutIn.{top, below}
+use Rattle.bp_calls.specs.GivenBack.{GivesBack}
+
+-- ---- sets
+
+module _ (P Q : ℕ → Type 0) (old new : Set) where
+  -- the same numbers, told in other words
+  pub gives_as : ((b : ℕ) → P b → Q b) → ((b : ℕ) → Q b → P b) → GivesBack P old new → GivesBack Q old new
+  gives_as there back gives = record {
+    room = gives.room;
+    given = λ b q. gives.given b (back b q);
+    still = gives.still;
+    only = λ b is. elim (gives.only b is) [ inl was ↦ inl was | inr p ↦ inr (there b p) ];
+  }
+
+pub gives_none : (P : ℕ → Type 0) (set : Set) → ((b : ℕ) → P b → ⊥) → GivesBack P set set
+gives_none P set none = record { room = refl; given = λ b p. absurd (none b p); still = λ b is. is; only = λ b is. inl is }
+
+pub gives_twice : (P Q R : ℕ → Type 0) (old mid new : Set) → ((b : ℕ) → P b → R b) → ((b : ℕ) → Q b → R b) → ((b : ℕ) → R b → P b ⊎ Q b) → GivesBack P old mid → GivesBack Q mid new → GivesBack R old new
+gives_twice P Q R old mid new first second both one two = record {
+  room = two.room ∙ one.room;
+  given = λ b r. elim (both b r) [ inl p ↦ two.still b (one.given b p) | inr q ↦ two.given b q ];
+  still = λ b is. two.still b (one.still b is);
+  only = λ b is. elim (two.only b is) [ inl was ↦ elim (one.only b was) [ inl before ↦ inl before | inr p ↦ inr (first b p) ] | inr q ↦ inr (second b q) ];
+}
+
+-- ---- one tree under two sizes
+
+module _ (image : Image) (root : ℕ) where
+  pub has_larger : (cut size b : ℕ) → cut ≤ size → HasBlock image root cut b → HasBlock image root size b
+  has_larger cut size b smaller has = record {
+    depth = has.depth;
+    index = has.index;
+    pointer = record { level = has.pointer.level; height = has.pointer.height; live = lt_of_lt_of_le has.pointer.live smaller };
+    named = has.named;
+    not_null = has.not_null;
+  }
+
+  pub nothing_cut : (size cut b : ℕ) → size ≤ cut → IsCutOff image root size cut b → ⊥
+  nothing_cut size cut b order gone = let live = gone.has.pointer.live in omega (arith, live, gone.past, order)
+
+  -- what is cut off the tree has not under a size up to the smaller one
+  pub cut_not_kept : (size cut less b : ℕ) → IsSound image root size → less ≤ cut → less ≤ size → IsCutOff image root size cut b → HasBlock image root less b → ⊥
+  cut_not_kept size cut less b sound low smaller gone has =
+      let one : HasBlock image root size b = record {
+        depth = has.depth;
+        index = has.index;
+        pointer = record { level = has.pointer.level; height = has.pointer.height; live = lt_of_lt_of_le has.pointer.live smaller };
+        named = has.named;
+        not_null = has.not_null;
+      } in
+      let same : (has.depth ≡ gone.has.depth) × (has.index ≡ gone.has.index) =
+      sound.once has.depth has.index gone.has.depth gone.has.index one.pointer gone.has.pointer (λ null. has.not_null (sym has.named ∙ null)) (has.named ∙ sym gone.has.named) in
+      let level : gone.has.pointer.level ≡ has.pointer.level = omega (arith, has.pointer.height, gone.has.pointer.height, same.0) in
+      let past : cut ≤ has.index * covered (suc has.pointer.level) = subst₂ (λ k l. cut ≤ k * covered (suc l)) (sym same.1) level gone.past in
+      let live : has.index * covered (suc has.pointer.level) < less = has.pointer.live in
+      omega (arith, past, live, low)
+
+  pub cut_of : (size cut b : ℕ) → HasBlock image root size b → (HasBlock image root cut b → ⊥) → IsCutOff image root size cut b
+  cut_of size cut b has none = go (cases_lt (has.index * covered (suc has.pointer.level)) cut)
+    where
+      go : (has.index * covered (suc has.pointer.level) < cut) ⊎ (cut ≤ has.index * covered (suc has.pointer.level)) → IsCutOff image root size cut b
+      go (inl low) = absurd (none (record {
+        depth = has.depth;
+        index = has.index;
+        pointer = record { level = has.pointer.level; height = has.pointer.height; live = low };
+        named = has.named;
+        not_null = has.not_null;
+      }))
+      go (inr past) = record { has = has; past = past }
+
+  present_top : (d k : ℕ) → node image root d k ≢ 0 → block_of root ≢ 0
+  present_top zero k present null = present (ap block_of (word_at-zero image root k) ∙ null)
+  present_top (suc d) k present null = present_top d (k / 512) (present_above image root d k present) null
+
+  -- a tree without a topmost block has none
+  pub null_cut : (size cut b : ℕ) → block_of root ≡ 0 → IsCutOff image root size cut b → ⊥
+  null_cut size cut b null gone = present_top gone.has.depth gone.has.index (λ none. gone.has.not_null (sym gone.has.named ∙ none)) null
+
+  top_live : (size : ℕ) → 0 < size → IsLivePointer root size 0 0
+  top_live size some = record { level = height_of root; height = omega arith; live = omega (arith, some) }
+
+  pub top_block : (size : ℕ) → 0 < size → block_of root ≢ 0 → HasBlock image root size (block_of root)
+  top_block size some present = record { depth = 0; index = 0; pointer = top_live size some; named = ap block_of (word_at-zero image root 0); not_null = present }
+
+  pub top_in_range : (size : ℕ) → IsSound image root size → 0 < size → block_of root < block_count image
+  top_in_range size sound some = subst (λ b. b < block_count image) (ap block_of (word_at-zero image root 0)) (sound.in_range 0 0 (top_live size some))
+
+  -- ---- a leaf
+
+  module _ (size cut : ℕ) (sound : IsSound image root size) (some : cut < size) (present : block_of root ≢ 0) (leaf : height_of root ≡ 0) where
+    leaf_there : (b : ℕ) → IsCutTop (block_of root) cut b → IsCutOff image root size cut b
+    leaf_there b is = record { has = subst (HasBlock image root size) (sym is.is) (top_block size (omega (arith, some)) present); past = omega (arith, is.whole) }
+
+    leaf_back : (b : ℕ) → IsCutOff image root size cut b → IsCutTop (block_of root) cut b
+    leaf_back b gone = go gone.has.depth gone.has.index gone.has.pointer gone.has.named gone.past
+      where
+        go : (d k : ℕ) (live : IsLivePointer root size d k) → node image root d k ≡ b → cut ≤ k * covered (suc live.level) → IsCutTop (block_of root) cut b
+        go zero k live named past =
+            let first : k ≡ 0 = first_index root size k sound.fits live in
+            record { whole = omega (arith, rw first at past); is = sym named ∙ ap block_of (word_at-zero image root k) }
+        go (suc d) k live named past = absurd (omega (arith, live.height, leaf))
+
+    pub leaf_gives : (old new : Set) → GivesBack (IsCutTop (block_of root) cut) old new → GivesBack (IsCutOff image root size cut) old new
+    leaf_gives old new gives = gives_as (IsCutTop (block_of root) cut) (IsCutOff image root size cut) old new leaf_there leaf_back gives
+
+-- ---- a tree that is higher
+
+module _ (image : Image) (root size level cut : ℕ) (sound : IsSound image root size) (some : cut < size) (present : block_of root ≢ 0) (height : height_of root ≡ suc level) where
+  pub shape : HasChildren image root size level
+  shape = sound_shape image root size level sound (omega (arith, some)) height
+
+  shape_cut : HasChildren image root cut level
+  shape_cut = record {
+    height = height;
+    low = shape.low;
+    fits = omega (arith, shape.fits, some);
+    words = λ c low. shape.words c (omega (arith, low, some));
+  }
+
+  joins : Joins image root size level
+  joins = splits image root size level shape sound (omega (arith, some)) present
+
+  abbrev pub Child : ℕ → ℕ → ℕ → Type 0
+  Child slot z b = HasBlock image (child image (block_of root) level slot) z b
+
+  abbrev pub Cut : ℕ → ℕ → Type 0
+  Cut slot b = IsCutOff image (child image (block_of root) level slot) (piece size level slot) (cut - slot * span level) b
+
+  -- the slots before the first hold nothing that is cut off
+  before_first : (slot b : ℕ) → slot < cut / span level → Cut slot b → ⊥
+  before_first slot b low gone =
+      let next : (slot + 1) * span level ≤ cut = (le-div_iff_mul-le {k = span level} {x = slot + 1} {y = cut} (span-positive level)).0 (omega (arith, low)) in
+      go (span level) next gone.past gone.has.pointer.live
+    where
+      go : (s : ℕ) → (slot + 1) * s ≤ cut → cut - slot * s ≤ gone.has.index * covered (suc gone.has.pointer.level) → gone.has.index * covered (suc gone.has.pointer.level) < min (size - slot * s) s → ⊥
+      go s next past live = omega (arith, next, past, live)
+
+  -- a live slot is one of those up to the last
+  last_slot : (slot : ℕ) → slot * span level < size → slot < (size - 1) / span level + 1
+  last_slot slot low =
+      let at : slot ≤ (size - 1) / span level = (le-div_iff_mul-le {k = span level} {x = slot} {y = size - 1} (span-positive level)).1 (omega (arith, low)) in
+      omega (arith, at)
+
+  pub slot_live : (slot : ℕ) → slot < (size - 1) / span level + 1 → slot * span level < size
+  slot_live slot low =
+      let at : slot * span level ≤ size - 1 = (le-div_iff_mul-le {k = span level} {x = slot} {y = size - 1} (span-positive level)).0 (omega (arith, low)) in
+      omega (arith, at, some)
+
+  -- the first slot is no later than the one behind the last
+  pub slots_order : cut / span level ≤ (size - 1) / span level + 1
+  slots_order = let order = div_order cut (size - 1) level (omega (arith, some)) in omega (arith, order)
+
+  pub child_is_sound : (slot : ℕ) → slot * span level < size → IsSound image (child image (block_of root) level slot) (piece size level slot)
+  child_is_sound = joins.sound
+
+  -- the tree in a slot is lower
+  pub child_is_lower : (slot : ℕ) → slot * span level < size → height_of (child image (block_of root) level slot) ≡ level
+  child_is_lower slot live = let word = shape.words slot live in omega (arith, word, shape.low)
+
+  top_cut : (b : ℕ) → IsCutTop (block_of root) cut b → IsCutOff image root size cut b
+  top_cut b is = record { has = subst (HasBlock image root size) (sym is.is) (top_block image root size (omega (arith, some)) present); past = omega (arith, is.whole) }
+
+  -- what a child has under both sizes the tree has under the smaller one
+  kept_below : (slot b : ℕ) → slot * span level < size → (has : Child slot (piece size level slot) b) → has.index * covered (suc has.pointer.level) < cut - slot * span level → HasBlock image root cut b
+  kept_below slot b live has low =
+      child_block image root cut level shape_cut slot b (omega (arith, low)) (record {
+        depth = has.depth;
+        index = has.index;
+        pointer = record { level = has.pointer.level; height = has.pointer.height; live = let in_piece = has.pointer.live in omega (arith, low, in_piece) };
+        named = has.named;
+        not_null = has.not_null;
+      })
+
+  cut_in : (b : ℕ) → IsCutOff image root size cut b → IsCutIn image root size level cut ((size - 1) / span level + 1) b
+  cut_in b gone = go (joined_block image root size level shape b gone.has)
+    where
+      at_top : b ≡ block_of root → (cut ≡ 0) ⊎ (cut ≡ 0 → ⊥) → IsCutIn image root size level cut ((size - 1) / span level + 1) b
+      at_top is (inl none) = top (record { whole = none; is = is })
+      at_top is (inr more) =
+          absurd (cut_not_kept image root size cut cut b sound (omega arith) (omega (arith, some)) gone (subst (HasBlock image root cut) (sym is) (top_block image root cut (omega (arith, more)) present)))
+
+      in_child : (slot : ℕ) → slot * span level < size → (has : Child slot (piece size level slot) b) →
+          (has.index * covered (suc has.pointer.level) < cut - slot * span level) ⊎ (cut - slot * span level ≤ has.index * covered (suc has.pointer.level)) →
+          IsCutIn image root size level cut ((size - 1) / span level + 1) b
+      in_child slot live has (inl low) = absurd (cut_not_kept image root size cut cut b sound (omega arith) (omega (arith, some)) gone (kept_below slot b live has low))
+      in_child slot live has (inr past) = below slot (last_slot slot live) live (record { has = has; past = past })
+
+      go : (b ≡ block_of root) ⊎ InChild image root size level shape b → IsCutIn image root size level cut ((size - 1) / span level + 1) b
+      go (inl is) = at_top is (cases_eq cut 0)
+      go (inr inside) = in_child inside.slot inside.below inside.has (cases_lt (inside.has.index * covered (suc inside.has.pointer.level)) (cut - inside.slot * span level))
+
+  cut_out : (slots b : ℕ) → IsCutIn image root size level cut slots b → IsCutOff image root size cut b
+  cut_out slots b (top is) = top_cut b is
+  cut_out slots b (below slot low live gone) = cut_of image root size cut b (child_block image root size level shape slot b live gone.has) none
+    where
+      smaller : (c : ℕ) → piece cut level c ≤ piece size level c
+      smaller c = omega (arith, some)
+
+      none : HasBlock image root cut b → ⊥
+      none kept = go (joined_block image root cut level shape_cut b kept)
+        where
+          go : (b ≡ block_of root) ⊎ InChild image root cut level shape_cut b → ⊥
+          go (inl is) = joins.own slot live (subst (Child slot (piece size level slot)) is gone.has)
+          go (inr inside) =
+              let there : inside.slot * span level < size = omega (arith, inside.below, some) in
+              let also : Child inside.slot (piece size level inside.slot) b = has_larger image (child image (block_of root) level inside.slot) (piece cut level inside.slot) (piece size level inside.slot) b (smaller inside.slot) inside.has in
+              let same : inside.slot ≡ slot = joins.apart inside.slot slot b there live also gone.has in
+              let here : Child slot (piece cut level slot) b = subst (λ c. Child c (piece cut level c) b) same inside.has in
+              cut_not_kept image (child image (block_of root) level slot) (piece size level slot) (cut - slot * span level) (piece cut level slot) b (joins.sound slot live) (omega arith) (smaller slot) gone here
+
+  -- ---- the walk over the slots
+
+  pub slots_begin : (old new : Set) → GivesBack (IsCutTop (block_of root) cut) old new → GivesBack (IsCutIn image root size level cut (cut / span level)) old new
+  slots_begin old new gives = gives_as (IsCutTop (block_of root) cut) (IsCutIn image root size level cut (cut / span level)) old new (λ b is. top is) back gives
+    where
+      back : (b : ℕ) → IsCutIn image root size level cut (cut / span level) b → IsCutTop (block_of root) cut b
+      back b (top is) = is
+      back b (below slot low live gone) = absurd (before_first slot b low gone)
+
+  pub slots_step : (slot : ℕ) (old now new : Set) → slot * span level < size → GivesBack (IsCutIn image root size level cut slot) old now → GivesBack (Cut slot) now new → GivesBack (IsCutIn image root size level cut (slot + 1)) old new
+  slots_step slot old now new live one two =
+      gives_twice (IsCutIn image root size level cut slot) (Cut slot) (IsCutIn image root size level cut (slot + 1)) old now new there (λ b gone. below slot (omega arith) live gone) both one two
+    where
+      there : (b : ℕ) → IsCutIn image root size level cut slot b → IsCutIn image root size level cut (slot + 1) b
+      there b (top is) = top is
+      there b (below c low at gone) = below c (omega (arith, low)) at gone
+
+      both : (b : ℕ) → IsCutIn image root size level cut (slot + 1) b → IsCutIn image root size level cut slot b ⊎ Cut slot b
+      both b (top is) = inl (top is)
+      both b (below c low at gone) = elim (cases_eq c slot) [ inl e ↦ inr (subst (λ x. Cut x b) e gone) | inr other ↦ inl (below c (omega (arith, low, other)) at gone) ]
+
+  pub slots_end : (old new : Set) → GivesBack (IsCutIn image root size level cut ((size - 1) / span level + 1)) old new → GivesBack (IsCutOff image root size cut) old new
+  slots_end old new gives = gives_as (IsCutIn image root size level cut ((size - 1) / span level + 1)) (IsCutOff image root size cut) old new (cut_out _) cut_in gives
+
+  -- the blocks in a slot are not yet in the set
+  pub not_yet : (slot : ℕ) (old now : Set) → slot * span level < size → ((b : ℕ) → HasBlock image root size b → has old b ≡ false) → GivesBack (IsCutIn image root size level cut slot) old now →
+      (b : ℕ) → Child slot (piece size level slot) b → has now b ≡ false
+  not_yet slot old now live taken gives b here = go (cases_Bool (has now b))
+    where
+      out : has old b ≡ false
+      out = taken b (child_block image root size level shape slot b live here)
+
+      never : IsCutIn image root size level cut slot b → ⊥
+      never (top is) = joins.own slot live (subst (Child slot (piece size level slot)) is.is here)
+      never (below c low at gone) = let same : c ≡ slot = joins.apart c slot b at live gone.has here in omega (arith, low, same)
+
+      go : (has now b ≡ true) ⊎ (has now b ≡ false) → has now b ≡ false
+      go (inr not) = not
+      go (inl is) = elim (gives.only b is) [ inl was ↦ absurd (true≢false (sym was ∙ out)) | inr gone ↦ absurd (never gone) ]

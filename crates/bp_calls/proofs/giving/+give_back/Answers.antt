@@ -1,0 +1,99 @@
+use Rattle.std.proofs.Common.{◌≡◌, ◌-◌, ◌*◌, ◌/◌, ◌+◌, ◌<◌, ◌≤◌, suc, le_antisymm, arith, bit_and, ap, sym, ◌∙◌}
+use Rattle.std.proofs.lemmas.Nat.{and_mask}
+use Rattle.bp_layout.specs.Tree.{span}
+use Rattle.bp_layout.specs.Words.{block_of, height_of}
+use Rattle.bp_layout.proofs.TreeLaws.{span-is}
+use Rattle.pm_region.specs.Memory.{current_words}
+use Rattle.bp_tree.proofs.RegionWords.{length_now}
+use Rattle.bp_append.proofs.TallyLaws.{span-positive}
+use Rattle.bp_calls.proofs.CutLaws.{null_cut, gives_none, leaf_gives, top_in_range, top_block, slots_begin, slots_step, slots_end, not_yet, child_is_sound, child_is_lower, slot_live, slots_order}
+use Rattle.bp_calls.proofs.giving.+give_back.Goals as goal
+
+pub overflow_cast-top : goal.overflow_cast-top
+overflow_cast-top g t c =
+    let image = current_words (g.R.Region.memory c.args.region.now) in
+    let low = top_in_range image c.args.tree.root c.args.tree.size c.requires.sound (omega (arith, c.if-tree-cut.false)) in
+    omega (arith, low, c.words-words.ensures, c.words-words.type_inv, length_now (g.R.Region.memory c.args.region.now))
+
+pub returns-then-top-eq0 : goal.returns-then-top-eq0
+returns-then-top-eq0 g t c =
+    let image = current_words (g.R.Region.memory c.args.region.now) in
+    gives_none _ c.args.blocks.now (λ b. null_cut image c.args.tree.root c.args.tree.size c.args.cut b c.if-top-eq0.true)
+
+pub give_top-requires-clause-in_range : goal.give_top-requires-clause-in_range
+give_top-requires-clause-in_range g t c =
+    let image = current_words (g.R.Region.memory c.args.region.now) in
+    let low = top_in_range image c.args.tree.root c.args.tree.size c.requires.sound (omega (arith, c.if-tree-cut.false)) in
+    omega (arith, low, c.requires.room)
+
+pub give_top-requires-clause-taken : goal.give_top-requires-clause-taken
+give_top-requires-clause-taken g t c =
+    let image = current_words (g.R.Region.memory c.args.region.now) in
+    c.requires.taken (block_of c.args.tree.root) (top_block image c.args.tree.root c.args.tree.size (omega (arith, c.if-tree-cut.false)) c.if-top-eq0.false)
+
+pub returns-then-height-eq0 : goal.returns-then-height-eq0
+returns-then-height-eq0 g t c =
+    let image = current_words (g.R.Region.memory c.args.region.now) in
+    leaf_gives image c.args.tree.root c.args.tree.size c.args.cut c.requires.sound c.if-tree-cut.false c.if-top-eq0.false (sym (and_mask c.args.tree.root 3) ∙ c.if-height-eq0.true) c.args.blocks.now c.give_top.new.blocks c.give_top.ensures
+
+pub overflow_step-slot : goal.overflow_step-slot
+overflow_step-slot g t c =
+    let is : c.span-step.result ≡ span (bit_and c.args.tree.root 7 - 1) = c.span-step.ensures ∙ sym (span-is (bit_and c.args.tree.root 7 - 1)) in
+    rw is (span-positive (bit_and c.args.tree.root 7 - 1))
+
+pub nonzero_div-slot-end : goal.nonzero_div-slot-end
+nonzero_div-slot-end g t c =
+    let is : c.span-step.result ≡ span (bit_and c.args.tree.root 7 - 1) = c.span-step.ensures ∙ sym (span-is (bit_and c.args.tree.root 7 - 1)) in
+    rw is (span-positive (bit_and c.args.tree.root 7 - 1))
+
+pub loop-slot-init : goal.loop-slot-init
+loop-slot-init g t c =
+    let image = current_words (g.R.Region.memory c.args.region.now) in
+    let mask : bit_and c.args.tree.root 7 ≡ height_of c.args.tree.root = and_mask c.args.tree.root 3 in
+    let is : c.span-step.result ≡ span (height_of c.args.tree.root - 1) = c.span-step.ensures ∙ sym (span-is (bit_and c.args.tree.root 7 - 1)) ∙ ap (λ h. span (h - 1)) mask in
+    rw is (slots_begin image c.args.tree.root c.args.tree.size (height_of c.args.tree.root - 1) c.args.cut c.requires.sound c.if-tree-cut.false c.if-top-eq0.false (omega (arith, mask, c.if-height-eq0.false)) c.args.blocks.now c.give_top.new.blocks c.give_top.ensures)
+
+pub give_back-requires : goal.give_back-requires
+give_back-requires g t c κs within =
+    let image = current_words (g.R.Region.memory c.args.region.now) in
+    let mask : bit_and c.args.tree.root 7 ≡ height_of c.args.tree.root = and_mask c.args.tree.root 3 in
+    let is : c.span-step.result ≡ span (height_of c.args.tree.root - 1) = c.span-step.ensures ∙ sym (span-is (bit_and c.args.tree.root 7 - 1)) ∙ ap (λ h. span (h - 1)) mask in
+    let high : height_of c.args.tree.root ≡ suc (height_of c.args.tree.root - 1) = omega (arith, mask, c.if-height-eq0.false) in
+    let live : c.loop-slot.slot * span (height_of c.args.tree.root - 1) < c.args.tree.size =
+    slot_live image c.args.tree.root c.args.tree.size (height_of c.args.tree.root - 1) c.args.cut c.requires.sound c.if-tree-cut.false c.if-top-eq0.false high c.loop-slot.slot (rw is at c.loop-slot-test.true) in
+    let lower : height_of c.subtree-below.result.root ≡ height_of c.args.tree.root - 1 = ap height_of c.subtree-below.ensures.root ∙ child_is_lower image c.args.tree.root c.args.tree.size (height_of c.args.tree.root - 1) c.args.cut c.requires.sound c.if-tree-cut.false c.if-top-eq0.false high c.loop-slot.slot live in (
+      omega (arith, c.decreases, lower, high),
+      (
+        within,
+        (
+          rw (c.subtree-below.ensures.root, c.subtree-below.ensures.size) (child_is_sound image c.args.tree.root c.args.tree.size (height_of c.args.tree.root - 1) c.args.cut c.requires.sound c.if-tree-cut.false c.if-top-eq0.false high c.loop-slot.slot live),
+          (
+            c.loop-slot.invariant.room ∙ c.requires.room,
+            rw (c.subtree-below.ensures.root, c.subtree-below.ensures.size) (not_yet image c.args.tree.root c.args.tree.size (height_of c.args.tree.root - 1) c.args.cut c.requires.sound c.if-tree-cut.false c.if-top-eq0.false high c.loop-slot.slot c.args.blocks.now c.loop-slot.blocks live c.requires.taken c.loop-slot.invariant),
+          ),
+        ),
+      ),
+    )
+
+pub loop-slot-preserved : goal.loop-slot-preserved
+loop-slot-preserved g t c =
+    let image = current_words (g.R.Region.memory c.args.region.now) in
+    let mask : bit_and c.args.tree.root 7 ≡ height_of c.args.tree.root = and_mask c.args.tree.root 3 in
+    let is : c.span-step.result ≡ span (height_of c.args.tree.root - 1) = c.span-step.ensures ∙ sym (span-is (bit_and c.args.tree.root 7 - 1)) ∙ ap (λ h. span (h - 1)) mask in
+    let high : height_of c.args.tree.root ≡ suc (height_of c.args.tree.root - 1) = omega (arith, mask, c.if-height-eq0.false) in
+    let live : c.loop-slot.slot * span (height_of c.args.tree.root - 1) < c.args.tree.size =
+    slot_live image c.args.tree.root c.args.tree.size (height_of c.args.tree.root - 1) c.args.cut c.requires.sound c.if-tree-cut.false c.if-top-eq0.false high c.loop-slot.slot (rw is at c.loop-slot-test.true) in
+    let cut : c.saturating_sub.result ≡ c.args.cut - c.loop-slot.slot * span (height_of c.args.tree.root - 1) = c.saturating_sub.ensures ∙ ap (λ s. c.args.cut - c.loop-slot.slot * s) is in
+    slots_step image c.args.tree.root c.args.tree.size (height_of c.args.tree.root - 1) c.args.cut c.requires.sound c.if-tree-cut.false c.if-top-eq0.false high c.loop-slot.slot c.args.blocks.now c.loop-slot.blocks c.give_back.new.blocks live c.loop-slot.invariant
+    (rw (c.subtree-below.ensures.root, c.subtree-below.ensures.size, cut) at c.give_back.ensures)
+
+pub returns : goal.returns
+returns g t c =
+    let image = current_words (g.R.Region.memory c.args.region.now) in
+    let mask : bit_and c.args.tree.root 7 ≡ height_of c.args.tree.root = and_mask c.args.tree.root 3 in
+    let is : c.span-step.result ≡ span (height_of c.args.tree.root - 1) = c.span-step.ensures ∙ sym (span-is (bit_and c.args.tree.root 7 - 1)) ∙ ap (λ h. span (h - 1)) mask in
+    let high : height_of c.args.tree.root ≡ suc (height_of c.args.tree.root - 1) = omega (arith, mask, c.if-height-eq0.false) in
+    let order : c.args.cut / span (height_of c.args.tree.root - 1) ≤ (c.args.tree.size - 1) / span (height_of c.args.tree.root - 1) + 1 = slots_order image c.args.tree.root c.args.tree.size (height_of c.args.tree.root - 1) c.args.cut c.requires.sound c.if-tree-cut.false c.if-top-eq0.false high in
+    let low : c.loop-slot.slot ≤ (c.args.tree.size - 1) / c.span-step.result + 1 = c.loop-slot.auto.slot-end (rw is order) in
+    let end : c.loop-slot.slot ≡ (c.args.tree.size - 1) / span (height_of c.args.tree.root - 1) + 1 = le_antisymm (rw is at low) (rw is at c.loop-slot-test.false) in
+    slots_end image c.args.tree.root c.args.tree.size (height_of c.args.tree.root - 1) c.args.cut c.requires.sound c.if-tree-cut.false c.if-top-eq0.false high c.args.blocks.now c.loop-slot.blocks (rw end at c.loop-slot.invariant)

@@ -1,0 +1,71 @@
+//! The blocks of a tree that lie behind a smaller size are given back.
+
+ghost use Rattle.std.specs.Prelude.{◌≡◌, ℕ, ◌-◌, ◌*◌, ◌<◌, ◌≤◌, false, length};
+ghost use Rattle.bp_calls.specs.CutBelow.{IsCutTop};
+ghost use Rattle.bp_calls.specs.GivenBack.{GivesBack};
+ghost use Rattle.bp_free.specs.Set.{has};
+ghost use Rattle.bp_layout.specs.Pieces.{child, piece};
+ghost use Rattle.bp_layout.specs.Tree.{HasBlock, IsSound, span};
+ghost use Rattle.bp_layout.specs.Words.{block_count, block_of, height_of};
+ghost use Rattle.bp_shapes.specs.Freed.{IsCutOff};
+ghost use Rattle.pm_region.specs.Memory.{current_words};
+
+use bp_free::Blocks;
+use bp_tree::{Tree, load_slot};
+use pm_region::Region;
+use pm_words::span;
+
+/// The tree in a slot of the topmost block of a tree that is higher than a leaf.
+fn subtree<R: Region>(region: &R, tree: Tree, slot: u64) -> Tree
+    requires sound { IsSound (current_words (R.memory region.now)) tree.root tree.size }
+    requires high { 1 ≤ height_of tree.root }
+    requires live { slot * span (height_of tree.root - 1) < tree.size }
+    ensures root { result.root ≡ child (current_words (R.memory region.now)) (block_of tree.root) (height_of tree.root - 1) slot }
+    ensures size { result.size ≡ piece tree.size (height_of tree.root - 1) slot }
+{
+    let level = (tree.root & 7) as u32 - 1;
+    let pointer = load_slot(region, tree.root >> 12, slot);
+    Tree {
+        root: pointer + u64::from(level),
+        size: (tree.size - slot * span(level)).min(span(level)),
+    }
+}
+
+/// Gives the topmost block of a tree back, where nothing is left of the tree.
+fn give_top(blocks: &mut Blocks, top: u32, cut: u64)
+    requires in_range { top < length blocks.old }
+    requires taken { has blocks.old top ≡ false }
+    ensures { GivesBack (IsCutTop top cut) blocks.old blocks.new }
+{
+    if cut == 0 {
+        blocks.give(top);
+    }
+}
+
+/// Gives back the blocks of a tree that hold no byte below `cut`, a size in bytes: all of them where that is 0. The size of
+/// `tree` is the one that it had before, and the words of its blocks are still as they were then.
+pub(crate) fn give_back<R: Region>(region: &R, tree: Tree, cut: u64, blocks: &mut Blocks)
+    requires sound { IsSound (current_words (R.memory region.now)) tree.root tree.size }
+    requires room { length blocks.old ≡ block_count (current_words (R.memory region.now)) }
+    requires taken { (b : ℕ) → HasBlock (current_words (R.memory region.now)) tree.root tree.size b → has blocks.old b ≡ false }
+    ensures { GivesBack (IsCutOff (current_words (R.memory region.now)) tree.root tree.size cut) blocks.old blocks.new }
+{
+    let _words = region.words();
+    if tree.size <= cut {
+        return;
+    }
+    let top = (tree.root >> 12) as u32;
+    if top == 0 {
+        return;
+    }
+    give_top(blocks, top, cut);
+    let height = (tree.root & 7) as u32;
+    if height == 0 {
+        return;
+    }
+    let step = span(height - 1);
+    for slot in cut / step..(tree.size - 1) / step + 1 {
+        let below = subtree(region, tree, slot);
+        give_back(region, below, cut.saturating_sub(slot * step), blocks);
+    }
+}

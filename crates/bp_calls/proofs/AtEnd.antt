@@ -15,7 +15,7 @@ use Rattle.pm_epochs.proofs.PieceLaws.{IsPiece-commit}
 use Rattle.bp_calls.proofs.NeedLaws.{need_behind}
 use Rattle.bp_calls.proofs.OpenPlaces.{content_open, each_weaker, size_covered}
 use Rattle.bp_calls.proofs.StandsLaws.{enters_well_formed, enters_over}
-use Rattle.bp_calls.specs.Sets.{AreExact}
+use Rattle.bp_shapes.specs.Sets.{AreExact}
 use Rattle.bp_calls.specs.Spare.{IsSpare}
 use Rattle.bp_calls.specs.Steps.{CanName}
 use Rattle.bp_dirs.specs.Written.{HasNameAt}

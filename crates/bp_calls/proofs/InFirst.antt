@@ -18,7 +18,7 @@ use Rattle.bp_calls.proofs.StandsLaws.{enters_well_formed, enters_over}
 use Rattle.bp_tree.specs.Performs.IsOpen.{in_taken}
 use Rattle.pm_epochs.specs.Log.{StoresTo}
 use Rattle.pm_epochs.proofs.MayLaws.{StoresMay-append, StoresMay-weaker}
-use Rattle.bp_calls.specs.Sets.{AreExact}
+use Rattle.bp_shapes.specs.Sets.{AreExact}
 use Rattle.bp_calls.specs.Spare.{IsSpare}
 use Rattle.bp_calls.specs.Steps.{CanName}
 use Rattle.bp_dirs.specs.Written.{AddsFrom, HasNameAt}

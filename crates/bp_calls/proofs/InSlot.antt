@@ -18,7 +18,7 @@ use Rattle.bp_calls.proofs.StandsLaws.{enters_well_formed, enters_over}
 use Rattle.bp_changes.proofs.ContentStore.{root_stays}
 use Rattle.bp_layout.specs.Directory.{empty_slot}
 use Rattle.bp_layout.specs.Inode.{size_of, ContentStandsAt, root_of, inode_count}
-use Rattle.bp_calls.specs.Sets.{AreExact}
+use Rattle.bp_shapes.specs.Sets.{AreExact}
 use Rattle.bp_calls.specs.Spare.{IsSpare}
 use Rattle.bp_calls.specs.Steps.{CanName}
 use Rattle.bp_dirs.specs.Written.{HasNameAt}

@@ -5,7 +5,7 @@ use Rattle.std.specs.List.{Contains}
 use Rattle.std.specs.Option.{is_some}
 use Rattle.bp_calls.specs.Created.{NeedsLeaf, IsRefused}
 use Rattle.bp_calls.specs.Created.IsRefused.{no_inode, no_block}
-use Rattle.bp_calls.specs.Sets.{AreExact}
+use Rattle.bp_shapes.specs.Sets.{AreExact}
 use Rattle.bp_calls.specs.declared.fault.CreateFault.TheVariants.{Later, NoSpace}
 use Rattle.bp_free.specs.Set.{Set, has, members}
 use Rattle.bp_free.proofs.Members.{members_all, members_has}

@@ -4,7 +4,7 @@ use Rattle.std.proofs.lemmas.Bool.{cases_lt}
 use Rattle.std.proofs.lemmas.List.{length-replicate, get_or-replicate}
 use Rattle.bp_free.proofs.Members.{has_past}
 use Rattle.bp_calls.specs.Sample.{IsSample}
-use Rattle.bp_calls.specs.Sets.{AreExact}
+use Rattle.bp_shapes.specs.Sets.{AreExact}
 use Rattle.bp_free.specs.Set.{Set, Fills, has, empty}
 use Rattle.bp_layout.specs.Directory.{EntryNames, Name, entry_count, inumber_at, inumber_in, is_named_in, slot_named_in}
 use Rattle.bp_layout.specs.Inode.{kind_of, root_of, size_of, inode_word, inode_count}

@@ -16,7 +16,7 @@ use Rattle.bp_layout.proofs.SmallTrees.{empty_has_none}
 use Rattle.bp_changes.specs.Effects.{AddsNames, KeepsBlocks}
 use Rattle.bp_changes.proofs.AddsNames.{reached_cases, reached_stays}
 use Rattle.bp_calls.specs.Entered.{IsNewInode, IsReadyEntry, IsReadyBehind}
-use Rattle.bp_calls.specs.Sets.{AreExact}
+use Rattle.bp_shapes.specs.Sets.{AreExact}
 use Rattle.bp_calls.proofs.EnteredLaws.{Enters, entered, entered_blocks}
 use Rattle.bp_calls.proofs.GrownLaws.{GrowsBlocks, grown, grown_blocks}
 use Rattle.bp_calls.proofs.BehindLaws.{has_more, behind_same_blocks, first_block, has_first}

@@ -1,4 +1,3 @@
-pub mod Sets
 pub mod Entered
 pub mod Created
 pub mod Spare

@@ -2,7 +2,7 @@
 
 ghost use Rattle.std.specs.Prelude.{◌≡◌, ◌≢◌, ◌%◌, ◌<◌, ◌≤◌, [], None, ◌+◌, true, IfErr, OnErr, OnOk};
 ghost use Rattle.bp_calls.specs.Created.{EntersName, IsRefused, NeedsLeaf};
-ghost use Rattle.bp_calls.specs.Sets.{AreExact};
+ghost use Rattle.bp_shapes.specs.Sets.{AreExact};
 ghost use Rattle.bp_layout.specs.Free.{TellsFreeInode};
 ghost use Rattle.bp_layout.specs.Need.Change.{enters};
 ghost use Rattle.bp_tree.specs.Performs.{Performs};

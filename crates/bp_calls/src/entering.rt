@@ -1,7 +1,7 @@
 //! A name and its inode in a directory: three places for its entry.
 
 ghost use Rattle.std.specs.Prelude.{None, Some, true, ◌≡◌, ◌≢◌, ◌+◌, ◌%◌, ◌*◌, ◌/◌, ◌<◌, ◌≤◌, length};
-ghost use Rattle.bp_calls.specs.Sets.{AreExact};
+ghost use Rattle.bp_shapes.specs.Sets.{AreExact};
 ghost use Rattle.bp_calls.specs.Created.{EntersName};
 ghost use Rattle.bp_calls.specs.Steps.{CanName};
 ghost use Rattle.bp_free.specs.Set.{Set, without};

@@ -2,7 +2,7 @@
 
 ghost use Rattle.std.specs.Prelude.{◌≡◌, IsTrue, IfOk, IfSome};
 ghost use Rattle.bp_calls.specs.Sample.{IsSample};
-ghost use Rattle.bp_calls.specs.Sets.{AreExact};
+ghost use Rattle.bp_shapes.specs.Sets.{AreExact};
 ghost use Rattle.bp_layout.specs.Directory.{IsName};
 ghost use Rattle.bp_layout.specs.Inode.{kind_of};
 ghost use Rattle.bp_layout.specs.Reached.{IsReached};

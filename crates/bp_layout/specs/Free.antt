@@ -5,10 +5,15 @@ use Rattle.bp_layout.specs.Words.{Image, block_count}
 use Rattle.bp_layout.specs.Inode.{inode_count, size_of}
 use Rattle.bp_layout.specs.Reached.{IsReached, IsUnheld}
 
-pub record IsFreeInode (image : Image) (i : ℕ) : Type 0 where
+-- the inode is neither of the first two, and it is none of these trees
+pub record IsUnused (image : Image) (Tree : ℕ → Type 0) (i : ℕ) : Type 0 where
   pub low : 2 ≤ i
   pub high : i < inode_count image
-  pub free : IsReached image i → ⊥
+  pub free : Tree i → ⊥
+
+-- none that the image reaches
+abbrev pub IsFreeInode : Image → ℕ → Type 0
+IsFreeInode image = IsUnused image (IsReached image)
 
 -- the set has just the blocks that none of these trees has, under a size for each
 pub record AreUnheld (image : Image) (Tree : ℕ → Type 0) (bound : ℕ → ℕ) (set : ℕ → Bool) : Type 0 where
@@ -19,10 +24,14 @@ pub record AreUnheld (image : Image) (Tree : ℕ → Type 0) (bound : ℕ → �
 abbrev pub AreFreeBlocks : Image → (ℕ → Bool) → Type 0
 AreFreeBlocks image = AreUnheld image (IsReached image) (size_of image)
 
--- the set has just the free inodes
-pub record AreFreeInodes (image : Image) (set : ℕ → Bool) : Type 0 where
-  pub free : (i : ℕ) → set i ≡ true → IsFreeInode image i
-  pub all : (i : ℕ) → IsFreeInode image i → set i ≡ true
+-- the set has just the inodes that are none of these trees
+pub record AreUnused (image : Image) (Tree : ℕ → Type 0) (set : ℕ → Bool) : Type 0 where
+  pub free : (i : ℕ) → set i ≡ true → IsUnused image Tree i
+  pub all : (i : ℕ) → IsUnused image Tree i → set i ≡ true
+
+-- so just the free inodes
+abbrev pub AreFreeInodes : Image → (ℕ → Bool) → Type 0
+AreFreeInodes image = AreUnused image (IsReached image)
 
 -- the numbers below a bound that are in a set, rising
 abbrev pub numbers_below : ℕ → (ℕ → Bool) → List ℕ

@@ -9,3 +9,5 @@ pub mod Trail
 pub mod Forest
 -- a pointer that comes in, a root word that rises
 pub mod Links
+-- the free numbers
+pub mod Sets

@@ -8,7 +8,7 @@ use Rattle.pm_region.proofs.MemoryLaws.{capacity-adds, current_words-adds, lengt
 use Rattle.bp_tree.proofs.PerformsLaws.{performs_safe}
 use Rattle.bp_layout.specs.Same.{Same}
 use Rattle.bp_layout.specs.Words.{block_count}
-use Rattle.bp_calls.specs.Sets.{AreExact}
+use Rattle.bp_shapes.specs.Sets.{AreExact}
 use Rattle.bp_free.specs.Set.{Set}
 use Rattle.bp_plain.specs.declared.errors.FsError.{FsError}
 use Rattle.bp_plain.specs.Calls.Call.{create}

@@ -2,7 +2,7 @@
 use Rattle.std.proofs.Common.{◌≡◌, ℕ, ◌*◌, ◌≤◌, refl, []}
 use Rattle.pm_region.specs.Memory.{Memory, drained, Adds}
 use Rattle.pm_region.proofs.SafeLaws.{safe_empty}
-use Rattle.bp_calls.specs.Sets.{AreExact}
+use Rattle.bp_shapes.specs.Sets.{AreExact}
 use Rattle.bp_free.specs.Set.{Set}
 use Rattle.bp_layout.specs.Same.{Same}
 use Rattle.bp_layout.specs.WellFormed.{IsWellFormed}

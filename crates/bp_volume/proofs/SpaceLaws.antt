@@ -4,7 +4,7 @@ use Rattle.std.specs.List.{range_with_len}
 use Rattle.std.proofs.lemmas.Bool.{cases_Bool}
 use Rattle.std.proofs.lemmas.List.FromFn.{length-range_with_len}
 use Rattle.std.proofs.lemmas.List.Sums.{length-filter, count_by-le-length}
-use Rattle.bp_calls.specs.Sets.{AreExact}
+use Rattle.bp_shapes.specs.Sets.{AreExact}
 use Rattle.bp_calls.proofs.FreeCounts.{free_members, free_once}
 use Rattle.bp_free.specs.Set.{Set, has, members}
 use Rattle.bp_layout.specs.Free.{HasFree}

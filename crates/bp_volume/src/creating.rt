@@ -1,7 +1,7 @@
 //! New files.
 
 ghost use Rattle.std.specs.Prelude.{◌≡◌, ◌≤◌, IfErr, OnErr, OnOk};
-ghost use Rattle.bp_calls.specs.Sets.{AreExact};
+ghost use Rattle.bp_shapes.specs.Sets.{AreExact};
 ghost use Rattle.bp_layout.specs.WellFormed.{IsWellFormed};
 ghost use Rattle.bp_plain.specs.Calls.Answer.{refused};
 ghost use Rattle.bp_plain.specs.Calls.Call.{create};

@@ -5,3 +5,4 @@ pub mod FormatStands
 pub mod Kept
 pub mod Parts
 pub mod PathLaws
+pub mod FileTrees

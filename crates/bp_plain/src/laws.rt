@@ -2,7 +2,7 @@
 
 ghost use Rattle.bp_layout.specs.Format.{formatted};
 ghost use Rattle.bp_layout.specs.WellFormed.{IsWellFormed};
-ghost use Rattle.bp_plain.specs.PlainTree.{empty_tree};
+ghost use Rattle.bp_plain.specs.PlainTree.{FileTree, IsFileTree, empty_tree};
 ghost use Rattle.bp_plain.specs.Stands.{Stands, StandsForOne};
 ghost use Rattle.std.specs.Prelude.{◌*◌, ◌≡◌, ◌≤◌, length};
 
@@ -10,6 +10,11 @@ ghost use Rattle.std.specs.Prelude.{◌*◌, ◌≡◌, ◌≤◌, length};
 pub fn one_tree(_image: &[u64])
     requires { IsWellFormed _image.now }
     ensures { StandsForOne _image.now }
+{}
+
+/// The plain tree for which an image stands has a directory at its root, and one above each other path.
+pub fn file_tree(_image: &[u64])
+    ensures { (tree : FileTree) → Stands _image.now tree → IsFileTree tree }
 {}
 
 /// After the stores of a format over any words, an image of so many blocks stands for the root directory alone.

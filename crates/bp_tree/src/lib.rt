@@ -7,6 +7,7 @@
 pub mod counts;
 mod descent;
 pub mod laws;
+pub mod likeness;
 pub mod nulls;
 pub mod paths;
 pub mod reading;
@@ -16,6 +17,7 @@ mod tests;
 pub mod tree;
 
 pub use counts::count_live;
+pub use likeness::SameTree;
 pub use nulls::first_null;
 pub use paths::{Slots, address, word_path};
 pub use reading::read;

@@ -1,8 +1,7 @@
--- The lowest bytes of a word, and the number that bytes spell.
-use Rattle.std.proofs.Common.{◌≡◌, ℕ, zero, suc, ◌+◌, ◌*◌, ◌/◌, ◌%◌, ◌^◌, ◌<◌, ◌-◌, min, List, [], ◌∷◌, ◌++◌, length, take, drop, slice_index, bit_and, inl, inr, ◌⊎◌, refl, sym, ◌∙◌, ap, arith, pow-suc, pow-add}
+-- The number that bytes spell.
+use Rattle.std.proofs.Common.{◌≡◌, ℕ, zero, suc, ◌+◌, ◌*◌, ◌/◌, ◌%◌, ◌^◌, ◌<◌, ◌-◌, min, List, [], ◌∷◌, ◌++◌, length, take, drop, slice_index, inl, inr, ◌⊎◌, refl, sym, ◌∙◌, ap, arith, pow-suc}
 use Rattle.std.proofs.Math.Nat.{div-div-eq-div-mul, pow-succ'}
 use Rattle.std.proofs.Math.Arith.{mod-mul}
-use Rattle.std.proofs.lemmas.Nat.{and_mask}
 use Rattle.std.proofs.lemmas.Bool.{cases_eq}
 use Rattle.std.proofs.lemmas.List.{length-drop, take_min, get_or-set_same, get_or-set_other}
 use Rattle.std.proofs.Math.ListN.{set}
@@ -73,25 +72,3 @@ one_more_word words name part value inside is before k below = go (cases_eq k pa
     go : (k ≡ part) ⊎ (k ≡ part → ⊥) → slice_index (set words part value) k ≡ word_of (take 8 (drop (8 * k) name))
     go (inl here) = rw here (get_or-set_same words part value 0 inside ∙ is)
     go (inr other) = get_or-set_other words part k value 0 other ∙ before k (omega (arith, other, below))
-
-power : (count : ℕ) → count < 8 → 1 * 2 ^ (8 * count) % 18446744073709551616 ≡ 256 ^ count
-power zero low = refl
-power (suc zero) low = refl
-power (suc (suc zero)) low = refl
-power (suc (suc (suc zero))) low = refl
-power (suc (suc (suc (suc zero)))) low = refl
-power (suc (suc (suc (suc (suc zero))))) low = refl
-power (suc (suc (suc (suc (suc (suc zero)))))) low = refl
-power (suc (suc (suc (suc (suc (suc (suc zero))))))) low = refl
-power (suc (suc (suc (suc (suc (suc (suc (suc count)))))))) low = absurd (omega (arith, low))
-
-as_bits : (count : ℕ) → 256 ^ count ≡ 2 ^ (8 * count)
-as_bits zero = refl
-as_bits (suc count) =
-    let more : 8 * suc count ≡ 8 * count + 8 = omega arith in
-    pow-suc 256 count ∙ ap (λ n. n * 256) (as_bits count) ∙ sym (pow-add 2 (8 * count) 8) ∙ sym (ap (λ n. 2 ^ n) more)
-
-pub masked : (word count : ℕ) → count < 8 → bit_and word (1 * 2 ^ (8 * count) % 18446744073709551616 - 1) ≡ word % 256 ^ min 8 count
-masked word count low =
-    let least : min 8 count ≡ count = omega arith in
-    rw (power count low, least, as_bits count) (and_mask word (8 * count))

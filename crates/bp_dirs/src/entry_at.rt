@@ -8,9 +8,9 @@ ghost use Rattle.bp_layout.specs.Directory.{word_in, is_named_in};
 ghost use Rattle.pm_region.specs.Memory.{current_words};
 ghost use Rattle.bp_dirs.specs.EntryAt.{IsEntryAt, HoldsWords};
 
-use crate::name_words::low_bytes;
 use bp_tree::{Tree, leaf_block, load_slot};
 use pm_region::Region;
+use pm_words::low_bytes;
 
 /// A slot of a directory, and the block that holds its entry.
 #[derive(Clone, Copy)]
@@ -65,7 +65,7 @@ impl EntryAt {
     {
         for part in 0..name.len().div_ceil(8) {
             let word = self.word(region, 2 + part as u64);
-            if low_bytes(word, name.len() - 8 * part) != words[part] {
+            if low_bytes(word, (name.len() - 8 * part) as u64) != words[part] {
                 return false;
             }
         }

@@ -1,21 +1,10 @@
 //! Names as words, eight bytes a word, the first byte lowest.
 
-ghost use Rattle.std.specs.Prelude.{◌≡◌, ◌%◌, ◌^◌, ◌≤◌, length, min};
+ghost use Rattle.std.specs.Prelude.{◌≡◌, ◌≤◌, length};
 ghost use Rattle.pm_words.specs.Bytes.{word_of};
 ghost use Rattle.bp_dirs.specs.EntryAt.{HoldsWords};
 
 use pm_words::read_word;
-
-/// The lowest bytes of a word, as many as are asked for.
-pub(crate) fn low_bytes(word: u64, count: usize) -> u64
-    ensures { result ≡ word % 256 ^ min 8 count }
-{
-    if count < 8 {
-        word & ((1 << (8 * count)) - 1)
-    } else {
-        word
-    }
-}
 
 /// The word with these bytes, and zeros above them.
 fn packed(bytes: &[u8]) -> u64

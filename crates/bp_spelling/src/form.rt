@@ -3,12 +3,13 @@
 ghost use Rattle.std.specs.Prelude.{◌≡◌, ◌≢◌, ◌⊎◌, ℕ, ◌+◌, ◌/◌, ◌%◌, ◌≤◌, ◌<◌, ◌↔◌, IsTrue, length, min};
 ghost use Rattle.bp_layout.specs.Directory.{IsName};
 ghost use Rattle.bp_layout.specs.Words.{byte_of};
+ghost use Rattle.bp_limits.specs.Limits.{max_name};
 ghost use Rattle.bp_spelling.specs.Places.{name_there, IsPlain, ArePlain, IsDots};
 ghost use Rattle.pm_region.specs.Memory.{current_words};
 
-use crate::name_words::low_bytes;
 use bp_limits::MAX_NAME;
 use pm_region::Region;
+use pm_words::low_bytes;
 
 /// A word whose bytes are 0, except where a byte of the given word is 0.
 fn zero_marks(word: u64) -> u64
@@ -30,7 +31,7 @@ fn is_plain(word: u64, count: u64) -> bool
 
 /// Whether none of so many bytes is 0 or `/`. The first word of them stands at a place.
 fn are_plain<R: Region>(region: &R, first: u32, count: u64) -> bool
-    requires short { count ≤ 240 }
+    requires short { count ≤ max_name }
     requires within { first + 30 ≤ length (current_words (R.memory region.now)) }
     ensures { IsTrue result ↔ ArePlain (current_words (R.memory region.now)) first count }
 {

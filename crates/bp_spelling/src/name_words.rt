@@ -1,11 +1,12 @@
 //! The words of names.
 
-ghost use Rattle.std.specs.Prelude.{◌≡◌, ◌%◌, ◌^◌, ◌≤◌, ◌<◌, min};
+ghost use Rattle.std.specs.Prelude.{◌≡◌, ◌%◌, ◌^◌, min};
 ghost use Rattle.std.specs.Ordering.{nat_cmp};
 ghost use Rattle.bp_layout.specs.Words.{word};
 ghost use Rattle.pm_region.specs.Memory.{current_words};
 
 use pm_region::Region;
+use pm_words::low_bytes;
 use std::cmp::Ordering;
 
 /// The word at a place, 0 past the end.
@@ -16,17 +17,6 @@ pub(crate) fn word_at<R: Region>(region: &R, place: u64) -> u64
         region.load(place as u32)
     } else {
         0
-    }
-}
-
-/// The lowest bytes of a word, as many as are asked for.
-pub(crate) fn low_bytes(word: u64, count: u64) -> u64
-    ensures { result ≡ word % 256 ^ min 8 count }
-{
-    if count < 8 {
-        word & ((1 << (8 * count)) - 1)
-    } else {
-        word
     }
 }
 

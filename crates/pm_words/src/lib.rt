@@ -4,7 +4,7 @@
 ghost use Rattle.pm_words.specs.Bytes.{word_bytes, word_of};
 ghost use Rattle.bp_limits.specs.Limits.{block_size, block_words};
 ghost use Rattle.pm_words.specs.Digits.{digit, max_level};
-ghost use Rattle.std.specs.Prelude.{◌*◌, ◌/◌, ◌^◌, ◌≡◌, ◌≤◌};
+ghost use Rattle.std.specs.Prelude.{◌%◌, ◌*◌, ◌/◌, ◌^◌, ◌≡◌, ◌≤◌, min};
 
 use bp_limits::{BLOCK_SIZE, BLOCK_WORDS};
 
@@ -28,6 +28,18 @@ pub fn write_word(word: u64) -> [u8; 8]
     ensures { result ≡ word_bytes word }
 {
     word.to_le_bytes()
+}
+
+/// The lowest bytes of a word, as many as are asked for: all of it from eight on.
+#[tactic(auto, using(crate::proofs::LowBytes::masked))]
+pub fn low_bytes(word: u64, count: u64) -> u64
+    ensures { result ≡ word % 256 ^ min 8 count }
+{
+    if count < 8 {
+        word & ((1 << (8 * count)) - 1)
+    } else {
+        word
+    }
 }
 
 /// The number of the block to which a pointer points, 0 where it is null: its bits 12 to 63.

@@ -7,13 +7,14 @@ use Rattle.bp_layout.specs.Inode.{kind_of, root_of, size_of, inode_count}
 use Rattle.bp_layout.specs.Directory.{EntryNames, inumber_at}
 use Rattle.bp_layout.specs.Checks.{IsFound, IsEntry, Fails, entry_place}
 use Rattle.bp_layout.specs.Checks.Fails.{inumber, root_named, name_form, name_twice}
-use Rattle.bp_spelling.specs.Names.{IsUsed}
+use Rattle.bp_spelling.specs.Names.{IsUsed, AreWrong}
+use Rattle.bp_spelling.specs.Names.AreWrong.{form, twice}
+use Rattle.bp_spelling.specs.declared.fault.NameFault.{NameFault}
 use Rattle.bp_walk.proofs.TakenLaws.{known, clash}
 use Rattle.bp_scan.specs.Scanned.{IsScanned}
 use Rattle.bp_scan.specs.Progress.{IsEntered, IsDone, NamedBy}
 use Rattle.bp_scan.specs.Inodes.{FailsInode}
-use Rattle.bp_scan.specs.Misspelled.{FailsNames}
-use Rattle.bp_scan.specs.Misspelled.FailsNames.{form, twice}
+use Rattle.bp_scan.specs.Misspelled.{FailsNames, check_of, place_of}
 use Rattle.bp_scan.specs.Reading.{IsOpen, IsReading}
 use Rattle.bp_scan.proofs.Readable.{is_sound, is_full, entry_seen, inode_found, one_entry, named_before}
 use Rattle.bp_scan.proofs.Room.{few_inodes, few_entries}
@@ -102,10 +103,13 @@ module _ (image : Image) (ready : IsOpen image) (blocks inodes todo : Set) (curr
     used_names : (r : ℕ) → IsUsed image (root_of image current) (size_of image current) r → EntryNames image current r (inumber_at image current r)
     used_names r used = record { directory = kind; in_size = used.live; inumber = refl; not_empty = used.some }
 
-    pub names_fail : (c p : ℕ) → FailsNames image (root_of image current) (size_of image current) c p → Fails image c p
-    names_fail _ _ (form {slot = r} used bad) = name_form (here_entry r _ _ (used_names r used) refl) bad
-    names_fail _ _ (twice {slot = r} {other = q} used also other same) =
+    fault_fails : (fault : NameFault) → AreWrong image (root_of image current) (size_of image current) fault → Fails image (check_of fault) (place_of fault)
+    fault_fails _ (form {slot = r} used bad) = name_form (here_entry r _ _ (used_names r used) refl) bad
+    fault_fails _ (twice {slot = r} {other = q} used also other same) =
         name_twice (here_entry r _ _ (used_names r used) refl) (here_entry q _ _ (used_names q also) refl) (λ place. other (one place).1) same
       where
         one : entry_place image current r 0 ≡ entry_place image current q 0 → (current ≡ current) × (r ≡ q)
         one place = one_entry image E D reading.midway.all blocks ready.some_inodes first scanned current r _ current q _ entered entered (used_names r used) (used_names q also) place
+
+    pub names_fail : (c p : ℕ) → FailsNames image (root_of image current) (size_of image current) c p → Fails image c p
+    names_fail c p fails = subst (λ check. Fails image check p) fails.check (subst (Fails image (check_of fails.fault)) fails.place (fault_fails fails.fault fails.wrong))

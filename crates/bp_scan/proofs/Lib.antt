@@ -13,6 +13,5 @@ pub mod InodeFaults
 pub mod Starting
 pub mod Inside
 pub mod EntryLaws
-pub mod Misspelled
 pub mod DirectoryLaws
 pub mod Closing

@@ -1,11 +1,22 @@
 -- The checks that the names of a directory fail.
-use Rattle.std.specs.Prelude.{◌≡◌, ◌≢◌, ℕ, ◌+◌}
+use Rattle.std.specs.Prelude.{◌≡◌, ℕ}
 use Rattle.bp_layout.specs.Words.{Image}
-use Rattle.bp_layout.specs.Directory.{IsName, name_in}
-use Rattle.bp_spelling.specs.Names.{IsUsed, entry_place_in}
+use Rattle.bp_spelling.specs.Names.{AreWrong}
+use Rattle.bp_spelling.specs.declared.fault.NameFault.{NameFault}
+use Rattle.bp_spelling.specs.declared.fault.NameFault.TheVariants.{Form, Twice}
 
--- a name has not the form of one, or two entries have the same
-pub data FailsNames (image : Image) (root size : ℕ) : ℕ → ℕ → Type 0 where
-  form : {slot : ℕ} → IsUsed image root size slot → ¬ IsName (name_in image root slot) → FailsNames image root size 12 (entry_place_in image root slot + 1)
-  twice : {slot other : ℕ} → IsUsed image root size slot → IsUsed image root size other → slot ≢ other → name_in image root slot ≡ name_in image root other →
-      FailsNames image root size 13 (entry_place_in image root slot)
+-- the number of the check that a fault fails, and the word at which it does
+abbrev pub check_of : NameFault → ℕ
+check_of (Form place) = 12
+check_of (Twice place) = 13
+
+abbrev pub place_of : NameFault → ℕ
+place_of (Form place) = place
+place_of (Twice place) = place
+
+-- a fault of the names fails this check at this word
+pub record FailsNames (image : Image) (root size c p : ℕ) : Type 0 where
+  pub fault : NameFault
+  pub wrong : AreWrong image root size fault
+  pub check : check_of fault ≡ c
+  pub place : place_of fault ≡ p

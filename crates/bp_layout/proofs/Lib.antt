@@ -19,3 +19,4 @@ pub mod WordBytes
 pub mod NameBytes
 pub mod SameLaws
 pub mod Pieces
+pub mod FewWords

@@ -40,7 +40,8 @@ impl Entry {
         requires { 1 ≤ array_vec_len self.now.name }
         ensures inumber { slice_index result 0 ≡ self.now.inumber }
         ensures length { slice_index result 1 ≡ array_vec_len self.now.name }
-        ensures name { (offset : ℕ) → offset < max_name → name_byte result offset ≡ slice_index self.now.name.items offset }
+        ensures name { (offset : ℕ) → offset < max_name
+            → name_byte result offset ≡ slice_index self.now.name.items offset }
     {
         let mut words = [0; 32];
         words[0] = self.inumber;

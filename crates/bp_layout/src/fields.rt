@@ -6,7 +6,7 @@ ghost use Rattle.bp_limits.specs.Limits.{max_height};
 ghost use Rattle.bp_layout.specs.Words.{block_of, height_of};
 
 use arrayvec::ArrayVec;
-use bp_limits::{MAX_HEIGHT, MAX_NAME};
+use bp_limits::{BLOCK_SIZE, MAX_HEIGHT, MAX_NAME};
 
 /// The kind of an inode.
 #[derive(Clone, Copy, Debug, PartialEq, Eq)]
@@ -69,7 +69,7 @@ impl RootWord {
         requires block { self.now.block < 2 ^ 52 }
         ensures { result ≡ root_word self.now.height self.now.block }
     {
-        4096 * self.block + self.height as u64
+        BLOCK_SIZE * self.block + self.height as u64
     }
 }
 
@@ -82,7 +82,7 @@ pub fn pointer(word: u64) -> Result<u64, BadPointer>
     ensures form { IsOk result ↔ IsPointerWord word }
     ensures block { IfOk result (λ block. block ≡ block_of word) }
 {
-    if word % 4096 != 0 {
+    if word % BLOCK_SIZE != 0 {
         return Err(BadPointer);
     }
     Ok(pm_words::block_of(word))
@@ -93,7 +93,7 @@ pub fn pointer_word(block: u64) -> u64
     requires { block < 2 ^ 52 }
     ensures { result ≡ pointer_word block }
 {
-    4096 * block
+    BLOCK_SIZE * block
 }
 
 /// The words of a superblock that are not dead.

@@ -27,5 +27,6 @@ pub fn format_shows_the_root(image: &[u64], blocks: u64)
 /// In a well-formed image an inode stands at one path.
 pub fn inode_has_one_path(image: &[u64])
     requires { IsWellFormed image.now }
-    ensures { (one other : Path) (i : ℕ) → lookup image.now one ≡ Some i → lookup image.now other ≡ Some i → one ≡ other }
+    ensures { (one other : Path) (i : ℕ) → lookup image.now one ≡ Some i → lookup image.now other ≡ Some i
+        → one ≡ other }
 {}

@@ -75,7 +75,8 @@ impl<'a> Path<'a> {
     /// Its last name.
     pub fn last(&self) -> &'a [u8]
         requires { self.now ≢ [] }
-        ensures last { (parent : List (List ℕ)) (name : List ℕ) → self.now ≡ parent ++ name ∷ [] → result.now ≡ name }
+        ensures last { (parent : List (List ℕ)) (name : List ℕ) → self.now ≡ parent ++ name ∷ []
+            → result.now ≡ name }
         ensures name { IsTrue (is_name result.now) }
     {
         split_last(self.text()).1

@@ -53,9 +53,12 @@ fn step<R: Region>(region: &R, dir: u32, name: &[u8]) -> Result<Place, WalkFault
     requires short { length name.now ≤ max_name }
     ensures kind { IfOk result (λ place. kind_of (current_words (R.memory region.now)) dir ≡ 2) }
     ensures dir { IfOk result (λ place. place.dir ≡ dir) }
-    ensures slot { IfOk result (λ place. slot_named (current_words (R.memory region.now)) dir name.now ≡ Some place.slot) }
-    ensures inumber { IfOk result (λ place. inumber_at (current_words (R.memory region.now)) dir place.slot ≡ place.inumber) }
-    ensures fault { IfErr result (λ fault. (rest : List (List ℕ)) → walk_from (current_words (R.memory region.now)) dir (name.now ∷ rest) ≡ fault_of fault) }
+    ensures slot { let words = current_words (R.memory region.now) in
+        IfOk result (λ place. slot_named words dir name.now ≡ Some place.slot) }
+    ensures inumber { let words = current_words (R.memory region.now) in
+        IfOk result (λ place. inumber_at words dir place.slot ≡ place.inumber) }
+    ensures fault { let words = current_words (R.memory region.now) in
+        IfErr result (λ fault. (rest : List (List ℕ)) → walk_from words dir (name.now ∷ rest) ≡ fault_of fault) }
 {
     let inode = get(region, dir);
     let tree = Tree {
@@ -80,7 +83,8 @@ fn walk_names<R: Region>(region: &R, text: &[u8]) -> Result<Place, WalkFault>
     requires well { IsWellFormed (current_words (R.memory region.now)) }
     requires names { list_all is_name (names_in text.now) ≡ true }
     ensures walked { walked_of result ≡ walk_from (current_words (R.memory region.now)) 1 (names_in text.now) }
-    ensures lookup { IfOk result (λ place. lookup (current_words (R.memory region.now)) (names_in text.now) ≡ Some place.inumber) }
+    ensures lookup { let words = current_words (R.memory region.now) in
+        IfOk result (λ place. lookup words (names_in text.now) ≡ Some place.inumber) }
     ensures entry { IfOk result (λ place. IsEntryOf (current_words (R.memory region.now)) (names_in text.now) place) }
     ensures reached { IfOk result (λ place. IsReached (current_words (R.memory region.now)) place.inumber) }
     ensures some { IfOk result (λ place. 1 ≤ place.inumber) }
@@ -107,7 +111,8 @@ fn walk_names<R: Region>(region: &R, text: &[u8]) -> Result<Place, WalkFault>
 pub fn walk<R: Region>(region: &R, path: &Path<'_>) -> Result<Place, WalkFault>
     requires { IsWellFormed (current_words (R.memory region.now)) }
     ensures walked { walked_of result ≡ walk_from (current_words (R.memory region.now)) 1 path.now }
-    ensures lookup { IfOk result (λ place. lookup (current_words (R.memory region.now)) path.now ≡ Some place.inumber) }
+    ensures lookup { let words = current_words (R.memory region.now) in
+        IfOk result (λ place. lookup words path.now ≡ Some place.inumber) }
     ensures entry { IfOk result (λ place. IsEntryOf (current_words (R.memory region.now)) path.now place) }
     ensures reached { IfOk result (λ place. IsReached (current_words (R.memory region.now)) place.inumber) }
     ensures some { IfOk result (λ place. 1 ≤ place.inumber) }
@@ -123,8 +128,12 @@ pub fn walk<R: Region>(region: &R, path: &Path<'_>) -> Result<Place, WalkFault>
 pub fn walk_parent<R: Region>(region: &R, path: &Path<'_>) -> Result<u32, WalkFault>
     requires well { IsWellFormed (current_words (R.memory region.now)) }
     requires below { path.now ≢ [] }
-    ensures walked { (parent : List (List ℕ)) (name : List ℕ) → path.now ≡ parent ++ name ∷ [] → dir_of result ≡ in_directory (current_words (R.memory region.now)) (walk_from (current_words (R.memory region.now)) 1 parent) }
-    ensures lookup { (parent : List (List ℕ)) (name : List ℕ) → path.now ≡ parent ++ name ∷ [] → IfOk result (λ dir. lookup (current_words (R.memory region.now)) parent ≡ Some dir) }
+    ensures walked { let words = current_words (R.memory region.now) in
+        (parent : List (List ℕ)) (name : List ℕ) → path.now ≡ parent ++ name ∷ []
+        → dir_of result ≡ in_directory words (walk_from words 1 parent) }
+    ensures lookup { let words = current_words (R.memory region.now) in
+        (parent : List (List ℕ)) (name : List ℕ) → path.now ≡ parent ++ name ∷ []
+        → IfOk result (λ dir. lookup words parent ≡ Some dir) }
     ensures kind { IfOk result (λ dir. kind_of (current_words (R.memory region.now)) dir ≡ 2) }
     ensures reached { IfOk result (λ dir. IsReached (current_words (R.memory region.now)) dir) }
     ensures some { IfOk result (λ dir. 1 ≤ dir) }

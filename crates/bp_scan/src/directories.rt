@@ -4,6 +4,7 @@ ghost use Rattle.std.specs.Prelude.{◌≡◌, ◌+◌, ◌*◌, ◌/◌, ◌<�
 ghost use Rattle.bp_layout.specs.Checks.{Fails};
 ghost use Rattle.bp_layout.specs.Tree.{IsFull, IsSound};
 ghost use Rattle.bp_layout.specs.Words.{block_count};
+ghost use Rattle.bp_limits.specs.Limits.{entry_size};
 ghost use Rattle.bp_scan.specs.Reading.{IsOpen, IsReading, IsAt, IsInside, work};
 ghost use Rattle.bp_scan.specs.Misspelled.{FailsNames};
 ghost use Rattle.bp_spelling.specs.Names.{AreNames};
@@ -13,6 +14,7 @@ use crate::trees::enter;
 use bp_dirs::{entry_place, inumber};
 use bp_free::{Blocks, Inodes};
 use bp_inodes::{get, inode_file};
+use bp_limits::{ENTRY_SIZE, INODE_SIZE};
 use bp_spelling::{NameFault, check_names};
 use bp_tree::Tree;
 use bp_walk::CheckFault;
@@ -38,8 +40,9 @@ fn read_entry<R: Region>(
 ) -> Result<(), CheckFault>
     requires ready { IsOpen (current_words (R.memory region.now)) }
     requires inside { IsInside (current_words (R.memory region.now)) blocks.old inodes.old todo.old directory slot }
-    requires live { slot < directory.tree.size / 256 }
-    ensures inside { OnOk result (IsInside (current_words (R.memory region.now)) blocks.new inodes.new todo.new directory (slot + 1)) }
+    requires live { slot < directory.tree.size / entry_size }
+    ensures inside { let words = current_words (R.memory region.now) in
+        OnOk result (IsInside words blocks.new inodes.new todo.new directory (slot + 1)) }
     ensures work { OnOk result (work inodes.new todo.new ≤ work inodes.old todo.old) }
     ensures fault { IfErr result (λ f. Fails (current_words (R.memory region.now)) f.check f.place) }
     ensures block_room { length blocks.new ≡ length blocks.old }
@@ -51,7 +54,7 @@ fn read_entry<R: Region>(
         return Ok(());
     }
     let place = entry_place(region, directory.tree, slot, 0);
-    if named >= inode_file(region).size / 64 {
+    if named >= inode_file(region).size / INODE_SIZE {
         return Err(CheckFault { check: 7, place });
     }
     let inode = named as u32;
@@ -72,14 +75,15 @@ fn read_entries<R: Region>(
 ) -> Result<(), CheckFault>
     requires ready { IsOpen (current_words (R.memory region.now)) }
     requires inside { IsInside (current_words (R.memory region.now)) blocks.old inodes.old todo.old directory 0 }
-    ensures inside { OnOk result (IsInside (current_words (R.memory region.now)) blocks.new inodes.new todo.new directory (directory.tree.size / 256)) }
+    ensures inside { let words = current_words (R.memory region.now) in
+        OnOk result (IsInside words blocks.new inodes.new todo.new directory (directory.tree.size / entry_size)) }
     ensures work { OnOk result (work inodes.new todo.new ≤ work inodes.old todo.old) }
     ensures fault { IfErr result (λ f. Fails (current_words (R.memory region.now)) f.check f.place) }
     ensures block_room { length blocks.new ≡ length blocks.old }
     ensures inode_room { length inodes.new ≡ length inodes.old }
     ensures todo_room { length todo.new ≡ length todo.old }
 {
-    for slot in 0..directory.tree.size / 256 {
+    for slot in 0..directory.tree.size / ENTRY_SIZE {
         if let Err(fault) = read_entry(region, directory, slot, blocks, inodes, todo) {
             return Err(fault);
         }
@@ -91,9 +95,10 @@ fn read_entries<R: Region>(
 fn read_names<R: Region>(region: &R, tree: Tree, places: &mut [u32]) -> Result<(), CheckFault>
     requires sound { IsSound (current_words (R.memory region.now)) tree.root tree.size }
     requires full { IsFull (current_words (R.memory region.now)) tree.root tree.size }
-    requires room { tree.size / 256 ≤ length places.old }
+    requires room { tree.size / entry_size ≤ length places.old }
     ensures ok { OnOk result (AreNames (current_words (R.memory region.now)) tree.root tree.size) }
-    ensures err { IfErr result (λ f. FailsNames (current_words (R.memory region.now)) tree.root tree.size f.check f.place) }
+    ensures err { let words = current_words (R.memory region.now) in
+        IfErr result (λ f. FailsNames words tree.root tree.size f.check f.place) }
     ensures room { length places.new ≡ length places.old }
 {
     match check_names(region, tree, places) {

@@ -1,16 +1,17 @@
 //! The length of an image file.
 
 ghost use Rattle.std.specs.Prelude.{◌≡◌, ◌≢◌, ◌≤◌, ◌*◌, IfOk, IfErr};
+ghost use Rattle.bp_limits.specs.Limits.{block_size, max_blocks, min_blocks};
 ghost use Rattle.bp_scan.specs.Length.{wanted_length};
 ghost use Rattle.bp_scan.specs.declared.fault.MountFault.TheVariants.{BadSize};
 
 use crate::fault::MountFault;
+use bp_limits::{BLOCK_SIZE, MAX_BLOCKS, MIN_BLOCKS};
 
-const BLOCK: u64 = 4096;
+/// The lengths of the least and of the greatest image, in bytes.
+const LEAST: u64 = MIN_BLOCKS as u64 * BLOCK_SIZE;
 
-const LEAST: u64 = 32_768;
-
-const MOST: u64 = 67_108_864;
+const MOST: u64 = MAX_BLOCKS as u64 * BLOCK_SIZE;
 
 /// The length of an image, in bytes, that a length is nearest to.
 fn nearest_length(len: u64) -> u64
@@ -21,7 +22,7 @@ fn nearest_length(len: u64) -> u64
     } else if len <= LEAST {
         LEAST
     } else {
-        len.div_ceil(BLOCK) * BLOCK
+        len.div_ceil(BLOCK_SIZE) * BLOCK_SIZE
     }
 }
 
@@ -31,13 +32,13 @@ fn nearest_length(len: u64) -> u64
 ///
 /// `BadSize` exactly where no image has that length.
 pub fn image_length(len: u64) -> Result<u32, MountFault>
-    ensures blocks { IfOk result (λ blocks. (len ≡ 4096 * blocks) × (8 ≤ blocks) × (blocks ≤ 16384)) }
+    ensures blocks { IfOk result (λ blocks. (len ≡ block_size * blocks) × (min_blocks ≤ blocks) × (blocks ≤ max_blocks)) }
     ensures fits { IfOk result (λ blocks. len ≡ wanted_length len) }
-    ensures refused { IfErr result (λ fault. (fault ≡ BadSize len (wanted_length len)) × (len ≢ wanted_length len)) }
+    ensures refused { let wanted = wanted_length len in IfErr result (λ fault. (fault ≡ BadSize len wanted) × (len ≢ wanted)) }
 {
     let wanted = nearest_length(len);
     if len != wanted {
         return Err(MountFault::BadSize { found: len, wanted });
     }
-    Ok((len / BLOCK) as u32)
+    Ok((len / BLOCK_SIZE) as u32)
 }

@@ -16,6 +16,7 @@ use crate::pending::Pending;
 use crate::trees::{enter, enter_inode_file};
 use bp_free::{Blocks, Inodes};
 use bp_inodes::inode_file;
+use bp_limits::INODE_SIZE;
 use bp_walk::CheckFault;
 use pm_region::Region;
 
@@ -42,7 +43,7 @@ fn start<R: Region>(
     if let Err(fault) = enter_inode_file(region, blocks) {
         return Err(fault);
     }
-    let count = inode_file(region).size / 64;
+    let count = inode_file(region).size / INODE_SIZE;
     inodes.fill(2, count as u32);
     enter(region, 1, blocks, todo)
 }
@@ -91,7 +92,8 @@ fn read_with<R: Region>(
     ensures well_formed { OnOk result (IsWellFormed (current_words (R.memory region.now))) }
     ensures blocks { OnOk result (AreFreeBlocks (current_words (R.memory region.now)) (has blocks.new)) }
     ensures inodes { OnOk result (AreFreeInodes (current_words (R.memory region.now)) (has inodes.new)) }
-    ensures reached { OnOk result ((i : ℕ) → 1 ≤ i → i < inode_count (current_words (R.memory region.now)) → has inodes.new i ≡ false → IsReached (current_words (R.memory region.now)) i) }
+    ensures reached { let words = current_words (R.memory region.now) in
+        OnOk result ((i : ℕ) → 1 ≤ i → i < inode_count words → has inodes.new i ≡ false → IsReached words i) }
     ensures fault { IfErr result (λ f. Fails (current_words (R.memory region.now)) f.check f.place) }
     ensures block_room { length blocks.new ≡ length blocks.old }
     ensures inode_room { length inodes.new ≡ length inodes.old }
@@ -120,7 +122,8 @@ pub(crate) fn read_trees<R: Region>(
     ensures well_formed { OnOk result (IsWellFormed (current_words (R.memory region.now))) }
     ensures blocks { OnOk result (AreFreeBlocks (current_words (R.memory region.now)) (has blocks.new)) }
     ensures inodes { OnOk result (AreFreeInodes (current_words (R.memory region.now)) (has inodes.new)) }
-    ensures reached { OnOk result ((i : ℕ) → 1 ≤ i → i < inode_count (current_words (R.memory region.now)) → has inodes.new i ≡ false → IsReached (current_words (R.memory region.now)) i) }
+    ensures reached { let words = current_words (R.memory region.now) in
+        OnOk result ((i : ℕ) → 1 ≤ i → i < inode_count words → has inodes.new i ≡ false → IsReached words i) }
     ensures fault { IfErr result (λ f. Fails (current_words (R.memory region.now)) f.check f.place) }
     ensures block_room { length blocks.new ≡ length blocks.old }
     ensures inode_room { length inodes.new ≡ length inodes.old }

@@ -6,6 +6,7 @@ ghost use Rattle.bp_layout.specs.Checks.{IsFormatted};
 ghost use Rattle.bp_layout.specs.Free.{AreFreeBlocks, AreFreeInodes};
 ghost use Rattle.bp_layout.specs.WellFormed.{IsWellFormed};
 ghost use Rattle.bp_layout.specs.Words.{block_count};
+ghost use Rattle.bp_limits.specs.Limits.{max_blocks, min_blocks};
 ghost use Rattle.bp_scan.specs.Faults.{IsFault};
 ghost use Rattle.bp_scan.specs.Totals.{HasTotals};
 ghost use Rattle.pm_region.specs.Memory.{current_words};
@@ -16,12 +17,8 @@ use crate::reading::read_trees;
 use crate::totalling::all_totals;
 use crate::totals::Totals;
 use bp_free::{Blocks, Inodes};
-use bp_limits::MAGIC;
+use bp_limits::{BLOCK_SIZE, BLOCK_WORDS, MAGIC, SUPER_BLOCKS, SUPER_MAGIC};
 use pm_region::Region;
-
-const BLOCK_WORDS: u32 = 512;
-
-const BLOCK_BYTES: u64 = 4096;
 
 /// Whether an image begins with the mark of a format, and was formatted for the blocks that it has.
 ///
@@ -29,21 +26,21 @@ const BLOCK_BYTES: u64 = 4096;
 ///
 /// `NotFormatted` exactly where word 0 is not the mark; `BadSize` exactly where it is, and word 1 is not the number of blocks.
 fn check_superblock<R: Region>(region: &R) -> Result<(), MountFault>
-    requires whole { length (current_words (R.memory region.now)) ≡ 512 * block_count (current_words (R.memory region.now)) }
-    requires least { 8 ≤ block_count (current_words (R.memory region.now)) }
-    requires most { block_count (current_words (R.memory region.now)) ≤ 16384 }
+    requires whole { let words = current_words (R.memory region.now) in length words ≡ 512 * block_count words }
+    requires least { min_blocks ≤ block_count (current_words (R.memory region.now)) }
+    requires most { block_count (current_words (R.memory region.now)) ≤ max_blocks }
     ensures formatted { OnOk result (IsFormatted (current_words (R.memory region.now))) }
     ensures fault { IfErr result (IsFault (current_words (R.memory region.now))) }
 {
-    if region.load(0) != MAGIC {
+    if region.load(SUPER_MAGIC) != MAGIC {
         return Err(MountFault::NotFormatted);
     }
     let blocks = u64::from(region.words() / BLOCK_WORDS);
-    let counted = region.load(1);
+    let counted = region.load(SUPER_BLOCKS);
     if counted != blocks {
         return Err(MountFault::BadSize {
-            found: BLOCK_BYTES * blocks,
-            wanted: counted.saturating_mul(BLOCK_BYTES),
+            found: BLOCK_SIZE * blocks,
+            wanted: counted.saturating_mul(BLOCK_SIZE),
         });
     }
     Ok(())
@@ -64,9 +61,9 @@ pub fn scan<R: Region>(
     inodes: &mut Inodes,
     pending: &mut Pending,
 ) -> Result<Totals, MountFault>
-    requires whole { length (current_words (R.memory region.now)) ≡ 512 * block_count (current_words (R.memory region.now)) }
-    requires least { 8 ≤ block_count (current_words (R.memory region.now)) }
-    requires most { block_count (current_words (R.memory region.now)) ≤ 16384 }
+    requires whole { let words = current_words (R.memory region.now) in length words ≡ 512 * block_count words }
+    requires least { min_blocks ≤ block_count (current_words (R.memory region.now)) }
+    requires most { block_count (current_words (R.memory region.now)) ≤ max_blocks }
     requires blocks { length blocks.old ≡ block_count (current_words (R.memory region.now)) }
     requires inodes { length inodes.old ≡ 64 * block_count (current_words (R.memory region.now)) }
     requires pending { pending.old ≡ 64 * block_count (current_words (R.memory region.now)) }

@@ -15,9 +15,8 @@ use crate::totals::Totals;
 use bp_free::{Blocks, Inodes};
 use bp_inodes::{get, inode_file};
 use bp_layout::Kind;
+use bp_limits::INODE_SIZE;
 use pm_region::Region;
-
-const INODE_BYTES: u64 = 64;
 
 /// The totals of the inodes below a number, with that number among them: it counts unless it is free.
 fn count_inode<R: Region>(region: &R, inodes: &Inodes, i: u32, totals: Totals) -> Totals
@@ -52,7 +51,8 @@ pub(crate) fn all_totals<R: Region>(region: &R, blocks: &Blocks, inodes: &Inodes
     requires well_formed { IsWellFormed (current_words (R.memory region.now)) }
     requires blocks { AreFreeBlocks (current_words (R.memory region.now)) (has blocks.now) }
     requires inodes { AreFreeInodes (current_words (R.memory region.now)) (has inodes.now) }
-    requires reached { (i : ℕ) → 1 ≤ i → i < inode_count (current_words (R.memory region.now)) → has inodes.now i ≡ false → IsReached (current_words (R.memory region.now)) i }
+    requires reached { let words = current_words (R.memory region.now) in
+        (i : ℕ) → 1 ≤ i → i < inode_count words → has inodes.now i ≡ false → IsReached words i }
     requires block_room { length blocks.now ≡ block_count (current_words (R.memory region.now)) }
     requires inode_room { length inodes.now ≡ 64 * block_count (current_words (R.memory region.now)) }
     ensures { HasTotals (current_words (R.memory region.now)) result }
@@ -63,7 +63,7 @@ pub(crate) fn all_totals<R: Region>(region: &R, blocks: &Blocks, inodes: &Inodes
         bytes: 0,
         live: blocks.room() - 1 - blocks.count(),
     };
-    let inode_count = (inode_file(region).size / INODE_BYTES) as u32;
+    let inode_count = (inode_file(region).size / INODE_SIZE) as u32;
     for i in 1..inode_count {
         totals = count_inode(region, inodes, i, totals);
     }

@@ -13,6 +13,7 @@ ghost use Rattle.pm_region.specs.Memory.{current_words};
 
 use bp_free::{Blocks, Inodes};
 use bp_inodes::{inode_file, place};
+use bp_limits::{BLOCK_SIZE, ENTRY_SIZE, SUPER_ROOT, SUPER_SIZE};
 use bp_tree::Tree;
 use bp_walk::{CheckFault, take_tree};
 use pm_region::Region;
@@ -25,12 +26,6 @@ const DIRECTORY: u64 = 2;
 
 /// The inode of the root directory.
 const ROOT: u32 = 1;
-
-/// The bytes of an entry of a directory.
-const ENTRY: u64 = 256;
-
-/// The bytes of a block.
-const BLOCK: u64 = 4096;
 
 /// The words of an inode that are in use.
 #[derive(Clone, Copy)]
@@ -53,17 +48,20 @@ pub(crate) fn enter_inode_file<R: Region>(region: &R, blocks: &mut Blocks) -> Re
     ensures room { length blocks.new ≡ length blocks.old }
 {
     let file = inode_file(region);
-    if file.size % BLOCK != 0 || file.size < BLOCK {
-        return Err(CheckFault { check: 6, place: 3 });
+    if file.size % BLOCK_SIZE != 0 || file.size < BLOCK_SIZE {
+        return Err(CheckFault {
+            check: 6,
+            place: SUPER_SIZE,
+        });
     }
-    take_tree(region, 2, file.root, file.size, false, blocks)
+    take_tree(region, SUPER_ROOT, file.root, file.size, false, blocks)
 }
 
 /// Reads the words of an inode.
 fn inode_words<R: Region>(region: &R, inode: u32) -> InodeWords
     requires formatted { IsFormatted (current_words (R.memory region.now)) }
-    requires sound { IsSound (current_words (R.memory region.now)) (root_of (current_words (R.memory region.now)) 0) (size_of (current_words (R.memory region.now)) 0) }
-    requires full { IsFull (current_words (R.memory region.now)) (root_of (current_words (R.memory region.now)) 0) (size_of (current_words (R.memory region.now)) 0) }
+    requires sound { let words = current_words (R.memory region.now) in IsSound words (root_of words 0) (size_of words 0) }
+    requires full { let words = current_words (R.memory region.now) in IsFull words (root_of words 0) (size_of words 0) }
     requires some { 1 ≤ inode }
     requires there { inode < inode_count (current_words (R.memory region.now)) }
     ensures { AreWords (current_words (R.memory region.now)) inode result }
@@ -86,7 +84,7 @@ fn check_words(inode: u32, words: InodeWords) -> Result<(), CheckFault>
     ensures err { IfErr result (λ f. IsWrong inode words.kind words.tree.size words.place f.check f.place) }
 {
     match words.kind {
-        DIRECTORY if words.tree.size % ENTRY == 0 => Ok(()),
+        DIRECTORY if words.tree.size % ENTRY_SIZE == 0 => Ok(()),
         DIRECTORY => Err(CheckFault {
             check: 10,
             place: words.place + 2,
@@ -108,16 +106,18 @@ pub(crate) fn enter<R: Region>(
     todo: &mut Inodes,
 ) -> Result<(), CheckFault>
     requires formatted { IsFormatted (current_words (R.memory region.now)) }
-    requires sound { IsSound (current_words (R.memory region.now)) (root_of (current_words (R.memory region.now)) 0) (size_of (current_words (R.memory region.now)) 0) }
-    requires full { IsFull (current_words (R.memory region.now)) (root_of (current_words (R.memory region.now)) 0) (size_of (current_words (R.memory region.now)) 0) }
+    requires sound { let words = current_words (R.memory region.now) in IsSound words (root_of words 0) (size_of words 0) }
+    requires full { let words = current_words (R.memory region.now) in IsFull words (root_of words 0) (size_of words 0) }
     requires some { 1 ≤ inode }
     requires there { inode < inode_count (current_words (R.memory region.now)) }
     requires blocks { length blocks.old ≡ block_count (current_words (R.memory region.now)) }
     requires not_first { has blocks.old 0 ≡ false }
     requires new { has todo.old inode ≡ false }
     requires todo { inode < length todo.old }
-    ensures ok { OnOk result (EntersInode (current_words (R.memory region.now)) inode blocks.old blocks.new todo.old todo.new) }
-    ensures err { IfErr result (λ f. FailsInode (current_words (R.memory region.now)) inode blocks.old f.check f.place) }
+    ensures ok { let words = current_words (R.memory region.now) in
+        OnOk result (EntersInode words inode blocks.old blocks.new todo.old todo.new) }
+    ensures err { let words = current_words (R.memory region.now) in
+        IfErr result (λ f. FailsInode words inode blocks.old f.check f.place) }
     ensures block_room { length blocks.new ≡ length blocks.old }
     ensures todo_room { length todo.new ≡ length todo.old }
 {

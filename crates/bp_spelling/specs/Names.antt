@@ -1,5 +1,6 @@
 -- Whether the names of a directory's entries are right.
 use Rattle.std.specs.Prelude.{◌≡◌, ◌≢◌, ℕ, ◌+◌, ◌*◌, ◌/◌, ◌%◌, ◌<◌}
+use Rattle.bp_limits.specs.Limits.{entry_size}
 use Rattle.bp_layout.specs.Words.{Image, height_of}
 use Rattle.bp_layout.specs.Tree.{node}
 use Rattle.bp_layout.specs.Directory.{IsName, inumber_in, name_in}
@@ -8,7 +9,7 @@ use Rattle.bp_spelling.specs.declared.fault.NameFault.TheVariants.{Form, Twice}
 
 -- the entry lies below the size and names an inode
 pub record IsUsed (image : Image) (root size slot : ℕ) : Type 0 where
-  pub live : slot < size / 256
+  pub live : slot < size / entry_size
   pub some : inumber_in image root slot ≢ 0
 
 -- the word of the region at which the first word of an entry stands

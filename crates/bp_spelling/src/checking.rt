@@ -2,6 +2,7 @@
 
 ghost use Rattle.std.specs.Prelude.{◌≡◌, ◌/◌, ◌≤◌, length, OnOk, IfErr};
 ghost use Rattle.bp_layout.specs.Tree.{IsSound, IsFull};
+ghost use Rattle.bp_limits.specs.Limits.{entry_size};
 ghost use Rattle.bp_spelling.specs.Names.{AreNames, AreWrong};
 ghost use Rattle.pm_region.specs.Memory.{current_words};
 
@@ -19,7 +20,7 @@ use pm_region::Region;
 pub fn check_names<R: Region>(region: &R, tree: Tree, places: &mut [u32]) -> Result<(), NameFault>
     requires sound { IsSound (current_words (R.memory region.now)) tree.root tree.size }
     requires full { IsFull (current_words (R.memory region.now)) tree.root tree.size }
-    requires room { tree.size / 256 ≤ length places.old }
+    requires room { tree.size / entry_size ≤ length places.old }
     ensures ok { OnOk result (AreNames (current_words (R.memory region.now)) tree.root tree.size) }
     ensures err { IfErr result (AreWrong (current_words (R.memory region.now)) tree.root tree.size) }
     ensures room { length places.new ≡ length places.old }

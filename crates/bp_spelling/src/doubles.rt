@@ -52,7 +52,8 @@ fn sort_by_name<R: Region>(region: &R, places: &mut [u32])
 /// The place of an entry whose name another one has too. Sorts the places by their names.
 pub(crate) fn find_double<R: Region>(region: &R, places: &mut [u32]) -> Option<u32>
     ensures same { IsPermutation places.old places.new }
-    ensures double { MatchOption result (AreApart (current_words (R.memory region.now)) places.new) (IsDouble (current_words (R.memory region.now)) places.new) }
+    ensures double { let words = current_words (R.memory region.now) in
+        MatchOption result (AreApart words places.new) (IsDouble words places.new) }
 {
     sort_by_name(region, places);
     for i in 1..places.len() {

@@ -3,11 +3,13 @@
 ghost use Rattle.std.specs.Prelude.{◌≡◌, ◌/◌, ◌≤◌, length, take, IfOk, OnOk, IfErr};
 ghost use Rattle.bp_layout.specs.Directory.{slots};
 ghost use Rattle.bp_layout.specs.Tree.{IsSound, IsFull};
+ghost use Rattle.bp_limits.specs.Limits.{entry_size};
 ghost use Rattle.bp_spelling.specs.Places.{used_places, HaveForms, IsMisspelled};
 ghost use Rattle.pm_region.specs.Memory.{current_words};
 
 use crate::form::is_name;
 use bp_dirs::entry_place;
+use bp_limits::ENTRY_SIZE;
 use bp_tree::Tree;
 use pm_region::Region;
 
@@ -19,8 +21,9 @@ use pm_region::Region;
 pub(crate) fn gather<R: Region>(region: &R, tree: Tree, places: &mut [u32]) -> Result<usize, u32>
     requires sound { IsSound (current_words (R.memory region.now)) tree.root tree.size }
     requires full { IsFull (current_words (R.memory region.now)) tree.root tree.size }
-    requires room { tree.size / 256 ≤ length places.old }
-    ensures places { IfOk result (λ count. take count places.new ≡ used_places (current_words (R.memory region.now)) tree.root (slots tree.size)) }
+    requires room { tree.size / entry_size ≤ length places.old }
+    ensures places { let words = current_words (R.memory region.now) in
+        IfOk result (λ count. take count places.new ≡ used_places words tree.root (slots tree.size)) }
     ensures count { IfOk result (λ count. count ≤ length places.new) }
     ensures forms { OnOk result (HaveForms (current_words (R.memory region.now)) tree.root tree.size) }
     ensures err { IfErr result (IsMisspelled (current_words (R.memory region.now)) tree.root tree.size) }
@@ -28,7 +31,7 @@ pub(crate) fn gather<R: Region>(region: &R, tree: Tree, places: &mut [u32]) -> R
 {
     let _words = region.words();
     let mut count = 0;
-    for slot in 0..tree.size / 256 {
+    for slot in 0..tree.size / ENTRY_SIZE {
         let place = entry_place(region, tree, slot, 0);
         if region.load(place) != 0 {
             if !is_name(region, place) {

@@ -5,6 +5,7 @@ use Rattle.pm_epochs.specs.Log.{StoresTo, IsStoredIn, stores, barriers, last_sto
 use Rattle.pm_epochs.specs.May.{AnyAt, StoresMay}
 use Rattle.pm_region.specs.Memory.{Memory, current_words}
 use Rattle.pm_region.specs.Safe.{AddsQuiet, AddsCommit}
+use Rattle.bp_limits.specs.Limits.{super_root, super_size}
 use Rattle.bp_layout.specs.Members.{Has, Each, AreApart}
 use Rattle.bp_layout.specs.Need.{Change, cover, need}
 use Rattle.bp_layout.specs.Reached.{IsLiveBlock, IsFreeBlock}
@@ -21,8 +22,8 @@ InBlock block word = word / 512 ≡ block
 pub data IsOpen (image : Image) (taken : List ℕ) (word : ℕ) : Type 0 where
   in_taken : Has taken (word / 512) → IsOpen image taken word
   in_live : IsLiveBlock image (word / 512) → IsOpen image taken word
-  at_root : word ≡ 2 → IsOpen image taken word
-  at_size : word ≡ 3 → IsOpen image taken word
+  at_root : word ≡ super_root → IsOpen image taken word
+  at_size : word ≡ super_size → IsOpen image taken word
 
 -- The blocks of the list were free, each stands once, and each gets a store. Other free blocks get none, nor do the words of the superblock that nobody reads:
 -- so a call can't prepare for a later one, nor leave in the log what nobody asked for.
@@ -52,6 +53,10 @@ pub record Performs (old new : Memory) (change : Change) (Effect : Image → Ima
   pub in_open : IsOpen (current_words old) taken (address (current_words new) (cover (current_words old) change))
   pub well_formed : IsWellFormed (current_words new)
   pub effect : Effect (current_words old) (current_words new)
+
+-- whatever it makes of the image
+abbrev pub IsPerformed : Memory → Memory → Change → Type 0
+IsPerformed old new change = Performs old new change (λ image after. Unit {0})
 
 -- the list has just the blocks that are free in the image and to which a store of the log goes, each once
 pub record AreTaken (image : Image) (events : List Event) (taken : List ℕ) : Type 0 where

@@ -5,7 +5,7 @@ ghost use Rattle.bp_layout.specs.Free.{HasFree};
 ghost use Rattle.bp_layout.specs.Need.{Change, need};
 ghost use Rattle.bp_layout.specs.Reached.{IsFreeBlock};
 ghost use Rattle.bp_layout.specs.Same.{Same};
-ghost use Rattle.bp_tree.specs.Performs.{InBlock, IsShort, Performs};
+ghost use Rattle.bp_tree.specs.Performs.{InBlock, IsPerformed, IsShort};
 ghost use Rattle.pm_epochs.specs.Log.{StoresTo};
 ghost use Rattle.pm_epochs.specs.declared.event.Event.TheVariants.{Mark};
 ghost use Rattle.pm_region.specs.Memory.{Adds, Memory, current_words, events_between};
@@ -14,12 +14,16 @@ ghost use Rattle.pm_region.specs.Safe.{IsSafe};
 /// A call that is performed costs no more than it must, and the blocks that it needs were free. With its mark it keeps a
 /// memory safe.
 pub fn performed_calls_are_short()
-    ensures short { (old new : Memory) (change : Change) → Performs old new change (λ image after. Unit {0}) → IsShort (current_words old) (current_words new) change (events_between old new) }
-    ensures fits { (old new : Memory) (change : Change) (free : ℕ) → Performs old new change (λ image after. Unit {0}) → HasFree (current_words old) free → need (current_words old) change ≤ free }
-    ensures safe { (old new marked : Memory) (change : Change) → Performs old new change (λ image after. Unit {0}) → IsSafe Same old → Adds new marked (Mark ∷ []) → IsSafe Same marked }
+    ensures short { (old new : Memory) (change : Change) → IsPerformed old new change
+        → IsShort (current_words old) (current_words new) change (events_between old new) }
+    ensures fits { (old new : Memory) (change : Change) (free : ℕ) → IsPerformed old new change
+        → HasFree (current_words old) free → need (current_words old) change ≤ free }
+    ensures safe { (old new marked : Memory) (change : Change) → IsPerformed old new change
+        → IsSafe Same old → Adds new marked (Mark ∷ []) → IsSafe Same marked }
 {}
 
 /// Where a call needs no block it stores to no free one, so that none does what another call would have to do.
 pub fn performed_calls_leave_free_blocks()
-    ensures { (old new : Memory) (change : Change) (b : ℕ) → Performs old new change (λ image after. Unit {0}) → need (current_words old) change ≡ 0 → IsFreeBlock (current_words old) b → StoresTo (InBlock b) (events_between old new) → ⊥ }
+    ensures { (old new : Memory) (change : Change) (b : ℕ) → IsPerformed old new change → need (current_words old) change ≡ 0
+        → IsFreeBlock (current_words old) b → StoresTo (InBlock b) (events_between old new) → ⊥ }
 {}

@@ -7,6 +7,7 @@ ghost use Rattle.bp_tree.specs.Nulls.{HasNoNullLeaf, IsFirstNullLeaf};
 
 use crate::subtrees::{child, live_slots};
 use crate::tree::Tree;
+use bp_limits::BLOCK_SIZE;
 use pm_region::Region;
 use pm_words::span;
 
@@ -14,7 +15,7 @@ use pm_words::span;
 /// It goes down through live pointers alone, and no further than the first null.
 pub fn first_null<R: Region>(region: &R, tree: Tree) -> Option<u64>
     requires { IsSound (current_words (R.memory region.now)) tree.root tree.size }
-    ensures some { IfSome result (λ leaf. IsFirstNullLeaf (current_words (R.memory region.now)) tree.root tree.size leaf) }
+    ensures some { IfSome result (IsFirstNullLeaf (current_words (R.memory region.now)) tree.root tree.size) }
     ensures none { IfNone result (HasNoNullLeaf (current_words (R.memory region.now)) tree.root tree.size) }
 {
     if tree.size == 0 {
@@ -29,7 +30,7 @@ pub fn first_null<R: Region>(region: &R, tree: Tree) -> Option<u64>
     for slot in 0..live_slots(tree) {
         if let Some(leaf) = first_null(region, child(region, tree, slot)) {
             let level = (tree.root & 7) as u32 - 1;
-            return Some(slot * (span(level) / 4096) + leaf);
+            return Some(slot * (span(level) / BLOCK_SIZE) + leaf);
         }
     }
     None

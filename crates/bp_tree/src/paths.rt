@@ -4,11 +4,13 @@ ghost use Rattle.std.specs.Prelude.{◌≡◌, ℕ, suc, ◌+◌, ◌*◌, ◌/�
 ghost use Rattle.std.specs.List.{All};
 ghost use Rattle.bp_layout.specs.Words.{height_of};
 ghost use Rattle.bp_layout.specs.WordPaths.{digits, address, Exists};
+ghost use Rattle.bp_limits.specs.Limits.{super_root};
 ghost use Rattle.pm_region.specs.Memory.{current_words};
 ghost use Rattle.bp_tree.specs.Paths.{IsInRange};
 
 use crate::tree::Tree;
 use arrayvec::ArrayVec;
+use bp_limits::SUPER_ROOT;
 use pm_region::Region;
 
 /// A word path: slots below 512, from the top. The empty one names the root word of the inode file.
@@ -35,10 +37,10 @@ pub fn address<R: Region>(region: &R, path: &Slots) -> u32
     requires slots { All (λ slot. slot < 512) path.now.items }
     requires in_range { IsInRange (current_words (R.memory region.now)) path.now.items }
     ensures address { result ≡ address (current_words (R.memory region.now)) path.now.items }
-    ensures in_range { 2 < length (current_words (R.memory region.now)) → result < length (current_words (R.memory region.now)) }
+    ensures in_range { let count = length (current_words (R.memory region.now)) in super_root < count → result < count }
 {
     let _words = region.words();
-    let mut place = 2;
+    let mut place = SUPER_ROOT;
     for slot in path.as_slice() {
         let block = region.load(place) >> 12;
         place = (512 * block + *slot as u64) as u32;

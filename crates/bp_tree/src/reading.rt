@@ -2,10 +2,12 @@
 
 ghost use Rattle.std.specs.Prelude.{◌≡◌, ℕ, ◌+◌, ◌-◌, ◌*◌, ◌/◌, ◌%◌, ◌<◌, ◌≤◌, length, take, drop, min};
 ghost use Rattle.bp_layout.specs.Tree.{IsSound};
+ghost use Rattle.bp_limits.specs.Limits.{block_size};
 ghost use Rattle.pm_region.specs.Memory.{current_words};
 ghost use Rattle.bp_tree.specs.Bytes.{stored_bytes, content_part};
 
 use crate::tree::{Tree, leaf_block};
+use bp_limits::BLOCK_SIZE;
 use pm_region::Region;
 
 /// Reads the bytes of a tree from `offset` on, as many as `into` has room for and lie below the size, and says how many
@@ -13,14 +15,15 @@ use pm_region::Region;
 pub fn read<R: Region>(region: &R, tree: Tree, offset: u64, into: &mut [u8]) -> usize
     requires { IsSound (current_words (R.memory region.now)) tree.root tree.size }
     ensures count { result ≡ min (length into.old) (tree.size - offset) }
-    ensures bytes { take result into.new ≡ content_part (current_words (R.memory region.now)) tree.root offset result }
+    ensures bytes { let words = current_words (R.memory region.now) in
+        take result into.new ≡ content_part words tree.root offset result }
     ensures rest { drop result into.new ≡ drop result into.old }
 {
     let count = (into.len() as u64).min(tree.size.saturating_sub(offset)) as usize;
     let mut done = 0;
     while done < count {
         let from = offset + done as u64;
-        let to = done + (4096 - (from % 4096) as usize).min(count - done);
+        let to = done + ((BLOCK_SIZE - from % BLOCK_SIZE) as usize).min(count - done);
         read_leaf(region, tree, from, &mut into[done..to]);
         done = to;
     }
@@ -32,15 +35,15 @@ fn read_leaf<R: Region>(region: &R, tree: Tree, offset: u64, into: &mut [u8])
     requires sound { IsSound (current_words (R.memory region.now)) tree.root tree.size }
     requires some { 0 < length into.old }
     requires live { offset + length into.old ≤ tree.size }
-    requires within { offset % 4096 + length into.old ≤ 4096 }
+    requires within { offset % block_size + length into.old ≤ block_size }
     ensures { into.new ≡ content_part (current_words (R.memory region.now)) tree.root offset (length into.old) }
 {
     let _words = region.words();
-    let leaf = leaf_block(region, tree, offset / 4096);
+    let leaf = leaf_block(region, tree, offset / BLOCK_SIZE);
     if leaf == 0 {
         into.fill(0);
     } else {
-        read_bytes(region, 4096 * leaf + offset % 4096, into);
+        read_bytes(region, BLOCK_SIZE * leaf + offset % BLOCK_SIZE, into);
     }
 }
 

@@ -4,6 +4,7 @@ ghost use Rattle.std.specs.Prelude.{◌≡◌, ◌≢◌, ℕ, ◌+◌, ◌-◌,
 ghost use Rattle.bp_layout.specs.Words.{block_of, height_of};
 ghost use Rattle.bp_layout.specs.Tree.{span, IsSound};
 ghost use Rattle.bp_layout.specs.Pieces.{piece, child};
+ghost use Rattle.bp_limits.specs.Limits.{max_height};
 ghost use Rattle.pm_region.specs.Memory.{current_words};
 
 use crate::tree::{Tree, load_slot};
@@ -14,7 +15,7 @@ use pm_words::span;
 pub(crate) fn live_slots(tree: Tree) -> u64
     requires some { 0 < tree.size }
     requires least { 1 ≤ height_of tree.root }
-    requires most { height_of tree.root ≤ 3 }
+    requires most { height_of tree.root ≤ max_height }
     ensures live { (slot : ℕ) → slot < result → slot * span (height_of tree.root - 1) < tree.size }
     ensures all { (slot : ℕ) → slot * span (height_of tree.root - 1) < tree.size → slot < result }
 {
@@ -28,7 +29,8 @@ pub(crate) fn child<R: Region>(region: &R, tree: Tree, slot: u64) -> Tree
     requires least { 1 ≤ height_of tree.root }
     requires present { block_of tree.root ≢ 0 }
     requires live { slot * span (height_of tree.root - 1) < tree.size }
-    ensures root { result.root ≡ child (current_words (R.memory region.now)) (block_of tree.root) (height_of tree.root - 1) slot }
+    ensures root { let words = current_words (R.memory region.now) in
+        result.root ≡ child words (block_of tree.root) (height_of tree.root - 1) slot }
     ensures size { result.size ≡ piece tree.size (height_of tree.root - 1) slot }
     ensures sound { IsSound (current_words (R.memory region.now)) result.root result.size }
     ensures lower { height_of result.root + 1 ≡ height_of tree.root }

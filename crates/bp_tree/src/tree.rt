@@ -1,6 +1,7 @@
 ghost use Rattle.std.specs.Prelude.{◌≡◌, ◌≢◌, ◌+◌, ◌-◌, ◌*◌, ◌/◌, ◌%◌, ◌<◌, ◌≤◌, suc, length};
 ghost use Rattle.bp_layout.specs.Words.{block_count, height_of, slot_word};
 ghost use Rattle.bp_layout.specs.Tree.{node, content_word, covered, IsSound};
+ghost use Rattle.bp_limits.specs.Limits.{block_size};
 ghost use Rattle.pm_region.specs.Memory.{current_words};
 
 use crate::descent::descend;
@@ -46,7 +47,7 @@ pub fn node<R: Region>(region: &R, tree: Tree, level: u32, index: u64) -> u32
 /// The block that holds the content words `512 * leaf` to `512 * leaf + 511`, 0 where it is null.
 pub fn leaf_block<R: Region>(region: &R, tree: Tree, leaf: u64) -> u64
     requires sound { IsSound (current_words (R.memory region.now)) tree.root tree.size }
-    requires live { 4096 * leaf < tree.size }
+    requires live { block_size * leaf < tree.size }
     ensures node { result ≡ node (current_words (R.memory region.now)) tree.root (height_of tree.root) leaf }
     ensures in_range { result < block_count (current_words (R.memory region.now)) }
 {
@@ -67,7 +68,8 @@ pub fn content_place<R: Region>(region: &R, tree: Tree, index: u64) -> u32
     requires sound { IsSound (current_words (R.memory region.now)) tree.root tree.size }
     requires live { 8 * index < tree.size }
     requires present { node (current_words (R.memory region.now)) tree.root (height_of tree.root) (index / 512) ≢ 0 }
-    ensures place { result ≡ 512 * node (current_words (R.memory region.now)) tree.root (height_of tree.root) (index / 512) + index % 512 }
+    ensures place { let words = current_words (R.memory region.now) in
+        result ≡ 512 * node words tree.root (height_of tree.root) (index / 512) + index % 512 }
     ensures in_range { result < length (current_words (R.memory region.now)) }
 {
     let _words = region.words();

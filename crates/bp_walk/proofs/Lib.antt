@@ -3,3 +3,4 @@ pub mod TakenLaws
 pub mod Below
 pub mod Pointers
 pub mod WholeTree
+pub mod Spans

@@ -27,15 +27,10 @@ pub struct CheckFault {
 /// The bytes below a pointer that stands `level` levels above the content words.
 fn span(level: u32) -> u64
     requires least { 1 ≤ level }
-    requires most { level ≤ 4 }
+    requires most { level ≤ suc max_height }
     ensures { result ≡ covered level }
 {
-    match level {
-        1 => 4096,
-        2 => 2_097_152,
-        3 => 1_073_741_824,
-        _ => 549_755_813_888,
-    }
+    pm_words::span(level - 1)
 }
 
 /// Takes the block that a pointer names out of the set, and answers with its number: 0 where the pointer is null and may be.
@@ -91,7 +86,7 @@ fn take_below<R: Region>(
     top: Node,
     blocks: &mut Blocks,
 ) -> Result<(), CheckFault>
-    requires whole { length (current_words (R.memory region.now)) ≡ 512 * block_count (current_words (R.memory region.now)) }
+    requires whole { let words = current_words (R.memory region.now) in length words ≡ 512 * block_count words }
     requires most { block_count (current_words (R.memory region.now)) ≤ max_blocks }
     requires room { length blocks.old ≡ block_count (current_words (R.memory region.now)) }
     requires not_first { has blocks.old 0 ≡ false }
@@ -103,8 +98,10 @@ fn take_below<R: Region>(
     requires passes { Passes (current_words (R.memory region.now)) tree.root top.depth top.index }
     requires block { node (current_words (R.memory region.now)) tree.root top.depth top.index ≡ top.block }
     requires taken { has blocks.old top.block ≡ false }
-    ensures ok { OnOk result (WalksBelow (current_words (R.memory region.now)) 0 tree.root tree.size holes top.depth top.index 512 blocks.old blocks.new) }
-    ensures err { IfErr result (λ f. FailsBelow (current_words (R.memory region.now)) 0 tree.root tree.size holes top.block blocks.old f.check f.place) }
+    ensures ok { let words = current_words (R.memory region.now) in
+        OnOk result (WalksBelow words 0 tree.root tree.size holes top.depth top.index 512 blocks.old blocks.new) }
+    ensures err { let words = current_words (R.memory region.now) in
+        IfErr result (λ f. FailsBelow words 0 tree.root tree.size holes top.block blocks.old f.check f.place) }
     ensures present { IfErr result (λ f. top.block ≢ 0) }
     ensures room { length blocks.new ≡ length blocks.old }
 {
@@ -152,14 +149,16 @@ pub fn take_tree<R: Region>(
     holes: bool,
     blocks: &mut Blocks,
 ) -> Result<(), CheckFault>
-    requires whole { length (current_words (R.memory region.now)) ≡ 512 * block_count (current_words (R.memory region.now)) }
+    requires whole { let words = current_words (R.memory region.now) in length words ≡ 512 * block_count words }
     requires most { block_count (current_words (R.memory region.now)) ≤ max_blocks }
     requires room { length blocks.old ≡ block_count (current_words (R.memory region.now)) }
     requires not_first { has blocks.old 0 ≡ false }
     requires place { at + 1 < length (current_words (R.memory region.now)) }
     requires root { word (current_words (R.memory region.now)) at ≡ root }
-    ensures ok { OnOk result (TakesTree (current_words (R.memory region.now)) at root size holes blocks.old blocks.new) }
-    ensures err { IfErr result (λ f. FailsTree (current_words (R.memory region.now)) at root size holes blocks.old f.check f.place) }
+    ensures ok { let words = current_words (R.memory region.now) in
+        OnOk result (TakesTree words at root size holes blocks.old blocks.new) }
+    ensures err { let words = current_words (R.memory region.now) in
+        IfErr result (λ f. FailsTree words at root size holes blocks.old f.check f.place) }
     ensures room { length blocks.new ≡ length blocks.old }
 {
     if size == 0 {

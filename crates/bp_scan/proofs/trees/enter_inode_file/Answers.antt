@@ -16,5 +16,5 @@ pub returns-clause-fault : goal.returns-clause-fault
 returns-clause-fault g c =
     let image = current_words (g.R.Region.memory c.args.region.now) in
     err_then c.take_tree.result (λ f fails.
-    file_fails image c.args.blocks.now c.inode_file-file.result.root c.inode_file-file.result.size f.check f.place c.requires.all (size_some image c.inode_file-file.result.size c.inode_file-file.ensures.size c.if-file-lt-BLOCK.false)
+    file_fails image c.args.blocks.now c.inode_file-file.result.root c.inode_file-file.result.size f.check f.place c.requires.all (size_some image c.inode_file-file.result.size c.inode_file-file.ensures.size c.if-file-lt-BLOCK_SIZE.false)
     c.inode_file-file.ensures.root c.inode_file-file.ensures.size fails) c.take_tree.ensures.err

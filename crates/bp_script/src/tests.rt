@@ -1,5 +1,5 @@
 // Rows of the table of commands with hostile lines, and each text once.
-ghost use Rattle.bp_script.specs.Sayings.{FitsReply};
+ghost use Rattle.bp_script.specs.Sayings.{FitsReply, IsLine};
 
 use super::*;
 use bp_layout::Kind;
@@ -126,26 +126,65 @@ fn says(rt: &impl Abort, said: &Said<'_>, into: &mut [u8], want: &[u8])
     assert!(rt; &into[..end] == want, "{want:?}");
 }
 
+fn answers(rt: &impl Abort, answer: Answer<'_>, into: &mut [u8], want: &[u8])
+    requires { IsLine answer }
+{
+    says(rt, &Said::Answer(answer), into, want);
+}
+
 #[test]
-fn reply_texts(rt: HostRuntime) -> Result<(), Fail> {
+fn answer_texts(rt: HostRuntime) -> Result<(), Fail> {
+    let mut into = vec![in rt.alloc(); 0u8; MAX_TEXT]?;
+    let into = into.as_mut_slice();
+    answers(&rt, Answer::Done, into, b"ok\n");
+    answers(
+        &rt,
+        Answer::FileOf(549_755_813_888),
+        into,
+        b"file 549755813888\n",
+    );
+    answers(&rt, Answer::DirOf(0), into, b"dir 0\n");
+    answers(
+        &rt,
+        Answer::Bytes(&[0, 10, 255, 0xab]),
+        into,
+        b"data 000affab\n",
+    );
+    answers(&rt, Answer::Bytes(&[]), into, b"data -\n");
+    Ok(())
+}
+
+#[test]
+fn refusal_texts(rt: HostRuntime) -> Result<(), Fail> {
     let mut into = vec![in rt.alloc(); 0u8; MAX_TEXT]?;
     let into = into.as_mut_slice();
     let full = FsError::NoSpace { need: 5, free: 4 };
-    let answers: [(Answer<'_>, &[u8]); 9] = [
-        (Answer::Done, b"ok\n"),
-        (Answer::FileOf(549_755_813_888), b"file 549755813888\n"),
-        (Answer::DirOf(0), b"dir 0\n"),
-        (Answer::Refused(FsError::BadPath), b"err 1 badpath\n"),
-        (Answer::Refused(FsError::NotDir), b"err 3 notdir\n"),
-        (Answer::Refused(full), b"err 11 nospace 5 4\n"),
-        (Answer::Refused(FsError::Later), b"err 22 later\n"),
-        (Answer::Bytes(&[0, 10, 255, 0xab]), b"data 000affab\n"),
-        (Answer::Bytes(&[]), b"data -\n"),
-    ];
-    for (answer, want) in answers {
-        assert!(rt; !matches!(answer, Answer::Names(_)));
-        says(&rt, &Said::Answer(answer), into, want);
-    }
+    answers(
+        &rt,
+        Answer::Refused(FsError::BadPath),
+        into,
+        b"err 1 badpath\n",
+    );
+    answers(
+        &rt,
+        Answer::Refused(FsError::NotDir),
+        into,
+        b"err 3 notdir\n",
+    );
+    answers(&rt, Answer::Refused(full), into, b"err 11 nospace 5 4\n");
+    answers(
+        &rt,
+        Answer::Refused(FsError::Later),
+        into,
+        b"err 22 later\n",
+    );
+    Ok(())
+}
+
+#[test]
+fn other_texts(rt: HostRuntime) -> Result<(), Fail> {
+    let mut into = vec![in rt.alloc(); 0u8; MAX_TEXT]?;
+    let into = into.as_mut_slice();
     says(&rt, &Said::End, into, b"end\n");
     says(&rt, &Said::Synced, into, b"ok\n");
     says(&rt, &Said::Space { free: 6, live: 1 }, into, b"space 6 1\n");

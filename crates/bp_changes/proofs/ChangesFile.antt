@@ -18,7 +18,7 @@ use Rattle.bp_layout.proofs.Finding.{map-same}
 use Rattle.bp_layout.proofs.View.{SameDirectories, lookup_from-same, lookup_from-reached}
 
 module _ (old new : Image) (x : ℕ) (wf : IsWellFormed old) (same : ChangesFile old new x) where
-  not_zero : 0 ≢ x
+  pub not_zero : 0 ≢ x
   not_zero e = let one : kind_of old 0 ≡ 1 = (rw (← e) at same.is_file) in absurd (omega (arith, one))
 
   not_directory : (i : ℕ) → kind_of old i ≡ 2 → i ≢ x

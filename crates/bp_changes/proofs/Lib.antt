@@ -14,3 +14,4 @@ pub mod MoveName
 pub mod Move
 pub mod Respell
 pub mod ReachedOn
+pub mod ChangesOver

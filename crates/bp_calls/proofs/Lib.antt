@@ -19,3 +19,5 @@ pub mod OpenPlaces
 pub mod ReadingLaws
 pub mod AskedLaws
 pub mod CutLaws
+pub mod TakenBlocks
+pub mod WriteBehind

@@ -6,3 +6,6 @@ pub mod Sample
 pub mod Asked
 pub mod GivenBack
 pub mod CutBelow
+pub mod Space
+pub mod CanWrite
+pub mod WritesFile

@@ -9,6 +9,7 @@ pub mod laws;
 mod reading;
 #[cfg(test)]
 mod tests;
+mod writing;
 
 pub use creating::create;
 pub use fault::CreateFault;

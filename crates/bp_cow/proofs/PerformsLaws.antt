@@ -45,7 +45,7 @@ filter_above p a (suc n) b has = go (p a) refl has (λ later. filter_above p (a 
     go true is found rest = elim (rw is at found) [ inl e ↦ omega (arith, e) | inr later ↦ omega (arith, rest later) ]
     go false is found rest = omega (arith, rest (rw is at found))
 
-filter_apart : (p : ℕ → Bool) (a n : ℕ) → AreApart (filter p (range_with_len a n))
+pub filter_apart : (p : ℕ → Bool) (a n : ℕ) → AreApart (filter p (range_with_len a n))
 filter_apart p a zero = tt
 filter_apart p a (suc n) = go (p a) refl (filter_apart p (a + 1) n)
   where

@@ -1,0 +1,85 @@
+-- The sets of free numbers stay exact over a change of a file's bytes that takes blocks for it.
+use Rattle.std.proofs.Common.{◌≡◌, ◌≢◌, ◌⊎◌, ℕ, ◌+◌, ◌<◌, ◌≤◌, List, [], ◌∷◌, ◌++◌, length, true, refl, sym, ◌∙◌, inl, inr, subst, true≢false, arith}
+use Rattle.std.proofs.lemmas.Bool.{cases_lt}
+use Rattle.std.specs.List.{range_with_len}
+use Rattle.bp_free.specs.Set.{Set, has, members}
+use Rattle.bp_layout.specs.Words.{Image, block_count}
+use Rattle.bp_layout.specs.Inode.{kind_of}
+use Rattle.bp_layout.specs.Members.{Has, Each, AreApart}
+use Rattle.bp_layout.specs.Reached.{IsLiveBlock, IsFreeBlock}
+use Rattle.bp_layout.specs.Reached.IsReached.{inode_file}
+use Rattle.bp_layout.specs.WellFormed.{IsWellFormed}
+use Rattle.bp_changes.specs.Effects.{ChangesFile}
+use Rattle.bp_changes.proofs.ChangesFile as changed
+use Rattle.bp_append.specs.Filled.{IsUsable}
+use Rattle.bp_append.proofs.FillLaws.{apart_parts}
+use Rattle.bp_cow.proofs.PerformsLaws.{filter_apart, filtered}
+use Rattle.bp_tree.proofs.PerformsLaws.{each-of, has-range, has-filter, has-behind}
+use Rattle.bp_shapes.specs.Sets.{AreExact}
+use Rattle.bp_calls.proofs.SetLaws.{free_inodes_stay, in_room}
+
+-- ---- members
+
+pub of_members : (set : Set) (b : ℕ) → Has (members set) b → has set b ≡ true
+of_members set b there = filtered (has set) (range_with_len 0 (length set)) b there
+
+pub in_members : (set : Set) (b : ℕ) → has set b ≡ true → Has (members set) b
+in_members set b is =
+    let low : b < length set = in_room set b is in
+    has-filter (has set) (range_with_len 0 (length set)) b (has-range 0 (length set) b (omega arith) (omega (arith, low))) is
+
+pub members_apart : (set : Set) → AreApart (members set)
+members_apart set = filter_apart (has set) 0 (length set)
+
+-- a member of two lists in a row is in one of them
+has_either : (xs ys : List ℕ) (b : ℕ) → Has (xs ++ ys) b → Has xs b ⊎ Has ys b
+has_either [] ys b there = inr there
+has_either (x ∷ xs) ys b (inl e) = inl (inl e)
+has_either (x ∷ xs) ys b (inr later) = elim (has_either xs ys b later) [ inl early ↦ inl (inr early) | inr late ↦ inr late ]
+
+-- ---- free blocks may be taken
+
+module _ (image : Image) (blocks inodes : Set) (exact : AreExact image blocks inodes) where
+  free_of : (b : ℕ) → Has (members blocks) b → IsFreeBlock image b
+  free_of b there = exact.free_blocks.free b (of_members blocks b there)
+
+  pub usable_members : (count : ℕ) → block_count image ≡ count → IsUsable count (members blocks)
+  usable_members count e = record {
+    low = each-of (λ b. 1 ≤ b) (members blocks) (λ b there. (free_of b there).low);
+    high = each-of (λ b. b < count) (members blocks) (λ b there. let high = (free_of b there).high in omega (arith, high, e));
+    apart = members_apart blocks;
+  }
+
+  pub unused_members : Each (λ b. IsLiveBlock image b → ⊥) (members blocks)
+  unused_members = each-of (λ b. IsLiveBlock image b → ⊥) (members blocks) (λ b there. (free_of b there).free)
+
+-- ---- the file takes some of them
+
+module _ (old new : Image) (x : ℕ) (wf : IsWellFormed old) (changes : ChangesFile old new x) (taken : List ℕ) (blocks after inodes : Set) (exact : AreExact old blocks inodes)
+    (takes : members blocks ≡ taken ++ members after) (room : length after ≡ length blocks) (back : (b : ℕ) → IsLiveBlock new b → IsLiveBlock old b ⊎ Has taken b) (stays : (b : ℕ) → IsLiveBlock old b → IsLiveBlock new b)
+    (took : (b : ℕ) → Has taken b → IsLiveBlock new b) where
+  apart : AreApart (taken ++ members after)
+  apart = subst AreApart takes (members_apart blocks)
+
+  free_now : (b : ℕ) → has after b ≡ true → IsFreeBlock new b
+  free_now b is =
+      let there : Has (members blocks) b = subst (λ bs. Has bs b) (sym takes) (has-behind taken (members after) b (in_members after b is)) in
+      let free : IsFreeBlock old b = free_of old blocks inodes exact b there in
+      record {
+        low = free.low;
+        high = rw changes.trees.whole free.high;
+        free = λ live. elim (back b live) [ inl was ↦ free.free was | inr early ↦ apart_parts taken (members after) b apart early (in_members after b is) ];
+      }
+
+  all_now : (b : ℕ) → IsFreeBlock new b → has after b ≡ true
+  all_now b free =
+      let was : has blocks b ≡ true = exact.free_blocks.all b (record { low = free.low; high = rw changes.trees.whole at free.high; free = λ live. free.free (stays b live) }) in
+      elim (has_either taken (members after) b (subst (λ bs. Has bs b) takes (in_members blocks b was))) [ inl early ↦ absurd (free.free (took b early)) | inr late ↦ of_members after b late ]
+
+  pub exact_taken : AreExact new after inodes
+  exact_taken = record {
+    block_room = rw changes.trees.whole (room ∙ exact.block_room);
+    inode_room = rw changes.trees.whole exact.inode_room;
+    free_blocks = record { free = free_now; all = all_now };
+    free_inodes = free_inodes_stay old new (has inodes) (changes.size 0 inode_file (changed.not_zero old new x wf changes)) (changed.reached-back old new x wf changes) (changed.reached-on old new x wf changes) exact.free_inodes;
+  }

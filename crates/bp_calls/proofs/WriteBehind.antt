@@ -1,0 +1,191 @@
+-- A write behind the size of a file: what it asks of a preparation, and that it is performed.
+use Rattle.std.proofs.Common.{◌≡◌, ◌≢◌, ◌⊎◌, ℕ, zero, suc, ◌+◌, ◌-◌, ◌*◌, ◌<◌, ◌≤◌, max, List, [], ◌∷◌, ◌++◌, length, map, Bool, true, false, ◌&&◌, nat_le, nat_lt, if◌then◌else◌, slice_index, refl, sym, ◌∙◌, ap, subst, inl, inr, arith, lt-ltb, le-ltb, le-leb}
+use Rattle.std.proofs.lemmas.Bool.{cases_lt, lt-leb}
+use Rattle.std.proofs.lemmas.List.{append-nil}
+use Rattle.bp_free.specs.Set.{Set, members}
+use Rattle.bp_layout.specs.Free.{HasFree}
+use Rattle.bp_layout.specs.Same.{Same}
+use Rattle.bp_layout.specs.Inode.{kind_of, root_of, size_of, ContentStandsAt}
+use Rattle.bp_layout.specs.Need.{Beyond}
+use Rattle.bp_layout.specs.Need.Change.{writes}
+use Rattle.bp_layout.specs.Nodes.{nodes_for}
+use Rattle.bp_layout.specs.Tree.{byte}
+use Rattle.bp_layout.specs.WordPaths.{WordPath, digits, inode_path, tree_path}
+use Rattle.bp_layout.specs.Words.{Image, word, block_count, height_of}
+use Rattle.bp_changes.specs.SameContent.{IsReadByWords}
+use Rattle.pm_epochs.specs.Crash.{commit}
+use Rattle.pm_region.specs.Memory.{Memory, current_words, room_in, Adds}
+use Rattle.pm_region.proofs.MemoryLaws.{base-adds, length-current_words}
+use Rattle.pm_region.proofs.SafeLaws.{room_after_quiet}
+use Rattle.bp_tree.specs.Performs.{Performs}
+use Rattle.bp_append.specs.Given.{given}
+use Rattle.bp_append.specs.Stores.{prep_stores}
+use Rattle.bp_append.proofs.StoresLaws.{behind_whole}
+use Rattle.bp_append.specs.Prepared.{CanPrepare, PreparesWith, need_for}
+use Rattle.bp_append.proofs.FewNeeded.{few_needed}
+use Rattle.bp_append.proofs.GrowsTree.{OnlyGrows, GrowsTree, only_need, grown_size, grown_performs}
+use Rattle.bp_append.proofs.GrownEffect.{grown_changes, grown_bytes, grown_live, grown_stays, grown_taken}
+use Rattle.bp_calls.specs.CanWrite.{CanWrite}
+use Rattle.bp_shapes.specs.Sets.{AreExact}
+use Rattle.bp_calls.specs.Space.{LacksSpace}
+use Rattle.bp_calls.specs.WritesFile.{WritesFile, written_byte}
+use Rattle.bp_calls.proofs.FreeCounts.{free_members}
+use Rattle.bp_calls.proofs.TakenBlocks.{exact_taken, unused_members, usable_members}
+
+-- ---- one byte
+
+module _ (off : ℕ) (bytes : List ℕ) (size : ℕ) (old : ℕ → ℕ) (o : ℕ) where
+  abbrev by_tests : Bool → Bool → Bool → ℕ
+  by_tests from_here up_to below = if from_here && up_to then slice_index bytes (o - off) else if below then old o else 0
+
+  pub written_inside : off ≤ o → o < off + length bytes → written_byte off bytes size old o ≡ slice_index bytes (o - off)
+  written_inside low high = rw (le-leb off o low, lt-ltb o (off + length bytes) high) refl
+
+  pub written_before : o < off → o < size → written_byte off bytes size old o ≡ old o
+  written_before low below = rw (lt-leb off o low, lt-ltb o size below) refl
+
+  pub written_between : o < off → size ≤ o → written_byte off bytes size old o ≡ 0
+  written_between low past = rw (lt-leb off o low, le-ltb o size past) refl
+
+given_inside : (from : ℕ) (bytes : List ℕ) (o : ℕ) → from ≤ o → given from bytes o ≡ slice_index bytes (o - from)
+given_inside from bytes o low = rw (le-leb from o low) refl
+
+given_before : (from : ℕ) (bytes : List ℕ) (o : ℕ) → o < from → given from bytes o ≡ 0
+given_before from bytes o low = rw (lt-leb from o low) refl
+
+-- ---- what the change touches
+
+only_grows : (image : Image) (i off len : ℕ) → size_of image i ≤ off → 1 ≤ len → OnlyGrows image (writes i off len) i off (off + len)
+only_grows image i off len behind some = record {
+  prepares =
+      let top : max off (size_of image i) ≡ off = omega (arith, behind) in
+      rw (lt-ltb (size_of image i) (off + len) (omega (arith, behind, some)), top) refl;
+  no_inodes = refl;
+  touches = rw (le-ltb off (size_of image i) behind, lt-ltb (size_of image i) (off + len) (omega (arith, behind, some))) refl;
+}
+
+-- ---- the call
+
+module _ (old : Memory) (blocks inodes : Set) (n off : ℕ) (bytes : List ℕ) (can : CanWrite old blocks inodes (suc n) off bytes) (behind : size_of (current_words old) (suc n) ≤ off) where
+  abbrev image : Image
+  image = current_words old
+
+  abbrev end : ℕ
+  end = off + length bytes
+
+  abbrev need_here : ℕ
+  need_here = length (nodes_for image (root_of image (suc n)) (size_of image (suc n)) off end)
+
+  pub behind_few : need_here ≤ 18 + 3 * 3
+  behind_few = few_needed image (root_of image (suc n)) (size_of image (suc n)) off end (omega (arith, can.short)) behind (can.well_formed.sound (suc n) can.reached).low
+
+  pub behind_prepares : need_here ≤ length (members blocks) → (path : WordPath) → path ≡ inode_path (height_of (root_of image 0)) (suc n) 1 → CanPrepare old (members blocks) (suc n) path off end
+  behind_prepares enough path is = record {
+    well = can.well_formed;
+    reached = can.reached;
+    leads = is ∙ sym (append-nil (inode_path (height_of (root_of image 0)) (suc n) 1));
+    behind = behind;
+    order = omega arith;
+    fits = can.fits;
+    by_words = λ by. elim by [ inl e ↦ omega (arith, e) | inr two ↦ omega (arith, two, can.file) ];
+    usable = usable_members image blocks inodes can.exact _ (omega (arith, length-current_words old));
+    unused = unused_members image blocks inodes can.exact;
+    enough = enough;
+    room = omega (arith, behind_few, can.room);
+  }
+
+  module _ (middle new : Memory) (after : Set) (path : WordPath) (place : ℕ) (prepares : CanPrepare old (members blocks) (suc n) path off end) (stands : ContentStandsAt image 0 (8 * suc n + 2) place)
+      (prepared : PreparesWith old middle (members blocks) (members after) (suc n) off end bytes) (stored : Adds middle new (commit place end)) where
+    only : OnlyGrows image (writes (suc n) off (length bytes)) (suc n) off end
+    only = only_grows image (suc n) off (length bytes) behind can.some
+
+    grows : GrowsTree old middle new (members blocks) (members after) path n off end place bytes
+    grows = record { can = prepares; is_file = can.file; stands = stands; prepared = prepared; stored = stored }
+
+    size_is : size_of (current_words new) (suc n) ≡ end
+    size_is = grown_size old middle new (members blocks) (members after) path n off end place bytes grows (writes (suc n) off (length bytes)) only
+
+    byte_is : (o : ℕ) → o < end → byte (current_words new) (root_of (current_words new) (suc n)) o ≡ written_byte off bytes (size_of image (suc n)) (byte image (root_of image (suc n))) o
+    byte_is o low =
+        grown_bytes old middle new (members blocks) (members after) path n off end place bytes grows (writes (suc n) off (length bytes)) only o low
+        ∙ go (cases_lt o (size_of image (suc n))) (cases_lt o off)
+      where
+        go : (o < size_of image (suc n)) ⊎ (size_of image (suc n) ≤ o) → (o < off) ⊎ (off ≤ o) →
+            byte (current_words middle) (root_of (current_words middle) (suc n)) o ≡ written_byte off bytes (size_of image (suc n)) (byte image (root_of image (suc n))) o
+        go (inl below) where_is =
+            prepared.ready.kept o below ∙ sym (written_before off bytes (size_of image (suc n)) (byte image (root_of image (suc n))) o (omega (arith, below, behind)) below)
+        go (inr past) (inl before) =
+            prepared.ready.bytes_are o past low ∙ given_before off bytes o before ∙ sym (written_between off bytes (size_of image (suc n)) (byte image (root_of image (suc n))) o before past)
+        go (inr past) (inr inside) =
+            prepared.ready.bytes_are o past low ∙ given_inside off bytes o inside ∙ sym (written_inside off bytes (size_of image (suc n)) (byte image (root_of image (suc n))) o inside low)
+
+    pub behind_writes : WritesFile (suc n) off bytes image (current_words new)
+    behind_writes = record {
+      changes = grown_changes old middle new (members blocks) (members after) path n off end place bytes grows (writes (suc n) off (length bytes)) only;
+      size = omega (arith, size_is, behind);
+      bytes_are = λ o low. byte_is o (omega (arith, low, size_is));
+    }
+
+    pub behind_performs : Performs old new (writes (suc n) off (length bytes)) (WritesFile (suc n) off bytes)
+    behind_performs =
+        grown_performs old middle new (members blocks) (members after) path n off end place bytes grows (writes (suc n) off (length bytes)) only (WritesFile (suc n) off bytes) behind_writes
+
+    pub behind_exact : length after ≡ length blocks → AreExact (current_words new) after inodes
+    unfolding grows
+    behind_exact room =
+        exact_taken image (current_words new) (suc n) can.well_formed behind_writes.changes prepared.taken blocks after inodes can.exact prepared.takes room
+        (grown_live old middle new (members blocks) (members after) path n off end place bytes grows (writes (suc n) off (length bytes)) only)
+        (grown_stays old middle new (members blocks) (members after) path n off end place bytes grows (writes (suc n) off (length bytes)) only)
+        (grown_taken old middle new (members blocks) (members after) path n off end place bytes grows (writes (suc n) off (length bytes)) only)
+
+-- ---- by the number of the inode
+
+module _ (old : Memory) (blocks inodes : Set) (off : ℕ) (bytes : List ℕ) where
+  abbrev nodes_here : ℕ → ℕ → ℕ
+  nodes_here root size = length (nodes_for (current_words old) root size off (off + length bytes))
+
+  not_inodes : (P : Type 0) → CanWrite old blocks inodes 0 off bytes → P
+  not_inodes P can = absurd (omega (arith, can.file))
+
+  pub behind_lacks : (i root size needed free : ℕ) → CanWrite old blocks inodes i off bytes → size_of (current_words old) i ≤ off → root ≡ root_of (current_words old) i → size ≡ size_of (current_words old) i →
+      needed ≡ nodes_here root size → free ≡ length (members blocks) → free < needed → LacksSpace (current_words old) (writes i off (length bytes)) (record { need = needed; free = free })
+  behind_lacks zero root size needed free can = λ behind one two counted is fewer. not_inodes _ can
+  behind_lacks (suc n) root size needed free can = λ behind one two counted is fewer. record {
+    needed = only_need (current_words old) (writes (suc n) off (length bytes)) n off (off + length bytes) can.well_formed can.reached (only_grows (current_words old) (suc n) off (length bytes) behind can.some)
+        ∙ sym (counted ∙ ap (λ r. nodes_here r size) one ∙ ap (nodes_here (root_of (current_words old) (suc n))) two);
+    free = subst (HasFree (current_words old)) (sym is) (free_members (current_words old) blocks can.exact.free_blocks can.exact.block_room);
+    fewer = fewer;
+  }
+
+  pub behind_can : (i root size needed : ℕ) (path : WordPath) → CanWrite old blocks inodes i off bytes → size_of (current_words old) i ≤ off → root ≡ root_of (current_words old) i → size ≡ size_of (current_words old) i →
+      needed ≡ nodes_here root size → needed ≤ length (members blocks) → path ≡ inode_path (height_of (root_of (current_words old) 0)) i 1 → CanPrepare old (members blocks) i path off (off + length bytes)
+  behind_can zero root size needed path can = λ behind one two counted enough is. not_inodes _ can
+  behind_can (suc n) root size needed path can = λ behind one two counted enough is.
+      behind_prepares old blocks inodes n off bytes can behind
+      (subst (λ k. k ≤ length (members blocks)) (counted ∙ ap (λ r. nodes_here r size) one ∙ ap (nodes_here (root_of (current_words old) (suc n))) two) enough) path is
+
+  module _ (middle : Memory) (after : Set) where
+    pub prepared_base : (i : ℕ) → PreparesWith old middle (members blocks) (members after) i off (off + length bytes) bytes → length middle.base ≡ length old.base
+    prepared_base i prepared = ap length (base-adds old middle _ prepared.adds.part.adds)
+
+    pub prepared_room : (i : ℕ) → CanWrite old blocks inodes i off bytes → size_of (current_words old) i ≤ off → PreparesWith old middle (members blocks) (members after) i off (off + length bytes) bytes → 3 ≤ room_in middle
+    prepared_room zero can = λ behind prepared. not_inodes _ can
+    prepared_room (suc n) can = λ behind prepared.
+        let left = room_after_quiet Same 2 (prep_stores (size_of (current_words old) (suc n)) off (off + length bytes) (need_for (current_words old) (suc n) off (off + length bytes))) old middle prepared.adds.part in
+        enough _ _ _ _ left (behind_whole (size_of (current_words old) (suc n)) off (off + length bytes) 3) (behind_few old blocks inodes n off bytes can behind) can.room
+      where
+        enough : (needed behind room left : ℕ) → room ≤ left + (2 + (512 * needed + behind + 2)) → behind ≤ 512 * suc 3 → needed ≤ 18 + 3 * 3 → 65536 ≤ room → 3 ≤ left
+        enough needed behind room left a b c d = omega (arith, a, b, c, d)
+
+    module _ (new : Memory) (path : WordPath) (place : ℕ) where
+      pub behind_performs_at : (i : ℕ) → CanWrite old blocks inodes i off bytes → size_of (current_words old) i ≤ off → CanPrepare old (members blocks) i path off (off + length bytes) →
+          ContentStandsAt (current_words old) 0 (8 * i + 2) place → PreparesWith old middle (members blocks) (members after) i off (off + length bytes) bytes → Adds middle new (commit place (off + length bytes)) →
+          Performs old new (writes i off (length bytes)) (WritesFile i off bytes)
+      behind_performs_at zero can = λ behind prepares stands prepared stored. not_inodes _ can
+      behind_performs_at (suc n) can = λ behind prepares stands prepared stored. behind_performs old blocks inodes n off bytes can behind middle new after path place prepares stands prepared stored
+
+      pub behind_exact_at : (i : ℕ) → CanWrite old blocks inodes i off bytes → size_of (current_words old) i ≤ off → CanPrepare old (members blocks) i path off (off + length bytes) →
+          ContentStandsAt (current_words old) 0 (8 * i + 2) place → PreparesWith old middle (members blocks) (members after) i off (off + length bytes) bytes → Adds middle new (commit place (off + length bytes)) →
+          length after ≡ length blocks → AreExact (current_words new) after inodes
+      behind_exact_at zero can = λ behind prepares stands prepared stored room. not_inodes _ can
+      behind_exact_at (suc n) can = λ behind prepares stands prepared stored room. behind_exact old blocks inodes n off bytes can behind middle new after path place prepares stands prepared stored room

@@ -1,0 +1,64 @@
+//! Bytes into a file: three ways, by where they lie to its size.
+
+ghost use Rattle.std.specs.Prelude.{◌≡◌, ◌≤◌, length, IfErr, OnErr, OnOk};
+ghost use Rattle.bp_calls.specs.CanWrite.{CanWrite};
+ghost use Rattle.bp_shapes.specs.Sets.{AreExact};
+ghost use Rattle.bp_calls.specs.Space.{LacksSpace};
+ghost use Rattle.bp_calls.specs.WritesFile.{WritesFile};
+ghost use Rattle.bp_layout.specs.Inode.{root_of, size_of};
+ghost use Rattle.bp_layout.specs.Need.Change.{writes};
+ghost use Rattle.bp_layout.specs.WordPaths.{inode_path};
+ghost use Rattle.bp_layout.specs.Words.{height_of};
+ghost use Rattle.bp_tree.specs.Performs.{Performs};
+ghost use Rattle.pm_region.specs.Memory.{current_words};
+
+use crate::entering::tree_of;
+use bp_append::{need_prep, prep};
+use bp_free::{NoSpace, Parts};
+use bp_inodes::{inode_file, place};
+use bp_inplace::commit_word;
+use bp_limits::INODE_SIZE;
+use bp_tree::{Slots, word_path};
+use pm_region::Region;
+
+/// The path of the root word of an inode.
+fn root_path<R: Region>(region: &R, i: u32) -> Slots
+    requires { 4 ≤ length (current_words (R.memory region.now)) }
+    ensures { result.items ≡ inode_path (height_of (root_of (current_words (R.memory region.now)) 0)) i 1 }
+{
+    word_path(inode_file(region), u64::from(i) * INODE_SIZE + 8)
+}
+
+/// Writes bytes behind the size of a file. Its tree is prepared for them, and then its size takes them in.
+///
+/// # Errors
+///
+/// Where fewer blocks are free than are needed.
+pub(crate) fn write_behind<R: Region>(
+    parts: &mut Parts<R>,
+    i: u32,
+    off: u64,
+    bytes: &[u8],
+) -> Result<(), NoSpace>
+    requires can { CanWrite (R.memory parts.old.region) parts.old.blocks parts.old.inodes i off bytes.now }
+    requires behind { size_of (current_words (R.memory parts.old.region)) i ≤ off }
+    ensures performs { OnOk result (Performs (R.memory parts.old.region) (R.memory parts.new.region)
+        (writes i off (length bytes.now)) (WritesFile i off bytes.now)) }
+    ensures exact { AreExact (current_words (R.memory parts.new.region)) parts.new.blocks parts.new.inodes }
+    ensures refused { IfErr result (LacksSpace (current_words (R.memory parts.old.region))
+        (writes i off (length bytes.now))) }
+    ensures same { OnErr result (parts.new ≡ parts.old) }
+{
+    let tree = tree_of(&parts.region, i);
+    let end = off + bytes.len() as u64;
+    let need = need_prep(&parts.region, tree, off, end);
+    let free = parts.blocks.count();
+    if free < need {
+        return Err(NoSpace { need, free });
+    }
+    let root = root_path(&parts.region, i);
+    let size_place = place(&parts.region, i, 2);
+    prep(parts, &root, off, bytes, end);
+    commit_word(&mut parts.region, size_place, end);
+    Ok(())
+}

@@ -4,6 +4,7 @@ use Rattle.std.specs.Str.Parse.{digits_value, without_leading_plus}
 use Rattle.clap.specs.Words.{Row, Text, first_of, one_of}
 use Rattle.clap.specs.ValueTests.{accepts}
 use Rattle.clap.specs.declared.builder.value_parser.ValueParser.TheVariants as vp
+use Rattle.bp_limits.specs.Limits.{max_blocks, min_blocks}
 use Rattle.bp_command.specs.Commands.{IsTaken, met}
 use Rattle.bp_command.specs.declared.reading.Program.{Program as Asked}
 use Rattle.bp_command.specs.declared.reading.Program.TheVariants.{Format, Run, Check}
@@ -19,6 +20,12 @@ program_of (Format name blocks) = formats name.now blocks
 program_of (Run name) = runs name.now
 program_of (Check name) = checks name.now
 
+-- a format is asked for of a number of blocks that an image may have
+abbrev pub IsInRange : Program → Type 0
+IsInRange (formats name blocks) = (min_blocks ≤ blocks) × (blocks ≤ max_blocks)
+IsInRange (runs name) = Unit {0}
+IsInRange (checks name) = Unit {0}
+
 -- ---- plain words
 
 -- a name that is not empty and doesn't begin with `-`, byte 45
@@ -33,7 +40,7 @@ words_of (runs name) = codes "run" ∷ name ∷ []
 words_of (checks name) = codes "check" ∷ name ∷ []
 
 abbrev pub IsProper : Program → Type 0
-IsProper (formats name blocks) = IsFileName name × (8 ≤ blocks) × (blocks ≤ 16384)
+IsProper (formats name blocks) = IsFileName name × (min_blocks ≤ blocks) × (blocks ≤ max_blocks)
 IsProper (runs name) = IsFileName name
 IsProper (checks name) = IsFileName name
 
@@ -50,9 +57,9 @@ name_in rows = unwrap_or (first_of (codes "FILE") rows) []
 
 -- the number of blocks in range that the words give
 pub record HasBlocks (rows : List Row) (blocks : ℕ) : Type 0 where
-  pub least : 8 ≤ blocks
-  pub most : blocks ≤ 16384
-  pub given : (digits : Text) → one_of (codes "blocks") rows ≡ Some digits → accepts false (vp.Unsigned 8 16384) digits ≡ true → digits_value 10 (without_leading_plus digits) ≡ blocks
+  pub least : min_blocks ≤ blocks
+  pub most : blocks ≤ max_blocks
+  pub given : (digits : Text) → one_of (codes "blocks") rows ≡ Some digits → accepts false (vp.Unsigned min_blocks max_blocks) digits ≡ true → digits_value 10 (without_leading_plus digits) ≡ blocks
 
 -- a subcommand with these values asks for the program
 abbrev pub Names : Text → List Row → Program → Type 0

@@ -2,7 +2,7 @@
 
 ghost use Rattle.std.specs.Prelude.{◌≡◌, ◌≤◌, IfOk, IfSome, IsErrOf, MatchOption, OnOk, codes, map};
 ghost use Rattle.bp_command.specs.Commands.{HasMet, IsTaken};
-ghost use Rattle.bp_command.specs.Programs.{HasBlocks, Names, Requests, name_in, program_of};
+ghost use Rattle.bp_command.specs.Programs.{HasBlocks, IsInRange, Names, Requests, name_in, program_of};
 ghost use Rattle.clap.specs.Words.{found_of, rows_of};
 
 use crate::building::command;
@@ -95,7 +95,8 @@ fn blocks_of(values: &ArgMatches<'_>) -> u32
 
 /// What a subcommand with its values asks for.
 fn program_named<'a>(verb: &str, values: &ArgMatches<'a>) -> Program<'a>
-    ensures { Names verb.now (rows_of (found_of values.now)) (program_of result) }
+    ensures names { Names verb.now (rows_of (found_of values.now)) (program_of result) }
+    ensures range { IsInRange (program_of result) }
 {
     let name = name_of(values);
     match verb {
@@ -115,6 +116,7 @@ fn program_named<'a>(verb: &str, values: &ArgMatches<'a>) -> Program<'a>
 /// `Usage` exactly where `clap` takes the words for no command of the program, help among them.
 pub fn read_words<'a>(alloc: Global, words: &'a [&'a str]) -> Result<Program<'a>, WordsFault>
     ensures asks { IfOk result (λ program. Requests (map (λ word. word.now) words.now) (program_of program)) }
+    ensures range { IfOk result (λ program. IsInRange (program_of program)) }
     ensures usage { IsErrOf result WordsFault.Usage → ¬ IsTaken (map (λ word. word.now) words.now) }
 {
     let found = match matches(alloc, words) {

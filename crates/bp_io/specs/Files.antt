@@ -1,13 +1,16 @@
--- What the calls on a file do to its blocks.
-use Rattle.std.specs.Prelude.{◌≡◌, ◌⊎◌, ◌↔◌, ℕ, ◌+◌, ◌*◌, ◌-◌, List, [], ◌++◌, length, take, drop, replicate, Option, Some, None, ⊤, Bool, true, false, slice_range}
+-- What is told of files, and what the calls on them do.
+use Rattle.std.specs.Prelude.{◌≡◌, ◌⊎◌, ℕ, ◌+◌, ◌*◌, ◌-◌, ◌/◌, List, [], ◌++◌, length, take, drop, replicate, Option, Some, None, ⊤, Bool, true, false, slice_range}
+use Rattle.bp_limits.specs.Limits.{block_size}
+use Rattle.bp_io.specs.declared.access.Access.{Access}
+use Rattle.bp_io.specs.declared.access.Access.TheVariants.{Read, Write, Make}
 
 -- a block's bytes
 abbrev pub block_of : List ℕ → ℕ → List ℕ
-block_of bytes i = slice_range bytes (4096 * i) (4096 * i + 4096)
+block_of bytes i = slice_range bytes (block_size * i) (block_size * i + block_size)
 
 -- a file with another block at i
 abbrev pub with_block : ℕ → List ℕ → List ℕ → List ℕ
-with_block i block bytes = take (4096 * i) bytes ++ block ++ drop (4096 * i + 4096) bytes
+with_block i block bytes = take (block_size * i) bytes ++ block ++ drop (block_size * i + block_size) bytes
 
 -- a file cut to a length, or filled up to it with zeros
 abbrev pub resized : ℕ → List ℕ → List ℕ
@@ -16,6 +19,31 @@ resized n bytes = take n bytes ++ replicate (n - length bytes) 0
 -- what is known of a name: nothing, or that no file has it, or the file's bytes
 abbrev pub Known : Type 0
 Known = Option (Option (List ℕ))
+
+-- What is told of files at a moment: under which names one is attached, how many whole blocks the attached one has (0 where
+-- none is), whether it may be written, whether all that was written is known to be flushed, what is known of the file of each
+-- name, and how often they have failed, up to 2^64 - 1, where the count stops.
+pub record View : Type 0 where
+  pub is_attached : List ℕ → Bool
+  pub blocks : ℕ
+  pub may_write : Bool
+  pub is_flushed : Bool
+  pub contents : List ℕ → Known
+  pub faults : ℕ
+
+-- an attached file of this access may be written
+abbrev pub may_change : Access → Bool
+may_change Read = false
+may_change Write = true
+may_change Make = true
+
+-- this access gives a name that is not there an empty file
+abbrev pub makes : Access → Bool
+makes Read = false
+makes Write = false
+makes Make = true
+
+-- ---- what is known of a name, before and after a call
 
 -- what is told stays, and what is not told stays untold
 abbrev pub Stays : Known → Known → Type 0
@@ -50,13 +78,64 @@ StaysOrIsMade make None new = ⊤
 StaysOrIsMade make (Some None) new = (new ≡ Some None) ⊎ ((make ≡ true) × (new ≡ Some (Some [])))
 StaysOrIsMade make (Some (Some bytes)) new = ⊤
 
--- the same names are attached, with as many blocks
-abbrev pub StaysAttached : (List ℕ → Type 0) → (List ℕ → Type 0) → ℕ → ℕ → Type 0
-StaysAttached old new blocks now = ((name : List ℕ) → old name ↔ new name) × (now ≡ blocks)
-
 -- After an attach, a file that was there has its bytes, and one that was made has none.
 abbrev pub Attaches : Known → Option ℕ → Known → Type 0
 Attaches None length new = new ≡ None
 Attaches (Some None) None new = new ≡ Some None
 Attaches (Some None) (Some n) new = new ≡ Some (Some [])
 Attaches (Some (Some bytes)) length new = new ≡ Some (Some bytes)
+
+-- ---- what is told of files, before and after a call
+
+-- The file of this name is attached, has this length in bytes, and may be written as was asked.
+pub record IsAttached (now : View) (name : List ℕ) (access : Access) (len : ℕ) : Type 0 where
+  pub attached : now.is_attached name ≡ true
+  pub blocks : now.blocks ≡ len / block_size
+  pub may_write : now.may_write ≡ may_change access
+
+-- The same file is attached, under the same names and with the same blocks.
+pub record StaysAttached (old new : View) : Type 0 where
+  pub attached : (name : List ℕ) → new.is_attached name ≡ old.is_attached name
+  pub blocks : new.blocks ≡ old.blocks
+  pub may_write : new.may_write ≡ old.may_write
+
+-- No file changes.
+abbrev pub KeepsFiles : View → View → Type 0
+KeepsFiles old new = (name : List ℕ) → Stays (old.contents name) (new.contents name)
+
+-- Of a file that is not attached nothing changes.
+abbrev pub KeepsOthers : View → View → Type 0
+KeepsOthers old new = (name : List ℕ) → old.is_attached name ≡ false → Stays (old.contents name) (new.contents name)
+
+-- The attached file changes so.
+abbrev pub Changes : (List ℕ → List ℕ) → View → View → Type 0
+Changes f old new = (name : List ℕ) → old.is_attached name ≡ true → Becomes f (old.contents name) (new.contents name)
+
+-- The attached file stays.
+abbrev pub KeepsAttached : View → View → Type 0
+KeepsAttached old new = (name : List ℕ) → old.is_attached name ≡ true → Stays (old.contents name) (new.contents name)
+
+-- The attached file changes so, or stays.
+abbrev pub MayChange : (List ℕ → List ℕ) → View → View → Type 0
+MayChange f old new = (name : List ℕ) → old.is_attached name ≡ true
+    → Stays (old.contents name) (new.contents name) ⊎ Becomes f (old.contents name) (new.contents name)
+
+-- The attached file changes to so many blocks.
+pub record Resizes (n : ℕ) (old new : View) : Type 0 where
+  pub bytes : Changes (resized (block_size * n)) old new
+  pub blocks : new.blocks ≡ n
+
+-- It stays, with its blocks.
+pub record KeepsSize (old new : View) : Type 0 where
+  pub bytes : KeepsAttached old new
+  pub blocks : new.blocks ≡ old.blocks
+
+-- These are the bytes of the block i of the attached file, where they are told.
+abbrev pub IsBlock : View → ℕ → List ℕ → Type 0
+IsBlock old i block = (name : List ℕ) → old.is_attached name ≡ true → Tells (old.contents name) (λ bytes. block ≡ block_of bytes i)
+
+-- Nothing changes but the count of faults.
+pub record Reads (old new : View) : Type 0 where
+  pub files : KeepsFiles old new
+  pub attached : StaysAttached old new
+  pub flushed : new.is_flushed ≡ old.is_flushed

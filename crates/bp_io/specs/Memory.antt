@@ -1,5 +1,7 @@
 -- What the sources, sinks and files in memory hold.
-use Rattle.std.specs.Prelude.{◌/◌, length, Bool, if◌then◌else◌, List, ℕ, Option, Some, None}
+use Rattle.std.specs.Prelude.{◌/◌, length, if◌then◌else◌, List, ℕ, Option, Some, None}
+use Rattle.bp_limits.specs.Limits.{block_size}
+use Rattle.bp_io.specs.Files.{View}
 use Rattle.bp_io.specs.Plans.{Plan}
 use Rattle.bp_io.specs.declared.faults.CallPlan.{CallPlan}
 use Rattle.bp_io.specs.declared.memory_streams.FairSource.{FairSource}
@@ -53,22 +55,31 @@ null_count s = s.count
 abbrev pub fair_image : FairFiles → List ℕ
 fair_image s = s.image.bytes.items
 
-abbrev pub fair_attached : FairFiles → Bool
-fair_attached s = s.attached
+-- what is told of it
+abbrev pub fair_view : FairFiles → View
+fair_view s = record {
+  is_attached = λ name. s.is_attached;
+  blocks = if s.is_attached then length s.image.bytes.items / block_size else 0;
+  may_write = s.may_write;
+  is_flushed = s.is_flushed;
+  contents = λ name. Some (Some (fair_image s));
+  faults = 0;
+}
 
 -- the bytes of the file of every name, where there is one
 abbrev pub mem_image : MemFiles → Option (List ℕ)
 mem_image s = if s.is_there then Some s.image.bytes.items else None
 
-abbrev pub mem_attached : MemFiles → Bool
-mem_attached s = s.is_attached
-
--- how many whole blocks the attached file has; 0 where none is
-abbrev pub mem_blocks : MemFiles → ℕ
-mem_blocks s = if s.is_attached then length s.image.bytes.items / 4096 else 0
+-- what is told of it
+abbrev pub mem_view : MemFiles → View
+mem_view s = record {
+  is_attached = λ name. s.is_attached;
+  blocks = if s.is_attached then length s.image.bytes.items / block_size else 0;
+  may_write = s.may_write;
+  is_flushed = s.is_flushed;
+  contents = λ name. Some (mem_image s);
+  faults = s.plan.faults;
+}
 
 abbrev pub files_plan : MemFiles → Plan
 files_plan s = plan_of s.plan
-
-abbrev pub files_faults : MemFiles → ℕ
-files_faults s = s.plan.faults

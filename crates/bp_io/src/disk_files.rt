@@ -1,15 +1,13 @@
 // Files on the disk. They tell no bytes.
-ghost use Rattle.std.specs.Prelude.{◌≡◌, List, ℕ, None, true, is_some, if◌then◌else◌};
+ghost use Rattle.std.specs.Prelude.{◌≡◌, List, ℕ, None, true, false, is_some, if◌then◌else◌};
 
-use crate::faults::{or_fault, raise};
-use crate::{Failed, files};
+use crate::faults::SystemFaults;
+use crate::{Access, Failed, files};
+use bp_limits::BLOCK_SIZE;
 use std::fs::{File, OpenOptions};
 use std::io::ErrorKind;
 use std::os::unix::fs::FileExt;
-use std::{io, rt};
-
-// The bytes of a block.
-const BLOCK: u64 = 4096;
+use std::{fs, io, rt};
 
 /// The files that a runtime opens, by path. They tell no bytes: that blocks are read from and
 /// written to the file is trusted, and tested.
@@ -22,22 +20,32 @@ pub struct DiskFiles<R: rt::Files<File = File> + Drop> {
     runtime: R,
     file: Option<File>,
     blocks: u64,
-    faults: u64,
+    may_write: bool,
+    is_flushed: bool,
+    faults: SystemFaults,
 }
 
 impl<R: rt::Files<File = File> + Drop> DiskFiles<R> {
     /// The files of this runtime, of which none is attached yet.
     pub fn new(runtime: R) -> Self
-        ensures attached { (name : List ℕ) → ¬ ⟦<DiskFiles<R> as files::Files>⟧.is_attached result name }
-        ensures blocks { ⟦<DiskFiles<R> as files::Files>⟧.blocks result ≡ 0 }
-        ensures faults { ⟦<DiskFiles<R> as files::Files>⟧.faults result ≡ 0 }
+        ensures attached { (name : List ℕ) → (⟦<DiskFiles<R> as files::Files>⟧.view result).is_attached name ≡ false }
+        ensures blocks { (⟦<DiskFiles<R> as files::Files>⟧.view result).blocks ≡ 0 }
+        ensures flushed { (⟦<DiskFiles<R> as files::Files>⟧.view result).is_flushed ≡ true }
+        ensures faults { (⟦<DiskFiles<R> as files::Files>⟧.view result).faults ≡ 0 }
     {
         DiskFiles {
             runtime,
             file: None,
             blocks: 0,
-            faults: 0,
+            may_write: false,
+            is_flushed: true,
+            faults: SystemFaults::none(),
         }
+    }
+
+    /// The last error of the system, where there was one.
+    pub fn last_error(&self) -> Option<io::Error> {
+        self.faults.last
     }
 
     // The attached file.
@@ -51,60 +59,82 @@ impl<R: rt::Files<File = File> + Drop> DiskFiles<R> {
     }
 }
 
-// Opens a regular file, and answers it with its length in bytes.
-fn open<R: rt::Files<File = File>>(runtime: &R, name: &str, make: bool) -> io::Result<(File, u64)> {
+// The fault of a name whose file has no blocks, as a folder or a device.
+fn no_file_of_blocks() -> io::Error {
+    io::Error::new(ErrorKind::InvalidInput, "not a regular file")
+}
+
+// Opens a regular file, and answers it with its length in bytes. One that may only be read is looked
+// at before it is opened, since opening a pipe so would wait for a writer.
+fn open<R: rt::Files<File = File>>(
+    runtime: &R,
+    name: &str,
+    access: Access,
+) -> io::Result<(File, u64)> {
+    if !access.may_change() && !fs::metadata(runtime, name)?.is_file() {
+        return Err(no_file_of_blocks());
+    }
     let file = OpenOptions::new()
         .read(true)
-        .write(true)
-        .create(make)
+        .write(access.may_change())
+        .create(access.makes())
         .open(runtime, name)?;
     let metadata = file.metadata()?;
     if !metadata.is_file() {
-        return Err(ErrorKind::InvalidInput.into());
+        return Err(no_file_of_blocks());
     }
     Ok((file, metadata.len()))
 }
 
 impl<R: rt::Files<File = File> + Drop> files::Files for DiskFiles<R> {
-    ghost is_attached = { λ s name. is_some s.file ≡ true };
+    ghost view = { λ s. record {
+      is_attached = λ name. is_some s.file;
+      blocks = if is_some s.file then s.blocks else 0;
+      may_write = s.may_write;
+      is_flushed = s.is_flushed;
+      contents = λ name. None;
+      faults = s.faults.count;
+    } };
 
-    ghost blocks = { λ s. if is_some s.file then s.blocks else 0 };
-
-    ghost contents = { λ s name. None };
-
-    ghost faults = { λ s. s.faults };
-
-    fn attach(&mut self, name: &str, make: bool) -> Result<Option<u64>, Failed> {
-        match open(&self.runtime, name, make) {
+    fn attach(&mut self, name: &str, access: Access) -> Result<Option<u64>, Failed> {
+        match open(&self.runtime, name, access) {
             Ok((file, length)) => {
                 self.file = Some(file);
-                self.blocks = length / BLOCK;
+                self.blocks = length / BLOCK_SIZE;
+                self.may_write = access.may_change();
+                if access.makes() {
+                    self.is_flushed = false;
+                }
                 Ok(Some(length))
             }
-            Err(e) if !make && e.kind() == ErrorKind::NotFound => Ok(None),
-            Err(_) => Err(raise(&mut self.faults)),
+            Err(e) if !access.makes() && e.kind() == ErrorKind::NotFound => Ok(None),
+            Err(e) => Err(self.faults.raise(e)),
         }
     }
 
     fn read_block(&mut self, i: u32, into: &mut [u8; 4096]) -> Result<(), Failed> {
-        let done = self.file().read_exact_at(into, BLOCK * u64::from(i));
-        or_fault(done, &mut self.faults)
+        let done = self.file().read_exact_at(into, BLOCK_SIZE * u64::from(i));
+        self.faults.or_fault(done)
     }
 
     fn write_block(&mut self, i: u32, from: &[u8; 4096]) -> Result<(), Failed> {
-        let done = self.file().write_all_at(from, BLOCK * u64::from(i));
-        or_fault(done, &mut self.faults)
+        self.is_flushed = false;
+        let done = self.file().write_all_at(from, BLOCK_SIZE * u64::from(i));
+        self.faults.or_fault(done)
     }
 
     fn set_blocks(&mut self, n: u32) -> Result<(), Failed> {
-        let done = self.file().set_len(BLOCK * u64::from(n));
-        or_fault(done, &mut self.faults)?;
+        self.is_flushed = false;
+        let done = self.file().set_len(BLOCK_SIZE * u64::from(n));
+        self.faults.or_fault(done)?;
         self.blocks = u64::from(n);
         Ok(())
     }
 
     fn flush(&mut self) -> Result<(), Failed> {
         let done = self.file().sync_data();
-        or_fault(done, &mut self.faults)
+        self.faults.or_fault(done)?;
+        self.is_flushed = true;
+        Ok(())
     }
 }

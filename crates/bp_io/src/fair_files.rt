@@ -1,9 +1,9 @@
 // A file in memory that has every name and never fails.
-ghost use Rattle.std.specs.Prelude.{◌≡◌, ◌≤◌, ◌/◌, Some, true, false, if◌then◌else◌, length, IfOk};
+ghost use Rattle.std.specs.Prelude.{◌≡◌, false, true, IfOk};
 
-use crate::Failed;
 use crate::files::Files;
 use crate::image::Image;
+use crate::{Access, Failed};
 use std::alloc::{AllocError, Global};
 
 /// A file in memory that has every name, and never fails: whatever is attached is this file. It has
@@ -11,25 +11,30 @@ use std::alloc::{AllocError, Global};
 #[derive(Drop)]
 pub struct FairFiles {
     image: Image,
-    attached: bool,
+    is_attached: bool,
+    may_write: bool,
+    is_flushed: bool,
 }
 
 impl FairFiles {
-    ghost use Rattle.bp_io.specs.Memory.{fair_image, fair_attached};
+    ghost use Rattle.bp_io.specs.Memory.{fair_image, fair_view};
 
-    /// A file of these bytes, at most 67,108,864, which is not attached yet.
+    /// A file of these bytes, which is not attached yet.
     ///
     /// # Errors
     ///
-    /// `AllocError` only where there is no memory for 67,108,864 bytes.
+    /// `AllocError` only where there is no memory for 67,108,864 bytes, or for these where they are
+    /// more.
     pub fn new(alloc: Global, bytes: &[u8]) -> Result<Self, AllocError>
-        requires { length bytes.now ≤ 67108864 }
         ensures image { IfOk result (λ files. fair_image files ≡ bytes.now) }
-        ensures attached { IfOk result (λ files. fair_attached files ≡ false) }
+        ensures attached { IfOk result (λ files. (fair_view files).is_attached ≡ λ name. false) }
+        ensures flushed { IfOk result (λ files. (fair_view files).is_flushed ≡ true) }
     {
         Ok(FairFiles {
             image: Image::new(alloc, bytes)?,
-            attached: false,
+            is_attached: false,
+            may_write: false,
+            is_flushed: true,
         })
     }
 
@@ -39,21 +44,23 @@ impl FairFiles {
     {
         self.image.bytes()
     }
+
+    /// Whether all that was written is flushed.
+    pub fn is_flushed(&self) -> bool
+        ensures { result ≡ (fair_view self.now).is_flushed }
+    {
+        self.is_flushed
+    }
 }
 
 impl Files for FairFiles {
-    ghost use Rattle.bp_io.specs.Memory.{fair_image, fair_attached};
+    ghost use Rattle.bp_io.specs.Memory.{fair_view};
 
-    ghost is_attached = { λ s name. fair_attached s ≡ true };
+    ghost view = { λ s. fair_view s };
 
-    ghost blocks = { λ s. if fair_attached s then length (fair_image s) / 4096 else 0 };
-
-    ghost contents = { λ s name. Some (Some (fair_image s)) };
-
-    ghost faults = { λ s. 0 };
-
-    fn attach(&mut self, _name: &str, _make: bool) -> Result<Option<u64>, Failed> {
-        self.attached = true;
+    fn attach(&mut self, _name: &str, access: Access) -> Result<Option<u64>, Failed> {
+        self.is_attached = true;
+        self.may_write = access.may_change();
         Ok(Some(self.image.length()))
     }
 
@@ -63,16 +70,19 @@ impl Files for FairFiles {
     }
 
     fn write_block(&mut self, i: u32, from: &[u8; 4096]) -> Result<(), Failed> {
+        self.is_flushed = false;
         self.image.write_block(i, from);
         Ok(())
     }
 
     fn set_blocks(&mut self, n: u32) -> Result<(), Failed> {
+        self.is_flushed = false;
         self.image.set_blocks(n);
         Ok(())
     }
 
     fn flush(&mut self) -> Result<(), Failed> {
+        self.is_flushed = true;
         Ok(())
     }
 }

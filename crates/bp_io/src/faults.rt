@@ -18,13 +18,40 @@ pub(crate) fn raise(faults: &mut u64) -> Failed
     Failed
 }
 
-// An error of std is a fault.
-pub(crate) fn or_fault(done: io::Result<()>, faults: &mut u64) -> Result<(), Failed>
-    ensures { HasCause faults.old faults.new result }
-{
-    match done {
-        Ok(()) => Ok(()),
-        Err(_) => Err(raise(faults)),
+// The faults of a device of the system: how many there were, and the last one.
+#[derive(Drop)]
+pub(crate) struct SystemFaults {
+    pub(crate) count: u64,
+    pub(crate) last: Option<io::Error>,
+}
+
+impl SystemFaults {
+    pub(crate) fn none() -> Self
+        ensures { result.count ≡ 0 }
+    {
+        SystemFaults {
+            count: 0,
+            last: None,
+        }
+    }
+
+    // Counts and keeps a fault.
+    pub(crate) fn raise(&mut self, error: io::Error) -> Failed
+        ensures later { self.old.count ≤ self.new.count }
+        ensures rose { Rose self.old.count self.new.count }
+    {
+        self.last = Some(error);
+        raise(&mut self.count)
+    }
+
+    // An error of std is a fault.
+    pub(crate) fn or_fault(&mut self, done: io::Result<()>) -> Result<(), Failed>
+        ensures { HasCause self.old.count self.new.count result }
+    {
+        match done {
+            Ok(()) => Ok(()),
+            Err(error) => Err(self.raise(error)),
+        }
     }
 }
 

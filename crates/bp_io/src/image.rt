@@ -1,30 +1,29 @@
 // The bytes of a file in memory.
-ghost use Rattle.std.specs.Prelude.{◌≡◌, ◌≤◌, ◌<◌, ◌*◌, ◌/◌, vec_capacity, vec_len, length, IfOk};
+ghost use Rattle.std.specs.Prelude.{◌≡◌, ◌≤◌, ◌<◌, ◌*◌, ◌/◌, vec_capacity, length, IfOk};
+ghost use Rattle.bp_limits.specs.Limits.{block_size, max_blocks};
 ghost use Rattle.bp_io.specs.Files.{block_of, with_block, resized};
 
-use crate::MOST_BLOCKS;
+use bp_limits::{BLOCK_SIZE, MAX_BLOCKS};
 use std::alloc::{AllocError, Global};
 
-// The bytes of a block.
-const BLOCK: usize = 4096;
+// The bytes of a block, as a length.
+const BLOCK: usize = BLOCK_SIZE as usize;
 
 // The bytes of the most blocks.
-const ROOM: usize = BLOCK * MOST_BLOCKS as usize;
+const ROOM: usize = BLOCK * MAX_BLOCKS as usize;
 
 // A file's bytes, with room for the most blocks from the start, so that no change wants memory.
 #[derive(Drop)]
 pub(crate) struct Image {
     bytes: Vec<u8>,
-    ghost room: { 67108864 ≤ vec_capacity bytes },
-    ghost fits: { vec_len bytes ≤ 67108864 },
+    ghost room: { block_size * max_blocks ≤ vec_capacity bytes },
 }
 
 impl Image {
     pub(crate) fn new(alloc: Global, from: &[u8]) -> Result<Self, AllocError>
-        requires { length from.now ≤ 67108864 }
         ensures { IfOk result (λ image. image.bytes.items ≡ from.now) }
     {
-        let mut bytes = Vec::with_capacity(alloc, ROOM)?;
+        let mut bytes = Vec::with_capacity(alloc, ROOM.max(from.len()))?;
         bytes.extend_from_slice(from)?;
         Ok(Image { bytes })
     }
@@ -42,7 +41,7 @@ impl Image {
     }
 
     pub(crate) fn read_block(&self, i: u32, into: &mut [u8; 4096])
-        requires { i < length self.now.bytes.items / 4096 }
+        requires { i < length self.now.bytes.items / block_size }
         ensures { into.new ≡ block_of self.now.bytes.items i }
     {
         let at = BLOCK * i as usize;
@@ -50,7 +49,7 @@ impl Image {
     }
 
     pub(crate) fn write_block(&mut self, i: u32, from: &[u8; 4096])
-        requires { i < length self.old.bytes.items / 4096 }
+        requires { i < length self.old.bytes.items / block_size }
         ensures block { self.new.bytes.items ≡ with_block i from.now self.old.bytes.items }
         ensures length { length self.new.bytes.items ≡ length self.old.bytes.items }
     {
@@ -59,9 +58,9 @@ impl Image {
     }
 
     pub(crate) fn set_blocks(&mut self, n: u32)
-        requires { n ≤ MOST_BLOCKS }
-        ensures bytes { self.new.bytes.items ≡ resized (4096 * n) self.old.bytes.items }
-        ensures length { length self.new.bytes.items ≡ 4096 * n }
+        requires { n ≤ MAX_BLOCKS }
+        ensures bytes { self.new.bytes.items ≡ resized (block_size * n) self.old.bytes.items }
+        ensures length { length self.new.bytes.items ≡ block_size * n }
     {
         match self.bytes.resize(BLOCK * n as usize, 0) {
             Ok(()) => (),

@@ -2,6 +2,7 @@
 //! of blocks of 4,096 bytes (`Files`), each with implementations over memory and over std.
 #![tactic(auto)]
 
+mod access;
 mod disk_files;
 mod fair_files;
 mod faults;
@@ -12,10 +13,11 @@ mod memory_streams;
 mod std_streams;
 mod streams;
 
+pub use access::Access;
 pub use disk_files::DiskFiles;
 pub use fair_files::FairFiles;
 pub use faults::Failed;
-pub use files::{Files, MOST_BLOCKS};
+pub use files::Files;
 pub use mem_files::MemFiles;
 pub use memory_streams::{FairSource, MemSink, MemSource, NullSink};
 pub use std_streams::{StdSink, StdSource};

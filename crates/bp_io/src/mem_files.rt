@@ -1,51 +1,57 @@
 // A file in memory that has every name, or none until it is made, and of which chosen calls fail.
-ghost use Rattle.std.specs.Prelude.{◌<◌, ◌*◌, ◌⊎◌, List, ℕ, OnOk, OnErr, IfNone, ◌≡◌, ◌≤◌, ◌/◌, Some, None, true, false, if◌then◌else◌, length, IfOk, IfSome};
+ghost use Rattle.std.specs.Prelude.{◌<◌, ◌*◌, ◌⊎◌, List, ℕ, OnOk, OnErr, IfNone, ◌≡◌, ◌≤◌, Some, true, false, length, IfOk, IfSome};
 ghost use Rattle.std.specs.Option.{option_copied};
 ghost use Rattle.bp_io.specs.Plans.{new_plan, FollowsPlan};
 ghost use Rattle.bp_io.specs.Causes.{HasCause};
-ghost use Rattle.bp_io.specs.Files.{Stays, StaysAttached, StaysOrIsMade, Becomes, Tells, Answers, Attaches, block_of, with_block, resized};
+ghost use Rattle.bp_io.specs.Files.{StaysAttached, StaysOrIsMade, Becomes, Answers, Attaches, IsAttached, KeepsFiles, KeepsOthers, Changes, MayChange, Resizes, KeepsSize, IsBlock, Reads, makes, with_block};
 
-use crate::Failed;
 use crate::faults::CallPlan;
-use crate::files::{Files, MOST_BLOCKS};
+use crate::files::Files;
 use crate::image::Image;
+use crate::{Access, Failed};
+use bp_limits::MAX_BLOCKS;
 use std::alloc::{AllocError, Global};
 
 /// A file in memory that has every name, or none until one is made; then each name has it. It has
 /// room for 16,384 blocks of 4,096 bytes from the start.
 ///
-/// Chosen calls fail, and change nothing: the calls of all its functions have one row of numbers
+/// Chosen calls fail, and change no byte: the calls of all its functions have one row of numbers
 /// from 0 on, and those fail whose numbers are in a list.
 #[derive(Drop)]
 pub struct MemFiles<'a> {
     image: Image,
     is_there: bool,
     is_attached: bool,
+    may_write: bool,
+    is_flushed: bool,
     plan: CallPlan<'a>,
     ghost there: { is_attached ≡ true → is_there ≡ true },
     ghost empty: { is_there ≡ false → length image.bytes.items ≡ 0 },
 }
 
 impl<'a> MemFiles<'a> {
-    ghost use Rattle.bp_io.specs.Memory.{mem_image, mem_attached, files_plan, files_faults};
+    ghost use Rattle.bp_io.specs.Memory.{mem_image, mem_view, files_plan};
 
-    /// A file of these bytes, at most 67,108,864, or none, of which the calls fail whose numbers
-    /// are in `fail_at`: the first call has the number 0. It is not attached yet.
+    /// A file of these bytes, or none, of which the calls fail whose numbers are in `fail_at`: the
+    /// first call has the number 0. It is not attached yet.
     ///
     /// # Errors
     ///
-    /// `AllocError` only where there is no memory for 67,108,864 bytes.
+    /// `AllocError` only where there is no memory for 67,108,864 bytes, or for these where they are
+    /// more.
     pub fn new(alloc: Global, image: Option<&[u8]>, fail_at: &'a [u64]) -> Result<Self, AllocError>
-        requires { IfSome image (λ bytes. length bytes.now ≤ 67108864) }
         ensures image { IfOk result (λ files. mem_image files ≡ option_copied image.entry) }
-        ensures attached { IfOk result (λ files. mem_attached files ≡ false) }
+        ensures attached { IfOk result (λ files. (mem_view files).is_attached ≡ λ name. false) }
+        ensures flushed { IfOk result (λ files. (mem_view files).is_flushed ≡ true) }
         ensures plan { IfOk result (λ files. files_plan files ≡ new_plan fail_at.entry.now) }
-        ensures faults { IfOk result (λ files. files_faults files ≡ 0) }
+        ensures faults { IfOk result (λ files. (mem_view files).faults ≡ 0) }
     {
         Ok(MemFiles {
             image: Image::new(alloc, image.unwrap_or(&[]))?,
             is_there: image.is_some(),
             is_attached: false,
+            may_write: false,
+            is_flushed: true,
             plan: CallPlan::new(fail_at),
         })
     }
@@ -60,54 +66,57 @@ impl<'a> MemFiles<'a> {
             None
         }
     }
+
+    /// Whether all that was written is flushed.
+    pub fn is_flushed(&self) -> bool
+        ensures { result ≡ (mem_view self.now).is_flushed }
+    {
+        self.is_flushed
+    }
 }
 
 impl Files for MemFiles<'_> {
-    ghost use Rattle.bp_io.specs.Memory.{mem_image, mem_attached, mem_blocks, files_plan, files_faults};
+    ghost use Rattle.bp_io.specs.Memory.{mem_image, mem_view, files_plan};
 
-    ghost is_attached = { λ s name. mem_attached s ≡ true };
+    ghost view = { λ s. mem_view s };
 
-    ghost blocks = { λ s. mem_blocks s };
-
-    ghost contents = { λ s name. Some (mem_image s) };
-
-    ghost faults = { λ s. files_faults s };
-
-    fn attach(&mut self, _name: &str, make: bool) -> Result<Option<u64>, Failed>
-        ensures answers { IfOk result (Answers (Some (mem_image self.old)) make) }
-        ensures attached { IfOk result (λ r. IfSome r (λ n. (mem_attached self.new ≡ true) × (mem_blocks self.new ≡ n / 4096))) }
+    fn attach(&mut self, _name: &str, access: Access) -> Result<Option<u64>, Failed>
+        ensures answers { IfOk result (Answers (Some (mem_image self.old)) (makes access)) }
+        ensures attached { IfOk result (λ r. IfSome r (IsAttached (mem_view self.new) _name.now access)) }
         ensures contents { IfOk result (λ r. Attaches (Some (mem_image self.old)) r (Some (mem_image self.new))) }
 
         // Where no file was attached, the one before still is.
-        ensures missing { IfOk result (λ r. IfNone r (StaysAttached (λ name. mem_attached self.old ≡ true) (λ name. mem_attached self.new ≡ true) (mem_blocks self.old) (mem_blocks self.new))) }
-        ensures failed { OnErr result (StaysAttached (λ name. mem_attached self.old ≡ true) (λ name. mem_attached self.new ≡ true) (mem_blocks self.old) (mem_blocks self.new)) }
+        ensures missing { IfOk result (λ r. IfNone r (StaysAttached (mem_view self.old) (mem_view self.new))) }
+        ensures failed { OnErr result (StaysAttached (mem_view self.old) (mem_view self.new)) }
 
         // Each file that is there keeps its bytes, and a file that is made is empty.
         ensures kept { (other : List ℕ) → Becomes (λ bytes. bytes) (Some (mem_image self.old)) (Some (mem_image self.new)) }
-        ensures made { (other : List ℕ) → StaysOrIsMade make (Some (mem_image self.old)) (Some (mem_image self.new)) }
-        ensures cause { HasCause (files_faults self.old) (files_faults self.new) result }
+        ensures made { (other : List ℕ) → StaysOrIsMade (makes access) (Some (mem_image self.old)) (Some (mem_image self.new)) }
+        ensures flushed { makes access ≡ false → (mem_view self.new).is_flushed ≡ (mem_view self.old).is_flushed }
+        ensures cause { HasCause (mem_view self.old).faults (mem_view self.new).faults result }
 
-        // A call fails exactly where the plan says, and changes nothing then.
+        // A call fails exactly where the plan says, and changes no byte then.
         ensures plan { FollowsPlan (files_plan self.old) (files_plan self.new) result }
         ensures unchanged { OnErr result (mem_image self.new ≡ mem_image self.old) }
     {
         self.plan.call()?;
-        if !self.is_there && !make {
-            return Ok(None);
+        if !self.is_there {
+            if !access.makes() {
+                return Ok(None);
+            }
+            self.is_there = true;
+            self.is_flushed = false;
         }
-        self.is_there = true;
         self.is_attached = true;
+        self.may_write = access.may_change();
         Ok(Some(self.image.length()))
     }
 
     fn read_block(&mut self, i: u32, into: &mut [u8; 4096]) -> Result<(), Failed>
-        requires { i < mem_blocks self.old }
-        ensures block { OnOk result ((name : List ℕ) → mem_attached self.old ≡ true → Tells (Some (mem_image self.old)) (λ bytes. into.new ≡ block_of bytes i)) }
-        ensures contents { (name : List ℕ) → Stays (Some (mem_image self.old)) (Some (mem_image self.new)) }
-        ensures attached { (name : List ℕ) → mem_attached self.old ≡ true → mem_attached self.new ≡ true }
-        ensures only { (name : List ℕ) → mem_attached self.new ≡ true → mem_attached self.old ≡ true }
-        ensures blocks { mem_blocks self.new ≡ mem_blocks self.old }
-        ensures cause { HasCause (files_faults self.old) (files_faults self.new) result }
+        requires { i < (mem_view self.old).blocks }
+        ensures block { OnOk result (IsBlock (mem_view self.old) i into.new) }
+        ensures reads { Reads (mem_view self.old) (mem_view self.new) }
+        ensures cause { HasCause (mem_view self.old).faults (mem_view self.new).faults result }
 
         // A call fails exactly where the plan says.
         ensures plan { FollowsPlan (files_plan self.old) (files_plan self.new) result }
@@ -118,56 +127,60 @@ impl Files for MemFiles<'_> {
     }
 
     fn write_block(&mut self, i: u32, from: &[u8; 4096]) -> Result<(), Failed>
-        requires { i < mem_blocks self.old }
-        ensures written { OnOk result ((name : List ℕ) → mem_attached self.old ≡ true → Becomes (with_block i from.now) (Some (mem_image self.old)) (Some (mem_image self.new))) }
-        ensures failed { OnErr result ((name : List ℕ) → mem_attached self.old ≡ true → Stays (Some (mem_image self.old)) (Some (mem_image self.new)) ⊎ Becomes (with_block i from.now) (Some (mem_image self.old)) (Some (mem_image self.new))) }
-        ensures others { (name : List ℕ) → ¬ (mem_attached self.old ≡ true) → Stays (Some (mem_image self.old)) (Some (mem_image self.new)) }
-        ensures attached { (name : List ℕ) → mem_attached self.old ≡ true → mem_attached self.new ≡ true }
-        ensures only { (name : List ℕ) → mem_attached self.new ≡ true → mem_attached self.old ≡ true }
-        ensures blocks { mem_blocks self.new ≡ mem_blocks self.old }
-        ensures cause { HasCause (files_faults self.old) (files_faults self.new) result }
+        requires inside { i < (mem_view self.old).blocks }
+        requires may_write { (mem_view self.old).may_write ≡ true }
+        ensures written { OnOk result (Changes (with_block i from.now) (mem_view self.old) (mem_view self.new)) }
+        ensures failed { OnErr result (MayChange (with_block i from.now) (mem_view self.old) (mem_view self.new)) }
+        ensures others { KeepsOthers (mem_view self.old) (mem_view self.new) }
+        ensures attached { StaysAttached (mem_view self.old) (mem_view self.new) }
+        ensures flushed { (mem_view self.new).is_flushed ≡ false }
+        ensures cause { HasCause (mem_view self.old).faults (mem_view self.new).faults result }
 
-        // A call fails exactly where the plan says, and changes nothing then.
+        // A call fails exactly where the plan says, and changes no byte then.
         ensures plan { FollowsPlan (files_plan self.old) (files_plan self.new) result }
         ensures unchanged { OnErr result (mem_image self.new ≡ mem_image self.old) }
     {
+        self.is_flushed = false;
         self.plan.call()?;
         self.image.write_block(i, from);
         Ok(())
     }
 
     fn set_blocks(&mut self, n: u32) -> Result<(), Failed>
-        requires attached { (name : List ℕ) × (mem_attached self.old ≡ true) }
-        requires fits { n ≤ MOST_BLOCKS }
-        ensures resized { OnOk result ((name : List ℕ) → mem_attached self.old ≡ true → Becomes (resized (4096 * n)) (Some (mem_image self.old)) (Some (mem_image self.new))) }
-        ensures failed { OnErr result ((((name : List ℕ) → mem_attached self.old ≡ true → Stays (Some (mem_image self.old)) (Some (mem_image self.new))) × (mem_blocks self.new ≡ mem_blocks self.old))
-            ⊎ (((name : List ℕ) → mem_attached self.old ≡ true → Becomes (resized (4096 * n)) (Some (mem_image self.old)) (Some (mem_image self.new))) × (mem_blocks self.new ≡ n))) }
-        ensures others { (name : List ℕ) → ¬ (mem_attached self.old ≡ true) → Stays (Some (mem_image self.old)) (Some (mem_image self.new)) }
-        ensures attached { (name : List ℕ) → mem_attached self.old ≡ true → mem_attached self.new ≡ true }
-        ensures only { (name : List ℕ) → mem_attached self.new ≡ true → mem_attached self.old ≡ true }
-        ensures blocks { OnOk result (mem_blocks self.new ≡ n) }
-        ensures cause { HasCause (files_faults self.old) (files_faults self.new) result }
+        requires attached { (name : List ℕ) × ((mem_view self.old).is_attached name ≡ true) }
+        requires may_write { (mem_view self.old).may_write ≡ true }
+        requires fits { n ≤ MAX_BLOCKS }
+        ensures resized { OnOk result (Resizes n (mem_view self.old) (mem_view self.new)) }
+        ensures failed { OnErr result (KeepsSize (mem_view self.old) (mem_view self.new) ⊎ Resizes n (mem_view self.old) (mem_view self.new)) }
+        ensures others { KeepsOthers (mem_view self.old) (mem_view self.new) }
+        ensures attached { (name : List ℕ) → (mem_view self.new).is_attached name ≡ (mem_view self.old).is_attached name }
+        ensures may_write { (mem_view self.new).may_write ≡ (mem_view self.old).may_write }
+        ensures flushed { (mem_view self.new).is_flushed ≡ false }
+        ensures cause { HasCause (mem_view self.old).faults (mem_view self.new).faults result }
 
-        // A call fails exactly where the plan says, and changes nothing then.
+        // A call fails exactly where the plan says, and changes no byte then.
         ensures plan { FollowsPlan (files_plan self.old) (files_plan self.new) result }
         ensures unchanged { OnErr result (mem_image self.new ≡ mem_image self.old) }
     {
+        self.is_flushed = false;
         self.plan.call()?;
         self.image.set_blocks(n);
         Ok(())
     }
 
     fn flush(&mut self) -> Result<(), Failed>
-        requires { (name : List ℕ) × (mem_attached self.old ≡ true) }
-        ensures contents { (name : List ℕ) → Stays (Some (mem_image self.old)) (Some (mem_image self.new)) }
-        ensures attached { (name : List ℕ) → mem_attached self.old ≡ true → mem_attached self.new ≡ true }
-        ensures only { (name : List ℕ) → mem_attached self.new ≡ true → mem_attached self.old ≡ true }
-        ensures blocks { mem_blocks self.new ≡ mem_blocks self.old }
-        ensures cause { HasCause (files_faults self.old) (files_faults self.new) result }
+        requires attached { (name : List ℕ) × ((mem_view self.old).is_attached name ≡ true) }
+        requires may_write { (mem_view self.old).may_write ≡ true }
+        ensures contents { KeepsFiles (mem_view self.old) (mem_view self.new) }
+        ensures attached { StaysAttached (mem_view self.old) (mem_view self.new) }
+        ensures flushed { OnOk result ((mem_view self.new).is_flushed ≡ true) }
+        ensures cause { HasCause (mem_view self.old).faults (mem_view self.new).faults result }
 
         // A call fails exactly where the plan says.
         ensures plan { FollowsPlan (files_plan self.old) (files_plan self.new) result }
     {
-        self.plan.call()
+        self.plan.call()?;
+        self.is_flushed = true;
+        Ok(())
     }
 }

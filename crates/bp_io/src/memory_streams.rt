@@ -1,5 +1,5 @@
 // Sources and sinks over memory.
-ghost use Rattle.std.specs.Prelude.{[], IsErr, IfOk, ◌≡◌, ◌≤◌, ◌<◌, ◌+◌, ◌-◌, ◌^◌, ◌↔◌, ◌⊎◌, min, length, vec_len, vec_capacity, Some, None};
+ghost use Rattle.std.specs.Prelude.{[], IsErr, IfOk, OnErr, ◌≡◌, ◌≤◌, ◌<◌, ◌+◌, ◌-◌, ◌^◌, ◌↔◌, ◌⊎◌, min, length, vec_len, vec_capacity, Some, None};
 ghost use Rattle.std.specs.Io.{ReadsAtMost, WritesAtMost};
 ghost use Rattle.std.specs.Io.KnownBytes.{ReadConsumes, WriteAppends};
 ghost use Rattle.bp_io.specs.Causes.{HasCause};
@@ -163,6 +163,7 @@ impl Sink for MemSink<'_> {
         ensures fails { IsErr result ↔ (FailsNext (sink_plan self.old) ⊎ ((sink_room self.old ≡ 0) × (0 < length piece.now))) }
         ensures count { IfOk result (λ n. n ≡ min (sink_room self.old) (length piece.now)) }
         ensures room { IfOk result (λ n. sink_room self.new ≡ sink_room self.old - n) }
+        ensures kept { OnErr result (sink_room self.new ≡ sink_room self.old) }
         ensures plan { sink_plan self.new ≡ after_call (sink_plan self.old) }
     {
         self.plan.call()?;

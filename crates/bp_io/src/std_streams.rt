@@ -3,7 +3,7 @@ ghost use Rattle.std.specs.Prelude.{◌≡◌};
 ghost use Rattle.std.specs.Io.{ReadsAtMost, WritesAtMost};
 ghost use Rattle.std.specs.Io.KnownBytes.{ReadConsumes, WriteAppends};
 
-use crate::faults::raise;
+use crate::faults::SystemFaults;
 use crate::{Failed, Sink, Source};
 use std::io;
 use std::io::{ErrorKind, Read, Write};
@@ -13,7 +13,7 @@ use std::io::{ErrorKind, Read, Write};
 #[derive(Drop)]
 pub struct StdSource<R: Read> {
     reader: R,
-    faults: u64,
+    faults: SystemFaults,
 }
 
 impl<R: Read> StdSource<R> {
@@ -22,7 +22,15 @@ impl<R: Read> StdSource<R> {
         ensures left { ⟦<StdSource<R> as Source>⟧.left result ≡ R.remaining reader }
         ensures faults { ⟦<StdSource<R> as Source>⟧.faults result ≡ 0 }
     {
-        StdSource { reader, faults: 0 }
+        StdSource {
+            reader,
+            faults: SystemFaults::none(),
+        }
+    }
+
+    /// The last error of the system, where there was one.
+    pub fn last_error(&self) -> Option<io::Error> {
+        self.faults.last
     }
 }
 
@@ -45,12 +53,12 @@ fn read_retrying<R: Read>(reader: &mut R, into: &mut [u8]) -> io::Result<usize>
 impl<R: Read> Source for StdSource<R> {
     ghost left = { λ s. R.remaining s.reader };
 
-    ghost faults = { λ s. s.faults };
+    ghost faults = { λ s. s.faults.count };
 
     fn read(&mut self, into: &mut [u8]) -> Result<usize, Failed> {
         match read_retrying(&mut self.reader, into) {
             Ok(count) => Ok(count),
-            Err(_) => Err(raise(&mut self.faults)),
+            Err(error) => Err(self.faults.raise(error)),
         }
     }
 }
@@ -60,7 +68,7 @@ impl<R: Read> Source for StdSource<R> {
 #[derive(Drop)]
 pub struct StdSink<W: Write> {
     writer: W,
-    faults: u64,
+    faults: SystemFaults,
 }
 
 impl<W: Write> StdSink<W> {
@@ -69,7 +77,15 @@ impl<W: Write> StdSink<W> {
         ensures taken { ⟦<StdSink<W> as Sink>⟧.taken result ≡ W.contents writer }
         ensures faults { ⟦<StdSink<W> as Sink>⟧.faults result ≡ 0 }
     {
-        StdSink { writer, faults: 0 }
+        StdSink {
+            writer,
+            faults: SystemFaults::none(),
+        }
+    }
+
+    /// The last error of the system, where there was one.
+    pub fn last_error(&self) -> Option<io::Error> {
+        self.faults.last
     }
 }
 
@@ -92,12 +108,13 @@ fn write_retrying<W: Write>(writer: &mut W, piece: &[u8]) -> io::Result<usize>
 impl<W: Write> Sink for StdSink<W> {
     ghost taken = { λ s. W.contents s.writer };
 
-    ghost faults = { λ s. s.faults };
+    ghost faults = { λ s. s.faults.count };
 
     fn write(&mut self, piece: &[u8]) -> Result<usize, Failed> {
         match write_retrying(&mut self.writer, piece) {
             Ok(count) if count > 0 || piece.is_empty() => Ok(count),
-            _ => Err(raise(&mut self.faults)),
+            Ok(_) => Err(self.faults.raise(ErrorKind::WriteZero.into())),
+            Err(error) => Err(self.faults.raise(error)),
         }
     }
 }

@@ -7,8 +7,8 @@ use std::{fs, io};
 #[test]
 fn disk_files_keep_blocks(rt: HostRuntime) -> Result<(), Fail> {
     let mut files = DiskFiles::new(&rt);
-    assert_eq!(rt; files.attach("disk.img", false), Ok(None));
-    assert_eq!(rt; files.attach("disk.img", true), Ok(Some(0)));
+    assert_eq!(rt; files.attach("disk.img", Access::Write), Ok(None));
+    assert_eq!(rt; files.attach("disk.img", Access::Make), Ok(Some(0)));
     assert_eq!(rt; files.set_blocks(8), Ok(()));
     let block = [77u8; 4096];
     assert_eq!(rt; files.write_block(3, &block), Ok(()));
@@ -19,13 +19,13 @@ fn disk_files_keep_blocks(rt: HostRuntime) -> Result<(), Fail> {
         assert_eq!(rt; bytes.get(at).copied(), Some(want), "at {at}");
     }
     let mut again = DiskFiles::new(&rt);
-    assert_eq!(rt; again.attach("disk.img", false), Ok(Some(32_768)));
+    assert_eq!(rt; again.attach("disk.img", Access::Write), Ok(Some(32_768)));
     let mut read = [1u8; 4096];
     assert_eq!(rt; again.read_block(3, &mut read), Ok(()));
     assert!(rt; read == block);
     assert_eq!(rt; again.read_block(4, &mut read), Ok(()));
     assert!(rt; read == [0u8; 4096]);
-    assert_eq!(rt; again.attach("disk.img", false), Ok(Some(32_768)));
+    assert_eq!(rt; again.attach("disk.img", Access::Write), Ok(Some(32_768)));
     assert_eq!(rt; again.set_blocks(2), Ok(()));
     assert_eq!(rt; fs::read(&rt, "disk.img")?.len(), 8192);
     fs::remove_file(&rt, "disk.img")?;
@@ -34,14 +34,14 @@ fn disk_files_keep_blocks(rt: HostRuntime) -> Result<(), Fail> {
 
 #[test]
 fn disk_files_report_faults(rt: HostRuntime) {
-    for (name, make) in [
-        ("no/such/disk.img", true),
-        (".", false),
-        ("/dev/null", false),
-        ("/dev/full", true),
+    for (name, access) in [
+        ("no/such/disk.img", Access::Make),
+        (".", Access::Read),
+        ("/dev/null", Access::Write),
+        ("/dev/full", Access::Make),
     ] {
         let mut files = DiskFiles::new(&rt);
-        assert_eq!(rt; files.attach(name, make), Err(Failed), "at {name}");
+        assert_eq!(rt; files.attach(name, access), Err(Failed), "at {name}");
     }
 }
 
@@ -49,7 +49,7 @@ fn disk_files_report_faults(rt: HostRuntime) {
 fn disk_files_miss_a_lost_block(rt: HostRuntime) -> Result<(), Fail> {
     fs::write(&rt, "short.img", [5u8; 8192].as_slice())?;
     let mut files = DiskFiles::new(&rt);
-    let length = files.attach("short.img", false);
+    let length = files.attach("short.img", Access::Read);
     fs::write(&rt, "short.img", [5u8; 5000].as_slice())?;
     fs::remove_file(&rt, "short.img")?;
     assert_eq!(rt; length, Ok(Some(8192)));
@@ -186,14 +186,14 @@ fn memory_sinks_take_pieces(rt: HostRuntime) -> Result<(), Fail> {
 #[test]
 fn memory_files_keep_blocks(rt: HostRuntime) -> Result<(), Fail> {
     let mut fair = FairFiles::new(rt.alloc(), &[5; 5000])?;
-    assert_eq!(rt; fair.attach("disk.img", false), Ok(Some(5000)));
+    assert_eq!(rt; fair.attach("disk.img", Access::Write), Ok(Some(5000)));
     assert_eq!(rt; fair.set_blocks(2), Ok(()));
-    assert_eq!(rt; fair.attach("disk.img", false), Ok(Some(8192)));
+    assert_eq!(rt; fair.attach("disk.img", Access::Write), Ok(Some(8192)));
     let mut read = [1u8; 4096];
     assert_eq!(rt; fair.read_block(1, &mut read), Ok(()));
     assert!(rt; read.starts_with(&[5; 904]));
     assert!(rt; read.ends_with(&[0; 3192]));
-    assert_eq!(rt; fair.attach("disk.img", false), Ok(Some(8192)));
+    assert_eq!(rt; fair.attach("disk.img", Access::Write), Ok(Some(8192)));
     assert_eq!(rt; fair.write_block(0, &read), Ok(()));
     assert_eq!(rt; fair.flush(), Ok(()));
     assert!(rt; fair.image().starts_with(&read));
@@ -204,11 +204,12 @@ fn memory_files_keep_blocks(rt: HostRuntime) -> Result<(), Fail> {
 #[test]
 fn memory_files_fail_as_planned(rt: HostRuntime) -> Result<(), Fail> {
     let mut files = MemFiles::new(rt.alloc(), None, &[1, 3])?;
-    assert_eq!(rt; files.attach("disk.img", false), Ok(None));
-    assert_eq!(rt; files.attach("disk.img", true), Err(Failed));
+    assert_eq!(rt; files.attach("disk.img", Access::Write), Ok(None));
+    assert_eq!(rt; files.attach("disk.img", Access::Make), Err(Failed));
     assert!(rt; files.image().is_none());
-    assert_eq!(rt; files.attach("disk.img", true), Ok(Some(0)));
+    assert_eq!(rt; files.attach("disk.img", Access::Make), Ok(Some(0)));
     assert_eq!(rt; files.set_blocks(1), Err(Failed));
+    assert_eq!(rt; files.attach("disk.img", Access::Write), Ok(Some(0)));
     assert_eq!(rt; files.set_blocks(1), Ok(()));
     assert_eq!(rt; files.image(), Some([0u8; 4096].as_slice()));
     Ok(())
@@ -218,15 +219,15 @@ fn memory_files_fail_as_planned(rt: HostRuntime) -> Result<(), Fail> {
 fn blocks_fail_as_planned(rt: HostRuntime) -> Result<(), Fail> {
     let block = [77u8; 4096];
     let mut files = MemFiles::new(rt.alloc(), Some(&[0; 4096]), &[1, 4, 7])?;
-    assert_eq!(rt; files.attach("disk.img", false), Ok(Some(4096)));
+    assert_eq!(rt; files.attach("disk.img", Access::Write), Ok(Some(4096)));
     assert_eq!(rt; files.write_block(0, &block), Err(Failed));
     assert_eq!(rt; files.write_block(0, &block), Ok(()));
-    assert_eq!(rt; files.attach("disk.img", false), Ok(Some(4096)));
+    assert_eq!(rt; files.attach("disk.img", Access::Write), Ok(Some(4096)));
     let mut read = [1u8; 4096];
     assert_eq!(rt; files.read_block(0, &mut read), Err(Failed));
     assert_eq!(rt; files.read_block(0, &mut read), Ok(()));
     assert!(rt; read == block);
-    assert_eq!(rt; files.attach("disk.img", false), Ok(Some(4096)));
+    assert_eq!(rt; files.attach("disk.img", Access::Write), Ok(Some(4096)));
     assert_eq!(rt; files.flush(), Err(Failed));
     assert_eq!(rt; files.flush(), Ok(()));
     Ok(())

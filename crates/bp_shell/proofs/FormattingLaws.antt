@@ -1,11 +1,13 @@
 -- A file between its old bytes and an image.
-use Rattle.std.proofs.Common.{zero, suc, refl, ◌∙◌, ap, arith, ◌≡◌, ℕ, ◌+◌, ◌*◌, ◌-◌, ◌<◌, ◌≤◌, List, [], ◌∷◌, ◌++◌, length, take, drop, replicate, inl, inr, length-append, length-take}
+use Rattle.std.proofs.Common.{zero, suc, refl, sym, ◌∙◌, ap, true, arith, ◌≡◌, ℕ, ◌+◌, ◌*◌, ◌-◌, ◌<◌, ◌≤◌, List, [], ◌∷◌, ◌++◌, length, take, drop, replicate, inl, inr, length-append, length-take}
 use Rattle.std.specs.Prelude.{Option, Some, None, Result, Ok, Err, OnOk, OnErr, ◌⊎◌}
 use Rattle.std.specs.Io.KnownBytes.{Appends}
 use Rattle.std.proofs.Math.Seq.{take-length}
 use Rattle.std.proofs.lemmas.List.{length-replicate}
+use Rattle.pm_region.specs.Memory.{Memory, current_words}
+use Rattle.bp_layout.specs.Words.{Image}
 use Rattle.bp_io.specs.Causes.{HasCause}
-use Rattle.bp_io.specs.Files.{Known, Stays, Becomes, Attaches, block_of, resized}
+use Rattle.bp_io.specs.Files.{Known, Stays, StaysOrIsMade, Becomes, Attaches, block_of, resized}
 use Rattle.bp_shell.specs.Files.{HasBytes, HasBlocksOf}
 use Rattle.bp_shell.specs.Formatting.{IsPartly, HasPartly, bytes_of}
 use Rattle.bp_shell.specs.Outside.{Prints}
@@ -72,31 +74,34 @@ length-resized m xs = omega (arith, length-append (take m xs) (replicate (m - le
 
 -- ---- what is known of the file
 
-no_block : (old wanted : List ℕ) → IsPartly old wanted []
-no_block old wanted i low = absurd (omega arith)
+as_before : (old wanted : List ℕ) → IsPartly old wanted old
+as_before old wanted = record { size = inl refl; blocks = λ i low. inl refl }
 
-all_filled : (old wanted : List ℕ) (blocks : ℕ) → IsPartly old wanted (resized (4096 * blocks) old)
-all_filled old wanted blocks i low = inr (inl (block_filled old i blocks (omega (arith, length-resized (4096 * blocks) old))))
+all_filled : (old wanted : List ℕ) (blocks : ℕ) → length wanted ≡ 4096 * blocks → IsPartly old wanted (resized (4096 * blocks) old)
+all_filled old wanted blocks size = record {
+  size = inr (length-resized (4096 * blocks) old ∙ sym size);
+  blocks = λ i low. inr (inl (block_filled old i blocks (omega (arith, length-resized (4096 * blocks) old, low))));
+}
 
 -- an attach failed
-pub partly_attached : (old now : Known) (wanted : List ℕ) → Becomes (λ bytes. bytes) old now → ((old ≡ Some None) → (now ≡ Some None) ⊎ (now ≡ Some (Some []))) → HasPartly old wanted now
+pub partly_attached : (old now : Known) (wanted : List ℕ) → Becomes (λ bytes. bytes) old now → StaysOrIsMade true old now → HasPartly old wanted now
 partly_attached None now wanted stays made = tt
-partly_attached (Some None) now wanted stays made = elim (made refl) [
+partly_attached (Some None) now wanted stays made = elim made [
   | inl e ↦ rw e refl
-  | inr e ↦ rw e (no_block [] wanted)
+  | inr e ↦ rw e.1 (as_before [] wanted)
 ]
-partly_attached (Some (Some bytes)) now wanted stays made = rw stays (λ i low. inl refl)
+partly_attached (Some (Some bytes)) now wanted stays made = rw stays (as_before bytes wanted)
 
 -- a change of the length failed
-pub partly_sized : (old middle now : Known) (n blocks : ℕ) (wanted : List ℕ) → Attaches old (Some n) middle → Stays middle now ⊎ Becomes (resized (4096 * blocks)) middle now → HasPartly old wanted now
-partly_sized None middle now n blocks wanted attaches sizes = tt
-partly_sized (Some None) middle now n blocks wanted attaches sizes = elim (rw attaches at sizes) [
-  | inl e ↦ rw e (no_block [] wanted)
-  | inr e ↦ rw e (all_filled [] wanted blocks)
+pub partly_sized : (old middle now : Known) (n blocks : ℕ) (wanted : List ℕ) → length wanted ≡ 4096 * blocks → Attaches old (Some n) middle → Stays middle now ⊎ Becomes (resized (4096 * blocks)) middle now → HasPartly old wanted now
+partly_sized None middle now n blocks wanted size attaches sizes = tt
+partly_sized (Some None) middle now n blocks wanted size attaches sizes = elim (rw attaches at sizes) [
+  | inl e ↦ rw e (as_before [] wanted)
+  | inr e ↦ rw e (all_filled [] wanted blocks size)
 ]
-partly_sized (Some (Some bytes)) middle now n blocks wanted attaches sizes = elim (rw attaches at sizes) [
-  | inl e ↦ rw e (λ i low. inl refl)
-  | inr e ↦ rw e (all_filled bytes wanted blocks)
+partly_sized (Some (Some bytes)) middle now n blocks wanted size attaches sizes = elim (rw attaches at sizes) [
+  | inl e ↦ rw e (as_before bytes wanted)
+  | inr e ↦ rw e (all_filled bytes wanted blocks size)
 ]
 
 -- The file has its new length.
@@ -127,11 +132,18 @@ is_sized (Some (Some bytes)) middle sized n blocks attaches sizes = record {
 }
 
 -- a save failed
-pub partly_mixed : (old now : Known) (was wanted : List ℕ) (blocks : ℕ) → length was ≡ 4096 * blocks → ((o : Option (List ℕ)) → old ≡ Some o → was ≡ resized (4096 * blocks) (bytes_of o)) → HasBlocksOf now was wanted → HasPartly old wanted now
-partly_mixed None now was wanted blocks long from mixed = tt
-partly_mixed (Some o) None was wanted blocks long from mixed = tt
-partly_mixed (Some o) (Some None) was wanted blocks long from mixed = absurd mixed
-partly_mixed (Some o) (Some (Some found)) was wanted blocks long from mixed = λ i low. elim (mixed.blocks i low) [
-  | inl e ↦ inr (inl (e ∙ ap (λ l. block_of l i) (from o refl) ∙ block_filled (bytes_of o) i blocks (omega (arith, long, mixed.size))))
-  | inr e ↦ inr (inr e)
-]
+pub partly_mixed : (old now : Known) (was wanted : List ℕ) (blocks : ℕ) → length was ≡ 4096 * blocks → ((o : Option (List ℕ)) → old ≡ Some o → was ≡ resized (4096 * blocks) (bytes_of o)) → HasBlocksOf now was wanted → length wanted ≡ 4096 * blocks → HasPartly old wanted now
+partly_mixed None now was wanted blocks long from mixed size = tt
+partly_mixed (Some o) None was wanted blocks long from mixed size = tt
+partly_mixed (Some o) (Some None) was wanted blocks long from mixed size = absurd mixed
+partly_mixed (Some o) (Some (Some found)) was wanted blocks long from mixed size = record {
+  size = inr (omega (arith, mixed.size, long, size));
+  blocks = λ i low. elim (mixed.blocks i low) [
+    | inl e ↦ inr (inl (e ∙ ap (λ l. block_of l i) (from o refl) ∙ block_filled (bytes_of o) i blocks (omega (arith, long, mixed.size))))
+    | inr e ↦ inr (inr e)
+  ];
+}
+
+-- the words of a new file system
+pub new_words : (memory : Memory) (image : Image) → memory.base ≡ image → memory.events ≡ [] → current_words memory ≡ image
+new_words memory image base events = rw (events, base) refl

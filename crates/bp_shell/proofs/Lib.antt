@@ -9,3 +9,5 @@ pub mod OpeningLaws
 pub mod ShortReads
 pub mod FormattingLaws
 pub mod RunningLaws
+mod OutcomeLaws
+mod ProgramLaws

@@ -2,7 +2,8 @@
 use Rattle.std.proofs.Common.{refl, sym, ◌∙◌, ap, arith, ◌≡◌, ◌≢◌, ℕ, ◌+◌, ◌*◌, ◌-◌, List, [], ◌++◌, take, false, true, inl, inr}
 use Rattle.std.specs.Prelude.{Some, None, ◌⊎◌}
 use Rattle.std.proofs.Math.Seq.{take-add, take-length}
-use Rattle.bp_io.specs.Files.{Known, Stays, Tells, Answers, Attaches, block_of}
+use Rattle.bp_io.specs.Files.{Known, Stays, Tells, Answers, Attaches, Reads, View, block_of}
+use Rattle.bp_shell.proofs.SavingLaws.{stays_attached, still_attached}
 use Rattle.bp_layout.specs.Bytes.{image_bytes}
 use Rattle.bp_layout.specs.Words.{Image}
 use Rattle.bp_scan.specs.Faults.{IsFault}
@@ -12,7 +13,7 @@ use Rattle.bp_scan.specs.declared.fault.MountFault.TheVariants as f
 use Rattle.bp_script.specs.declared.notices.Notice.{Notice}
 use Rattle.bp_script.specs.declared.notices.Notice.TheVariants.{NotFormatted, BadSize, Damaged}
 use Rattle.bp_shell.specs.Files.{HasBytes, HasLength, HasImage}
-use Rattle.bp_shell.specs.Opening.{IsRefused}
+use Rattle.bp_shell.specs.Opening.{HasSized, IsRefused}
 use Rattle.bp_shell.specs.Opening.IsRefused.{by_length, not_formatted, by_count, damaged}
 use Rattle.bp_shell.specs.Stops.{stop_by}
 use Rattle.bp_shell.specs.declared.stop.Stop.{Stop}
@@ -52,6 +53,16 @@ pub stays_same : (known : Known) → Stays known known
 stays_same None = refl
 stays_same (Some known) = refl
 
+pub reads_none : (a : View) → Reads a a
+reads_none a = record { files = λ name. stays_same (a.contents name); attached = still_attached a; flushed = refl }
+
+pub reads_then : (a b c : View) → Reads a b → Reads b c → Reads a c
+reads_then a b c one two = record {
+  files = λ name. stays_stays (a.contents name) (b.contents name) (c.contents name) (one.files name) (two.files name);
+  attached = stays_attached a b c one.attached two.attached;
+  flushed = two.flushed ∙ one.flushed;
+}
+
 pub tells_all : (known : Known) (P : List ℕ → Type 0) → ((bytes : List ℕ) → P bytes) → Tells known P
 tells_all None P all = tt
 tells_all (Some None) P all = tt
@@ -80,7 +91,7 @@ no_refusal told e = cc
 same_notice : (first second : Notice) → ◌≡◌ {A = Stop} (Refused first) (Refused second) → first ≡ second
 same_notice first second e = cc
 
-pub stop_refused : (fault : MountFault) (image : Image) (known : Known) (notice : Notice) → IsFault image fault → HasImage known image → stop_by fault ≡ Refused notice → IsRefused known notice
+pub stop_refused : (fault : MountFault) (image : Image) (known : Known) (notice : Notice) → IsFault image fault → HasSized known image → stop_by fault ≡ Refused notice → IsRefused known notice
 stop_refused f.NotFormatted image known told why has e = rw (← same_notice NotFormatted told e) (not_formatted has why)
 stop_refused (f.BadSize found wanted) image known told why has e = rw (← same_notice (BadSize found wanted) told e, why.2, why.3) (by_count has why.0 why.1)
 stop_refused (f.Damaged check place) image known told why has e = rw (← same_notice (Damaged check place) told e) (damaged has why.0 why.1 why.2)
@@ -102,3 +113,12 @@ never_outside f.NotFormatted e = cc
 never_outside (f.BadSize found wanted) e = cc
 never_outside (f.Damaged check place) e = cc
 never_outside f.Memory e = cc
+
+pub if_missing : (stop : Stop) → stop ≡ Missing → stop ≡ Outside → ⊥
+if_missing stop is e = let no : ◌≡◌ {A = Stop} Missing Outside = sym is ∙ e in cc
+
+pub if_refused : (stop : Stop) (notice : Notice) → stop ≡ Refused notice → stop ≡ Outside → ⊥
+if_refused stop notice is e = let no : ◌≡◌ {A = Stop} (Refused notice) Outside = sym is ∙ e in cc
+
+pub if_memory : (stop : Stop) → stop ≡ Memory → stop ≡ Outside → ⊥
+if_memory stop is e = let no : ◌≡◌ {A = Stop} Memory Outside = sym is ∙ e in cc

@@ -25,7 +25,8 @@ use Rattle.pm_epochs.proofs.CrashLaws.{crash_right_none}
 use Rattle.bp_plain.specs.Calls.{Refusal}
 use Rattle.std.specs.Prelude.{Option, Some, None, is_none, ◌&&◌, ◌⊎◌, nat_le, nat_lt, if◌then◌else◌}
 use Rattle.std.proofs.lemmas.Bool.{leb-true, leb-false}
-use Rattle.bp_shell.specs.PlainSession.{PlainSession, PlainLine, Plain, PlainCall, latest, tree_at, tree_now, after_crash, with_call, fresh, Follows}
+use Rattle.bp_shell.specs.PlainSession.{PlainSession, PlainLine, Plain, PlainCall, latest, tree_at, tree_now, after_crash, with_call, fresh, Follows, FollowsTree, IsPlainly}
+use Rattle.bp_shell.proofs.ServingLaws.{session_split}
 use Rattle.bp_shell.specs.PlainSession.PlainCall.{plainly, no_room as finds_no_room, not_yet, no_listing as finds_no_memory}
 
 -- ---- trees
@@ -197,3 +198,25 @@ plain_session old p (command ∷ commands) (reply ∷ replies) new before (middl
     let first = plain_line old p command reply middle before line in
     let later = plain_session middle first.plain commands replies new first.follows rest in
     record { plain = later.plain; session = (first.plain, first.line, later.session); follows = later.follows }
+
+-- a session is the plain tree's, at its end and behind each of its lines
+pub is_plainly : (old : State) (tree : FileTree) (commands : List Command) (replies : List Reply) (new : State) → old.memory.events ≡ [] → Stands old.memory.base tree → Session old commands replies new → IsPlainly tree commands replies new.memory
+is_plainly old tree commands replies new empty stands session =
+    let run = plain_session old (fresh tree) commands replies new (follows_fresh old.memory tree empty stands) session in
+    record { plain = run.plain; session = run.session; follows = run.follows }
+
+pub follows_tree : (old : State) (tree : FileTree) (commands : List Command) (replies : List Reply) (new : State) → old.memory.events ≡ [] → Stands old.memory.base tree → Session old commands replies new → FollowsTree tree old commands replies new
+follows_tree old tree commands replies new empty stands session = record {
+  whole = is_plainly old tree commands replies new empty stands session;
+  fronts = λ first rest are.
+      let parts = session_split old new first rest replies (rw are at session) in
+      record {
+        middle = parts.0;
+        front = parts.1;
+        behind = parts.2;
+        are = parts.3;
+        session = parts.4;
+        later = parts.5;
+        plainly = is_plainly old tree first parts.1 parts.0 empty stands parts.4;
+      };
+}

@@ -1,6 +1,6 @@
 -- What a run leaves outside.
-use Rattle.std.proofs.Common.{suc, refl, sym, ◌∙◌, ap, arith, ◌≡◌, ℕ, ◌*◌, ◌/◌, ◌≤◌, List, [], ◌∷◌, ◌++◌, length, inl, inr}
-use Rattle.std.specs.Prelude.{Option, Some, min, max, ◌⊎◌}
+use Rattle.std.proofs.Common.{suc, refl, sym, ◌∙◌, ap, arith, ◌≡◌, ℕ, ◌*◌, ◌/◌, ◌≤◌, List, [], ◌∷◌, ◌++◌, length, inl, inr, true}
+use Rattle.std.specs.Prelude.{Option, Some, ◌⊎◌}
 use Rattle.std.specs.Io.KnownBytes.{Consumes, IsAtEnd}
 use Rattle.pm_region.specs.Memory.{Memory, current_words, drained}
 use Rattle.pm_words.specs.Bytes.{word_bytes, word_of}
@@ -10,26 +10,25 @@ use Rattle.bp_layout.specs.Bytes.{image_bytes}
 use Rattle.bp_plain.proofs.Existence.{stands_for, tree_of}
 use Rattle.bp_script.specs.Commands.{Command}
 use Rattle.bp_script.specs.Commands.Command.{sync}
+use Rattle.bp_script.specs.Texts.{Reply}
 use Rattle.bp_script.specs.declared.notices.Notice.{Notice}
 use Rattle.bp_layout.specs.WellFormed.{IsWellFormed}
 use Rattle.bp_layout.proofs.ChecksLaws.{none_fails}
 use Rattle.bp_scan.specs.Length.{wanted_length}
+use Rattle.bp_shell.specs.Acting.{state}
 use Rattle.bp_shell.specs.Files.{AreWords, IsAbsent}
 use Rattle.bp_shell.specs.Lines.{commands_from}
 use Rattle.bp_shell.specs.Opening.{IsFound, IsRefused, start}
 use Rattle.bp_shell.specs.Opening.IsRefused.{by_length, not_formatted, by_count, damaged}
-use Rattle.bp_shell.specs.PlainSession.{fresh}
-use Rattle.bp_shell.specs.Running.{Runs, RunsPart, RunsLong, RunsCut, RunsStopped, Saves, SavesPartly, IsComplete, in_range}
+use Rattle.bp_shell.specs.PlainSession.{FollowsTree}
+use Rattle.bp_shell.specs.Running.{Begins, CutsPlainly, IsComplete, Runs, RunsCut, RunsLong, RunsPart, RunsStopped, RunsUnsaved, Saves, SavesPartly, StopsPlainly}
 use Rattle.bp_shell.specs.Outside.{Outside, SourceFailed, SinkFailed, FilesFailed}
 use Rattle.bp_shell.specs.Checking.{IsCheckComplete}
-use Rattle.bp_command.specs.Programs.{Program, Requests}
-use Rattle.bp_command.specs.Programs.Program.{formats, runs, checks}
-use Rattle.clap.specs.Words.{Text}
-use Rattle.bp_shell.specs.Serving.{state, Serves, ServesAll, Cuts, Stops, Told}
-use Rattle.bp_shell.specs.Session.{State}
+use Rattle.bp_shell.specs.Serving.{Cuts, Fails, OfLines, Serves, ServesAll, Stops, Told}
+use Rattle.bp_shell.specs.Session.{Session, State}
 use Rattle.bp_shell.proofs.BlockLaws.{length-image_bytes}
-use Rattle.bp_shell.proofs.PlainLaws.{plain_session, follows_fresh}
-use Rattle.bp_shell.proofs.ServingLaws.{stops_behind, not_long}
+use Rattle.bp_shell.proofs.PlainLaws.{follows_tree}
+use Rattle.bp_shell.proofs.ServingLaws.{not_long, session_append}
 
 -- ---- what is held of a file, told of it
 
@@ -70,91 +69,103 @@ stops_told old memory holds saves commands t u f s = record {
 
 -- ---- the end of a run, by its status
 
-module _ (before after : Outside) (image : Image) (memory new : Memory) (line input : List ℕ) (found : IsFound before.file image) (same : memory ≡ (start image).memory) (none : line ≡ []) where
-  pub runs_whole : (holds : Image → Type 0) → Consumes before.left after.left input → IsAtEnd after.left → length input ≤ 1073741824 → ServesAll (state memory image) new holds (commands_from line input) before.taken after.taken
-      → Saves after (current_words new) → Runs before after
-  runs_whole holds read end few all saved =
-      let told : Told (start image) (state new all.after) (commands_from [] input) before.taken after.taken = rw (same, none) at all.told in
-      let well = found.well_formed in
-      let stands = stands_for image well in
-      let tree = tree_of image well in
-      let run = plain_session (start image) (fresh tree) (commands_from [] input) told.replies (state new all.after) (follows_fresh (start image).memory tree refl stands) told.session in
+module _ (before after : Outside) (image : Image) (memory new : Memory) (found : IsFound before.file image) (same : memory ≡ (start image).memory) where
+  abbrev begins : (input : List ℕ) → Consumes before.left after.left input → Begins before after
+  begins input read = record { image = image; found = found; tree = tree_of image found.well_formed; stands = stands_for image found.well_formed; input = input; read = read }
+
+  plainly : (commands : List Command) (replies : List Reply) (end : State) → Session (start image) commands replies end → FollowsTree (tree_of image found.well_formed) (start image) commands replies end
+  plainly commands replies end session = follows_tree (start image) (tree_of image found.well_formed) commands replies end refl (stands_for image found.well_formed) session
+
+  pub runs_whole : (input : List ℕ) (holds : Image → Type 0) → Consumes before.left after.left input → IsAtEnd after.left → length input ≤ 1073741824
+      → ServesAll (state memory image) new holds (commands_from [] input) before.taken after.taken → Saves after (current_words new) → after.is_flushed ≡ true → Runs before after
+  runs_whole input holds read end few all saved flushed =
+      let told : Told (start image) (state new all.after) (commands_from [] input) before.taken after.taken = rw same at all.told in
       record {
-        image = image;
-        found = found;
-        input = input;
-        read = read;
+        begins = begins input read;
         all = end;
         few = few;
         new = state new all.after;
         told = told;
         saved = saved;
-        tree = tree;
-        stands = stands;
-        plain = run.plain;
-        plainly = run.session;
-        follows = run.follows;
+        flushed = flushed;
+        plainly = plainly _ _ _ told.session;
       }
 
-  pub runs_part : (keeps : List ℕ) (holds : Image → Type 0) → ((i : Image) → holds i → Saves after i) → Consumes before.left after.left input → Serves (state memory image) new holds line input keeps before.taken after.taken → RunsPart before after
-  runs_part keeps holds f read serves = record {
-    image = image;
-    found = found;
-    input = input;
-    read = read;
-    keeps = keeps;
+  pub runs_part : (input keeps : List ℕ) (holds : Image → Type 0) → ((i : Image) → holds i → Saves after i) → Consumes before.left after.left input
+      → Serves (state memory image) new holds [] input keeps before.taken after.taken → RunsPart before after
+  runs_part input keeps holds f read serves =
+      let told : Serves (start image) new (Saves after) [] input keeps before.taken after.taken = serves_told (start image) new holds (Saves after) [] input keeps before.taken after.taken f (rw same at serves) in
+      record { begins = begins input read; keeps = keeps; memory = new; serves = told; plainly = plainly _ _ _ told.told.session }
+
+  pub runs_long : (input more keeps : List ℕ) (holds : Image → Type 0) → ((i : Image) → holds i → Saves after i) → Consumes before.left after.left (input ++ more) → length input ≡ 1073741824 → 1 ≤ length more → length more ≤ 65536
+      → Serves (state memory image) new holds [] input keeps before.taken after.taken → RunsLong before after
+  runs_long input more keeps holds f read most some few serves =
+      let told : Serves (start image) new (Saves after) [] input keeps before.taken after.taken = serves_told (start image) new holds (Saves after) [] input keeps before.taken after.taken f (rw same at serves) in
+      record {
+        begins = begins (input ++ more) read;
+        served = input;
+        more = more;
+        are = refl;
+        most = most;
+        some = some;
+        few = few;
+        keeps = keeps;
+        memory = new;
+        serves = told;
+        plainly = plainly _ _ _ told.told.session;
+      }
+
+  cuts_plainly : (holds : Image → Type 0) → ((i : Image) → holds i → Saves after i) → (commands : List Command) → Cuts (state memory image) new holds commands before.taken after.taken
+      → CutsPlainly image (tree_of image found.well_formed) new before after commands
+  cuts_plainly holds f commands cuts =
+      let told : Cuts (start image) new (Saves after) commands before.taken after.taken = cuts_told (start image) new holds (Saves after) commands before.taken after.taken f (rw same at cuts) in
+      record {
+        cuts = told;
+        plainly = plainly _ _ _ (session_append (start image) told.middle (state new told.after) told.front (told.last ∷ []) told.replies (told.reply ∷ []) told.session (state new told.after, told.line, refl));
+      }
+
+  pub runs_cut : (input : List ℕ) (holds : Image → Type 0) → ((i : Image) → holds i → Saves after i) → Consumes before.left after.left input
+      → OfLines after.left input (λ commands. Cuts (state memory image) new holds commands before.taken after.taken) → RunsCut before after
+  runs_cut input holds f read cuts = record {
+    begins = begins input read;
     memory = new;
-    serves = serves_told (start image) new holds (Saves after) [] input keeps before.taken after.taken f (rw (same, none) at serves);
+    cuts = elim cuts [
+      | inl all ↦ inl (λ rest. cuts_plainly holds f (commands_from [] (input ++ rest)) (all rest))
+      | inr last ↦ inr (last.0, cuts_plainly holds f (commands_from [] input) last.1)
+    ];
   }
 
-  pub runs_long : (more keeps : List ℕ) (holds : Image → Type 0) → ((i : Image) → holds i → Saves after i) → Consumes before.left after.left (input ++ more) → length input ≡ 1073741824 → 1 ≤ length more
-      → Serves (state memory image) new holds line input keeps before.taken after.taken → RunsLong before after
-  runs_long more keeps holds f read most some serves = record {
-    image = image;
-    found = found;
-    input = input;
-    more = more;
-    read = read;
-    most = most;
-    some = some;
-    keeps = keeps;
-    memory = new;
-    serves = serves_told (start image) new holds (Saves after) [] input keeps before.taken after.taken f (rw (same, none) at serves);
-  }
+  stops_plainly : (partly : Image → Image → Type 0) → ((i j : Image) → partly i j → SavesPartly after i j) → (commands : List Command) → Stops (state memory image) new partly commands before.taken after.taken
+      → StopsPlainly image (tree_of image found.well_formed) new before after commands
+  stops_plainly partly f commands stops =
+      let told : Stops (start image) new (SavesPartly after) commands before.taken after.taken = stops_told (start image) new partly (SavesPartly after) commands before.taken after.taken f (rw same at stops) in
+      record { stops = told; plainly = plainly _ _ _ told.told.session }
 
-  pub runs_cut : (holds : Image → Type 0) → ((i : Image) → holds i → Saves after i) → Consumes before.left after.left input → Cuts (state memory image) new holds (commands_from line input) before.taken after.taken → RunsCut before after
-  runs_cut holds f read cuts = record {
-    image = image;
-    found = found;
-    input = input;
-    read = read;
+  pub runs_stopped : (input : List ℕ) (partly : Image → Image → Type 0) → ((i j : Image) → partly i j → SavesPartly after i j) → Consumes before.left after.left input
+      → OfLines after.left input (λ commands. Stops (state memory image) new partly commands before.taken after.taken) → RunsStopped before after
+  runs_stopped input partly f read stops = record {
+    begins = begins input read;
     memory = new;
-    cuts = cuts_told (start image) new holds (Saves after) (commands_from [] input) before.taken after.taken f (rw (same, none) at cuts);
-  }
-
-  pub runs_stopped : (partly : Image → Image → Type 0) → ((i j : Image) → partly i j → SavesPartly after i j) → Consumes before.left after.left input → Stops (state memory image) new partly (commands_from line input) before.taken after.taken → RunsStopped before after
-  runs_stopped partly f read stops = record {
-    image = image;
-    found = found;
-    input = input;
-    read = read;
-    memory = new;
-    stops = stops_behind (start image) new (SavesPartly after) (commands_from [] input) (sync ∷ []) before.taken after.taken
-        (stops_told (start image) new partly (SavesPartly after) (commands_from [] input) before.taken after.taken f (rw (same, none) at stops));
+    stops = elim stops [
+      | inl all ↦ inl (λ rest. stops_plainly partly f (commands_from [] (input ++ rest)) (all rest))
+      | inr last ↦ inr (last.0, stops_plainly partly f (commands_from [] input) last.1)
+    ];
   }
 
   -- the sync at the input's end
-  pub runs_stopped_at_end : (middle : Memory) (holds : Image → Type 0) → Consumes before.left after.left input → (all : ServesAll (state memory image) middle holds (commands_from line input) before.taken after.taken)
-      → new ≡ drained middle → SavesPartly after all.after (current_words middle) → RunsStopped before after
-  runs_stopped_at_end middle holds read all done file =
-      let told : Told (start image) (state middle all.after) (commands_from [] input) before.taken after.taken = rw (same, none) at all.told in
+  pub runs_unsaved : (input : List ℕ) (middle : Memory) (holds : Image → Type 0) → Consumes before.left after.left input → IsAtEnd after.left → length input ≤ 1073741824
+      → (all : ServesAll (state memory image) middle holds (commands_from [] input) before.taken after.taken) → new ≡ drained middle → SavesPartly after all.after (current_words middle) → RunsUnsaved before after
+  runs_unsaved input middle holds read end few all done file =
+      let told : Told (start image) (state middle all.after) (commands_from [] input) before.taken after.taken = rw same at all.told in
       record {
-        image = image;
-        found = found;
-        input = input;
-        read = read;
+        begins = begins input read;
+        all = end;
+        few = few;
         memory = new;
-        stops = record { front = commands_from [] input; last = sync; more = []; are = refl; middle = state middle all.after; told = told; fails = record { is = refl; drained = done; file = file } };
+        middle = state middle all.after;
+        told = told;
+        fails = record { is = refl; drained = done; file = file };
+        plainly = plainly _ _ _ told.session;
       }
 
 -- ---- an image and its bytes
@@ -180,10 +191,10 @@ not_refused : (image : Image) (notice : Notice) → AreWords image → IsWellFor
 not_refused image line words well (by_length {len = len} has wrong) =
     let size : len ≡ 4096 * (length image / 512) = omega (arith, has, length-image_bytes image, well.whole) in
     wrong (size ∙ sym (wanted_whole (length image / 512) well.at_least well.at_most) ∙ ap wanted_length (sym size))
-not_refused image line words well (not_formatted {image = other} has wrong) = let same = image_once image other words has.words has.bytes in wrong (rw (← same) well.marked)
-not_refused image line words well (by_count {image = other} has marked wrong) = let same = image_once image other words has.words has.bytes in wrong (rw (← same) well.counted)
+not_refused image line words well (not_formatted {image = other} has wrong) = let same = image_once image other words has.has.words has.has.bytes in wrong (rw (← same) well.marked)
+not_refused image line words well (by_count {image = other} has marked wrong) = let same = image_once image other words has.has.words has.has.bytes in wrong (rw (← same) well.counted)
 not_refused image line words well (damaged {image = other} {check = check} {place = place} has marked counted wrong) =
-    let same = image_once image other words has.words has.bytes in
+    let same = image_once image other words has.has.words has.has.bytes in
     none_fails image well check place (rw same wrong)
 
 pub complete : (status : ℕ) (before after : Outside) → (status ≡ 1 → IsAbsent before.file) → (status ≡ 3 → SourceFailed before after) → (status ≡ 4 → SinkFailed before after) → (status ≡ 5 → FilesFailed before after)
@@ -195,7 +206,7 @@ complete status before after one three four five six seven among image input hel
   | inr (inr (inl e)) ↦ absurd (source (three e))
   | inr (inr (inr (inl e))) ↦ absurd (sink (four e))
   | inr (inr (inr (inr (inl e)))) ↦ absurd (files (five e))
-  | inr (inr (inr (inr (inr (inl e))))) ↦ let long = six e in absurd (not_long before.left after.left input long.input long.more told few long.read long.most long.some)
+  | inr (inr (inr (inr (inr (inl e))))) ↦ let long = six e in absurd (not_long before.left after.left input long.served long.more told few (rw long.are at long.begins.read) long.most long.some)
   | inr (inr (inr (inr (inr (inr (inl e)))))) ↦ let refused = seven e in absurd (not_refused image refused.0 words well (rw held at refused.1))
   | inr (inr (inr (inr (inr (inr (inr e)))))) ↦ inr e
 ]
@@ -210,20 +221,3 @@ check_complete status before after one four five seven among image held words we
   | inr (inr (inr (inr (inl e)))) ↦ let refused = seven e in absurd (not_refused image refused.0 words well (rw held at refused.1))
   | inr (inr (inr (inr (inr e)))) ↦ inr e
 ]
-
--- ---- the words of a program
-
-range_kept : (words : List Text) (name : List ℕ) (blocks : ℕ) → Requests words (formats name blocks) → Requests words (formats name (min (max blocks 8) 16384))
-range_kept words name blocks asked = record {
-  taken = asked.taken;
-  names = λ verb rows is.
-      let named = asked.names verb rows is in
-      let same : min (max blocks 8) 16384 ≡ blocks = omega (arith, named.2.least, named.2.most) in
-      rw same named;
-}
-
--- words that ask for a format give a number of blocks in range
-pub asked_in_range : (words : List Text) (program : Program) → Requests words program → Requests words (in_range program)
-asked_in_range words (formats name blocks) asked = range_kept words name blocks asked
-asked_in_range words (runs name) asked = asked
-asked_in_range words (checks name) asked = asked

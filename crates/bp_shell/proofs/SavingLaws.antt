@@ -1,14 +1,15 @@
 -- A file between two images, while it is saved block by block.
-use Rattle.std.proofs.Common.{zero, suc, refl, sym, ap, arith, ◌≡◌, ℕ, ◌+◌, ◌*◌, ◌-◌, ◌≤◌, List, [], ◌∷◌, ◌++◌, length, take, drop, Bool, true, false, inl, inr}
+use Rattle.std.proofs.Common.{zero, suc, refl, sym, ◌∙◌, ap, arith, ◌≡◌, ℕ, ◌+◌, ◌*◌, ◌-◌, ◌≤◌, List, [], ◌∷◌, ◌++◌, length, take, drop, Bool, true, false, inl, inr}
 use Rattle.std.specs.Prelude.{◌⊎◌, nat_lt, Some, None}
 use Rattle.std.proofs.lemmas.Bool.{ltb-true, ltb-false}
 use Rattle.std.specs.Prelude.{Result, Ok, Err, OnOk, OnErr}
 use Rattle.bp_layout.specs.Bytes.{image_bytes}
 use Rattle.pm_region.specs.Memory.{Memory, current_words}
 use Rattle.pm_epochs.proofs.CrashLaws.{length-words_after}
-use Rattle.bp_io.specs.Files.{block_of, with_block, Known, Becomes, Stays}
+use Rattle.bp_io.specs.Files.{block_of, with_block, Known, Becomes, Stays, StaysAttached, View}
 use Rattle.bp_shell.proofs.BlockLaws.{length-image_bytes}
-use Rattle.bp_shell.specs.Files.{HasBytes, HasBlocksOf, IsMixed, partly_saved}
+use Rattle.bp_layout.specs.Words.{Image}
+use Rattle.bp_shell.specs.Files.{HasBytes, HasBlocksOf, IsMixed, IsReady, partly_saved}
 
 -- the bytes on one side of a place, and from one list to the other
 next : (first second : List ℕ) (n m : ℕ) → n ≤ length second → length first ≡ length second →
@@ -88,6 +89,25 @@ pub mixed_known : (known : Known) (first second : List ℕ) (i : ℕ) → 4096 *
 mixed_known None first second i low same has = tt
 mixed_known (Some None) first second i low same has = absurd has
 mixed_known (Some (Some found)) first second i low same has = rw has (saved_mixed first second i low same)
+
+-- ---- the attached file
+
+pub stays_attached : (a b c : View) → StaysAttached a b → StaysAttached b c → StaysAttached a c
+stays_attached a b c one two = record {
+  attached = λ name. two.attached name ∙ one.attached name;
+  blocks = two.blocks ∙ one.blocks;
+  may_write = two.may_write ∙ one.may_write;
+}
+
+pub still_attached : (a : View) → StaysAttached a a
+still_attached a = record { attached = λ name. refl; blocks = refl; may_write = refl }
+
+pub still_ready : (base next : Image) (a b : View) → IsReady base a → length next ≡ length base → StaysAttached a b → IsReady next b
+still_ready base next a b ready size stays = record {
+  size = omega (arith, size, ready.size, stays.blocks);
+  attached = (ready.attached.0, stays.attached ready.attached.0 ∙ ready.attached.1);
+  may_write = stays.may_write ∙ ready.may_write;
+}
 
 -- ---- sizes
 

@@ -5,7 +5,7 @@ use Rattle.std.proofs.lemmas.Bool.{lt-ltb}
 use Rattle.std.proofs.Math.Seq.{take-suc}
 use Rattle.std.proofs.KnownBytes.{Appends-trans}
 use Rattle.std.specs.Prelude.{Option, Some, None}
-use Rattle.std.specs.Io.KnownBytes.{Appends, Consumes}
+use Rattle.std.specs.Io.KnownBytes.{Appends, Consumes, Keeps}
 use Rattle.pm_region.specs.Memory.{Memory}
 use Rattle.bp_layout.specs.Words.{Image}
 use Rattle.bp_script.specs.Commands.{Command, command_of}
@@ -13,7 +13,8 @@ use Rattle.bp_shell.specs.Lines.{commands_from, lines_from}
 use Rattle.bp_script.specs.Texts.{Reply, reply_text}
 use Rattle.bp_shell.specs.Lines.{text_of}
 use Rattle.bp_shell.specs.Session.{State, Line, Session}
-use Rattle.bp_shell.specs.Serving.{state, Acts, Fails, Told, Serves, ServesAll, Cuts, Stops}
+use Rattle.bp_shell.specs.Acting.{state}
+use Rattle.bp_shell.specs.Serving.{Acts, Fails, Told, Serves, ServesAll, Cuts, Stops}
 
 -- ---- sessions
 
@@ -233,6 +234,13 @@ take_next xs i b low e = ap (λ n. take n xs) (let n : i + 1 ≡ suc i = omega a
 pub consumes_nothing : (a : Option (List ℕ)) → Consumes a a []
 consumes_nothing None = tt
 consumes_nothing (Some xs) = refl
+
+-- a read that failed consumed nothing
+pub consumes_kept : (a b c : Option (List ℕ)) (xs : List ℕ) → Consumes a b xs → Keeps b c → Consumes a c xs
+consumes_kept None b c xs read kept = tt
+consumes_kept (Some us) None c xs read kept = absurd read
+consumes_kept (Some us) (Some vs) None xs read kept = absurd kept
+consumes_kept (Some us) (Some vs) (Some ws) xs read kept = rw kept read
 
 pub take_more : (xs : List ℕ) (n m : ℕ) → n ≤ m → take n xs ++ drop n (take m xs) ≡ take m xs
 take_more [] zero zero low = refl

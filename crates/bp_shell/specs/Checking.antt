@@ -12,8 +12,9 @@ use Rattle.bp_script.specs.Sayings.{notice_text}
 use Rattle.bp_script.specs.declared.notices.Notice.{Notice}
 use Rattle.bp_script.specs.declared.notices.Notice.TheVariants.{Clean, NoFile}
 use Rattle.bp_shell.specs.Files.{AreWords, IsAbsent}
+use Rattle.bp_shell.specs.Taking.{TakesPart}
 use Rattle.bp_shell.specs.Opening.{IsFound, IsRefused}
-use Rattle.bp_shell.specs.Outside.{Outside, SinkFailed, FilesFailed, IsCalm, IsUntouched, TellsLine}
+use Rattle.bp_shell.specs.Outside.{Outside, SinkFailed, FilesFailed, IsFirstFault, IsUntouched, TellsLine}
 
 -- The line tells what this image holds in all, and how many of its blocks are free.
 pub record IsClean (image : Image) (notice : Notice) : Type 0 where
@@ -31,19 +32,19 @@ pub record Checks (known : Known) (notice : Notice) : Type 0 where
 
 -- Where FILE is told to have the bytes of a well-formed image, and nothing fails, the status is 0, or 8 for want of memory.
 abbrev pub IsCheckComplete : ℕ → Outside → Outside → Type 0
-IsCheckComplete status before after = (image : Image) → before.file ≡ Some (Some (image_bytes image)) → AreWords image → IsWellFormed image
-    → ¬ SinkFailed before after → ¬ FilesFailed before after → (status ≡ 0) ⊎ (status ≡ 8)
+IsCheckComplete status before after = (image : Image) → before.file ≡ Some (Some (image_bytes image)) → AreWords image
+    → IsWellFormed image → ¬ SinkFailed before after → ¬ FilesFailed before after → (status ≡ 0) ⊎ (status ≡ 8)
 
 -- What `check FILE` answers, and when. It reads no input, and FILE stays as it is.
 pub record CheckOutcome (status : ℕ) (before after : Outside) : Type 0 where
-  pub whole : status ≡ 0 → (notice : Notice) × Checks before.file notice × Appends before.taken after.taken (notice_text notice) × IsCalm before after
+  pub whole : status ≡ 0 → (notice : Notice) × Checks before.file notice × Appends before.taken after.taken (notice_text notice)
   pub missing : status ≡ 1 → IsAbsent before.file × TellsLine NoFile before after
-  pub sink : status ≡ 4 → (notice : Notice) × Checks before.file notice
-      × ((count : ℕ) × (count < length (notice_text notice)) × Appends before.taken after.taken (take count (notice_text notice)))
-      × SinkFailed before after
-  pub files : status ≡ 5 → (after.taken ≡ before.taken) × FilesFailed before after
+  pub sink : status ≡ 4 → (notice : Notice) × Checks before.file notice × TakesPart (notice_text notice) before.taken after.taken
+  pub files : status ≡ 5 → after.taken ≡ before.taken
   pub refused : status ≡ 7 → (notice : Notice) × IsRefused before.file notice × TellsLine notice before after
   pub memory : status ≡ 8 → after.taken ≡ before.taken
   pub untouched : IsUntouched before after
+  pub flushed : after.is_flushed ≡ before.is_flushed
+  pub first : IsFirstFault status before.faults after.faults
   pub complete : IsCheckComplete status before after
   pub one_of : (status ≡ 0) ⊎ (status ≡ 1) ⊎ (status ≡ 4) ⊎ (status ≡ 5) ⊎ (status ≡ 7) ⊎ (status ≡ 8)

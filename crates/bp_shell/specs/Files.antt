@@ -1,6 +1,7 @@
 -- Which words a file holds.
-use Rattle.std.specs.Prelude.{◌≡◌, ◌⊎◌, ℕ, List, None, Some, ⊤, length, take, drop, ◌++◌, ◌*◌, ◌<◌, ◌^◌}
-use Rattle.bp_io.specs.Files.{Known, block_of}
+use Rattle.std.specs.Prelude.{◌≡◌, ◌⊎◌, ℕ, List, None, Some, ⊤, true, length, take, drop, ◌++◌, ◌*◌, ◌<◌, ◌^◌}
+use Rattle.bp_limits.specs.Limits.{block_size, block_words}
+use Rattle.bp_io.specs.Files.{Known, Tells, View, block_of}
 use Rattle.bp_layout.specs.Words.{Image, word}
 use Rattle.bp_layout.specs.Bytes.{image_bytes}
 
@@ -34,7 +35,7 @@ pub record HasImage (known : Known) (image : Image) : Type 0 where
 -- where it is told, the file of a name is there and each of its blocks is that of one list of bytes or of the other
 pub record IsMixed (found first second : List ℕ) : Type 0 where
   pub size : length found ≡ length first
-  pub blocks : (i : ℕ) → 4096 * i < length found → (block_of found i ≡ block_of first i) ⊎ (block_of found i ≡ block_of second i)
+  pub blocks : (i : ℕ) → block_size * i < length found → (block_of found i ≡ block_of first i) ⊎ (block_of found i ≡ block_of second i)
 
 abbrev pub HasBlocksOf : Known → List ℕ → List ℕ → Type 0
 HasBlocksOf None first second = ⊤
@@ -42,22 +43,33 @@ HasBlocksOf (Some None) first second = ⊥
 HasBlocksOf (Some (Some found)) first second = IsMixed found first second
 
 -- The file of this name is attached, has these blocks and holds these bytes.
-pub record HoldsBytes (is_attached : List ℕ → Type 0) (blocks : ℕ) (contents : List ℕ → Known) (name bytes : List ℕ) : Type 0 where
-  pub attached : is_attached name
-  pub size : length bytes ≡ 4096 * blocks
-  pub has : HasBytes (contents name) bytes
+pub record HoldsBytes (files : View) (name bytes : List ℕ) : Type 0 where
+  pub attached : files.is_attached name ≡ true
+  pub size : length bytes ≡ block_size * files.blocks
+  pub has : HasBytes (files.contents name) bytes
 
 -- The file of this name is attached, has these blocks and holds these words.
-pub record Holds (is_attached : List ℕ → Type 0) (blocks : ℕ) (contents : List ℕ → Known) (name : List ℕ) (image : Image) : Type 0 where
-  pub attached : is_attached name
-  pub size : length image ≡ 512 * blocks
-  pub bytes : HasBytes (contents name) (image_bytes image)
+pub record Holds (files : View) (name : List ℕ) (image : Image) : Type 0 where
+  pub attached : files.is_attached name ≡ true
+  pub size : length image ≡ block_words * files.blocks
+  pub bytes : HasBytes (files.contents name) (image_bytes image)
 
 -- It is attached, and each of its blocks is that of the first words or of the second.
-pub record HoldsPartly (is_attached : List ℕ → Type 0) (contents : List ℕ → Known) (name : List ℕ) (first second : Image) : Type 0 where
-  pub attached : is_attached name
-  pub bytes : HasBlocksOf (contents name) (image_bytes first) (image_bytes second)
+pub record HoldsPartly (files : View) (name : List ℕ) (first second : Image) : Type 0 where
+  pub attached : files.is_attached name ≡ true
+  pub bytes : HasBlocksOf (files.contents name) (image_bytes first) (image_bytes second)
+
+-- The words are those of the first blocks of the attached file, where its bytes are told.
+abbrev pub HoldsFront : View → ℕ → Image → Type 0
+HoldsFront files count words = (name : List ℕ) → files.is_attached name ≡ true →
+    Tells (files.contents name) (λ bytes. image_bytes words ≡ take (block_size * count) bytes)
+
+-- A file is attached that has the words' blocks, and may be written.
+pub record IsReady (base : Image) (files : View) : Type 0 where
+  pub size : length base ≡ block_words * files.blocks
+  pub attached : (name : List ℕ) × (files.is_attached name ≡ true)
+  pub may_write : files.may_write ≡ true
 
 -- the first blocks of a file that is being saved are those of the second list of bytes, the others still those of the first
 abbrev pub partly_saved : List ℕ → List ℕ → ℕ → List ℕ
-partly_saved first second i = take (4096 * i) second ++ drop (4096 * i) first
+partly_saved first second i = take (block_size * i) second ++ drop (block_size * i) first

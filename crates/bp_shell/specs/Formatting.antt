@@ -1,24 +1,27 @@
 -- What a format makes of a file.
 use Rattle.std.specs.Prelude.{◌≡◌, ◌⊎◌, ⊤, ℕ, ◌*◌, ◌<◌, List, [], length, replicate, Option, None, Some}
+use Rattle.bp_limits.specs.Limits.{block_size, block_words}
 use Rattle.bp_io.specs.Files.{Known, block_of, resized}
 use Rattle.bp_layout.specs.Words.{Image}
 use Rattle.bp_layout.specs.Format.{formatted}
 
 -- the image of a format over zeros
 abbrev pub new_image : ℕ → Image
-new_image blocks = formatted (replicate (512 * blocks) 0) blocks
+new_image blocks = formatted (replicate (block_words * blocks) 0) blocks
 
--- Each block of a file is the old file's, or that one filled up with zeros, or that of other bytes.
-abbrev pub IsPartly : List ℕ → List ℕ → List ℕ → Type 0
-IsPartly old wanted found = (i : ℕ) → 4096 * i < length found →
-    (block_of found i ≡ block_of old i) ⊎ (block_of found i ≡ resized 4096 (block_of old i)) ⊎ (block_of found i ≡ block_of wanted i)
+-- The file has its old length or the wanted one, and each of its blocks is the old file's, or that one filled up with zeros, or that
+-- of the wanted bytes.
+pub record IsPartly (old wanted found : List ℕ) : Type 0 where
+  pub size : (length found ≡ length old) ⊎ (length found ≡ length wanted)
+  pub blocks : (i : ℕ) → block_size * i < length found → (block_of found i ≡ block_of old i)
+      ⊎ (block_of found i ≡ resized block_size (block_of old i)) ⊎ (block_of found i ≡ block_of wanted i)
 
 -- the bytes of a file, none where there is no file
 abbrev pub bytes_of : Option (List ℕ) → List ℕ
 bytes_of None = []
 bytes_of (Some bytes) = bytes
 
--- The same of a file, where it is told; one that is missing at first may still be.
+-- The same of a file, where it is told. One that is missing at first may still be, or was made.
 abbrev pub HasPartly : Known → List ℕ → Known → Type 0
 HasPartly None wanted now = ⊤
 HasPartly (Some was) wanted None = ⊤

@@ -1,3 +1,5 @@
+pub mod Taking
+pub mod Pieces
 pub mod Lines
 pub mod Session
 pub mod PlainSession

@@ -1,44 +1,65 @@
 -- What is told of the outside of a program.
-use Rattle.std.specs.Prelude.{◌≡◌, ℕ, List, take, Option}
+use Rattle.std.specs.Prelude.{◌≡◌, ◌⊎◌, ℕ, Bool, List, take, Option}
 use Rattle.std.specs.Io.KnownBytes.{Appends}
 use Rattle.bp_io.specs.Causes.{Rose}
-use Rattle.bp_io.specs.Files.{Known}
+use Rattle.bp_io.specs.Files.{Known, View}
 use Rattle.bp_script.specs.Sayings.{notice_text}
 use Rattle.bp_script.specs.declared.notices.Notice.{Notice}
 
--- What is told of the outside at a moment: what the source has left, what the sink took, what is known of FILE, and how often
--- each of the three has failed.
+-- How often the source, the sink and the files have failed.
+pub record Faults : Type 0 where
+  pub source : ℕ
+  pub sink : ℕ
+  pub files : ℕ
+
+abbrev pub counts : ℕ → ℕ → View → Faults
+counts source sink files = record { source = source; sink = sink; files = files.faults }
+
+-- What is told of the outside at a moment: what the source has left, what the sink took, what is known of FILE, whether all that
+-- was written is known to be flushed, and how often each of the three has failed.
 pub record Outside : Type 0 where
   pub left : Option (List ℕ)
   pub taken : Option (List ℕ)
   pub file : Known
-  pub source_faults : ℕ
-  pub sink_faults : ℕ
-  pub file_faults : ℕ
+  pub is_flushed : Bool
+  pub faults : Faults
 
-abbrev pub outside : Option (List ℕ) → Option (List ℕ) → Known → ℕ → ℕ → ℕ → Outside
-outside left taken file source_faults sink_faults file_faults =
-    record { left = left; taken = taken; file = file; source_faults = source_faults; sink_faults = sink_faults; file_faults = file_faults }
+abbrev pub outside : Option (List ℕ) → ℕ → Option (List ℕ) → ℕ → View → List ℕ → Outside
+outside left source taken sink files name =
+    record { left = left; taken = taken; file = files.contents name; is_flushed = files.is_flushed; faults = counts source sink files }
 
 abbrev pub SourceFailed : Outside → Outside → Type 0
-SourceFailed before after = Rose before.source_faults after.source_faults
+SourceFailed before after = Rose before.faults.source after.faults.source
 
 abbrev pub SinkFailed : Outside → Outside → Type 0
-SinkFailed before after = Rose before.sink_faults after.sink_faults
+SinkFailed before after = Rose before.faults.sink after.faults.sink
 
 abbrev pub FilesFailed : Outside → Outside → Type 0
-FilesFailed before after = Rose before.file_faults after.file_faults
+FilesFailed before after = Rose before.faults.files after.faults.files
 
--- Nothing failed.
-pub record IsCalm (before after : Outside) : Type 0 where
-  pub source : after.source_faults ≡ before.source_faults
-  pub sink : after.sink_faults ≡ before.sink_faults
-  pub files : after.file_faults ≡ before.file_faults
+-- a status at which the sink took all that it was handed, or nothing was told
+abbrev pub IsQuiet : ℕ → Type 0
+IsQuiet status = (status ≡ 0) ⊎ (status ≡ 3) ⊎ (status ≡ 5) ⊎ (status ≡ 6) ⊎ (status ≡ 8)
+
+-- The first fault ends a program, and the status tells it: the source failed at 3 alone, the files at 5 alone, and the sink at 4,
+-- or as it was told the line of 1, 2 or 7.
+pub record IsFirstFault (status : ℕ) (before after : Faults) : Type 0 where
+  pub source : status ≡ 3 → Rose before.source after.source
+  pub sink : status ≡ 4 → Rose before.sink after.sink
+  pub files : status ≡ 5 → Rose before.files after.files
+  pub no_source : ¬ (status ≡ 3) → after.source ≡ before.source
+  pub no_sink : IsQuiet status → after.sink ≡ before.sink
+  pub no_files : ¬ (status ≡ 5) → after.files ≡ before.files
 
 -- No byte was read, and FILE is as it was.
 pub record IsUntouched (before after : Outside) : Type 0 where
   pub left : after.left ≡ before.left
   pub file : after.file ≡ before.file
+
+-- Nothing was told either.
+pub record IsIdle (before after : Outside) : Type 0 where
+  pub untouched : IsUntouched before after
+  pub taken : after.taken ≡ before.taken
 
 -- A sink took a text: a front of it, and all of it where the count of faults didn't rise.
 pub record Prints (text : List ℕ) (taken taken_now : Option (List ℕ)) (faults faults_now : ℕ) : Type 0 where
@@ -46,4 +67,4 @@ pub record Prints (text : List ℕ) (taken taken_now : Option (List ℕ)) (fault
   pub all : ¬ Rose faults faults_now → Appends taken taken_now text
 
 abbrev pub TellsLine : Notice → Outside → Outside → Type 0
-TellsLine notice before after = Prints (notice_text notice) before.taken after.taken before.sink_faults after.sink_faults
+TellsLine notice before after = Prints (notice_text notice) before.taken after.taken before.faults.sink after.faults.sink

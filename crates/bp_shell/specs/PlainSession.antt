@@ -10,6 +10,7 @@ use Rattle.bp_plain.specs.Plain.{plain, is_changing, refusal}
 use Rattle.pm_epochs.specs.Log.{marks}
 use Rattle.pm_epochs.specs.Replay.{Cut, IsRight, replay, kept_calls, after_calls}
 use Rattle.pm_region.specs.Memory.{Memory, current_words}
+use Rattle.bp_shell.specs.Session.{Session, State}
 use Rattle.bp_script.specs.Commands.{Command}
 use Rattle.bp_script.specs.Commands.Command.{file_call, sync, space, bad_syntax, too_long}
 use Rattle.bp_script.specs.Texts.{Reply}
@@ -90,3 +91,26 @@ pub record Follows (memory : Memory) (p : Plain) : Type 0 where
   pub calls : marks memory.events ≡ length p.since
   pub after : (count : ℕ) → Stands (after_calls memory.base memory.events count) (after_crash p count)
   pub crash : (cut : Cut) → IsRight memory.events cut → Stands (replay memory.base memory.events cut) (after_crash p (kept_calls memory.events cut))
+
+-- ---- a session
+
+-- These are a plain tree's replies to these commands, and the words then follow it.
+pub record IsPlainly (tree : FileTree) (commands : List Command) (replies : List Reply) (memory : Memory) : Type 0 where
+  pub plain : Plain
+  pub session : PlainSession (fresh tree) commands replies plain
+  pub follows : Follows memory plain
+
+-- The first of a session's commands lead to a state of its own, which the rest goes on from, and are a plain tree's too.
+pub record IsFront (tree : FileTree) (old : State) (first rest : List Command) (replies : List Reply) (new : State) : Type 0 where
+  pub middle : State
+  pub front : List Reply
+  pub behind : List Reply
+  pub are : replies ≡ front ++ behind
+  pub session : Session old first front middle
+  pub later : Session middle rest behind new
+  pub plainly : IsPlainly tree first front middle.memory
+
+-- A session is a plain tree's, at its end and behind each of its lines.
+pub record FollowsTree (tree : FileTree) (old : State) (commands : List Command) (replies : List Reply) (new : State) : Type 0 where
+  pub whole : IsPlainly tree commands replies new.memory
+  pub fronts : (first rest : List Command) → commands ≡ first ++ rest → IsFront tree old first rest replies new

@@ -1,9 +1,15 @@
 -- Why a program ends before it serves or tells of its file.
+use Rattle.std.specs.Prelude.{◌≡◌, ℕ, IfErr, OnOk, Result}
+use Rattle.bp_io.specs.Causes.{Rose}
+use Rattle.bp_io.specs.Files.{Known}
 use Rattle.bp_scan.specs.declared.fault.MountFault.{MountFault}
 use Rattle.bp_scan.specs.declared.fault.MountFault.TheVariants as fault
+use Rattle.bp_script.specs.declared.notices.Notice.{Notice}
 use Rattle.bp_script.specs.declared.notices.Notice.TheVariants.{NotFormatted, BadSize, Damaged}
+use Rattle.bp_shell.specs.Files.{IsAbsent}
+use Rattle.bp_shell.specs.Opening.{IsRefused}
 use Rattle.bp_shell.specs.declared.stop.Stop.{Stop}
-use Rattle.bp_shell.specs.declared.stop.Stop.TheVariants.{Refused, Memory}
+use Rattle.bp_shell.specs.declared.stop.Stop.TheVariants.{Missing, Outside, Refused, Memory}
 
 -- a fault of the image: the file is refused, or memory is out
 abbrev pub stop_by : MountFault → Stop
@@ -11,3 +17,14 @@ stop_by fault.NotFormatted = Refused NotFormatted
 stop_by (fault.BadSize found wanted) = Refused (BadSize found wanted)
 stop_by (fault.Damaged check place) = Refused (Damaged check place)
 stop_by fault.Memory = Memory
+
+-- the file is missing, or is refused for this reason, only where that is so
+pub record IsReason (known : Known) (stop : Stop) : Type 0 where
+  pub missing : stop ≡ Missing → IsAbsent known
+  pub refused : (notice : Notice) → stop ≡ Refused notice → IsRefused known notice
+
+-- the files failed where they are named as the reason, and there alone
+pub record HasStopCause {T : Type 0} (before now : ℕ) (result : Result T Stop) : Type 0 where
+  pub same : OnOk result (now ≡ before)
+  pub failed : IfErr result (λ stop. stop ≡ Outside → Rose before now)
+  pub others : IfErr result (λ stop. ¬ (stop ≡ Outside) → now ≡ before)

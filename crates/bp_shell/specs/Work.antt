@@ -1,4 +1,4 @@
--- What the memory of a run holds of a line.
+-- What the memory of a run holds of a line, and of what was read.
 use Rattle.std.specs.Prelude.{ℕ, List, length, nat_lt, Option, Some, None, if◌then◌else◌}
 use Rattle.bp_limits.specs.Limits.{max_line}
 use Rattle.bp_shell.specs.declared.work.Work.{Work}
@@ -6,6 +6,10 @@ use Rattle.bp_shell.specs.declared.work.Work.{Work}
 -- the line, or the first 140,001 bytes of one that is longer
 abbrev pub held_line : Work → List ℕ
 held_line work = work.buffers.line.items
+
+-- the bytes that were read last, in a buffer of 65,536
+abbrev pub read_piece : Work → List ℕ
+read_piece work = work.piece.items
 
 -- a line that is not too long
 abbrev pub line_of : List ℕ → Option (List ℕ)

@@ -1,12 +1,13 @@
 //! What one line does.
 
-ghost use Rattle.std.specs.Prelude.{◌≡◌, ◌*◌, length, List, ℕ, IfOk, OnOk, OnErr};
+ghost use Rattle.std.specs.Prelude.{◌≡◌, IfOk, OnErr, OnOk, length, true};
 ghost use Rattle.bp_io.specs.Causes.{HasCause};
-ghost use Rattle.bp_layout.specs.Words.{Image};
+ghost use Rattle.bp_io.specs.Files.{StaysAttached};
+ghost use Rattle.bp_script.specs.Commands.Command.{sync};
 ghost use Rattle.bp_script.specs.Commands.{command_of};
-ghost use Rattle.bp_shell.specs.Acting.{reply_of};
-ghost use Rattle.bp_shell.specs.Files.{Holds, HoldsPartly};
-ghost use Rattle.bp_shell.specs.Serving.{state, Acts, Fails};
+ghost use Rattle.bp_shell.specs.Acting.{Does, reply_of};
+ghost use Rattle.bp_shell.specs.Files.{IsReady};
+ghost use Rattle.bp_shell.specs.Serving.{DoesLine, FailsLine};
 
 use crate::outcome::Outcome;
 use crate::saving::save;
@@ -18,44 +19,63 @@ use bp_volume::Volume;
 use pm_region::Region;
 use std::alloc::Global;
 
-/// Does what the line asks for. The answer of a call stands in the buffers' reply.
-pub(crate) fn act<R: Region, F: Files>(
+/// Does what the line asks for over a volume alone. The answer of a call stands in the buffers' reply. At `Outcome::Synced` all is
+/// written back, and a file that is to hold it is to be saved.
+pub(crate) fn act<R: Region>(
+    alloc: Global,
+    volume: &mut Volume<R>,
+    buffers: &mut LineBuffers,
+) -> Outcome
+    ensures does { Does volume.old (command_of buffers.old.line.items) result buffers.new.reply.answer volume.new }
+    ensures line { buffers.new.line.items ≡ buffers.old.line.items }
+{
+    if buffers.line.len() > MAX_LINE {
+        return Outcome::TooLong;
+    }
+    match buffers.decoded.line(&buffers.line) {
+        Ok(Line::Call(call)) => {
+            volume.apply(alloc, &call, &mut buffers.reply);
+            Outcome::Answered
+        }
+        Ok(Line::Sync) => {
+            volume.sync();
+            Outcome::Synced
+        }
+        Ok(Line::Space) => {
+            let space = volume.space();
+            Outcome::Counted {
+                free: space.free,
+                live: space.live,
+            }
+        }
+        Err(Syntax) => Outcome::BadSyntax,
+    }
+}
+
+/// Does what the line asks for, and saves the words of a sync to the attached file.
+pub(crate) fn act_and_save<R: Region, F: Files>(
     alloc: Global,
     volume: &mut Volume<R>,
     buffers: &mut LineBuffers,
     files: &mut F,
 ) -> Result<Outcome, Failed>
-    requires size { length volume.old.base ≡ 512 * F.blocks files.old }
-    requires attached { (name : List ℕ) × F.is_attached files.old name }
-    ensures size { length volume.new.base ≡ 512 * F.blocks files.new }
-    ensures attached { (name : List ℕ) → F.is_attached files.old name → F.is_attached files.new name }
-    ensures acts { IfOk result (λ outcome. (name : List ℕ) (saved : Image) → Holds (F.is_attached files.old) (F.blocks files.old) (F.contents files.old) name saved →
-        Acts (state volume.old saved) volume.new (Holds (F.is_attached files.new) (F.blocks files.new) (F.contents files.new) name) (command_of buffers.old.line.items) (reply_of outcome buffers.new.reply.answer)) }
-    ensures fails { OnErr result ((name : List ℕ) (saved : Image) → Holds (F.is_attached files.old) (F.blocks files.old) (F.contents files.old) name saved →
-        Fails (state volume.old saved) volume.new (HoldsPartly (F.is_attached files.new) (F.contents files.new) name) (command_of buffers.old.line.items)) }
+    requires { IsReady volume.old.base (F.view files.old) }
+    ensures does { IfOk result (λ outcome. DoesLine volume.old (F.view files.old) (command_of buffers.old.line.items)
+        (reply_of outcome buffers.new.reply.answer) volume.new (F.view files.new)) }
+    ensures fails { OnErr result (FailsLine volume.old (F.view files.old) (command_of buffers.old.line.items)
+        volume.new (F.view files.new)) }
+    ensures synced { OnOk result (command_of buffers.old.line.items ≡ sync → (F.view files.new).is_flushed ≡ true) }
+    ensures flushed { OnOk result ((F.view files.old).is_flushed ≡ true → (F.view files.new).is_flushed ≡ true) }
+    ensures size { length volume.new.base ≡ length volume.old.base }
+    ensures attached { StaysAttached (F.view files.old) (F.view files.new) }
     ensures line { buffers.new.line.items ≡ buffers.old.line.items }
-    ensures cause { HasCause (F.faults files.old) (F.faults files.new) result }
+    ensures cause { HasCause (F.view files.old).faults (F.view files.new).faults result }
 {
-    if buffers.line.len() > MAX_LINE {
-        return Ok(Outcome::TooLong);
-    }
-    match buffers.decoded.line(&buffers.line) {
-        Ok(Line::Call(call)) => {
-            volume.apply(alloc, &call, &mut buffers.reply);
-            Ok(Outcome::Answered)
-        }
-        Ok(Line::Sync) => {
-            volume.sync();
-            save(volume.region(), files)?;
-            Ok(Outcome::Synced)
-        }
-        Ok(Line::Space) => {
-            let space = volume.space();
-            Ok(Outcome::Counted {
-                free: space.free,
-                live: space.live,
-            })
-        }
-        Err(Syntax) => Ok(Outcome::BadSyntax),
+    match act(alloc, volume, buffers) {
+        Outcome::Synced => match save(volume.region(), files) {
+            Ok(()) => Ok(Outcome::Synced),
+            Err(Failed) => Err(Failed),
+        },
+        outcome => Ok(outcome),
     }
 }

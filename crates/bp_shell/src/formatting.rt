@@ -1,37 +1,36 @@
 //! The program `format`.
 
-ghost use Rattle.bp_io.specs.Causes.{HasCause, Rose};
+ghost use Rattle.bp_io.specs.Causes.{HasCause};
 ghost use Rattle.bp_layout.specs.Bytes.{image_bytes};
-ghost use Rattle.bp_script.specs.Sayings.{notice_text};
-ghost use Rattle.bp_script.specs.declared.notices.Notice.TheVariants.{Formatted};
+ghost use Rattle.bp_limits.specs.Limits.{block_words};
 ghost use Rattle.bp_shell.specs.Files.{HasBytes};
 ghost use Rattle.bp_shell.specs.Formatting.{HasPartly, new_image};
+ghost use Rattle.bp_shell.specs.Outside.{outside};
+ghost use Rattle.bp_shell.specs.Running.{FormatOutcome};
 ghost use Rattle.pm_region.specs.Memory.{current_words};
-ghost use Rattle.std.specs.Io.KnownBytes.{Appends};
-ghost use Rattle.std.specs.Prelude.{◌*◌, ◌-◌, ◌<◌, ◌≡◌, ◌≤◌, ◌⊎◌, [], ℕ, IfSome, OnErr, OnOk, length, take};
+ghost use Rattle.std.specs.Prelude.{◌*◌, ◌≡◌, ◌≤◌, [], true, ℕ, IfSome, List, OnErr, OnOk, Option, length};
 
 use crate::printing::print;
 use crate::saving::save;
-use bp_io::{Failed, Files, Sink};
+use bp_io::{Access, Failed, Files, Sink};
+use bp_limits::{BLOCK_WORDS, CALL_ROOM, MAX_BLOCKS, MIN_BLOCKS};
 use bp_script::Notice;
 use bp_volume::Volume;
 use pm_region::{ListRegion, Region};
 use std::alloc::Global;
 
-const MOST_EVENTS: usize = 65_536;
-
 // A new file system of so many blocks; none for want of memory.
 fn new_volume(alloc: Global, blocks: u32) -> Option<Volume<ListRegion>>
-    requires least { 8 ≤ blocks }
-    requires most { blocks ≤ 16384 }
+    requires least { MIN_BLOCKS ≤ blocks }
+    requires most { blocks ≤ MAX_BLOCKS }
     ensures image { IfSome result (λ volume. volume.base ≡ new_image blocks) }
     ensures drained { IfSome result (λ volume. volume.events ≡ []) }
 {
-    let words = match vec![in alloc; 0u64; 512 * blocks as usize] {
+    let words = match vec![in alloc; 0u64; (BLOCK_WORDS * blocks) as usize] {
         Ok(words) => words,
         Err(_) => return None,
     };
-    let region = match ListRegion::new(alloc, words, MOST_EVENTS) {
+    let region = match ListRegion::new(alloc, words, CALL_ROOM) {
         Ok(region) => region,
         Err(_) => return None,
     };
@@ -48,13 +47,16 @@ fn write_image<R: Region, F: Files>(
     blocks: u32,
     files: &mut F,
 ) -> Result<(), Failed>
-    requires size { length (R.memory region.now).base ≡ 512 * blocks }
-    requires most { blocks ≤ 16384 }
-    ensures written { OnOk result (HasBytes (F.contents files.new name.now) (image_bytes (current_words (R.memory region.now)))) }
-    ensures partly { OnErr result (HasPartly (F.contents files.old name.now) (image_bytes (current_words (R.memory region.now))) (F.contents files.new name.now)) }
-    ensures cause { HasCause (F.faults files.old) (F.faults files.new) result }
+    requires size { length (R.memory region.now).base ≡ block_words * blocks }
+    requires most { blocks ≤ MAX_BLOCKS }
+    ensures written { OnOk result (HasBytes ((F.view files.new).contents name.now)
+        (image_bytes (current_words (R.memory region.now)))) }
+    ensures flushed { OnOk result ((F.view files.new).is_flushed ≡ true) }
+    ensures partly { OnErr result (HasPartly ((F.view files.old).contents name.now)
+        (image_bytes (current_words (R.memory region.now))) ((F.view files.new).contents name.now)) }
+    ensures cause { HasCause (F.view files.old).faults (F.view files.new).faults result }
 {
-    match files.attach(name, true) {
+    match files.attach(name, Access::Make) {
         Ok(Some(_)) => {}
         Ok(None) => unreachable!(),
         Err(Failed) => return Err(Failed),
@@ -78,18 +80,12 @@ pub fn format_file<K: Sink, F: Files>(
     out: &mut K,
     files: &mut F,
 ) -> u8
-    requires least { 8 ≤ blocks }
-    requires most { blocks ≤ 16384 }
-    ensures written { (result ≡ 0) ⊎ (result ≡ 4) → HasBytes (F.contents files.new name.now) (image_bytes (new_image blocks)) }
-    ensures told { result ≡ 0 → Appends (K.taken out.old) (K.taken out.new) (notice_text (Formatted blocks (blocks - 2))) }
-    ensures cut { result ≡ 4 → (count : ℕ) × (count < length (notice_text (Formatted blocks (blocks - 2)))) × Appends (K.taken out.old) (K.taken out.new) (take count (notice_text (Formatted blocks (blocks - 2)))) }
-    ensures sink { result ≡ 4 → Rose (K.faults out.old) (K.faults out.new) }
-    ensures partly { result ≡ 5 → HasPartly (F.contents files.old name.now) (image_bytes (new_image blocks)) (F.contents files.new name.now) }
-    ensures files { result ≡ 5 → Rose (F.faults files.old) (F.faults files.new) }
-    ensures quiet { (result ≡ 5) ⊎ (result ≡ 8) → out.new ≡ out.old }
-    ensures idle { result ≡ 8 → files.new ≡ files.old }
-    ensures calm { result ≡ 0 → (K.faults out.new ≡ K.faults out.old) × (F.faults files.new ≡ F.faults files.old) }
-    ensures status { (result ≡ 0) ⊎ (result ≡ 4) ⊎ (result ≡ 5) ⊎ (result ≡ 8) }
+    requires least { MIN_BLOCKS ≤ blocks }
+    requires most { blocks ≤ MAX_BLOCKS }
+    // Whatever a source has left.
+    ensures { (left : Option (List ℕ)) (reads : ℕ) → FormatOutcome result blocks
+        (outside left reads (K.taken out.old) (K.faults out.old) (F.view files.old) name.now)
+        (outside left reads (K.taken out.new) (K.faults out.new) (F.view files.new) name.now) }
 {
     let volume = match new_volume(alloc, blocks) {
         Some(volume) => volume,

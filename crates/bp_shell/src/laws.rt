@@ -32,16 +32,20 @@ pub fn crashes_keep_calls()
     ensures { (old new : State) (tree : FileTree) (commands : List Command) (replies : List Reply) →
         old.memory.events ≡ [] → Stands old.memory.base tree → Session old commands replies new →
         (plain : Plain) × PlainSession (fresh tree) commands replies plain ×
-        ((cut : Cut) → IsRight new.memory.events cut → Stands (replay new.memory.base new.memory.events cut) (after_crash plain (kept_calls new.memory.events cut))) }
+        ((cut : Cut) → IsRight new.memory.events cut →
+        Stands (replay new.memory.base new.memory.events cut) (after_crash plain (kept_calls new.memory.events cut))) }
 {}
 
 /// A session has a state behind each of its lines, so that all that holds at its end holds there.
 pub fn sessions_split()
-    ensures { (old new : State) (first rest : List Command) (replies : List Reply) → Session old (first ++ rest) replies new →
-        (middle : State) × (front : List Reply) × (behind : List Reply) × (replies ≡ front ++ behind) × Session old first front middle × Session middle rest behind new }
+    ensures { (old new : State) (first rest : List Command) (replies : List Reply) →
+        Session old (first ++ rest) replies new →
+        (middle : State) × (front : List Reply) × (behind : List Reply) × (replies ≡ front ++ behind)
+        × Session old first front middle × Session middle rest behind new }
 {}
 
 /// Bytes are those of one image at most.
 pub fn bytes_have_one_image()
-    ensures { (first second : Image) → AreWords first → AreWords second → image_bytes first ≡ image_bytes second → first ≡ second }
+    ensures { (first second : Image) → AreWords first → AreWords second →
+        image_bytes first ≡ image_bytes second → first ≡ second }
 {}

@@ -20,5 +20,5 @@ mod tests;
 mod work;
 
 pub use running::run;
-pub use serving::{MOST_INPUT, serve, serve_line};
+pub use serving::{serve, serve_line};
 pub use work::Work;

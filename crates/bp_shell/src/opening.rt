@@ -1,44 +1,38 @@
 //! The file of a program.
 
-ghost use Rattle.std.specs.Prelude.{◌≡◌, ◌≤◌, ◌*◌, List, ℕ, ◌⊎◌, IfErr, IfOk, OnOk, take, vec_len};
-ghost use Rattle.bp_io.specs.Causes.{Rose};
-ghost use Rattle.bp_io.specs.Files.{Known, Stays, Tells};
-ghost use Rattle.bp_layout.specs.Bytes.{image_bytes};
+ghost use Rattle.std.specs.Prelude.{◌≡◌, ◌≤◌, ◌*◌, List, ℕ, ◌⊎◌, IfErr, IfOk, OnOk, false, true, vec_len};
+ghost use Rattle.bp_io.specs.Files.{Known, Reads, makes, may_change};
 ghost use Rattle.bp_layout.specs.WellFormed.{IsWellFormed};
 ghost use Rattle.bp_layout.specs.Words.{Image, block_count};
+ghost use Rattle.bp_limits.specs.Limits.{block_words};
 ghost use Rattle.bp_script.specs.declared.notices.Notice.{Notice};
-ghost use Rattle.bp_shell.specs.Files.{AreWords, HasImage, Holds, IsAbsent};
-ghost use Rattle.bp_shell.specs.Opening.{IsFound, IsRefused, start};
-ghost use Rattle.bp_shell.specs.Stops.{stop_by};
-ghost use Rattle.bp_shell.specs.declared.stop.Stop.TheVariants.{Memory, Missing, Outside, Refused};
+ghost use Rattle.bp_shell.specs.Files.{AreWords, HasImage, Holds, HoldsFront};
+ghost use Rattle.bp_shell.specs.Opening.{HasSized, IsFound, IsRefused, start};
+ghost use Rattle.bp_shell.specs.Stops.{HasStopCause, IsReason, stop_by};
+ghost use Rattle.bp_shell.specs.declared.stop.Stop.TheVariants.{Memory, Outside, Refused};
 
 use crate::blocks::decode;
 use crate::stop::Stop;
-use bp_io::{Failed, Files};
+use bp_io::{Access, Failed, Files};
+use bp_limits::{BLOCK_WORDS, LOG_EVENTS, MAX_BLOCKS, MIN_BLOCKS};
 use bp_scan::{MountFault, image_length};
 use bp_script::Notice;
 use bp_volume::Volume;
 use pm_region::ListRegion;
 use std::alloc::Global;
 
-/// The most events of the log of a run.
-pub const MOST_EVENTS: usize = 131_072;
-
 // Reads the words of the attached file.
 fn load<F: Files>(alloc: Global, count: u32, files: &mut F) -> Result<Vec<u64>, Stop>
-    requires count { count ≡ F.blocks files.old }
-    requires few { count ≤ 16384 }
-    ensures fault { IfErr result (λ e. e ≡ Outside → Rose (F.faults files.old) (F.faults files.new)) }
+    requires count { count ≡ (F.view files.old).blocks }
+    requires few { count ≤ MAX_BLOCKS }
     ensures kinds { IfErr result (λ e. (e ≡ Outside) ⊎ (e ≡ Memory)) }
-    ensures same { OnOk result (F.faults files.new ≡ F.faults files.old) }
-    ensures image { IfOk result (λ words. (name : List ℕ) → F.is_attached files.old name → Tells (F.contents files.old name) (λ bytes. image_bytes words.items ≡ take (4096 * count) bytes)) }
-    ensures size { IfOk result (λ words. vec_len words ≡ 512 * count) }
+    ensures cause { HasStopCause (F.view files.old).faults (F.view files.new).faults result }
+    ensures image { IfOk result (λ words. HoldsFront (F.view files.old) count words.items) }
+    ensures size { IfOk result (λ words. vec_len words ≡ block_words * count) }
     ensures words { IfOk result (λ words. AreWords words.items) }
-    ensures contents { (name : List ℕ) → Stays (F.contents files.old name) (F.contents files.new name) }
-    ensures attached { (name : List ℕ) → F.is_attached files.old name → F.is_attached files.new name }
-    ensures blocks { F.blocks files.new ≡ F.blocks files.old }
+    ensures reads { Reads (F.view files.old) (F.view files.new) }
 {
-    let mut words = match Vec::with_capacity(alloc, 512 * count as usize) {
+    let mut words = match Vec::with_capacity(alloc, (BLOCK_WORDS * count) as usize) {
         Ok(words) => words,
         Err(_) => return Err(Stop::Memory),
     };
@@ -64,24 +58,23 @@ pub(crate) fn stop_of(fault: MountFault) -> Stop
     }
 }
 
-/// The words of the file of a name, which is then attached.
+/// The words of the file of a name, which is then attached. No file is made.
 pub(crate) fn load_file<F: Files>(
     alloc: Global,
     name: &str,
+    access: Access,
     files: &mut F,
 ) -> Result<Vec<u64>, Stop>
-    ensures image { IfOk result (λ words. HasImage (F.contents files.old name.now) words.items) }
-    ensures holds { IfOk result (λ words. Holds (F.is_attached files.new) (F.blocks files.new) (F.contents files.new) name.now words.items) }
-    ensures whole { IfOk result (λ words. vec_len words ≡ 512 * block_count words.items) }
-    ensures least { IfOk result (λ words. 8 ≤ block_count words.items) }
-    ensures most { IfOk result (λ words. block_count words.items ≤ 16384) }
-    ensures missing { IfErr result (λ stop. stop ≡ Missing → IsAbsent (F.contents files.old name.now)) }
-    ensures refused { IfErr result (λ stop. (notice : Notice) → stop ≡ Refused notice → IsRefused (F.contents files.old name.now) notice) }
-    ensures fault { IfErr result (λ stop. stop ≡ Outside → Rose (F.faults files.old) (F.faults files.new)) }
-    ensures same { OnOk result (F.faults files.new ≡ F.faults files.old) }
-    ensures file { F.contents files.new name.now ≡ F.contents files.old name.now }
+    requires { makes access ≡ false }
+    ensures image { IfOk result (λ words. HasSized ((F.view files.old).contents name.now) words.items) }
+    ensures holds { IfOk result (λ words. Holds (F.view files.new) name.now words.items) }
+    ensures may_write { OnOk result ((F.view files.new).may_write ≡ may_change access) }
+    ensures reason { IfErr result (IsReason ((F.view files.old).contents name.now)) }
+    ensures cause { HasStopCause (F.view files.old).faults (F.view files.new).faults result }
+    ensures file { (F.view files.new).contents name.now ≡ (F.view files.old).contents name.now }
+    ensures flushed { (F.view files.new).is_flushed ≡ (F.view files.old).is_flushed }
 {
-    let len = match files.attach(name, false) {
+    let len = match files.attach(name, access) {
         Ok(Some(len)) => len,
         Ok(None) => return Err(Stop::Missing),
         Err(Failed) => return Err(Stop::Outside),
@@ -94,15 +87,16 @@ pub(crate) fn load_file<F: Files>(
 
 // Mounts a region of the words of an image.
 fn mount(alloc: Global, words: Vec<u64>) -> Result<Volume<ListRegion>, Stop>
-    requires whole { vec_len words ≡ 512 * block_count words.items }
-    requires least { 8 ≤ block_count words.items }
-    requires most { block_count words.items ≤ 16384 }
+    requires whole { vec_len words ≡ block_words * block_count words.items }
+    requires least { MIN_BLOCKS ≤ block_count words.items }
+    requires most { block_count words.items ≤ MAX_BLOCKS }
     ensures same { IfOk result (λ volume. volume ≡ (start words.items).memory) }
     ensures well_formed { OnOk result (IsWellFormed words.items) }
-    ensures refused { IfErr result (λ stop. (known : Known) (notice : Notice) → HasImage known words.items → stop ≡ Refused notice → IsRefused known notice) }
+    ensures refused { IfErr result (λ stop. (known : Known) (notice : Notice) → HasImage known words.items →
+        stop ≡ Refused notice → IsRefused known notice) }
     ensures kinds { IfErr result (λ stop. ((notice : Notice) × (stop ≡ Refused notice)) ⊎ (stop ≡ Memory)) }
 {
-    let region = match ListRegion::new(alloc, words, MOST_EVENTS) {
+    let region = match ListRegion::new(alloc, words, LOG_EVENTS) {
         Ok(region) => region,
         Err(_) => return Err(Stop::Memory),
     };
@@ -112,21 +106,21 @@ fn mount(alloc: Global, words: Vec<u64>) -> Result<Volume<ListRegion>, Stop>
     }
 }
 
-/// Mounts the file of a name, which is then attached.
+/// Mounts the file of a name, which is then attached to be written.
 pub(crate) fn open<F: Files>(
     alloc: Global,
     name: &str,
     files: &mut F,
 ) -> Result<Volume<ListRegion>, Stop>
-    ensures opened { IfOk result (λ volume. (image : Image) × IsFound (F.contents files.old name.now) image × (volume ≡ (start image).memory)
-        × Holds (F.is_attached files.new) (F.blocks files.new) (F.contents files.new) name.now image) }
-    ensures missing { IfErr result (λ stop. stop ≡ Missing → IsAbsent (F.contents files.old name.now)) }
-    ensures refused { IfErr result (λ stop. (notice : Notice) → stop ≡ Refused notice → IsRefused (F.contents files.old name.now) notice) }
-    ensures fault { IfErr result (λ stop. stop ≡ Outside → Rose (F.faults files.old) (F.faults files.new)) }
-    ensures same { OnOk result (F.faults files.new ≡ F.faults files.old) }
-    ensures file { F.contents files.new name.now ≡ F.contents files.old name.now }
+    ensures opened { IfOk result (λ volume. (image : Image) × IsFound ((F.view files.old).contents name.now) image
+        × (volume ≡ (start image).memory) × Holds (F.view files.new) name.now image) }
+    ensures may_write { OnOk result ((F.view files.new).may_write ≡ true) }
+    ensures reason { IfErr result (IsReason ((F.view files.old).contents name.now)) }
+    ensures cause { HasStopCause (F.view files.old).faults (F.view files.new).faults result }
+    ensures file { (F.view files.new).contents name.now ≡ (F.view files.old).contents name.now }
+    ensures flushed { (F.view files.new).is_flushed ≡ (F.view files.old).is_flushed }
 {
-    match load_file(alloc, name, files) {
+    match load_file(alloc, name, Access::Write, files) {
         Ok(words) => mount(alloc, words),
         Err(stop) => Err(stop),
     }

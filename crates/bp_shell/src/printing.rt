@@ -3,8 +3,9 @@
 ghost use Rattle.bp_io.specs.Causes.{HasCause};
 ghost use Rattle.bp_script.specs.Sayings.{notice_text};
 ghost use Rattle.bp_shell.specs.Outside.{Prints};
+ghost use Rattle.bp_shell.specs.Taking.{TakesPart};
 ghost use Rattle.std.specs.Io.KnownBytes.{Appends};
-ghost use Rattle.std.specs.Prelude.{◌<◌, ◌≡◌, ℕ, OnErr, OnOk, length, take};
+ghost use Rattle.std.specs.Prelude.{OnErr, OnOk};
 
 use crate::sending::send;
 use bp_io::{Failed, Sink};
@@ -13,7 +14,7 @@ use bp_script::{MAX_NOTICE, Notice, announce};
 /// Prints a line. Where the sink failed, it took a proper front of it.
 pub(crate) fn print<K: Sink>(notice: &Notice, out: &mut K) -> Result<(), Failed>
     ensures all { OnOk result (Appends (K.taken out.old) (K.taken out.new) (notice_text notice.now)) }
-    ensures some { OnErr result ((count : ℕ) × (count < length (notice_text notice.now)) × Appends (K.taken out.old) (K.taken out.new) (take count (notice_text notice.now))) }
+    ensures some { OnErr result (TakesPart (notice_text notice.now) (K.taken out.old) (K.taken out.new)) }
     ensures cause { HasCause (K.faults out.old) (K.faults out.new) result }
 {
     let mut text = [0u8; MAX_NOTICE];

@@ -1,18 +1,12 @@
 //! The programs.
 
 ghost use Rattle.bp_command.specs.Commands.{IsTaken};
-ghost use Rattle.bp_command.specs.Programs.Program.{checks, formats, runs};
-ghost use Rattle.bp_command.specs.Programs.{Asks, program_of};
-ghost use Rattle.bp_io.specs.Causes.{Rose};
+ghost use Rattle.bp_command.specs.Programs.{Asks, IsInRange, Program as Asked, program_of};
 ghost use Rattle.bp_script.specs.Sayings.{notice_text};
-ghost use Rattle.bp_script.specs.declared.notices.Notice.{Notice};
-ghost use Rattle.bp_script.specs.declared.notices.Notice.TheVariants.{NoFile, Usage};
-ghost use Rattle.bp_shell.specs.Checking.{CheckOutcome};
-ghost use Rattle.bp_shell.specs.Files.{IsAbsent};
-ghost use Rattle.bp_shell.specs.Opening.{IsRefused};
+ghost use Rattle.bp_script.specs.declared.notices.Notice.TheVariants.{Usage};
 ghost use Rattle.bp_shell.specs.Outside.{Prints, outside};
-ghost use Rattle.bp_shell.specs.Running.{Does, FormatOutcome, Outcome, RunOutcome, Runs, RunsCut, RunsLong, RunsPart, RunsStopped, file_name, in_range};
-ghost use Rattle.std.specs.Prelude.{◌≡◌, ◌⊎◌, List, ℕ, map, max, min};
+ghost use Rattle.bp_shell.specs.Running.{Does, Outcome, RunOutcome, file_name};
+ghost use Rattle.std.specs.Prelude.{◌≡◌, ◌⊎◌, map};
 
 use crate::checking::check_file;
 use crate::formatting::format_file;
@@ -36,21 +30,10 @@ fn run_file<S: Source, K: Sink, F: Files>(
     out: &mut K,
     files: &mut F,
 ) -> u8
-    ensures whole { result ≡ 0 → Runs (outside (S.left src.old) (K.taken out.old) (F.contents files.old name.now) (S.faults src.old) (K.faults out.old) (F.faults files.old)) (outside (S.left src.new) (K.taken out.new) (F.contents files.new name.now) (S.faults src.new) (K.faults out.new) (F.faults files.new)) }
-    ensures calm { result ≡ 0 → (S.faults src.new ≡ S.faults src.old) × (K.faults out.new ≡ K.faults out.old) × (F.faults files.new ≡ F.faults files.old) }
-    ensures missing { result ≡ 1 → IsAbsent (F.contents files.old name.now) × Prints (notice_text NoFile) (K.taken out.old) (K.taken out.new) (K.faults out.old) (K.faults out.new) }
-    ensures reads { result ≡ 3 → RunsPart (outside (S.left src.old) (K.taken out.old) (F.contents files.old name.now) (S.faults src.old) (K.faults out.old) (F.faults files.old)) (outside (S.left src.new) (K.taken out.new) (F.contents files.new name.now) (S.faults src.new) (K.faults out.new) (F.faults files.new)) }
-    ensures source { result ≡ 3 → Rose (S.faults src.old) (S.faults src.new) }
-    ensures cuts { result ≡ 4 → RunsCut (outside (S.left src.old) (K.taken out.old) (F.contents files.old name.now) (S.faults src.old) (K.faults out.old) (F.faults files.old)) (outside (S.left src.new) (K.taken out.new) (F.contents files.new name.now) (S.faults src.new) (K.faults out.new) (F.faults files.new)) }
-    ensures sink { result ≡ 4 → Rose (K.faults out.old) (K.faults out.new) }
-    ensures stops { result ≡ 5 → ((F.contents files.new name.now ≡ F.contents files.old name.now) × (src.new ≡ src.old) × (out.new ≡ out.old))
-        ⊎ RunsStopped (outside (S.left src.old) (K.taken out.old) (F.contents files.old name.now) (S.faults src.old) (K.faults out.old) (F.faults files.old)) (outside (S.left src.new) (K.taken out.new) (F.contents files.new name.now) (S.faults src.new) (K.faults out.new) (F.faults files.new)) }
-    ensures files { result ≡ 5 → Rose (F.faults files.old) (F.faults files.new) }
-    ensures long { result ≡ 6 → RunsLong (outside (S.left src.old) (K.taken out.old) (F.contents files.old name.now) (S.faults src.old) (K.faults out.old) (F.faults files.old)) (outside (S.left src.new) (K.taken out.new) (F.contents files.new name.now) (S.faults src.new) (K.faults out.new) (F.faults files.new)) }
-    ensures refused { result ≡ 7 → (notice : Notice) × IsRefused (F.contents files.old name.now) notice × Prints (notice_text notice) (K.taken out.old) (K.taken out.new) (K.faults out.old) (K.faults out.new) }
-    ensures quiet { result ≡ 8 → out.new ≡ out.old }
-    ensures idle { (result ≡ 1) ⊎ (result ≡ 7) ⊎ (result ≡ 8) → (src.new ≡ src.old) × (F.contents files.new name.now ≡ F.contents files.old name.now) }
-    ensures status { (result ≡ 0) ⊎ (result ≡ 1) ⊎ (result ≡ 3) ⊎ (result ≡ 4) ⊎ (result ≡ 5) ⊎ (result ≡ 6) ⊎ (result ≡ 7) ⊎ (result ≡ 8) }
+    ensures outcome { RunOutcome result
+        (outside (S.left src.old) (S.faults src.old) (K.taken out.old) (K.faults out.old) (F.view files.old) name.now)
+        (outside (S.left src.new) (S.faults src.new) (K.taken out.new) (K.faults out.new) (F.view files.new) name.now) }
+    ensures unread { (result ≡ 1) ⊎ (result ≡ 7) ⊎ (result ≡ 8) → src.new ≡ src.old }
 {
     let mut volume = match open(alloc, name, files) {
         Ok(volume) => volume,
@@ -80,13 +63,6 @@ fn run_file<S: Source, K: Sink, F: Files>(
     }
 }
 
-// The number of blocks of an image that a number is nearest to.
-fn nearest_count(blocks: u32) -> u32
-    ensures { result ≡ min (max blocks 8) 16384 }
-{
-    blocks.max(8).min(16_384)
-}
-
 // Does what a program asks for.
 fn run_program<S: Source, K: Sink, F: Files>(
     alloc: Global,
@@ -95,15 +71,15 @@ fn run_program<S: Source, K: Sink, F: Files>(
     out: &mut K,
     files: &mut F,
 ) -> u8
-    ensures outcome { Outcome (in_range (program_of program.now)) result (outside (S.left src.old) (K.taken out.old) (F.contents files.old (file_name (in_range (program_of program.now)))) (S.faults src.old) (K.faults out.old) (F.faults files.old)) (outside (S.left src.new) (K.taken out.new) (F.contents files.new (file_name (in_range (program_of program.now)))) (S.faults src.new) (K.faults out.new) (F.faults files.new)) }
+    requires { IsInRange (program_of program.now) }
+    ensures outcome { let name = file_name (program_of program.now) in Outcome (program_of program.now) result
+        (outside (S.left src.old) (S.faults src.old) (K.taken out.old) (K.faults out.old) (F.view files.old) name)
+        (outside (S.left src.new) (S.faults src.new) (K.taken out.new) (K.faults out.new) (F.view files.new) name) }
     ensures unread { (result ≡ 1) ⊎ (result ≡ 7) ⊎ (result ≡ 8) → src.new ≡ src.old }
     ensures asked { ¬ (result ≡ 2) }
 {
     match *program {
-        Program::Format { name, blocks } => {
-            // Words that ask for a format give a number in range.
-            format_file(alloc, name, nearest_count(blocks), out, files)
-        }
+        Program::Format { name, blocks } => format_file(alloc, name, blocks, out, files),
         Program::Run { name } => run_file(alloc, name, src, out, files),
         Program::Check { name } => check_file(alloc, name, out, files),
     }
@@ -127,13 +103,21 @@ pub fn run<S: Source, K: Sink, F: Files>(
 ) -> u8
     ensures usage { result ≡ 2 → ¬ IsTaken (map (λ word. word.now) words.now) }
     ensures not_taken { ¬ IsTaken (map (λ word. word.now) words.now) → (result ≡ 2) ⊎ (result ≡ 8) }
-    ensures told { result ≡ 2 → Prints (notice_text Usage) (K.taken out.old) (K.taken out.new) (K.faults out.old) (K.faults out.new) }
+    ensures told { result ≡ 2 → Prints (notice_text Usage) (K.taken out.old) (K.taken out.new)
+        (K.faults out.old) (K.faults out.new) }
     ensures unread { (result ≡ 1) ⊎ (result ≡ 2) ⊎ (result ≡ 7) ⊎ (result ≡ 8) → src.new ≡ src.old }
     ensures untouched { result ≡ 2 → files.new ≡ files.old }
-    ensures runs { (name : List ℕ) → Asks (map (λ word. word.now) words.now) (runs name) → RunOutcome result (outside (S.left src.old) (K.taken out.old) (F.contents files.old name) (S.faults src.old) (K.faults out.old) (F.faults files.old)) (outside (S.left src.new) (K.taken out.new) (F.contents files.new name) (S.faults src.new) (K.faults out.new) (F.faults files.new)) }
-    ensures checks { (name : List ℕ) → Asks (map (λ word. word.now) words.now) (checks name) → CheckOutcome result (outside (S.left src.old) (K.taken out.old) (F.contents files.old name) (S.faults src.old) (K.faults out.old) (F.faults files.old)) (outside (S.left src.new) (K.taken out.new) (F.contents files.new name) (S.faults src.new) (K.faults out.new) (F.faults files.new)) }
-    ensures formats { (name : List ℕ) (blocks : ℕ) → Asks (map (λ word. word.now) words.now) (formats name blocks) → FormatOutcome result blocks (outside (S.left src.old) (K.taken out.old) (F.contents files.old name) (S.faults src.old) (K.faults out.old) (F.faults files.old)) (outside (S.left src.new) (K.taken out.new) (F.contents files.new name) (S.faults src.new) (K.faults out.new) (F.faults files.new)) }
-    ensures others { ¬ (result ≡ 2) → Does (map (λ word. word.now) words.now) result (λ name. outside (S.left src.old) (K.taken out.old) (F.contents files.old name) (S.faults src.old) (K.faults out.old) (F.faults files.old)) (λ name. outside (S.left src.new) (K.taken out.new) (F.contents files.new name) (S.faults src.new) (K.faults out.new) (F.faults files.new))
+
+    // Words that ask for a program in the plain way.
+    ensures plain { (program : Asked) → Asks (map (λ word. word.now) words.now) program →
+        let name = file_name program in Outcome program result
+        (outside (S.left src.old) (S.faults src.old) (K.taken out.old) (K.faults out.old) (F.view files.old) name)
+        (outside (S.left src.new) (S.faults src.new) (K.taken out.new) (K.faults out.new) (F.view files.new) name) }
+
+    // All other words that are taken. Want of memory may come before they are read.
+    ensures others { ¬ (result ≡ 2) → Does (map (λ word. word.now) words.now) result
+        (λ name. outside (S.left src.old) (S.faults src.old) (K.taken out.old) (K.faults out.old) (F.view files.old) name)
+        (λ name. outside (S.left src.new) (S.faults src.new) (K.taken out.new) (K.faults out.new) (F.view files.new) name)
         ⊎ ((result ≡ 8) × (src.new ≡ src.old) × (out.new ≡ out.old) × (files.new ≡ files.old)) }
 {
     plain_words_are_taken();

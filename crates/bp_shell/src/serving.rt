@@ -1,50 +1,45 @@
 //! Lines of a source in any pieces, each with its reply to a sink.
 
-ghost use Rattle.std.specs.Prelude.{◌≡◌, ◌≤◌, ◌*◌, ◌++◌, ◌∷◌, [], List, ℕ, Some, vec_len, length, ◌⊎◌};
+ghost use Rattle.std.specs.Prelude.{◌≡◌, ◌≤◌, ◌∷◌, [], take, true, vec_len};
 ghost use Rattle.std.specs.Io.{ReadsAtMost};
-ghost use Rattle.std.specs.Io.KnownBytes.{Consumes, IsAtEnd, ReadConsumes};
-ghost use Rattle.bp_io.specs.Causes.{HasCause, Rose};
-ghost use Rattle.bp_layout.specs.Words.{Image};
+ghost use Rattle.std.specs.Io.KnownBytes.{ReadConsumes};
+ghost use Rattle.bp_io.specs.Causes.{HasCause};
+ghost use Rattle.bp_script.specs.Commands.Command.{sync};
 ghost use Rattle.bp_script.specs.Commands.{command_of};
-ghost use Rattle.bp_shell.specs.Files.{Holds, HoldsPartly};
+ghost use Rattle.bp_shell.specs.Files.{IsReady};
 ghost use Rattle.bp_shell.specs.Lines.{commands_from};
-ghost use Rattle.bp_shell.specs.Serving.{state, Serves, ServesAll, Cuts, Stops};
-ghost use Rattle.bp_shell.specs.Work.{held_line};
+ghost use Rattle.bp_shell.specs.Pieces.{piece_size};
+ghost use Rattle.bp_shell.specs.Serving.{LineOutcome, PieceOutcome, ServeOutcome, moment, told};
+ghost use Rattle.bp_shell.specs.Work.{held_line, read_piece};
 
-use crate::acting::act;
+use crate::acting::act_and_save;
 use crate::telling::tell;
-use crate::work::{LineBuffers, Work};
+use crate::work::Work;
 use bp_io::{Failed, Files, Sink, Source};
-use bp_limits::MAX_LINE;
+use bp_limits::{MAX_INPUT, MAX_LINE};
 use bp_volume::Volume;
 use pm_region::Region;
 use std::alloc::Global;
 
-// Serves the line that the buffers hold.
-fn serve_held<R: Region, K: Sink, F: Files>(
+/// Serves the line that the work holds, and answers the status: 0 where its reply was taken whole, 4 where the sink failed, 5
+/// where a sync could not save. A file is to be attached that has the volume's blocks and may be written.
+pub fn serve_line<R: Region, K: Sink, F: Files>(
     alloc: Global,
     volume: &mut Volume<R>,
-    buffers: &mut LineBuffers,
+    work: &mut Work,
     out: &mut K,
     files: &mut F,
 ) -> u8
-    requires size { length volume.old.base ≡ 512 * F.blocks files.old }
-    requires attached { (name : List ℕ) × F.is_attached files.old name }
-    ensures size { length volume.new.base ≡ 512 * F.blocks files.new }
-    ensures attached { (name : List ℕ) → F.is_attached files.old name → F.is_attached files.new name }
-    ensures line { buffers.new.line.items ≡ buffers.old.line.items }
-    ensures serves { result ≡ 0 → (name : List ℕ) (saved : Image) → Holds (F.is_attached files.old) (F.blocks files.old) (F.contents files.old) name saved →
-        ServesAll (state volume.old saved) volume.new (Holds (F.is_attached files.new) (F.blocks files.new) (F.contents files.new) name) (command_of buffers.old.line.items ∷ []) (K.taken out.old) (K.taken out.new) }
-    ensures cuts { result ≡ 4 → (name : List ℕ) (saved : Image) → Holds (F.is_attached files.old) (F.blocks files.old) (F.contents files.old) name saved →
-        Cuts (state volume.old saved) volume.new (Holds (F.is_attached files.new) (F.blocks files.new) (F.contents files.new) name) (command_of buffers.old.line.items ∷ []) (K.taken out.old) (K.taken out.new) }
-    ensures stops { result ≡ 5 → (name : List ℕ) (saved : Image) → Holds (F.is_attached files.old) (F.blocks files.old) (F.contents files.old) name saved →
-        Stops (state volume.old saved) volume.new (HoldsPartly (F.is_attached files.new) (F.contents files.new) name) (command_of buffers.old.line.items ∷ []) (K.taken out.old) (K.taken out.new) }
-    ensures sink { result ≡ 4 → Rose (K.faults out.old) (K.faults out.new) }
-    ensures files { result ≡ 5 → Rose (F.faults files.old) (F.faults files.new) }
-    ensures none { result ≡ 0 → (K.faults out.new ≡ K.faults out.old) × (F.faults files.new ≡ F.faults files.old) }
-    ensures status { (result ≡ 0) ⊎ (result ≡ 4) ⊎ (result ≡ 5) }
+    requires { IsReady volume.old.base (F.view files.old) }
+    ensures outcome { LineOutcome result (command_of (held_line work.old) ∷ [])
+        (moment volume.old (F.view files.old) (K.taken out.old) (K.faults out.old))
+        (moment volume.new (F.view files.new) (K.taken out.new) (K.faults out.new)) }
+    ensures synced { ¬ (result ≡ 5) → command_of (held_line work.old) ≡ sync → (F.view files.new).is_flushed ≡ true }
+    ensures line { held_line work.new ≡ held_line work.old }
+    ensures piece { read_piece work.new ≡ read_piece work.old }
 {
-    match act(alloc, volume, buffers, files) {
+    let buffers = &mut work.buffers;
+    match act_and_save(alloc, volume, buffers, files) {
         Ok(outcome) => match tell(outcome, &buffers.reply, &mut buffers.text, out) {
             Ok(()) => 0,
             Err(Failed) => 4,
@@ -53,65 +48,28 @@ fn serve_held<R: Region, K: Sink, F: Files>(
     }
 }
 
-/// Serves the line that the work holds, and answers the status: 0 where its reply was taken whole, 4 where the sink failed, 5
-/// where a sync could not save. A file is to be attached that has the volume's blocks.
-pub fn serve_line<R: Region, K: Sink, F: Files>(
-    alloc: Global,
-    volume: &mut Volume<R>,
-    work: &mut Work,
-    out: &mut K,
-    files: &mut F,
-) -> u8
-    requires size { length volume.old.base ≡ 512 * F.blocks files.old }
-    requires attached { (name : List ℕ) × F.is_attached files.old name }
-    ensures size { length volume.new.base ≡ 512 * F.blocks files.new }
-    ensures attached { (name : List ℕ) → F.is_attached files.old name → F.is_attached files.new name }
-    ensures line { held_line work.new ≡ held_line work.old }
-    ensures serves { result ≡ 0 → (name : List ℕ) (saved : Image) → Holds (F.is_attached files.old) (F.blocks files.old) (F.contents files.old) name saved →
-        ServesAll (state volume.old saved) volume.new (Holds (F.is_attached files.new) (F.blocks files.new) (F.contents files.new) name) (command_of (held_line work.old) ∷ []) (K.taken out.old) (K.taken out.new) }
-    ensures cuts { result ≡ 4 → (name : List ℕ) (saved : Image) → Holds (F.is_attached files.old) (F.blocks files.old) (F.contents files.old) name saved →
-        Cuts (state volume.old saved) volume.new (Holds (F.is_attached files.new) (F.blocks files.new) (F.contents files.new) name) (command_of (held_line work.old) ∷ []) (K.taken out.old) (K.taken out.new) }
-    ensures stops { result ≡ 5 → (name : List ℕ) (saved : Image) → Holds (F.is_attached files.old) (F.blocks files.old) (F.contents files.old) name saved →
-        Stops (state volume.old saved) volume.new (HoldsPartly (F.is_attached files.new) (F.contents files.new) name) (command_of (held_line work.old) ∷ []) (K.taken out.old) (K.taken out.new) }
-    ensures sink { result ≡ 4 → Rose (K.faults out.old) (K.faults out.new) }
-    ensures files { result ≡ 5 → Rose (F.faults files.old) (F.faults files.new) }
-    ensures none { result ≡ 0 → (K.faults out.new ≡ K.faults out.old) × (F.faults files.new ≡ F.faults files.old) }
-    ensures status { (result ≡ 0) ⊎ (result ≡ 4) ⊎ (result ≡ 5) }
-{
-    serve_held(alloc, volume, &mut work.buffers, out, files)
-}
-
 // Goes on by a byte of the input.
 fn take_byte<R: Region, K: Sink, F: Files>(
     alloc: Global,
     volume: &mut Volume<R>,
-    buffers: &mut LineBuffers,
+    work: &mut Work,
     byte: u8,
     out: &mut K,
     files: &mut F,
 ) -> u8
-    requires size { length volume.old.base ≡ 512 * F.blocks files.old }
-    requires attached { (name : List ℕ) × F.is_attached files.old name }
-    ensures size { length volume.new.base ≡ 512 * F.blocks files.new }
-    ensures attached { (name : List ℕ) → F.is_attached files.old name → F.is_attached files.new name }
-    ensures serves { result ≡ 0 → (name : List ℕ) (saved : Image) → Holds (F.is_attached files.old) (F.blocks files.old) (F.contents files.old) name saved →
-        Serves (state volume.old saved) volume.new (Holds (F.is_attached files.new) (F.blocks files.new) (F.contents files.new) name) buffers.old.line.items (byte ∷ []) buffers.new.line.items (K.taken out.old) (K.taken out.new) }
-    ensures cuts { result ≡ 4 → (name : List ℕ) (saved : Image) → Holds (F.is_attached files.old) (F.blocks files.old) (F.contents files.old) name saved → (rest : List ℕ) →
-        Cuts (state volume.old saved) volume.new (Holds (F.is_attached files.new) (F.blocks files.new) (F.contents files.new) name) (commands_from buffers.old.line.items (byte ∷ rest)) (K.taken out.old) (K.taken out.new) }
-    ensures stops { result ≡ 5 → (name : List ℕ) (saved : Image) → Holds (F.is_attached files.old) (F.blocks files.old) (F.contents files.old) name saved → (rest : List ℕ) →
-        Stops (state volume.old saved) volume.new (HoldsPartly (F.is_attached files.new) (F.contents files.new) name) (commands_from buffers.old.line.items (byte ∷ rest)) (K.taken out.old) (K.taken out.new) }
-    ensures sink { result ≡ 4 → Rose (K.faults out.old) (K.faults out.new) }
-    ensures files { result ≡ 5 → Rose (F.faults files.old) (F.faults files.new) }
-    ensures none { result ≡ 0 → (K.faults out.new ≡ K.faults out.old) × (F.faults files.new ≡ F.faults files.old) }
-    ensures status { (result ≡ 0) ⊎ (result ≡ 4) ⊎ (result ≡ 5) }
+    requires { IsReady volume.old.base (F.view files.old) }
+    ensures outcome { PieceOutcome result (held_line work.old) (byte ∷ []) (held_line work.new)
+        (moment volume.old (F.view files.old) (K.taken out.old) (K.faults out.old))
+        (moment volume.new (F.view files.new) (K.taken out.new) (K.faults out.new)) }
+    ensures piece { read_piece work.new ≡ read_piece work.old }
 {
     if byte == b'\n' {
-        let status = serve_held(alloc, volume, buffers, out, files);
-        buffers.line.clear();
+        let status = serve_line(alloc, volume, work, out, files);
+        work.buffers.line.clear();
         return status;
     }
-    if buffers.line.len() <= MAX_LINE {
-        match buffers.line.push(byte) {
+    if work.buffers.line.len() <= MAX_LINE {
+        match work.buffers.line.push(byte) {
             Ok(()) => {}
             Err(_) => unreachable!(),
         }
@@ -119,32 +77,24 @@ fn take_byte<R: Region, K: Sink, F: Files>(
     0
 }
 
-// Goes on by a piece of the input.
+// Goes on by the first bytes of the piece that was read.
 fn take_piece<R: Region, K: Sink, F: Files>(
     alloc: Global,
     volume: &mut Volume<R>,
-    buffers: &mut LineBuffers,
-    piece: &[u8],
+    work: &mut Work,
+    count: usize,
     out: &mut K,
     files: &mut F,
 ) -> u8
-    requires size { length volume.old.base ≡ 512 * F.blocks files.old }
-    requires attached { (name : List ℕ) × F.is_attached files.old name }
-    ensures size { length volume.new.base ≡ 512 * F.blocks files.new }
-    ensures attached { (name : List ℕ) → F.is_attached files.old name → F.is_attached files.new name }
-    ensures serves { result ≡ 0 → (name : List ℕ) (saved : Image) → Holds (F.is_attached files.old) (F.blocks files.old) (F.contents files.old) name saved →
-        Serves (state volume.old saved) volume.new (Holds (F.is_attached files.new) (F.blocks files.new) (F.contents files.new) name) buffers.old.line.items piece.now buffers.new.line.items (K.taken out.old) (K.taken out.new) }
-    ensures cuts { result ≡ 4 → (name : List ℕ) (saved : Image) → Holds (F.is_attached files.old) (F.blocks files.old) (F.contents files.old) name saved → (rest : List ℕ) →
-        Cuts (state volume.old saved) volume.new (Holds (F.is_attached files.new) (F.blocks files.new) (F.contents files.new) name) (commands_from buffers.old.line.items (piece.now ++ rest)) (K.taken out.old) (K.taken out.new) }
-    ensures stops { result ≡ 5 → (name : List ℕ) (saved : Image) → Holds (F.is_attached files.old) (F.blocks files.old) (F.contents files.old) name saved → (rest : List ℕ) →
-        Stops (state volume.old saved) volume.new (HoldsPartly (F.is_attached files.new) (F.contents files.new) name) (commands_from buffers.old.line.items (piece.now ++ rest)) (K.taken out.old) (K.taken out.new) }
-    ensures sink { result ≡ 4 → Rose (K.faults out.old) (K.faults out.new) }
-    ensures files { result ≡ 5 → Rose (F.faults files.old) (F.faults files.new) }
-    ensures none { result ≡ 0 → (K.faults out.new ≡ K.faults out.old) × (F.faults files.new ≡ F.faults files.old) }
-    ensures status { (result ≡ 0) ⊎ (result ≡ 4) ⊎ (result ≡ 5) }
+    requires ready { IsReady volume.old.base (F.view files.old) }
+    requires inside { count ≤ piece_size }
+    ensures { PieceOutcome result (held_line work.old) (take count (read_piece work.old)) (held_line work.new)
+        (moment volume.old (F.view files.old) (K.taken out.old) (K.faults out.old))
+        (moment volume.new (F.view files.new) (K.taken out.new) (K.faults out.new)) }
 {
-    for byte in piece {
-        let status = take_byte(alloc, volume, buffers, *byte, out, files);
+    for i in 0..count {
+        let byte = work.piece[i];
+        let status = take_byte(alloc, volume, work, byte, out, files);
         if status != 0 {
             return status;
         }
@@ -156,29 +106,19 @@ fn take_piece<R: Region, K: Sink, F: Files>(
 fn finish<R: Region, K: Sink, F: Files>(
     alloc: Global,
     volume: &mut Volume<R>,
-    buffers: &mut LineBuffers,
+    work: &mut Work,
     out: &mut K,
     files: &mut F,
 ) -> u8
-    requires size { length volume.old.base ≡ 512 * F.blocks files.old }
-    requires attached { (name : List ℕ) × F.is_attached files.old name }
-    ensures size { length volume.new.base ≡ 512 * F.blocks files.new }
-    ensures attached { (name : List ℕ) → F.is_attached files.old name → F.is_attached files.new name }
-    ensures serves { result ≡ 0 → (name : List ℕ) (saved : Image) → Holds (F.is_attached files.old) (F.blocks files.old) (F.contents files.old) name saved →
-        ServesAll (state volume.old saved) volume.new (Holds (F.is_attached files.new) (F.blocks files.new) (F.contents files.new) name) (commands_from buffers.old.line.items []) (K.taken out.old) (K.taken out.new) }
-    ensures cuts { result ≡ 4 → (name : List ℕ) (saved : Image) → Holds (F.is_attached files.old) (F.blocks files.old) (F.contents files.old) name saved →
-        Cuts (state volume.old saved) volume.new (Holds (F.is_attached files.new) (F.blocks files.new) (F.contents files.new) name) (commands_from buffers.old.line.items []) (K.taken out.old) (K.taken out.new) }
-    ensures stops { result ≡ 5 → (name : List ℕ) (saved : Image) → Holds (F.is_attached files.old) (F.blocks files.old) (F.contents files.old) name saved →
-        Stops (state volume.old saved) volume.new (HoldsPartly (F.is_attached files.new) (F.contents files.new) name) (commands_from buffers.old.line.items []) (K.taken out.old) (K.taken out.new) }
-    ensures sink { result ≡ 4 → Rose (K.faults out.old) (K.faults out.new) }
-    ensures files { result ≡ 5 → Rose (F.faults files.old) (F.faults files.new) }
-    ensures none { result ≡ 0 → (K.faults out.new ≡ K.faults out.old) × (F.faults files.new ≡ F.faults files.old) }
-    ensures status { (result ≡ 0) ⊎ (result ≡ 4) ⊎ (result ≡ 5) }
+    requires { IsReady volume.old.base (F.view files.old) }
+    ensures { LineOutcome result (commands_from (held_line work.old) [])
+        (moment volume.old (F.view files.old) (K.taken out.old) (K.faults out.old))
+        (moment volume.new (F.view files.new) (K.taken out.new) (K.faults out.new)) }
 {
-    if buffers.line.is_empty() {
+    if work.buffers.line.is_empty() {
         return 0;
     }
-    serve_held(alloc, volume, buffers, out, files)
+    serve_line(alloc, volume, work, out, files)
 }
 
 // Reads a piece of the input.
@@ -191,10 +131,7 @@ fn fill<S: Source>(src: &mut S, piece: &mut Vec<u8>) -> Result<usize, Failed>
     src.read(piece)
 }
 
-/// The most bytes of an input.
-pub const MOST_INPUT: usize = 1_073_741_824;
-
-/// Answers each line of a source, in whatever pieces it comes, after the line that the work holds so far.
+/// Answers each line of a source, in whatever pieces it comes. No line that the work held before is served.
 pub fn serve<R: Region, S: Source, K: Sink, F: Files>(
     alloc: Global,
     volume: &mut Volume<R>,
@@ -203,29 +140,12 @@ pub fn serve<R: Region, S: Source, K: Sink, F: Files>(
     out: &mut K,
     files: &mut F,
 ) -> u8
-    requires size { length volume.old.base ≡ 512 * F.blocks files.old }
-    requires attached { (name : List ℕ) × F.is_attached files.old name }
-    ensures size { length volume.new.base ≡ 512 * F.blocks files.new }
-    ensures attached { (name : List ℕ) → F.is_attached files.old name → F.is_attached files.new name }
-    // At 0 the source was read to its end, and the sink took the replies of a session over all lines.
-    ensures serves { result ≡ 0 → (input : List ℕ) × Consumes (S.left src.old) (S.left src.new) input × IsAtEnd (S.left src.new) × (length input ≤ 1073741824) × ((name : List ℕ) (saved : Image) → Holds (F.is_attached files.old) (F.blocks files.old) (F.contents files.old) name saved →
-        ServesAll (state volume.old saved) volume.new (Holds (F.is_attached files.new) (F.blocks files.new) (F.contents files.new) name) (commands_from (held_line work.old) input) (K.taken out.old) (K.taken out.new)) }
-    // At 3 and 6 it took those of a session over the lines that were read whole. At 6 the most bytes were taken, and there was more.
-    ensures reads { result ≡ 3 → (input : List ℕ) × Consumes (S.left src.old) (S.left src.new) input × ((name : List ℕ) (saved : Image) → Holds (F.is_attached files.old) (F.blocks files.old) (F.contents files.old) name saved →
-        (keeps : List ℕ) × Serves (state volume.old saved) volume.new (Holds (F.is_attached files.new) (F.blocks files.new) (F.contents files.new) name) (held_line work.old) input keeps (K.taken out.old) (K.taken out.new)) }
-    ensures long { result ≡ 6 → (input : List ℕ) × (more : List ℕ) × Consumes (S.left src.old) (S.left src.new) (input ++ more) × (length input ≡ 1073741824) × (1 ≤ length more) × ((name : List ℕ) (saved : Image) → Holds (F.is_attached files.old) (F.blocks files.old) (F.contents files.old) name saved →
-        (keeps : List ℕ) × Serves (state volume.old saved) volume.new (Holds (F.is_attached files.new) (F.blocks files.new) (F.contents files.new) name) (held_line work.old) input keeps (K.taken out.old) (K.taken out.new)) }
-    ensures cuts { result ≡ 4 → (input : List ℕ) × Consumes (S.left src.old) (S.left src.new) input × ((name : List ℕ) (saved : Image) → Holds (F.is_attached files.old) (F.blocks files.old) (F.contents files.old) name saved →
-        Cuts (state volume.old saved) volume.new (Holds (F.is_attached files.new) (F.blocks files.new) (F.contents files.new) name) (commands_from (held_line work.old) input) (K.taken out.old) (K.taken out.new)) }
-    ensures stops { result ≡ 5 → (input : List ℕ) × Consumes (S.left src.old) (S.left src.new) input × ((name : List ℕ) (saved : Image) → Holds (F.is_attached files.old) (F.blocks files.old) (F.contents files.old) name saved →
-        Stops (state volume.old saved) volume.new (HoldsPartly (F.is_attached files.new) (F.contents files.new) name) (commands_from (held_line work.old) input) (K.taken out.old) (K.taken out.new)) }
-    ensures source { result ≡ 3 → Rose (S.faults src.old) (S.faults src.new) }
-    ensures sink { result ≡ 4 → Rose (K.faults out.old) (K.faults out.new) }
-    ensures files { result ≡ 5 → Rose (F.faults files.old) (F.faults files.new) }
-    ensures none { result ≡ 0 → (S.faults src.new ≡ S.faults src.old) × (K.faults out.new ≡ K.faults out.old) × (F.faults files.new ≡ F.faults files.old) }
-    ensures complete { (input : List ℕ) → S.left src.old ≡ Some input → length input ≤ 1073741824 → ¬ Rose (S.faults src.old) (S.faults src.new) → ¬ Rose (K.faults out.old) (K.faults out.new) → ¬ Rose (F.faults files.old) (F.faults files.new) → result ≡ 0 }
-    ensures status { (result ≡ 0) ⊎ (result ≡ 3) ⊎ (result ≡ 4) ⊎ (result ≡ 5) ⊎ (result ≡ 6) }
+    requires { IsReady volume.old.base (F.view files.old) }
+    ensures { ServeOutcome result (told (S.left src.old) (S.faults src.old)) (told (S.left src.new) (S.faults src.new))
+        (moment volume.old (F.view files.old) (K.taken out.old) (K.faults out.old))
+        (moment volume.new (F.view files.new) (K.taken out.new) (K.faults out.new)) }
 {
+    work.buffers.line.clear();
     let mut taken: usize = 0;
     loop {
         let count = match fill(src, &mut work.piece) {
@@ -235,15 +155,8 @@ pub fn serve<R: Region, S: Source, K: Sink, F: Files>(
         if count == 0 {
             break;
         }
-        let served = count.min(MOST_INPUT - taken);
-        let status = take_piece(
-            alloc,
-            volume,
-            &mut work.buffers,
-            &work.piece[..served],
-            out,
-            files,
-        );
+        let served = count.min(MAX_INPUT as usize - taken);
+        let status = take_piece(alloc, volume, work, served, out, files);
         if status != 0 {
             return status;
         }
@@ -252,5 +165,5 @@ pub fn serve<R: Region, S: Source, K: Sink, F: Files>(
         }
         taken += count;
     }
-    finish(alloc, volume, &mut work.buffers, out, files)
+    finish(alloc, volume, work, out, files)
 }

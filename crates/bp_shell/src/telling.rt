@@ -1,6 +1,6 @@
 //! Replies for a sink.
 
-ghost use Rattle.std.specs.Prelude.{◌≡◌, ◌<◌, ℕ, OnOk, OnErr, length, take, vec_len};
+ghost use Rattle.std.specs.Prelude.{◌≡◌, OnOk, OnErr, vec_len};
 ghost use Rattle.std.specs.Io.KnownBytes.{Appends};
 ghost use Rattle.bp_io.specs.Causes.{HasCause};
 ghost use Rattle.bp_limits.specs.Limits.{max_text};
@@ -8,6 +8,7 @@ ghost use Rattle.bp_plain.specs.Calls.Answer.{names};
 ghost use Rattle.bp_script.specs.Sayings.{said_text, FitsReply};
 ghost use Rattle.bp_script.specs.Texts.{answer_text, reply_text};
 ghost use Rattle.bp_shell.specs.Acting.{reply_of};
+ghost use Rattle.bp_shell.specs.Taking.{TakesPart};
 
 use crate::outcome::Outcome;
 use crate::sending::send;
@@ -22,7 +23,7 @@ fn tell_line<K: Sink>(said: &Said<'_>, text: &mut Vec<u8>, out: &mut K) -> Resul
     requires room { vec_len text.old ≡ max_text }
     ensures room { vec_len text.new ≡ max_text }
     ensures all { OnOk result (Appends (K.taken out.old) (K.taken out.new) (said_text said.now)) }
-    ensures some { OnErr result ((n : ℕ) × (n < length (said_text said.now)) × Appends (K.taken out.old) (K.taken out.new) (take n (said_text said.now))) }
+    ensures some { OnErr result (TakesPart (said_text said.now) (K.taken out.old) (K.taken out.new)) }
     ensures cause { HasCause (K.faults out.old) (K.faults out.new) result }
 {
     let count = say(said, text);
@@ -34,7 +35,7 @@ fn tell_names<K: Sink>(listing: &Listing, text: &mut Vec<u8>, out: &mut K) -> Re
     requires room { vec_len text.old ≡ max_text }
     ensures room { vec_len text.new ≡ max_text }
     ensures all { OnOk result (Appends (K.taken out.old) (K.taken out.new) (answer_text (names listing.now))) }
-    ensures some { OnErr result ((n : ℕ) × (n < length (answer_text (names listing.now))) × Appends (K.taken out.old) (K.taken out.new) (take n (answer_text (names listing.now)))) }
+    ensures some { OnErr result (TakesPart (answer_text (names listing.now)) (K.taken out.old) (K.taken out.new)) }
     ensures cause { HasCause (K.faults out.old) (K.faults out.new) result }
 {
     for i in 0..listing.len() {
@@ -53,7 +54,7 @@ fn tell_answer<K: Sink>(reply: &Reply, text: &mut Vec<u8>, out: &mut K) -> Resul
     requires room { vec_len text.old ≡ max_text }
     ensures room { vec_len text.new ≡ max_text }
     ensures all { OnOk result (Appends (K.taken out.old) (K.taken out.new) (answer_text reply.now.answer)) }
-    ensures some { OnErr result ((n : ℕ) × (n < length (answer_text reply.now.answer)) × Appends (K.taken out.old) (K.taken out.new) (take n (answer_text reply.now.answer))) }
+    ensures some { OnErr result (TakesPart (answer_text reply.now.answer) (K.taken out.old) (K.taken out.new)) }
     ensures cause { HasCause (K.faults out.old) (K.faults out.new) result }
 {
     match reply.answer() {
@@ -72,7 +73,7 @@ pub(crate) fn tell<K: Sink>(
     requires room { vec_len text.old ≡ max_text }
     ensures room { vec_len text.new ≡ max_text }
     ensures all { OnOk result (Appends (K.taken out.old) (K.taken out.new) (reply_text (reply_of outcome reply.now.answer))) }
-    ensures some { OnErr result ((n : ℕ) × (n < length (reply_text (reply_of outcome reply.now.answer))) × Appends (K.taken out.old) (K.taken out.new) (take n (reply_text (reply_of outcome reply.now.answer)))) }
+    ensures some { OnErr result (TakesPart (reply_text (reply_of outcome reply.now.answer)) (K.taken out.old) (K.taken out.new)) }
     ensures cause { HasCause (K.faults out.old) (K.faults out.new) result }
 {
     match outcome {

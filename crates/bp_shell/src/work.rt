@@ -1,13 +1,16 @@
 //! The memory of a run, made once.
 
 ghost use Rattle.bp_script.specs.Lines.{decoded_room};
-ghost use Rattle.std.specs.Prelude.{◌≡◌, ◌≤◌, IfOk, [], vec_capacity, vec_len};
+ghost use Rattle.std.specs.Prelude.{◌+◌, ◌≡◌, ◌≤◌, IfOk, [], vec_capacity, vec_len};
+ghost use Rattle.bp_limits.specs.Limits.{max_line, max_text};
+ghost use Rattle.bp_shell.specs.Pieces.{piece_size};
 
 use bp_limits::{MAX_LINE, MAX_TEXT};
 use bp_plain::Reply;
 use bp_script::Decoded;
 use std::alloc::{AllocError, Global};
 
+// The bytes of a read.
 const PIECE: usize = 65_536;
 
 // The line as far as it was read, of which one byte more than the longest is kept, and what it takes to answer it.
@@ -17,10 +20,10 @@ pub(crate) struct LineBuffers {
     pub(crate) decoded: Decoded,
     pub(crate) reply: Reply,
     pub(crate) text: Vec<u8>,
-    ghost room: { 140001 ≤ vec_capacity line },
-    ghost fits: { vec_len line ≤ 140001 },
-    ghost decodes: { 140000 ≤ decoded_room decoded },
-    ghost spelled: { vec_len text ≡ 140000 },
+    ghost room: { max_line + 1 ≤ vec_capacity line },
+    ghost fits: { vec_len line ≤ max_line + 1 },
+    ghost decodes: { max_line ≤ decoded_room decoded },
+    ghost spelled: { vec_len text ≡ max_text },
 }
 
 /// A line as far as it was read, a piece of the source, and what it takes to answer a line. Serving takes no other memory, but
@@ -29,7 +32,7 @@ pub(crate) struct LineBuffers {
 pub struct Work {
     pub(crate) buffers: LineBuffers,
     pub(crate) piece: Vec<u8>,
-    ghost whole: { vec_len piece ≡ 65536 },
+    ghost whole: { vec_len piece ≡ piece_size },
 }
 
 impl Work {
@@ -54,7 +57,7 @@ impl Work {
 
     /// Sets the line. Of one above the limit only that it is too long is kept.
     pub fn set_line(&mut self, bytes: &[u8])
-        ensures { held_line self.new ≡ take 140001 bytes.now }
+        ensures { held_line self.new ≡ take (max_line + 1) bytes.now }
     {
         let kept = bytes.len().min(MAX_LINE + 1);
         self.buffers.line.clear();

@@ -4,6 +4,12 @@
 
 ghost use Rattle.std.specs.Prelude.{◌≡◌, IfOk, map, string_bytes};
 
+mod reasons;
+mod streams;
+
+use crate::reasons::{Reason, tell_reason};
+use crate::streams::take_streams;
+use bp_command::{Program, read_words};
 use bp_io::{DiskFiles, StdSink, StdSource};
 use bp_shell::run;
 use std::alloc::{AllocError, Global};
@@ -11,7 +17,9 @@ use std::env;
 use std::io::ErrorKind;
 use std::process::ExitCode;
 
-// The status for want of memory.
+// The status of a fault of the files, and the one for want of memory.
+const FILES_FAILED: u8 = 5;
+
 const NO_MEMORY: u8 = 8;
 
 // The words as text.
@@ -25,7 +33,24 @@ fn texts(alloc: Global, words: &[String]) -> Result<Vec<&str>, AllocError>
     Ok(texts)
 }
 
+// The name of the file that the words speak of.
+fn file_name<'a>(alloc: Global, words: &'a [&'a str]) -> &'a str {
+    match read_words(alloc, words) {
+        Ok(Program::Format { name, blocks: _ }) => name,
+        Ok(Program::Run { name }) => name,
+        Ok(Program::Check { name }) => name,
+        Err(_) => "FILE",
+    }
+}
+
 fn main(rt: HostRuntime) -> ExitCode {
+    let _streams = match take_streams(&rt) {
+        Ok(streams) => streams,
+        Err(error) => {
+            tell_reason(&rt, Reason::File("/dev/null", Some(error)));
+            return ExitCode::from(FILES_FAILED);
+        }
+    };
     let alloc = rt.alloc();
     let words: Result<Vec<String>, AllocError> = match env::args(&rt) {
         Ok(args) => args.collect(alloc),
@@ -35,14 +60,32 @@ fn main(rt: HostRuntime) -> ExitCode {
     };
     let words = match words {
         Ok(words) => words,
-        Err(_) => return ExitCode::from(NO_MEMORY),
+        Err(_) => {
+            tell_reason(&rt, Reason::Memory);
+            return ExitCode::from(NO_MEMORY);
+        }
     };
     let texts = match texts(alloc, &words) {
         Ok(texts) => texts,
-        Err(_) => return ExitCode::from(NO_MEMORY),
+        Err(_) => {
+            tell_reason(&rt, Reason::Memory);
+            return ExitCode::from(NO_MEMORY);
+        }
     };
     let mut source = StdSource::new(rt.stdin());
     let mut sink = StdSink::new(rt.stdout());
     let mut files = DiskFiles::new(&rt);
-    ExitCode::from(run(alloc, &texts, &mut source, &mut sink, &mut files))
+    let status = run(alloc, &texts, &mut source, &mut sink, &mut files);
+    match status {
+        3 => tell_reason(&rt, Reason::Input(source.last_error())),
+        4 => tell_reason(&rt, Reason::Output(sink.last_error())),
+        5 => tell_reason(
+            &rt,
+            Reason::File(file_name(alloc, &texts), files.last_error()),
+        ),
+        6 => tell_reason(&rt, Reason::LongInput),
+        8 => tell_reason(&rt, Reason::Memory),
+        _ => {}
+    }
+    ExitCode::from(status)
 }

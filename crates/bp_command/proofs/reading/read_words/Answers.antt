@@ -9,7 +9,7 @@ returns-in-Some-clause-asks c = record {
   taken = c.in-Ok.ensures.taken;
   names = λ v r is.
       let same = met_parts _ c.in-Ok.found c.in-Some.verb.now (rows_of (found_of c.in-Some.values.now)) c.in-Ok.ensures.matches c.in-Some.ensures.name c.in-Some.ensures.rows v r is in
-      subst (λ (w : Text). Names w r (program_of c.program_named.result)) same.0 (subst (λ (w : List Row). Names c.in-Some.verb.now w (program_of c.program_named.result)) same.1 c.program_named.ensures);
+      subst (λ (w : Text). Names w r (program_of c.program_named.result)) same.0 (subst (λ (w : List Row). Names c.in-Some.verb.now w (program_of c.program_named.result)) same.1 c.program_named.ensures.names);
 }
 
 pub returns-clause-asks : goal.returns-clause-asks

@@ -1,4 +1,4 @@
-use Rattle.std.proofs.Common.{◌≡◌, ◌∙◌, ap, sym, inl, inr}
+use Rattle.std.proofs.Common.{rules, ◌≡◌, ◌∙◌, ap, sym, inl, inr}
 use Rattle.pm_region.specs.Memory.{Memory}
 use Rattle.bp_shell.specs.Stops.{stop_by}
 use Rattle.bp_shell.specs.declared.stop.Stop.TheVariants.{Refused}
@@ -11,5 +11,5 @@ returns-clause-refused c = λ known notice has e.
     let told : stop_by c.in-Err-mount.fault ≡ Refused notice = sym c.stop_of.ensures ∙ e in
     elim c.in-Err-mount.ensures.fault [
       | inl out ↦ absurd (no_refusal notice (rw out at told))
-      | inr why ↦ stop_refused c.in-Err-mount.fault c.args.words.items known notice (rw same at why) has told
+      | inr why ↦ stop_refused c.in-Err-mount.fault c.args.words.items known notice (rw same at why) (record { has = has; whole = search rules; at_least = c.requires.least; at_most = c.requires.most }) told
     ]

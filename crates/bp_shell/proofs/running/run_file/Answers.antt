@@ -1,57 +1,65 @@
-use Rattle.std.proofs.Common.{◌∙◌, inr}
+use Rattle.std.proofs.Common.{refl, rules, ◌∙◌, ap}
 use Rattle.bp_layout.specs.Bytes.{image_bytes}
-use Rattle.bp_shell.proofs.ActingLaws.{size-drained, holds_bytes}
-use Rattle.bp_shell.proofs.RunningLaws.{runs_whole, runs_part, runs_long, runs_cut, runs_stopped, runs_stopped_at_end}
+use Rattle.bp_shell.proofs.ActingLaws.{holds_bytes, size-drained}
+use Rattle.bp_shell.proofs.OpeningLaws.{if_memory, if_missing, if_refused}
+use Rattle.bp_shell.proofs.ProgramLaws.{run_faulty, run_memory, run_missing, run_refused, run_served, run_unsaved, run_whole}
+use Rattle.bp_shell.proofs.SavingLaws.{still_ready}
 use Rattle.bp_shell.proofs.running.run_file.Goals as goal
 
-pub save-requires-clause-size : goal.save-requires-clause-size
-save-requires-clause-size g c = rw (c.region.ensures, c.sync.ensures) (size-drained c.serve-status.new.volume ∙ c.serve-status.ensures.size)
+pub returns-in-Err-Missing-clause-outcome : goal.returns-in-Err-Missing-clause-outcome
+returns-in-Err-Missing-clause-outcome g c =
+    run_missing _ _ (record { left = refl; file = c.open.ensures.file }) c.open.ensures.flushed refl (c.in-Err-Missing.ensures.reason.missing c.in-Err-Missing.field-0-is) c.tell_notice.ensures
+    (c.in-Err-Missing.ensures.cause.others (if_missing _ c.in-Err-Missing.field-0-is))
 
-pub returns-then-status-ne0-clause-reads : goal.returns-then-status-ne0-clause-reads
-returns-then-status-ne0-clause-reads g c = λ e.
+pub returns-in-Err-Outside-clause-outcome : goal.returns-in-Err-Outside-clause-outcome
+returns-in-Err-Outside-clause-outcome g c =
+    run_faulty _ _ (record { left = refl; file = c.open.ensures.file }) c.open.ensures.flushed refl refl refl (c.in-Err-Outside.ensures.cause.failed c.in-Err-Outside.field-0-is)
+
+pub returns-in-Err-Refused-clause-outcome : goal.returns-in-Err-Refused-clause-outcome
+returns-in-Err-Refused-clause-outcome g c =
+    run_refused _ _ (record { left = refl; file = c.open.ensures.file }) c.open.ensures.flushed refl c.in-Err-Refused.notice (c.in-Err-Refused.ensures.reason.refused _ c.in-Err-Refused.field-0-is)
+    (rw c.in-Err-Refused.field-0-is at c.tell_notice-in-Err-Refused.ensures)
+    (c.in-Err-Refused.ensures.cause.others (if_refused _ _ c.in-Err-Refused.field-0-is))
+
+pub returns-in-Err-Memory-clause-outcome : goal.returns-in-Err-Memory-clause-outcome
+returns-in-Err-Memory-clause-outcome g c =
+    run_memory _ _ (record { left = refl; file = c.open.ensures.file }) c.open.ensures.flushed refl refl refl (c.in-Err-Memory.ensures.cause.others (if_memory _ c.in-Err-Memory.field-0-is))
+
+pub returns-in-Err-clause-outcome : goal.returns-in-Err-clause-outcome
+returns-in-Err-clause-outcome g c = run_memory _ _ (record { left = refl; file = c.open.ensures.file }) c.open.ensures.flushed refl refl refl c.in-Ok.ensures.cause.same
+
+pub serve-status-requires : goal.serve-status-requires
+serve-status-requires g c =
+    let opened = c.in-Ok.ensures.opened in record {
+      size = rw opened.2 opened.3.size;
+      attached = (c.args.name.now, opened.3.attached);
+      may_write = c.in-Ok.ensures.may_write;
+    }
+
+pub returns-then-status-ne0-clause-outcome : goal.returns-then-status-ne0-clause-outcome
+returns-then-status-ne0-clause-outcome g c =
     let opened = c.in-Ok.ensures.opened in
-    let read = c.serve-status.ensures.reads e in
-    let served = read.2 c.args.name.now opened.0 opened.3 in
-    runs_part _ _ opened.0 _ _ _ _ opened.1 opened.2 c.in-Ok-new.ensures served.0 _ (λ i file. file.bytes) read.1 served.1
+    run_served _ _ (g.F.Files.view c.args.files.now) _ _ c.args.name.now opened.0 opened.1 opened.2 opened.3 c.open.ensures.flushed c.in-Ok.ensures.cause.same _ (search rules) c.serve-status.ensures
 
-pub returns-then-status-ne0-clause-long : goal.returns-then-status-ne0-clause-long
-returns-then-status-ne0-clause-long g c = λ e.
+pub returns-in-Ok-save-clause-outcome : goal.returns-in-Ok-save-clause-outcome
+returns-in-Ok-save-clause-outcome g c =
     let opened = c.in-Ok.ensures.opened in
-    let read = c.serve-status.ensures.long e in
-    let served = read.5 c.args.name.now opened.0 opened.3 in
-    runs_long _ _ opened.0 _ _ _ _ opened.1 opened.2 c.in-Ok-new.ensures read.1 served.0 _ (λ i file. file.bytes) read.2 read.3 read.4 served.1
+    let served = rw c.if-status-ne0.false at c.serve-status.ensures in
+    let told = (served.whole refl).4 c.args.name.now opened.0 opened.3 in
+    let saved = c.in-Ok-save.ensures.saved c.args.name.now (image_bytes told.after) (holds_bytes _ _ told.after told.file) in
+    run_whole _ _ (g.F.Files.view c.args.files.now) _ _ c.args.name.now opened.0 opened.1 opened.2 opened.3 c.open.ensures.flushed c.in-Ok.ensures.cause.same (g.F.Files.view c.save.new.files) served
+    (rw (c.region.ensures, c.sync.ensures) at saved.has) c.in-Ok-save.ensures.flushed c.in-Ok-save.ensures.cause.same
 
-pub returns-then-status-ne0-clause-stops : goal.returns-then-status-ne0-clause-stops
-returns-then-status-ne0-clause-stops g c = λ e.
+pub returns-clause-outcome : goal.returns-clause-outcome
+returns-clause-outcome g c =
     let opened = c.in-Ok.ensures.opened in
-    let stopped = c.serve-status.ensures.stops e in
-    inr (runs_stopped _ _ opened.0 _ _ _ _ opened.1 opened.2 c.in-Ok-new.ensures _ (λ i j file. file.bytes) stopped.1 (stopped.2 c.args.name.now opened.0 opened.3))
+    let served = rw c.if-status-ne0.false at c.serve-status.ensures in
+    run_unsaved _ _ (g.F.Files.view c.args.files.now) _ _ c.args.name.now opened.0 opened.1 opened.2 opened.3 c.open.ensures.flushed c.in-Ok.ensures.cause.same (g.F.Files.view c.save.new.files) served _ c.sync.ensures
+    (λ was file. rw (c.region.ensures, c.sync.ensures) at (c.in-Err-save.ensures.partly c.args.name.now (image_bytes was) (holds_bytes _ _ was file))) c.in-Err-save.ensures.cause.failed
 
-pub returns-in-Ok-save-clause-whole : goal.returns-in-Ok-save-clause-whole
-returns-in-Ok-save-clause-whole g c = λ _.
+pub save-requires : goal.save-requires
+save-requires g c =
     let opened = c.in-Ok.ensures.opened in
-    let served = c.serve-status.ensures.serves c.if-status-ne0.false in
-    let all = served.4 c.args.name.now opened.0 opened.3 in
-    let saved = c.in-Ok-save.ensures.saved c.args.name.now (image_bytes all.after) (holds_bytes _ _ _ _ all.after all.file) in
-    runs_whole _ _ opened.0 _ _ _ _ opened.1 opened.2 c.in-Ok-new.ensures _ served.1 served.2 served.3 all (rw (c.region.ensures, c.sync.ensures) at saved.has)
-
-pub returns-clause-stops : goal.returns-clause-stops
-returns-clause-stops g c = λ _.
-    let opened = c.in-Ok.ensures.opened in
-    let served = c.serve-status.ensures.serves c.if-status-ne0.false in
-    let all = served.4 c.args.name.now opened.0 opened.3 in
-    let partly = c.in-Err-save.ensures.partly c.args.name.now (image_bytes all.after) (holds_bytes _ _ _ _ all.after all.file) in
-    inr (runs_stopped_at_end _ _ opened.0 _ _ _ _ opened.1 opened.2 c.in-Ok-new.ensures _ _ served.1 all c.sync.ensures (rw (c.region.ensures, c.sync.ensures) at partly))
-
-pub returns-then-status-ne0-clause-cuts : goal.returns-then-status-ne0-clause-cuts
-returns-then-status-ne0-clause-cuts g c = λ e.
-    let opened = c.in-Ok.ensures.opened in
-    let cut = c.serve-status.ensures.cuts e in
-    runs_cut _ _ opened.0 _ _ _ _ opened.1 opened.2 c.in-Ok-new.ensures _ (λ i file. file.bytes) cut.1 (cut.2 c.args.name.now opened.0 opened.3)
-
-pub save-requires-clause-attached : goal.save-requires-clause-attached
-save-requires-clause-attached g c = (c.args.name.now, c.serve-status.ensures.attached c.args.name.now c.in-Ok.ensures.opened.3.attached)
-
-pub returns-in-Ok-save-clause-calm : goal.returns-in-Ok-save-clause-calm
-returns-in-Ok-save-clause-calm g c = λ _.
-    let calm = c.serve-status.ensures.none c.if-status-ne0.false in (calm.0, calm.1, c.in-Ok-save.ensures.cause.same ∙ calm.2 ∙ c.in-Ok.ensures.same)
+    rw (c.region.ensures, c.sync.ensures)
+    (still_ready _ _ _ _ (record { size = rw opened.2 opened.3.size; attached = (c.args.name.now, opened.3.attached); may_write = c.in-Ok.ensures.may_write })
+    (size-drained c.serve-status.new.volume ∙ c.serve-status.ensures.keeps.size) c.serve-status.ensures.keeps.attached)

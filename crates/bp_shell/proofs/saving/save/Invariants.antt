@@ -1,5 +1,6 @@
 use Rattle.std.proofs.Common.{◌≡◌, ℕ, List}
 use Rattle.pm_region.specs.Memory.{current_words}
+use Rattle.bp_io.specs.Files.{StaysAttached}
 use Rattle.bp_layout.specs.Bytes.{image_bytes}
 use Rattle.bp_shell.specs.Files.{HoldsBytes, HasBytes, partly_saved}
 use Rattle.bp_shell.proofs.saving.save.Given as goal
@@ -8,9 +9,8 @@ use Rattle.bp_shell.proofs.saving.save.Given as goal
 abbrev pub invariant-loop-i : goal.invariant-loop-i
 invariant-loop-i g l =
     record {
-      blocks : g.F.Files.blocks l.files ≡ g.F.Files.blocks l.fn.files;
-      attached : (name : List ℕ) → g.F.Files.is_attached l.fn.files name → g.F.Files.is_attached l.files name;
-      bytes : (name was : List ℕ) → HoldsBytes (g.F.Files.is_attached l.fn.files) (g.F.Files.blocks l.fn.files) (g.F.Files.contents l.fn.files) name was →
-          HasBytes (g.F.Files.contents l.files name) (partly_saved was (image_bytes (current_words (g.R.Region.memory l.region))) l.i);
-      faults : g.F.Files.faults l.files ≡ g.F.Files.faults l.fn.files;
+      attached : StaysAttached (g.F.Files.view l.fn.files) (g.F.Files.view l.files);
+      bytes : (name was : List ℕ) → HoldsBytes (g.F.Files.view l.fn.files) name was →
+          HasBytes ((g.F.Files.view l.files).contents name) (partly_saved was (image_bytes (current_words (g.R.Region.memory l.region))) l.i);
+      faults : (g.F.Files.view l.files).faults ≡ (g.F.Files.view l.fn.files).faults;
     }

@@ -1,0 +1,239 @@
+-- Outcomes of the programs, from those of their parts.
+use Rattle.std.proofs.Common.{refl, sym, ◌∙◌, ap, arith, ◌≡◌, ◌<◌, ◌≤◌, ℕ, List, [], ◌∷◌, ◌++◌, length, take, inl, inr, true}
+use Rattle.std.specs.Prelude.{Option, Some, ◌⊎◌}
+use Rattle.std.specs.Io.KnownBytes.{Appends}
+use Rattle.pm_region.specs.Memory.{Memory, current_words, drained}
+use Rattle.bp_io.specs.Causes.{Rose}
+use Rattle.bp_io.specs.Files.{View}
+use Rattle.bp_layout.specs.Words.{Image}
+use Rattle.bp_layout.specs.Bytes.{image_bytes}
+use Rattle.bp_script.specs.Sayings.{notice_text}
+use Rattle.bp_script.specs.declared.notices.Notice.{Notice}
+use Rattle.bp_script.specs.declared.notices.Notice.TheVariants.{NoFile}
+use Rattle.bp_shell.specs.Checking.{CheckOutcome, Checks}
+use Rattle.bp_shell.specs.Files.{HasBlocksOf, HasBytes, Holds, HoldsPartly, IsAbsent}
+use Rattle.bp_shell.specs.Formatting.{HasPartly, new_image}
+use Rattle.bp_shell.specs.Opening.{IsFound, IsRefused, start}
+use Rattle.bp_shell.specs.Outside.{Faults, IsFirstFault, IsIdle, IsQuiet, IsUntouched, Outside, Prints, TellsLine, counts, outside}
+use Rattle.bp_shell.specs.Running.{FormatOutcome, RunOutcome, Runs, RunsCut, RunsLong, RunsPart, RunsStopped, RunsUnsaved, format_text}
+use Rattle.bp_shell.specs.Serving.{Input, Moment, ServeOutcome}
+use Rattle.bp_shell.proofs.OutcomeLaws.{files_fault, first_then, no_device_fault, no_fault, sink_fault}
+use Rattle.bp_shell.proofs.RunningLaws.{check_complete, complete, runs_cut, runs_long, runs_part, runs_stopped, runs_unsaved, runs_whole}
+
+-- ---- faults
+
+-- a line told before the end
+pub told_fault : (status : ℕ) (a b : Faults) → (status ≡ 1) ⊎ (status ≡ 7) → b.source ≡ a.source → b.files ≡ a.files → IsFirstFault status a b
+told_fault status a b (inl is) source files =
+    no_device_fault status _ _ (λ e. omega (arith, is, e)) (λ e. omega (arith, is, e)) (λ e. omega (arith, is, e)) loud source files
+  where
+    loud : IsQuiet status → ⊥
+    loud (inl e) = omega (arith, is, e)
+    loud (inr (inl e)) = omega (arith, is, e)
+    loud (inr (inr (inl e))) = omega (arith, is, e)
+    loud (inr (inr (inr (inl e)))) = omega (arith, is, e)
+    loud (inr (inr (inr (inr e)))) = omega (arith, is, e)
+told_fault status a b (inr is) source files =
+    no_device_fault status _ _ (λ e. omega (arith, is, e)) (λ e. omega (arith, is, e)) (λ e. omega (arith, is, e)) loud source files
+  where
+    loud : IsQuiet status → ⊥
+    loud (inl e) = omega (arith, is, e)
+    loud (inr (inl e)) = omega (arith, is, e)
+    loud (inr (inr (inl e))) = omega (arith, is, e)
+    loud (inr (inr (inr (inl e)))) = omega (arith, is, e)
+    loud (inr (inr (inr (inr e)))) = omega (arith, is, e)
+
+-- ---- `run`
+
+module _ (status : ℕ) (before after : Outside) where
+  run_outcome : (status ≡ 0 → Runs before after) → (status ≡ 1 → IsAbsent before.file × IsUntouched before after × TellsLine NoFile before after) → (status ≡ 3 → RunsPart before after) → (status ≡ 4 → RunsCut before after)
+      → (status ≡ 5 → IsIdle before after ⊎ RunsStopped before after ⊎ RunsUnsaved before after) → (status ≡ 6 → RunsLong before after)
+      → (status ≡ 7 → (notice : Notice) × IsRefused before.file notice × IsUntouched before after × TellsLine notice before after) → (status ≡ 8 → IsIdle before after)
+      → (¬ (status ≡ 5) → before.is_flushed ≡ true → after.is_flushed ≡ true) → IsFirstFault status before.faults after.faults
+      → (status ≡ 0) ⊎ (status ≡ 1) ⊎ (status ≡ 3) ⊎ (status ≡ 4) ⊎ (status ≡ 5) ⊎ (status ≡ 6) ⊎ (status ≡ 7) ⊎ (status ≡ 8) → RunOutcome status before after
+  run_outcome whole missing source sink files long refused memory flushed first one_of = record {
+    whole = whole;
+    missing = missing;
+    source = source;
+    sink = sink;
+    files = files;
+    long = long;
+    refused = refused;
+    memory = memory;
+    flushed = flushed;
+    first = first;
+    complete = complete status before after (λ e. (missing e).0) first.source first.sink first.files long (λ e. let why = refused e in (why.0, why.1)) one_of;
+    one_of = one_of;
+  }
+
+-- before a line is read
+module _ (before after : Outside) (untouched : IsUntouched before after) (flushed : after.is_flushed ≡ before.is_flushed) (source : after.faults.source ≡ before.faults.source) where
+  pub run_missing : IsAbsent before.file → TellsLine NoFile before after → after.faults.files ≡ before.faults.files → RunOutcome 1 before after
+  run_missing absent line files = run_outcome 1 before after (λ e. absurd (omega (arith, e))) (λ _. (absent, untouched, line)) (λ e. absurd (omega (arith, e))) (λ e. absurd (omega (arith, e))) (λ e. absurd (omega (arith, e)))
+      (λ e. absurd (omega (arith, e))) (λ e. absurd (omega (arith, e))) (λ e. absurd (omega (arith, e))) (λ _ e. flushed ∙ e)
+      (told_fault 1 before.faults after.faults (inl refl) source files) (inr (inl refl))
+
+  pub run_refused : (notice : Notice) → IsRefused before.file notice → TellsLine notice before after → after.faults.files ≡ before.faults.files → RunOutcome 7 before after
+  run_refused notice why line files = run_outcome 7 before after (λ e. absurd (omega (arith, e))) (λ e. absurd (omega (arith, e))) (λ e. absurd (omega (arith, e))) (λ e. absurd (omega (arith, e))) (λ e. absurd (omega (arith, e)))
+      (λ e. absurd (omega (arith, e))) (λ _. (notice, why, untouched, line)) (λ e. absurd (omega (arith, e))) (λ _ e. flushed ∙ e)
+      (told_fault 7 before.faults after.faults (inr refl) source files) (inr (inr (inr (inr (inr (inr (inl refl)))))))
+
+  pub run_faulty : after.taken ≡ before.taken → after.faults.sink ≡ before.faults.sink → Rose before.faults.files after.faults.files → RunOutcome 5 before after
+  run_faulty taken sink rose = run_outcome 5 before after (λ e. absurd (omega (arith, e))) (λ e. absurd (omega (arith, e))) (λ e. absurd (omega (arith, e))) (λ e. absurd (omega (arith, e))) (λ _. inl (record { untouched = untouched; taken = taken }))
+      (λ e. absurd (omega (arith, e))) (λ e. absurd (omega (arith, e))) (λ e. absurd (omega (arith, e))) (λ other. absurd (other refl)) (files_fault _ _ source sink rose) (inr (inr (inr (inr (inl refl)))))
+
+  pub run_memory : after.taken ≡ before.taken → after.faults.sink ≡ before.faults.sink → after.faults.files ≡ before.faults.files → RunOutcome 8 before after
+  run_memory taken sink files = run_outcome 8 before after (λ e. absurd (omega (arith, e))) (λ e. absurd (omega (arith, e))) (λ e. absurd (omega (arith, e))) (λ e. absurd (omega (arith, e))) (λ e. absurd (omega (arith, e)))
+      (λ e. absurd (omega (arith, e))) (λ e. absurd (omega (arith, e))) (λ _. record { untouched = untouched; taken = taken }) (λ _ e. flushed ∙ e)
+      (no_fault 8 _ _ (λ e. omega (arith, e)) (λ e. omega (arith, e)) (λ e. omega (arith, e)) source sink files) (inr (inr (inr (inr (inr (inr (inr refl)))))))
+
+-- from the moment at which FILE is mounted
+module _ (i j : Input) (files : View) (a b : Moment) (name : List ℕ) (image : Image) (found : IsFound (files.contents name) image) (same : a.memory ≡ (start image).memory) (holds : Holds a.files name image)
+    (flushed : a.files.is_flushed ≡ files.is_flushed) (calm : a.files.faults ≡ files.faults) where
+  pub run_served : (status : ℕ) → ¬ (status ≡ 0) → ServeOutcome status i j a b → RunOutcome status (outside i.left i.faults a.taken a.faults files name) (outside j.left j.faults b.taken b.faults b.files name)
+  run_served status other served =
+      let before = outside i.left i.faults a.taken a.faults files name in
+      let after = outside j.left j.faults b.taken b.faults b.files name in
+      run_outcome status before after (λ e. absurd (other e)) (λ e. absurd (never 1 (λ z. omega (arith, z)) (λ z. omega (arith, z)) (λ z. omega (arith, z)) (λ z. omega (arith, z)) (λ z. omega (arith, z)) e served.one_of))
+      (λ e. let part = served.part e in let one = part.3 name image holds in runs_part before after image a.memory b.memory found same part.0 part.1 (Holds b.files name) (λ k file. file.bytes) part.2 one)
+      (λ e. let cut = served.cut e in runs_cut before after image a.memory b.memory found same cut.0 (Holds b.files name) (λ k file. file.bytes) cut.1
+      (elim cut.2 [ inl all ↦ inl (λ rest. all rest name image holds) | inr last ↦ inr (last.0, last.1 name image holds) ]))
+      (λ e. let stop = served.stopped e in inr (inl (runs_stopped before after image a.memory b.memory found same stop.0 (HoldsPartly b.files name) (λ k l file. file.bytes) stop.1
+      (elim stop.2 [ inl all ↦ inl (λ rest. all rest name image holds) | inr last ↦ inr (last.0, last.1 name image holds) ]))))
+      (λ e. let long = served.long e in runs_long before after image a.memory b.memory found same long.0 long.1 long.2 (Holds b.files name) (λ k file. file.bytes) long.3 long.4 long.5 long.6 (long.7 name image holds))
+      (λ e. absurd (never 7 (λ z. omega (arith, z)) (λ z. omega (arith, z)) (λ z. omega (arith, z)) (λ z. omega (arith, z)) (λ z. omega (arith, z)) e served.one_of))
+      (λ e. absurd (never 8 (λ z. omega (arith, z)) (λ z. omega (arith, z)) (λ z. omega (arith, z)) (λ z. omega (arith, z)) (λ z. omega (arith, z)) e served.one_of))
+      (λ five e. served.keeps.flushed five (flushed ∙ e))
+      (first_then status (counts i.faults a.faults files) (counts i.faults a.faults a.files) (counts j.faults b.faults b.files) refl refl calm served.first)
+      (elim served.one_of [
+        | inl e ↦ inl e
+        | inr (inl e) ↦ inr (inr (inl e))
+        | inr (inr (inl e)) ↦ inr (inr (inr (inl e)))
+        | inr (inr (inr (inl e))) ↦ inr (inr (inr (inr (inl e))))
+        | inr (inr (inr (inr e))) ↦ inr (inr (inr (inr (inr (inl e)))))
+      ])
+    where
+      never : (n : ℕ) → ¬ (n ≡ 0) → ¬ (n ≡ 3) → ¬ (n ≡ 4) → ¬ (n ≡ 5) → ¬ (n ≡ 6) → status ≡ n → (status ≡ 0) ⊎ (status ≡ 3) ⊎ (status ≡ 4) ⊎ (status ≡ 5) ⊎ (status ≡ 6) → ⊥
+      never n zero three four five six z (inl e) = zero (sym z ∙ e)
+      never n zero three four five six z (inr (inl e)) = three (sym z ∙ e)
+      never n zero three four five six z (inr (inr (inl e))) = four (sym z ∙ e)
+      never n zero three four five six z (inr (inr (inr (inl e)))) = five (sym z ∙ e)
+      never n zero three four five six z (inr (inr (inr (inr e)))) = six (sym z ∙ e)
+
+  -- the sync at the end saved, or couldn't
+  module _ (now : View) (served : ServeOutcome 0 i j a b) where
+    pub run_whole : HasBytes (now.contents name) (image_bytes (current_words b.memory)) → now.is_flushed ≡ true → now.faults ≡ b.files.faults
+        → RunOutcome 0 (outside i.left i.faults a.taken a.faults files name) (outside j.left j.faults b.taken b.faults now name)
+    run_whole saved done quiet =
+        let before = outside i.left i.faults a.taken a.faults files name in
+        let after = outside j.left j.faults b.taken b.faults now name in
+        let all = served.whole refl in
+        run_outcome 0 before after (λ _. runs_whole before after image a.memory b.memory found same all.0 (Holds b.files name) all.1 all.2 all.3 (all.4 name image holds) saved done)
+        (λ e. absurd (omega (arith, e))) (λ e. absurd (omega (arith, e))) (λ e. absurd (omega (arith, e))) (λ e. absurd (omega (arith, e))) (λ e. absurd (omega (arith, e))) (λ e. absurd (omega (arith, e))) (λ e. absurd (omega (arith, e)))
+        (λ _ _. done)
+        (no_fault 0 _ _ (λ e. omega (arith, e)) (λ e. omega (arith, e)) (λ e. omega (arith, e)) (served.first.no_source (λ e. omega (arith, e))) (served.first.no_sink (inl refl))
+        (quiet ∙ served.first.no_files (λ e. omega (arith, e)) ∙ calm))
+        (inl refl)
+
+    pub run_unsaved : (memory : Memory) → memory ≡ drained b.memory → ((was : Image) → Holds b.files name was → HasBlocksOf (now.contents name) (image_bytes was) (image_bytes (current_words b.memory))) → Rose b.files.faults now.faults
+        → RunOutcome 5 (outside i.left i.faults a.taken a.faults files name) (outside j.left j.faults b.taken b.faults now name)
+    run_unsaved memory done partly rose =
+        let before = outside i.left i.faults a.taken a.faults files name in
+        let after = outside j.left j.faults b.taken b.faults now name in
+        let all = served.whole refl in
+        let told = all.4 name image holds in
+        run_outcome 5 before after (λ e. absurd (omega (arith, e))) (λ e. absurd (omega (arith, e))) (λ e. absurd (omega (arith, e))) (λ e. absurd (omega (arith, e)))
+        (λ _. inr (inr (runs_unsaved before after image a.memory memory found same all.0 b.memory (Holds b.files name) all.1 all.2 all.3 told done (partly told.after told.file))))
+        (λ e. absurd (omega (arith, e))) (λ e. absurd (omega (arith, e))) (λ e. absurd (omega (arith, e))) (λ other. absurd (other refl))
+        (first_then 5 (counts i.faults a.faults files) (counts j.faults b.faults b.files) (counts j.faults b.faults now) (served.first.no_source (λ e. omega (arith, e))) (served.first.no_sink (inl refl))
+        (served.first.no_files (λ e. omega (arith, e)) ∙ calm) (files_fault _ _ refl refl rose))
+        (inr (inr (inr (inr (inl refl)))))
+
+-- ---- `format`
+
+module _ (blocks : ℕ) (before after : Outside) (left : after.left ≡ before.left) (source : after.faults.source ≡ before.faults.source) where
+  pub format_done : HasBytes after.file (image_bytes (new_image blocks)) → Appends before.taken after.taken (format_text blocks) → after.is_flushed ≡ true → after.faults.sink ≡ before.faults.sink → after.faults.files ≡ before.faults.files → FormatOutcome 0 blocks before after
+  format_done saved told flushed sink files = record {
+    whole = λ _. (saved, told);
+    sink = λ e. absurd (omega (arith, e));
+    flushed = λ _. flushed;
+    files = λ e. absurd (omega (arith, e));
+    memory = λ e. absurd (omega (arith, e));
+    unread = left;
+    first = no_fault 0 _ _ (λ e. omega (arith, e)) (λ e. omega (arith, e)) (λ e. omega (arith, e)) source sink files;
+    one_of = inl refl;
+  }
+
+  pub format_cut : HasBytes after.file (image_bytes (new_image blocks)) → (count : ℕ) × (count < length (format_text blocks)) × Appends before.taken after.taken (take count (format_text blocks)) → after.is_flushed ≡ true → Rose before.faults.sink after.faults.sink
+      → after.faults.files ≡ before.faults.files → FormatOutcome 4 blocks before after
+  format_cut saved cut flushed rose files = record {
+    whole = λ e. absurd (omega (arith, e));
+    sink = λ _. (saved, cut);
+    flushed = λ _. flushed;
+    files = λ e. absurd (omega (arith, e));
+    memory = λ e. absurd (omega (arith, e));
+    unread = left;
+    first = sink_fault _ _ source rose files;
+    one_of = inr (inl refl);
+  }
+
+  pub format_failed : HasPartly before.file (image_bytes (new_image blocks)) after.file → after.taken ≡ before.taken → after.faults.sink ≡ before.faults.sink → Rose before.faults.files after.faults.files → FormatOutcome 5 blocks before after
+  format_failed partly taken sink rose = record {
+    whole = λ e. absurd (omega (arith, e));
+    sink = λ e. absurd (omega (arith, e));
+    flushed = λ e. elim e [ inl z ↦ absurd (omega (arith, z)) | inr z ↦ absurd (omega (arith, z)) ];
+    files = λ _. (partly, taken);
+    memory = λ e. absurd (omega (arith, e));
+    unread = left;
+    first = files_fault _ _ source sink rose;
+    one_of = inr (inr (inl refl));
+  }
+
+  pub format_memory : after.file ≡ before.file → after.taken ≡ before.taken → after.faults.sink ≡ before.faults.sink → after.faults.files ≡ before.faults.files → FormatOutcome 8 blocks before after
+  format_memory file taken sink files = record {
+    whole = λ e. absurd (omega (arith, e));
+    sink = λ e. absurd (omega (arith, e));
+    flushed = λ e. elim e [ inl z ↦ absurd (omega (arith, z)) | inr z ↦ absurd (omega (arith, z)) ];
+    files = λ e. absurd (omega (arith, e));
+    memory = λ _. (file, taken);
+    unread = left;
+    first = no_fault 8 _ _ (λ e. omega (arith, e)) (λ e. omega (arith, e)) (λ e. omega (arith, e)) source sink files;
+    one_of = inr (inr (inr refl));
+  }
+
+-- ---- `check`
+
+module _ (status : ℕ) (before after : Outside) (untouched : IsUntouched before after) (flushed : after.is_flushed ≡ before.is_flushed) where
+  pub check_outcome : (status ≡ 0 → (notice : Notice) × Checks before.file notice × Appends before.taken after.taken (notice_text notice)) → (status ≡ 1 → IsAbsent before.file × TellsLine NoFile before after)
+      → (status ≡ 4 → (notice : Notice) × Checks before.file notice × ((count : ℕ) × (count < length (notice_text notice)) × Appends before.taken after.taken (take count (notice_text notice))))
+      → (status ≡ 5 → after.taken ≡ before.taken) → (status ≡ 7 → (notice : Notice) × IsRefused before.file notice × TellsLine notice before after) → (status ≡ 8 → after.taken ≡ before.taken)
+      → IsFirstFault status before.faults after.faults → (status ≡ 0) ⊎ (status ≡ 1) ⊎ (status ≡ 4) ⊎ (status ≡ 5) ⊎ (status ≡ 7) ⊎ (status ≡ 8) → CheckOutcome status before after
+  check_outcome whole missing sink files refused memory first one_of = record {
+    whole = whole;
+    missing = missing;
+    sink = sink;
+    files = files;
+    refused = refused;
+    memory = memory;
+    untouched = untouched;
+    flushed = flushed;
+    first = first;
+    complete = check_complete status before after (λ e. (missing e).0) first.sink first.files (λ e. let why = refused e in (why.0, why.1)) one_of;
+    one_of = one_of;
+  }
+
+-- ---- no program answers that the words are wrong
+
+pub format_asked : (status : ℕ) → (status ≡ 0) ⊎ (status ≡ 4) ⊎ (status ≡ 5) ⊎ (status ≡ 8) → status ≡ 2 → ⊥
+format_asked status (inl z) e = omega (arith, z, e)
+format_asked status (inr (inl z)) e = omega (arith, z, e)
+format_asked status (inr (inr (inl z))) e = omega (arith, z, e)
+format_asked status (inr (inr (inr z))) e = omega (arith, z, e)
+
+pub check_asked : (status : ℕ) → (status ≡ 0) ⊎ (status ≡ 1) ⊎ (status ≡ 4) ⊎ (status ≡ 5) ⊎ (status ≡ 7) ⊎ (status ≡ 8) → status ≡ 2 → ⊥
+check_asked status (inl z) e = omega (arith, z, e)
+check_asked status (inr (inl z)) e = omega (arith, z, e)
+check_asked status (inr (inr (inl z))) e = omega (arith, z, e)
+check_asked status (inr (inr (inr (inl z)))) e = omega (arith, z, e)
+check_asked status (inr (inr (inr (inr (inl z))))) e = omega (arith, z, e)
+check_asked status (inr (inr (inr (inr (inr z))))) e = omega (arith, z, e)

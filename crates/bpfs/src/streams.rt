@@ -1,0 +1,36 @@
+//! The standard streams of a program that was started without one of them.
+
+use std::fs::{File, OpenOptions};
+use std::os::fd::AsRawFd;
+use std::{io, rt};
+
+/// Files that stand for closed streams, as long as they are held.
+#[derive(Drop)]
+pub(crate) struct StandIns {
+    _input: Option<File>,
+    _output: Option<File>,
+    _errors: Option<File>,
+}
+
+/// Takes the descriptors of the standard streams that are closed, so that no file is opened under
+/// one of them and takes a reply, or is read as a script. Each use of such a stream then fails: the
+/// null device stands for the input where it is open for writing alone, and else for reading alone.
+pub(crate) fn take_streams<R: rt::Files<File = File>>(runtime: &R) -> io::Result<StandIns> {
+    Ok(StandIns {
+        _input: up_to(
+            0,
+            OpenOptions::new().write(true).open(runtime, "/dev/null")?,
+        ),
+        _output: up_to(2, OpenOptions::new().read(true).open(runtime, "/dev/null")?),
+        _errors: up_to(2, OpenOptions::new().read(true).open(runtime, "/dev/null")?),
+    })
+}
+
+// The file, where its descriptor is at most this one. A new file has the least that is free.
+fn up_to(last: i32, file: File) -> Option<File> {
+    if file.as_raw_fd() <= last {
+        Some(file)
+    } else {
+        None
+    }
+}

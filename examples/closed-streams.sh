@@ -1,0 +1,49 @@
+#!/bin/sh
+# Starts the program with each standard stream closed, and compares FILE byte for byte with what it has to be.
+#
+#   examples/closed-streams.sh PROGRAM      PROGRAM: crates/bpfs/out/bpfs, as `rt run` leaves it there
+set -u
+program=$(realpath "${1:?the path of the program}")
+work=$(mktemp -d)
+trap 'rm -rf "$work"' EXIT
+cd "$work" || exit 1
+failed=0
+
+# What FILE has to be: after a format, before each run, and after the script.
+printf 'create /a\nwrite /a 0 68656c6c6f\n' > script
+"$program" format formatted --blocks 8 > line || exit 1
+cp formatted old
+echo 'mkdir /d' | "$program" run old > replies || exit 1
+cp old scripted
+"$program" run scripted < script > replies || exit 1
+if cmp -s formatted old || cmp -s old scripted; then echo 'FAILED: no run changed FILE'; exit 1; fi
+
+# expect NAME WANTED STATUSES GOT: compares the status and FILE with what they have to be.
+expect() {
+  name=$1 wanted=$2 statuses=$3 got=$4
+  case " $statuses " in
+    *" $got "*) ;;
+    *) echo "FAILED: $name: status $got, not one of $statuses"; failed=1 ;;
+  esac
+  if cmp -s FILE "$wanted"; then
+    echo "ok: $name: status $got"
+  else
+    echo "FAILED: $name: FILE is not as it has to be"; failed=1
+  fi
+}
+
+cp old FILE; "$program" check FILE <&- > out 2> err; expect 'check <&-' old '0' $?
+cp old FILE; "$program" check FILE >&- 2> err; expect 'check >&-' old '4' $?
+cp old FILE; "$program" check FILE > out 2>&-; expect 'check 2>&-' old '0' $?
+cp old FILE; "$program" check FILE <&- >&- 2>&-; expect 'check <&- >&- 2>&-' old '4' $?
+
+cp old FILE; "$program" format FILE --blocks 8 <&- > out 2> err; expect 'format <&-' formatted '0' $?
+cp old FILE; "$program" format FILE --blocks 8 >&- 2> err; expect 'format >&-' formatted '4' $?
+cp old FILE; "$program" format FILE --blocks 8 > out 2>&-; expect 'format 2>&-' formatted '0' $?
+cp old FILE; "$program" format FILE --blocks 8 <&- >&- 2>&-; expect 'format <&- >&- 2>&-' formatted '4' $?
+
+cp old FILE; "$program" run FILE <&- > out 2> err; expect 'run <&-' old '3' $?
+cp old FILE; "$program" run FILE < script >&- 2> err; expect 'run >&-' old '4' $?
+cp old FILE; "$program" run FILE < script > out 2>&-; expect 'run 2>&-' scripted '0' $?
+cp old FILE; "$program" run FILE <&- >&- 2>&-; expect 'run <&- >&- 2>&-' old '3' $?
+exit $failed

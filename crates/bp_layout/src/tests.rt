@@ -9,7 +9,7 @@ fn mark_spells_its_bytes(rt: HostRuntime) {
 
 #[test]
 fn limits_agree(rt: HostRuntime) {
-    assert_eq!(rt; bp_limits::MAX_SIZE, pm_words::span(limits::MAX_HEIGHT));
+    assert_eq!(rt; bp_limits::MAX_SIZE, pm_words::span(bp_limits::MAX_HEIGHT));
 }
 
 #[test]

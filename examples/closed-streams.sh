@@ -10,10 +10,10 @@ cd "$work" || exit 1
 failed=0
 
 # What FILE has to be: after a format, before each run, and after the script.
-printf 'create /a\nwrite /a 0 68656c6c6f\n' > script
+printf 'create /a\ncreate /b\n' > script
 "$program" format formatted --blocks 8 > line || exit 1
 cp formatted old
-echo 'mkdir /d' | "$program" run old > replies || exit 1
+echo 'create /old' | "$program" run old > replies || exit 1
 cp old scripted
 "$program" run scripted < script > replies || exit 1
 if cmp -s formatted old || cmp -s old scripted; then echo 'FAILED: no run changed FILE'; exit 1; fi

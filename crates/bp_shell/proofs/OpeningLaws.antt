@@ -1,11 +1,13 @@
 -- What is known of the file of a run.
-use Rattle.std.proofs.Common.{refl, sym, ◌∙◌, ap, arith, ◌≡◌, ◌≢◌, ℕ, ◌+◌, ◌*◌, ◌-◌, List, [], ◌++◌, take, false, true, inl, inr}
+use Rattle.std.proofs.Common.{refl, sym, ◌∙◌, ap, arith, ◌≡◌, ◌≢◌, ℕ, ◌+◌, ◌*◌, ◌-◌, List, [], ◌++◌, length, take, false, true, inl, inr}
 use Rattle.std.specs.Prelude.{Some, None, ◌⊎◌}
 use Rattle.std.proofs.Math.Seq.{take-add, take-length}
 use Rattle.bp_io.specs.Files.{Known, Stays, Tells, Answers, Attaches, Reads, View, block_of}
 use Rattle.bp_shell.proofs.SavingLaws.{stays_attached, still_attached}
 use Rattle.bp_layout.specs.Bytes.{image_bytes}
-use Rattle.bp_layout.specs.Words.{Image}
+use Rattle.bp_free.specs.Set.{Set, has, members}
+use Rattle.bp_layout.specs.Free.{AreFreeBlocks, HasFree, numbers_below}
+use Rattle.bp_layout.specs.Words.{Image, block_count}
 use Rattle.bp_scan.specs.Faults.{IsFault}
 use Rattle.bp_scan.specs.Length.{wanted_length}
 use Rattle.bp_scan.specs.declared.fault.MountFault.{MountFault}
@@ -122,3 +124,11 @@ if_refused stop notice is e = let no : ◌≡◌ {A = Stop} (Refused notice) Out
 
 pub if_memory : (stop : Stop) → stop ≡ Memory → stop ≡ Outside → ⊥
 if_memory stop is e = let no : ◌≡◌ {A = Stop} Memory Outside = sym is ∙ e in cc
+
+-- the blocks of a set of a scan, counted
+pub counted : (image : Image) (set : Set) (count : ℕ) → AreFreeBlocks image (has set) → length set ≡ block_count image → count ≡ length (members set) → HasFree image count
+counted image set count are size is = record {
+  set = has set;
+  are = are;
+  number = ap (λ n. length (numbers_below n (has set))) (sym size) ∙ sym is;
+}

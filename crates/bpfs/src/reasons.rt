@@ -1,10 +1,10 @@
 //! Why a program ended, as a line of standard error.
 
 use bp_limits::MAX_INPUT;
-use std::fmt::Display;
 use std::io;
 
 /// What failed, or ran out, for a status that is no answer about FILE.
+#[derive(Drop)]
 pub(crate) enum Reason<'a> {
     /// Standard input, at this error of the system.
     Input(Option<io::Error>),
@@ -19,11 +19,7 @@ pub(crate) enum Reason<'a> {
 }
 
 // Writes what failed, with the system's word for it.
-fn tell_fault<E: Eprint, T: Display>(
-    rt: &E,
-    device: T,
-    error: Option<io::Error>,
-) -> io::Result<()> {
+fn tell_fault<E: Eprint>(rt: &E, device: &str, error: Option<io::Error>) -> io::Result<()> {
     match error {
         Some(error) => eprintln!(rt; "bpfs: {device}: {error}"),
         None => eprintln!(rt; "bpfs: {device}: failed"),

@@ -10,7 +10,7 @@ use Rattle.bp_layout.specs.Checks.{Fails}
 use Rattle.bp_spelling.specs.Names.{AreNames}
 use Rattle.bp_walk.proofs.TakenLaws.{known, length_without, has_without}
 use Rattle.bp_scan.specs.Misspelled.{FailsNames}
-use Rattle.bp_scan.specs.Reading.{IsOpen, IsReading, IsAt, IsInside, work}
+use Rattle.bp_scan.specs.Reading.{IsOpen, IsReading, IsAtHand, IsInside, work}
 use Rattle.bp_scan.specs.declared.directories.Directory.{Directory}
 use Rattle.bp_scan.proofs.ProgressLaws.{begin, finish}
 use Rattle.bp_scan.proofs.Inside.{here_sound, here_full, here_few, names_fail}
@@ -21,7 +21,7 @@ not_file image zero kind = absurd (omega (arith, kind))
 not_file image (suc i) kind = omega arith
 
 -- a directory that was to do is at hand
-pub taken_up : (image : Image) (blocks inodes todo : Set) (current : ℕ) → current < length todo → has todo current ≡ true → IsReading image blocks inodes todo 0 0 → IsAt image blocks inodes (without todo current) current 0
+pub taken_up : (image : Image) (blocks inodes todo : Set) (current : ℕ) → current < length todo → has todo current ≡ true → IsReading image blocks inodes todo 0 0 → IsAtHand image blocks inodes (without todo current) current 0
 taken_up image blocks inodes todo current low there reading = record {
   reading = record {
     range = reading.range;
@@ -35,7 +35,7 @@ taken_up image blocks inodes todo current low there reading = record {
   out = has_without todo current low;
 }
 
-module _ (image : Image) (ready : IsOpen image) (blocks inodes todo : Set) (directory : Directory) (at : IsAt image blocks inodes todo directory.inode 0)
+module _ (image : Image) (ready : IsOpen image) (blocks inodes todo : Set) (directory : Directory) (at : IsAtHand image blocks inodes todo directory.inode 0)
     (root : directory.tree.root ≡ root_of image directory.inode) (size : directory.tree.size ≡ size_of image directory.inode) where
   pub begun_sound : IsSound image directory.tree.root directory.tree.size
   begun_sound = along (IsSound image) _ _ _ _ (sym root) (sym size) (here_sound image ready blocks inodes todo directory.inode 0 at.reading at.entered at.kind)
@@ -86,6 +86,6 @@ work_falls inodes todo later more left i least later_is less =
     let same : length (members later) ≡ length (members (without todo i)) = ap (λ (s : Set). length (members s)) later_is in
     omega (arith, one, same, less)
 
-pub taken_least : (image : Image) (blocks inodes todo later : Set) (i : ℕ) → IsReading image blocks inodes todo 0 0 → IsLeast todo i → later ≡ without todo i → IsAt image blocks inodes later i 0
+pub taken_least : (image : Image) (blocks inodes todo later : Set) (i : ℕ) → IsReading image blocks inodes todo 0 0 → IsLeast todo i → later ≡ without todo i → IsAtHand image blocks inodes later i 0
 taken_least image blocks inodes todo later i reading least later_is =
-    subst (λ (s : Set). IsAt image blocks inodes s i 0) (sym later_is) (taken_up image blocks inodes todo i least.low least.is_in reading)
+    subst (λ (s : Set). IsAtHand image blocks inodes s i 0) (sym later_is) (taken_up image blocks inodes todo i least.low least.is_in reading)

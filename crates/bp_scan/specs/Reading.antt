@@ -28,7 +28,7 @@ pub record IsReading (image : Image) (blocks inodes todo : Set) (current slot : 
   pub midway : IsMidway image blocks inodes todo current slot
 
 -- a directory is at hand
-pub record IsAt (image : Image) (blocks inodes todo : Set) (current slot : ℕ) : Type 0 where
+pub record IsAtHand (image : Image) (blocks inodes todo : Set) (current slot : ℕ) : Type 0 where
   pub reading : IsReading image blocks inodes todo current slot
   pub entered : IsEntered image inodes current
   pub kind : kind_of image current ≡ 2
@@ -36,7 +36,7 @@ pub record IsAt (image : Image) (blocks inodes todo : Set) (current slot : ℕ) 
 
 -- the same of one whose names are right
 pub record IsInside (image : Image) (blocks inodes todo : Set) (directory : Directory) (slot : ℕ) : Type 0 where
-  pub at : IsAt image blocks inodes todo directory.inode slot
+  pub at : IsAtHand image blocks inodes todo directory.inode slot
   pub root : root_of image directory.inode ≡ directory.tree.root
   pub size : size_of image directory.inode ≡ directory.tree.size
   pub names : AreNames image directory.tree.root directory.tree.size

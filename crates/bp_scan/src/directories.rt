@@ -5,7 +5,7 @@ ghost use Rattle.bp_layout.specs.Checks.{Fails};
 ghost use Rattle.bp_layout.specs.Tree.{IsFull, IsSound};
 ghost use Rattle.bp_layout.specs.Words.{block_count};
 ghost use Rattle.bp_limits.specs.Limits.{entry_size};
-ghost use Rattle.bp_scan.specs.Reading.{IsOpen, IsReading, IsAt, IsInside, work};
+ghost use Rattle.bp_scan.specs.Reading.{IsOpen, IsReading, IsAtHand, IsInside, work};
 ghost use Rattle.bp_scan.specs.Misspelled.{FailsNames};
 ghost use Rattle.bp_spelling.specs.Names.{AreNames};
 ghost use Rattle.pm_region.specs.Memory.{current_words};
@@ -118,7 +118,7 @@ pub(crate) fn read_directory<R: Region>(
     places: &mut [u32],
 ) -> Result<(), CheckFault>
     requires ready { IsOpen (current_words (R.memory region.now)) }
-    requires begun { IsAt (current_words (R.memory region.now)) blocks.old inodes.old todo.old inode 0 }
+    requires begun { IsAtHand (current_words (R.memory region.now)) blocks.old inodes.old todo.old inode 0 }
     requires places { 16 * block_count (current_words (R.memory region.now)) ≤ length places.old }
     ensures done { OnOk result (IsReading (current_words (R.memory region.now)) blocks.new inodes.new todo.new 0 0) }
     ensures work { OnOk result (work inodes.new todo.new ≤ work inodes.old todo.old) }

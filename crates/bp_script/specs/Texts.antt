@@ -69,13 +69,13 @@ long_line_text = codes "err 21 line\n"
 
 -- ---- replies
 
-pub data Reply : Type 0 where
-  answered : Answer → Reply
-  synced : Reply
+pub data LineReply : Type 0 where
+  answered : Answer → LineReply
+  synced : LineReply
   -- the free blocks, and the live ones
-  space_of : ℕ → ℕ → Reply
-  syntax : Reply
-  long : Reply
+  space_of : ℕ → ℕ → LineReply
+  syntax : LineReply
+  long : LineReply
 
 abbrev pub listing_text : List (Kind × Name) → List ℕ
 listing_text entries = flat_map entry_text entries ++ end_text
@@ -88,7 +88,7 @@ answer_text (dir_of count) = dir_text count
 answer_text (names entries) = listing_text entries
 answer_text (refused refusal) = refusal_text refusal
 
-abbrev pub reply_text : Reply → List ℕ
+abbrev pub reply_text : LineReply → List ℕ
 reply_text (answered answer) = answer_text answer
 reply_text synced = done_text
 reply_text (space_of free live) = space_text free live

@@ -14,10 +14,10 @@ use Rattle.bp_volume.specs.FileCall.{FileCall}
 use Rattle.std.proofs.lemmas.Bool.{le-ltb, lt-ltb}
 use Rattle.bp_script.specs.Commands.{Command, command_of, in_grammar}
 use Rattle.bp_script.specs.Commands.Command.{file_call, sync, space, bad_syntax, too_long}
-use Rattle.bp_script.specs.Texts.Reply.{answered, synced, space_of, syntax, long}
+use Rattle.bp_script.specs.Texts.LineReply.{answered, synced, space_of, syntax, long}
 use Rattle.bp_shell.specs.Files.{Holds, HoldsBytes}
 use Rattle.bp_shell.specs.Acting.{Does, reply_of, state, to_save}
-use Rattle.bp_shell.specs.Serving.{Acts, Fails}
+use Rattle.bp_shell.specs.Serving.{Acts, SyncFails}
 use Rattle.bp_shell.specs.Session.{State}
 use Rattle.bp_shell.specs.declared.outcome.Outcome.{Outcome}
 use Rattle.bp_shell.specs.declared.outcome.Outcome.TheVariants.{Answered, Synced, Counted, BadSyntax, TooLong}
@@ -94,7 +94,7 @@ module _ (old new : Memory) (command : Command) (answer : Answer) where
   pub acts_synced : (saved : Image) (holds : Image → Type 0) → Does old command Synced answer new → holds (current_words old) → Acts (state old saved) new holds command synced
   acts_synced saved holds does file = let is = does.is_sync refl in rw is (record { after = current_words old; line = rw is at (does.line saved); file = file })
 
-  pub fails_synced : (saved : Image) (partly : Image → Image → Type 0) → Does old command Synced answer new → partly saved (current_words old) → Fails (state old saved) new partly command
+  pub fails_synced : (saved : Image) (partly : Image → Image → Type 0) → Does old command Synced answer new → partly saved (current_words old) → SyncFails (state old saved) new partly command
   fails_synced saved partly does file = record { is = does.is_sync refl; drained = synced_memory does; file = file }
 
 -- ---- an image as bytes

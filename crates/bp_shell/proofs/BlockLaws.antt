@@ -5,7 +5,7 @@ use Rattle.std.proofs.Math.Seq.{take-suc, take-add}
 use Rattle.bp_io.specs.Files.{block_of}
 use Rattle.bp_layout.specs.Words.{Image}
 use Rattle.bp_layout.specs.Bytes.{image_bytes}
-use Rattle.bp_shell.specs.Files.{AreWords}
+use Rattle.bp_shell.specs.Files.{AreWordsOf64Bits}
 use Rattle.pm_words.specs.Bytes.{word_bytes, word_of}
 use Rattle.pm_words.proofs.Bytes.{bytes_word_of}
 
@@ -75,7 +75,7 @@ decode_more before block bytes k low are small =
     let next : 8 * (k + 1) ≡ 8 * k + 8 = omega arith in
     append_assoc before (take (8 * k) block) (word_bytes (word_of bytes)) ∙ ap (λ l. before ++ l) (rw (next, bytes_word_of bytes size (rw are (small_front 8 (drop (8 * k) block) (small_rest (8 * k) block small))), are) (sym (take-add (8 * k) 8 block)))
 
-pub words_more : (words : Image) (word : ℕ) → AreWords words → word < 2 ^ 64 → AreWords (words ++ word ∷ [])
+pub words_more : (words : Image) (word : ℕ) → AreWordsOf64Bits words → word < 2 ^ 64 → AreWordsOf64Bits (words ++ word ∷ [])
 words_more [] word are low zero = low
 words_more [] word are low (suc place) = lit< tt
 words_more (first ∷ words) word are low zero = are 0

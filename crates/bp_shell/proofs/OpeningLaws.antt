@@ -15,8 +15,8 @@ use Rattle.bp_scan.specs.declared.fault.MountFault.TheVariants as f
 use Rattle.bp_script.specs.declared.notices.Notice.{Notice}
 use Rattle.bp_script.specs.declared.notices.Notice.TheVariants.{NotFormatted, BadSize, Damaged}
 use Rattle.bp_shell.specs.Files.{HasBytes, HasLength, HasImage}
-use Rattle.bp_shell.specs.Opening.{HasSized, IsRefused}
-use Rattle.bp_shell.specs.Opening.IsRefused.{by_length, not_formatted, by_count, damaged}
+use Rattle.bp_shell.specs.Opening.{HasSized, RefusesFile}
+use Rattle.bp_shell.specs.Opening.RefusesFile.{by_length, not_formatted, by_count, damaged}
 use Rattle.bp_shell.specs.Stops.{stop_by}
 use Rattle.bp_shell.specs.declared.stop.Stop.{Stop}
 use Rattle.bp_shell.specs.declared.stop.Stop.TheVariants.{Missing, Outside, Refused, Memory}
@@ -93,13 +93,13 @@ no_refusal told e = cc
 same_notice : (first second : Notice) → ◌≡◌ {A = Stop} (Refused first) (Refused second) → first ≡ second
 same_notice first second e = cc
 
-pub stop_refused : (fault : MountFault) (image : Image) (known : Known) (notice : Notice) → IsFault image fault → HasSized known image → stop_by fault ≡ Refused notice → IsRefused known notice
+pub stop_refused : (fault : MountFault) (image : Image) (known : Known) (notice : Notice) → IsFault image fault → HasSized known image → stop_by fault ≡ Refused notice → RefusesFile known notice
 stop_refused f.NotFormatted image known told why has e = rw (← same_notice NotFormatted told e) (not_formatted has why)
 stop_refused (f.BadSize found wanted) image known told why has e = rw (← same_notice (BadSize found wanted) told e, why.2, why.3) (by_count has why.0 why.1)
 stop_refused (f.Damaged check place) image known told why has e = rw (← same_notice (Damaged check place) told e) (damaged has why.0 why.1 why.2)
 stop_refused f.Memory image known told why has e = absurd why
 
-pub stop_refused_length : (fault : MountFault) (known : Known) (len : ℕ) (notice : Notice) → HasLength known len → (fault ≡ f.BadSize len (wanted_length len)) × (len ≢ wanted_length len) → stop_by fault ≡ Refused notice → IsRefused known notice
+pub stop_refused_length : (fault : MountFault) (known : Known) (len : ℕ) (notice : Notice) → HasLength known len → (fault ≡ f.BadSize len (wanted_length len)) × (len ≢ wanted_length len) → stop_by fault ≡ Refused notice → RefusesFile known notice
 stop_refused_length fault known len notice has why e =
     let told : stop_by (f.BadSize len (wanted_length len)) ≡ Refused notice = rw why.0 at e in
     rw (← same_notice (BadSize len (wanted_length len)) notice told) (by_length has why.1)

@@ -19,7 +19,7 @@ use Rattle.bp_plain.specs.Plain.{plain, is_changing, refusal, changes}
 use Rattle.bp_shell.specs.Session.{State, Line, Session}
 use Rattle.bp_script.specs.Commands.{Command}
 use Rattle.bp_script.specs.Commands.Command.{file_call, sync, space, bad_syntax, too_long}
-use Rattle.bp_script.specs.Texts.{Reply}
+use Rattle.bp_script.specs.Texts.{LineReply}
 use Rattle.bp_limits.specs.Limits.{call_room}
 use Rattle.pm_epochs.proofs.CrashLaws.{crash_right_none}
 use Rattle.bp_plain.specs.Calls.{Refusal}
@@ -150,12 +150,12 @@ settles wanted memory p before = elim (nat_lt (room_in memory) wanted) as (λ fu
   | false ↦ record { plain = p; follows = before; is = inl refl }
 ]
 
-pub record Follower (old : State) (p : Plain) (command : Command) (reply : Reply) (new : State) : Type 0 where
+pub record Follower (old : State) (p : Plain) (command : Command) (reply : LineReply) (new : State) : Type 0 where
   pub plain : Plain
   pub line : PlainLine p command reply plain
   pub follows : Follows new.memory plain
 
-pub plain_line : (old : State) (p : Plain) (command : Command) (reply : Reply) (new : State) → Follows old.memory p → Line old command reply new → Follower old p command reply new
+pub plain_line : (old : State) (p : Plain) (command : Command) (reply : LineReply) (new : State) → Follows old.memory p → Line old command reply new → Follower old p command reply new
 plain_line old p (file_call call) reply new before line =
     let first = settles call_room old.memory p before in
     let step = plain_step (current_words old.memory) (tree_now p) call line.answer (current_words new.memory) before.now (line.does.step (tree_now p) before.now) in
@@ -185,12 +185,12 @@ plain_line old p too_long reply new before line = record { plain = p; line = rec
 
 -- ---- sessions
 
-pub record PlainRun (p : Plain) (commands : List Command) (replies : List Reply) (new : State) : Type 0 where
+pub record PlainRun (p : Plain) (commands : List Command) (replies : List LineReply) (new : State) : Type 0 where
   pub plain : Plain
   pub session : PlainSession p commands replies plain
   pub follows : Follows new.memory plain
 
-pub plain_session : (old : State) (p : Plain) (commands : List Command) (replies : List Reply) (new : State) → Follows old.memory p → Session old commands replies new → PlainRun p commands replies new
+pub plain_session : (old : State) (p : Plain) (commands : List Command) (replies : List LineReply) (new : State) → Follows old.memory p → Session old commands replies new → PlainRun p commands replies new
 plain_session old p [] [] new before same = record { plain = p; session = refl; follows = rw same before }
 plain_session old p [] (reply ∷ replies) new before never = absurd never
 plain_session old p (command ∷ commands) [] new before never = absurd never
@@ -200,12 +200,12 @@ plain_session old p (command ∷ commands) (reply ∷ replies) new before (middl
     record { plain = later.plain; session = (first.plain, first.line, later.session); follows = later.follows }
 
 -- a session is the plain tree's, at its end and behind each of its lines
-pub is_plainly : (old : State) (tree : FileTree) (commands : List Command) (replies : List Reply) (new : State) → old.memory.events ≡ [] → Stands old.memory.base tree → Session old commands replies new → IsPlainly tree commands replies new.memory
+pub is_plainly : (old : State) (tree : FileTree) (commands : List Command) (replies : List LineReply) (new : State) → old.memory.events ≡ [] → Stands old.memory.base tree → Session old commands replies new → IsPlainly tree commands replies new.memory
 is_plainly old tree commands replies new empty stands session =
     let run = plain_session old (fresh tree) commands replies new (follows_fresh old.memory tree empty stands) session in
     record { plain = run.plain; session = run.session; follows = run.follows }
 
-pub follows_tree : (old : State) (tree : FileTree) (commands : List Command) (replies : List Reply) (new : State) → old.memory.events ≡ [] → Stands old.memory.base tree → Session old commands replies new → FollowsTree tree old commands replies new
+pub follows_tree : (old : State) (tree : FileTree) (commands : List Command) (replies : List LineReply) (new : State) → old.memory.events ≡ [] → Stands old.memory.base tree → Session old commands replies new → FollowsTree tree old commands replies new
 follows_tree old tree commands replies new empty stands session = record {
   whole = is_plainly old tree commands replies new empty stands session;
   fronts = λ first rest are.

@@ -13,7 +13,7 @@ use Rattle.bp_script.specs.declared.notices.Notice.TheVariants.{NoFile}
 use Rattle.bp_shell.specs.Checking.{CheckOutcome, Checks}
 use Rattle.bp_shell.specs.Files.{HasBlocksOf, HasBytes, Holds, HoldsPartly, IsAbsent}
 use Rattle.bp_shell.specs.Formatting.{HasPartly, new_image}
-use Rattle.bp_shell.specs.Opening.{IsFound, IsRefused, start}
+use Rattle.bp_shell.specs.Opening.{HoldsFileSystem, RefusesFile, start}
 use Rattle.bp_shell.specs.Outside.{Faults, IsFirstFault, IsIdle, IsQuiet, IsUntouched, Outside, Prints, TellsLine, counts, outside}
 use Rattle.bp_shell.specs.Running.{FormatOutcome, RunOutcome, Runs, RunsCut, RunsLong, RunsPart, RunsStopped, RunsUnsaved, format_text}
 use Rattle.bp_shell.specs.Serving.{Input, Moment, ServeOutcome}
@@ -48,7 +48,7 @@ told_fault status a b (inr is) source files =
 module _ (status : ℕ) (before after : Outside) where
   run_outcome : (status ≡ 0 → Runs before after) → (status ≡ 1 → IsAbsent before.file × IsUntouched before after × TellsLine NoFile before after) → (status ≡ 3 → RunsPart before after) → (status ≡ 4 → RunsCut before after)
       → (status ≡ 5 → IsIdle before after ⊎ RunsStopped before after ⊎ RunsUnsaved before after) → (status ≡ 6 → RunsLong before after)
-      → (status ≡ 7 → (notice : Notice) × IsRefused before.file notice × IsUntouched before after × TellsLine notice before after) → (status ≡ 8 → IsIdle before after)
+      → (status ≡ 7 → (notice : Notice) × RefusesFile before.file notice × IsUntouched before after × TellsLine notice before after) → (status ≡ 8 → IsIdle before after)
       → (¬ (status ≡ 5) → before.is_flushed ≡ true → after.is_flushed ≡ true) → IsFirstFault status before.faults after.faults
       → (status ≡ 0) ⊎ (status ≡ 1) ⊎ (status ≡ 3) ⊎ (status ≡ 4) ⊎ (status ≡ 5) ⊎ (status ≡ 6) ⊎ (status ≡ 7) ⊎ (status ≡ 8) → RunOutcome status before after
   run_outcome whole missing source sink files long refused memory flushed first one_of = record {
@@ -73,7 +73,7 @@ module _ (before after : Outside) (untouched : IsUntouched before after) (flushe
       (λ e. absurd (omega (arith, e))) (λ e. absurd (omega (arith, e))) (λ e. absurd (omega (arith, e))) (λ _ e. flushed ∙ e)
       (told_fault 1 before.faults after.faults (inl refl) source files) (inr (inl refl))
 
-  pub run_refused : (notice : Notice) → IsRefused before.file notice → TellsLine notice before after → after.faults.files ≡ before.faults.files → RunOutcome 7 before after
+  pub run_refused : (notice : Notice) → RefusesFile before.file notice → TellsLine notice before after → after.faults.files ≡ before.faults.files → RunOutcome 7 before after
   run_refused notice why line files = run_outcome 7 before after (λ e. absurd (omega (arith, e))) (λ e. absurd (omega (arith, e))) (λ e. absurd (omega (arith, e))) (λ e. absurd (omega (arith, e))) (λ e. absurd (omega (arith, e)))
       (λ e. absurd (omega (arith, e))) (λ _. (notice, why, untouched, line)) (λ e. absurd (omega (arith, e))) (λ _ e. flushed ∙ e)
       (told_fault 7 before.faults after.faults (inr refl) source files) (inr (inr (inr (inr (inr (inr (inl refl)))))))
@@ -88,7 +88,7 @@ module _ (before after : Outside) (untouched : IsUntouched before after) (flushe
       (no_fault 8 _ _ (λ e. omega (arith, e)) (λ e. omega (arith, e)) (λ e. omega (arith, e)) source sink files) (inr (inr (inr (inr (inr (inr (inr refl)))))))
 
 -- from the moment at which FILE is mounted
-module _ (i j : Input) (files : View) (a b : Moment) (name : List ℕ) (image : Image) (found : IsFound (files.contents name) image) (same : a.memory ≡ (start image).memory) (holds : Holds a.files name image)
+module _ (i j : Input) (files : View) (a b : Moment) (name : List ℕ) (image : Image) (found : HoldsFileSystem (files.contents name) image) (same : a.memory ≡ (start image).memory) (holds : Holds a.files name image)
     (flushed : a.files.is_flushed ≡ files.is_flushed) (calm : a.files.faults ≡ files.faults) where
   pub run_served : (status : ℕ) → ¬ (status ≡ 0) → ServeOutcome status i j a b → RunOutcome status (outside i.left i.faults a.taken a.faults files name) (outside j.left j.faults b.taken b.faults b.files name)
   run_served status other served =
@@ -206,7 +206,7 @@ module _ (blocks : ℕ) (before after : Outside) (left : after.left ≡ before.l
 module _ (status : ℕ) (before after : Outside) (untouched : IsUntouched before after) (flushed : after.is_flushed ≡ before.is_flushed) where
   pub check_outcome : (status ≡ 0 → (notice : Notice) × Checks before.file notice × Appends before.taken after.taken (notice_text notice)) → (status ≡ 1 → IsAbsent before.file × TellsLine NoFile before after)
       → (status ≡ 4 → (notice : Notice) × Checks before.file notice × ((count : ℕ) × (count < length (notice_text notice)) × Appends before.taken after.taken (take count (notice_text notice))))
-      → (status ≡ 5 → after.taken ≡ before.taken) → (status ≡ 7 → (notice : Notice) × IsRefused before.file notice × TellsLine notice before after) → (status ≡ 8 → after.taken ≡ before.taken)
+      → (status ≡ 5 → after.taken ≡ before.taken) → (status ≡ 7 → (notice : Notice) × RefusesFile before.file notice × TellsLine notice before after) → (status ≡ 8 → after.taken ≡ before.taken)
       → IsFirstFault status before.faults after.faults → (status ≡ 0) ⊎ (status ≡ 1) ⊎ (status ≡ 4) ⊎ (status ≡ 5) ⊎ (status ≡ 7) ⊎ (status ≡ 8) → CheckOutcome status before after
   check_outcome whole missing sink files refused memory first one_of = record {
     whole = whole;

@@ -10,21 +10,21 @@ use Rattle.bp_layout.specs.Bytes.{image_bytes}
 use Rattle.bp_plain.proofs.Existence.{stands_for, tree_of}
 use Rattle.bp_script.specs.Commands.{Command}
 use Rattle.bp_script.specs.Commands.Command.{sync}
-use Rattle.bp_script.specs.Texts.{Reply}
+use Rattle.bp_script.specs.Texts.{LineReply}
 use Rattle.bp_script.specs.declared.notices.Notice.{Notice}
 use Rattle.bp_layout.specs.WellFormed.{IsWellFormed}
 use Rattle.bp_layout.proofs.ChecksLaws.{none_fails}
 use Rattle.bp_scan.specs.Length.{wanted_length}
 use Rattle.bp_shell.specs.Acting.{state}
-use Rattle.bp_shell.specs.Files.{AreWords, IsAbsent}
+use Rattle.bp_shell.specs.Files.{AreWordsOf64Bits, IsAbsent}
 use Rattle.bp_shell.specs.Lines.{commands_from}
-use Rattle.bp_shell.specs.Opening.{IsFound, IsRefused, start}
-use Rattle.bp_shell.specs.Opening.IsRefused.{by_length, not_formatted, by_count, damaged}
+use Rattle.bp_shell.specs.Opening.{HoldsFileSystem, RefusesFile, start}
+use Rattle.bp_shell.specs.Opening.RefusesFile.{by_length, not_formatted, by_count, damaged}
 use Rattle.bp_shell.specs.PlainSession.{FollowsTree}
 use Rattle.bp_shell.specs.Running.{Begins, CutsPlainly, IsComplete, Runs, RunsCut, RunsLong, RunsPart, RunsStopped, RunsUnsaved, Saves, SavesPartly, StopsPlainly}
 use Rattle.bp_shell.specs.Outside.{Outside, SourceFailed, SinkFailed, FilesFailed}
 use Rattle.bp_shell.specs.Checking.{IsCheckComplete}
-use Rattle.bp_shell.specs.Serving.{Cuts, Fails, OfLines, Serves, ServesAll, Stops, Told}
+use Rattle.bp_shell.specs.Serving.{Cuts, SyncFails, OfLines, Serves, ServesAll, Stops, Told}
 use Rattle.bp_shell.specs.Session.{Session, State}
 use Rattle.bp_shell.proofs.BlockLaws.{length-image_bytes}
 use Rattle.bp_shell.proofs.PlainLaws.{follows_tree}
@@ -69,11 +69,11 @@ stops_told old memory holds saves commands t u f s = record {
 
 -- ---- the end of a run, by its status
 
-module _ (before after : Outside) (image : Image) (memory new : Memory) (found : IsFound before.file image) (same : memory ≡ (start image).memory) where
+module _ (before after : Outside) (image : Image) (memory new : Memory) (found : HoldsFileSystem before.file image) (same : memory ≡ (start image).memory) where
   abbrev begins : (input : List ℕ) → Consumes before.left after.left input → Begins before after
   begins input read = record { image = image; found = found; tree = tree_of image found.well_formed; stands = stands_for image found.well_formed; input = input; read = read }
 
-  plainly : (commands : List Command) (replies : List Reply) (end : State) → Session (start image) commands replies end → FollowsTree (tree_of image found.well_formed) (start image) commands replies end
+  plainly : (commands : List Command) (replies : List LineReply) (end : State) → Session (start image) commands replies end → FollowsTree (tree_of image found.well_formed) (start image) commands replies end
   plainly commands replies end session = follows_tree (start image) (tree_of image found.well_formed) commands replies end refl (stands_for image found.well_formed) session
 
   pub runs_whole : (input : List ℕ) (holds : Image → Type 0) → Consumes before.left after.left input → IsAtEnd after.left → length input ≤ 1073741824
@@ -170,7 +170,7 @@ module _ (before after : Outside) (image : Image) (memory new : Memory) (found :
 
 -- ---- an image and its bytes
 
-pub image_once : (first second : Image) → AreWords first → AreWords second → image_bytes first ≡ image_bytes second → first ≡ second
+pub image_once : (first second : Image) → AreWordsOf64Bits first → AreWordsOf64Bits second → image_bytes first ≡ image_bytes second → first ≡ second
 unfolding image_bytes
 image_once [] [] low high same = refl
 image_once [] (w ∷ second) low high same = absurd (cc)
@@ -187,7 +187,7 @@ wanted_whole n least most = omega arith
 
 -- ---- completeness
 
-not_refused : (image : Image) (notice : Notice) → AreWords image → IsWellFormed image → IsRefused (Some (Some (image_bytes image))) notice → ⊥
+not_refused : (image : Image) (notice : Notice) → AreWordsOf64Bits image → IsWellFormed image → RefusesFile (Some (Some (image_bytes image))) notice → ⊥
 not_refused image line words well (by_length {len = len} has wrong) =
     let size : len ≡ 4096 * (length image / 512) = omega (arith, has, length-image_bytes image, well.whole) in
     wrong (size ∙ sym (wanted_whole (length image / 512) well.at_least well.at_most) ∙ ap wanted_length (sym size))
@@ -198,7 +198,7 @@ not_refused image line words well (damaged {image = other} {check = check} {plac
     none_fails image well check place (rw same wrong)
 
 pub complete : (status : ℕ) (before after : Outside) → (status ≡ 1 → IsAbsent before.file) → (status ≡ 3 → SourceFailed before after) → (status ≡ 4 → SinkFailed before after) → (status ≡ 5 → FilesFailed before after)
-    → (status ≡ 6 → RunsLong before after) → (status ≡ 7 → (notice : Notice) × IsRefused before.file notice)
+    → (status ≡ 6 → RunsLong before after) → (status ≡ 7 → (notice : Notice) × RefusesFile before.file notice)
     → (status ≡ 0) ⊎ (status ≡ 1) ⊎ (status ≡ 3) ⊎ (status ≡ 4) ⊎ (status ≡ 5) ⊎ (status ≡ 6) ⊎ (status ≡ 7) ⊎ (status ≡ 8) → IsComplete status before after
 complete status before after one three four five six seven among image input held words well told few source sink files = elim among [
   | inl e ↦ inl e
@@ -212,7 +212,7 @@ complete status before after one three four five six seven among image input hel
 ]
 
 pub check_complete : (status : ℕ) (before after : Outside) → (status ≡ 1 → IsAbsent before.file) → (status ≡ 4 → SinkFailed before after) → (status ≡ 5 → FilesFailed before after)
-    → (status ≡ 7 → (notice : Notice) × IsRefused before.file notice) → (status ≡ 0) ⊎ (status ≡ 1) ⊎ (status ≡ 4) ⊎ (status ≡ 5) ⊎ (status ≡ 7) ⊎ (status ≡ 8) → IsCheckComplete status before after
+    → (status ≡ 7 → (notice : Notice) × RefusesFile before.file notice) → (status ≡ 0) ⊎ (status ≡ 1) ⊎ (status ≡ 4) ⊎ (status ≡ 5) ⊎ (status ≡ 7) ⊎ (status ≡ 8) → IsCheckComplete status before after
 check_complete status before after one four five seven among image held words well sink files = elim among [
   | inl e ↦ inl e
   | inr (inl e) ↦ absurd (rw held at (one e))

@@ -10,26 +10,26 @@ use Rattle.pm_region.specs.Memory.{Memory}
 use Rattle.bp_layout.specs.Words.{Image}
 use Rattle.bp_script.specs.Commands.{Command, command_of}
 use Rattle.bp_shell.specs.Lines.{commands_from, lines_from}
-use Rattle.bp_script.specs.Texts.{Reply, reply_text}
+use Rattle.bp_script.specs.Texts.{LineReply, reply_text}
 use Rattle.bp_shell.specs.Lines.{text_of}
 use Rattle.bp_shell.specs.Session.{State, Line, Session}
 use Rattle.bp_shell.specs.Acting.{state}
-use Rattle.bp_shell.specs.Serving.{Acts, Fails, Told, Serves, ServesAll, Cuts, Stops}
+use Rattle.bp_shell.specs.Serving.{Acts, SyncFails, Told, Serves, ServesAll, Cuts, Stops}
 
 -- ---- sessions
 
-pub session_append : (old middle new : State) (xs ys : List Command) (ps qs : List Reply) → Session old xs ps middle → Session middle ys qs new → Session old (xs ++ ys) (ps ++ qs) new
+pub session_append : (old middle new : State) (xs ys : List Command) (ps qs : List LineReply) → Session old xs ps middle → Session middle ys qs new → Session old (xs ++ ys) (ps ++ qs) new
 session_append old middle new [] ys [] qs first rest = rw (← first) rest
 session_append old middle new [] ys (p ∷ ps) qs first rest = absurd first
 session_append old middle new (x ∷ xs) ys [] qs first rest = absurd first
 session_append old middle new (x ∷ xs) ys (p ∷ ps) qs (next, line, later) rest = (next, line, session_append next middle new xs ys ps qs later rest)
 
-pub text_append : (ps qs : List Reply) → text_of (ps ++ qs) ≡ text_of ps ++ text_of qs
+pub text_append : (ps qs : List LineReply) → text_of (ps ++ qs) ≡ text_of ps ++ text_of qs
 unfolding text_of
 text_append [] qs = refl
 text_append (p ∷ ps) qs = ap (λ t. reply_text p ++ t) (text_append ps qs) ∙ sym (append_assoc (reply_text p) (text_of ps) (text_of qs))
 
-pub text_one : (p : Reply) → text_of (p ∷ []) ≡ reply_text p
+pub text_one : (p : LineReply) → text_of (p ∷ []) ≡ reply_text p
 unfolding text_of
 text_one p = append-nil (reply_text p)
 
@@ -51,7 +51,7 @@ told_then a b c xs ys t u v first rest = record {
   taken = rw (text_append first.replies rest.replies) (Appends-trans t u v _ _ first.taken rest.taken);
 }
 
-pub told_one : (a b : State) (x : Command) (p : Reply) (t u : Option (List ℕ)) → Line a x p b → Appends t u (reply_text p) → Told a b (x ∷ []) t u
+pub told_one : (a b : State) (x : Command) (p : LineReply) (t u : Option (List ℕ)) → Line a x p b → Appends t u (reply_text p) → Told a b (x ∷ []) t u
 told_one a b x p t u line taken = record { replies = p ∷ []; session = (b, line, refl); taken = rw (text_one p) taken }
 
 -- ---- lines
@@ -97,7 +97,7 @@ module _ (holds : Image → Type 0) where
   pub serves_quietly : (memory : Memory) (saved : Image) (held input keeps : List ℕ) (t : Option (List ℕ)) → holds saved → ((rest : List ℕ) → commands_from held (input ++ rest) ≡ commands_from keeps rest) → Serves (state memory saved) memory holds held input keeps t t
   serves_quietly memory saved held input keeps t file same = record { commands = []; lines = same; after = saved; file = file; told = told_none (state memory saved) t }
 
-  pub cuts_line : (old : State) (memory : Memory) (command : Command) (more : List Command) (reply : Reply) (count : ℕ) (t u : Option (List ℕ)) → Acts old memory holds command reply → count < length (reply_text reply) → Appends t u (take count (reply_text reply)) → Cuts old memory holds (command ∷ more) t u
+  pub cuts_line : (old : State) (memory : Memory) (command : Command) (more : List Command) (reply : LineReply) (count : ℕ) (t u : Option (List ℕ)) → Acts old memory holds command reply → count < length (reply_text reply) → Appends t u (take count (reply_text reply)) → Cuts old memory holds (command ∷ more) t u
   cuts_line old memory command more reply count t u acts low taken = record {
     front = [];
     last = command;
@@ -155,12 +155,12 @@ stops_then old middle new partly xs ys t u v first stop = record {
   fails = stop.fails;
 }
 
-pub stops_line : (old : State) (memory : Memory) (partly : Image → Image → Type 0) (command : Command) (more : List Command) (t : Option (List ℕ)) → Fails old memory partly command → Stops old memory partly (command ∷ more) t t
+pub stops_line : (old : State) (memory : Memory) (partly : Image → Image → Type 0) (command : Command) (more : List Command) (t : Option (List ℕ)) → SyncFails old memory partly command → Stops old memory partly (command ∷ more) t t
 stops_line old memory partly command more t fails = record { front = []; last = command; more = more; are = refl; middle = old; told = told_none old t; fails = fails }
 
 -- ---- what a line's end adds
 
-pub serves_one : (old : State) (memory : Memory) (holds : Image → Type 0) (command : Command) (reply : Reply) (t u : Option (List ℕ)) → Acts old memory holds command reply → Appends t u (reply_text reply) → ServesAll old memory holds (command ∷ []) t u
+pub serves_one : (old : State) (memory : Memory) (holds : Image → Type 0) (command : Command) (reply : LineReply) (t u : Option (List ℕ)) → Acts old memory holds command reply → Appends t u (reply_text reply) → ServesAll old memory holds (command ∷ []) t u
 serves_one old memory holds command reply t u acts taken = record {
   after = acts.after;
   file = acts.file;
@@ -257,8 +257,8 @@ length_taken [] (suc n) low = absurd (omega arith)
 length_taken (x ∷ xs) zero low = refl
 length_taken (x ∷ xs) (suc n) low = ap suc (length_taken xs n (omega arith))
 
-pub session_split : (old new : State) (first rest : List Command) (replies : List Reply) → Session old (first ++ rest) replies new →
-    (middle : State) × (front : List Reply) × (behind : List Reply) × (replies ≡ front ++ behind) × Session old first front middle × Session middle rest behind new
+pub session_split : (old new : State) (first rest : List Command) (replies : List LineReply) → Session old (first ++ rest) replies new →
+    (middle : State) × (front : List LineReply) × (behind : List LineReply) × (replies ≡ front ++ behind) × Session old first front middle × Session middle rest behind new
 session_split old new [] rest replies session = (old, [], replies, refl, refl, session)
 session_split old new (x ∷ first) rest [] session = absurd session
 session_split old new (x ∷ first) rest (p ∷ replies) (next, line, later) =

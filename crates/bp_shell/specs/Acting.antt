@@ -5,14 +5,14 @@ use Rattle.bp_layout.specs.Words.{Image}
 use Rattle.bp_plain.specs.Calls.{Answer}
 use Rattle.bp_script.specs.Commands.{Command}
 use Rattle.bp_script.specs.Commands.Command.{file_call, sync, space, bad_syntax, too_long}
-use Rattle.bp_script.specs.Texts.{Reply}
-use Rattle.bp_script.specs.Texts.Reply.{answered, synced, space_of, syntax, long}
+use Rattle.bp_script.specs.Texts.{LineReply}
+use Rattle.bp_script.specs.Texts.LineReply.{answered, synced, space_of, syntax, long}
 use Rattle.bp_shell.specs.Session.{Line, State}
 use Rattle.bp_shell.specs.declared.outcome.Outcome.{Outcome}
 use Rattle.bp_shell.specs.declared.outcome.Outcome.TheVariants.{Answered, Synced, Counted, BadSyntax, TooLong}
 
 -- as a reply
-abbrev pub reply_of : Outcome → Answer → Reply
+abbrev pub reply_of : Outcome → Answer → LineReply
 reply_of Answered answer = answered answer
 reply_of Synced answer = synced
 reply_of (Counted free live) answer = space_of free live

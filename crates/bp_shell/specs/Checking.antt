@@ -11,9 +11,9 @@ use Rattle.bp_scan.specs.declared.totals.Totals.{Totals}
 use Rattle.bp_script.specs.Sayings.{notice_text}
 use Rattle.bp_script.specs.declared.notices.Notice.{Notice}
 use Rattle.bp_script.specs.declared.notices.Notice.TheVariants.{Clean, NoFile}
-use Rattle.bp_shell.specs.Files.{AreWords, IsAbsent}
+use Rattle.bp_shell.specs.Files.{AreWordsOf64Bits, IsAbsent}
 use Rattle.bp_shell.specs.Taking.{TakesPart}
-use Rattle.bp_shell.specs.Opening.{IsFound, IsRefused}
+use Rattle.bp_shell.specs.Opening.{HoldsFileSystem, RefusesFile}
 use Rattle.bp_shell.specs.Outside.{Outside, SinkFailed, FilesFailed, IsFirstFault, IsUntouched, TellsLine}
 
 -- The line tells what this image holds in all, and how many of its blocks are free.
@@ -27,12 +27,12 @@ pub record IsClean (image : Image) (notice : Notice) : Type 0 where
 -- FILE holds a well-formed image, of which this line tells.
 pub record Checks (known : Known) (notice : Notice) : Type 0 where
   pub image : Image
-  pub found : IsFound known image
+  pub found : HoldsFileSystem known image
   pub clean : IsClean image notice
 
 -- Where FILE is told to have the bytes of a well-formed image, and nothing fails, the status is 0, or 8 for want of memory.
 abbrev pub IsCheckComplete : ℕ → Outside → Outside → Type 0
-IsCheckComplete status before after = (image : Image) → before.file ≡ Some (Some (image_bytes image)) → AreWords image
+IsCheckComplete status before after = (image : Image) → before.file ≡ Some (Some (image_bytes image)) → AreWordsOf64Bits image
     → IsWellFormed image → ¬ SinkFailed before after → ¬ FilesFailed before after → (status ≡ 0) ⊎ (status ≡ 8)
 
 -- What `check FILE` answers, and when. It reads no input, and FILE stays as it is.
@@ -41,7 +41,7 @@ pub record CheckOutcome (status : ℕ) (before after : Outside) : Type 0 where
   pub missing : status ≡ 1 → IsAbsent before.file × TellsLine NoFile before after
   pub sink : status ≡ 4 → (notice : Notice) × Checks before.file notice × TakesPart (notice_text notice) before.taken after.taken
   pub files : status ≡ 5 → after.taken ≡ before.taken
-  pub refused : status ≡ 7 → (notice : Notice) × IsRefused before.file notice × TellsLine notice before after
+  pub refused : status ≡ 7 → (notice : Notice) × RefusesFile before.file notice × TellsLine notice before after
   pub memory : status ≡ 8 → after.taken ≡ before.taken
   pub untouched : IsUntouched before after
   pub flushed : after.is_flushed ≡ before.is_flushed

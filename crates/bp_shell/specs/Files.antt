@@ -24,13 +24,13 @@ IsAbsent (Some None) = ⊤
 IsAbsent (Some (Some bytes)) = ⊥
 
 -- words of 64 bits
-abbrev pub AreWords : Image → Type 0
-AreWords image = (place : ℕ) → word image place < 2 ^ 64
+abbrev pub AreWordsOf64Bits : Image → Type 0
+AreWordsOf64Bits image = (place : ℕ) → word image place < 2 ^ 64
 
 -- The file has the bytes of an image, of which there is one.
 pub record HasImage (known : Known) (image : Image) : Type 0 where
   pub bytes : HasBytes known (image_bytes image)
-  pub words : AreWords image
+  pub words : AreWordsOf64Bits image
 
 -- where it is told, the file of a name is there and each of its blocks is that of one list of bytes or of the other
 pub record IsMixed (found first second : List ℕ) : Type 0 where

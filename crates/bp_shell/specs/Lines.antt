@@ -2,7 +2,7 @@
 use Rattle.std.specs.Prelude.{ℕ, List, [], ◌∷◌, ◌++◌, map, flat_map, if◌then◌else◌}
 use Rattle.std.proofs.Common.{nat_eq}
 use Rattle.bp_script.specs.Commands.{Command, command_of}
-use Rattle.bp_script.specs.Texts.{Reply, reply_text}
+use Rattle.bp_script.specs.Texts.{LineReply, reply_text}
 
 -- a line that ends the input, where it is not empty
 abbrev pub last_line : List ℕ → List (List ℕ)
@@ -19,5 +19,5 @@ unfoldable pub commands_from : List ℕ → List ℕ → List Command
 commands_from held input = map command_of (lines_from held input)
 
 -- the texts of replies, one after the other
-unfoldable pub text_of : List Reply → List ℕ
+unfoldable pub text_of : List LineReply → List ℕ
 text_of replies = flat_map reply_text replies

@@ -12,7 +12,7 @@ use Rattle.bp_shell.specs.Files.{HasLength, HasImage}
 use Rattle.bp_shell.specs.Session.{State}
 
 -- The file holds this image, which is a file system.
-pub record IsFound (known : Known) (image : Image) : Type 0 where
+pub record HoldsFileSystem (known : Known) (image : Image) : Type 0 where
   pub has : HasImage known image
   pub well_formed : IsWellFormed image
 
@@ -25,13 +25,13 @@ pub record HasSized (known : Known) (image : Image) : Type 0 where
 
 -- Why a file is refused, by the line that says so: it has no image's length; or it has one, and word 0 is not the mark of a file
 -- system, word 1 is not its number of blocks, or both are right and this check of the format fails at this word.
-pub data IsRefused (known : Known) : Notice → Type 0 where
-  by_length : {len : ℕ} → HasLength known len → len ≢ wanted_length len → IsRefused known (BadSize len (wanted_length len))
-  not_formatted : {image : Image} → HasSized known image → word image super_magic ≢ magic → IsRefused known NotFormatted
+pub data RefusesFile (known : Known) : Notice → Type 0 where
+  by_length : {len : ℕ} → HasLength known len → len ≢ wanted_length len → RefusesFile known (BadSize len (wanted_length len))
+  not_formatted : {image : Image} → HasSized known image → word image super_magic ≢ magic → RefusesFile known NotFormatted
   by_count : {image : Image} → HasSized known image → word image super_magic ≡ magic → word image super_blocks ≢ block_count image →
-      IsRefused known (BadSize (block_size * block_count image) (min (block_size * word image super_blocks) (2 ^ 64 - 1)))
+      RefusesFile known (BadSize (block_size * block_count image) (min (block_size * word image super_blocks) (2 ^ 64 - 1)))
   damaged : {image : Image} {check place : ℕ} → HasSized known image → word image super_magic ≡ magic → word image super_blocks ≡ block_count image →
-      Fails image check place → IsRefused known (Damaged check place)
+      Fails image check place → RefusesFile known (Damaged check place)
 
 -- the state with which a run begins
 abbrev pub start : Image → State

@@ -13,8 +13,8 @@ use Rattle.pm_region.specs.Memory.{Memory, current_words}
 use Rattle.bp_shell.specs.Session.{Session, State}
 use Rattle.bp_script.specs.Commands.{Command}
 use Rattle.bp_script.specs.Commands.Command.{file_call, sync, space, bad_syntax, too_long}
-use Rattle.bp_script.specs.Texts.{Reply}
-use Rattle.bp_script.specs.Texts.Reply.{answered, synced, space_of, syntax, long}
+use Rattle.bp_script.specs.Texts.{LineReply}
+use Rattle.bp_script.specs.Texts.LineReply.{answered, synced, space_of, syntax, long}
 
 -- A call on a plain tree. Besides the tree's own answer there are three: a call that changes the tree may find no room or may
 -- be one that this version can't do, and a listing may find no memory; none of them does anything.
@@ -54,32 +54,32 @@ with_call p tree = record { certain = p.certain; since = p.since ++ tree ∷ [] 
 -- ---- one line
 
 -- A call may first make all earlier calls certain.
-pub record PlainCalls (old : Plain) (call : Call) (reply : Reply) (new : Plain) : Type 0 where
+pub record PlainCalls (old : Plain) (call : Call) (reply : LineReply) (new : Plain) : Type 0 where
   pub answer : Answer
   pub tree : FileTree
   pub told : reply ≡ answered answer
   pub does : PlainCall (tree_now old) call answer tree
   pub goes_on : (new ≡ with_call old tree) ⊎ (new ≡ with_call (fresh (tree_now old)) tree)
 
-pub record PlainTells (old : Plain) (wanted reply : Reply) (new : Plain) : Type 0 where
+pub record PlainTells (old : Plain) (wanted reply : LineReply) (new : Plain) : Type 0 where
   pub told : reply ≡ wanted
   pub same : new ≡ old
 
 -- two numbers of blocks are told, of which a plain tree knows nothing
-pub record PlainSpace (old : Plain) (reply : Reply) (new : Plain) : Type 0 where
+pub record PlainSpace (old : Plain) (reply : LineReply) (new : Plain) : Type 0 where
   pub free : ℕ
   pub live : ℕ
   pub told : reply ≡ space_of free live
   pub same : new ≡ old
 
-abbrev pub PlainLine : Plain → Command → Reply → Plain → Type 0
+abbrev pub PlainLine : Plain → Command → LineReply → Plain → Type 0
 PlainLine old (file_call call) reply new = PlainCalls old call reply new
 PlainLine old sync reply new = (reply ≡ synced) × (new ≡ fresh (tree_now old))
 PlainLine old space reply new = PlainSpace old reply new
 PlainLine old bad_syntax reply new = PlainTells old syntax reply new
 PlainLine old too_long reply new = PlainTells old long reply new
 
-abbrev pub PlainSession : Plain → List Command → List Reply → Plain → Type 0
+abbrev pub PlainSession : Plain → List Command → List LineReply → Plain → Type 0
 PlainSession old [] [] new = new ≡ old
 PlainSession old [] (reply ∷ replies) new = ⊥
 PlainSession old (command ∷ commands) [] new = ⊥
@@ -95,22 +95,22 @@ pub record Follows (memory : Memory) (p : Plain) : Type 0 where
 -- ---- a session
 
 -- These are a plain tree's replies to these commands, and the words then follow it.
-pub record IsPlainly (tree : FileTree) (commands : List Command) (replies : List Reply) (memory : Memory) : Type 0 where
+pub record IsPlainly (tree : FileTree) (commands : List Command) (replies : List LineReply) (memory : Memory) : Type 0 where
   pub plain : Plain
   pub session : PlainSession (fresh tree) commands replies plain
   pub follows : Follows memory plain
 
 -- The first of a session's commands lead to a state of its own, which the rest goes on from, and are a plain tree's too.
-pub record IsFront (tree : FileTree) (old : State) (first rest : List Command) (replies : List Reply) (new : State) : Type 0 where
+pub record IsFront (tree : FileTree) (old : State) (first rest : List Command) (replies : List LineReply) (new : State) : Type 0 where
   pub middle : State
-  pub front : List Reply
-  pub behind : List Reply
+  pub front : List LineReply
+  pub behind : List LineReply
   pub are : replies ≡ front ++ behind
   pub session : Session old first front middle
   pub later : Session middle rest behind new
   pub plainly : IsPlainly tree first front middle.memory
 
 -- A session is a plain tree's, at its end and behind each of its lines.
-pub record FollowsTree (tree : FileTree) (old : State) (commands : List Command) (replies : List Reply) (new : State) : Type 0 where
+pub record FollowsTree (tree : FileTree) (old : State) (commands : List Command) (replies : List LineReply) (new : State) : Type 0 where
   pub whole : IsPlainly tree commands replies new.memory
   pub fronts : (first rest : List Command) → commands ≡ first ++ rest → IsFront tree old first rest replies new

@@ -17,11 +17,11 @@ use Rattle.bp_script.specs.declared.notices.Notice.TheVariants.{Formatted, NoFil
 use Rattle.bp_script.specs.Sayings.{notice_text}
 use Rattle.bp_shell.specs.Acting.{state}
 use Rattle.bp_shell.specs.Lines.{commands_from}
-use Rattle.bp_shell.specs.Files.{AreWords, HasBytes, HasBlocksOf, IsAbsent}
-use Rattle.bp_shell.specs.Serving.{Cuts, Fails, OfLines, Serves, Stops, Told}
+use Rattle.bp_shell.specs.Files.{AreWordsOf64Bits, HasBytes, HasBlocksOf, IsAbsent}
+use Rattle.bp_shell.specs.Serving.{Cuts, SyncFails, OfLines, Serves, Stops, Told}
 use Rattle.bp_shell.specs.PlainSession.{FollowsTree}
 use Rattle.bp_shell.specs.Session.{State}
-use Rattle.bp_shell.specs.Opening.{IsFound, IsRefused, start}
+use Rattle.bp_shell.specs.Opening.{HoldsFileSystem, RefusesFile, start}
 use Rattle.bp_shell.specs.Formatting.{new_image, HasPartly}
 use Rattle.bp_shell.specs.Outside.{Outside, SourceFailed, SinkFailed, FilesFailed, IsFirstFault, IsIdle, IsUntouched, TellsLine}
 use Rattle.bp_shell.specs.Checking.{CheckOutcome}
@@ -40,7 +40,7 @@ SavesPartly after first second = HasBlocksOf after.file (image_bytes first) (ima
 -- A run began: FILE holds a file system, which stands for a tree, and this input was read.
 pub record Begins (before after : Outside) : Type 0 where
   pub image : Image
-  pub found : IsFound before.file image
+  pub found : HoldsFileSystem before.file image
   pub tree : FileTree
   pub stands : Stands image tree
   pub input : List ℕ
@@ -109,13 +109,13 @@ pub record RunsUnsaved (before after : Outside) : Type 0 where
   pub memory : Memory
   pub middle : State
   pub told : Told (start begins.image) middle (commands_from [] begins.input) before.taken after.taken
-  pub fails : Fails middle memory (SavesPartly after) sync
+  pub fails : SyncFails middle memory (SavesPartly after) sync
   pub plainly : FollowsTree begins.tree (start begins.image) (commands_from [] begins.input) told.replies middle
 
 -- Where FILE is told to have the bytes of a well-formed image, the source has no more than the most bytes, and nothing fails, the
 -- status is 0, or 8 for want of memory.
 abbrev pub IsComplete : ℕ → Outside → Outside → Type 0
-IsComplete status before after = (image : Image) (input : List ℕ) → before.file ≡ Some (Some (image_bytes image)) → AreWords image
+IsComplete status before after = (image : Image) (input : List ℕ) → before.file ≡ Some (Some (image_bytes image)) → AreWordsOf64Bits image
     → IsWellFormed image → before.left ≡ Some input → length input ≤ max_input
     → ¬ SourceFailed before after → ¬ SinkFailed before after → ¬ FilesFailed before after → (status ≡ 0) ⊎ (status ≡ 8)
 
@@ -127,7 +127,7 @@ pub record RunOutcome (status : ℕ) (before after : Outside) : Type 0 where
   pub sink : status ≡ 4 → RunsCut before after
   pub files : status ≡ 5 → IsIdle before after ⊎ RunsStopped before after ⊎ RunsUnsaved before after
   pub long : status ≡ 6 → RunsLong before after
-  pub refused : status ≡ 7 → (notice : Notice) × IsRefused before.file notice × IsUntouched before after × TellsLine notice before after
+  pub refused : status ≡ 7 → (notice : Notice) × RefusesFile before.file notice × IsUntouched before after × TellsLine notice before after
   pub memory : status ≡ 8 → IsIdle before after
   pub flushed : ¬ (status ≡ 5) → before.is_flushed ≡ true → after.is_flushed ≡ true
   pub first : IsFirstFault status before.faults after.faults
@@ -160,13 +160,13 @@ file_name (runs name) = name
 file_name (checks name) = name
 
 -- What a program answers, and when.
-abbrev pub Outcome : Program → ℕ → Outside → Outside → Type 0
-Outcome (formats name blocks) status before after = FormatOutcome status blocks before after
-Outcome (runs name) status before after = RunOutcome status before after
-Outcome (checks name) status before after = CheckOutcome status before after
+abbrev pub ProgramOutcome : Program → ℕ → Outside → Outside → Type 0
+ProgramOutcome (formats name blocks) status before after = FormatOutcome status blocks before after
+ProgramOutcome (runs name) status before after = RunOutcome status before after
+ProgramOutcome (checks name) status before after = CheckOutcome status before after
 
 -- The words ask for a program, and this is its outcome. What is known of a file is told for each name.
 pub record Does (words : List (List ℕ)) (status : ℕ) (before after : List ℕ → Outside) : Type 0 where
   pub program : Program
   pub asked : Requests words program
-  pub outcome : Outcome program status (before (file_name program)) (after (file_name program))
+  pub outcome : ProgramOutcome program status (before (file_name program)) (after (file_name program))

@@ -8,7 +8,7 @@ use Rattle.pm_region.specs.Memory.{Memory, current_words, drained}
 use Rattle.bp_layout.specs.Words.{Image}
 use Rattle.bp_script.specs.Commands.{Command}
 use Rattle.bp_script.specs.Commands.Command.{sync}
-use Rattle.bp_script.specs.Texts.{Reply, reply_text}
+use Rattle.bp_script.specs.Texts.{LineReply, reply_text}
 use Rattle.bp_shell.specs.Lines.{commands_from, text_of}
 use Rattle.bp_shell.specs.Acting.{state}
 use Rattle.bp_shell.specs.Files.{Holds, HoldsPartly}
@@ -17,20 +17,20 @@ use Rattle.bp_shell.specs.Session.{State, Line, Session}
 use Rattle.bp_shell.specs.Pieces.{piece_size}
 
 -- A command was done, with this reply.
-pub record Acts (old : State) (memory : Memory) (holds : Image → Type 0) (command : Command) (reply : Reply) : Type 0 where
+pub record Acts (old : State) (memory : Memory) (holds : Image → Type 0) (command : Command) (reply : LineReply) : Type 0 where
   pub after : Image
   pub line : Line old command reply (state memory after)
   pub file : holds after
 
 -- A sync drained, and couldn't save.
-pub record Fails (old : State) (memory : Memory) (holds_partly : Image → Image → Type 0) (command : Command) : Type 0 where
+pub record SyncFails (old : State) (memory : Memory) (holds_partly : Image → Image → Type 0) (command : Command) : Type 0 where
   pub is : command ≡ sync
   pub drained : memory ≡ drained old.memory
   pub file : holds_partly old.saved (current_words old.memory)
 
 -- A session over these commands, whose replies a sink took.
 pub record Told (old new : State) (commands : List Command) (before now : Option (List ℕ)) : Type 0 where
-  pub replies : List Reply
+  pub replies : List LineReply
   pub session : Session old commands replies new
   pub taken : Appends before now (text_of replies)
 
@@ -55,9 +55,9 @@ pub record Cuts (old : State) (memory : Memory) (holds : Image → Type 0) (comm
   pub more : List Command
   pub are : commands ≡ front ++ last ∷ more
   pub middle : State
-  pub replies : List Reply
+  pub replies : List LineReply
   pub session : Session old front replies middle
-  pub reply : Reply
+  pub reply : LineReply
   pub after : Image
   pub line : Line middle last reply (state memory after)
   pub file : holds after
@@ -73,7 +73,7 @@ pub record Stops (old : State) (memory : Memory) (holds_partly : Image → Image
   pub are : commands ≡ front ++ last ∷ more
   pub middle : State
   pub told : Told old middle front before now
-  pub fails : Fails middle memory holds_partly last
+  pub fails : SyncFails middle memory holds_partly last
 
 -- ---- what is told from one moment to another
 
@@ -96,14 +96,14 @@ abbrev pub told : Option (List ℕ) → ℕ → Input
 told left faults = record { left = left; faults = faults }
 
 -- The attached file holds these words, and the command was done.
-abbrev pub DoesLine : Memory → View → Command → Reply → Memory → View → Type 0
+abbrev pub DoesLine : Memory → View → Command → LineReply → Memory → View → Type 0
 DoesLine old files command reply new now = (name : List ℕ) (saved : Image) → Holds files name saved →
     Acts (state old saved) new (Holds now name) command reply
 
 -- .. and a sync couldn't save.
 abbrev pub FailsLine : Memory → View → Command → Memory → View → Type 0
 FailsLine old files command new now = (name : List ℕ) (saved : Image) → Holds files name saved →
-    Fails (state old saved) new (HoldsPartly now name) command
+    SyncFails (state old saved) new (HoldsPartly now name) command
 
 -- .. and the lines that this input ends were answered.
 abbrev pub DoesPart : List ℕ → List ℕ → List ℕ → Moment → Moment → Type 0

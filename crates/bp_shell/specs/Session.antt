@@ -8,8 +8,8 @@ use Rattle.bp_plain.specs.Calls.{Call, Answer}
 use Rattle.bp_volume.specs.FileCall.{FileCall}
 use Rattle.bp_script.specs.Commands.{Command}
 use Rattle.bp_script.specs.Commands.Command.{file_call, sync, space, bad_syntax, too_long}
-use Rattle.bp_script.specs.Texts.{Reply}
-use Rattle.bp_script.specs.Texts.Reply.{answered, synced, space_of, syntax, long}
+use Rattle.bp_script.specs.Texts.{LineReply}
+use Rattle.bp_script.specs.Texts.LineReply.{answered, synced, space_of, syntax, long}
 
 -- the region, and the words that the file holds
 pub record State : Type 0 where
@@ -22,23 +22,23 @@ synced_state s = record { memory = drained s.memory; saved = current_words s.mem
 
 -- ---- one line
 
-pub record AnswersCall (old : State) (call : Call) (reply : Reply) (new : State) : Type 0 where
+pub record AnswersCall (old : State) (call : Call) (reply : LineReply) (new : State) : Type 0 where
   pub answer : Answer
   pub told : reply ≡ answered answer
   pub does : FileCall old.memory call answer new.memory
   pub saved : new.saved ≡ old.saved
 
 -- nothing is done
-pub record Tells (old : State) (wanted reply : Reply) (new : State) : Type 0 where
+pub record Tells (old : State) (wanted reply : LineReply) (new : State) : Type 0 where
   pub told : reply ≡ wanted
   pub same : new ≡ old
 
-pub record Syncs (old : State) (reply : Reply) (new : State) : Type 0 where
+pub record Syncs (old : State) (reply : LineReply) (new : State) : Type 0 where
   pub told : reply ≡ synced
   pub done : new ≡ synced_state old
 
 -- the blocks of the words now are told
-pub record TellsSpace (old : State) (reply : Reply) (new : State) : Type 0 where
+pub record TellsSpace (old : State) (reply : LineReply) (new : State) : Type 0 where
   pub free : ℕ
   pub live : ℕ
   pub told : reply ≡ space_of free live
@@ -46,7 +46,7 @@ pub record TellsSpace (old : State) (reply : Reply) (new : State) : Type 0 where
   pub has_live : HasLive (current_words old.memory) live
   pub same : new ≡ old
 
-abbrev pub Line : State → Command → Reply → State → Type 0
+abbrev pub Line : State → Command → LineReply → State → Type 0
 Line old (file_call call) reply new = AnswersCall old call reply new
 Line old sync reply new = Syncs old reply new
 Line old space reply new = TellsSpace old reply new
@@ -55,7 +55,7 @@ Line old too_long reply new = Tells old long reply new
 
 -- ---- a script
 
-abbrev pub Session : State → List Command → List Reply → State → Type 0
+abbrev pub Session : State → List Command → List LineReply → State → Type 0
 Session old [] [] new = new ≡ old
 Session old [] (reply ∷ replies) new = ⊥
 Session old (command ∷ commands) [] new = ⊥

@@ -7,7 +7,7 @@ use Rattle.bp_scan.specs.declared.fault.MountFault.TheVariants as fault
 use Rattle.bp_script.specs.declared.notices.Notice.{Notice}
 use Rattle.bp_script.specs.declared.notices.Notice.TheVariants.{NotFormatted, BadSize, Damaged}
 use Rattle.bp_shell.specs.Files.{IsAbsent}
-use Rattle.bp_shell.specs.Opening.{IsRefused}
+use Rattle.bp_shell.specs.Opening.{RefusesFile}
 use Rattle.bp_shell.specs.declared.stop.Stop.{Stop}
 use Rattle.bp_shell.specs.declared.stop.Stop.TheVariants.{Missing, Outside, Refused, Memory}
 
@@ -21,7 +21,7 @@ stop_by fault.Memory = Memory
 -- the file is missing, or is refused for this reason, only where that is so
 pub record IsReason (known : Known) (stop : Stop) : Type 0 where
   pub missing : stop ≡ Missing → IsAbsent known
-  pub refused : (notice : Notice) → stop ≡ Refused notice → IsRefused known notice
+  pub refused : (notice : Notice) → stop ≡ Refused notice → RefusesFile known notice
 
 -- the files failed where they are named as the reason, and there alone
 pub record HasStopCause {T : Type 0} (before now : ℕ) (result : Result T Stop) : Type 0 where

@@ -3,7 +3,7 @@
 ghost use Rattle.std.specs.Prelude.{◌≡◌, ◌≤◌, ◌<◌, ◌^◌, ◌+◌, ◌*◌, ◌++◌, length, vec_capacity, vec_len};
 ghost use Rattle.bp_io.specs.Files.{block_of};
 ghost use Rattle.bp_layout.specs.Bytes.{image_bytes};
-ghost use Rattle.bp_shell.specs.Files.{AreWords};
+ghost use Rattle.bp_shell.specs.Files.{AreWordsOf64Bits};
 ghost use Rattle.pm_region.specs.Memory.{current_words};
 
 use pm_region::Region;
@@ -26,7 +26,7 @@ pub fn read_block<R: Region>(region: &R, i: u32, into: &mut [u8; 4096])
 pub fn decode(block: &[u8; 4096], words: &mut Vec<u64>)
     requires { vec_len words.old + 512 ≤ vec_capacity words.old }
     ensures bytes { image_bytes words.new.items ≡ image_bytes words.old.items ++ block.now }
-    ensures words { AreWords words.old.items → AreWords words.new.items }
+    ensures words { AreWordsOf64Bits words.old.items → AreWordsOf64Bits words.new.items }
     ensures len { vec_len words.new ≡ vec_len words.old + 512 }
     ensures room { vec_capacity words.old ≤ vec_capacity words.new }
 {

@@ -8,7 +8,7 @@ ghost use Rattle.bp_limits.specs.Limits.{block_words};
 ghost use Rattle.bp_script.specs.declared.notices.Notice.{Notice};
 ghost use Rattle.bp_shell.specs.Checking.{CheckOutcome, Checks, IsClean};
 ghost use Rattle.bp_shell.specs.Files.{HasImage};
-ghost use Rattle.bp_shell.specs.Opening.{IsRefused};
+ghost use Rattle.bp_shell.specs.Opening.{RefusesFile};
 ghost use Rattle.bp_shell.specs.Outside.{outside};
 ghost use Rattle.bp_shell.specs.Stops.{HasStopCause, IsReason};
 ghost use Rattle.bp_shell.specs.declared.stop.Stop.TheVariants.{Memory, Refused};
@@ -48,7 +48,7 @@ fn survey(alloc: Global, words: Vec<u64>) -> Result<Notice, Stop>
     ensures well_formed { OnOk result (IsWellFormed words.items) }
     ensures clean { IfOk result (λ notice. IsClean words.items notice) }
     ensures refused { IfErr result (λ stop. (known : Known) (notice : Notice) → HasImage known words.items →
-        stop ≡ Refused notice → IsRefused known notice) }
+        stop ≡ Refused notice → RefusesFile known notice) }
     ensures kinds { IfErr result (λ stop. ((notice : Notice) × (stop ≡ Refused notice)) ⊎ (stop ≡ Memory)) }
 {
     let (mut blocks, mut inodes, mut pending) = match room(

@@ -6,8 +6,8 @@ ghost use Rattle.bp_layout.specs.WellFormed.{IsWellFormed};
 ghost use Rattle.bp_layout.specs.Words.{Image, block_count};
 ghost use Rattle.bp_limits.specs.Limits.{block_words};
 ghost use Rattle.bp_script.specs.declared.notices.Notice.{Notice};
-ghost use Rattle.bp_shell.specs.Files.{AreWords, HasImage, Holds, HoldsFront};
-ghost use Rattle.bp_shell.specs.Opening.{HasSized, IsFound, IsRefused, start};
+ghost use Rattle.bp_shell.specs.Files.{AreWordsOf64Bits, HasImage, Holds, HoldsFront};
+ghost use Rattle.bp_shell.specs.Opening.{HasSized, HoldsFileSystem, RefusesFile, start};
 ghost use Rattle.bp_shell.specs.Stops.{HasStopCause, IsReason, stop_by};
 ghost use Rattle.bp_shell.specs.declared.stop.Stop.TheVariants.{Memory, Outside, Refused};
 
@@ -29,7 +29,7 @@ fn load<F: Files>(alloc: Global, count: u32, files: &mut F) -> Result<Vec<u64>, 
     ensures cause { HasStopCause (F.view files.old).faults (F.view files.new).faults result }
     ensures image { IfOk result (λ words. HoldsFront (F.view files.old) count words.items) }
     ensures size { IfOk result (λ words. vec_len words ≡ block_words * count) }
-    ensures words { IfOk result (λ words. AreWords words.items) }
+    ensures words { IfOk result (λ words. AreWordsOf64Bits words.items) }
     ensures reads { Reads (F.view files.old) (F.view files.new) }
 {
     let mut words = match Vec::with_capacity(alloc, (BLOCK_WORDS * count) as usize) {
@@ -93,7 +93,7 @@ fn mount(alloc: Global, words: Vec<u64>) -> Result<Volume<ListRegion>, Stop>
     ensures same { IfOk result (λ volume. volume ≡ (start words.items).memory) }
     ensures well_formed { OnOk result (IsWellFormed words.items) }
     ensures refused { IfErr result (λ stop. (known : Known) (notice : Notice) → HasImage known words.items →
-        stop ≡ Refused notice → IsRefused known notice) }
+        stop ≡ Refused notice → RefusesFile known notice) }
     ensures kinds { IfErr result (λ stop. ((notice : Notice) × (stop ≡ Refused notice)) ⊎ (stop ≡ Memory)) }
 {
     let region = match ListRegion::new(alloc, words, LOG_EVENTS) {
@@ -112,7 +112,7 @@ pub(crate) fn open<F: Files>(
     name: &str,
     files: &mut F,
 ) -> Result<Volume<ListRegion>, Stop>
-    ensures opened { IfOk result (λ volume. (image : Image) × IsFound ((F.view files.old).contents name.now) image
+    ensures opened { IfOk result (λ volume. (image : Image) × HoldsFileSystem ((F.view files.old).contents name.now) image
         × (volume ≡ (start image).memory) × Holds (F.view files.new) name.now image) }
     ensures may_write { OnOk result ((F.view files.new).may_write ≡ true) }
     ensures reason { IfErr result (IsReason ((F.view files.old).contents name.now)) }

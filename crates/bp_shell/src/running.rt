@@ -5,7 +5,7 @@ ghost use Rattle.bp_command.specs.Programs.{Asks, IsInRange, Program as Asked, p
 ghost use Rattle.bp_script.specs.Sayings.{notice_text};
 ghost use Rattle.bp_script.specs.declared.notices.Notice.TheVariants.{Usage};
 ghost use Rattle.bp_shell.specs.Outside.{Prints, outside};
-ghost use Rattle.bp_shell.specs.Running.{Does, Outcome, RunOutcome, file_name};
+ghost use Rattle.bp_shell.specs.Running.{Does, ProgramOutcome, RunOutcome, file_name};
 ghost use Rattle.std.specs.Prelude.{◌≡◌, ◌⊎◌, map};
 
 use crate::checking::check_file;
@@ -72,7 +72,7 @@ fn run_program<S: Source, K: Sink, F: Files>(
     files: &mut F,
 ) -> u8
     requires { IsInRange (program_of program.now) }
-    ensures outcome { let name = file_name (program_of program.now) in Outcome (program_of program.now) result
+    ensures outcome { let name = file_name (program_of program.now) in ProgramOutcome (program_of program.now) result
         (outside (S.left src.old) (S.faults src.old) (K.taken out.old) (K.faults out.old) (F.view files.old) name)
         (outside (S.left src.new) (S.faults src.new) (K.taken out.new) (K.faults out.new) (F.view files.new) name) }
     ensures unread { (result ≡ 1) ⊎ (result ≡ 7) ⊎ (result ≡ 8) → src.new ≡ src.old }
@@ -110,7 +110,7 @@ pub fn run<S: Source, K: Sink, F: Files>(
 
     // Words that ask for a program in the plain way.
     ensures plain { (program : Asked) → Asks (map (λ word. word.now) words.now) program →
-        let name = file_name program in Outcome program result
+        let name = file_name program in ProgramOutcome program result
         (outside (S.left src.old) (S.faults src.old) (K.taken out.old) (K.faults out.old) (F.view files.old) name)
         (outside (S.left src.new) (S.faults src.new) (K.taken out.new) (K.faults out.new) (F.view files.new) name) }
 

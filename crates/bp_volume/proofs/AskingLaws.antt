@@ -21,7 +21,7 @@ use Rattle.bp_plain.specs.Calls.Answer.{refused, bytes, names, file_of, dir_of}
 use Rattle.bp_plain.specs.Plain.{walk, refusal, on_parsed, first, when, listing, stat_answer, path_of, bytes_in, bytes_at}
 use Rattle.bp_layout.specs.WellFormed.{IsWellFormed}
 use Rattle.bp_dirs.specs.Names.{name_count}
-use Rattle.bp_volume.specs.Step.{IsAt}
+use Rattle.bp_volume.specs.Step.{PathFinds}
 use Rattle.bp_volume.specs.Told.{Tells, StopsWalk}
 use Rattle.bp_volume.proofs.WalkLaws.{some_inode, reached_at, node_at, dir_at, walk-found}
 use Rattle.bp_volume.proofs.EntryLaws.{length-entries}
@@ -31,10 +31,10 @@ use Rattle.bp_volume.specs.Seen.{stat_seen}
 use Rattle.bp_volume.proofs.StepLaws.{refused_steps, answer_steps, memory_steps, refusal-list_stopped, refusal-list_walked, refusal-read_stopped, refusal-read_walked}
 
 module _ (image : Image) (wf : IsWellFormed image) where
-  pub at_reached : (text : List ℕ) (i : ℕ) → IsAt image text i → IsReached image i
+  pub at_reached : (text : List ℕ) (i : ℕ) → PathFinds image text i → IsReached image i
   at_reached text i at = reached_at image wf at.path i at.inode
 
-  pub at_low : (text : List ℕ) (i : ℕ) → IsAt image text i → 1 ≤ i
+  pub at_low : (text : List ℕ) (i : ℕ) → PathFinds image text i → 1 ≤ i
   at_low text i at = let some : i ≢ 0 = some_inode image wf at.path i at.inode in omega arith
 
 -- ---- what there is to tell of an inode
@@ -74,7 +74,7 @@ module _ (image : Image) (text : List ℕ) where
   pub read_stops : (off len : ℕ) (why : Refusal) → StopsWalk image text why → Tells image (read text off len) (refused why)
   read_stops off len why stops tree stands = refused_steps image tree (read text off len) why (refusal-read_stopped tree text off len why (stops tree stands))
 
-  module _ (i : ℕ) (at : IsAt image text i) where
+  module _ (i : ℕ) (at : PathFinds image text i) where
     path_is : path_of text ≡ at.path
     path_is = ap (λ (o : Option Path). unwrap_or o []) at.parsed
 

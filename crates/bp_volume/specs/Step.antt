@@ -45,7 +45,7 @@ pub record NamesNew (image : Image) (text : List ℕ) (i : ℕ) (name : Name) : 
   pub new : IsNewIn image path i name
 
 -- the text spells a path to this inode
-pub record IsAt (image : Image) (text : List ℕ) (i : ℕ) : Type 0 where
+pub record PathFinds (image : Image) (text : List ℕ) (i : ℕ) : Type 0 where
   pub path : Path
   pub parsed : parse text ≡ Some path
   pub inode : lookup image path ≡ Some i
@@ -54,8 +54,8 @@ pub record IsAt (image : Image) (text : List ℕ) (i : ℕ) : Type 0 where
 pub data IsChange (image : Image) : Call → Change → Type 0 where
   by_create : {text : List ℕ} {name : Name} {i : ℕ} {free : Bool} → NamesNew image text i name → TellsFreeInode image free → IsChange image (create text) (enters i free)
   by_mkdir : {text : List ℕ} {name : Name} {i : ℕ} {free : Bool} → NamesNew image text i name → TellsFreeInode image free → IsChange image (mkdir text) (enters i free)
-  by_write : {text new : List ℕ} {i off : ℕ} → IsAt image text i → IsChange image (write text off new) (writes i off (length new))
-  by_truncate : {text : List ℕ} {i size : ℕ} → IsAt image text i → IsChange image (truncate text size) (resizes i size)
+  by_write : {text new : List ℕ} {i off : ℕ} → PathFinds image text i → IsChange image (write text off new) (writes i off (length new))
+  by_truncate : {text : List ℕ} {i size : ℕ} → PathFinds image text i → IsChange image (truncate text size) (resizes i size)
   by_unlink : {text : List ℕ} {i s : ℕ} → StandsIn image text i s → IsChange image (unlink text) (leaves i s)
   by_rmdir : {text : List ℕ} {i s : ℕ} → StandsIn image text i s → IsChange image (rmdir text) (leaves i s)
   onto : {from to : List ℕ} {i s j r : ℕ} → StandsIn image from i s → StandsIn image to j r → IsChange image (rename from to) (replaces i s j r)

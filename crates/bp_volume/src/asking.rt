@@ -4,7 +4,7 @@ ghost use Rattle.std.specs.Prelude.{◌≡◌, ◌≤◌, IfOk, OnErr, drop, len
 ghost use Rattle.bp_plain.specs.Calls.Call.{list, read, stat};
 ghost use Rattle.bp_layout.specs.WellFormed.{IsWellFormed};
 ghost use Rattle.bp_volume.specs.Seen.{list_answer_of, read_answer, stat_answer_of};
-ghost use Rattle.bp_volume.specs.Step.{IsAt};
+ghost use Rattle.bp_volume.specs.Step.{PathFinds};
 ghost use Rattle.bp_volume.specs.Told.{Tells};
 ghost use Rattle.pm_region.specs.Memory.{current_words};
 
@@ -30,7 +30,7 @@ pub(crate) fn stat_at<R: Region>(region: &R, text: &[u8]) -> Result<Stat, FsErro
 /// The names in the directory at a path text, which has inode `i`.
 fn list_inode<R: Region>(alloc: Global, region: &R, text: &[u8], i: u32) -> Result<Listing, FsError>
     requires well_formed { IsWellFormed (current_words (R.memory region.now)) }
-    requires at { IsAt (current_words (R.memory region.now)) text.now i }
+    requires at { PathFinds (current_words (R.memory region.now)) text.now i }
     ensures { Tells (current_words (R.memory region.now)) (list text.now) (list_answer_of result) }
 {
     match get(region, i).kind {
@@ -62,7 +62,7 @@ fn read_inode<R: Region>(
     into: &mut [u8],
 ) -> Result<usize, FsError>
     requires well_formed { IsWellFormed (current_words (R.memory region.now)) }
-    requires at { IsAt (current_words (R.memory region.now)) text.now i }
+    requires at { PathFinds (current_words (R.memory region.now)) text.now i }
     ensures told { Tells (current_words (R.memory region.now)) (read text.now off (length into.old)) (read_answer result into.new) }
     ensures fits { IfOk result (λ count. count ≤ length into.new) }
     ensures rest { IfOk result (λ count. drop count into.new ≡ drop count into.old) }

@@ -9,7 +9,7 @@ ghost use Rattle.bp_layout.specs.WellFormed.{IsWellFormed};
 ghost use Rattle.bp_path.specs.Places.{fault_of};
 ghost use Rattle.bp_plain.specs.Calls.Call.{create};
 ghost use Rattle.bp_plain.specs.Seen.{refusal_of};
-ghost use Rattle.bp_volume.specs.Step.{IsAt, IsNewIn, NamesNew};
+ghost use Rattle.bp_volume.specs.Step.{PathFinds, IsNewIn, NamesNew};
 ghost use Rattle.bp_volume.specs.Told.{Refuses, RefusesNew, StopsWalk, refusal_of_walk};
 ghost use Rattle.pm_region.specs.Memory.{current_words};
 
@@ -42,7 +42,7 @@ fn refused(fault: WalkFault) -> FsError
 /// The inode at a path text.
 pub(crate) fn inode_at<R: Region>(region: &R, text: &[u8]) -> Result<u32, FsError>
     requires { IsWellFormed (current_words (R.memory region.now)) }
-    ensures found { IfOk result (λ i. IsAt (current_words (R.memory region.now)) text.now i) }
+    ensures found { IfOk result (λ i. PathFinds (current_words (R.memory region.now)) text.now i) }
     ensures stopped { IfErr result (λ e. StopsWalk (current_words (R.memory region.now)) text.now (refusal_of e)) }
 {
     match parse(text) {

@@ -19,6 +19,7 @@ use crate::fault::CreateFault;
 use bp_dirs::free_slot;
 use bp_free::{Numbers, Parts};
 use bp_layout::Kind;
+use bp_limits::BLOCK_SIZE;
 use pm_region::Region;
 
 /// The least number of a set that is not empty.
@@ -67,7 +68,7 @@ fn check_room<R: Region>(
         }
         return Ok(());
     }
-    if size % 4096 == 0 {
+    if size % BLOCK_SIZE == 0 {
         return Err(CreateFault::Later);
     }
     Ok(())

@@ -18,6 +18,7 @@ use bp_dirs::{entry_place, put_entry, put_name};
 use bp_inodes::{fill, place};
 use bp_inplace::commit_word;
 use bp_layout::Kind;
+use bp_limits::BLOCK_SIZE;
 use bp_tree::{Tree, leaf_block};
 use pm_region::Region;
 
@@ -70,7 +71,7 @@ fn place_behind<R: Region>(region: &R, dir: u32) -> u32
 {
     let _words = region.words();
     let tree = tree_of(region, dir);
-    (512 * leaf_block(region, tree, tree.size / 4096) + tree.size / 8 % 512) as u32
+    (512 * leaf_block(region, tree, tree.size / BLOCK_SIZE) + tree.size / 8 % 512) as u32
 }
 
 /// Names a new inode in an entry behind the last one of a directory whose last leaf is not full.
@@ -112,7 +113,7 @@ pub(crate) fn enter_first<R: Region>(
     let root_place = place(region, dir, 1);
     let size_place = place(region, dir, 2);
     fill(region, inode, kind);
-    region.store(root_place, 4096 * u64::from(block));
+    region.store(root_place, BLOCK_SIZE * u64::from(block));
     put_entry(region, 512 * block, inode, name);
     commit_word(region, size_place, 256);
 }

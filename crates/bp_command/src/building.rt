@@ -3,6 +3,7 @@
 ghost use Rattle.std.specs.Prelude.{IfOk};
 ghost use Rattle.bp_command.specs.Commands.{IsArgument, IsCommand, bare_app, blocks_rule, bpfs_app, check_app, file_rule, format_app, run_app};
 
+use bp_limits::{MAX_BLOCKS, MIN_BLOCKS};
 use clap::{Arg, Command, value_parser};
 use std::alloc::{AllocError, Global};
 
@@ -20,7 +21,7 @@ fn blocks<'a>(alloc: Global) -> Arg<'a>
     Arg::new(alloc, "blocks")
         .long("blocks")
         .required(true)
-        .value_parser(value_parser!(u64).range(8..=16_384))
+        .value_parser(value_parser!(u64).range(i64::from(MIN_BLOCKS)..=i64::from(MAX_BLOCKS)))
 }
 
 fn format_command<'a>(alloc: Global) -> Result<Command<'a>, AllocError>

@@ -1,11 +1,13 @@
 //! What the words ask for.
 
 ghost use Rattle.std.specs.Prelude.{◌≡◌, ◌≤◌, IfOk, IfSome, IsErrOf, MatchOption, OnOk, codes, map};
+ghost use Rattle.bp_limits.specs.Limits.{max_blocks, min_blocks};
 ghost use Rattle.bp_command.specs.Commands.{HasMet, IsTaken};
 ghost use Rattle.bp_command.specs.Programs.{HasBlocks, IsInRange, Names, Requests, name_in, program_of};
 ghost use Rattle.clap.specs.Words.{found_of, rows_of};
 
 use crate::building::command;
+use bp_limits::{MAX_BLOCKS, MIN_BLOCKS};
 use clap::ArgMatches;
 use clap::error::ErrorKind;
 use std::alloc::Global;
@@ -72,12 +74,12 @@ fn name_of<'a>(values: &ArgMatches<'a>) -> &'a str
 
 /// The number in the range of blocks that is this one where it lies in it.
 fn in_range(blocks: u64) -> u32
-    ensures least { 8 ≤ result }
-    ensures most { result ≤ 16384 }
-    ensures same { 8 ≤ blocks → blocks ≤ 16384 → result ≡ blocks }
+    ensures least { min_blocks ≤ result }
+    ensures most { result ≤ max_blocks }
+    ensures same { min_blocks ≤ blocks → blocks ≤ max_blocks → result ≡ blocks }
 {
-    if blocks < 8 || 16_384 < blocks {
-        8
+    if blocks < u64::from(MIN_BLOCKS) || u64::from(MAX_BLOCKS) < blocks {
+        MIN_BLOCKS
     } else {
         blocks as u32
     }
@@ -89,7 +91,7 @@ fn blocks_of(values: &ArgMatches<'_>) -> u32
 {
     match values.get_one::<u64>("blocks") {
         Some(blocks) => in_range(blocks),
-        None => 8,
+        None => MIN_BLOCKS,
     }
 }
 

@@ -7,6 +7,7 @@ ghost use Rattle.bp_layout.specs.Tree.{node, byte, IsSound};
 ghost use Rattle.bp_layout.specs.Directory.{word_in, is_named_in};
 ghost use Rattle.pm_region.specs.Memory.{current_words};
 ghost use Rattle.bp_dirs.specs.EntryAt.{IsEntryAt, HoldsWords};
+ghost use Rattle.bp_limits.specs.Limits.{max_name};
 
 use bp_tree::{Tree, leaf_block, load_slot};
 use pm_region::Region;
@@ -59,7 +60,7 @@ impl EntryAt {
     /// Whether the bytes of the entry's name begin with these, which stand in `words` too.
     fn begins_with<R: Region>(&self, region: &R, name: &[u8], words: &[u64; 30]) -> bool
         requires at { IsEntryAt (current_words (R.memory region.now)) self.now }
-        requires short { length name.now ≤ 240 }
+        requires short { length name.now ≤ max_name }
         requires words { HoldsWords words.now name.now }
         ensures { IsTrue result ↔ (map (λ o. byte (current_words (R.memory region.now)) self.now.tree.root (256 * self.now.slot + 16 + o)) (range_with_len 0 (length name.now)) ≡ name.now) }
     {
@@ -75,7 +76,7 @@ impl EntryAt {
     /// Whether the entry names an inode by this name, which stands in `words` too.
     pub fn is_named<R: Region>(&self, region: &R, name: &[u8], words: &[u64; 30]) -> bool
         requires at { IsEntryAt (current_words (R.memory region.now)) self.now }
-        requires short { length name.now ≤ 240 }
+        requires short { length name.now ≤ max_name }
         requires words { HoldsWords words.now name.now }
         ensures { result ≡ is_named_in (current_words (R.memory region.now)) self.now.tree.root name.now self.now.slot }
     {

@@ -3,6 +3,7 @@
 ghost use Rattle.std.specs.Prelude.{◌≡◌, ◌≤◌, length};
 ghost use Rattle.pm_words.specs.Bytes.{word_of};
 ghost use Rattle.bp_dirs.specs.EntryAt.{HoldsWords};
+ghost use Rattle.bp_limits.specs.Limits.{max_name};
 
 use pm_words::read_word;
 
@@ -18,7 +19,7 @@ fn packed(bytes: &[u8]) -> u64
 
 /// The words of a name.
 pub(crate) fn name_words(name: &[u8]) -> [u64; 30]
-    requires { length name.now ≤ 240 }
+    requires { length name.now ≤ max_name }
     ensures { HoldsWords result name.now }
 {
     let mut words = [0; 30];

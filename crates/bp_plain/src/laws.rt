@@ -1,6 +1,7 @@
 //! Laws over what an image means.
 
 ghost use Rattle.bp_layout.specs.Format.{formatted};
+ghost use Rattle.bp_limits.specs.Limits.{max_blocks, min_blocks};
 ghost use Rattle.bp_layout.specs.WellFormed.{IsWellFormed};
 ghost use Rattle.bp_plain.specs.PlainTree.{FileTree, IsFileTree, empty_tree};
 ghost use Rattle.bp_plain.specs.Stands.{Stands, StandsForOne};
@@ -20,7 +21,7 @@ pub fn file_tree(_image: &[u64])
 /// After the stores of a format over any words, an image of so many blocks stands for the root directory alone.
 pub fn format_is_empty(_image: &[u64], _blocks: u64)
     requires whole { length _image.now ≡ 512 * _blocks }
-    requires least { 8 ≤ _blocks }
-    requires most { _blocks ≤ 16384 }
+    requires least { min_blocks ≤ _blocks }
+    requires most { _blocks ≤ max_blocks }
     ensures { Stands (formatted _image.now _blocks) empty_tree }
 {}

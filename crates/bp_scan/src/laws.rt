@@ -2,6 +2,7 @@
 
 ghost use Rattle.std.specs.Prelude.{◌≡◌, ℕ, ◌%◌, ◌<◌, ◌≤◌, false, true};
 ghost use Rattle.bp_free.specs.Set.{has};
+ghost use Rattle.bp_limits.specs.Limits.{block_size};
 ghost use Rattle.bp_layout.specs.Checks.{Fails, IsFormatted, IsFound, root_place};
 ghost use Rattle.bp_layout.specs.Free.{AreFreeBlocks, AreFreeInodes};
 ghost use Rattle.bp_layout.specs.Inode.{inode_count, kind_of, root_of, size_of};
@@ -15,8 +16,8 @@ use bp_free::{Blocks, Inodes};
 /// inodes.
 pub fn nothing_is_left(image: &[u64], blocks: &Blocks, inodes: &Inodes, todo: &Inodes)
     requires formatted { IsFormatted image.now }
-    requires inode_blocks { size_of image.now 0 % 4096 ≡ 0 }
-    requires some_inodes { 4096 ≤ size_of image.now 0 }
+    requires inode_blocks { size_of image.now 0 % block_size ≡ 0 }
+    requires some_inodes { block_size ≤ size_of image.now 0 }
     requires root_kind { kind_of image.now 1 ≡ 2 }
     requires range { (i : ℕ) → has inodes.now i ≡ true → (2 ≤ i) × (i < inode_count image.now) }
     requires midway { IsMidway image.now blocks.now inodes.now todo.now 0 0 }
@@ -37,7 +38,7 @@ pub fn fault_of_a_tree(
     inode: u32,
     holes: bool,
 )
-    requires some_inodes { 4096 ≤ size_of image.now 0 }
+    requires some_inodes { block_size ≤ size_of image.now 0 }
     requires midway { IsMidway image.now blocks.now inodes.now todo.now current slot }
     requires inode_file { has inodes.now 0 ≡ false }
     requires new { has inodes.now inode ≡ true }

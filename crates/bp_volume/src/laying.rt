@@ -7,7 +7,7 @@ ghost use Rattle.bp_volume.specs.Laid.{IsLeftByFormat, format_events};
 ghost use Rattle.pm_epochs.specs.Replay.{IsReplay};
 ghost use Rattle.pm_region.specs.Memory.{Adds, room_in};
 
-use bp_limits::MAGIC;
+use bp_limits::{BLOCK_SIZE, MAGIC, SUPER_BLOCKS, SUPER_MAGIC, SUPER_ROOT, SUPER_SIZE};
 use pm_region::Region;
 
 /// Makes an empty file system of a region of 8 to 16,384 blocks of 512 words. Its stores are not written back until
@@ -23,15 +23,15 @@ pub fn lay_out<R: Region>(region: &mut R)
 {
     let blocks = region.words() / 512;
     // The mark is gone before any other word changes, and comes back once all of them are written back.
-    region.store(0, 0);
+    region.store(SUPER_MAGIC, 0);
     region.barrier();
-    region.store(1, blocks as u64);
-    region.store(2, 0x1000);
-    region.store(3, 4096);
+    region.store(SUPER_BLOCKS, blocks as u64);
+    region.store(SUPER_ROOT, BLOCK_SIZE);
+    region.store(SUPER_SIZE, BLOCK_SIZE);
     region.store(520, 2);
     region.store(521, 0);
     region.store(522, 0);
     region.barrier();
-    region.store(0, MAGIC);
+    region.store(SUPER_MAGIC, MAGIC);
     region.barrier();
 }

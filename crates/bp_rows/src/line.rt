@@ -61,8 +61,6 @@ pub enum Line<'a> {
     Part(&'a str),
     /// Run it.
     Go,
-    /// Serve the script to a new volume of so many blocks and to the plain, slow program, and compare their answers.
-    Plain(u64),
     /// Run it again and again, each time with another call of a device failing, from 0 up to a number of calls.
     Sweep(Device, u64),
 }
@@ -105,7 +103,6 @@ pub fn read(line: &str) -> Option<Line<'_>> {
         ">" => Line::Script(rest),
         ">|" => Line::Part(rest),
         "go" => Line::Go,
-        "plain" => Line::Plain(number(rest)?),
         "sweep" => {
             let (device, count) = rest.split_once(' ')?;
             Line::Sweep(Device::named(device)?, number(count)?)

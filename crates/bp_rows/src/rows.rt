@@ -1,6 +1,5 @@
 //! Rows, one line after another, and the report on their runs.
 
-use crate::comparing::compare;
 use crate::line::{Device, Line, read};
 use crate::playing::play;
 use crate::row::{Failing, Row};
@@ -55,7 +54,6 @@ impl Rows {
                 Ok(())
             }
             Line::Go => self.go(),
-            Line::Plain(blocks) => self.plain(text, blocks),
             Line::Sweep(device, count) => self.sweep(device, count),
             _ => {
                 if self.row.set(self.alloc, line)? {
@@ -80,13 +78,6 @@ impl Rows {
         let ran = play(self.alloc, &self.row)?;
         show(&mut self.report, self.row.file.as_deref(), &ran)?;
         self.row.go_on(self.alloc, ran.file)
-    }
-
-    fn plain(&mut self, text: &str, blocks: u64) -> Result<(), AllocError> {
-        let script = self.row.script.as_str();
-        let is_volume = compare(self.alloc, blocks, script, &mut self.report)?;
-        self.row.go_on(self.alloc, None)?;
-        if is_volume { Ok(()) } else { self.refuse(text) }
     }
 
     fn sweep(&mut self, device: Device, count: u64) -> Result<(), AllocError> {

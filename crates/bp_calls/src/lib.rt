@@ -9,6 +9,7 @@ pub mod laws;
 mod reading;
 #[cfg(test)]
 mod tests;
+pub mod write_laws;
 mod writing;
 
 pub use creating::create;

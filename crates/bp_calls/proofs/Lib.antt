@@ -21,3 +21,5 @@ pub mod AskedLaws
 pub mod CutLaws
 pub mod TakenBlocks
 pub mod WriteBehind
+pub mod Longer
+pub mod Shorter

@@ -4,6 +4,7 @@ pub mod Spare
 pub mod Steps
 pub mod Sample
 pub mod Asked
+pub mod Resized
 pub mod GivenBack
 pub mod CutBelow
 pub mod Space

@@ -23,3 +23,4 @@ pub mod TakenBlocks
 pub mod WriteBehind
 pub mod Longer
 pub mod Shorter
+pub mod ResizedStands

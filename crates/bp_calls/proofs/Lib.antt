@@ -21,3 +21,6 @@ pub mod AskedLaws
 pub mod CutLaws
 pub mod TakenBlocks
 pub mod WriteBehind
+pub mod Longer
+pub mod Shorter
+pub mod ResizedStands

@@ -4,6 +4,8 @@ pub mod Spare
 pub mod Steps
 pub mod Sample
 pub mod Asked
+pub mod Resized
+pub mod CanGrow
 pub mod GivenBack
 pub mod CutBelow
 pub mod Space

@@ -20,7 +20,8 @@ fn subtree<R: Region>(region: &R, tree: Tree, slot: u64) -> Tree
     requires sound { IsSound (current_words (R.memory region.now)) tree.root tree.size }
     requires high { 1 ≤ height_of tree.root }
     requires live { slot * span (height_of tree.root - 1) < tree.size }
-    ensures root { result.root ≡ child (current_words (R.memory region.now)) (block_of tree.root) (height_of tree.root - 1) slot }
+    ensures root { result.root ≡ child (current_words (R.memory region.now)) (block_of tree.root)
+        (height_of tree.root - 1) slot }
     ensures size { result.size ≡ piece tree.size (height_of tree.root - 1) slot }
 {
     let level = (tree.root & 7) as u32 - 1;
@@ -42,12 +43,13 @@ fn give_top(blocks: &mut Blocks, top: u32, cut: u64)
     }
 }
 
-/// Gives back the blocks of a tree that hold no byte below `cut`, a size in bytes: all of them where that is 0. The size of
-/// `tree` is the one that it had before, and the words of its blocks are still as they were then.
+/// Gives back the blocks of a tree that hold no byte below `cut`, a size in bytes: all of them where that is 0. The size
+/// of `tree` is the one that it had before, and the words of its blocks are still as they were then.
 pub(crate) fn give_back<R: Region>(region: &R, tree: Tree, cut: u64, blocks: &mut Blocks)
     requires sound { IsSound (current_words (R.memory region.now)) tree.root tree.size }
     requires room { length blocks.old ≡ block_count (current_words (R.memory region.now)) }
-    requires taken { (b : ℕ) → HasBlock (current_words (R.memory region.now)) tree.root tree.size b → has blocks.old b ≡ false }
+    requires taken { (b : ℕ) → HasBlock (current_words (R.memory region.now)) tree.root tree.size b →
+        has blocks.old b ≡ false }
     ensures { GivesBack (IsCutOff (current_words (R.memory region.now)) tree.root tree.size cut) blocks.old blocks.new }
 {
     let _words = region.words();

@@ -2,6 +2,7 @@
 
 ghost use Rattle.std.specs.Prelude.{◌≡◌, ◌≢◌, ℕ, ◌*◌, ◌%◌, ◌<◌, ◌≤◌, [], None, Some, true, length};
 ghost use Rattle.bp_calls.specs.Created.{EntersName, GainsName, NeedsLeaf};
+ghost use Rattle.bp_calls.specs.Resized.{GetsSize, ResizesFile};
 ghost use Rattle.bp_layout.specs.declared.fields.Kind.{Kind};
 ghost use Rattle.bp_free.specs.Set.{has, members};
 ghost use Rattle.bp_layout.specs.Directory.{Name, empty_slot};
@@ -65,4 +66,10 @@ pub fn set_has_the_free(image: &[u64], blocks: &Blocks)
 pub fn entered_names_are_gained(old: &[u64], new: &[u64])
     requires { IsWellFormed old.now }
     ensures { (i : ℕ) (name : Name) (kind : Kind) → EntersName i name kind old.now new.now → GainsName i name kind old.now new.now }
+{}
+
+/// A file that got another size has its bytes cut off or filled up in the plain tree, at each path that finds it.
+pub fn resized_files_get_their_size(old: &[u64], new: &[u64])
+    requires { IsWellFormed old.now }
+    ensures { (i size : ℕ) → ResizesFile i size old.now new.now → GetsSize i size old.now new.now }
 {}

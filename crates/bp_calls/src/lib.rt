@@ -7,6 +7,7 @@ mod fault;
 mod giving;
 pub mod laws;
 mod reading;
+mod resizing;
 #[cfg(test)]
 mod tests;
 mod writing;
@@ -14,3 +15,4 @@ mod writing;
 pub use creating::create;
 pub use fault::CreateFault;
 pub use reading::{list, read, stat};
+pub use resizing::truncate;

@@ -1,0 +1,132 @@
+-- A file gets longer, with zeros behind its bytes: what its preparation asks, and what it leaves with the store of the size.
+use Rattle.std.proofs.Common.{◌≡◌, ℕ, zero, suc, ◌+◌, ◌-◌, ◌*◌, ◌/◌, ◌<◌, ◌≤◌, List, [], length, Bool, true, false, refl, sym, ◌∙◌, ap, arith, inl, inr}
+use Rattle.std.specs.Prelude.{nat_le, if◌then◌else◌, slice_index}
+use Rattle.std.proofs.lemmas.Bool.{lt-ltb}
+use Rattle.std.proofs.lemmas.List.{append-nil}
+use Rattle.bp_append.specs.Given.{given}
+use Rattle.bp_append.specs.Prepared.{CanPrepare, PreparesWith, need_for}
+use Rattle.bp_append.proofs.FewNeeded.{few_needed}
+use Rattle.bp_append.proofs.GrownEffect.{grown_changes, grown_bytes, grown_live, grown_stays, grown_taken}
+use Rattle.bp_append.proofs.GrowsTree.{OnlyGrows, GrowsTree, only_need, grown_performs, grown_size}
+use Rattle.bp_append.proofs.StoresLaws.{behind_whole}
+use Rattle.bp_calls.specs.CanGrow.{CanGrowFile}
+use Rattle.bp_calls.specs.Resized.{ResizesFile}
+use Rattle.bp_calls.specs.Space.{LacksSpace}
+use Rattle.bp_calls.proofs.FreeCounts.{free_members}
+use Rattle.bp_calls.proofs.TakenBlocks.{exact_taken, unused_members, usable_members}
+use Rattle.bp_free.specs.Set.{Set, members}
+use Rattle.bp_layout.specs.Inode.{ContentStandsAt, kind_of, root_of, size_of}
+use Rattle.bp_layout.specs.Need.Change.{resizes}
+use Rattle.bp_layout.specs.WordPaths.{WordPath, inode_path}
+use Rattle.bp_layout.specs.Words.{Image, height_of}
+use Rattle.bp_limits.specs.Limits.{max_height}
+use Rattle.bp_shapes.specs.Sets.{AreExact}
+use Rattle.bp_tree.specs.Performs.{Performs}
+use Rattle.bp_tree.proofs.RegionWords.{length_now}
+use Rattle.pm_epochs.specs.Crash.{commit}
+use Rattle.pm_region.specs.Memory.{Memory, Adds, current_words, room_in}
+use Rattle.pm_region.proofs.MemoryLaws.{base-adds, room_in-piece}
+
+only_grows : (image : Image) (i size : ℕ) → size_of image i < size → OnlyGrows image (resizes i size) i size size
+only_grows image i size longer = record { prepares = rw (lt-ltb (size_of image i) size longer) refl; no_inodes = refl; touches = refl }
+
+-- the bytes behind the file's own are 0
+none_given : (from o : ℕ) → given from [] o ≡ 0
+none_given from o = go (nat_le from o)
+  where
+    go : (b : Bool) → (if b then slice_index [] (o - from) else 0) ≡ 0
+    go true = refl
+    go false = refl
+
+module _ (old : Memory) (blocks inodes : Set) (n size : ℕ) (can : CanGrowFile old blocks inodes (suc n) size) where
+  abbrev image : Image
+  image = current_words old
+
+  few : need_for image (suc n) size size ≤ 18 + 3 * max_height
+  few = few_needed image (root_of image (suc n)) (size_of image (suc n)) size size (omega arith) (omega (arith, can.longer)) (can.well_formed.sound (suc n) can.reached).low
+
+  no_space : (needed free : ℕ) → needed ≡ need_for image (suc n) size size → free ≡ length (members blocks) → free < needed → LacksSpace image (resizes (suc n) size) (record { need = needed; free = free })
+  no_space needed free is count fewer = record {
+    needed = only_need image (resizes (suc n) size) n size size can.well_formed can.reached (only_grows image (suc n) size can.longer) ∙ sym is;
+    free = rw count (free_members image blocks can.exact.free_blocks can.exact.block_room);
+    fewer = fewer;
+  }
+
+  can_prepare : (path : WordPath) → path ≡ inode_path (height_of (root_of image 0)) (suc n) 1 → need_for image (suc n) size size ≤ length (members blocks) → CanPrepare old (members blocks) (suc n) path size size
+  can_prepare path leads enough = record {
+    well = can.well_formed;
+    reached = can.reached;
+    leads = leads ∙ sym (append-nil (inode_path (height_of (root_of image 0)) (suc n) 1));
+    behind = omega (arith, can.longer);
+    order = omega arith;
+    fits = can.fits;
+    by_words = λ by. elim by [ inl e ↦ omega (arith, e) | inr two ↦ omega (arith, two, can.file) ];
+    usable = usable_members image blocks inodes can.exact (length old.base / 512) (omega (arith, length_now old));
+    unused = unused_members image blocks inodes can.exact;
+    enough = enough;
+    room = omega (arith, few, can.room);
+  }
+
+  -- behind the preparation there is room for the store
+  room_left : (middle : Memory) (free_new bytes : List ℕ) → PreparesWith old middle (members blocks) free_new (suc n) size size bytes → (3 ≤ room_in middle) × (length middle.base ≡ length old.base)
+  room_left middle free_new bytes prepared =
+      let stores = behind_whole (size_of image (suc n)) size size max_height in
+      let left = room_in-piece _ _ old middle prepared.adds.part.added prepared.adds.part.adds prepared.adds.part.piece in
+      (omega (arith, few, stores, left, can.room), ap length (base-adds old middle prepared.adds.part.added prepared.adds.part.adds))
+
+  module _ (middle new : Memory) (rest : Set) (path : WordPath) (place : ℕ) (grows : GrowsTree old middle new (members blocks) (members rest) path n size size place []) (room : length rest ≡ length blocks) where
+    only : OnlyGrows image (resizes (suc n) size) (suc n) size size
+    only = only_grows image (suc n) size can.longer
+
+    resized : ResizesFile (suc n) size image (current_words new)
+    resized = record {
+      changes = grown_changes old middle new (members blocks) (members rest) path n size size place [] grows (resizes (suc n) size) only;
+      size_is = grown_size old middle new (members blocks) (members rest) path n size size place [] grows (resizes (suc n) size) only;
+      kept = λ o low was. grown_bytes old middle new (members blocks) (members rest) path n size size place [] grows (resizes (suc n) size) only o low ∙ grows.prepared.ready.kept o was;
+      zeros = λ o low past. grown_bytes old middle new (members blocks) (members rest) path n size size place [] grows (resizes (suc n) size) only o low ∙ grows.prepared.ready.bytes_are o past low ∙ none_given size o;
+    }
+
+    performs : Performs old new (resizes (suc n) size) (ResizesFile (suc n) size)
+    performs = grown_performs old middle new (members blocks) (members rest) path n size size place [] grows (resizes (suc n) size) only (ResizesFile (suc n) size) resized
+
+    exact : AreExact (current_words new) rest inodes
+    exact =
+        exact_taken image (current_words new) (suc n) can.well_formed resized.changes grows.prepared.taken blocks rest inodes can.exact grows.prepared.takes room
+        (grown_live old middle new (members blocks) (members rest) path n size size place [] grows (resizes (suc n) size) only)
+        (grown_stays old middle new (members blocks) (members rest) path n size size place [] grows (resizes (suc n) size) only)
+        (grown_taken old middle new (members blocks) (members rest) path n size size place [] grows (resizes (suc n) size) only)
+
+-- ---- by the number of the inode
+
+no_file : (image : Image) → kind_of image 0 ≡ 1 → ⊥
+no_file image one = omega (arith, one)
+
+-- a file that got longer
+pub record Grew (old middle new : Memory) (blocks rest : Set) (path : WordPath) (i size place : ℕ) : Type 0 where
+  pub can : CanPrepare old (members blocks) i path size size
+  pub stands : ContentStandsAt (current_words old) 0 (8 * i + 2) place
+  pub prepared : PreparesWith old middle (members blocks) (members rest) i size size []
+  pub room : length rest ≡ length blocks
+  pub stored : Adds middle new (commit place size)
+
+module _ (old : Memory) (blocks inodes : Set) where
+  pub refused : (i size : ℕ) → CanGrowFile old blocks inodes i size → (needed free : ℕ) → needed ≡ need_for (current_words old) i size size → free ≡ length (members blocks) → free < needed →
+      LacksSpace (current_words old) (resizes i size) (record { need = needed; free = free })
+  refused zero size can = absurd (no_file (current_words old) can.file)
+  refused (suc n) size can = no_space old blocks inodes n size can
+
+  pub prepares : (i size : ℕ) → CanGrowFile old blocks inodes i size → (path : WordPath) → path ≡ inode_path (height_of (root_of (current_words old) 0)) i 1 → need_for (current_words old) i size size ≤ length (members blocks) →
+      CanPrepare old (members blocks) i path size size
+  prepares zero size can = absurd (no_file (current_words old) can.file)
+  prepares (suc n) size can = can_prepare old blocks inodes n size can
+
+  pub room_behind : (middle : Memory) (free_new bytes : List ℕ) (i size : ℕ) → CanGrowFile old blocks inodes i size → PreparesWith old middle (members blocks) free_new i size size bytes → (3 ≤ room_in middle) × (length middle.base ≡ length old.base)
+  room_behind middle free_new bytes zero size can = absurd (no_file (current_words old) can.file)
+  room_behind middle free_new bytes (suc n) size can = room_left old blocks inodes n size can middle free_new bytes
+
+  pub grew : (middle new : Memory) (rest : Set) (path : WordPath) (i size place : ℕ) → CanGrowFile old blocks inodes i size → Grew old middle new blocks rest path i size place →
+      Performs old new (resizes i size) (ResizesFile i size) × AreExact (current_words new) rest inodes
+  grew middle new rest path zero size place can = absurd (no_file (current_words old) can.file)
+  grew middle new rest path (suc n) size place can = λ done.
+      let grows : GrowsTree old middle new (members blocks) (members rest) path n size size place [] = record { can = done.can; is_file = can.file; stands = done.stands; prepared = done.prepared; stored = done.stored } in
+      (performs old blocks inodes n size can middle new rest path place grows done.room, exact old blocks inodes n size can middle new rest path place grows done.room)

@@ -1,0 +1,99 @@
+//! A file gets another size.
+
+ghost use Rattle.std.specs.Prelude.{◌≡◌, ◌≢◌, ◌<◌, ◌≤◌, IfErr, OnErr, OnOk};
+ghost use Rattle.bp_calls.specs.Space.{LacksSpace};
+ghost use Rattle.bp_calls.specs.CanGrow.{CanGrowFile};
+ghost use Rattle.bp_calls.specs.Resized.{ResizesFile};
+ghost use Rattle.bp_layout.specs.Inode.{kind_of, root_of, size_of};
+ghost use Rattle.bp_layout.specs.Need.Change.{resizes};
+ghost use Rattle.bp_layout.specs.Reached.{IsReached};
+ghost use Rattle.bp_layout.specs.WellFormed.{IsWellFormed};
+ghost use Rattle.bp_limits.specs.Limits.{call_room, max_size};
+ghost use Rattle.bp_shapes.specs.Sets.{AreExact};
+ghost use Rattle.bp_tree.specs.Performs.{Performs};
+ghost use Rattle.pm_region.specs.Memory.{current_words, room_in};
+
+use crate::entering::tree_of;
+use crate::giving::give_back;
+use crate::writing::root_path;
+use bp_append::{need_prep, prep};
+use bp_free::{NoSpace, Parts};
+use bp_inodes::place;
+use bp_inplace::commit_word;
+use bp_tree::Tree;
+use pm_region::Region;
+
+/// Gives a file a size above its own, with zeros behind its bytes: a preparation makes its tree high enough and clears
+/// the rest of its last leaf, and then the size is stored.
+///
+/// # Errors
+///
+/// `NoSpace` exactly where fewer blocks are free than it needs. Nothing has changed then.
+fn grow_file<R: Region>(parts: &mut Parts<R>, i: u32, tree: Tree, size: u64) -> Result<(), NoSpace>
+    requires can { CanGrowFile (R.memory parts.old.region) parts.old.blocks parts.old.inodes i size }
+    requires root { tree.root ≡ root_of (current_words (R.memory parts.old.region)) i }
+    requires size { tree.size ≡ size_of (current_words (R.memory parts.old.region)) i }
+    ensures performs { OnOk result (Performs (R.memory parts.old.region) (R.memory parts.new.region)
+        (resizes i size) (ResizesFile i size)) }
+    ensures exact { AreExact (current_words (R.memory parts.new.region)) parts.new.blocks parts.new.inodes }
+    ensures refused { IfErr result (LacksSpace (current_words (R.memory parts.old.region)) (resizes i size)) }
+    ensures same { OnErr result (parts.new ≡ parts.old) }
+{
+    let need = need_prep(&parts.region, tree, size, size);
+    let free = parts.blocks.count();
+    if free < need {
+        return Err(NoSpace { need, free });
+    }
+    let size_place = place(&parts.region, i, 2);
+    let at = root_path(&parts.region, i);
+    prep(parts, &at, size, &[], size);
+    commit_word(&mut parts.region, size_place, size);
+    Ok(())
+}
+
+/// Gives a file a size below its own: the size is stored, and then the blocks come back that hold no byte below it.
+fn shrink_file<R: Region>(parts: &mut Parts<R>, i: u32, tree: Tree, size: u64)
+    requires well_formed { IsWellFormed (current_words (R.memory parts.old.region)) }
+    requires exact { AreExact (current_words (R.memory parts.old.region)) parts.old.blocks parts.old.inodes }
+    requires reached { IsReached (current_words (R.memory parts.old.region)) i }
+    requires file { kind_of (current_words (R.memory parts.old.region)) i ≡ 1 }
+    requires root { tree.root ≡ root_of (current_words (R.memory parts.old.region)) i }
+    requires size { tree.size ≡ size_of (current_words (R.memory parts.old.region)) i }
+    requires smaller { size < tree.size }
+    requires room { 3 ≤ room_in (R.memory parts.old.region) }
+    ensures performs { Performs (R.memory parts.old.region) (R.memory parts.new.region)
+        (resizes i size) (ResizesFile i size) }
+    ensures exact { AreExact (current_words (R.memory parts.new.region)) parts.new.blocks parts.new.inodes }
+{
+    let size_place = place(&parts.region, i, 2);
+    commit_word(&mut parts.region, size_place, size);
+    give_back(&parts.region, tree, size, &mut parts.blocks);
+}
+
+/// Gives a file another size in bytes, by one store alone in its epoch: it is cut off there, or gets zeros behind its
+/// bytes.
+///
+/// # Errors
+///
+/// `NoSpace` exactly where fewer blocks are free than it needs: a tree that gets higher takes a block for each level.
+pub fn truncate<R: Region>(parts: &mut Parts<R>, i: u32, size: u64) -> Result<(), NoSpace>
+    requires well_formed { IsWellFormed (current_words (R.memory parts.old.region)) }
+    requires exact { AreExact (current_words (R.memory parts.old.region)) parts.old.blocks parts.old.inodes }
+    requires reached { IsReached (current_words (R.memory parts.old.region)) i }
+    requires file { kind_of (current_words (R.memory parts.old.region)) i ≡ 1 }
+    requires fits { size ≤ max_size }
+    requires changed { size ≢ size_of (current_words (R.memory parts.old.region)) i }
+    requires room { call_room ≤ room_in (R.memory parts.old.region) }
+    ensures performs { OnOk result (Performs (R.memory parts.old.region) (R.memory parts.new.region)
+        (resizes i size) (ResizesFile i size)) }
+    ensures exact { AreExact (current_words (R.memory parts.new.region)) parts.new.blocks parts.new.inodes }
+    ensures refused { IfErr result (LacksSpace (current_words (R.memory parts.old.region)) (resizes i size)) }
+    ensures same { OnErr result (parts.new ≡ parts.old) }
+{
+    let tree = tree_of(&parts.region, i);
+    if size < tree.size {
+        shrink_file(parts, i, tree, size);
+        return Ok(());
+    }
+    grow_file(parts, i, tree, size)
+}

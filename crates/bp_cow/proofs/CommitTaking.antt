@@ -216,7 +216,7 @@ module _ (old middle new : Memory) (change : Change) (Effect : Image → Image �
 
 -- ---- how many blocks are copied at most
 
-turned_few : (job : Job) (from i depth : ℕ) → turned_for job from i depth ≤ depth
+pub turned_few : (job : Job) (from i depth : ℕ) → turned_for job from i depth ≤ depth
 turned_few job from i zero = omega arith
 turned_few job from i (suc depth) = go (nat_le from depth) refl (begins job from i (front job i (suc depth))) refl (turned_few job from i depth)
   where

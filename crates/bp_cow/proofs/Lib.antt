@@ -27,3 +27,6 @@ pub mod CallerLaws
 pub mod PerformsLaws
 pub mod CommitTaking
 pub mod RunTouched
+pub mod FewCopies
+pub mod RunThere
+pub mod RunWrites

@@ -17,7 +17,7 @@ use Rattle.bp_cow.specs.Cover.{commit_cover, copied_paths}
 use Rattle.bp_cow.proofs.CommonPaths.{existing_same}
 use Rattle.bp_cow.specs.Touched.{run_end, run_path, run_paths, word_paths, all_paths}
 
-not_above : (a b : ℕ) → b ≤ a → nat_lt a b ≡ false
+pub not_above : (a b : ℕ) → b ≤ a → nat_lt a b ≡ false
 not_above a b low = go (nat_lt a b) refl
   where
     go : (x : Bool) → nat_lt a b ≡ x → nat_lt a b ≡ false

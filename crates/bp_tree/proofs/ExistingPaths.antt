@@ -106,7 +106,7 @@ digits-there image change t base reads (suc d) k live above =
     (digits-there image change t base reads d (k / 512) (live_pointer_word _ _ d (k / 512) up) (under image (root_of image t) d (k / 512) above))
     (ap (is_there image change) (reads d (k / 512) up) ∙ node-there image change t d (k / 512) up above, tt)
 
-reads-inodes : (heights : ℕ → ℕ) (image : Image) → heights 0 ≡ height_of (root_of image 0) → size_of image 0 ≤ covered (suc (height_of (root_of image 0))) →
+pub reads-inodes : (heights : ℕ → ℕ) (image : Image) → heights 0 ≡ height_of (root_of image 0) → size_of image 0 ≤ covered (suc (height_of (root_of image 0))) →
     (d k : ℕ) → IsLivePointer (root_of image 0) (size_of image 0) d k → pointed heights (digits d k) ≡ node_under image 0 d k
 reads-inodes heights image same fits d k live = rw (length-digits, number, same, le-leb _ _ low) refl
   where
@@ -117,7 +117,7 @@ reads-inodes heights image same fits d k live = rw (length-digits, number, same,
     low = omega (arith, live.height)
 
 -- behind the path of its root word
-reads-tree : (heights : ℕ → ℕ) (image : Image) (t : ℕ) (base : WordPath) → length base ≡ suc (heights 0) → number_of base / 8 ≡ t → heights t ≡ height_of (root_of image t) →
+pub reads-tree : (heights : ℕ → ℕ) (image : Image) (t : ℕ) (base : WordPath) → length base ≡ suc (heights 0) → number_of base / 8 ≡ t → heights t ≡ height_of (root_of image t) →
     size_of image t ≤ covered (suc (height_of (root_of image t))) →
     (d k : ℕ) → IsLivePointer (root_of image t) (size_of image t) d k → pointed heights (base ++ digits d k) ≡ node_under image t d k
 reads-tree heights image t base whole tree same fits d k live = rw (← whole, long, take-append_seam, drop-append_seam, tree, same, number, depth) refl

@@ -114,8 +114,10 @@ pub fn entry_unless_empty<R: Region>(region: &R, tree: Tree, slot: u64) -> Optio
     requires length { HasNameLength (current_words (R.memory region.now)) tree.root slot }
     ensures none { IfNone result (inumber_in (current_words (R.memory region.now)) tree.root slot ≡ 0) }
     ensures some { IfSome result (λ entry. entry.inumber ≢ 0) }
-    ensures inumber { IfSome result (λ entry. entry.inumber ≡ inumber_in (current_words (R.memory region.now)) tree.root slot) }
-    ensures name { IfSome result (λ entry. entry.name.items ≡ name_in (current_words (R.memory region.now)) tree.root slot) }
+    ensures inumber { IfSome result
+        (λ entry. entry.inumber ≡ inumber_in (current_words (R.memory region.now)) tree.root slot) }
+    ensures name { IfSome result
+        (λ entry. entry.name.items ≡ name_in (current_words (R.memory region.now)) tree.root slot) }
 {
     let at = EntryAt {
         tree,
@@ -134,8 +136,10 @@ pub fn entry_place<R: Region>(region: &R, tree: Tree, slot: u64, field: u32) -> 
     requires full { IsFull (current_words (R.memory region.now)) tree.root tree.size }
     requires live { slot < tree.size / 256 }
     requires field { field < 32 }
-    ensures place { result ≡ 512 * node (current_words (R.memory region.now)) tree.root (height_of tree.root) ((32 * slot + field) / 512) + (32 * slot + field) % 512 }
-    ensures present { node (current_words (R.memory region.now)) tree.root (height_of tree.root) ((32 * slot + field) / 512) ≢ 0 }
+    ensures place { result ≡ 512 * node (current_words (R.memory region.now)) tree.root (height_of tree.root)
+        ((32 * slot + field) / 512) + (32 * slot + field) % 512 }
+    ensures present { node (current_words (R.memory region.now)) tree.root (height_of tree.root)
+        ((32 * slot + field) / 512) ≢ 0 }
     ensures in_range { result < length (current_words (R.memory region.now)) }
 {
     content_place(region, tree, 32 * slot + field as u64)

@@ -25,7 +25,8 @@ pub(crate) struct EntryAt {
 pub(crate) fn block_with<R: Region>(region: &R, tree: Tree, slot: u64, before: u64) -> u64
     requires sound { IsSound (current_words (R.memory region.now)) tree.root tree.size }
     requires live { slot < tree.size / 256 }
-    requires before { 0 < slot → before ≡ node (current_words (R.memory region.now)) tree.root (height_of tree.root) ((slot - 1) / 16) }
+    requires before { 0 < slot →
+        before ≡ node (current_words (R.memory region.now)) tree.root (height_of tree.root) ((slot - 1) / 16) }
     ensures { result ≡ node (current_words (R.memory region.now)) tree.root (height_of tree.root) (slot / 16) }
 {
     if slot % 16 == 0 {
@@ -48,7 +49,9 @@ impl EntryAt {
     /// All words of the entry.
     pub fn words<R: Region>(&self, region: &R) -> [u64; 32]
         requires { IsEntryAt (current_words (R.memory region.now)) self.now }
-        ensures { (field : ℕ) → field < 32 → slice_index result field ≡ word_in (current_words (R.memory region.now)) self.now.tree.root self.now.slot field }
+        ensures { (field : ℕ) → field < 32 →
+            slice_index result field ≡
+            word_in (current_words (R.memory region.now)) self.now.tree.root self.now.slot field }
     {
         let mut words = [0; 32];
         for field in 0..32 {
@@ -62,7 +65,9 @@ impl EntryAt {
         requires at { IsEntryAt (current_words (R.memory region.now)) self.now }
         requires short { length name.now ≤ max_name }
         requires words { HoldsWords words.now name.now }
-        ensures { IsTrue result ↔ (map (λ o. byte (current_words (R.memory region.now)) self.now.tree.root (256 * self.now.slot + 16 + o)) (range_with_len 0 (length name.now)) ≡ name.now) }
+        ensures { IsTrue result ↔
+            (map (λ o. byte (current_words (R.memory region.now)) self.now.tree.root (256 * self.now.slot + 16 + o))
+            (range_with_len 0 (length name.now)) ≡ name.now) }
     {
         for part in 0..name.len().div_ceil(8) {
             let word = self.word(region, 2 + part as u64);

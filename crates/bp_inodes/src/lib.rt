@@ -33,7 +33,8 @@ pub fn inode_file<R: Region>(region: &R) -> Tree
 
 /// The inode with a number.
 pub fn get<R: Region>(region: &R, i: u32) -> Inode
-    requires sound { IsSound (current_words (R.memory region.now)) (root_of (current_words (R.memory region.now)) 0) (size_of (current_words (R.memory region.now)) 0) }
+    requires sound { let words = current_words (R.memory region.now) in
+        IsSound words (root_of words 0) (size_of words 0) }
     requires some { 1 ≤ i }
     requires there { i < inode_count (current_words (R.memory region.now)) }
     requires least { 1 ≤ kind_of (current_words (R.memory region.now)) i }
@@ -55,8 +56,9 @@ pub fn get<R: Region>(region: &R, i: u32) -> Inode
 
 /// The word of the region at which a word of an inode stands.
 pub fn place<R: Region>(region: &R, i: u32, field: u32) -> u32
-    requires sound { IsSound (current_words (R.memory region.now)) (root_of (current_words (R.memory region.now)) 0) (size_of (current_words (R.memory region.now)) 0) }
-    requires full { IsFull (current_words (R.memory region.now)) (root_of (current_words (R.memory region.now)) 0) (size_of (current_words (R.memory region.now)) 0) }
+    requires sound { let words = current_words (R.memory region.now) in
+        IsSound words (root_of words 0) (size_of words 0) }
+    requires full { let words = current_words (R.memory region.now) in IsFull words (root_of words 0) (size_of words 0) }
     requires there { i < inode_count (current_words (R.memory region.now)) }
     requires field { field < 8 }
     ensures place { ContentStandsAt (current_words (R.memory region.now)) 0 (8 * i + field) result }

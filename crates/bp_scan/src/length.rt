@@ -32,9 +32,11 @@ fn nearest_length(len: u64) -> u64
 ///
 /// `BadSize` exactly where no image has that length.
 pub fn image_length(len: u64) -> Result<u32, MountFault>
-    ensures blocks { IfOk result (λ blocks. (len ≡ block_size * blocks) × (min_blocks ≤ blocks) × (blocks ≤ max_blocks)) }
+    ensures blocks { IfOk result
+        (λ blocks. (len ≡ block_size * blocks) × (min_blocks ≤ blocks) × (blocks ≤ max_blocks)) }
     ensures fits { IfOk result (λ blocks. len ≡ wanted_length len) }
-    ensures refused { let wanted = wanted_length len in IfErr result (λ fault. (fault ≡ BadSize len wanted) × (len ≢ wanted)) }
+    ensures refused { let wanted = wanted_length len in
+        IfErr result (λ fault. (fault ≡ BadSize len wanted) × (len ≢ wanted)) }
 {
     let wanted = nearest_length(len);
     if len != wanted {

@@ -60,8 +60,10 @@ pub(crate) fn enter_inode_file<R: Region>(region: &R, blocks: &mut Blocks) -> Re
 /// Reads the words of an inode.
 fn inode_words<R: Region>(region: &R, inode: u32) -> InodeWords
     requires formatted { IsFormatted (current_words (R.memory region.now)) }
-    requires sound { let words = current_words (R.memory region.now) in IsSound words (root_of words 0) (size_of words 0) }
-    requires full { let words = current_words (R.memory region.now) in IsFull words (root_of words 0) (size_of words 0) }
+    requires sound { let words = current_words (R.memory region.now) in
+        IsSound words (root_of words 0) (size_of words 0) }
+    requires full { let words = current_words (R.memory region.now) in
+        IsFull words (root_of words 0) (size_of words 0) }
     requires some { 1 ≤ inode }
     requires there { inode < inode_count (current_words (R.memory region.now)) }
     ensures { AreWords (current_words (R.memory region.now)) inode result }
@@ -106,8 +108,10 @@ pub(crate) fn enter<R: Region>(
     todo: &mut Inodes,
 ) -> Result<(), CheckFault>
     requires formatted { IsFormatted (current_words (R.memory region.now)) }
-    requires sound { let words = current_words (R.memory region.now) in IsSound words (root_of words 0) (size_of words 0) }
-    requires full { let words = current_words (R.memory region.now) in IsFull words (root_of words 0) (size_of words 0) }
+    requires sound { let words = current_words (R.memory region.now) in
+        IsSound words (root_of words 0) (size_of words 0) }
+    requires full { let words = current_words (R.memory region.now) in
+        IsFull words (root_of words 0) (size_of words 0) }
     requires some { 1 ≤ inode }
     requires there { inode < inode_count (current_words (R.memory region.now)) }
     requires blocks { length blocks.old ≡ block_count (current_words (R.memory region.now)) }

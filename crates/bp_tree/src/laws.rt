@@ -24,6 +24,7 @@ pub fn performed_calls_are_short()
 
 /// Where a call needs no block it stores to no free one, so that none does what another call would have to do.
 pub fn performed_calls_leave_free_blocks()
-    ensures { (old new : Memory) (change : Change) (b : ℕ) → IsPerformed old new change → need (current_words old) change ≡ 0
-        → IsFreeBlock (current_words old) b → StoresTo (InBlock b) (events_between old new) → ⊥ }
+    ensures { (old new : Memory) (change : Change) (b : ℕ) → IsPerformed old new change →
+        need (current_words old) change ≡ 0 → IsFreeBlock (current_words old) b →
+        StoresTo (InBlock b) (events_between old new) → ⊥ }
 {}

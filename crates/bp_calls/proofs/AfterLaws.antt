@@ -37,6 +37,32 @@ agrees_prepared old new wf agrees = record {
   inode_bytes = frame.size-same old new wf agrees 0 inode_file;
 }
 
+-- ---- what a same meaning keeps
+
+module _ (old new : Image) (wf : IsWellFormed old) (same : SameMeaning old new) where
+  pub directories_over : SameDirectories old new
+  directories_over = (view-same old new wf same).directories
+
+  is_named_over : (i slot : ℕ) (name : Name) → IsReached old i → kind_of old i ≡ 2 → slot < entry_count old i → is_named new i name slot ≡ is_named old i name slot
+  is_named_over i slot name reached kind in_size = go (inumber_at old i slot == 0) refl
+    where
+      go : (b : Bool) → (inumber_at old i slot == 0) ≡ b → is_named new i name slot ≡ is_named old i name slot
+      go true at = rw (directories_over.inumber i slot reached kind in_size, at) refl
+      go false at =
+          let entry : EntryNames old i slot (inumber_at old i slot) = record { directory = kind; in_size = in_size; inumber = refl; not_empty = eqb-false _ _ at } in
+          rw (directories_over.inumber i slot reached kind in_size, at, directories_over.name i slot (inumber_at old i slot) reached entry) refl
+
+  pub slot_named_over : (i : ℕ) (name : Name) → IsReached old i → kind_of old i ≡ 2 → slot_named new i name ≡ slot_named old i name
+  slot_named_over i name reached kind =
+      rw (directories_over.count i reached kind)
+      (find-same (is_named new i name) (is_named old i name) 0 (entry_count old i) (λ k low high. is_named_over i k name reached kind (omega (arith, high))))
+
+  pub empty_slot_over : (i : ℕ) → IsReached old i → kind_of old i ≡ 2 → empty_slot new i ≡ empty_slot old i
+  empty_slot_over i reached kind =
+      rw (directories_over.count i reached kind)
+      (find-same (λ slot. inumber_at new i slot == 0) (λ slot. inumber_at old i slot == 0) 0 (entry_count old i)
+      (λ k low high. ap (λ n. n == 0) (directories_over.inumber i k reached kind (omega (arith, high)))))
+
 -- ---- what stays
 
 module _ (old new : Image) (wf : IsWellFormed old) (prepared : IsPrepared old new) where
@@ -91,25 +117,11 @@ module _ (old new : Image) (wf : IsWellFormed old) (prepared : IsPrepared old ne
 
   -- ---- slots
 
-  is_named_after : (i slot : ℕ) (name : Name) → IsReached old i → kind_of old i ≡ 2 → slot < entry_count old i → is_named new i name slot ≡ is_named old i name slot
-  is_named_after i slot name reached kind in_size = go (inumber_at old i slot == 0) refl
-    where
-      go : (b : Bool) → (inumber_at old i slot == 0) ≡ b → is_named new i name slot ≡ is_named old i name slot
-      go true at = rw (alike.inumber i slot reached kind in_size, at) refl
-      go false at =
-          let entry : EntryNames old i slot (inumber_at old i slot) = record { directory = kind; in_size = in_size; inumber = refl; not_empty = eqb-false _ _ at } in
-          rw (alike.inumber i slot reached kind in_size, at, alike.name i slot (inumber_at old i slot) reached entry) refl
-
   pub slot_named_after : (i : ℕ) (name : Name) → IsReached old i → kind_of old i ≡ 2 → slot_named new i name ≡ slot_named old i name
-  slot_named_after i name reached kind =
-      rw (size_after i reached)
-      (find-same (is_named new i name) (is_named old i name) 0 (entry_count old i) (λ k low high. is_named_after i k name reached kind (omega (arith, high))))
+  slot_named_after = slot_named_over old new wf prepared.meaning
 
   pub empty_slot_after : (i : ℕ) → IsReached old i → kind_of old i ≡ 2 → empty_slot new i ≡ empty_slot old i
-  empty_slot_after i reached kind =
-      rw (size_after i reached)
-      (find-same (λ slot. inumber_at new i slot == 0) (λ slot. inumber_at old i slot == 0) 0 (entry_count old i)
-      (λ k low high. ap (λ n. n == 0) (alike.inumber i k reached kind (omega (arith, high)))))
+  empty_slot_after = empty_slot_over old new wf prepared.meaning
 
   -- ---- paths
 

@@ -168,7 +168,7 @@ module _ (first second third last : Memory) (i j entry place : ℕ) (name : Name
   end_performs = performs_stores first last (gains i true) (EntersName i name kind) (AnyAt Inside) 35 third place (size_of image i + 256) [] (λ other all. prepared_same image other wf (trees_of other all).prepared) all_inside commits
       tt tt tt (λ p v both. both.1) (sym (subst (λ w. address w (cover image (gains i true)) ≡ place) (sym committed) (size_covered image mid i place (size_of mid i + 256) wf mid_well_formed trees reached can.lacks.directory vacant mid_size)))
       (omega arith) (sym (need_behind image i wf reached can.lacks.directory vacant (omega (arith, part)) part)) (content_open image [] 0 (8 * i + 2) place inode_file (omega (arith, in_file)) size_at)
-      (enters_well_formed mid (current_words last) mid_well_formed i (size_of mid i / 256) j (kind_word kind) name enters) (enters_over image mid (current_words last) wf trees.prepared i (size_of mid i / 256) j name kind can.free behind enters)
+      (enters_well_formed mid (current_words last) mid_well_formed i (size_of mid i / 256) j (kind_word kind) name enters) (enters_over image mid (current_words last) wf trees.prepared.meaning i (size_of mid i / 256) j name kind can.free behind enters)
 
   pub end_few : room_in first ≤ room_in last + 63
   end_few =

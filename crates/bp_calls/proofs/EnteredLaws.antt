@@ -3,11 +3,13 @@ use Rattle.std.proofs.Common.{◌≡◌, ◌≢◌, ℕ, ◌+◌, ◌*◌, ◌/�
 use Rattle.std.proofs.lemmas.List.FromFn.{length-map-range_with_len}
 use Rattle.bp_layout.specs.Words.{Image, byte_of}
 use Rattle.bp_layout.specs.Tree.{byte}
-use Rattle.bp_layout.specs.Inode.{kind_of, ContentStandsAt}
+use Rattle.bp_layout.specs.Inode.{kind_of, size_of, ContentStandsAt}
 use Rattle.bp_layout.specs.Directory.{Name, EntryNames, IsName, word_in, name_in, name_at, slot_named, lookup_in}
 use Rattle.bp_layout.specs.Reached.{IsReached}
+use Rattle.bp_layout.specs.Reached.IsReached.{inode_file}
 use Rattle.bp_layout.specs.WellFormed.{IsWellFormed}
 use Rattle.bp_layout.proofs.Finding.{map-same}
+use Rattle.bp_layout.proofs.Reached.{reached-in_file}
 use Rattle.bp_layout.proofs.LookupLaws.{Shows, lookup_in-found}
 use Rattle.bp_changes.specs.Effects.{AddsNames, KeepsBlocks}
 use Rattle.bp_changes.proofs.Link.{CanLink, entry_adds, name_of_new, kinds_stay}
@@ -68,6 +70,9 @@ module _ (old : Image) (wf : IsWellFormed old) (i s j kind place : ℕ) (name : 
     spelled = name_of_new old (set old place j) wf i s j ready_links (store_adds old wf i s j place ready_links stands) ∙ ready.spelled;
     kind_is = kinds_stay old (set old place j) wf i s j ready_links (store_adds old wf i s j place ready_links stands) j fresh.free.high ∙ fresh.kind_is;
   }
+
+  pub entered_file : size_of (set old place j) 0 ≡ size_of old 0
+  entered_file = (store_adds old wf i s j place ready_links stands).size 0 (reached-in_file old wf 0 inode_file)
 
   pub entered_blocks : KeepsBlocks old (set old place j)
   entered_blocks = store_blocks old wf i s j place ready.reached ready.directory ready.slot stands

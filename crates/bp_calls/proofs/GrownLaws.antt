@@ -279,7 +279,6 @@ module _ (old : Image) (wf : IsWellFormed old) (n j place : ℕ) (name : Name) (
     grown_adds = record {
       reached = ready.reached;
       fresh = fresh.free.free;
-      in_file = fresh.free.high;
       trees = record {
         whole = whole;
         marked = superblock 0 (omega arith);
@@ -289,7 +288,9 @@ module _ (old : Image) (wf : IsWellFormed old) (n j place : ℕ) (name : Name) (
         full_inode_file = full_stays 0 inode_file wf.full_inode_file;
         full_directories = λ u r kind. full_stays u r (wf.full_directories u r kind);
       };
-      inode_bytes = superblock 3 (omega arith);
+      inode_bytes = rw (superblock 3 (omega arith)) (omega arith);
+      inode_blocks = rw (superblock 3 (omega arith)) wf.inode_blocks;
+      in_file = rw (superblock 3 (omega arith)) fresh.free.high;
       kind = λ u r. kind_stays u (in_file u r);
       new_kind = rw (kind_stays j fresh.free.high, fresh.kind_is) (fresh.least, fresh.most);
       new_size = size_stays j fresh.free.high not_here ∙ fresh.empty;
@@ -318,6 +319,11 @@ pub grown : (old : Image) → IsWellFormed old → (i j kind place : ℕ) (name 
     ContentStandsAt old 0 (8 * i + 2) place → Enters old (set old place (size_of old i + 256)) i (size_of old i / 256) j name kind
 grown old wf zero j kind place name fresh ready form missing stands = absurd (directory_inode old 0 ready.directory refl)
 grown old wf (suc n) j kind place name fresh ready form missing stands = grown_suc old wf n j place name ready stands kind fresh form missing
+
+pub grown_file : (old : Image) → IsWellFormed old → (i j place : ℕ) (name : Name) → IsReadyBehind old i j name → ContentStandsAt old 0 (8 * i + 2) place →
+    size_of (set old place (size_of old i + 256)) 0 ≡ size_of old 0
+grown_file old wf zero j place name ready stands = absurd (directory_inode old 0 ready.directory refl)
+grown_file old wf (suc n) j place name ready stands = superblock old wf n j place name ready stands 3 (omega arith)
 
 -- The blocks of the trees after the store. The directory has those that it has under its new size.
 pub record GrowsBlocks (old new : Image) (i : ℕ) : Type 0 where

@@ -227,7 +227,7 @@ module _ (first second third fourth last : Memory) (i j b root_place place : ℕ
   first_performs = performs_stores first last (gains i true) (EntersName i name kind) (AnyAt Inside) 36 fourth place 256 (b ∷ []) (λ other all. prepared_same image other wf (trees_of other all).prepared) all_inside commits
       (tt, tt) (free, tt) (stored, tt) (λ p v both. both.1) (sym (subst (λ w. address w (cover image (gains i true)) ≡ place) (sym committed) (size_covered image mid i place (size_of mid i + 256) wf mid_well_formed trees reached can.lacks.directory vacant mid_size)))
       (omega arith) (sym (need_first image i wf reached can.lacks.directory vacant none)) (content_open image (b ∷ []) 0 (8 * i + 2) place inode_file (omega (arith, in_file)) size_at)
-      (enters_well_formed mid (current_words last) mid_well_formed i (size_of mid i / 256) j (kind_word kind) name enters) (enters_over image mid (current_words last) wf trees.prepared i (size_of mid i / 256) j name kind can.free behind enters)
+      (enters_well_formed mid (current_words last) mid_well_formed i (size_of mid i / 256) j (kind_word kind) name enters) (enters_over image mid (current_words last) wf trees.prepared.meaning i (size_of mid i / 256) j name kind can.free behind enters)
 
   pub first_few : room_in first ≤ room_in last + 63
   first_few =

@@ -219,7 +219,7 @@ module _ (first second third last : Memory) (i s j entry : ℕ) (name : Name) (k
   slot_performs = performs_stores first last (gains i true) (EntersName i name kind) (AnyAt Inside) 34 third entry j [] (λ other all. prepared_same image other wf (trees_of other all).prepared) all_inside commits tt tt tt
       (λ p v both. both.1) (sym (subst (λ w. address w (cover image (gains i true)) ≡ entry) (sym committed) covered_after)) (omega arith) (sym (need_in_slot image i wf reached can.lacks.directory s found))
       (content_open image [] i (32 * s + 0) entry reached (omega (arith, in_size)) entry_at) (subst IsWellFormed (sym committed) after_well_formed)
-      (enters_over image mid (current_words last) wf trees.prepared i s j name kind can.free (sym (ap (λ o. unwrap_or o (entry_count image i)) found)) enters)
+      (enters_over image mid (current_words last) wf trees.prepared.meaning i s j name kind can.free (sym (ap (λ o. unwrap_or o (entry_count image i)) found)) enters)
 
   pub slot_few : room_in first ≤ room_in last + 63
   slot_few =

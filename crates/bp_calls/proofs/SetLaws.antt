@@ -17,8 +17,8 @@ use Rattle.bp_changes.specs.Effects.{AddsNames, KeepsBlocks}
 use Rattle.bp_changes.proofs.AddsNames.{reached_cases, reached_stays}
 use Rattle.bp_calls.specs.Entered.{IsNewInode, IsReadyEntry, IsReadyBehind}
 use Rattle.bp_shapes.specs.Sets.{AreExact}
-use Rattle.bp_calls.proofs.EnteredLaws.{Enters, entered, entered_blocks}
-use Rattle.bp_calls.proofs.GrownLaws.{GrowsBlocks, grown, grown_blocks}
+use Rattle.bp_calls.proofs.EnteredLaws.{Enters, entered, entered_blocks, entered_file}
+use Rattle.bp_calls.proofs.GrownLaws.{GrowsBlocks, grown, grown_blocks, grown_file}
 use Rattle.bp_calls.proofs.BehindLaws.{has_more, behind_same_blocks, first_block, has_first}
 use Rattle.bp_calls.proofs.AfterLaws.{IsPrepared, agrees_prepared, live_before_too, live_after, reached_before, reached_after}
 
@@ -104,7 +104,7 @@ exact_agrees old new wf agrees = exact_prepared old new wf (agrees_prepared old 
 
 -- ---- over one more name
 
-module _ (old new : Image) (wf : IsWellFormed old) (i s j : ℕ) (adds : AddsNames old new i s j) (blocks inodes : Set) (exact : AreExact old blocks inodes) (free : IsFreeInode old j) where
+module _ (old new : Image) (wf : IsWellFormed old) (i s j : ℕ) (adds : AddsNames old new i s j) (blocks inodes : Set) (exact : AreExact old blocks inodes) (free : IsFreeInode old j) (same_file : size_of new 0 ≡ size_of old 0) where
   no_new_block : (t b : ℕ) → t ≡ j → HasBlock new (root_of new t) (size_of new t) b → ⊥
   no_new_block t b e has = empty_has_none new (root_of new t) b (rw (ap (size_of new) e ∙ adds.new_size) at has)
 
@@ -121,7 +121,7 @@ module _ (old new : Image) (wf : IsWellFormed old) (i s j : ℕ) (adds : AddsNam
 
   inodes_taken : AreFreeInodes new (has (without inodes j))
   inodes_taken =
-      free_inodes_taken old new inodes j adds.inode_bytes (exact.free_inodes.all j free) (IsReached.named s (reached_stays old new wf i s j adds i adds.reached) adds.entry)
+      free_inodes_taken old new inodes j same_file (exact.free_inodes.all j free) (IsReached.named s (reached_stays old new wf i s j adds i adds.reached) adds.entry)
       (reached_cases old new wf i s j adds) (reached_stays old new wf i s j adds) exact.free_inodes
 
   pub exact_added : KeepsBlocks old new → AreExact new blocks (without inodes j)
@@ -149,7 +149,7 @@ pub exact_entered : (old : Image) → IsWellFormed old → (i s j kind place : �
     ContentStandsAt old i (32 * s + 0) place → (blocks inodes : Set) → AreExact old blocks inodes → AreExact (set old place j) blocks (without inodes j)
 exact_entered old wf i s j kind place name fresh ready form missing stands blocks inodes exact =
     exact_added old (set old place j) wf i s j (entered old wf i s j kind place name fresh ready form missing stands).adds blocks inodes exact fresh.free
-    (entered_blocks old wf i s j kind place name fresh ready form missing stands)
+    (entered_file old wf i s j kind place name fresh ready form missing stands) (entered_blocks old wf i s j kind place name fresh ready form missing stands)
 
 -- the directory grew over a ready entry
 module _ (old : Image) (wf : IsWellFormed old) (i j kind place : ℕ) (name : Name) (fresh : IsNewInode old j kind) (ready : IsReadyBehind old i j name) (form : IsName name) (missing : slot_named old i name ≡ None)
@@ -163,6 +163,9 @@ module _ (old : Image) (wf : IsWellFormed old) (i j kind place : ℕ) (name : Na
   enters : Enters old new i (size_of old i / 256) j name kind
   enters = grown old wf i j kind place name fresh ready form missing stands
 
+  same_file : size_of new 0 ≡ size_of old 0
+  same_file = grown_file old wf i j place name ready stands
+
   stay_on : (t b : ℕ) → IsReached old t → HasBlock old (root_of old t) (size_of old t) b → HasBlock new (root_of new t) (size_of new t) b
   stay_on t b reached has = go (cases_eq t i)
     where
@@ -175,7 +178,7 @@ module _ (old : Image) (wf : IsWellFormed old) (i j kind place : ℕ) (name : Na
   -- no block is new
   pub exact_grown : ((b : ℕ) → HasBlock old (root_of old i) (size_of old i + 256) b → HasBlock old (root_of old i) (size_of old i) b) → AreExact new blocks (without inodes j)
   exact_grown same =
-      exact_added old new wf i (size_of old i / 256) j enters.adds blocks inodes exact fresh.free (record { back = λ t b reached has. go t b (grows.back t b reached has); stay = stay_on })
+      exact_added old new wf i (size_of old i / 256) j enters.adds blocks inodes exact fresh.free same_file (record { back = λ t b reached has. go t b (grows.back t b reached has); stay = stay_on })
     where
       go : (t b : ℕ) → HasBlock old (root_of old t) (size_of old t) b ⊎ ((t ≡ i) × HasBlock old (root_of old i) (size_of old i + 256) b) → HasBlock old (root_of old t) (size_of old t) b
       go t b (inl before) = before
@@ -187,7 +190,7 @@ module _ (old : Image) (wf : IsWellFormed old) (i j kind place : ℕ) (name : Na
   -- the first block of the directory is new
   pub exact_grown_first : (b : ℕ) → size_of old i ≡ 0 → root_of old i ≡ 4096 * b → IsFreeBlock old b → AreExact new (without blocks b) (without inodes j)
   exact_grown_first b empty root open_block =
-      exact_added_block old new wf i (size_of old i / 256) j enters.adds blocks inodes exact fresh.free b open_block
+      exact_added_block old new wf i (size_of old i / 256) j enters.adds blocks inodes exact fresh.free same_file b open_block
       (record { tree = i; reached = reached_stays old new wf i (size_of old i / 256) j enters.adds i ready.reached; has = grows.here b (has_first old i b empty root open_block) })
       (λ t x reached has. go t x reached (grows.back t x reached has)) stay_on
     where

@@ -1,21 +1,26 @@
--- One name more, over a preparation, and what it makes of the plain tree.
-use Rattle.std.proofs.Common.{◌≡◌, ◌⊎◌, ℕ, ◌<◌, [], ◌==◌, if◌then◌else◌, refl, sym, ◌∙◌, inl, inr, unwrap_or}
+-- One name more, over what nobody sees, and what it makes of the plain tree.
+use Rattle.std.proofs.Common.{◌≡◌, ◌⊎◌, ℕ, zero, suc, ◌<◌, ◌≤◌, [], ◌==◌, if◌then◌else◌, refl, sym, ◌∙◌, ap₂, arith, inl, inr, le_trans, unwrap_or}
+use Rattle.std.proofs.lemmas.Bool.{cases_lt}
 use Rattle.bp_layout.specs.Words.{Image}
 use Rattle.bp_layout.specs.Fields.{kind_word}
 use Rattle.bp_layout.specs.Directory.{Name, EntryNames, empty_slot, entry_count}
 use Rattle.bp_layout.specs.Free.{IsFreeInode}
-use Rattle.bp_layout.specs.Inode.{kind_of}
+use Rattle.bp_layout.specs.Inode.{kind_of, size_of, inode_count}
 use Rattle.bp_layout.specs.Lookup.Node.{dir, file}
 use Rattle.bp_layout.specs.Reached.{IsReached}
 use Rattle.bp_layout.specs.WellFormed.{IsWellFormed}
 use Rattle.bp_layout.specs.declared.fields.Kind.{Kind}
 use Rattle.bp_layout.specs.declared.fields.Kind.TheVariants.{File, Dir}
 use Rattle.bp_changes.specs.Effects.{AddsNames, IsNewEntry}
+use Rattle.bp_changes.specs.SameMeaning.{SameMeaning}
 use Rattle.bp_changes.proofs.AddsNames.{linked_well_formed}
+use Rattle.bp_changes.proofs.ReachedOn.{names_on, reached_on}
+use Rattle.bp_changes.proofs.SameMeaning.{reached-back}
+use Rattle.bp_layout.proofs.View.{SameDirectories}
 use Rattle.bp_stands.proofs.NameStands.{names_stand}
 use Rattle.bp_calls.specs.Created.{EntersName, GainsName, empty_node}
 use Rattle.bp_calls.proofs.EnteredLaws.{Enters}
-use Rattle.bp_calls.proofs.AfterLaws.{IsPrepared, kind_after, name_after, names_after, reached_after, reached_before, size_after}
+use Rattle.bp_calls.proofs.AfterLaws.{directories_over, empty_slot_over}
 
 pub enters_well_formed : (old new : Image) → IsWellFormed old → (i s j kind : ℕ) (name : Name) → Enters old new i s j name kind → IsWellFormed new
 enters_well_formed old new wf i s j kind name enters = linked_well_formed old new wf i s j enters.adds
@@ -30,61 +35,91 @@ pub entered_gains : (old new : Image) → IsWellFormed old → (i : ℕ) (name :
 entered_gains old new wf i name kind enters tree here stands found =
     rw (enters.name_is, node_is _ kind enters.kind_is) at (names_stand old new wf i enters.slot enters.inode enters.adds tree here stands found)
 
--- ---- the same over a preparation
+-- ---- the same over what nobody sees
 
-module _ (old mid new : Image) (wf : IsWellFormed old) (prepared : IsPrepared old mid) (i s j : ℕ) where
+-- The image in the middle means the same as the first. Its inode file may have grown.
+module _ (old mid new : Image) (wf : IsWellFormed old) (same : SameMeaning old mid) where
   on : (t : ℕ) → IsReached old t → IsReached mid t
-  on = reached_after old mid wf prepared
+  on = reached_on old mid same
 
-  names_on : (u r k : ℕ) → IsReached old u → EntryNames old u r k → EntryNames mid u r k
-  names_on = names_after old mid wf prepared
+  alike : SameDirectories old mid
+  alike = directories_over old mid wf same
 
   names_before : (u r k : ℕ) → IsReached old u → EntryNames mid u r k → EntryNames old u r k
   names_before u r k reached n =
-      let kind : kind_of old u ≡ 2 = sym (kind_after old mid wf prepared u reached) ∙ n.directory in
-      let low : r < entry_count old u = rw (size_after old mid wf prepared u reached) at n.in_size in
-      record { directory = kind; in_size = low; inumber = sym (prepared.meaning.inumber u r reached kind low) ∙ n.inumber; not_empty = n.not_empty }
+      let kind : kind_of old u ≡ 2 = sym (same.kind u reached) ∙ n.directory in
+      let low : r < entry_count old u = rw (alike.count u reached kind) at n.in_size in
+      record { directory = kind; in_size = low; inumber = sym (same.inumber u r reached kind low) ∙ n.inumber; not_empty = n.not_empty }
 
-  pub adds_over : AddsNames mid new i s j → AddsNames old new i s j
-  adds_over adds = record {
-    reached = reached_before old mid wf prepared i adds.reached;
+  file_stays : (u : ℕ) → IsReached old u → kind_of old u ≡ 1 → size_of mid u ≡ size_of old u
+  file_stays zero reached kind = absurd (omega (arith, kind))
+  file_stays (suc u) reached kind = same.size u reached
+
+  pub adds_over : (i s j : ℕ) → AddsNames mid new i s j → AddsNames old new i s j
+  adds_over i s j adds = record {
+    reached = here;
     fresh = λ r. adds.fresh (on j r);
-    in_file = rw prepared.inode_bytes at adds.in_file;
     trees = record {
-      whole = adds.trees.whole ∙ prepared.meaning.whole;
-      marked = adds.trees.marked ∙ prepared.meaning.marked;
-      counted = adds.trees.counted ∙ prepared.meaning.counted;
+      whole = adds.trees.whole ∙ same.whole;
+      marked = adds.trees.marked ∙ same.marked;
+      counted = adds.trees.counted ∙ same.counted;
       sound = λ t r. adds.trees.sound t (on t r);
       apart = λ t u b r q. adds.trees.apart t u b (on t r) (on u q);
       full_inode_file = adds.trees.full_inode_file;
-      full_directories = λ u r kind. adds.trees.full_directories u (on u r) (kind_after old mid wf prepared u r ∙ kind);
+      full_directories = λ u r kind. adds.trees.full_directories u (on u r) (same.kind u r ∙ kind);
     };
-    inode_bytes = adds.inode_bytes ∙ prepared.inode_bytes;
-    kind = λ u r. adds.kind u (on u r) ∙ kind_after old mid wf prepared u r;
+    inode_bytes = le_trans same.inodes adds.inode_bytes;
+    inode_blocks = adds.inode_blocks;
+    in_file = adds.in_file;
+    kind = λ u r. adds.kind u (on u r) ∙ same.kind u r;
     new_kind = adds.new_kind;
     new_size = adds.new_size;
-    file_size = λ u r kind. adds.file_size u (on u r) (kind_after old mid wf prepared u r ∙ kind) ∙ size_after old mid wf prepared u r;
-    directory_size = λ u r kind. adds.directory_size u (on u r) (kind_after old mid wf prepared u r ∙ kind);
+    file_size = λ u r kind. adds.file_size u (on u r) (same.kind u r ∙ kind) ∙ file_stays u r kind;
+    directory_size = λ u r kind. adds.directory_size u (on u r) (same.kind u r ∙ kind);
     back = λ u r k reached n. back u r k reached (adds.back u r k (on u reached) n);
-    stay = λ u r k reached n. adds.stay u r k (on u reached) (names_on u r k reached n);
+    stay = λ u r k reached n. adds.stay u r k (on u reached) (names_on old mid same u r k reached n);
     entry = adds.entry;
-    same_names = λ u r k reached n. adds.same_names u r k (on u reached) (names_on u r k reached n) ∙ name_after old mid wf prepared u r k reached n;
+    same_names = λ u r k reached n. adds.same_names u r k (on u reached) (names_on old mid same u r k reached n) ∙ alike.name u r k reached n;
     name = adds.name;
-    new_name = λ r k n same. adds.new_name r k (names_on i r k (reached_before old mid wf prepared i adds.reached) n) (name_after old mid wf prepared i r k (reached_before old mid wf prepared i adds.reached) n ∙ same);
-    bytes = λ u o r kind low. adds.bytes u o (on u r) (kind_after old mid wf prepared u r ∙ kind) (rw (size_after old mid wf prepared u r) low) ∙ prepared.meaning.bytes u o r kind low;
+    new_name = λ r k n clash. adds.new_name r k (names_on old mid same i r k here n) (alike.name i r k here n ∙ clash);
+    bytes = λ u o r kind low. adds.bytes u o (on u r) (same.kind u r ∙ kind) (rw (file_stays u r kind) low) ∙ same.bytes u o r kind low;
   }
     where
+      here : IsReached old i
+      here = reached-back old mid wf same i adds.reached
+
       back : (u r k : ℕ) → IsReached old u → IsNewEntry i s j u r k ⊎ EntryNames mid u r k → IsNewEntry i s j u r k ⊎ EntryNames old u r k
       back u r k reached (inl fresh) = inl fresh
       back u r k reached (inr n) = inr (names_before u r k reached n)
 
-  pub enters_over : (name : Name) (kind : Kind) → IsFreeInode old j → s ≡ unwrap_or (empty_slot old i) (entry_count old i) → Enters mid new i s j name (kind_word kind) → EntersName i name kind old new
-  enters_over name kind free slot enters = record {
+  pub enters_over : (i s j : ℕ) (name : Name) (kind : Kind) → IsFreeInode old j → s ≡ unwrap_or (empty_slot old i) (entry_count old i) → Enters mid new i s j name (kind_word kind) →
+      EntersName i name kind old new
+  enters_over i s j name kind free slot enters = record {
     slot = s;
     inode = j;
-    free = free;
+    was_free = inl free;
     slot_is = slot;
-    adds = adds_over enters.adds;
+    adds = adds_over i s j enters.adds;
     name_is = enters.spelled;
     kind_is = enters.kind_is;
   }
+
+  -- so a name that came into the image in the middle came into the first
+  pub entered_over : (i : ℕ) (name : Name) (kind : Kind) → kind_of old i ≡ 2 → EntersName i name kind mid new → EntersName i name kind old new
+  entered_over i name kind directory enters = record {
+    slot = enters.slot;
+    inode = enters.inode;
+    was_free = was enters.was_free (cases_lt enters.inode (inode_count old));
+    slot_is = enters.slot_is ∙ ap₂ (λ o n. unwrap_or o n) (empty_slot_over old mid wf same i here directory) (alike.count i here directory);
+    adds = adds_over i enters.slot enters.inode enters.adds;
+    name_is = enters.name_is;
+    kind_is = enters.kind_is;
+  }
+    where
+      here : IsReached old i
+      here = reached-back old mid wf same i enters.adds.reached
+
+      was : IsFreeInode mid enters.inode ⊎ (inode_count mid ≤ enters.inode) → (enters.inode < inode_count old) ⊎ (inode_count old ≤ enters.inode) → IsFreeInode old enters.inode ⊎ (inode_count old ≤ enters.inode)
+      was before (inr behind) = inr behind
+      was (inl free) (inl low) = inl (record { low = free.low; high = low; free = λ reached. free.free (on enters.inode reached) })
+      was (inr far) (inl low) = absurd (let more : size_of old 0 ≤ size_of mid 0 = same.inodes in omega (arith, low, far, more))

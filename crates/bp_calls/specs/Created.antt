@@ -1,9 +1,9 @@
 -- What a call that creates a name makes of an image, and why it is refused.
-use Rattle.std.specs.Prelude.{◌≡◌, ℕ, ◌%◌, ◌<◌, [], ◌∷◌, ◌++◌, true, false, None, Some, unwrap_or}
+use Rattle.std.specs.Prelude.{◌≡◌, ◌⊎◌, ℕ, ◌%◌, ◌<◌, ◌≤◌, [], ◌∷◌, ◌++◌, true, false, None, Some, unwrap_or}
 use Rattle.std.specs.FinMap.{insert}
 use Rattle.bp_layout.specs.Directory.{Name, empty_slot, entry_count, name_at}
 use Rattle.bp_layout.specs.Free.{HasFree, IsFreeInode, TellsFreeInode}
-use Rattle.bp_layout.specs.Inode.{kind_of, size_of}
+use Rattle.bp_layout.specs.Inode.{inode_count, kind_of, size_of}
 use Rattle.bp_layout.specs.Lookup.{Path, Node, lookup}
 use Rattle.bp_layout.specs.Lookup.Node.{dir, file}
 use Rattle.bp_layout.specs.Need.{need}
@@ -30,12 +30,12 @@ pub record NeedsLeaf (image : Image) (i : ℕ) : Type 0 where
   pub some : 0 < size_of image i
   pub full : size_of image i % block_size ≡ 0
 
--- The name comes into directory i: its least empty entry, or one behind the last where none is empty, names an inode of this kind, without bytes, that was free.
--- All other entries keep their slots, their names and what they name.
+-- The name comes into directory i: its least empty entry, or one behind the last where none is empty, names an inode of this kind, without bytes, that was free, or
+-- lies behind the last one that the inode file had. All other entries keep their slots, their names and what they name.
 pub record EntersName (i : ℕ) (name : Name) (kind : Kind) (old new : Image) : Type 0 where
   pub slot : ℕ
   pub inode : ℕ
-  pub free : IsFreeInode old inode
+  pub was_free : IsFreeInode old inode ⊎ (inode_count old ≤ inode)
   pub slot_is : slot ≡ unwrap_or (empty_slot old i) (entry_count old i)
   pub adds : AddsNames old new i slot inode
   pub name_is : name_at new i slot ≡ name

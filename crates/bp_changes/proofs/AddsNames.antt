@@ -1,5 +1,5 @@
 -- One more entry in one directory: the name shows the inode, all other names stay, and the tree gains one entry.
-use Rattle.std.proofs.Common.{◌≡◌, ◌≢◌, ◌⊎◌, ℕ, suc, ◌/◌, ◌%◌, ◌<◌, ◌≤◌, [], Bool, true, false, ◌==◌, if◌then◌else◌, length, Option, None, Some, refl, sym, ◌∙◌, ap, subst, subst₂, arith, inl, inr}
+use Rattle.std.proofs.Common.{◌≡◌, ◌≢◌, ◌⊎◌, ℕ, suc, ◌/◌, ◌%◌, ◌<◌, ◌≤◌, [], Bool, true, false, ◌==◌, if◌then◌else◌, length, Option, None, Some, refl, sym, ◌∙◌, ap, subst, subst₂, arith, inl, inr, le_trans}
 use Rattle.std.proofs.lemmas.Bool.{eqb-true}
 use Rattle.bp_layout.specs.Words.{Image}
 use Rattle.bp_layout.specs.Tree.{HasBlock, IsSound, IsFull}
@@ -75,7 +75,6 @@ module _ (old new : Image) (wf : IsWellFormed old) (i s j : ℕ) (adds : AddsNam
   pub linked_well_formed : IsWellFormed new
   linked_well_formed =
       let whole : length new ≡ length old = adds.trees.whole in
-      let inodes : size_of new 0 ≡ size_of old 0 = adds.inode_bytes in
       record {
         whole = rw whole wf.whole;
         at_least = rw whole wf.at_least;
@@ -86,9 +85,9 @@ module _ (old new : Image) (wf : IsWellFormed old) (i s j : ℕ) (adds : AddsNam
         apart = λ t u b r q one two. apart_cases t u b (reached_cases t r) (reached_cases u q) one two;
         full_inode_file = adds.trees.full_inode_file;
         full_directories = λ t r kind. full_cases t (reached_cases t r) kind;
-        inode_blocks = rw inodes wf.inode_blocks;
-        some_inodes = rw inodes wf.some_inodes;
-        inumbers = λ u r k q n. rw inodes (in_file_cases u r k (entry_cases u r k q n));
+        inode_blocks = adds.inode_blocks;
+        some_inodes = le_trans wf.some_inodes adds.inode_bytes;
+        inumbers = λ u r k q n. in_file_cases u r k (entry_cases u r k q n);
         not_root = λ u r k q n. not_root_cases u r k (entry_cases u r k q n);
         named_once = λ u r v q k from also n m. once_cases u r v q k (entry_cases u r k from n) (entry_cases v q k also m);
         kinds = λ u r. kind_cases u (reached_cases (suc u) r);
@@ -98,9 +97,9 @@ module _ (old new : Image) (wf : IsWellFormed old) (i s j : ℕ) (adds : AddsNam
         names_once = λ u r q k l from n m e. names_once_cases u r q k l (entry_cases u r k from n) (entry_cases u q l from m) e;
       }
     where
-      in_file_cases : (u r k : ℕ) → IsNewEntry i s j u r k ⊎ (IsReached old u × EntryNames old u r k) → k < inode_count old
+      in_file_cases : (u r k : ℕ) → IsNewEntry i s j u r k ⊎ (IsReached old u × EntryNames old u r k) → k < inode_count new
       in_file_cases u r k (inl e) = rw e.inode adds.in_file
-      in_file_cases u r k (inr e) = wf.inumbers u r k e.0 e.1
+      in_file_cases u r k (inr e) = let low : k < inode_count old = wf.inumbers u r k e.0 e.1 in omega (arith, low, adds.inode_bytes)
 
       not_root_cases : (u r k : ℕ) → IsNewEntry i s j u r k ⊎ (IsReached old u × EntryNames old u r k) → k ≢ 1
       not_root_cases u r k (inl e) one = adds.fresh (subst (IsReached old) (sym one ∙ e.inode) root_directory)

@@ -99,13 +99,17 @@ module _ (old new : Image) (wf : IsWellFormed old) (i s j : ℕ) (can : CanLink 
   pub name_of_new : name_at new i s ≡ name_at old i s
   name_of_new = name_stays i s can.reached can.directory can.in_size can.name.short
 
+  file_stays : size_of new 0 ≡ size_of old 0
+  file_stays = sizes_stay 0 (in_inodes 0 inode_file)
+
   pub entry_adds : AddsNames old new i s j
   entry_adds = record {
     reached = can.reached;
     fresh = can.fresh;
-    in_file = can.in_file;
     trees = adds.trees;
-    inode_bytes = sizes_stay 0 (in_inodes 0 inode_file);
+    inode_bytes = rw file_stays (omega arith);
+    inode_blocks = rw file_stays wf.inode_blocks;
+    in_file = rw file_stays can.in_file;
     kind = λ u r. kinds_stay u (in_inodes u r);
     new_kind = rw (kinds_stay j can.in_file) can.kind;
     new_size = sizes_stay j can.in_file ∙ can.nothing;

@@ -1,7 +1,7 @@
 -- What a change makes of an image: told of the trees that the first image reaches, by slots and inodes. The second may
 -- have its trees in other blocks.
 use Rattle.std.specs.Prelude.{◌≡◌, ◌≢◌, ◌⊎◌, ℕ, ◌+◌, ◌*◌, ◌%◌, ◌<◌, ◌≤◌, length}
-use Rattle.bp_limits.specs.Limits.{super_magic, super_blocks, entry_size}
+use Rattle.bp_limits.specs.Limits.{super_magic, super_blocks, block_size, entry_size}
 use Rattle.bp_layout.specs.Words.{Image, word}
 use Rattle.bp_layout.specs.Tree.{byte, HasBlock, IsSound, IsFull}
 use Rattle.bp_layout.specs.Inode.{kind_of, root_of, size_of, inode_count}
@@ -65,13 +65,14 @@ pub record IsNewEntry (i s j u r k : ℕ) : Type 0 where
   pub inode : k ≡ j
 
 -- One more entry, at slot s of directory i, for an inode without bytes that nobody named. The slot was empty, or the
--- directory grew by it.
+-- directory grew by it. The inode file may have grown too, and the inode may lie in what it got.
 pub record AddsNames (old new : Image) (i s j : ℕ) : Type 0 where
   pub reached : IsReached old i
   pub fresh : IsReached old j → ⊥
-  pub in_file : j < inode_count old
   pub trees : KeepsTrees old new
-  pub inode_bytes : size_of new 0 ≡ size_of old 0
+  pub inode_bytes : size_of old 0 ≤ size_of new 0
+  pub inode_blocks : size_of new 0 % block_size ≡ 0
+  pub in_file : j < inode_count new
   pub kind : (u : ℕ) → IsReached old u → kind_of new u ≡ kind_of old u
   pub new_kind : (1 ≤ kind_of new j) × (kind_of new j ≤ 2)
   pub new_size : size_of new j ≡ 0

@@ -24,3 +24,10 @@ pub mod WriteBehind
 pub mod Longer
 pub mod Shorter
 pub mod ResizedStands
+pub mod GrowthImage
+pub mod GrowthLaws
+pub mod GrowthWithin
+pub mod GrowthMemory
+pub mod GrowthRoom
+pub mod GrowthSets
+pub mod GrowthPerforms

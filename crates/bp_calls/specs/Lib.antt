@@ -11,3 +11,4 @@ pub mod CutBelow
 pub mod Space
 pub mod CanWrite
 pub mod WritesFile
+pub mod Growth

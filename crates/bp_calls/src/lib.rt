@@ -5,6 +5,7 @@ mod creating;
 mod entering;
 mod fault;
 mod giving;
+mod growing;
 pub mod laws;
 mod reading;
 mod resizing;

@@ -1,0 +1,106 @@
+-- One more leaf of the inode file: what its preparation asks, and what it leaves.
+use Rattle.std.proofs.Common.{◌≡◌, ℕ, suc, ◌+◌, ◌*◌, ◌/◌, ◌%◌, ◌<◌, ◌≤◌, List, [], ◌∷◌, length, refl, sym, ◌∙◌, ap, subst, subst₂, arith}
+use Rattle.std.proofs.lemmas.List.{length-append}
+use Rattle.bp_append.specs.Prepared.{CanPrepare, PreparesWith, need_for}
+use Rattle.bp_append.proofs.StoresLaws.{behind_whole}
+use Rattle.bp_append.proofs.FewNeeded.{few_needed}
+use Rattle.bp_inodes.proofs.FewInodes.{few_leaves}
+use Rattle.bp_free.specs.Set.{Set, Fills, members}
+use Rattle.bp_layout.specs.Inode.{root_of, size_of}
+use Rattle.bp_layout.specs.Reached.IsReached.{inode_file}
+use Rattle.bp_layout.specs.WellFormed.{IsWellFormed}
+use Rattle.bp_layout.specs.Words.{Image, block_count}
+use Rattle.bp_limits.specs.Limits.{block_size, inode_size, max_blocks, max_height, max_size, super_size}
+use Rattle.bp_tree.proofs.RegionWords.{length_now}
+use Rattle.bp_layout.specs.WordPaths.{WordPath}
+use Rattle.bp_shapes.specs.Sets.{AreExact}
+use Rattle.pm_epochs.specs.declared.event.Event.TheVariants.{Store, Barrier}
+use Rattle.pm_region.specs.Memory.{Memory, Adds, current_words, room_in}
+use Rattle.pm_region.proofs.MemoryLaws.{base-adds, length-current_words, room_in-piece}
+use Rattle.bp_calls.specs.Growth.{AddsInodes, CanGrowInodes, GrowsInodes, growth_need}
+use Rattle.bp_calls.proofs.GrowthMemory.{grown, grows, growth_need_is}
+use Rattle.bp_calls.proofs.GrowthSets.{exact_grown}
+use Rattle.bp_calls.proofs.TakenBlocks.{unused_members, usable_members}
+
+module _ (image : Image) (wf : IsWellFormed image) where
+  -- its leaves are different blocks, and block 0 is none of them
+  pub inodes_end_low : size_of image 0 + block_size ≤ block_size * block_count image
+  inodes_end_low =
+      let few : size_of image 0 / 4096 < block_count image =
+      few_leaves image (root_of image 0) (size_of image 0) (wf.sound 0 inode_file) wf.full_inode_file (omega (arith, wf.at_least)) (size_of image 0 / 4096) (λ k low. omega (arith, low)) in
+      omega (arith, few, wf.inode_blocks)
+
+  pub inodes_end_fits : size_of image 0 + block_size ≤ max_size
+  inodes_end_fits = omega (arith, inodes_end_low, wf.at_most)
+
+  pub growth_few : growth_need image ≤ 18 + 3 * max_height
+  growth_few =
+      let few : need_for image 0 (size_of image 0) (size_of image 0 + block_size) ≤ 18 + 3 * max_height =
+      few_needed image (root_of image 0) (size_of image 0) (size_of image 0) (size_of image 0 + block_size) (omega arith) (omega arith) (wf.sound 0 inode_file).low in
+      omega (arith, few, growth_need_is image)
+
+can_prepare : (old : Memory) (blocks inodes : Set) → CanGrowInodes old blocks inodes →
+    CanPrepare old (members blocks) 0 [] (size_of (current_words old) 0) (size_of (current_words old) 0 + block_size)
+can_prepare old blocks inodes can = record {
+  well = can.well_formed;
+  reached = inode_file;
+  leads = refl;
+  behind = omega arith;
+  order = omega arith;
+  fits = inodes_end_fits (current_words old) can.well_formed;
+  by_words = λ by. refl;
+  usable = usable_members (current_words old) blocks inodes can.exact (length old.base / 512) (omega (arith, length_now old));
+  unused = unused_members (current_words old) blocks inodes can.exact;
+  enough = omega (arith, can.enough, growth_need_is (current_words old));
+  room = omega (arith, growth_few (current_words old) can.well_formed, growth_need_is (current_words old), can.room);
+}
+
+-- ---- the parts of the growth, by the path and the size that are read
+
+module _ (old : Memory) (blocks inodes : Set) (path : WordPath) (size : ℕ) (can : CanGrowInodes old blocks inodes) (top : path ≡ []) (is : size ≡ size_of (current_words old) 0) where
+  abbrev Ready : WordPath → ℕ → Type 0
+  Ready at from = CanPrepare old (members blocks) 0 at from (from + block_size)
+
+  pub can_prepare_at : Ready path size
+  can_prepare_at = subst₂ Ready (sym top) (sym is) (can_prepare old blocks inodes can)
+
+  -- as many inodes as the set has room for
+  pub last_fits : (size + block_size) / inode_size ≤ length inodes
+  last_fits = omega (arith, is, inodes_end_low (current_words old) can.well_formed, can.exact.inode_room)
+
+  pub last_low : (size + block_size) / inode_size ≤ block_size / inode_size * max_blocks
+  last_low = omega (arith, last_fits, can.exact.inode_room, can.well_formed.at_most)
+
+  module _ (middle : Memory) (after : Set) (prepares : Ready path size → PreparesWith old middle (members blocks) (members after) 0 size (size + block_size) []) where
+    prepared : PreparesWith old middle (members blocks) (members after) 0 (size_of (current_words old) 0) (size_of (current_words old) 0 + block_size) []
+    prepared = subst (λ s. PreparesWith old middle (members blocks) (members after) 0 s (s + block_size) []) is (prepares can_prepare_at)
+
+    pub base_prepared : super_size < length middle.base
+    base_prepared = omega (arith, ap length (base-adds old middle prepared.adds.part.added prepared.adds.part.adds), length-current_words old, can.well_formed.whole, can.well_formed.at_least)
+
+    -- for the store of the size and its barrier
+    pub room_prepared : 2 ≤ room_in middle
+    room_prepared =
+        let few = growth_few (current_words old) can.well_formed in
+        let stores = behind_whole (size_of (current_words old) 0) (size_of (current_words old) 0) (size_of (current_words old) 0 + block_size) max_height in
+        let left = room_in-piece _ _ old middle prepared.adds.part.added prepared.adds.part.adds prepared.adds.part.piece in
+        enough _ _ _ _ left stores (rw (growth_need_is (current_words old)) at few) can.room
+      where
+        enough : (needed behind room left : ℕ) → room ≤ left + (2 + (512 * needed + behind + 2)) → behind ≤ 512 * suc 3 → needed ≤ 18 + 3 * 3 → 65536 ≤ room → 2 ≤ left
+        enough needed behind room left a b c d = omega (arith, a, b, c, d)
+
+    module _ (new : Memory) (stored : Adds middle new (Store super_size (size + block_size) ∷ Barrier ∷ [])) where
+      pub grew : GrowsInodes old new
+      grew = grows old middle new (members blocks) (members after) can.well_formed prepared (subst (λ s. Adds middle new (Store super_size (s + block_size) ∷ Barrier ∷ [])) is stored)
+
+      module _ (filled : Set) (room : length after ≡ length blocks) (fills : Fills (size / inode_size) ((size + block_size) / inode_size) inodes filled) where
+        pub exact_behind : AreExact (current_words new) after filled
+        exact_behind =
+            exact_grown (current_words old) (current_words new) prepared.taken can.well_formed grown_here blocks after inodes filled can.exact prepared.takes room
+            (subst (λ s. Fills (s / inode_size) ((s + block_size) / inode_size) inodes filled) is fills)
+          where
+            grown_here : AddsInodes (current_words old) (current_words new) prepared.taken
+            grown_here = grown old middle new (members blocks) (members after) can.well_formed prepared (subst (λ s. Adds middle new (Store super_size (s + block_size) ∷ Barrier ∷ [])) is stored)
+
+    pub left_behind : length (members blocks) ≡ growth_need (current_words old) + length (members after)
+    left_behind = omega (arith, ap length prepared.takes ∙ length-append prepared.taken (members after), prepared.counted, growth_need_is (current_words old))

@@ -1,0 +1,52 @@
+use Rattle.std.proofs.Common.{arith}
+use Rattle.pm_region.proofs.MemoryLaws.{adds_both, room_in-adds}
+use Rattle.pm_region.specs.Memory.{current_words}
+use Rattle.bp_calls.proofs.GrowthRoom.{inodes_end_fits, can_prepare_at, last_fits, last_low, base_prepared, room_prepared, grew, exact_behind, left_behind}
+use Rattle.bp_calls.proofs.growing.grow.Goals as goal
+
+pub overflow_add-end : goal.overflow_add-end
+overflow_add-end g c =
+    let words = current_words (g.R.Region.memory c.args.parts.now.region) in
+    omega (arith, inodes_end_fits words c.requires.can.well_formed, c.inode_file-size.ensures.size)
+
+pub prep-requires : goal.prep-requires
+prep-requires g c =
+    let old = g.R.Region.memory c.args.parts.now.region in
+    record { can = (0, can_prepare_at old c.args.parts.now.blocks c.args.parts.now.inodes c.new.result.items c.inode_file-size.result.size c.requires.can c.new.ensures c.inode_file-size.ensures.size) }
+
+pub store-requires-clause-in_range : goal.store-requires-clause-in_range
+store-requires-clause-in_range g c = base_prepared (g.R.Region.memory c.args.parts.now.region) c.args.parts.now.blocks c.args.parts.now.inodes c.new.result.items c.inode_file-size.result.size c.requires.can c.new.ensures c.inode_file-size.ensures.size (g.R.Region.memory c.prep.new.parts.region) c.prep.new.parts.blocks (c.prep.ensures.prepares 0)
+
+pub store-requires-clause-room : goal.store-requires-clause-room
+store-requires-clause-room g c = omega (arith, room_prepared (g.R.Region.memory c.args.parts.now.region) c.args.parts.now.blocks c.args.parts.now.inodes c.new.result.items c.inode_file-size.result.size c.requires.can c.new.ensures c.inode_file-size.ensures.size (g.R.Region.memory c.prep.new.parts.region) c.prep.new.parts.blocks (c.prep.ensures.prepares 0))
+
+pub barrier-requires : goal.barrier-requires
+barrier-requires g c =
+    omega (arith, room_prepared (g.R.Region.memory c.args.parts.now.region) c.args.parts.now.blocks c.args.parts.now.inodes c.new.result.items c.inode_file-size.result.size c.requires.can c.new.ensures c.inode_file-size.ensures.size (g.R.Region.memory c.prep.new.parts.region) c.prep.new.parts.blocks (c.prep.ensures.prepares 0), room_in-adds (g.R.Region.memory c.prep.new.parts.region) (g.R.Region.memory c.store.new.self) _ c.store.ensures)
+
+pub overflow_cast-size : goal.overflow_cast-size
+overflow_cast-size g c = omega (arith, last_low (g.R.Region.memory c.args.parts.now.region) c.args.parts.now.blocks c.args.parts.now.inodes c.new.result.items c.inode_file-size.result.size c.requires.can c.new.ensures c.inode_file-size.ensures.size)
+
+pub overflow_cast-end : goal.overflow_cast-end
+overflow_cast-end g c = omega (arith, last_low (g.R.Region.memory c.args.parts.now.region) c.args.parts.now.blocks c.args.parts.now.inodes c.new.result.items c.inode_file-size.result.size c.requires.can c.new.ensures c.inode_file-size.ensures.size)
+
+pub fill-requires-clause-in_range : goal.fill-requires-clause-in_range
+fill-requires-clause-in_range g c = rw c.prep.ensures.inodes (last_fits (g.R.Region.memory c.args.parts.now.region) c.args.parts.now.blocks c.args.parts.now.inodes c.new.result.items c.inode_file-size.result.size c.requires.can c.new.ensures c.inode_file-size.ensures.size)
+
+pub returns : goal.returns
+returns g c =
+    let old = g.R.Region.memory c.args.parts.now.region in
+    let middle = g.R.Region.memory c.prep.new.parts.region in
+    let new = g.R.Region.memory c.barrier.new.self in
+    let blocks = c.args.parts.now.blocks in
+    let inodes = c.args.parts.now.inodes in
+    let after = c.prep.new.parts.blocks in
+    let size = c.inode_file-size.result.size in
+    let is = c.inode_file-size.ensures.size in
+    let prepares = c.prep.ensures.prepares 0 in
+    let stored = adds_both middle (g.R.Region.memory c.store.new.self) new _ _ c.store.ensures c.barrier.ensures in
+    record {
+      grows = grew old blocks inodes c.new.result.items size c.requires.can c.new.ensures is middle after prepares new stored;
+      exact = exact_behind old blocks inodes c.new.result.items size c.requires.can c.new.ensures is middle after prepares new stored c.fill.new.self c.prep.ensures.room (rw c.prep.ensures.inodes at c.fill.ensures);
+      left = left_behind old blocks inodes c.new.result.items size c.requires.can c.new.ensures is middle after prepares;
+    }

@@ -1,0 +1,45 @@
+//! The inode file gets one more leaf of inodes.
+
+ghost use Rattle.std.specs.Prelude.{◌≡◌, ◌+◌, ◌*◌, ◌≤◌, length};
+ghost use Rattle.bp_calls.specs.Growth.{CanGrowInodes, GrowsInodes, growth_need};
+ghost use Rattle.bp_free.specs.Set.{members};
+ghost use Rattle.bp_layout.specs.WellFormed.{IsWellFormed};
+ghost use Rattle.bp_limits.specs.Limits.{max_height};
+ghost use Rattle.bp_shapes.specs.Sets.{AreExact};
+ghost use Rattle.pm_region.specs.Memory.{current_words};
+
+use bp_append::{need_prep, prep};
+use bp_free::Parts;
+use bp_inodes::inode_file;
+use bp_limits::{BLOCK_SIZE, INODE_SIZE, SUPER_SIZE};
+use bp_tree::Slots;
+use pm_region::Region;
+
+/// How many blocks [`grow`] takes.
+pub(crate) fn grow_need<R: Region>(region: &R) -> u32
+    requires { IsWellFormed (current_words (R.memory region.now)) }
+    ensures need { result ≡ growth_need (current_words (R.memory region.now)) }
+    ensures few { result ≤ 18 + 3 * max_height }
+{
+    let inodes = inode_file(region);
+    need_prep(region, inodes, inodes.size, inodes.size + BLOCK_SIZE)
+}
+
+/// Lets the inode file grow by one leaf, whose inodes are zero and free. Nobody sees it at any moment of a crash: the size
+/// is stored once the leaf is linked, and a longer inode file reaches no inode more.
+pub(crate) fn grow<R: Region>(parts: &mut Parts<R>)
+    requires can { CanGrowInodes (R.memory parts.old.region) parts.old.blocks parts.old.inodes }
+    ensures grows { GrowsInodes (R.memory parts.old.region) (R.memory parts.new.region) }
+    ensures exact { AreExact (current_words (R.memory parts.new.region)) parts.new.blocks parts.new.inodes }
+    ensures left { length (members parts.old.blocks) ≡
+        growth_need (current_words (R.memory parts.old.region)) + length (members parts.new.blocks) }
+{
+    let size = inode_file(&parts.region).size;
+    let end = size + BLOCK_SIZE;
+    prep(parts, &Slots::new(), size, &[], end);
+    parts.region.store(SUPER_SIZE, end);
+    parts.region.barrier();
+    parts
+        .inodes
+        .fill((size / INODE_SIZE) as u32, (end / INODE_SIZE) as u32);
+}

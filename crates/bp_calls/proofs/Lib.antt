@@ -30,4 +30,6 @@ pub mod GrowthWithin
 pub mod GrowthMemory
 pub mod GrowthRoom
 pub mod GrowthSets
+pub mod GrowthNodes
+pub mod GrowthCover
 pub mod GrowthPerforms

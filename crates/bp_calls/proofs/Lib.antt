@@ -33,3 +33,4 @@ pub mod GrowthSets
 pub mod GrowthNodes
 pub mod GrowthCover
 pub mod GrowthPerforms
+pub mod WrittenStands

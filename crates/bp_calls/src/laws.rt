@@ -1,8 +1,9 @@
 //! Laws of the paths of words, and of what a new name needs. Each is the contract of a function that does nothing.
 
-ghost use Rattle.std.specs.Prelude.{◌≡◌, ◌≢◌, ℕ, ◌*◌, ◌%◌, ◌<◌, ◌≤◌, [], None, Some, true, length};
+ghost use Rattle.std.specs.Prelude.{◌≡◌, ◌≢◌, ℕ, ◌*◌, ◌%◌, ◌<◌, ◌≤◌, List, [], None, Some, true, length};
 ghost use Rattle.bp_calls.specs.Created.{EntersName, GainsName, NeedsLeaf};
 ghost use Rattle.bp_calls.specs.Resized.{GetsSize, ResizesFile};
+ghost use Rattle.bp_calls.specs.WritesFile.{GetsBytes, WritesFile};
 ghost use Rattle.bp_layout.specs.declared.fields.Kind.{Kind};
 ghost use Rattle.bp_free.specs.Set.{has, members};
 ghost use Rattle.bp_layout.specs.Directory.{Name, empty_slot};
@@ -72,4 +73,12 @@ pub fn entered_names_are_gained(old: &[u64], new: &[u64])
 pub fn resized_files_get_their_size(old: &[u64], new: &[u64])
     requires { IsWellFormed old.now }
     ensures { (i size : ℕ) → ResizesFile i size old.now new.now → GetsSize i size old.now new.now }
+{}
+
+/// A file into which bytes were written has them in the plain tree, at each path that finds it: in place of those that it
+/// had there, and behind zeros where they begin past its end.
+pub fn written_files_get_their_bytes(old: &[u64], new: &[u64])
+    requires { IsWellFormed old.now }
+    ensures { (i off : ℕ) (bytes : List ℕ) → WritesFile i off bytes old.now new.now →
+        GetsBytes i off bytes old.now new.now }
 {}

@@ -1,0 +1,104 @@
+-- The plain tree of an image in which bytes were written into a file.
+use Rattle.std.proofs.Common.{◌≡◌, ◌⊎◌, ℕ, ◌+◌, ◌-◌, ◌<◌, ◌≤◌, max, List, ◌++◌, length, take, drop, replicate, get_or, Some, refl, sym, ◌∙◌, ap, subst, inl, inr, arith, lt-ltb, le-ltb, le-leb}
+use Rattle.std.specs.FinMap.{get}
+use Rattle.std.proofs.lemmas.Bool.{cases_lt}
+use Rattle.std.proofs.lemmas.List.{get_or-append_right, get_or-drop, get_or-replicate, get_or-take, get_or_append_left, length-append, length-drop, length-replicate, length-take}
+use Rattle.std.proofs.lemmas.List.FromFn.{get_or-map-range_with_len, length-map-range_with_len}
+use Rattle.bp_calls.specs.WritesFile.{GetsBytes, WritesFile, written_byte}
+use Rattle.bp_layout.specs.Inode.{root_of, size_of}
+use Rattle.bp_layout.specs.Lookup.{node_of}
+use Rattle.bp_layout.specs.Lookup.Node.{file}
+use Rattle.bp_layout.specs.Tree.{byte, content}
+use Rattle.bp_layout.specs.WellFormed.{IsWellFormed}
+use Rattle.bp_layout.specs.Words.{Image}
+use Rattle.bp_layout.proofs.NameBytes.{map-tells}
+use Rattle.bp_plain.specs.Plain.{bytes_at, bytes_in, with_bytes, written}
+use Rattle.bp_plain.specs.Stands.{Stands}
+use Rattle.bp_stands.proofs.FileStands.{file_stands, one_path}
+use Rattle.bp_calls.proofs.WriteBehind.{written_before, written_between, written_inside}
+
+-- behind the new bytes the old ones stay
+pub written_past : (off : ℕ) (bytes : List ℕ) (size : ℕ) (old : ℕ → ℕ) (o : ℕ) → off + length bytes ≤ o → o < size → written_byte off bytes size old o ≡ old o
+written_past off bytes size old o past below = rw (le-leb off o (omega (arith, past)), le-ltb o (off + length bytes) past, lt-ltb o size below) refl
+
+-- the list with the new bytes, byte by byte
+module _ (had : List ℕ) (off : ℕ) (bytes : List ℕ) where
+  abbrev zeros : List ℕ
+  zeros = replicate (off - length had) 0
+
+  abbrev front : List ℕ
+  front = take off (had ++ zeros)
+
+  abbrev rest : List ℕ
+  rest = drop (off + length bytes) had
+
+  front_length : length front ≡ off
+  front_length = omega (arith, length-take off (had ++ zeros), length-append had zeros, length-replicate {A = ℕ} (off - length had) 0)
+
+  both_length : length (front ++ bytes) ≡ off + length bytes
+  both_length = length-append front bytes ∙ ap (λ n. n + length bytes) front_length
+
+  pub written_length : length (written had off bytes) ≡ max (length had) (off + length bytes)
+  written_length = omega (arith, length-append (front ++ bytes) rest, both_length, length-drop (off + length bytes) had)
+
+  in_front : (o : ℕ) → o < off → get_or (written had off bytes) o 0 ≡ get_or (had ++ zeros) o 0
+  in_front o before =
+      get_or_append_left (front ++ bytes) rest 0 o (omega (arith, before, both_length))
+      ∙ get_or_append_left front bytes 0 o (omega (arith, before, front_length))
+      ∙ get_or-take off (had ++ zeros) o 0 before
+
+  in_bytes : (o : ℕ) → off ≤ o → o < off + length bytes → get_or (written had off bytes) o 0 ≡ get_or bytes (o - off) 0
+  in_bytes o low high = get_or_append_left (front ++ bytes) rest 0 o (omega (arith, high, both_length)) ∙ get_or-append_right front bytes off o 0 front_length low
+
+  in_rest : (o : ℕ) → off + length bytes ≤ o → get_or (written had off bytes) o 0 ≡ get_or had o 0
+  in_rest o past =
+      let number : off + length bytes + (o - (off + length bytes)) ≡ o = omega (arith, past) in
+      get_or-append_right (front ++ bytes) rest (off + length bytes) o 0 both_length past
+      ∙ get_or-drop (off + length bytes) had (o - (off + length bytes)) 0
+      ∙ ap (λ k. get_or had k 0) number
+
+  module _ (size : ℕ) (old : ℕ → ℕ) (had_length : length had ≡ size) (had_byte : (o : ℕ) → o < size → get_or had o 0 ≡ old o) where
+    pub written_tells : (o : ℕ) → o < max size (off + length bytes) → written_byte off bytes size old o ≡ get_or (written had off bytes) o 0
+    written_tells o low = go (cases_lt o off) (cases_lt o (off + length bytes)) (cases_lt o size)
+      where
+        go : (o < off) ⊎ (off ≤ o) → (o < off + length bytes) ⊎ (off + length bytes ≤ o) → (o < size) ⊎ (size ≤ o) → written_byte off bytes size old o ≡ get_or (written had off bytes) o 0
+        go (inl before) _ (inl below) =
+            written_before off bytes size old o before below
+            ∙ sym (in_front o before ∙ get_or_append_left had zeros 0 o (omega (arith, below, had_length)) ∙ had_byte o below)
+        go (inl before) _ (inr above) =
+            written_between off bytes size old o before above
+            ∙ sym (in_front o before ∙ get_or-append_right had zeros size o 0 had_length above ∙ get_or-replicate (off - length had) (o - size) 0 0 (omega (arith, before, above, had_length)))
+        go (inr from_here) (inl inside) _ = written_inside off bytes size old o from_here inside ∙ sym (in_bytes o from_here inside)
+        go (inr from_here) (inr past) (inl below) = written_past off bytes size old o past below ∙ sym (in_rest o past ∙ had_byte o below)
+        go (inr from_here) (inr past) (inr above) = absurd (omega (arith, low, past, above))
+
+module _ (old new : Image) (wf : IsWellFormed old) (i off : ℕ) (bytes : List ℕ) (is : WritesFile i off bytes old new) where
+  abbrev had : List ℕ
+  had = content old (root_of old i) (size_of old i)
+
+  had_length : length had ≡ size_of old i
+  had_length = length-map-range_with_len (byte old (root_of old i)) 0 (size_of old i)
+
+  had_byte : (o : ℕ) → o < size_of old i → get_or had o 0 ≡ byte old (root_of old i) o
+  had_byte o low = get_or-map-range_with_len (byte old (root_of old i)) 0 (size_of old i) o o 0 low (omega arith)
+
+  whole : length (written had off bytes) ≡ size_of new i
+  whole = written_length had off bytes ∙ ap (λ n. max n (off + length bytes)) had_length ∙ sym is.size
+
+  byte_is : (o : ℕ) → o < size_of new i → byte new (root_of new i) o ≡ get_or (written had off bytes) o 0
+  byte_is o low = is.bytes_are o low ∙ written_tells had off bytes (size_of old i) (byte old (root_of old i)) had_length had_byte o (omega (arith, low, is.size))
+
+  bytes_are : content new (root_of new i) (size_of new i) ≡ written had off bytes
+  bytes_are =
+      ap (content new (root_of new i)) (sym whole)
+      ∙ map-tells (byte new (root_of new i)) (written had off bytes) (λ o low. byte_is o (omega (arith, low, whole)))
+
+  node_is : node_of old i ≡ file had
+  node_is = rw is.changes.is_file refl
+
+  pub written_gets : GetsBytes i off bytes old new
+  written_gets tree here stands at =
+      let there : get tree here ≡ Some (file had) = stands.shows here ∙ rw at (ap Some node_is) in
+      let same : content new (root_of new i) (size_of new i) ≡ written (bytes_at tree here) off bytes = bytes_are ∙ ap (λ found. written (bytes_in found) off bytes) (sym there) in
+      subst (λ whole_content. Stands new (with_bytes tree here whole_content)) same
+      (file_stands old new i wf is.changes tree _ stands (one_path old i (content new (root_of new i) (size_of new i)) wf tree here at))

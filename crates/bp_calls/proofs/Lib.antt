@@ -34,3 +34,5 @@ pub mod GrowthNodes
 pub mod GrowthCover
 pub mod GrowthPerforms
 pub mod WrittenStands
+pub mod RunCommits
+pub mod WriteBelow

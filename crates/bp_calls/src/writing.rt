@@ -1,6 +1,6 @@
 //! Bytes into a file: three ways, by where they lie to its size.
 
-ghost use Rattle.std.specs.Prelude.{◌≡◌, ◌≤◌, length, IfErr, OnErr, OnOk};
+ghost use Rattle.std.specs.Prelude.{◌≡◌, ◌+◌, ◌≤◌, length, IfErr, OnErr, OnOk};
 ghost use Rattle.bp_calls.specs.CanWrite.{CanWrite};
 ghost use Rattle.bp_shapes.specs.Sets.{AreExact};
 ghost use Rattle.bp_calls.specs.Space.{LacksSpace};
@@ -13,7 +13,9 @@ ghost use Rattle.bp_tree.specs.Performs.{Performs};
 ghost use Rattle.pm_region.specs.Memory.{current_words};
 
 use crate::entering::tree_of;
+use arrayvec::ArrayVec;
 use bp_append::{need_prep, prep};
+use bp_cow::{Run, Touched, commit, need_cover};
 use bp_free::{NoSpace, Parts};
 use bp_inodes::{inode_file, place};
 use bp_inplace::commit_word;
@@ -60,5 +62,46 @@ pub(crate) fn write_behind<R: Region>(
     let size_place = place(&parts.region, i, 2);
     prep(parts, &root, off, bytes, end);
     commit_word(&mut parts.region, size_place, end);
+    Ok(())
+}
+
+/// Writes bytes below the size of a file, by one commit of them.
+///
+/// # Errors
+///
+/// Where fewer blocks are free than are needed: one for each block on the ways to the bytes, from the word that covers
+/// them down, and none where they lie in one word.
+pub(crate) fn write_below<R: Region>(
+    parts: &mut Parts<R>,
+    i: u32,
+    off: u64,
+    bytes: &[u8],
+) -> Result<(), NoSpace>
+    requires can { CanWrite (R.memory parts.old.region) parts.old.blocks parts.old.inodes i off bytes.now }
+    requires below { off + length bytes.now ≤ size_of (current_words (R.memory parts.old.region)) i }
+    ensures performs { OnOk result (Performs (R.memory parts.old.region) (R.memory parts.new.region)
+        (writes i off (length bytes.now)) (WritesFile i off bytes.now)) }
+    ensures exact { AreExact (current_words (R.memory parts.new.region)) parts.new.blocks parts.new.inodes }
+    ensures refused { IfErr result (LacksSpace (current_words (R.memory parts.old.region))
+        (writes i off (length bytes.now))) }
+    ensures same { OnErr result (parts.new ≡ parts.old) }
+{
+    let tree = tree_of(&parts.region, i);
+    let run = Run {
+        root: root_path(&parts.region, i),
+        height: (tree.root & 7) as u32,
+        off,
+        bytes,
+    };
+    let touched = Touched {
+        words: ArrayVec::new(),
+        run: Some(run),
+    };
+    let need = need_cover(&parts.region, &touched);
+    let free = parts.blocks.count();
+    if free < need {
+        return Err(NoSpace { need, free });
+    }
+    commit(parts, &touched);
     Ok(())
 }

@@ -1,0 +1,144 @@
+-- A write below the size of a file: what it asks of a commit, and that it is performed.
+use Rattle.std.proofs.Common.{◌≡◌, ◌⊎◌, ℕ, zero, suc, ◌-◌, ◌<◌, [], length, Some, slice_index, sym, ◌∙◌, ap, subst, inl, inr, arith}
+use Rattle.std.proofs.lemmas.Bool.{cases_eq}
+use Rattle.std.proofs.lemmas.List.{take_all}
+use Rattle.bp_free.specs.Set.{Set, has, members}
+use Rattle.bp_layout.specs.Free.{HasFree}
+use Rattle.bp_layout.specs.Inode.{size_of}
+use Rattle.bp_layout.specs.Need.{need}
+use Rattle.bp_layout.specs.Need.Change.{writes}
+use Rattle.bp_layout.specs.Reached.{IsReached}
+use Rattle.bp_layout.specs.WellFormed.{IsWellFormed}
+use Rattle.bp_layout.specs.Words.{Image}
+use Rattle.bp_changes.specs.Effects.{ChangesFile}
+use Rattle.bp_changes.proofs.ChangesFile.{well_formed-same}
+use Rattle.bp_shapes.specs.Sets.{AreExact}
+use Rattle.bp_tree.specs.Performs.{Performs}
+use Rattle.pm_region.specs.Memory.{Memory, current_words}
+use Rattle.bp_cow.specs.declared.touched.Run.{Run}
+use Rattle.bp_cow.specs.declared.touched.Touched.{Touched}
+use Rattle.bp_cow.specs.CanCommit.{CanCommit}
+use Rattle.bp_cow.specs.Commit.{CommitsTouched, HasRoom}
+use Rattle.bp_cow.specs.Cover.{commit_cover, copied_count}
+use Rattle.bp_cow.specs.Job.{IsTurned}
+use Rattle.bp_cow.specs.Touched.{HasRun, IsTouched, job_of, leaves_of, run_leaves}
+use Rattle.bp_cow.proofs.CallerLaws.{run_can}
+use Rattle.bp_cow.proofs.CommitTaking.{commit_performs, stores_few}
+use Rattle.bp_cow.proofs.FewCopies.{few_copies}
+use Rattle.bp_cow.proofs.RunThere.{run_cover, run_need}
+use Rattle.bp_cow.proofs.RunWrites.{run_bytes, run_changes, run_size}
+use Rattle.bp_calls.specs.CanWrite.{CanWrite}
+use Rattle.bp_calls.specs.Space.{LacksSpace}
+use Rattle.bp_calls.specs.WritesFile.{WritesFile}
+use Rattle.bp_calls.proofs.FreeCounts.{free_members}
+use Rattle.bp_calls.proofs.RunCommits.{IsRunOf, commit_exact, commit_writes_file, few_leaves, run_in, run_is, run_open}
+
+-- The run is all that is touched.
+pub record IsRunAlone (image : Image) (i : ℕ) (touched : Touched) (run : Run) : Type 0 where
+  pub one : touched.run ≡ Some run
+  pub no_words : touched.words.items ≡ []
+  pub of : IsRunOf image i run
+
+-- what a commit of the run asks
+pub record CanCommitRun (memory : Memory) (blocks : Set) (i : ℕ) (touched : Touched) (run : Run) : Type 0 where
+  pub can : CanCommit (current_words memory) (size_of (current_words memory)) touched (has blocks)
+  pub need_is : copied_count (current_words memory) touched ≡ need (current_words memory) (writes i run.off (length run.bytes.now))
+  pub room : HasRoom memory touched
+
+module _ (old : Memory) (blocks inodes : Set) (n : ℕ) (touched : Touched) (run : Run) (is : IsRunAlone (current_words old) (suc n) touched run) (asks : CanWrite old blocks inodes (suc n) run.off run.bytes.now) where
+  abbrev image : Image
+  image = current_words old
+
+  wf : IsWellFormed image
+  wf = asks.well_formed
+
+  none : length touched.words.items ≡ 0
+  none = ap (λ ws. length ws) is.no_words
+
+  leaves : leaves_of touched.run ≡ run_leaves run
+  leaves = ap leaves_of is.one
+
+  shape : IsTouched touched
+  shape = record {
+    run = subst HasRun (sym is.one) (run_is image wf n asks.reached run is.of);
+    few = omega (arith, none);
+    words = λ i here. absurd (omega (arith, here, none));
+    short = λ i here. absurd (omega (arith, here, none));
+    slots = λ i d here. absurd (omega (arith, here, none));
+    some = omega (arith, leaves);
+  }
+
+  can : CanCommit image (size_of image) touched (has blocks)
+  can = run_can image wf touched shape (has blocks) asks.exact.free_blocks run is.one none (run_in image wf n asks.reached run is.of)
+
+  copies_need : copied_count image touched ≡ need image (writes (suc n) run.off (length run.bytes.now))
+  copies_need = run_need image wf (size_of image) touched (has blocks) can run n is.one is.no_words asks.reached is.of.root is.of.height is.of.some is.of.below
+
+  pub below_can : CanCommitRun old blocks (suc n) touched run
+  below_can = record {
+    can = can;
+    need_is = copies_need;
+    room = let few = few_copies image (size_of image) touched (has blocks) wf can run is.one (few_leaves run asks.short) in omega (arith, few, none, asks.room);
+  }
+
+  module _ (new : Memory) (after : Set) (small : (i : ℕ) → slice_index run.bytes.now i < 256) (done : CommitsTouched (size_of (current_words old)) touched old new blocks after) where
+    abbrev turned : ℕ
+    turned = length (commit_cover image touched)
+
+    changes : ChangesFile image (current_words new) (suc n)
+    changes = run_changes image (current_words new) wf touched (has blocks) can run n is.one none asks.reached asks.file is.of.root is.of.height is.of.some is.of.below small (IsTurned (job_of touched) turned) done.words
+
+    size_is : size_of (current_words new) (suc n) ≡ size_of image (suc n)
+    size_is = run_size image (current_words new) wf touched (has blocks) can run n is.one none asks.reached asks.file is.of.root is.of.height is.of.some is.of.below small (IsTurned (job_of touched) turned) done.words
+
+    sizes : (t : ℕ) → IsReached image t → size_of (current_words new) t ≡ size_of image t
+    sizes t reached = go (cases_eq t (suc n))
+      where
+        go : (t ≡ suc n) ⊎ (t ≡ suc n → ⊥) → size_of (current_words new) t ≡ size_of image t
+        go (inl e) = subst (λ x. size_of (current_words new) x ≡ size_of image x) (sym e) size_is
+        go (inr other) = changes.size t reached other
+
+    below_writes : WritesFile (suc n) run.off run.bytes.now image (current_words new)
+    below_writes =
+        commit_writes_file image (current_words new) (suc n) run run.bytes.now changes
+        (sym (take_all (size_of image (suc n) - run.off) run.bytes.now (omega (arith, is.of.below)))) (omega (arith, is.of.below)) (omega (arith, size_is, is.of.below))
+        (run_bytes image (current_words new) wf touched (has blocks) can run n is.one none asks.reached asks.file is.of.root is.of.height is.of.some is.of.below small (IsTurned (job_of touched) turned) done.words)
+        (λ o past low. absurd (omega (arith, past, low, size_is)))
+
+    pub below_performs : Performs old new (writes (suc n) run.off (length run.bytes.now)) (WritesFile (suc n) run.off run.bytes.now)
+    below_performs =
+        commit_performs old new (writes (suc n) run.off (length run.bytes.now)) (WritesFile (suc n) run.off run.bytes.now) (size_of image) touched blocks after done
+        (run_cover image wf (size_of image) touched (has blocks) can run n is.one is.no_words asks.reached is.of.root is.of.height is.of.some is.of.below) copies_need
+        (let few = stores_few image (size_of image) touched (has blocks) wf can (omega (arith, leaves, few_leaves run asks.short)) in omega (arith, few, copies_need))
+        (run_open image wf n asks.reached run is.of touched shape is.one done.taken)
+        (well_formed-same image (current_words new) (suc n) wf changes) below_writes
+
+    pub below_exact : length after ≡ length blocks → AreExact (current_words new) after inodes
+    below_exact room = commit_exact image (current_words new) (suc n) wf changes (size_of image) sizes blocks after inodes asks.exact room done.exact
+
+-- ---- by the number of the inode
+
+module _ (old : Memory) (blocks inodes : Set) (touched : Touched) (run : Run) where
+  not_inodes : (P : Type 0) → CanWrite old blocks inodes 0 run.off run.bytes.now → P
+  not_inodes P asks = absurd (omega (arith, asks.file))
+
+  pub below_can_at : (i : ℕ) → IsRunAlone (current_words old) i touched run → CanWrite old blocks inodes i run.off run.bytes.now → CanCommitRun old blocks i touched run
+  below_can_at zero is asks = not_inodes _ asks
+  below_can_at (suc n) is asks = below_can old blocks inodes n touched run is asks
+
+  pub below_lacks : (i needed free : ℕ) → IsRunAlone (current_words old) i touched run → CanWrite old blocks inodes i run.off run.bytes.now →
+      needed ≡ copied_count (current_words old) touched → free ≡ length (members blocks) → free < needed → LacksSpace (current_words old) (writes i run.off (length run.bytes.now)) (record { need = needed; free = free })
+  below_lacks i needed free is asks counted number fewer = record {
+    needed = let can = below_can_at i is asks in sym (counted ∙ can.need_is);
+    free = subst (HasFree (current_words old)) (sym number) (free_members (current_words old) blocks asks.exact.free_blocks asks.exact.block_room);
+    fewer = fewer;
+  }
+
+  module _ (new : Memory) (after : Set) (small : (i : ℕ) → slice_index run.bytes.now i < 256) (done : CommitsTouched (size_of (current_words old)) touched old new blocks after) where
+    pub below_performs_at : (i : ℕ) → IsRunAlone (current_words old) i touched run → CanWrite old blocks inodes i run.off run.bytes.now → Performs old new (writes i run.off (length run.bytes.now)) (WritesFile i run.off run.bytes.now)
+    below_performs_at zero is asks = not_inodes _ asks
+    below_performs_at (suc n) is asks = below_performs old blocks inodes n touched run is asks new after small done
+
+    pub below_exact_at : (i : ℕ) → IsRunAlone (current_words old) i touched run → CanWrite old blocks inodes i run.off run.bytes.now → length after ≡ length blocks → AreExact (current_words new) after inodes
+    below_exact_at zero is asks = λ room. not_inodes _ asks
+    below_exact_at (suc n) is asks = λ room. below_exact old blocks inodes n touched run is asks new after small done room

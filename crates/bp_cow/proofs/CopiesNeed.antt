@@ -140,7 +140,7 @@ module _ (touched : Touched) (shape : IsTouched touched) where
       }
 
   -- by cases: a word of the run, or another word
-  paths-by : (P : List ℕ → Type 0) → ((run : Run) (k : ℕ) → touched.run ≡ Some run → run.off / 8 ≤ k → k ≤ (run_end run - 1) / 8 → P (run_path run k)) →
+  pub paths-by : (P : List ℕ → Type 0) → ((run : Run) (k : ℕ) → touched.run ≡ Some run → run.off / 8 ≤ k → k ≤ (run_end run - 1) / 8 → P (run_path run k)) →
       ((i : ℕ) → i < length touched.words.items → P (path_of (word_paths touched) i)) → (path : List ℕ) → Has (all_paths touched) path → P path
   paths-by P of_run of_word path has = go (has-either (run_paths touched.run) (word_paths touched) path has)
     where

@@ -13,14 +13,14 @@ use Rattle.bp_shapes.proofs.PathTrails.{length-trail_of}
 use Rattle.bp_cow.specs.CanCommit.{CanCommit}
 use Rattle.bp_cow.specs.Cover.{commit_cover, copied_count}
 use Rattle.bp_cow.specs.Job.{Job, front, ways, begins, copied, turned_for, turned_upto}
-use Rattle.bp_cow.specs.Touched.{run_leaves, run_way, leaves_of, job_of}
+use Rattle.bp_cow.specs.Touched.{IsTouched, NoneBegins, all_paths, run_leaves, run_way, leaves_of, job_of}
 use Rattle.bp_cow.specs.declared.touched.Run.{Run}
 use Rattle.bp_cow.specs.declared.touched.Touched.{Touched}
 use Rattle.bp_cow.proofs.CopiesNeed.{none-begins}
 use Rattle.bp_cow.proofs.CoverOf.{cover_has, count_is}
-use Rattle.bp_cow.proofs.JobLaws.{leaf-way, ways-short}
+use Rattle.bp_cow.proofs.JobLaws.{leaf-way}
 use Rattle.bp_cow.proofs.RunFronts.{trail_of-append}
-use Rattle.bp_cow.proofs.RunLaws.{length-run_way}
+use Rattle.bp_cow.proofs.RunLaws.{length-run_way, way-short}
 use Rattle.bp_cow.proofs.CommitTaking.{turned_few}
 
 -- a way that begins as the ways before it do has no more pointers of its own than its other slots
@@ -63,7 +63,7 @@ near_digits root (suc height) k d low other =
     ap (λ p. trail_of p d) one ∙ trail_of-append (root ++ digits height (k / 512)) (suc k % 512 ∷ []) d short
     ∙ sym (ap (λ p. trail_of p d) two ∙ trail_of-append (root ++ digits height (k / 512)) (k % 512 ∷ []) d short)
 
-module _ (image : Image) (bound : ℕ → ℕ) (touched : Touched) (free : ℕ → Bool) (wf : IsWellFormed image) (can : CanCommit image bound touched free) (run : Run) (one : touched.run ≡ Some run) (few : run_leaves run ≤ 17) (from : ℕ) where
+module _ (touched : Touched) (shape : IsTouched touched) (run : Run) (one : touched.run ≡ Some run) (few : run_leaves run ≤ 17) (from : ℕ) where
   abbrev job : Job
   job = job_of touched
 
@@ -74,7 +74,7 @@ module _ (image : Image) (bound : ℕ → ℕ) (touched : Touched) (free : ℕ �
   leaves-are = ap leaves_of one
 
   way-long : (i : ℕ) → i < run_leaves run → length ((job_of touched).way i) ≤ 11
-  way-long i low = ways-short image bound touched free wf can i (omega (arith, low, leaves-are))
+  way-long i low = way-short touched shape i (omega (arith, low, leaves-are))
 
   way-length : (i : ℕ) → i < run_leaves run → length ((job_of touched).way i) ≡ length run.root.items + run.height
   way-length i low = ap (λ (w : List ℕ). length w) (leaf-way touched run one i low) ∙ length-run_way run i
@@ -124,7 +124,7 @@ module _ (image : Image) (bound : ℕ → ℕ) (touched : Touched) (free : ℕ �
   words-upto (suc m) low =
       let e : run_leaves run + suc m ≡ suc (run_leaves run + m) = omega arith in
       let all = turned_few (job_of touched) from (run_leaves run + m) (length ((job_of touched).way (run_leaves run + m))) in
-      let short : length ((job_of touched).way (run_leaves run + m)) ≤ 11 = ways-short image bound touched free wf can (run_leaves run + m) (omega (arith, low, leaves-are)) in
+      let short : length ((job_of touched).way (run_leaves run + m)) ≤ 11 = way-short touched shape (run_leaves run + m) (omega (arith, low, leaves-are)) in
       rw e (omega (arith, words-upto m (omega (arith, low)), all, short))
 
   pub all-few : turned_upto (job_of touched) from (ways (job_of touched)) ≤ 38 + 11 * length touched.words.items
@@ -133,15 +133,19 @@ module _ (image : Image) (bound : ℕ → ℕ) (touched : Touched) (free : ℕ �
       rw whole (omega (arith, words-upto (length touched.words.items) (omega arith), run-few (omega arith)))
 
 -- A run of few leaves, with some words beside it, copies so many blocks at most.
-pub few_copies : (image : Image) (bound : ℕ → ℕ) (touched : Touched) (free : ℕ → Bool) (wf : IsWellFormed image) (can : CanCommit image bound touched free) (run : Run) → touched.run ≡ Some run → run_leaves run ≤ 17 →
-    copied_count image touched ≤ 39 + 11 * length touched.words.items
-few_copies image bound touched free wf can run one few =
-    subst (λ n. n ≤ 39 + 11 * length touched.words.items) (count_is touched can.shape image (none-begins image bound touched free wf can) (length (commit_cover image touched)) (cover_has touched can.shape image))
+pub run_copies : (image : Image) (touched : Touched) → IsTouched touched → NoneBegins (all_paths touched) → (run : Run) → touched.run ≡ Some run → run_leaves run ≤ 17 → copied_count image touched ≤ 39 + 11 * length touched.words.items
+run_copies image touched shape apart run one few =
+    subst (λ n. n ≤ 39 + 11 * length touched.words.items) (count_is touched shape image apart (length (commit_cover image touched)) (cover_has touched shape image))
     (go (nat_le (length (commit_cover image touched)) (length ((job_of touched).way 0))) refl)
   where
     all : turned_upto (job_of touched) (length (commit_cover image touched)) (ways (job_of touched)) ≤ 38 + 11 * length touched.words.items
-    all = all-few image bound touched free wf can run one few (length (commit_cover image touched))
+    all = all-few touched shape run one few (length (commit_cover image touched))
 
     go : (x : Bool) → nat_le (length (commit_cover image touched)) (length ((job_of touched).way 0)) ≡ x → copied (job_of touched) (length (commit_cover image touched)) ≤ 39 + 11 * length touched.words.items
     go true e = rw e (omega (arith, all))
     go false e = rw e (omega arith)
+
+-- the same where they can be committed
+pub few_copies : (image : Image) (bound : ℕ → ℕ) (touched : Touched) (free : ℕ → Bool) (wf : IsWellFormed image) (can : CanCommit image bound touched free) (run : Run) → touched.run ≡ Some run → run_leaves run ≤ 17 →
+    copied_count image touched ≤ 39 + 11 * length touched.words.items
+few_copies image bound touched free wf can run one few = run_copies image touched can.shape (none-begins image bound touched free wf can) run one few

@@ -21,6 +21,10 @@ pub mod AskedLaws
 pub mod CutLaws
 pub mod TakenBlocks
 pub mod WriteBehind
+pub mod AcrossTouched
+pub mod AcrossMiddle
+pub mod AcrossDone
+pub mod AcrossCalls
 pub mod Longer
 pub mod Shorter
 pub mod ResizedStands

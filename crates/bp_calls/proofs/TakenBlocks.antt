@@ -32,7 +32,7 @@ pub members_apart : (set : Set) → AreApart (members set)
 members_apart set = filter_apart (has set) 0 (length set)
 
 -- a member of two lists in a row is in one of them
-has_either : (xs ys : List ℕ) (b : ℕ) → Has (xs ++ ys) b → Has xs b ⊎ Has ys b
+pub has_either : (xs ys : List ℕ) (b : ℕ) → Has (xs ++ ys) b → Has xs b ⊎ Has ys b
 has_either [] ys b there = inr there
 has_either (x ∷ xs) ys b (inl e) = inl (inl e)
 has_either (x ∷ xs) ys b (inr later) = elim (has_either xs ys b later) [ inl early ↦ inl (inr early) | inr late ↦ inr late ]

@@ -47,7 +47,7 @@ module _ (off : ℕ) (bytes : List ℕ) (size : ℕ) (old : ℕ → ℕ) (o : �
   pub written_between : o < off → size ≤ o → written_byte off bytes size old o ≡ 0
   written_between low past = rw (lt-leb off o low, le-ltb o size past) refl
 
-given_inside : (from : ℕ) (bytes : List ℕ) (o : ℕ) → from ≤ o → given from bytes o ≡ slice_index bytes (o - from)
+pub given_inside : (from : ℕ) (bytes : List ℕ) (o : ℕ) → from ≤ o → given from bytes o ≡ slice_index bytes (o - from)
 given_inside from bytes o low = rw (le-leb from o low) refl
 
 given_before : (from : ℕ) (bytes : List ℕ) (o : ℕ) → o < from → given from bytes o ≡ 0

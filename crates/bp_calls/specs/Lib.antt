@@ -12,3 +12,4 @@ pub mod Space
 pub mod CanWrite
 pub mod WritesFile
 pub mod Growth
+pub mod TouchedAcross

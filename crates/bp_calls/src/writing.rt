@@ -12,6 +12,8 @@ ghost use Rattle.bp_layout.specs.Words.{height_of};
 ghost use Rattle.bp_tree.specs.Performs.{Performs};
 ghost use Rattle.pm_region.specs.Memory.{current_words};
 
+mod across;
+
 use crate::entering::tree_of;
 use arrayvec::ArrayVec;
 use bp_append::{need_prep, prep};

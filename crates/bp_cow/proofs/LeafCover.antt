@@ -76,7 +76,7 @@ under_full image root size zero k full live = tt
 under_full image root size (suc d) k full live = full d (k / 512) (live_above root size d k live)
 
 module _ (height i : ℕ) (touched : Touched) (run : Run) (is : IsSizedRun height i touched run) where
-  one_word : length touched.words.items ≡ 1
+  pub one_word : length touched.words.items ≡ 1
   one_word = sym (length-map touched.words.items (λ word. word.0.items)) ∙ ap (λ (ps : List WordPath). length ps) is.sized
 
   size_path : path_of (word_paths touched) 0 ≡ inode_path height i 2

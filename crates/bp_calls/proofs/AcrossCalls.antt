@@ -1,0 +1,158 @@
+-- A write across the size of a file, by the number of its inode: what its parts ask and give.
+use Rattle.std.proofs.Common.{◌≡◌, ℕ, zero, suc, ◌+◌, ◌-◌, ◌*◌, ◌/◌, ◌<◌, ◌≤◌, List, ◌++◌, length, take, drop, slice_index, sym, ◌∙◌, ap, subst, subst₂, inl, inr, arith}
+use Rattle.std.proofs.lemmas.List.{append-nil, length-append}
+use Rattle.bp_free.specs.Set.{Set, has, members}
+use Rattle.bp_layout.specs.Free.{HasFree}
+use Rattle.bp_layout.specs.Inode.{kind_of, root_of, size_of}
+use Rattle.bp_layout.specs.Need.Change.{writes}
+use Rattle.bp_layout.specs.Nodes.{nodes_for}
+use Rattle.bp_layout.specs.WellFormed.{IsWellFormed}
+use Rattle.bp_layout.specs.WordPaths.{WordPath, inode_path}
+use Rattle.bp_layout.specs.Words.{Image, block_count, height_of}
+use Rattle.bp_limits.specs.Limits.{max_height}
+use Rattle.bp_append.specs.Prepared.{CanPrepare, PreparesWith, need_for}
+use Rattle.bp_append.specs.Stores.{prep_stores}
+use Rattle.bp_append.proofs.StoresLaws.{behind_whole}
+use Rattle.bp_shapes.specs.Sets.{AreExact}
+use Rattle.bp_tree.specs.Performs.{Performs}
+use Rattle.bp_cow.specs.CanCommit.{CanCommit}
+use Rattle.bp_cow.specs.Commit.{CommitsTouched, HasBlocks, HasRoom, commit_stores}
+use Rattle.bp_cow.specs.Cover.{LeadsInside, copied_count}
+use Rattle.bp_cow.specs.Touched.{IsTouched, NoneBegins, all_paths}
+use Rattle.bp_cow.specs.declared.touched.Touched.{Touched}
+use Rattle.pm_region.specs.Memory.{Memory, current_words, room_in}
+use Rattle.pm_region.proofs.MemoryLaws.{length-current_words, room_in-piece}
+use Rattle.bp_calls.specs.CanWrite.{CanWrite}
+use Rattle.bp_calls.specs.Space.{LacksSpace}
+use Rattle.bp_calls.specs.TouchedAcross.{TouchesAcross, WritesAcross}
+use Rattle.bp_calls.specs.WritesFile.{WritesFile}
+use Rattle.bp_calls.proofs.AcrossDone.{across_exact, across_performs}
+use Rattle.bp_calls.proofs.AcrossMiddle.{across_can, middle_count, middle_formed, sizes_with}
+use Rattle.bp_calls.proofs.AcrossTouched.{across_apart, across_copies, across_inside, across_made, across_needs, across_shape, across_words}
+use Rattle.bp_calls.proofs.FreeCounts.{free_members}
+use Rattle.bp_calls.proofs.TakenBlocks.{unused_members, usable_members}
+
+-- what a commit asks of a memory
+pub record CanCommitIn (middle : Memory) (touched : Touched) (after : Set) : Type 0 where
+  pub well_formed : IsWellFormed (current_words middle)
+  pub can : CanCommit (current_words middle) (sizes_with (current_words middle) touched) touched (has after)
+  pub fits : block_count (current_words middle) ≤ length after
+  pub some : HasBlocks middle touched after
+  pub room : HasRoom middle touched
+
+parted : (taken rest : List ℕ) {all : List ℕ} → all ≡ taken ++ rest → length all ≡ length taken + length rest
+parted taken rest e = ap (λ (xs : List ℕ). length xs) e ∙ length-append taken rest
+
+-- the log has room for both parts
+roomy : (made behind copied words room left : ℕ) → room ≤ left + (2 + (512 * made + behind + 2)) → behind ≤ 512 * suc 3 → made ≤ 18 + 3 * 3 → words ≡ 1 → copied ≤ 50 → 65536 ≤ room → (512 + 1) * copied + words + 1 + 2 ≤ left
+roomy made behind copied words room left a b c d e f = omega (arith, a, b, c, d, e, f)
+
+module _ (old : Memory) (blocks inodes : Set) (off : ℕ) (bytes : List ℕ) (touched : Touched) where
+  abbrev image : Image
+  image = current_words old
+
+  abbrev end : ℕ
+  end = off + length bytes
+
+  not_inodes : (P : Type 0) → WritesAcross old blocks inodes 0 off bytes touched → P
+  not_inodes P across = absurd (omega (arith, across.can.file))
+
+  -- the bytes are cut at the size
+  pub cut_at : (i size : ℕ) (below : List ℕ) → CanWrite old blocks inodes i off bytes → off < size_of (current_words old) i → size_of (current_words old) i < off + length bytes → size ≡ size_of (current_words old) i →
+      below ≡ take (size - off) bytes → TouchesAcross (current_words old) i off (off + length bytes) below touched → WritesAcross old blocks inodes i off bytes touched
+  cut_at i size below can low past is cut touches = record {
+    can = can;
+    below = low;
+    past = past;
+    touches = subst (λ bs. TouchesAcross (current_words old) i off (off + length bytes) bs touched) (cut ∙ ap (λ s. take (s - off) bytes) is) touches;
+  }
+
+  pub at_shape : (i : ℕ) → WritesAcross old blocks inodes i off bytes touched → IsTouched touched
+  at_shape zero across = not_inodes _ across
+  at_shape (suc n) across = across_shape old blocks inodes n off bytes touched across
+
+  pub at_inside : (i : ℕ) → WritesAcross old blocks inodes i off bytes touched → LeadsInside (current_words old) touched
+  at_inside zero across = not_inodes _ across
+  at_inside (suc n) across = across_inside old blocks inodes n off bytes touched across
+
+  pub at_apart : (i : ℕ) → WritesAcross old blocks inodes i off bytes touched → NoneBegins (all_paths touched)
+  at_apart zero across = not_inodes _ across
+  at_apart (suc n) across = across_apart old blocks inodes n off bytes touched across
+
+  -- the nodes that are made, by the root word and the size that were read
+  abbrev made_for : ℕ → ℕ → ℕ
+  made_for root size = length (nodes_for (current_words old) root size size (off + length bytes))
+
+  made_is : (i root size : ℕ) → root ≡ root_of (current_words old) i → size ≡ size_of (current_words old) i → made_for root size ≡ need_for (current_words old) i (size_of (current_words old) i) (off + length bytes)
+  made_is i root size one two = ap (λ r. made_for r size) one ∙ ap (made_for (root_of (current_words old) i)) two
+
+  pub at_few : (i root size : ℕ) → WritesAcross old blocks inodes i off bytes touched → root ≡ root_of (current_words old) i → size ≡ size_of (current_words old) i →
+      length (nodes_for (current_words old) root size size (off + length bytes)) + copied_count (current_words old) touched ≤ 18 + 3 * max_height + 50
+  at_few zero root size across = not_inodes _ across
+  at_few (suc n) root size across = λ one two.
+      omega (arith, made_is (suc n) root size one two, across_made old blocks inodes n off bytes touched across, across_copies old blocks inodes n off bytes touched across (current_words old))
+
+  pub at_lacks : (i root size made copied free : ℕ) → WritesAcross old blocks inodes i off bytes touched → root ≡ root_of (current_words old) i → size ≡ size_of (current_words old) i →
+      made ≡ length (nodes_for (current_words old) root size size (off + length bytes)) → copied ≡ copied_count (current_words old) touched → free ≡ length (members blocks) → free < made + copied →
+      LacksSpace (current_words old) (writes i off (length bytes)) (record { need = made + copied; free = free })
+  at_lacks zero root size made copied free across = not_inodes _ across
+  at_lacks (suc n) root size made copied free across = λ one two counted also is fewer. record {
+    needed = omega (arith, across_needs old blocks inodes n off bytes touched across, made_is (suc n) root size one two, counted, also);
+    free = subst (HasFree (current_words old)) (sym is) (free_members (current_words old) blocks across.can.exact.free_blocks across.can.exact.block_room);
+    fewer = fewer;
+  }
+
+  pub at_prepare : (i root size made : ℕ) (path : WordPath) → WritesAcross old blocks inodes i off bytes touched → root ≡ root_of (current_words old) i → size ≡ size_of (current_words old) i →
+      made ≡ length (nodes_for (current_words old) root size size (off + length bytes)) → made ≤ length (members blocks) → path ≡ inode_path (height_of (root_of (current_words old) 0)) i 1 →
+      CanPrepare old (members blocks) i path size (off + length bytes)
+  at_prepare zero root size made path across = not_inodes _ across
+  at_prepare (suc n) root size made path across = λ one two counted enough is.
+      let can : CanPrepare old (members blocks) (suc n) path (size_of (current_words old) (suc n)) (off + length bytes) = record {
+        well = across.can.well_formed;
+        reached = across.can.reached;
+        leads = is ∙ sym (append-nil (inode_path (height_of (root_of (current_words old) 0)) (suc n) 1));
+        behind = omega arith;
+        order = omega (arith, across.past);
+        fits = across.can.fits;
+        by_words = λ by. elim by [ inl e ↦ omega (arith, e) | inr kind ↦ omega (arith, kind, across.can.file) ];
+        usable = usable_members (current_words old) blocks inodes across.can.exact _ (omega (arith, length-current_words old));
+        unused = unused_members (current_words old) blocks inodes across.can.exact;
+        enough = omega (arith, enough, counted, made_is (suc n) root size one two);
+        room = omega (arith, across_made old blocks inodes n off bytes touched across, across.can.room);
+      } in
+      subst (λ s. CanPrepare old (members blocks) (suc n) path s (off + length bytes)) (sym two) can
+
+  module _ (middle : Memory) (after : Set) where
+    -- the preparation, told at the size of the file
+    pub at_prepared : (i size : ℕ) (beyond : List ℕ) → size ≡ size_of (current_words old) i → beyond ≡ drop (size - off) bytes → PreparesWith old middle (members blocks) (members after) i size (off + length bytes) beyond →
+        PreparesWith old middle (members blocks) (members after) i (size_of (current_words old) i) (off + length bytes) (drop (size_of (current_words old) i - off) bytes)
+    at_prepared i size beyond is cut prepared =
+        subst₂ (λ s bs. PreparesWith old middle (members blocks) (members after) i s (off + length bytes) bs) is (cut ∙ ap (λ s. drop (s - off) bytes) is) prepared
+
+    pub at_commit : (i root size made : ℕ) → WritesAcross old blocks inodes i off bytes touched → root ≡ root_of (current_words old) i → size ≡ size_of (current_words old) i →
+        made ≡ length (nodes_for (current_words old) root size size (off + length bytes)) → made + copied_count (current_words old) touched ≤ length (members blocks) →
+        PreparesWith old middle (members blocks) (members after) i (size_of (current_words old) i) (off + length bytes) (drop (size_of (current_words old) i - off) bytes) → length after ≡ length blocks →
+        CanCommitIn middle touched after
+    at_commit zero root size made across = not_inodes _ across
+    at_commit (suc n) root size made across = λ one two counted enough prepared room.
+        let count = middle_count old middle blocks inodes after n off bytes touched across prepared in
+        let need_is = made_is (suc n) root size one two in
+        let parts : length (members blocks) ≡ length prepared.taken + length (members after) = parted prepared.taken (members after) prepared.takes in
+        record {
+          well_formed = middle_formed old middle blocks inodes after n off bytes touched across prepared;
+          can = across_can old middle blocks inodes after n off bytes touched across prepared;
+          fits = let whole = ap (λ words. words / 512) prepared.ready.meaning.whole in omega (arith, whole, room, across.can.exact.block_room);
+          some = omega (arith, parts, prepared.counted, counted, need_is, count, enough);
+          room = let left = room_in-piece _ _ old middle prepared.adds.part.added prepared.adds.part.adds prepared.adds.part.piece in
+              roomy _ _ _ _ _ _ left (behind_whole (size_of (current_words old) (suc n)) (size_of (current_words old) (suc n)) (off + length bytes) 3) (across_made old blocks inodes n off bytes touched across)
+              (across_words old blocks inodes n off bytes touched across) (across_copies old blocks inodes n off bytes touched across (current_words middle)) across.can.room;
+        }
+
+    module _ (new : Memory) (last : Set) where
+      pub at_done : (i : ℕ) → WritesAcross old blocks inodes i off bytes touched →
+          PreparesWith old middle (members blocks) (members after) i (size_of (current_words old) i) (off + length bytes) (drop (size_of (current_words old) i - off) bytes) → ((k : ℕ) → slice_index bytes k < 256) →
+          CommitsTouched (sizes_with (current_words middle) touched) touched middle new after last → length last ≡ length blocks →
+          Performs old new (writes i off (length bytes)) (WritesFile i off bytes) × AreExact (current_words new) last inodes
+      at_done zero across = not_inodes _ across
+      at_done (suc n) across = λ prepared small done room.
+          (across_performs old middle new blocks inodes after last n off bytes touched across prepared small done, across_exact old middle new blocks inodes after last n off bytes touched across prepared small done room)

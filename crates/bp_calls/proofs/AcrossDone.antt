@@ -1,0 +1,222 @@
+-- What a write across the size of a file makes of an image, and that it is performed.
+use Rattle.std.proofs.Common.{◌≡◌, ◌≢◌, ◌⊎◌, ℕ, zero, suc, ◌+◌, ◌-◌, ◌*◌, ◌/◌, ◌<◌, ◌≤◌, max, List, [], ◌∷◌, length, take, drop, Bool, true, false, ◌&&◌, nat_le, if◌then◌else◌, slice_index, refl, sym, ◌∙◌, ap, inl, inr, arith, lt-ltb, le-ltb, le-leb}
+use Rattle.std.proofs.lemmas.Bool.{cases_eq, cases_lt, lt-leb}
+use Rattle.std.proofs.lemmas.List.{get_or-drop, get_or-take}
+use Rattle.bp_free.specs.Set.{Set, has, members}
+use Rattle.bp_layout.specs.Inode.{kind_of, root_of, size_of}
+use Rattle.bp_layout.specs.Need.{Change, need}
+use Rattle.bp_layout.specs.Need.Change.{writes}
+use Rattle.bp_layout.specs.Reached.{IsReached, HoldsBlock, IsLiveBlock}
+use Rattle.bp_layout.specs.Reached.IsReached.{inode_file}
+use Rattle.bp_layout.specs.Tree.{byte, HasBlock}
+use Rattle.bp_layout.specs.WellFormed.{IsWellFormed}
+use Rattle.bp_layout.specs.WordPaths.{inode_path}
+use Rattle.bp_layout.specs.Words.{Image, height_of}
+use Rattle.bp_changes.specs.Effects.{ChangesFile}
+use Rattle.bp_changes.proofs.ChangesFile as changed
+use Rattle.bp_changes.proofs.ChangesOver.{changes_over}
+use Rattle.bp_append.specs.Prepared.{PreparesWith, need_for}
+use Rattle.bp_append.specs.Stores.{prep_stores}
+use Rattle.bp_append.proofs.StoresLaws.{behind_whole}
+use Rattle.bp_shapes.specs.Sets.{AreExact}
+use Rattle.bp_shapes.proofs.FreeSets.{wf_forest}
+use Rattle.bp_tree.specs.Performs.{IsOpen, Performs, most_stores}
+use Rattle.bp_cow.specs.CanCommit.{CanCommit}
+use Rattle.bp_cow.specs.Commit.{CommitsTouched, commit_stores, cover_word}
+use Rattle.bp_cow.specs.Cover.{commit_cover, copied_count}
+use Rattle.bp_cow.specs.Job.{IsTurned}
+use Rattle.bp_cow.specs.Touched.{job_of, run_byte, run_end}
+use Rattle.bp_cow.specs.declared.touched.Run.{Run}
+use Rattle.bp_cow.specs.declared.touched.Touched.{Touched}
+use Rattle.bp_cow.proofs.CommitTaking.{commit_performs_after, cover_open}
+use Rattle.bp_cow.proofs.LeafCover.{has_size}
+use Rattle.bp_cow.proofs.RunSized.{IsFileRun, sized_bytes, sized_changes, sized_size}
+use Rattle.pm_region.specs.Memory.{Memory, current_words}
+use Rattle.bp_calls.specs.TouchedAcross.{WritesAcross}
+use Rattle.bp_calls.specs.WritesFile.{WritesFile, written_byte}
+use Rattle.bp_calls.proofs.AcrossMiddle.{across_can, across_file, bound_here, bound_low, bound_other, held_back, left_free, middle_count, middle_cover, middle_formed, run_there, size_fronts, sizes_with, wider}
+use Rattle.bp_calls.proofs.AcrossTouched.{across_copies, across_cover, across_end, across_needs, across_shape, across_words}
+use Rattle.bp_calls.proofs.SetLaws.{free_inodes_stay}
+use Rattle.bp_calls.proofs.WriteBehind.{given_inside, written_before, written_inside}
+
+-- ---- one byte
+
+small_take : (count : ℕ) (bytes : List ℕ) → ((k : ℕ) → slice_index bytes k < 256) → (k : ℕ) → slice_index (take count bytes) k < 256
+small_take zero bytes small k = omega arith
+small_take (suc count) [] small k = omega arith
+small_take (suc count) (b ∷ bytes) small zero = small 0
+small_take (suc count) (b ∷ bytes) small (suc k) = small_take count bytes (λ j. small (suc j)) k
+
+module _ (run : Run) (o old : ℕ) where
+  run_before : o < run.off → run_byte run o old ≡ old
+  run_before less = rw (lt-leb run.off o less) refl
+
+  run_inside : run.off ≤ o → o < run_end run → run_byte run o old ≡ slice_index run.bytes.now (o - run.off)
+  run_inside low high = rw (le-leb run.off o low, lt-ltb o (run_end run) high) refl
+
+  run_behind : run_end run ≤ o → run_byte run o old ≡ old
+  run_behind past = rw (le-ltb o (run_end run) past) (go (nat_le run.off o))
+    where
+      go : (b : Bool) → (if b && false then slice_index run.bytes.now (o - run.off) else old) ≡ old
+      go true = refl
+      go false = refl
+
+-- ---- the call
+
+module _ (old middle new : Memory) (blocks inodes after last : Set) (n off : ℕ) (bytes : List ℕ) (touched : Touched) (across : WritesAcross old blocks inodes (suc n) off bytes touched)
+    (prepared : PreparesWith old middle (members blocks) (members after) (suc n) (size_of (current_words old) (suc n)) (off + length bytes) (drop (size_of (current_words old) (suc n) - off) bytes))
+    (small : (k : ℕ) → slice_index bytes k < 256) (done : CommitsTouched (sizes_with (current_words middle) touched) touched middle new after last) where
+  abbrev image : Image
+  image = current_words old
+
+  abbrev mid : Image
+  mid = current_words middle
+
+  abbrev size : ℕ
+  size = size_of (current_words old) (suc n)
+
+  abbrev bound : ℕ → ℕ
+  bound = sizes_with (current_words middle) touched
+
+  abbrev write : Change
+  write = writes (suc n) off (length bytes)
+
+  wf : IsWellFormed image
+  wf = across.can.well_formed
+
+  wf_mid : IsWellFormed mid
+  wf_mid = middle_formed old middle blocks inodes after n off bytes touched across prepared
+
+  can : CanCommit mid bound touched (has after)
+  can = across_can old middle blocks inodes after n off bytes touched across prepared
+
+  file : IsFileRun mid bound touched across.touches.run n
+  file =
+      across_file old middle blocks inodes after n off bytes touched across prepared
+      (λ k. let small_front = small_take (size_of (current_words old) (suc n) - off) bytes small k in rw across.touches.bytes_are small_front)
+
+  bound_is : bound (suc n) ≡ off + length bytes
+  bound_is = bound_here old middle blocks inodes after n off bytes touched across prepared
+
+  size_is : size_of (current_words new) (suc n) ≡ off + length bytes
+  size_is =
+      sized_size mid (current_words new) bound wf_mid touched (has after) can across.touches.run n file (IsTurned (job_of touched) (length (commit_cover mid touched))) done.words 0
+      (omega (arith, across_words old blocks inodes n off bytes touched across)) ∙ ap (λ vs. slice_index vs 0) across.touches.value
+
+  grown : size_of (current_words new) (suc n) ≤ bound (suc n)
+  grown = omega (arith, size_is, bound_is)
+
+  changes_mid : ChangesFile mid (current_words new) (suc n)
+  changes_mid =
+      sized_changes mid (current_words new) bound wf_mid touched (has after) can across.touches.run n file (IsTurned (job_of touched) (length (commit_cover mid touched))) done.words grown
+
+  changes : ChangesFile image (current_words new) (suc n)
+  changes = changes_over image mid (current_words new) (suc n) wf prepared.ready.meaning prepared.ready.sizes changes_mid
+
+  size_was : size_of mid (suc n) ≡ size_of image (suc n)
+  size_was = prepared.ready.sizes (suc n) across.can.reached
+
+  byte_is : (o : ℕ) → o < off + length bytes →
+      byte (current_words new) (root_of (current_words new) (suc n)) o ≡ written_byte off bytes (size_of image (suc n)) (byte image (root_of image (suc n))) o
+  byte_is o low =
+      sized_bytes mid (current_words new) bound wf_mid touched (has after) can across.touches.run n file (IsTurned (job_of touched) (length (commit_cover mid touched))) done.words grown o (omega (arith, low, size_is))
+      ∙ go (cases_lt o off) (cases_lt o (size_of image (suc n)))
+    where
+      end_is : run_end across.touches.run ≡ size_of image (suc n)
+      end_is = across_end old blocks inodes n off bytes touched across
+
+      go : (o < off) ⊎ (off ≤ o) → (o < size_of image (suc n)) ⊎ (size_of image (suc n) ≤ o) →
+          run_byte across.touches.run o (byte mid (root_of mid (suc n)) o) ≡ written_byte off bytes (size_of image (suc n)) (byte image (root_of image (suc n))) o
+      go (inl before) any =
+          run_before across.touches.run o (byte mid (root_of mid (suc n)) o) (omega (arith, before, across.touches.from))
+          ∙ prepared.ready.kept o (omega (arith, before, across.below))
+          ∙ sym (written_before off bytes (size_of image (suc n)) (byte image (root_of image (suc n))) o before (omega (arith, before, across.below)))
+      go (inr inside) (inl below) =
+          run_inside across.touches.run o (byte mid (root_of mid (suc n)) o) (omega (arith, inside, across.touches.from)) (omega (arith, below, end_is))
+          ∙ ap (λ (bs : List ℕ). slice_index bs (o - across.touches.run.off)) across.touches.bytes_are ∙ ap (λ f. slice_index (take (size_of image (suc n) - off) bytes) (o - f)) across.touches.from
+          ∙ get_or-take (size_of image (suc n) - off) bytes (o - off) 0 (omega (arith, inside, below))
+          ∙ sym (written_inside off bytes (size_of image (suc n)) (byte image (root_of image (suc n))) o inside low)
+      go (inr inside) (inr past) =
+          let at : size_of image (suc n) - off + (o - size_of image (suc n)) ≡ o - off = omega (arith, past, across.below) in
+          run_behind across.touches.run o (byte mid (root_of mid (suc n)) o) (omega (arith, past, end_is))
+          ∙ prepared.ready.bytes_are o past low ∙ given_inside (size_of image (suc n)) (drop (size_of image (suc n) - off) bytes) o past
+          ∙ get_or-drop (size_of image (suc n) - off) bytes (o - size_of image (suc n)) 0 ∙ ap (slice_index bytes) at
+          ∙ sym (written_inside off bytes (size_of image (suc n)) (byte image (root_of image (suc n))) o inside low)
+
+  pub across_writes : WritesFile (suc n) off bytes (current_words old) (current_words new)
+  across_writes = record {
+    changes = changes;
+    size = omega (arith, size_is, across.past);
+    bytes_are = λ o low. byte_is o (omega (arith, low, size_is));
+  }
+
+  -- ---- the stores
+
+  open_cover : IsOpen mid done.taken (cover_word mid touched)
+  open_cover =
+      cover_open mid wf_mid touched (across_shape old blocks inodes n off bytes touched across) (inode_path (height_of (root_of mid 0)) (suc n) 2)
+      (has_size (height_of (root_of mid 0)) (suc n) touched across.touches.run (run_there old middle blocks inodes after n off bytes touched across prepared) (across_shape old blocks inodes n off bytes touched across))
+      (size_fronts old middle blocks inodes after n off bytes touched across prepared (size_of mid) (wf_forest mid wf_mid) (omega arith)) done.taken
+
+  count_is : copied_count mid touched ≡ copied_count image touched
+  count_is = middle_count old middle blocks inodes after n off bytes touched across prepared
+
+  needs : need image write ≡ need_for image (suc n) (size_of image (suc n)) (off + length bytes) + copied_count image touched
+  needs = across_needs old blocks inodes n off bytes touched across
+
+  few : prep_stores (size_of image (suc n)) (size_of image (suc n)) (off + length bytes) (need_for image (suc n) (size_of image (suc n)) (off + length bytes)) + commit_stores mid touched ≤ most_stores (need image write)
+  few =
+      go _ _ _ _ _ _ needs count_is (behind_whole (size_of image (suc n)) (size_of image (suc n)) (off + length bytes) 3) (across_words old blocks inodes n off bytes touched across)
+      (across_copies old blocks inodes n off bytes touched across image)
+    where
+      go : (made copied copied_mid words needed behind : ℕ) → needed ≡ made + copied → copied_mid ≡ copied → behind ≤ 512 * suc 3 → words ≡ 1 → copied ≤ 50 →
+          512 * made + behind + 2 + ((512 + 1) * copied_mid + words + 1) ≤ 512 * (needed + 6) + 64
+      go made copied copied_mid words needed behind a b c d e = omega (arith, a, b, c, d, e)
+
+  pub across_performs : Performs old new (writes (suc n) off (length bytes)) (WritesFile (suc n) off bytes)
+  across_performs =
+      commit_performs_after old middle new (writes (suc n) off (length bytes)) (WritesFile (suc n) off bytes) bound touched after last prepared.taken 2
+      (prep_stores (size_of image (suc n)) (size_of image (suc n)) (off + length bytes) (need_for image (suc n) (size_of image (suc n)) (off + length bytes))) prepared.adds done
+      (λ b live.
+      held_back old middle blocks inodes after n off bytes touched across prepared b (record {
+        tree = live.tree;
+        reached = live.reached;
+        has = wider mid (root_of mid live.tree) (size_of mid live.tree) (bound live.tree) b (bound_low old middle blocks inodes after n off bytes touched across prepared live.tree) live.has;
+      }))
+      (left_free old middle blocks inodes after n off bytes touched across prepared)
+      (middle_cover old middle blocks inodes after n off bytes touched across prepared ∙ sym (across_cover old blocks inodes n off bytes touched across)) (omega arith) few
+      (omega (arith, prepared.counted, count_is, needs)) open_cover
+      (changed.well_formed-same image (current_words new) (suc n) wf changes) across_writes
+
+  -- ---- the sets
+
+  bounds : (t : ℕ) → IsReached mid t → size_of (current_words new) t ≡ bound t
+  bounds t reached = go (cases_eq t (suc n))
+    where
+      go : (t ≡ suc n) ⊎ (t ≡ suc n → ⊥) → size_of (current_words new) t ≡ bound t
+      go (inl e) = rw e (size_is ∙ sym bound_is)
+      go (inr other) = changes_mid.size t reached other ∙ sym (bound_other old middle blocks inodes after n off bytes touched across prepared t other)
+
+  held : (b : ℕ) → IsLiveBlock (current_words new) b → HoldsBlock (current_words new) (IsReached mid) bound b
+  held b one =
+      let reached : IsReached mid one.tree = changed.reached-back mid (current_words new) (suc n) wf_mid changes_mid one.tree one.reached in
+      record { tree = one.tree; reached = reached; has = wider (current_words new) (root_of (current_words new) one.tree) (size_of (current_words new) one.tree) (bound one.tree) b (omega (arith, bounds one.tree reached)) one.has }
+
+  lives : (b : ℕ) → HoldsBlock (current_words new) (IsReached mid) bound b → IsLiveBlock (current_words new) b
+  lives b one = record {
+    tree = one.tree;
+    reached = changed.reached-on mid (current_words new) (suc n) wf_mid changes_mid one.tree one.reached;
+    has = wider (current_words new) (root_of (current_words new) one.tree) (bound one.tree) (size_of (current_words new) one.tree) b (omega (arith, bounds one.tree one.reached)) one.has;
+  }
+
+  pub across_exact : length last ≡ length blocks → AreExact (current_words new) last inodes
+  across_exact room = record {
+    block_room = rw changes.trees.whole (room ∙ across.can.exact.block_room);
+    inode_room = rw changes.trees.whole across.can.exact.inode_room;
+    free_blocks = record {
+      free = λ b there. let free = done.exact.free b there in record { low = free.low; high = free.high; free = λ one. free.free (held b one) };
+      all = λ b free. done.exact.all b (record { low = free.low; high = free.high; free = λ one. free.free (lives b one) });
+    };
+    free_inodes = free_inodes_stay image (current_words new) (has inodes) (changes.size 0 inode_file (changed.not_zero image (current_words new) (suc n) wf changes))
+        (changed.reached-back image (current_words new) (suc n) wf changes) (changed.reached-on image (current_words new) (suc n) wf changes) across.can.exact.free_inodes;
+  }

@@ -1,0 +1,314 @@
+-- Behind the preparation of a write across the size of a file, what is touched can be committed: the sizes that count are those that the trees have, and for the file the end of the bytes.
+use Rattle.std.proofs.Common.{◌≡◌, ◌≢◌, ◌⊎◌, ℕ, suc, ◌+◌, ◌-◌, ◌*◌, ◌/◌, ◌%◌, ◌<◌, ◌≤◌, List, [], ◌∷◌, ◌++◌, ◌==◌, length, drop, if◌then◌else◌, None, Some, slice_index, refl, sym, ◌∙◌, ap, subst, subst₂, suc-ne-zero, inl, inr, arith, true, lt_of_lt_of_le}
+use Rattle.std.proofs.lemmas.Bool.{cases_eq, eq-eqb, ne_eqb}
+use Rattle.bp_free.specs.Set.{Set, has, members}
+use Rattle.bp_layout.specs.Free.{AreUnheld}
+use Rattle.bp_layout.specs.Inode.{kind_of, root_of, size_of, inode_count}
+use Rattle.bp_layout.specs.Members.{Has, AreApart}
+use Rattle.bp_layout.specs.Need.{number_of}
+use Rattle.bp_layout.specs.Reached.{IsReached, HoldsBlock, IsUnheld, IsLiveBlock, IsFreeBlock}
+use Rattle.bp_layout.specs.Reached.IsReached.{inode_file}
+use Rattle.bp_layout.specs.Tree.{HasBlock, IsSound}
+use Rattle.bp_layout.specs.WellFormed.{IsWellFormed}
+use Rattle.bp_layout.specs.WordPaths.{WordPath, digits, inode_path}
+use Rattle.bp_layout.specs.Words.{Image, word, block_count, height_of}
+use Rattle.bp_layout.proofs.Reached.{reached-in_file}
+use Rattle.bp_layout.proofs.TreeLaws.{live_content}
+use Rattle.bp_changes.proofs.ReachedOn.{reached_on}
+use Rattle.bp_changes.proofs.SameMeaning as meaning
+use Rattle.bp_append.specs.Prepared.{PreparesWith, need_for}
+use Rattle.bp_append.proofs.FillLaws.{apart_parts}
+use Rattle.bp_append.proofs.OtherTrees.{other_block_back, other_block_on}
+use Rattle.bp_tree.proofs.Digits.{length-digits}
+use Rattle.bp_tree.proofs.ExistingPaths.{number-digits}
+use Rattle.bp_tree.proofs.PerformsLaws.{has-behind}
+use Rattle.bp_shapes.specs.Forest.{along, tree_trail, IsForest, IsTreePointer}
+use Rattle.bp_shapes.specs.Trail.{Trail, trail_of}
+use Rattle.bp_shapes.proofs.FreeSets.{content_fronts, content_no_pointer, wf_forest}
+use Rattle.bp_shapes.proofs.PathTrails.{length-trail_of}
+use Rattle.bp_cow.specs.CanCommit.{CanCommit, HasRunIn, IsRunIn}
+use Rattle.bp_cow.specs.Cover.{commit_cover, copied_count}
+use Rattle.bp_cow.specs.Touched.{path_of, run_end, run_path, touched_trail, word_paths, word_values}
+use Rattle.bp_cow.specs.declared.touched.Run.{Run}
+use Rattle.bp_cow.specs.declared.touched.Touched.{Touched}
+use Rattle.bp_cow.proofs.LeafCover.{IsSizedRun, leaf_cover, leaf_count, leaf_path}
+use Rattle.bp_cow.proofs.RunLaws.{length-run_path}
+use Rattle.bp_cow.proofs.RunSized.{IsFileRun}
+use Rattle.bp_cow.proofs.RunWrites.{digits_trail, root_path_trail}
+use Rattle.pm_region.specs.Memory.{Memory, current_words}
+use Rattle.bp_calls.specs.TouchedAcross.{WritesAcross}
+use Rattle.bp_calls.proofs.AcrossTouched.{across_end, across_run, across_shape, across_some, across_words}
+use Rattle.bp_calls.proofs.TakenBlocks.{has_either, in_members, members_apart, of_members}
+
+-- the sizes that count: that of the touched word for its inode, and else those of the image
+abbrev pub sizes_with : Image → Touched → ℕ → ℕ
+sizes_with image touched t = if t == number_of (path_of (word_paths touched) 0) / 8 then slice_index (word_values touched) 0 else size_of image t
+
+-- a tree has its blocks under a greater size too
+pub wider : (image : Image) (root size more b : ℕ) → size ≤ more → HasBlock image root size b → HasBlock image root more b
+wider image root size more b low has = record {
+  depth = has.depth;
+  index = has.index;
+  pointer = record { level = has.pointer.level; height = has.pointer.height; live = lt_of_lt_of_le has.pointer.live low };
+  named = has.named;
+  not_null = has.not_null;
+}
+
+module _ (old middle : Memory) (blocks inodes after : Set) (n off : ℕ) (bytes : List ℕ) (touched : Touched) (across : WritesAcross old blocks inodes (suc n) off bytes touched)
+    (prepared : PreparesWith old middle (members blocks) (members after) (suc n) (size_of (current_words old) (suc n)) (off + length bytes) (drop (size_of (current_words old) (suc n) - off) bytes)) where
+  abbrev image : Image
+  image = current_words old
+
+  abbrev mid : Image
+  mid = current_words middle
+
+  abbrev end : ℕ
+  end = off + length bytes
+
+  abbrev bound : ℕ → ℕ
+  bound = sizes_with (current_words middle) touched
+
+  wf : IsWellFormed image
+  wf = across.can.well_formed
+
+  pub middle_formed : IsWellFormed (current_words middle)
+  middle_formed = meaning.well_formed-same (current_words old) (current_words middle) across.can.well_formed prepared.ready.meaning
+
+  on : (t : ℕ) → IsReached image t → IsReached mid t
+  on = reached_on (current_words old) (current_words middle) prepared.ready.meaning
+
+  back : (t : ℕ) → IsReached mid t → IsReached image t
+  back = meaning.reached-back (current_words old) (current_words middle) across.can.well_formed prepared.ready.meaning
+
+  here : IsReached mid (suc n)
+  here = on (suc n) across.can.reached
+
+  root_stays : root_of mid 0 ≡ root_of image 0
+  root_stays = prepared.ready.roots 0 inode_file (λ e. suc-ne-zero n (sym e))
+
+  in_file : suc n < inode_count mid
+  in_file = reached-in_file (current_words middle) middle_formed (suc n) here
+
+  pub middle_sized : word_paths touched ≡ inode_path (height_of (root_of (current_words middle) 0)) (suc n) 2 ∷ []
+  middle_sized = across.touches.sized ∙ ap (λ r. inode_path (height_of r) (suc n) 2 ∷ []) (sym root_stays)
+
+  path_is : path_of (word_paths touched) 0 ≡ inode_path (height_of (root_of mid 0)) (suc n) 2
+  path_is = ap (λ ps. path_of ps 0) middle_sized
+
+  -- ---- the sizes that count
+
+  size_low : 8 * (8 * suc n + 2) < size_of mid 0
+  size_low = omega (arith, in_file)
+
+  inode_is : number_of (path_of (word_paths touched) 0) / 8 ≡ suc n
+  inode_is =
+      let inodes_sound : IsSound mid (root_of mid 0) (size_of mid 0) = (middle_formed).sound 0 inode_file in
+      let number : number_of (inode_path (height_of (root_of mid 0)) (suc n) 2) ≡ 8 * suc n + 2 =
+      number-digits (root_of mid 0) (size_of mid 0) (suc (height_of (root_of mid 0))) (8 * suc n + 2) inodes_sound.fits (live_content (root_of mid 0) (size_of mid 0) (8 * suc n + 2) size_low) in
+      ap (λ p. number_of p / 8) path_is ∙ omega (arith, number)
+
+  pub bound_here : sizes_with (current_words middle) touched (suc n) ≡ off + length bytes
+  bound_here = rw (eq-eqb (suc n) (number_of (path_of (word_paths touched) 0) / 8) (sym inode_is)) (ap (λ vs. slice_index vs 0) across.touches.value)
+
+  pub bound_other : (t : ℕ) → (t ≡ suc n → ⊥) → sizes_with (current_words middle) touched t ≡ size_of (current_words middle) t
+  bound_other t other = rw (ne_eqb t (number_of (path_of (word_paths touched) 0) / 8) (λ e. other (e ∙ inode_is))) refl
+
+  size_was : size_of mid (suc n) ≡ size_of image (suc n)
+  size_was = prepared.ready.sizes (suc n) across.can.reached
+
+  pub bound_low : (t : ℕ) → size_of (current_words middle) t ≤ sizes_with (current_words middle) touched t
+  bound_low t = go (cases_eq t (suc n))
+    where
+      go : (t ≡ suc n) ⊎ (t ≡ suc n → ⊥) → size_of (current_words middle) t ≤ sizes_with (current_words middle) touched t
+      go (inl e) = subst (λ x. size_of mid x ≤ bound x) (sym e) (omega (arith, size_was, bound_here, across.past))
+      go (inr other) = omega (arith, bound_other t other)
+
+  by_tree : (P : ℕ → ℕ → Type 0) (t : ℕ) → P (root_of mid (suc n)) (off + length bytes) → ((t ≡ suc n → ⊥) → P (root_of mid t) (size_of mid t)) → P (root_of mid t) (sizes_with (current_words middle) touched t)
+  by_tree P t file others = go (cases_eq t (suc n))
+    where
+      go : (t ≡ suc n) ⊎ (t ≡ suc n → ⊥) → P (root_of mid t) (sizes_with (current_words middle) touched t)
+      go (inl e) = subst (λ x. P (root_of mid x) (sizes_with (current_words middle) touched x)) (sym e) (subst (P (root_of mid (suc n))) (sym bound_here) file)
+      go (inr other) = subst (P (root_of mid t)) (sym (bound_other t other)) (others other)
+
+  -- a block under these sizes is the file's, or another tree's
+  of_file : (t b : ℕ) → t ≡ suc n → HasBlock mid (root_of mid t) (bound t) b → HasBlock mid (root_of mid (suc n)) (off + length bytes) b
+  of_file t b e has = subst (λ s. HasBlock mid (root_of mid (suc n)) s b) bound_here (subst (λ x. HasBlock mid (root_of mid x) (bound x) b) e has)
+
+  of_other : (t b : ℕ) → (t ≡ suc n → ⊥) → HasBlock mid (root_of mid t) (bound t) b → HasBlock mid (root_of mid t) (size_of mid t) b
+  of_other t b other has = subst (λ s. HasBlock mid (root_of mid t) s b) (bound_other t other) has
+
+  pub middle_forest : IsForest (current_words middle) (sizes_with (current_words middle) touched)
+  middle_forest =
+      let plain : IsForest mid (size_of mid) = wf_forest (current_words middle) middle_formed in
+      let zero_bound : bound 0 ≡ size_of mid 0 = bound_other 0 (λ e. suc-ne-zero n (sym e)) in
+      record {
+        some = omega (arith, plain.some, zero_bound);
+        in_file = λ i reached. omega (arith, plain.in_file i reached, zero_bound);
+        sound = λ t reached. by_tree (IsSound mid) t prepared.ready.sound (λ other. (middle_formed).sound t reached);
+        apart = λ t u b r q has also. apart t u b r q has also (cases_eq t (suc n)) (cases_eq u (suc n));
+      }
+    where
+      apart : (t u b : ℕ) → IsReached mid t → IsReached mid u → HasBlock mid (root_of mid t) (bound t) b → HasBlock mid (root_of mid u) (bound u) b → (t ≡ suc n) ⊎ (t ≡ suc n → ⊥) → (u ≡ suc n) ⊎ (u ≡ suc n → ⊥) → t ≡ u
+      apart t u b r q has also (inl e) (inl f) = e ∙ sym f
+      apart t u b r q has also (inl e) (inr f) = absurd (prepared.ready.apart u b (back u q) f (of_other u b f also) (of_file t b e has))
+      apart t u b r q has also (inr e) (inl f) = absurd (prepared.ready.apart t b (back t r) e (of_other t b e has) (of_file u b f also))
+      apart t u b r q has also (inr e) (inr f) = (middle_formed).apart t u b r q (of_other t b e has) (of_other u b f also)
+
+  -- ---- the blocks
+
+  pub held_back : (b : ℕ) → HoldsBlock (current_words middle) (IsReached (current_words middle)) (sizes_with (current_words middle) touched) b → IsLiveBlock (current_words old) b ⊎ Has prepared.taken b
+  held_back b one = go (cases_eq one.tree (suc n))
+    where
+      go : (one.tree ≡ suc n) ⊎ (one.tree ≡ suc n → ⊥) → IsLiveBlock (current_words old) b ⊎ Has prepared.taken b
+      go (inl e) =
+          elim (prepared.ready.blocks b (of_file one.tree b e one.has)) [
+            | inl was ↦ inl (record { tree = suc n; reached = across.can.reached; has = was })
+            | inr took ↦ inr took
+          ]
+      go (inr other) =
+          inl (record {
+            tree = one.tree;
+            reached = back one.tree one.reached;
+            has = other_block_back image mid (suc n) (size_of image (suc n)) (off + length bytes) (drop (size_of image (suc n) - off) bytes) prepared.taken prepared.ready one.tree (back one.tree one.reached) other b
+                (of_other one.tree b other one.has);
+          })
+
+  in_file_block : (b : ℕ) → HasBlock mid (root_of mid (suc n)) (off + length bytes) b → HoldsBlock mid (IsReached mid) bound b
+  in_file_block b has = record { tree = suc n; reached = here; has = subst (λ s. HasBlock mid (root_of mid (suc n)) s b) (sym bound_here) has }
+
+  held_on : (b : ℕ) → IsLiveBlock image b → HoldsBlock mid (IsReached mid) bound b
+  held_on b live = go (cases_eq live.tree (suc n))
+    where
+      go : (live.tree ≡ suc n) ⊎ (live.tree ≡ suc n → ⊥) → HoldsBlock mid (IsReached mid) bound b
+      go (inl e) = in_file_block b (prepared.ready.has_old b (subst (λ x. HasBlock image (root_of image x) (size_of image x) b) e live.has))
+      go (inr other) = record {
+        tree = live.tree;
+        reached = on live.tree live.reached;
+        has = wider mid (root_of mid live.tree) (size_of mid live.tree) (bound live.tree) b (bound_low live.tree)
+            (other_block_on image mid (suc n) (size_of image (suc n)) (off + length bytes) (drop (size_of image (suc n) - off) bytes) prepared.taken prepared.ready live.tree live.reached other b live.has);
+      }
+
+  -- the blocks that are left in the set were free, and the preparation did not take them
+  pub left_free : (b : ℕ) → has after b ≡ true → IsFreeBlock (current_words old) b × (Has prepared.taken b → ⊥)
+  left_free b is =
+      let there : Has (members blocks) b = subst (λ bs. Has bs b) (sym prepared.takes) (has-behind prepared.taken (members after) b (in_members after b is)) in (
+        across.can.exact.free_blocks.free b (of_members blocks b there),
+        λ took. apart_parts prepared.taken (members after) b (subst AreApart prepared.takes (members_apart blocks)) took (in_members after b is),
+      )
+
+  pub middle_exact : AreUnheld (current_words middle) (IsReached (current_words middle)) (sizes_with (current_words middle) touched) (has after)
+  middle_exact = record {
+    free = λ b is.
+        let free = left_free b is in
+        record {
+          low = free.0.low;
+          high = rw prepared.ready.meaning.whole free.0.high;
+          free = λ held. elim (held_back b held) [ inl was ↦ free.0.free was | inr took ↦ free.1 took ];
+        };
+    all = λ b unheld.
+        let was : has blocks b ≡ true =
+        across.can.exact.free_blocks.all b (record { low = unheld.low; high = rw prepared.ready.meaning.whole at unheld.high; free = λ live. unheld.free (held_on b live) }) in
+        elim (has_either prepared.taken (members after) b (subst (λ bs. Has bs b) prepared.takes (in_members blocks b was))) [
+          | inl early ↦ absurd (unheld.free (in_file_block b (prepared.ready.has_taken b early)))
+          | inr late ↦ of_members after b late
+        ];
+  }
+
+  -- ---- the paths
+
+  size_trail : trail_of (inode_path (height_of (root_of mid 0)) (suc n) 2) (suc (height_of (root_of mid 0))) ≡ tree_trail (height_of (word mid 2)) 0 (suc (height_of (root_of mid 0))) (8 * suc n + 2)
+  size_trail =
+      let none : suc (height_of (root_of mid 0)) ≡ 0 + suc (height_of (root_of mid 0)) = omega arith in
+      ap (trail_of (inode_path (height_of (root_of mid 0)) (suc n) 2)) none ∙ digits_trail [] (suc (height_of (root_of mid 0))) (8 * suc n + 2)
+
+  size_long : length (inode_path (height_of (root_of mid 0)) (suc n) 2) ≡ suc (height_of (root_of mid 0))
+  size_long = length-digits (suc (height_of (root_of mid 0))) (8 * suc n + 2)
+
+  -- the only word
+  only_word : (P : WordPath → Type 0) → P (inode_path (height_of (root_of mid 0)) (suc n) 2) → (j : ℕ) → j < length touched.words.items → P (path_of (word_paths touched) j)
+  only_word P has j low =
+      let first : j ≡ 0 = omega (arith, low, across_words old blocks inodes n off bytes touched across) in
+      subst (λ k. P (path_of (word_paths touched) k)) (sym first) (subst P (sym path_is) has)
+
+  -- its fronts are pointers, under the sizes of the image too
+  pub size_fronts : (sizes : ℕ → ℕ) → IsForest (current_words middle) sizes → size_of (current_words middle) 0 ≤ sizes 0 → (d : ℕ) → d < length (inode_path (height_of (root_of (current_words middle) 0)) (suc n) 2) →
+      IsTreePointer (current_words middle) sizes (trail_of (inode_path (height_of (root_of (current_words middle) 0)) (suc n) 2) d)
+  size_fronts sizes forest high d low =
+      content_fronts mid sizes forest (inode_path (height_of (root_of mid 0)) (suc n) 2) (height_of (root_of mid 0)) 0 (8 * suc n + 2) inode_file (omega (arith, size_low, high)) size_trail d (omega (arith, low, size_long))
+
+  pub across_file : (small : (i : ℕ) → slice_index across.touches.run.bytes.now i < 256) → IsFileRun (current_words middle) (sizes_with (current_words middle) touched) touched across.touches.run n
+  across_file small = record {
+    one = across.touches.one;
+    words = only_word (λ p. trail_of p (length p) ≡ tree_trail (height_of (word mid 2)) 0 (suc (height_of (root_of mid 0))) (8 * suc n + 2))
+        (ap (trail_of (inode_path (height_of (root_of mid 0)) (suc n) 2)) size_long ∙ size_trail);
+    reached = here;
+    is_file = prepared.ready.meaning.kind (suc n) across.can.reached ∙ across.can.file;
+    root = across.touches.root ∙ ap (λ r. inode_path (height_of r) (suc n) 1) (sym root_stays);
+    height = across.touches.height ∙ sym prepared.ready.height;
+    some = across_some old blocks inodes n off bytes touched across;
+    below = omega (arith, across_end old blocks inodes n off bytes touched across, bound_here, across.past);
+    small = small;
+    others = λ t reached other. bound_other t other;
+  }
+
+  pub across_can : CanCommit (current_words middle) (sizes_with (current_words middle) touched) touched (has after)
+  across_can = record {
+    shape = across_shape old blocks inodes n off bytes touched across;
+    forest = middle_forest;
+    sizes = λ t reached. bound_low t;
+    exact = middle_exact;
+    pointers = λ j d low few.
+        only_word (λ p. d < length p → IsTreePointer mid bound (trail_of p d)) (size_fronts bound middle_forest (bound_low 0) d) j low few;
+    contents = only_word (λ p. IsTreePointer mid bound (trail_of p (length p)) → ⊥)
+        (λ pointer.
+        content_no_pointer mid bound middle_forest (inode_path (height_of (root_of mid 0)) (suc n) 2) (height_of (root_of mid 0)) 0 (8 * suc n + 2) inode_file (omega (arith, size_low, bound_low 0)) size_trail (λ _ e. omega (arith, e))
+        (subst (λ d. IsTreePointer mid bound (trail_of (inode_path (height_of (root_of mid 0)) (suc n) 2) d)) size_long pointer));
+    run = subst (HasRunIn mid bound) (sym across.touches.one) (record {
+      inode = n;
+      reached = here;
+      root = root_path_trail (height_of (root_of mid 0)) n across.touches.run.root.items (across.touches.root ∙ ap (λ r. inode_path (height_of r) (suc n) 1) (sym root_stays));
+      height = across.touches.height ∙ sym prepared.ready.height;
+      below = omega (arith, across_end old blocks inodes n off bytes touched across, bound_here, across.past);
+    });
+    apart = λ i k low few same. omega (arith, low, few, across_words old blocks inodes n off bytes touched across);
+    beside = λ r i k e low first last.
+        only_word (λ p. trail_of p (length p) ≢ trail_of (run_path r k) (length (run_path r k))) (λ same. longer r k e same) i low;
+  }
+    where
+      longer : (r : Run) (k : ℕ) → touched.run ≡ Some r →
+          trail_of (inode_path (height_of (root_of mid 0)) (suc n) 2) (length (inode_path (height_of (root_of mid 0)) (suc n) 2)) ≡ trail_of (run_path r k) (length (run_path r k)) → ⊥
+      longer r k e same =
+          let root_long : length r.root.items ≡ suc (height_of (root_of mid 0)) =
+          subst (λ (x : Run). length x.root.items ≡ suc (height_of (root_of mid 0))) (inject across.touches.run r (sym across.touches.one ∙ e))
+          (ap (λ (p : WordPath). length p) (across.touches.root ∙ ap (λ z. inode_path (height_of z) (suc n) 1) (sym root_stays)) ∙ length-digits (suc (height_of (root_of mid 0))) (8 * suc n + 1)) in
+          omega (
+            arith,
+            ap (λ (x : Trail). length x) same,
+            length-trail_of (inode_path (height_of (root_of mid 0)) (suc n) 2) (length (inode_path (height_of (root_of mid 0)) (suc n) 2)),
+            length-trail_of (run_path r k) (length (run_path r k)),
+            size_long,
+            length-run_path r k,
+            root_long,
+          )
+        where
+          inject : (a b : Run) → Some a ≡ Some b → a ≡ b
+          inject a b f = cc
+
+  -- ---- the cover is the one that it was, and the copies are as many
+
+  pub run_there : IsSizedRun (height_of (root_of mid 0)) (suc n) touched across.touches.run
+  run_there = record { one = across.touches.one; root = across.touches.root ∙ ap (λ r. inode_path (height_of r) (suc n) 1) (sym root_stays); sized = middle_sized }
+
+  in_image : suc n < inode_count image
+  in_image = reached-in_file image wf (suc n) across.can.reached
+
+  pub middle_cover : commit_cover (current_words middle) touched ≡ leaf_path (height_of (root_of (current_words old) 0)) (suc n)
+  middle_cover =
+      leaf_cover (height_of (root_of mid 0)) (suc n) touched across.touches.run run_there (across_shape old blocks inodes n off bytes touched across) mid middle_formed refl in_file
+      ∙ ap (λ r. leaf_path (height_of r) (suc n)) root_stays
+
+  pub middle_count : copied_count (current_words middle) touched ≡ copied_count (current_words old) touched
+  middle_count =
+      leaf_count (height_of (root_of image 0)) (suc n) touched across.touches.run (across_run old blocks inodes n off bytes touched across) (across_shape old blocks inodes n off bytes touched across) mid middle_formed
+      (ap height_of (sym root_stays)) in_file
+      ∙ sym (leaf_count (height_of (root_of image 0)) (suc n) touched across.touches.run (across_run old blocks inodes n off bytes touched across) (across_shape old blocks inodes n off bytes touched across) image wf refl in_image)

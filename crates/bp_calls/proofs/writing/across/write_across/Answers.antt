@@ -1,0 +1,107 @@
+use Rattle.std.proofs.Common.{◌≡◌, ℕ, ◌+◌, ◌-◌, ◌*◌, ◌<◌, ◌≤◌, List, drop, length, slice_index, ◌∙◌, arith}
+use Rattle.pm_region.specs.Memory.{current_words}
+use Rattle.bp_append.specs.Prepared.{CanPrepare, PreparesWith}
+use Rattle.bp_free.specs.Set.{members}
+use Rattle.bp_layout.specs.Inode.{size_of}
+use Rattle.bp_layout.specs.Nodes.{nodes_for}
+use Rattle.bp_cow.specs.Cover.{copied_count}
+use Rattle.bp_calls.specs.TouchedAcross.{WritesAcross}
+use Rattle.bp_calls.proofs.AcrossCalls.{at_apart, at_commit, at_done, at_few, at_inside, at_lacks, at_prepare, at_prepared, at_shape, cut_at}
+use Rattle.bp_calls.proofs.writing.across.write_across.Goals as goal
+
+pub need_cover-requires-clause-touched : goal.need_cover-requires-clause-touched
+need_cover-requires-clause-touched g c =
+    let across : WritesAcross (g.R.Region.memory c.args.parts.now.region) c.args.parts.now.blocks c.args.parts.now.inodes c.args.i c.args.off c.args.bytes.now c.touched_across-touched.result =
+    cut_at (g.R.Region.memory c.args.parts.now.region) c.args.parts.now.blocks c.args.parts.now.inodes c.args.off c.args.bytes.now c.touched_across-touched.result c.args.i c.tree_of-tree.result.size c.split_at.result.0.now
+    c.requires.can c.requires.below c.requires.past c.tree_of-tree.ensures.size c.split_at.ensures.front c.touched_across-touched.ensures in
+    at_shape (g.R.Region.memory c.args.parts.now.region) c.args.parts.now.blocks c.args.parts.now.inodes c.args.off c.args.bytes.now c.touched_across-touched.result c.args.i across
+
+pub need_cover-requires-clause-in_range : goal.need_cover-requires-clause-in_range
+need_cover-requires-clause-in_range g c =
+    let across : WritesAcross (g.R.Region.memory c.args.parts.now.region) c.args.parts.now.blocks c.args.parts.now.inodes c.args.i c.args.off c.args.bytes.now c.touched_across-touched.result =
+    cut_at (g.R.Region.memory c.args.parts.now.region) c.args.parts.now.blocks c.args.parts.now.inodes c.args.off c.args.bytes.now c.touched_across-touched.result c.args.i c.tree_of-tree.result.size c.split_at.result.0.now
+    c.requires.can c.requires.below c.requires.past c.tree_of-tree.ensures.size c.split_at.ensures.front c.touched_across-touched.ensures in
+    at_inside (g.R.Region.memory c.args.parts.now.region) c.args.parts.now.blocks c.args.parts.now.inodes c.args.off c.args.bytes.now c.touched_across-touched.result c.args.i across
+
+pub need_cover-requires-clause-apart : goal.need_cover-requires-clause-apart
+need_cover-requires-clause-apart g c =
+    let across : WritesAcross (g.R.Region.memory c.args.parts.now.region) c.args.parts.now.blocks c.args.parts.now.inodes c.args.i c.args.off c.args.bytes.now c.touched_across-touched.result =
+    cut_at (g.R.Region.memory c.args.parts.now.region) c.args.parts.now.blocks c.args.parts.now.inodes c.args.off c.args.bytes.now c.touched_across-touched.result c.args.i c.tree_of-tree.result.size c.split_at.result.0.now
+    c.requires.can c.requires.below c.requires.past c.tree_of-tree.ensures.size c.split_at.ensures.front c.touched_across-touched.ensures in
+    at_apart (g.R.Region.memory c.args.parts.now.region) c.args.parts.now.blocks c.args.parts.now.inodes c.args.off c.args.bytes.now c.touched_across-touched.result c.args.i across
+
+pub overflow_add-need : goal.overflow_add-need
+overflow_add-need g c =
+    let across : WritesAcross (g.R.Region.memory c.args.parts.now.region) c.args.parts.now.blocks c.args.parts.now.inodes c.args.i c.args.off c.args.bytes.now c.touched_across-touched.result =
+    cut_at (g.R.Region.memory c.args.parts.now.region) c.args.parts.now.blocks c.args.parts.now.inodes c.args.off c.args.bytes.now c.touched_across-touched.result c.args.i c.tree_of-tree.result.size c.split_at.result.0.now
+    c.requires.can c.requires.below c.requires.past c.tree_of-tree.ensures.size c.split_at.ensures.front c.touched_across-touched.ensures in
+    let few = at_few (g.R.Region.memory c.args.parts.now.region) c.args.parts.now.blocks c.args.parts.now.inodes c.args.off c.args.bytes.now c.touched_across-touched.result c.args.i c.tree_of-tree.result.root c.tree_of-tree.result.size across c.tree_of-tree.ensures.root c.tree_of-tree.ensures.size in
+    omega (arith, few, c.need_prep-behind.ensures, c.need_cover.ensures)
+
+pub returns-then-free-need-clause-refused : goal.returns-then-free-need-clause-refused
+returns-then-free-need-clause-refused g c =
+    let across : WritesAcross (g.R.Region.memory c.args.parts.now.region) c.args.parts.now.blocks c.args.parts.now.inodes c.args.i c.args.off c.args.bytes.now c.touched_across-touched.result =
+    cut_at (g.R.Region.memory c.args.parts.now.region) c.args.parts.now.blocks c.args.parts.now.inodes c.args.off c.args.bytes.now c.touched_across-touched.result c.args.i c.tree_of-tree.result.size c.split_at.result.0.now
+    c.requires.can c.requires.below c.requires.past c.tree_of-tree.ensures.size c.split_at.ensures.front c.touched_across-touched.ensures in
+    at_lacks (g.R.Region.memory c.args.parts.now.region) c.args.parts.now.blocks c.args.parts.now.inodes c.args.off c.args.bytes.now c.touched_across-touched.result c.args.i c.tree_of-tree.result.root c.tree_of-tree.result.size c.need_prep-behind.result c.need_cover.result c.count-free.result
+    across c.tree_of-tree.ensures.root c.tree_of-tree.ensures.size c.need_prep-behind.ensures c.need_cover.ensures c.count-free.ensures c.if-free-need.true
+
+pub prep-requires : goal.prep-requires
+prep-requires g c =
+    let across : WritesAcross (g.R.Region.memory c.args.parts.now.region) c.args.parts.now.blocks c.args.parts.now.inodes c.args.i c.args.off c.args.bytes.now c.touched_across-touched.result =
+    cut_at (g.R.Region.memory c.args.parts.now.region) c.args.parts.now.blocks c.args.parts.now.inodes c.args.off c.args.bytes.now c.touched_across-touched.result c.args.i c.tree_of-tree.result.size c.split_at.result.0.now
+    c.requires.can c.requires.below c.requires.past c.tree_of-tree.ensures.size c.split_at.ensures.front c.touched_across-touched.ensures in
+    let enough : c.need_prep-behind.result + copied_count (current_words (g.R.Region.memory c.args.parts.now.region)) c.touched_across-touched.result ≤ length (members c.args.parts.now.blocks) =
+    omega (arith, c.if-free-need.false, c.count-free.ensures, c.need_cover.ensures) in
+    let can : CanPrepare (g.R.Region.memory c.args.parts.now.region) (members c.args.parts.now.blocks) c.args.i c.root_path-root.result.items c.tree_of-tree.result.size (c.args.off + length c.args.bytes.now) =
+    at_prepare (g.R.Region.memory c.args.parts.now.region) c.args.parts.now.blocks c.args.parts.now.inodes c.args.off c.args.bytes.now c.touched_across-touched.result c.args.i c.tree_of-tree.result.root c.tree_of-tree.result.size c.need_prep-behind.result c.root_path-root.result.items
+    across c.tree_of-tree.ensures.root c.tree_of-tree.ensures.size c.need_prep-behind.ensures (omega (arith, enough)) c.root_path-root.ensures in
+    record { can = (c.args.i, can) }
+
+pub commit-requires : goal.commit-requires
+commit-requires g c κs within =
+    let across : WritesAcross (g.R.Region.memory c.args.parts.now.region) c.args.parts.now.blocks c.args.parts.now.inodes c.args.i c.args.off c.args.bytes.now c.touched_across-touched.result =
+    cut_at (g.R.Region.memory c.args.parts.now.region) c.args.parts.now.blocks c.args.parts.now.inodes c.args.off c.args.bytes.now c.touched_across-touched.result c.args.i c.tree_of-tree.result.size c.split_at.result.0.now
+    c.requires.can c.requires.below c.requires.past c.tree_of-tree.ensures.size c.split_at.ensures.front c.touched_across-touched.ensures in
+    let enough : c.need_prep-behind.result + copied_count (current_words (g.R.Region.memory c.args.parts.now.region)) c.touched_across-touched.result ≤ length (members c.args.parts.now.blocks) =
+    omega (arith, c.if-free-need.false, c.count-free.ensures, c.need_cover.ensures) in
+    let can : CanPrepare (g.R.Region.memory c.args.parts.now.region) (members c.args.parts.now.blocks) c.args.i c.root_path-root.result.items c.tree_of-tree.result.size (c.args.off + length c.args.bytes.now) =
+    at_prepare (g.R.Region.memory c.args.parts.now.region) c.args.parts.now.blocks c.args.parts.now.inodes c.args.off c.args.bytes.now c.touched_across-touched.result c.args.i c.tree_of-tree.result.root c.tree_of-tree.result.size c.need_prep-behind.result c.root_path-root.result.items
+    across c.tree_of-tree.ensures.root c.tree_of-tree.ensures.size c.need_prep-behind.ensures (omega (arith, enough)) c.root_path-root.ensures in
+    let prepared = at_prepared (g.R.Region.memory c.args.parts.now.region) c.args.parts.now.blocks c.args.parts.now.inodes c.args.off c.args.bytes.now c.touched_across-touched.result (g.R.Region.memory c.prep.new.parts.region) c.prep.new.parts.blocks
+    c.args.i c.tree_of-tree.result.size c.split_at.result.1.now c.tree_of-tree.ensures.size c.split_at.ensures.back (c.prep.ensures.prepares c.args.i can) in
+    let asks = at_commit (g.R.Region.memory c.args.parts.now.region) c.args.parts.now.blocks c.args.parts.now.inodes c.args.off c.args.bytes.now c.touched_across-touched.result (g.R.Region.memory c.prep.new.parts.region) c.prep.new.parts.blocks
+    c.args.i c.tree_of-tree.result.root c.tree_of-tree.result.size c.need_prep-behind.result across c.tree_of-tree.ensures.root c.tree_of-tree.ensures.size c.need_prep-behind.ensures enough prepared c.prep.ensures.room in
+    (within, (asks.well_formed, (asks.can, (asks.fits, (asks.some, asks.room)))))
+
+pub returns-clause-performs : goal.returns-clause-performs
+returns-clause-performs g c =
+    let across : WritesAcross (g.R.Region.memory c.args.parts.now.region) c.args.parts.now.blocks c.args.parts.now.inodes c.args.i c.args.off c.args.bytes.now c.touched_across-touched.result =
+    cut_at (g.R.Region.memory c.args.parts.now.region) c.args.parts.now.blocks c.args.parts.now.inodes c.args.off c.args.bytes.now c.touched_across-touched.result c.args.i c.tree_of-tree.result.size c.split_at.result.0.now
+    c.requires.can c.requires.below c.requires.past c.tree_of-tree.ensures.size c.split_at.ensures.front c.touched_across-touched.ensures in
+    let enough : c.need_prep-behind.result + copied_count (current_words (g.R.Region.memory c.args.parts.now.region)) c.touched_across-touched.result ≤ length (members c.args.parts.now.blocks) =
+    omega (arith, c.if-free-need.false, c.count-free.ensures, c.need_cover.ensures) in
+    let can : CanPrepare (g.R.Region.memory c.args.parts.now.region) (members c.args.parts.now.blocks) c.args.i c.root_path-root.result.items c.tree_of-tree.result.size (c.args.off + length c.args.bytes.now) =
+    at_prepare (g.R.Region.memory c.args.parts.now.region) c.args.parts.now.blocks c.args.parts.now.inodes c.args.off c.args.bytes.now c.touched_across-touched.result c.args.i c.tree_of-tree.result.root c.tree_of-tree.result.size c.need_prep-behind.result c.root_path-root.result.items
+    across c.tree_of-tree.ensures.root c.tree_of-tree.ensures.size c.need_prep-behind.ensures (omega (arith, enough)) c.root_path-root.ensures in
+    let prepared = at_prepared (g.R.Region.memory c.args.parts.now.region) c.args.parts.now.blocks c.args.parts.now.inodes c.args.off c.args.bytes.now c.touched_across-touched.result (g.R.Region.memory c.prep.new.parts.region) c.prep.new.parts.blocks
+    c.args.i c.tree_of-tree.result.size c.split_at.result.1.now c.tree_of-tree.ensures.size c.split_at.ensures.back (c.prep.ensures.prepares c.args.i can) in
+    let done = at_done (g.R.Region.memory c.args.parts.now.region) c.args.parts.now.blocks c.args.parts.now.inodes c.args.off c.args.bytes.now c.touched_across-touched.result (g.R.Region.memory c.prep.new.parts.region) c.prep.new.parts.blocks
+    (g.R.Region.memory c.commit.new.parts.region) c.commit.new.parts.blocks c.args.i across prepared (λ k. omega (arith, c.type_inv.bytes k)) c.commit.ensures.commits (c.commit.ensures.size ∙ c.prep.ensures.room) in
+    done.0
+
+pub returns-clause-exact : goal.returns-clause-exact
+returns-clause-exact g c =
+    let across : WritesAcross (g.R.Region.memory c.args.parts.now.region) c.args.parts.now.blocks c.args.parts.now.inodes c.args.i c.args.off c.args.bytes.now c.touched_across-touched.result =
+    cut_at (g.R.Region.memory c.args.parts.now.region) c.args.parts.now.blocks c.args.parts.now.inodes c.args.off c.args.bytes.now c.touched_across-touched.result c.args.i c.tree_of-tree.result.size c.split_at.result.0.now
+    c.requires.can c.requires.below c.requires.past c.tree_of-tree.ensures.size c.split_at.ensures.front c.touched_across-touched.ensures in
+    let enough : c.need_prep-behind.result + copied_count (current_words (g.R.Region.memory c.args.parts.now.region)) c.touched_across-touched.result ≤ length (members c.args.parts.now.blocks) =
+    omega (arith, c.if-free-need.false, c.count-free.ensures, c.need_cover.ensures) in
+    let can : CanPrepare (g.R.Region.memory c.args.parts.now.region) (members c.args.parts.now.blocks) c.args.i c.root_path-root.result.items c.tree_of-tree.result.size (c.args.off + length c.args.bytes.now) =
+    at_prepare (g.R.Region.memory c.args.parts.now.region) c.args.parts.now.blocks c.args.parts.now.inodes c.args.off c.args.bytes.now c.touched_across-touched.result c.args.i c.tree_of-tree.result.root c.tree_of-tree.result.size c.need_prep-behind.result c.root_path-root.result.items
+    across c.tree_of-tree.ensures.root c.tree_of-tree.ensures.size c.need_prep-behind.ensures (omega (arith, enough)) c.root_path-root.ensures in
+    let prepared = at_prepared (g.R.Region.memory c.args.parts.now.region) c.args.parts.now.blocks c.args.parts.now.inodes c.args.off c.args.bytes.now c.touched_across-touched.result (g.R.Region.memory c.prep.new.parts.region) c.prep.new.parts.blocks
+    c.args.i c.tree_of-tree.result.size c.split_at.result.1.now c.tree_of-tree.ensures.size c.split_at.ensures.back (c.prep.ensures.prepares c.args.i can) in
+    let done = at_done (g.R.Region.memory c.args.parts.now.region) c.args.parts.now.blocks c.args.parts.now.inodes c.args.off c.args.bytes.now c.touched_across-touched.result (g.R.Region.memory c.prep.new.parts.region) c.prep.new.parts.blocks
+    (g.R.Region.memory c.commit.new.parts.region) c.commit.new.parts.blocks c.args.i across prepared (λ k. omega (arith, c.type_inv.bytes k)) c.commit.ensures.commits (c.commit.ensures.size ∙ c.prep.ensures.room) in
+    rw (c.commit.ensures.inodes, c.prep.ensures.inodes) done.1

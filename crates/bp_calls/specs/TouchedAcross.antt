@@ -1,0 +1,30 @@
+-- What a write across the size of a file touches.
+use Rattle.std.specs.Prelude.{◌≡◌, ℕ, ◌+◌, ◌-◌, ◌<◌, List, [], ◌∷◌, length, take, Some}
+use Rattle.bp_cow.specs.Touched.{word_paths, word_values}
+use Rattle.bp_cow.specs.declared.touched.Run.{Run}
+use Rattle.bp_cow.specs.declared.touched.Touched.{Touched}
+use Rattle.bp_free.specs.Set.{Set}
+use Rattle.bp_layout.specs.Inode.{root_of, size_of}
+use Rattle.bp_layout.specs.Nodes.{height_with}
+use Rattle.bp_layout.specs.WordPaths.{inode_path}
+use Rattle.bp_layout.specs.Words.{Image, height_of}
+use Rattle.bp_calls.specs.CanWrite.{CanWrite}
+use Rattle.pm_region.specs.Memory.{Memory, current_words}
+
+-- These bytes from an offset on, as a run in the tree of inode i once it is high enough for an end, and the word of its size, which gets that end.
+pub record TouchesAcross (image : Image) (i off end : ℕ) (bytes : List ℕ) (touched : Touched) : Type 0 where
+  pub run : Run
+  pub one : touched.run ≡ Some run
+  pub root : run.root.items ≡ inode_path (height_of (root_of image 0)) i 1
+  pub height : run.height ≡ height_with (root_of image i) (size_of image i) end
+  pub from : run.off ≡ off
+  pub bytes_are : run.bytes.now ≡ bytes
+  pub sized : word_paths touched ≡ inode_path (height_of (root_of image 0)) i 2 ∷ []
+  pub value : word_values touched ≡ end ∷ []
+
+-- Bytes that begin below the size of a file and end past it, and what is touched for them: those below the size, and the size.
+pub record WritesAcross (memory : Memory) (blocks inodes : Set) (i off : ℕ) (bytes : List ℕ) (touched : Touched) : Type 0 where
+  pub can : CanWrite memory blocks inodes i off bytes
+  pub below : off < size_of (current_words memory) i
+  pub past : size_of (current_words memory) i < off + length bytes
+  pub touches : TouchesAcross (current_words memory) i off (off + length bytes) (take (size_of (current_words memory) i - off) bytes) touched

@@ -1,0 +1,101 @@
+//! Bytes that begin below the size of a file and end past it: a preparation for those behind the size, and then a commit
+//! of the others with the size.
+
+ghost use Rattle.std.specs.Prelude.{◌≡◌, ◌+◌, ◌<◌, ◌≤◌, length, IfErr, OnErr, OnOk};
+ghost use Rattle.bp_calls.specs.CanWrite.{CanWrite};
+ghost use Rattle.bp_calls.specs.Space.{LacksSpace};
+ghost use Rattle.bp_calls.specs.TouchedAcross.{TouchesAcross};
+ghost use Rattle.bp_calls.specs.WritesFile.{WritesFile};
+ghost use Rattle.bp_layout.specs.Inode.{root_of, size_of};
+ghost use Rattle.bp_layout.specs.Need.Change.{writes};
+ghost use Rattle.bp_layout.specs.WordPaths.{inode_path};
+ghost use Rattle.bp_layout.specs.Words.{height_of};
+ghost use Rattle.bp_shapes.specs.Sets.{AreExact};
+ghost use Rattle.bp_tree.specs.Performs.{Performs};
+ghost use Rattle.pm_region.specs.Memory.{current_words};
+
+use crate::entering::tree_of;
+use crate::writing::root_path;
+use arrayvec::ArrayVec;
+use bp_append::{height_with, need_prep, prep};
+use bp_cow::{Run, Touched, commit, need_cover};
+use bp_free::{NoSpace, Parts};
+use bp_inodes::inode_file;
+use bp_limits::INODE_SIZE;
+use bp_tree::{Slots, Tree, word_path};
+use pm_region::Region;
+
+/// The path of the size word of an inode.
+fn size_path<R: Region>(region: &R, i: u32) -> Slots
+    requires { 4 ≤ length (current_words (R.memory region.now)) }
+    ensures { result.items ≡ inode_path (height_of (root_of (current_words (R.memory region.now)) 0)) i 2 }
+{
+    word_path(inode_file(region), u64::from(i) * INODE_SIZE + 16)
+}
+
+/// What is touched by bytes that end past the size of a file: those below its size, in its tree once it is high enough
+/// for all of them, and its size, which will be the end.
+fn touched_across<'a, R: Region>(
+    region: &R,
+    i: u32,
+    tree: Tree,
+    off: u64,
+    below: &'a [u8],
+    end: u64,
+) -> Touched<'a>
+    requires some { 4 ≤ length (current_words (R.memory region.now)) }
+    requires root { tree.root ≡ root_of (current_words (R.memory region.now)) i }
+    requires size { tree.size ≡ size_of (current_words (R.memory region.now)) i }
+    ensures { TouchesAcross (current_words (R.memory region.now)) i off end below.now result }
+{
+    let mut words = ArrayVec::new();
+    words.push((size_path(region, i), end));
+    let run = Run {
+        root: root_path(region, i),
+        height: height_with(tree, end),
+        off,
+        bytes: below,
+    };
+    Touched {
+        words,
+        run: Some(run),
+    }
+}
+
+/// Writes bytes that begin below the size of a file and end past it. Its tree is prepared for those behind the size, and
+/// then one store brings the others in, together with the size.
+///
+/// # Errors
+///
+/// Where fewer blocks are free than are needed.
+pub(crate) fn write_across<R: Region>(
+    parts: &mut Parts<R>,
+    i: u32,
+    off: u64,
+    bytes: &[u8],
+) -> Result<(), NoSpace>
+    requires can { CanWrite (R.memory parts.old.region) parts.old.blocks parts.old.inodes i off bytes.now }
+    requires below { off < size_of (current_words (R.memory parts.old.region)) i }
+    requires past { size_of (current_words (R.memory parts.old.region)) i < off + length bytes.now }
+    ensures performs { OnOk result (Performs (R.memory parts.old.region) (R.memory parts.new.region)
+        (writes i off (length bytes.now)) (WritesFile i off bytes.now)) }
+    ensures exact { AreExact (current_words (R.memory parts.new.region)) parts.new.blocks parts.new.inodes }
+    ensures refused { IfErr result (LacksSpace (current_words (R.memory parts.old.region))
+        (writes i off (length bytes.now))) }
+    ensures same { OnErr result (parts.new ≡ parts.old) }
+{
+    let tree = tree_of(&parts.region, i);
+    let end = off + bytes.len() as u64;
+    let (below, beyond) = bytes.split_at((tree.size - off) as usize);
+    let root = root_path(&parts.region, i);
+    let touched = touched_across(&parts.region, i, tree, off, below, end);
+    let behind = need_prep(&parts.region, tree, tree.size, end);
+    let need = behind + need_cover(&parts.region, &touched);
+    let free = parts.blocks.count();
+    if free < need {
+        return Err(NoSpace { need, free });
+    }
+    prep(parts, &root, tree.size, beyond, end);
+    commit(parts, &touched);
+    Ok(())
+}

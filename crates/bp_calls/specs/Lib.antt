@@ -4,6 +4,7 @@ pub mod Spare
 pub mod Steps
 pub mod Sample
 pub mod Asked
+pub mod Removed
 pub mod Resized
 pub mod CanGrow
 pub mod GivenBack

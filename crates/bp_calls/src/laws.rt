@@ -2,13 +2,17 @@
 
 ghost use Rattle.std.specs.Prelude.{◌≡◌, ◌≢◌, ℕ, ◌*◌, ◌%◌, ◌<◌, ◌≤◌, List, [], None, Some, true, length};
 ghost use Rattle.bp_calls.specs.Created.{EntersName, GainsName, NeedsLeaf};
+ghost use Rattle.bp_calls.specs.Removed.{IsFoundAt, LosesName};
 ghost use Rattle.bp_calls.specs.Resized.{GetsSize, ResizesFile};
 ghost use Rattle.bp_calls.specs.WritesFile.{GetsBytes, WritesFile};
 ghost use Rattle.bp_layout.specs.declared.fields.Kind.{Kind};
+ghost use Rattle.bp_changes.specs.Effects.{CanUnlink, RemovesEntry};
+ghost use Rattle.bp_dirs.specs.Names.{name_count};
 ghost use Rattle.bp_free.specs.Set.{has, members};
-ghost use Rattle.bp_layout.specs.Directory.{Name, empty_slot};
+ghost use Rattle.bp_layout.specs.Directory.{Name, empty_slot, inumber_at, name_at};
 ghost use Rattle.bp_layout.specs.Free.{AreFreeBlocks, HasFree};
 ghost use Rattle.bp_layout.specs.Inode.{kind_of, root_of, size_of};
+ghost use Rattle.bp_layout.specs.Lookup.{Path};
 ghost use Rattle.bp_layout.specs.Need.{Change, content_path, existing_from, height_after, is_there_after, need};
 ghost use Rattle.bp_layout.specs.Need.Change.{enters};
 ghost use Rattle.bp_layout.specs.Reached.{IsFreeBlock, IsReached};
@@ -67,6 +71,29 @@ pub fn set_has_the_free(image: &[u64], blocks: &Blocks)
 pub fn entered_names_are_gained(old: &[u64], new: &[u64])
     requires { IsWellFormed old.now }
     ensures { (i : ℕ) (name : Name) (kind : Kind) → EntersName i name kind old.now new.now → GainsName i name kind old.now new.now }
+{}
+
+/// A directory of which an entry was emptied loses the entry's name in the plain tree, at each path that finds the
+/// directory, where the entry named a file or an empty directory.
+pub fn removed_names_are_lost(old: &[u64], new: &[u64])
+    requires { IsWellFormed old.now }
+    ensures { (i s j : ℕ) → CanUnlink old.now i s j → RemovesEntry old.now new.now i s
+        → LosesName i s old.now new.now }
+{}
+
+/// What a path finds may leave its directory where it is a file, or a directory in which no name is counted. No other
+/// directory may.
+pub fn files_and_empty_directories_may_leave(image: &[u64])
+    ensures inumber { (parent : Path) (name : Name) (i s j : ℕ) → IsFoundAt image.now parent name i s j
+        → inumber_at image.now i s ≡ j }
+    ensures spelled { (parent : Path) (name : Name) (i s j : ℕ) → IsFoundAt image.now parent name i s j
+        → name_at image.now i s ≡ name }
+    ensures file { (parent : Path) (name : Name) (i s j : ℕ) → IsFoundAt image.now parent name i s j
+        → kind_of image.now j ≡ 1 → CanUnlink image.now i s j }
+    ensures directory { (parent : Path) (name : Name) (i s j : ℕ) → IsFoundAt image.now parent name i s j
+        → name_count image.now (root_of image.now j) (size_of image.now j) ≡ 0 → CanUnlink image.now i s j }
+    ensures no_other { (i s j : ℕ) → CanUnlink image.now i s j → kind_of image.now j ≡ 2
+        → name_count image.now (root_of image.now j) (size_of image.now j) ≡ 0 }
 {}
 
 /// A file that got another size has its bytes cut off or filled up in the plain tree, at each path that finds it.

@@ -19,6 +19,7 @@ pub mod OpenPlaces
 pub mod ReadingLaws
 pub mod AskedLaws
 pub mod CutLaws
+pub mod Leaving
 pub mod MayLeave
 pub mod TakenBlocks
 pub mod WriteBehind

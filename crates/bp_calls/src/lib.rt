@@ -8,6 +8,7 @@ mod giving;
 mod growing;
 pub mod laws;
 mod reading;
+mod removing;
 mod resizing;
 #[cfg(test)]
 mod tests;
@@ -16,4 +17,5 @@ mod writing;
 pub use creating::create;
 pub use fault::CreateFault;
 pub use reading::{list, read, stat};
+pub use removing::remove;
 pub use resizing::truncate;

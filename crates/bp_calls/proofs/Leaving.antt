@@ -1,0 +1,202 @@
+-- A name leaves its directory by a store of 0 to its inumber, and the blocks and the number of its inode come back.
+use Rattle.std.proofs.Common.{◌≡◌, ◌≢◌, ◌⊎◌, ℕ, suc, ◌+◌, ◌*◌, ◌/◌, ◌%◌, ◌<◌, ◌≤◌, [], length, set, true, false, refl, sym, ◌∙◌, ap, ap₂, subst, arith, inl, inr}
+use Rattle.std.proofs.lemmas.Bool.{cases_Bool}
+use Rattle.std.proofs.lemmas.List.{length-set}
+use Rattle.bp_calls.specs.GivenBack.{GivesBack}
+use Rattle.bp_calls.proofs.CutLaws.{gives_as}
+use Rattle.bp_calls.proofs.OpenPlaces.{content_address, content_open, root_word_stays, stands_stored}
+use Rattle.bp_calls.proofs.ReadingLaws.{few_inode}
+use Rattle.bp_calls.proofs.Shorter.{CanGiveBack}
+use Rattle.bp_changes.specs.Effects.{CanUnlink, RemovesEntry}
+use Rattle.bp_changes.proofs.ContentStore.{pointers_stay, root_stays}
+use Rattle.bp_changes.proofs.LinkInPlace.{store_removes}
+use Rattle.bp_changes.proofs.Unlink.{reached_stays, unlinked_well_formed}
+use Rattle.bp_free.specs.Set.{Set, has, with}
+use Rattle.bp_free.proofs.Members.{has_with_other, has_with_same}
+use Rattle.bp_inodes.proofs.FewInodes.{few_inodes}
+use Rattle.bp_layout.specs.Directory.{EntryNames, inumber_at, inumber_in}
+use Rattle.bp_layout.specs.Inode.{ContentStandsAt, inode_count, kind_of, root_of, size_of}
+use Rattle.bp_layout.specs.Need.{Change, copied, cover, entry_path, is_there_after, need}
+use Rattle.bp_layout.specs.Need.Change.{leaves}
+use Rattle.bp_layout.specs.Reached.{IsReached}
+use Rattle.bp_layout.specs.Reached.IsReached.{inode_file, named}
+use Rattle.bp_layout.specs.Same.{Same}
+use Rattle.bp_layout.specs.Tree.{HasBlock, node}
+use Rattle.bp_layout.specs.WellFormed.{IsWellFormed}
+use Rattle.bp_layout.specs.WordPaths.{address, tree_path}
+use Rattle.bp_layout.specs.Words.{Image, block_count, height_of}
+use Rattle.bp_layout.proofs.Reached.{reached-in_file}
+use Rattle.bp_layout.proofs.SameLaws.{same_self}
+use Rattle.bp_layout.proofs.TreeLaws.{KeepsPointers, has_block-kept, has_block-stays, sound-kept}
+use Rattle.bp_shapes.specs.Freed.{IsCutOff}
+use Rattle.bp_shapes.specs.Sets.{AreExact}
+use Rattle.bp_shapes.proofs.Freed.{freed_blocks, remove_frees, removed_inode}
+use Rattle.bp_tree.specs.Performs.{Performs}
+use Rattle.bp_tree.proofs.ExistingPaths.{AllThere, content_path-there, copied-one, cover-one}
+use Rattle.bp_tree.proofs.PerformsLaws.{performs_committed, takes_none}
+use Rattle.pm_epochs.specs.Crash.{commit}
+use Rattle.pm_epochs.proofs.CrashLaws.{quiet_none}
+use Rattle.pm_epochs.proofs.PieceLaws.{IsPiece-commit}
+use Rattle.pm_region.specs.Memory.{Adds, Memory, current_words}
+use Rattle.pm_region.proofs.MemoryLaws.{current_words-adds}
+
+-- an entry that may go, and where its inumber stands
+pub record CanLeave (image : Image) (i s j place : ℕ) : Type 0 where
+  pub well_formed : IsWellFormed image
+  pub unlink : CanUnlink image i s j
+  pub stands : ContentStandsAt image i (32 * s + 0) place
+
+-- as it is found: the tree of the directory is read first, and its entry then
+pub found_leaving : (image : Image) (i s j place root : ℕ) → IsWellFormed image → CanUnlink image i s (inumber_at image i s) → root ≡ root_of image i → j ≡ inumber_in image root s →
+    place ≡ 512 * node image root (height_of root) ((32 * s + 0) / 512) + (32 * s + 0) % 512 → node image root (height_of root) ((32 * s + 0) / 512) ≢ 0 → CanLeave image i s j place
+found_leaving image i s j place root wf can root_is names place_is present = record {
+  well_formed = wf;
+  unlink = subst (CanUnlink image i s) (sym (names ∙ ap (λ r. inumber_in image r s) root_is)) can;
+  stands = record { present = rw root_is at present; at = sym (rw root_is at place_is) };
+}
+
+module _ (image : Image) (i s j place : ℕ) (can : CanLeave image i s j place) where
+  abbrev last : Image
+  last = set image place 0
+
+  abbrev change : Change
+  change = leaves i s
+
+  abbrev wf : IsWellFormed image
+  wf = can.well_formed
+
+  abbrev reached : IsReached image i
+  reached = can.unlink.reached
+
+  abbrev entry : EntryNames image i s j
+  entry = can.unlink.entry
+
+  not_file : i ≢ 0
+  not_file e = let two : kind_of image 0 ≡ 2 = subst (λ t. kind_of image t ≡ 2) e entry.directory in omega (arith, two)
+
+  below : 8 * (32 * s + 0) < size_of image i
+  below = omega (arith, entry.in_size)
+
+  pub named_reached : IsReached image j
+  named_reached = named s reached entry
+
+  pub named_few : j < 1048576
+  named_few = few_inode image wf j (wf.inumbers i s j reached entry)
+
+  -- ---- the cover
+
+  all : AllThere (is_there_after image change) [] (entry_path image change i s 0)
+  all = content_path-there image change wf refl i (32 * s + 0) reached refl (wf.full_directories i reached entry.directory) below
+
+  covered : cover image change ≡ tree_path (height_of (root_of image 0)) i (suc (height_of (root_of image i))) (32 * s + 0)
+  covered = cover-one image change (entry_path image change i s 0) refl all
+
+  needed : need image change ≡ 0
+  needed = let copies : length (copied image change) ≡ 0 = ap length (copied-one image change (entry_path image change i s 0) refl all) in omega (arith, copies)
+
+  -- ---- the store
+
+  removes : RemovesEntry image last i s
+  removes = store_removes image wf i s j place can.unlink can.stands
+
+  last_well_formed : IsWellFormed last
+  last_well_formed = unlinked_well_formed image last wf i s j can.unlink removes
+
+  -- the directory is not the inode that it names, which has no entries
+  other : i ≡ j → ⊥
+  other e = can.unlink.alone s j (subst (λ x. EntryNames image x s j) e entry)
+
+  directory_reached : IsReached last i
+  directory_reached = reached_stays image last wf i s j can.unlink removes i reached other
+
+  root_after : root_of last i ≡ root_of image i
+  root_after = root_stays image wf i (32 * s + 0) place 0 reached not_file below can.stands i (reached-in_file image wf i reached)
+
+  top_after : root_of last 0 ≡ root_of image 0
+  top_after = root_word_stays image wf i (32 * s + 0) place 0 reached below can.stands
+
+  at_cover : address last (cover image change) ≡ place
+  at_cover =
+      ap (address last) (covered ∙ ap₂ (λ h k. tree_path (height_of h) i (suc (height_of k)) (32 * s + 0)) (sym top_after) (sym root_after))
+      ∙ content_address last last_well_formed i (32 * s + 0) place directory_reached (stands_stored image wf i (32 * s + 0) place 0 reached below can.stands root_after)
+
+  -- ---- the tree of the inode, by the words that it had
+
+  abbrev root : ℕ
+  root = root_of image j
+
+  abbrev size : ℕ
+  size = size_of image j
+
+  keeps : KeepsPointers image last root size
+  keeps = pointers_stay image wf i (32 * s + 0) place 0 reached not_file below can.stands j named_reached
+
+  gone_back : (b : ℕ) → IsCutOff last root size 0 b → HasBlock image root size b
+  gone_back b gone = has_block-kept image last root size keeps b gone.has
+
+  gone_on : (b : ℕ) → HasBlock image root size b → IsCutOff last root size 0 b
+  gone_on b has = record { has = has_block-stays image last root size keeps b has; past = omega arith }
+
+  module _ (blocks inodes : Set) (exact : AreExact image blocks inodes) where
+    can_give_blocks : CanGiveBack last root size blocks
+    can_give_blocks = record {
+      sound = sound-kept image last root size keeps (length-set image place 0) (wf.sound j named_reached);
+      room = rw (length-set image place 0) exact.block_room;
+      taken = λ b held. go b (has_block-kept image last root size keeps b held) (cases_Bool (has blocks b));
+    }
+      where
+        go : (b : ℕ) → HasBlock image root size b → (has blocks b ≡ true) ⊎ (has blocks b ≡ false) → has blocks b ≡ false
+        go b here (inl is) = absurd ((exact.free_blocks.free b is).free (record { tree = j; reached = named_reached; has = here }))
+        go b here (inr not) = not
+
+    pub inode_in_room : j < length inodes
+    inode_in_room =
+        let low : j < inode_count image = wf.inumbers i s j reached entry in
+        let few : size_of image 0 / 64 ≤ 64 * block_count image = few_inodes image (root_of image 0) (size_of image 0) (wf.sound 0 inode_file) wf.full_inode_file (omega (arith, wf.at_least)) wf.inode_blocks in
+        omega (arith, low, few, exact.inode_room)
+
+    pub inode_taken : has inodes j ≡ false
+    inode_taken = go (cases_Bool (has inodes j))
+      where
+        go : (has inodes j ≡ true) ⊎ (has inodes j ≡ false) → has inodes j ≡ false
+        go (inl is) = absurd ((exact.free_inodes.free j is).free named_reached)
+        go (inr not) = not
+
+    exact_last : (after : Set) → GivesBack (IsCutOff last root size 0) blocks after → AreExact last after (with inodes j)
+    exact_last after gives = record {
+      block_room = rw (length-set image place 0) (gives.room ∙ exact.block_room);
+      inode_room = rw (length-set image place 0) (length-set inodes j true ∙ exact.inode_room);
+      free_blocks = freed_blocks image last wf (length-set image place 0) (HasBlock image root size) (remove_frees image wf i s j place can.unlink can.stands) (has blocks) (has after) exact.free_blocks told.only told.still told.given;
+      free_inodes = removed_inode image last wf i s j can.unlink removes (has inodes) (has (with inodes j)) exact.free_inodes (has_with_same inodes j inode_in_room) (has_with_other inodes j);
+    }
+      where
+        told : GivesBack (HasBlock image root size) blocks after
+        told = gives_as (IsCutOff last root size 0) (HasBlock image root size) blocks after gone_back gone_on gives
+
+module _ (old new : Memory) (i s j place : ℕ) (can : CanLeave (current_words old) i s j place) (adds : Adds old new (commit place 0)) where
+  stored : current_words new ≡ set (current_words old) place 0
+  stored = current_words-adds old new (commit place 0) adds
+
+  pub leaving_performs : Performs old new (leaves i s) (λ image after. RemovesEntry image after i s)
+  leaving_performs =
+      performs_committed old new (leaves i s) (λ image after. RemovesEntry image after i s) place 0 2 1 []
+      (record {
+        prepared = [];
+        adds = adds;
+        quiet = quiet_none Same (current_words old) (same_self (current_words old) can.well_formed);
+        piece = IsPiece-commit place 0;
+      })
+      (takes_none (current_words old))
+      (rw stored (sym (at_cover (current_words old) i s j place can)))
+      (omega arith) (omega arith)
+      (sym (needed (current_words old) i s j place can))
+      (content_open (current_words old) [] i (32 * s + 0) place can.unlink.reached (omega (arith, can.unlink.entry.in_size)) can.stands)
+      (rw stored (last_well_formed (current_words old) i s j place can))
+      (rw stored (removes (current_words old) i s j place can))
+
+  module _ (blocks inodes : Set) (exact : AreExact (current_words old) blocks inodes) where
+    pub can_give : CanGiveBack (current_words new) (root_of (current_words old) j) (size_of (current_words old) j) blocks
+    can_give = rw stored (can_give_blocks (current_words old) i s j place can blocks inodes exact)
+
+    pub leaving_exact : (after : Set) → GivesBack (IsCutOff (current_words new) (root_of (current_words old) j) (size_of (current_words old) j) 0) blocks after → AreExact (current_words new) after (with inodes j)
+    leaving_exact after gives = rw stored (exact_last (current_words old) i s j place can blocks inodes exact after (rw stored at gives))

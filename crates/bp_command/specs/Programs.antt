@@ -1,5 +1,5 @@
 -- The programs, and the words that ask for them.
-use Rattle.std.specs.Prelude.{◌≡◌, ◌≢◌, ℕ, ◌<◌, ◌≤◌, List, [], ◌∷◌, Some, true, false, length, slice_index, unwrap_or, codes, decimal}
+use Rattle.std.specs.Prelude.{◌≡◌, ◌≢◌, ◌⊎◌, ℕ, ◌<◌, ◌≤◌, List, [], ◌∷◌, Some, true, false, length, slice_index, unwrap_or, codes, decimal}
 use Rattle.std.specs.Str.Parse.{digits_value, without_leading_plus}
 use Rattle.clap.specs.Words.{Row, Text, first_of, one_of}
 use Rattle.clap.specs.ValueTests.{accepts}
@@ -51,6 +51,26 @@ pub record Asks (words : List (List ℕ)) (program : Program) : Type 0 where
   pub proper : IsProper program
 
 -- ---- words that the command takes
+
+-- the values of a number of blocks that is in range, as digits
+pub record HasNumber (rows : List Row) : Type 0 where
+  pub digits : Text
+  pub given : one_of (codes "blocks") rows ≡ Some digits
+  pub passes : accepts false (vp.Unsigned min_blocks max_blocks) digits ≡ true
+
+-- what the values of a program's subcommand are: a file's name, and for a format a number of blocks
+pub record HasValues (verb : Text) (rows : List Row) : Type 0 where
+  pub program : (verb ≡ codes "format") ⊎ (verb ≡ codes "run") ⊎ (verb ≡ codes "check")
+  pub name : Text
+  pub named : first_of (codes "FILE") rows ≡ Some name
+  pub blocks : verb ≡ codes "format" → HasNumber rows
+
+-- The words name a program's subcommand, and give it its values.
+pub record IsNamed (words : List Text) : Type 0 where
+  pub verb : Text
+  pub rows : List Row
+  pub is : met words ≡ Some (verb, rows)
+  pub has : HasValues verb rows
 
 abbrev pub name_in : List Row → Text
 name_in rows = unwrap_or (first_of (codes "FILE") rows) []

@@ -1,6 +1,6 @@
 -- Plain words are taken, and give the program that they ask for.
 use Rattle.std.proofs.Common.{◌≡◌, ℕ, ◌<◌, ◌≤◌, List, [], ◌∷◌, length, Bool, true, false, nat_eq, Option, None, Some, refl, sym, ◌∙◌, ap, subst, arith}
-use Rattle.std.specs.Prelude.{codes, decimal, option_map, unwrap_or}
+use Rattle.std.specs.Prelude.{codes, decimal, option_map}
 use Rattle.std.specs.Str.Parse.{IsNumeral, digits_value, without_leading_plus}
 use Rattle.std.proofs.lemmas.Fmt.{decimal_is_IsNumeral}
 use Rattle.std.proofs.lemmas.Bool.{ne_eqb}
@@ -13,7 +13,7 @@ use Rattle.clap.specs.declared.builder.value_parser.ValueParser.TheVariants as v
 use Rattle.clap.proofs.OnLiterals.{clap_on_literals}
 use Rattle.clap.proofs.ValueTestLemmas.{Accepts-accepts}
 use Rattle.bp_command.specs.Commands.{IsTaken, met}
-use Rattle.bp_command.specs.Programs.{Asks, IsProper, Names, Program, Requests, name_in, words_of}
+use Rattle.bp_command.specs.Programs.{Asks, IsProper, Names, Program, Requests, words_of}
 use Rattle.bp_command.specs.Programs.Program.{formats, runs, checks}
 
 -- ---- by computing
@@ -79,6 +79,9 @@ digits_of_blocks blocks least most = go (decimal blocks) refl
         let range : IsUnsignedIn 8 16384 (d ∷ ds) = (subst (IsNumeral 10) (sym bare) numeral, omega (arith, value, most), omega (arith, value, least), omega (arith, value, most)) in
         (d, ds, record { is = is; plain = (first_digit d ds numeral).1; passes = Accepts-accepts false (vp.Unsigned 8 16384) (d ∷ ds) range; value = value })
 
+inside : {A : Type 0} {x y : A} → Some x ≡ Some y → x ≡ y
+inside e = cc
+
 module _ (called : Text) where
   taken : (program : Program) → IsProper program → IsTaken (called ∷ words_of program)
   taken (formats [] blocks) proper = absurd (omega (arith, proper.0.some))
@@ -91,35 +94,30 @@ module _ (called : Text) where
   taken (checks (x ∷ xs)) proper = taken_check called x xs (ne_eqb _ _ proper.plain)
 
   -- what the words give has these parts
-  named_by : (found : Option (Text × List Row)) (verb name : Text) (digits : Option Text) (other : Program) → parts found ≡ Some (verb, Some name, digits) →
-      ((v : Text) (r : List Row) → found ≡ Some (v, r) → Names v r other) → (rows : List Row) × (name_in rows ≡ name) × (one_of (codes "blocks") rows ≡ digits) × Names verb rows other
-  named_by None verb name digits other is names = let no : ◌≡◌ {A = Option (Text × Option Text × Option Text)} None (Some (verb, Some name, digits)) = is in cc
-  named_by (Some (v, rows)) verb name digits other is names =
-      let same : (v, first_of (codes "FILE") rows, one_of (codes "blocks") rows) ≡ (verb, Some name, digits) = inside is in (
-        rows,
-        ap (λ (p : Text × Option Text × Option Text). unwrap_or p.1 []) same,
+  named_by : (found : Option (Text × List Row)) (verb name : Text) (digits : Option Text) (other : Program) (v : Text) (rows : List Row) → parts found ≡ Some (verb, Some name, digits) → found ≡ Some (v, rows) → Names v rows other
+      → (first_of (codes "FILE") rows ≡ Some name) × (one_of (codes "blocks") rows ≡ digits) × Names verb rows other
+  named_by found verb name digits other v rows is given names =
+      let same : (v, first_of (codes "FILE") rows, one_of (codes "blocks") rows) ≡ (verb, Some name, digits) = inside (sym (ap parts given) ∙ is) in (
+        ap (λ (p : Text × Option Text × Option Text). p.1) same,
         ap (λ (p : Text × Option Text × Option Text). p.2) same,
-        subst (λ (w : Text). Names w rows other) (ap (λ (p : Text × Option Text × Option Text). p.0) same) (names v rows refl),
+        subst (λ (w : Text). Names w rows other) (ap (λ (p : Text × Option Text × Option Text). p.0) same) names,
       )
-    where
-      inside : {A : Type 0} {x y : A} → Some x ≡ Some y → x ≡ y
-      inside e = cc
 
   only_run : (x : ℕ) (xs : Text) (other : Program) → nat_eq x 45 ≡ false → Requests (called ∷ codes "run" ∷ (x ∷ xs) ∷ []) other → other ≡ runs (x ∷ xs)
-  only_run x xs other h asked = go other (named_by _ (codes "run") (x ∷ xs) None other (met_run called x xs h) asked.names)
+  only_run x xs other h asked = let n = named_by _ (codes "run") (x ∷ xs) None other asked.verb asked.rows (met_run called x xs h) asked.is asked.names in go other n.0 n.2
     where
-      go : (p : Program) → (rows : List Row) × (name_in rows ≡ x ∷ xs) × (one_of (codes "blocks") rows ≡ None) × Names (codes "run") rows p → p ≡ runs (x ∷ xs)
-      go (formats name blocks) n = let no : codes "run" ≡ codes "format" = n.3.0 in cc
-      go (runs name) n = ap runs (sym n.3.1 ∙ n.1)
-      go (checks name) n = absurd (n.3.1 refl)
+      go : (p : Program) → first_of (codes "FILE") asked.rows ≡ Some (x ∷ xs) → Names (codes "run") asked.rows p → p ≡ runs (x ∷ xs)
+      go (formats name blocks) file n = let no : codes "run" ≡ codes "format" = n.0 in cc
+      go (runs name) file n = ap runs (inside (sym n.1 ∙ file))
+      go (checks name) file n = let no : codes "run" ≡ codes "check" = n.0 in cc
 
   only_check : (x : ℕ) (xs : Text) (other : Program) → nat_eq x 45 ≡ false → Requests (called ∷ codes "check" ∷ (x ∷ xs) ∷ []) other → other ≡ checks (x ∷ xs)
-  only_check x xs other h asked = go other (named_by _ (codes "check") (x ∷ xs) None other (met_check called x xs h) asked.names)
+  only_check x xs other h asked = let n = named_by _ (codes "check") (x ∷ xs) None other asked.verb asked.rows (met_check called x xs h) asked.is asked.names in go other n.0 n.2
     where
-      go : (p : Program) → (rows : List Row) × (name_in rows ≡ x ∷ xs) × (one_of (codes "blocks") rows ≡ None) × Names (codes "check") rows p → p ≡ checks (x ∷ xs)
-      go (formats name blocks) n = let no : codes "check" ≡ codes "format" = n.3.0 in cc
-      go (runs name) n = let no : codes "check" ≡ codes "run" = n.3.0 in cc
-      go (checks name) n = ap checks (sym n.3.2 ∙ n.1)
+      go : (p : Program) → first_of (codes "FILE") asked.rows ≡ Some (x ∷ xs) → Names (codes "check") asked.rows p → p ≡ checks (x ∷ xs)
+      go (formats name blocks) file n = let no : codes "check" ≡ codes "format" = n.0 in cc
+      go (runs name) file n = let no : codes "check" ≡ codes "run" = n.0 in cc
+      go (checks name) file n = ap checks (inside (sym n.1 ∙ file))
 
   only_format : (x blocks : ℕ) (xs : Text) (other : Program) → nat_eq x 45 ≡ false → 8 ≤ blocks → blocks ≤ 16384 → Requests (called ∷ codes "format" ∷ (x ∷ xs) ∷ codes "--blocks" ∷ decimal blocks ∷ []) other →
       other ≡ formats (x ∷ xs) blocks
@@ -127,14 +125,16 @@ module _ (called : Text) where
       let digits = digits_of_blocks blocks least most in
       let words : Requests (called ∷ codes "format" ∷ (x ∷ xs) ∷ codes "--blocks" ∷ (digits.0 ∷ digits.1) ∷ []) other =
       subst (λ (t : Text). Requests (called ∷ codes "format" ∷ (x ∷ xs) ∷ codes "--blocks" ∷ t ∷ []) other) digits.2.is asked in
-      go other digits.0 digits.1 digits.2 (named_by _ (codes "format") (x ∷ xs) (Some (digits.0 ∷ digits.1)) other (met_format called x digits.0 xs digits.1 h digits.2.plain) words.names)
+      let n = named_by _ (codes "format") (x ∷ xs) (Some (digits.0 ∷ digits.1)) other words.verb words.rows (met_format called x digits.0 xs digits.1 h digits.2.plain) words.is words.names in
+      go words.rows other digits.0 digits.1 digits.2 n.0 n.1 n.2
     where
-      go : (p : Program) (d : ℕ) (ds : Text) → AreDigits blocks d ds → (rows : List Row) × (name_in rows ≡ x ∷ xs) × (one_of (codes "blocks") rows ≡ Some (d ∷ ds)) × Names (codes "format") rows p → p ≡ formats (x ∷ xs) blocks
-      go (formats name given) d ds are n =
-          let number : blocks ≡ given = sym are.value ∙ n.3.2.given (d ∷ ds) n.2 are.passes in
-          ap (λ (m : Text). formats m given) (sym n.3.1 ∙ n.1) ∙ ap (formats (x ∷ xs)) (sym number)
-      go (runs name) d ds are n = let no : codes "format" ≡ codes "run" = n.3.0 in cc
-      go (checks name) d ds are n = absurd (n.3.0 refl)
+      go : (rows : List Row) (p : Program) (d : ℕ) (ds : Text) → AreDigits blocks d ds → first_of (codes "FILE") rows ≡ Some (x ∷ xs) → one_of (codes "blocks") rows ≡ Some (d ∷ ds) → Names (codes "format") rows p → p ≡ formats (x ∷ xs) blocks
+      go rows (formats name given) d ds are file number n =
+          let digits : n.2.digits ≡ d ∷ ds = inside (sym n.2.given ∙ number) in
+          let value : given ≡ blocks = sym n.2.value ∙ ap (λ (t : Text). digits_value 10 (without_leading_plus t)) digits ∙ are.value in
+          ap (λ (m : Text). formats m given) (inside (sym n.1 ∙ file)) ∙ ap (formats (x ∷ xs)) value
+      go rows (runs name) d ds are file number n = let no : codes "format" ≡ codes "run" = n.0 in cc
+      go rows (checks name) d ds are file number n = let no : codes "format" ≡ codes "check" = n.0 in cc
 
   only : (program other : Program) → IsProper program → Requests (called ∷ words_of program) other → other ≡ program
   only (formats [] blocks) other proper asked = absurd (omega (arith, proper.0.some))

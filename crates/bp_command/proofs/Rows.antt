@@ -1,6 +1,6 @@
 -- What the matches of a subcommand give, as its rows do.
 use Rattle.std.proofs.Common.{◌≡◌, Bool, true, false, List, [], ◌∷◌, map, Option, None, Some, refl, sym, ◌∙◌, ap}
-use Rattle.std.specs.Prelude.{find, option_map, option_and_then, slice_get, unwrap_or, codes}
+use Rattle.std.specs.Prelude.{find, option_map, option_and_then, slice_get, codes}
 use Rattle.std.specs.Str.{bytes_eq}
 use Rattle.std.proofs.lemmas.Option.{slice_get-map}
 use Rattle.clap.specs.Facts.{Entry}
@@ -11,7 +11,6 @@ use Rattle.clap.specs.Simple.{is_simple}
 use Rattle.clap.specs.declared.parser.matches.Found.{Found}
 use Rattle.clap.specs.declared.parser.matches.ArgMatches.{ArgMatches}
 use Rattle.bp_command.specs.Commands.{HasMet, bpfs_app, met}
-use Rattle.bp_command.specs.Programs.{name_in}
 
 row_found : (id : Text) (entries : List Entry) → find (λ (r : Row). bytes_eq r.id id) (map row_of entries) ≡ option_map row_of (find (λ (e : Entry). bytes_eq e.0.now id) entries)
 row_found id [] = refl
@@ -42,11 +41,8 @@ pub one_given : (id : Text) (f : Found) → one_of id (rows_of f) ≡ one_text f
 one_given id f = ap (option_and_then row_text) (row_found id f.entries.items) ∙ read_text (find (λ (e : Entry). bytes_eq e.0.now id) f.entries.items)
 
 -- the file's name
-pub some_name : (f : Found) (name : Text) → Some name ≡ first_value f (codes "FILE") → name_in (rows_of f) ≡ name
-some_name f name is = ap (λ (o : Option Text). unwrap_or o []) (first_given (codes "FILE") f ∙ sym is)
-
-pub no_name : (f : Found) → None ≡ first_value f (codes "FILE") → name_in (rows_of f) ≡ []
-no_name f is = ap (λ (o : Option Text). unwrap_or o []) (first_given (codes "FILE") f ∙ sym is)
+pub name_given : (f : Found) (name : Option Text) → name ≡ first_value f (codes "FILE") → first_of (codes "FILE") (rows_of f) ≡ name
+name_given f name is = first_given (codes "FILE") f ∙ sym is
 
 simple : is_simple bpfs_app ≡ true
 simple = refl

@@ -72,22 +72,24 @@ pub record IsNamed (words : List Text) : Type 0 where
   pub is : met words ≡ Some (verb, rows)
   pub has : HasValues verb rows
 
-abbrev pub name_in : List Row → Text
-name_in rows = unwrap_or (first_of (codes "FILE") rows) []
-
--- the number of blocks in range that the words give
+-- the number of blocks that the values give, which is in range
 pub record HasBlocks (rows : List Row) (blocks : ℕ) : Type 0 where
+  pub digits : Text
+  pub given : one_of (codes "blocks") rows ≡ Some digits
+  pub value : digits_value 10 (without_leading_plus digits) ≡ blocks
   pub least : min_blocks ≤ blocks
   pub most : blocks ≤ max_blocks
-  pub given : (digits : Text) → one_of (codes "blocks") rows ≡ Some digits → accepts false (vp.Unsigned min_blocks max_blocks) digits ≡ true → digits_value 10 (without_leading_plus digits) ≡ blocks
 
 -- a subcommand with these values asks for the program
 abbrev pub Names : Text → List Row → Program → Type 0
-Names verb rows (formats name blocks) = (verb ≡ codes "format") × (name_in rows ≡ name) × HasBlocks rows blocks
-Names verb rows (runs name) = (verb ≡ codes "run") × (name_in rows ≡ name)
-Names verb rows (checks name) = (verb ≢ codes "format") × (verb ≢ codes "run") × (name_in rows ≡ name)
+Names verb rows (formats name blocks) = (verb ≡ codes "format") × (first_of (codes "FILE") rows ≡ Some name) × HasBlocks rows blocks
+Names verb rows (runs name) = (verb ≡ codes "run") × (first_of (codes "FILE") rows ≡ Some name)
+Names verb rows (checks name) = (verb ≡ codes "check") × (first_of (codes "FILE") rows ≡ Some name)
 
--- The command takes the words, and what they give asks for the program.
+-- The command takes the words, and the subcommand that they name asks with its values for the program.
 pub record Requests (words : List Text) (program : Program) : Type 0 where
   pub taken : IsTaken words
-  pub names : (verb : Text) (rows : List Row) → met words ≡ Some (verb, rows) → Names verb rows program
+  pub verb : Text
+  pub rows : List Row
+  pub is : met words ≡ Some (verb, rows)
+  pub names : Names verb rows program

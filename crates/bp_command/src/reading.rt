@@ -1,13 +1,12 @@
 //! What the words ask for.
 
-ghost use Rattle.std.specs.Prelude.{◌≡◌, ◌≤◌, IfOk, IfSome, IsErrOf, MatchOption, OnOk, codes, map};
-ghost use Rattle.bp_limits.specs.Limits.{max_blocks, min_blocks};
+ghost use Rattle.std.specs.Prelude.{◌≡◌, IfOk, IsErrOf, IsSome, OnOk, codes, map};
 ghost use Rattle.bp_command.specs.Commands.{HasMet, IsTaken};
-ghost use Rattle.bp_command.specs.Programs.{HasBlocks, IsInRange, Names, Requests, name_in, program_of};
-ghost use Rattle.clap.specs.Words.{found_of, rows_of};
+ghost use Rattle.bp_command.specs.Programs.{HasBlocks, HasNumber, HasValues, IsInRange, Names, Requests, program_of};
+ghost use Rattle.clap.specs.Words.{first_of, found_of, rows_of};
 
 use crate::building::command;
-use bp_limits::{MAX_BLOCKS, MIN_BLOCKS};
+use crate::laws::taken_words_have_values;
 use clap::ArgMatches;
 use clap::error::ErrorKind;
 use std::alloc::Global;
@@ -64,39 +63,29 @@ fn matches<'a>(alloc: Global, words: &'a [&'a str]) -> Result<ArgMatches<'a>, Wo
 
 /// The name of the file.
 fn name_of<'a>(values: &ArgMatches<'a>) -> &'a str
-    ensures { name_in (rows_of (found_of values.now)) ≡ result.now }
+    requires { IsSome (first_of (codes "FILE") (rows_of (found_of values.now))) }
+    ensures { first_of (codes "FILE") (rows_of (found_of values.now)) ≡ Some result.now }
 {
     match values.get_str("FILE") {
         Some(name) => name,
-        None => "",
-    }
-}
-
-/// The number in the range of blocks that is this one where it lies in it.
-fn in_range(blocks: u64) -> u32
-    ensures least { min_blocks ≤ result }
-    ensures most { result ≤ max_blocks }
-    ensures same { min_blocks ≤ blocks → blocks ≤ max_blocks → result ≡ blocks }
-{
-    if blocks < u64::from(MIN_BLOCKS) || u64::from(MAX_BLOCKS) < blocks {
-        MIN_BLOCKS
-    } else {
-        blocks as u32
+        None => unreachable!(),
     }
 }
 
 /// The number of blocks, which `clap` lets through in its range alone.
 fn blocks_of(values: &ArgMatches<'_>) -> u32
+    requires { HasNumber (rows_of (found_of values.now)) }
     ensures { HasBlocks (rows_of (found_of values.now)) result }
 {
     match values.get_one::<u64>("blocks") {
-        Some(blocks) => in_range(blocks),
-        None => MIN_BLOCKS,
+        Some(blocks) => blocks as u32,
+        None => unreachable!(),
     }
 }
 
 /// What a subcommand with its values asks for.
 fn program_named<'a>(verb: &str, values: &ArgMatches<'a>) -> Program<'a>
+    requires { HasValues verb.now (rows_of (found_of values.now)) }
     ensures names { Names verb.now (rows_of (found_of values.now)) (program_of result) }
     ensures range { IsInRange (program_of result) }
 {
@@ -107,7 +96,8 @@ fn program_named<'a>(verb: &str, values: &ArgMatches<'a>) -> Program<'a>
             blocks: blocks_of(values),
         },
         "run" => Program::Run { name },
-        _ => Program::Check { name },
+        "check" => Program::Check { name },
+        _ => unreachable!(),
     }
 }
 
@@ -125,9 +115,9 @@ pub fn read_words<'a>(alloc: Global, words: &'a [&'a str]) -> Result<Program<'a>
         Ok(found) => found,
         Err(fault) => return Err(fault),
     };
+    taken_words_have_values();
     match found.subcommand() {
         Some((verb, values)) => Ok(program_named(verb, values)),
-        // The command asks for a subcommand.
-        None => Ok(Program::Run { name: "" }),
+        None => unreachable!(),
     }
 }

@@ -90,6 +90,12 @@ mixed_known None first second i low same has = tt
 mixed_known (Some None) first second i low same has = absurd has
 mixed_known (Some (Some found)) first second i low same has = rw has (saved_mixed first second i low same)
 
+-- all blocks are of the second list
+pub all_mixed : (known : Known) (first second : List ℕ) → length first ≡ length second → HasBytes known second → HasBlocksOf known first second
+all_mixed None first second same has = tt
+all_mixed (Some None) first second same has = absurd has
+all_mixed (Some (Some found)) first second same has = record { size = ap length has ∙ sym same; blocks = λ i low. inr (ap (λ l. block_of l i) has) }
+
 -- ---- the attached file
 
 pub stays_attached : (a b c : View) → StaysAttached a b → StaysAttached b c → StaysAttached a c

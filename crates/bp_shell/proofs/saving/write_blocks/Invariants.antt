@@ -3,7 +3,7 @@ use Rattle.pm_region.specs.Memory.{current_words}
 use Rattle.bp_io.specs.Files.{StaysAttached}
 use Rattle.bp_layout.specs.Bytes.{image_bytes}
 use Rattle.bp_shell.specs.Files.{HoldsBytes, HasBytes, partly_saved}
-use Rattle.bp_shell.proofs.saving.save.Given as goal
+use Rattle.bp_shell.proofs.saving.write_blocks.Given as goal
 
 -- the first blocks are saved
 abbrev pub invariant-loop-i : goal.invariant-loop-i

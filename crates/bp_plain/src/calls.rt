@@ -18,4 +18,20 @@ pub enum Call<'a> {
         /// The most bytes that are asked for.
         len: usize,
     },
+    /// Puts bytes into the file at a path, from byte `off` on. Bytes between its end and `off` become 0.
+    Write {
+        /// The path.
+        path: &'a [u8],
+        /// The place of the first byte in the file.
+        off: u64,
+        /// The bytes. With none of them the file stays as it is.
+        bytes: &'a [u8],
+    },
+    /// Gives the file at a path another size. Bytes behind its old end become 0.
+    Truncate {
+        /// The path.
+        path: &'a [u8],
+        /// The size in bytes.
+        size: u64,
+    },
 }

@@ -63,5 +63,27 @@ fn plain_tree(rt: HostRuntime) -> Result<(), Fail> {
     assert!(rt; matches!(reply.answer(), Answer::Refused(FsError::NotDir)));
     tree.apply(alloc, &Call::List(b"/"), &mut reply)?;
     assert!(rt; matches!(reply.answer(), Answer::Names(listing) if listing.len() == 1));
+    let calls = [
+        Call::Write {
+            path: b"/a",
+            off: 2,
+            bytes: b"hi",
+        },
+        Call::Truncate {
+            path: b"/a",
+            size: 3,
+        },
+    ];
+    for call in calls {
+        tree.apply(alloc, &call, &mut reply)?;
+        assert!(rt; matches!(reply.answer(), Answer::Done));
+    }
+    let call = Call::Read {
+        path: b"/a",
+        off: 0,
+        len: 9,
+    };
+    tree.apply(alloc, &call, &mut reply)?;
+    assert!(rt; matches!(reply.answer(), Answer::Bytes(b"\0\0h")));
     Ok(())
 }

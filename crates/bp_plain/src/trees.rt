@@ -2,22 +2,23 @@
 
 ghost use Rattle.bp_layout.specs.Below.{rest_below};
 ghost use Rattle.bp_layout.specs.Listing.{listed};
-ghost use Rattle.bp_limits.specs.Limits.{max_read};
+ghost use Rattle.bp_limits.specs.Limits.{max_read, max_size};
 ghost use Rattle.bp_plain.specs.Calls.Answer.{bytes};
-ghost use Rattle.bp_plain.specs.Calls.Call.{create, list, read, stat};
+ghost use Rattle.bp_plain.specs.Calls.Call.{create, list, read, stat, truncate, write};
 ghost use Rattle.bp_plain.specs.Plain as plain;
-ghost use Rattle.bp_plain.specs.Plain.{is_dir_at, listing};
+ghost use Rattle.bp_plain.specs.Plain.{is_dir_at, listing, with_node};
 ghost use Rattle.bp_plain.specs.PlainTree.{empty_tree};
 ghost use Rattle.bp_plain.specs.Seen.{IsShortCall, call_of, refusal_of};
 ghost use Rattle.bp_plain.specs.SeenTree.{carried_out, names_of, node_seen};
 ghost use Rattle.std.specs.FinMap.{get};
-ghost use Rattle.std.specs.Prelude.{IfOk, OnErr, OnOk, [], ◌++◌, ◌∷◌, ◌≡◌, ◌≤◌, drop, is_some, length, map, option_map, take};
+ghost use Rattle.std.specs.Prelude.{IfOk, None, OnErr, OnOk, [], ◌&&◌, ◌+◌, ◌++◌, ◌<◌, ◌^◌, ◌∷◌, ◌≡◌, ◌≤◌, drop, is_some, length, map, nat_lt, option_map, take};
 
 use crate::calls::Call;
 use crate::errors::FsError;
 use crate::paths::{first, parent_of, parse, path_of, when};
 use crate::replies::Reply;
 use bp_layout::{Kind, Listing, Name};
+use bp_limits::{MAX_SIZE, MAX_WRITE};
 use std::alloc::{AllocError, Global};
 use std::collections::BTreeMap;
 use std::marker::Model;
@@ -94,6 +95,8 @@ impl Plain {
             Call::List(text) => self.refuses_list(alloc, text),
             Call::Stat(text) => self.refuses_stat(alloc, text),
             Call::Read { path, off, len } => self.refuses_read(alloc, path, off, len),
+            Call::Write { path, off, bytes } => self.refuses_write(alloc, path, off, bytes),
+            Call::Truncate { path, size } => self.refuses_truncate(alloc, path, size),
         }
     }
 
@@ -146,6 +149,44 @@ impl Plain {
         }
     }
 
+    fn refuses_write(
+        &self,
+        alloc: Global,
+        text: &[u8],
+        off: u64,
+        new: &[u8],
+    ) -> Result<Option<FsError>, AllocError>
+        ensures { IfOk result (λ found. option_map refusal_of found ≡ plain.refusal self.now (write text.now off new.now)) }
+    {
+        match parse(alloc, text)? {
+            None => Ok(Some(FsError::BadPath)),
+            Some(path) => Ok(first(&[
+                when(new.len() > MAX_WRITE, FsError::TooLong),
+                self.walk(&path),
+                when(self.is_dir(&path), FsError::IsDir),
+                when(ends_too_late(off, new), FsError::TooBig),
+            ])),
+        }
+    }
+
+    fn refuses_truncate(
+        &self,
+        alloc: Global,
+        text: &[u8],
+        size: u64,
+    ) -> Result<Option<FsError>, AllocError>
+        ensures { IfOk result (λ found. option_map refusal_of found ≡ plain.refusal self.now (truncate text.now size)) }
+    {
+        match parse(alloc, text)? {
+            None => Ok(Some(FsError::BadPath)),
+            Some(path) => Ok(first(&[
+                self.walk(&path),
+                when(self.is_dir(&path), FsError::IsDir),
+                when(size > MAX_SIZE, FsError::TooBig),
+            ])),
+        }
+    }
+
     // The first name on the way that is sought in a file, or is missing.
     fn walk(&self, path: &[Name]) -> Option<FsError>
         ensures { option_map refusal_of result ≡ plain.walk self.now (names_of path.now) }
@@ -179,7 +220,8 @@ impl Plain {
         call: &Call<'_>,
         reply: &mut Reply,
     ) -> Result<(), AllocError>
-        requires { IsShortCall (call_of call.now) }
+        requires short { IsShortCall (call_of call.now) }
+        requires passes { plain.refusal self.old (call_of call.now) ≡ None }
         ensures done { OnOk result ((reply.new.answer, self.new) ≡ carried_out self.old (call_of call.now)) }
         ensures kept { OnErr result (self.new ≡ self.old) }
     {
@@ -188,6 +230,8 @@ impl Plain {
             Call::List(text) => self.list(alloc, text, reply),
             Call::Stat(text) => self.stat(alloc, text, reply),
             Call::Read { path, off, len } => self.read(alloc, path, off, len, reply),
+            Call::Write { path, off, bytes } => self.write(alloc, path, off, bytes, reply),
+            Call::Truncate { path, size } => self.truncate(alloc, path, size, reply),
         }
     }
 
@@ -196,7 +240,7 @@ impl Plain {
         ensures kept { OnErr result (self.new ≡ self.old) }
     {
         let path = path_of(alloc, text)?;
-        self.nodes.insert(path, Node::File(Vec::new(alloc)))?;
+        self.put(path, Node::File(Vec::new(alloc)))?;
         reply.set_done();
         Ok(())
     }
@@ -234,6 +278,57 @@ impl Plain {
     {
         let path = path_of(alloc, text)?;
         answer_bytes(reply, part(self.bytes(&path), off, len));
+        Ok(())
+    }
+
+    fn write(
+        &mut self,
+        alloc: Global,
+        text: &[u8],
+        off: u64,
+        new: &[u8],
+        reply: &mut Reply,
+    ) -> Result<(), AllocError>
+        requires { 0 < length new.now → off + length new.now ≤ max_size }
+        ensures done { OnOk result ((reply.new.answer, self.new) ≡ carried_out self.old (write text.now off new.now)) }
+        ensures kept { OnErr result (self.new ≡ self.old) }
+    {
+        if !new.is_empty() {
+            let path = path_of(alloc, text)?;
+            let content = written(alloc, self.bytes(&path), off as usize, new)?;
+            self.put(path, Node::File(content))?;
+        }
+        reply.set_done();
+        Ok(())
+    }
+
+    fn truncate(
+        &mut self,
+        alloc: Global,
+        text: &[u8],
+        size: u64,
+        reply: &mut Reply,
+    ) -> Result<(), AllocError>
+        requires { size ≤ max_size }
+        ensures done { OnOk result ((reply.new.answer, self.new) ≡ carried_out self.old (truncate text.now size)) }
+        ensures kept { OnErr result (self.new ≡ self.old) }
+    {
+        let path = path_of(alloc, text)?;
+        let content = self.bytes(&path);
+        if size != content.len() as u64 {
+            let content = resized(alloc, content, size as usize)?;
+            self.put(path, Node::File(content))?;
+        }
+        reply.set_done();
+        Ok(())
+    }
+
+    // This node stands at the path, whatever stood there.
+    fn put(&mut self, path: Vec<Name>, node: Node) -> Result<(), AllocError>
+        ensures put { OnOk result (self.new ≡ with_node self.old (names_of path.items) (node_seen node)) }
+        ensures kept { OnErr result (self.new ≡ self.old) }
+    {
+        self.nodes.insert(path, node)?;
         Ok(())
     }
 
@@ -320,6 +415,37 @@ fn part(content: &[u8], off: u64, len: usize) -> &[u8]
     }
     let rest = &content[off as usize..];
     &rest[..rest.len().min(len)]
+}
+
+// Whether there are bytes, and they end behind the greatest size.
+fn ends_too_late(off: u64, new: &[u8]) -> bool
+    ensures { result ≡ (nat_lt 0 (length new.now) && nat_lt max_size (off + length new.now)) }
+{
+    !new.is_empty() && u128::from(off) + new.len() as u128 > u128::from(MAX_SIZE)
+}
+
+// The old bytes with the new ones laid over them, and 0 between.
+fn written(alloc: Global, old: &[u8], off: usize, new: &[u8]) -> Result<Vec<u8>, AllocError>
+    requires { off + length new.now < 2 ^ 64 }
+    ensures { IfOk result (λ content. content.items ≡ plain.written old.now off new.now) }
+{
+    let end = off + new.len();
+    let mut content = resized(alloc, old, off)?;
+    content.extend_from_slice(new)?;
+    if end < old.len() {
+        content.extend_from_slice(&old[end..])?;
+    }
+    Ok(content)
+}
+
+// So many of the bytes, and 0 behind them.
+fn resized(alloc: Global, old: &[u8], size: usize) -> Result<Vec<u8>, AllocError>
+    ensures { IfOk result (λ content. content.items ≡ plain.resized old.now size) }
+{
+    let mut content = Vec::new(alloc);
+    content.extend_from_slice(old)?;
+    content.resize(size, 0)?;
+    Ok(content)
 }
 
 // Answers these bytes.

@@ -1,13 +1,12 @@
 -- The rows of the table of commands.
-use Rattle.std.proofs.Common.{◌≡◌, ℕ, ◌≤◌, List, [], ◌∷◌, ◌++◌, ◌==◌, length, map, codes, nat_le, Bool, true, false, Option, None, Some, if◌then◌else◌, refl, ◌∙◌, ap, arith, Bor}
+use Rattle.std.proofs.Common.{◌≡◌, ℕ, ◌≤◌, List, [], ◌∷◌, ◌++◌, ◌==◌, length, map, codes, Bool, true, false, Option, None, Some, if◌then◌else◌, refl, ◌∙◌, ap, arith, Bor}
 use Rattle.std.proofs.lemmas.List.{length-map}
 use Rattle.std.specs.List.{list_any, slice_split, AllByRecursion}
 use Rattle.std.specs.Prelude.{bytes_eq}
-use Rattle.bp_limits.specs.Limits.{max_read}
-use Rattle.bp_plain.specs.Calls.Call.{create, list, stat, read}
-use Rattle.bp_script.specs.Commands.{asked_by, bare_command, command_by_words, is_empty_word, long_command, number_of, path_command, read_command, words_of, written_command}
-use Rattle.bp_script.specs.Commands.Command.{bad_syntax, file_call, space, sync}
-use Rattle.bp_script.specs.Lines.{path_len}
+use Rattle.bp_plain.specs.Calls.Call.{create, list, stat}
+use Rattle.bp_script.specs.Commands.{asked_by, decoded, is_empty_word, path_bytes, path_command, truncate_command, words_of, written_command}
+use Rattle.bp_script.specs.Commands.Command.{bad_syntax, file_call}
+use Rattle.bp_script.specs.Lines.{AllFit}
 
 -- words behind the fourth are none of the table
 asked_by-many : (words : List (List ℕ)) (word : List ℕ) (more : List (List ℕ)) → length words ≡ 4 → bad_syntax ≡ asked_by (words ++ word ∷ more)
@@ -22,49 +21,7 @@ pub written_command-many : (line : List ℕ) (words : List (Bor (List ℕ))) (wo
 written_command-many line words word more four whole =
     asked_by-many (map (λ w. w.now) words) word more (length-map words (λ w. w.now) ∙ four) ∙ ap asked_by whole
 
--- ---- no path of a line is longer than the line
-
-path_len-bare : (verb : List ℕ) → path_len (bare_command verb) ≤ 0
-path_len-bare verb = go (bytes_eq verb (codes "sync")) (bytes_eq verb (codes "space"))
-  where
-    go : (a b : Bool) → path_len (if a then sync else if b then space else bad_syntax) ≤ 0
-    go true b = omega arith
-    go false true = omega arith
-    go false false = omega arith
-
-path_len-path : (verb path : List ℕ) → path_len (path_command verb path) ≤ length path
-path_len-path verb path = go (bytes_eq verb (codes "create")) (bytes_eq verb (codes "list")) (bytes_eq verb (codes "stat"))
-  where
-    go : (a b c : Bool) → path_len (if a then file_call (create path) else if b then file_call (list path) else if c then file_call (stat path) else bad_syntax) ≤ length path
-    go true b c = omega arith
-    go false true c = omega arith
-    go false false true = omega arith
-    go false false false = omega arith
-
-path_len-read : (path : List ℕ) (off len : Option ℕ) → path_len (read_command path off len) ≤ length path
-path_len-read path None len = omega arith
-path_len-read path (Some off) None = omega arith
-path_len-read path (Some off) (Some len) = go (nat_le len max_read)
-  where
-    go : (a : Bool) → path_len (if a then file_call (read path off len) else bad_syntax) ≤ length path
-    go true = omega arith
-    go false = omega arith
-
-path_len-long : (verb first second third : List ℕ) → path_len (long_command verb first second third) ≤ length first
-path_len-long verb first second third = go (bytes_eq verb (codes "read"))
-  where
-    go : (a : Bool) → path_len (if a then read_command first (number_of second) (number_of third) else bad_syntax) ≤ length first
-    go true = path_len-read first (number_of second) (number_of third)
-    go false = omega arith
-
--- where no word has more than n bytes
-path_len-words : (n : ℕ) (words : List (List ℕ)) → AllByRecursion (λ word. length word ≤ n) words → path_len (command_by_words words) ≤ n
-path_len-words n [] all = omega arith
-path_len-words n (verb ∷ []) all = omega (arith, path_len-bare verb)
-path_len-words n (verb ∷ path ∷ []) all = omega (arith, path_len-path verb path, all.1.0)
-path_len-words n (verb ∷ first ∷ second ∷ []) all = omega arith
-path_len-words n (verb ∷ first ∷ second ∷ third ∷ []) all = omega (arith, path_len-long verb first second third, all.1.0)
-path_len-words n (verb ∷ first ∷ second ∷ third ∷ word ∷ more) all = omega arith
+-- ---- no word of a line is longer than the line
 
 AllByRecursion-more : (m n : ℕ) (words : List (List ℕ)) → m ≤ n → AllByRecursion (λ word. length word ≤ m) words → AllByRecursion (λ word. length word ≤ n) words
 AllByRecursion-more m n [] low all = tt
@@ -79,5 +36,32 @@ parts_within p (x ∷ xs) = go (p x) refl (slice_split p xs) refl (parts_within 
     go false at [] is all = rw (at, is) (omega arith, tt)
     go false at (part ∷ parts) is all = rw (at, is) (omega (arith, all.0), AllByRecursion-more (length xs) (length (x ∷ xs)) parts (omega arith) all.1)
 
-pub path_len-line : (line : List ℕ) → path_len (command_by_words (words_of line)) ≤ length line
-path_len-line line = path_len-words (length line) (words_of line) (parts_within (λ b. b == 32) line)
+fit_behind : (n : ℕ) (words : List (Bor (List ℕ))) → AllByRecursion (λ word. length word ≤ n) (map (λ word. word.now) words) → AllFit n words
+fit_behind n [] all = tt
+fit_behind n (word ∷ words) all = (all.0, fit_behind n words all.1)
+
+pub words_fit : (line : List ℕ) (words : List (Bor (List ℕ))) → map (λ word. word.now) words ≡ words_of line → AllFit (length line) words
+words_fit line words is =
+    let fit : AllByRecursion (λ word. length word ≤ length line) (map (λ word. word.now) words) = rw is (parts_within (λ b. b == 32) line) in
+    fit_behind (length line) words fit
+
+pub fit_more : (m n : ℕ) (words : List (Bor (List ℕ))) → m ≤ n → AllFit m words → AllFit n words
+fit_more m n [] low all = tt
+fit_more m n (word ∷ words) low all = (omega (arith, low, all.0), fit_more m n words low all.1)
+
+-- ---- rows with their paths decoded
+
+pub decoded-path : (verb path : List ℕ) → path_command verb (path_bytes path) ≡ decoded (path_command verb path)
+decoded-path verb path = go (bytes_eq verb (codes "create")) (bytes_eq verb (codes "list")) (bytes_eq verb (codes "stat"))
+  where
+    go : (a b c : Bool) →
+        (if a then file_call (create (path_bytes path)) else if b then file_call (list (path_bytes path)) else if c then file_call (stat (path_bytes path)) else bad_syntax)
+        ≡ decoded (if a then file_call (create path) else if b then file_call (list path) else if c then file_call (stat path) else bad_syntax)
+    go true b c = refl
+    go false true c = refl
+    go false false true = refl
+    go false false false = refl
+
+pub decoded-truncate : (path : List ℕ) (size : Option ℕ) → truncate_command (path_bytes path) size ≡ decoded (truncate_command path size)
+decoded-truncate path None = refl
+decoded-truncate path (Some size) = refl

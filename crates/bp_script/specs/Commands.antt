@@ -3,6 +3,8 @@ use Rattle.std.specs.Prelude.{ℕ, List, [], ◌∷◌, length, map, Bool, ◌==
 use Rattle.std.specs.List.{slice_split, join_by, list_all, list_any}
 use Rattle.std.specs.Char.{is_ascii_digit}
 use Rattle.std.specs.Str.Parse.{digits_value}
+use Rattle.std.specs.Result.{result_ok}
+use Rattle.hex.specs.Hex.{decode_of}
 use Rattle.percent_encoding.specs.Percent.{percent_decode}
 use Rattle.bp_limits.specs.Limits.{max_line, max_read}
 use Rattle.bp_plain.specs.Calls.{Call}
@@ -43,13 +45,28 @@ is_numeral word = nat_le 1 (length word) && nat_le (length word) 20 && list_all 
 abbrev pub number_of : List ℕ → Option ℕ
 number_of word = if is_numeral word && nat_lt (digits_value 10 word) 18446744073709551616 then Some (digits_value 10 word) else None
 
+-- ---- bytes
+
+-- the bytes that a word of hexadecimal digits stands for, two digits of either case each; `-` stands for none
+abbrev pub bytes_of : List ℕ → Option (List ℕ)
+bytes_of word = if bytes_eq word (codes "-") then Some [] else result_ok (decode_of word)
+
 -- ---- the table, with paths as they are written
 
 abbrev pub read_command : List ℕ → Option ℕ → Option ℕ → Command
 read_command path (Some off) (Some len) = if nat_le len max_read then file_call (read path off len) else bad_syntax
 read_command path off len = bad_syntax
 
--- lines of one word, of two and of four
+-- a call refuses what is too long for it
+abbrev pub write_command : List ℕ → Option ℕ → Option (List ℕ) → Command
+write_command path (Some off) (Some new) = file_call (write path off new)
+write_command path off new = bad_syntax
+
+abbrev pub truncate_command : List ℕ → Option ℕ → Command
+truncate_command path (Some size) = file_call (truncate path size)
+truncate_command path None = bad_syntax
+
+-- lines of one word, of two, of three and of four
 abbrev pub bare_command : List ℕ → Command
 bare_command verb =
     if bytes_eq verb (codes "sync") then sync
@@ -63,16 +80,23 @@ path_command verb path =
     else if bytes_eq verb (codes "stat") then file_call (stat path)
     else bad_syntax
 
+abbrev pub pair_command : List ℕ → List ℕ → List ℕ → Command
+pair_command verb first second =
+    if bytes_eq verb (codes "truncate") then truncate_command first (number_of second)
+    else bad_syntax
+
 abbrev pub long_command : List ℕ → List ℕ → List ℕ → List ℕ → Command
 long_command verb first second third =
     if bytes_eq verb (codes "read") then read_command first (number_of second) (number_of third)
+    else if bytes_eq verb (codes "write") then write_command first (number_of second) (bytes_of third)
     else bad_syntax
 
 -- The table of commands, by the words of a line.
---     sync      space      create PATH      list PATH      stat PATH      read PATH OFF LEN
+--     sync      space      create PATH      list PATH      stat PATH      read PATH OFF LEN      write PATH OFF HEX      truncate PATH SIZE
 abbrev pub command_by_words : List (List ℕ) → Command
 command_by_words (verb ∷ []) = bare_command verb
 command_by_words (verb ∷ path ∷ []) = path_command verb path
+command_by_words (verb ∷ first ∷ second ∷ []) = pair_command verb first second
 command_by_words (verb ∷ first ∷ second ∷ third ∷ []) = long_command verb first second third
 command_by_words words = bad_syntax
 

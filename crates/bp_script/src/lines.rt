@@ -1,16 +1,16 @@
 //! The lines of a script.
 
-ghost use Rattle.bp_plain.specs.Seen.{call_of};
-ghost use Rattle.bp_script.specs.Commands.Command.{bad_syntax};
-ghost use Rattle.bp_script.specs.Commands.{bare_command, command_by_words, decoded_call, in_grammar, is_empty_word, long_command, number_of, part_bytes, path_bytes, path_command, read_command, unslashed, words_of, written_command};
-ghost use Rattle.bp_script.specs.Lines.{decoded_room, first_held, line_asks, longest_path, path_len, second_held};
+ghost use Rattle.bp_plain.specs.Calls.Call.{write};
+ghost use Rattle.bp_script.specs.Commands.Command.{bad_syntax, file_call};
+ghost use Rattle.bp_script.specs.Commands.{bare_command, bytes_of, command_by_words, decoded, in_grammar, is_empty_word, long_command, number_of, pair_command, part_bytes, path_bytes, path_command, read_command, truncate_command, unslashed, words_of, write_command, written_command};
+ghost use Rattle.bp_script.specs.Lines.{AllFit, decoded_room, first_held, line_asks, second_held};
 ghost use Rattle.bp_script.specs.contracts.lines.Decoded.{the_row};
 ghost use Rattle.std.specs.Borrow.{follows_so, sem};
 ghost use Rattle.std.specs.List.{list_all, list_any, slice_split};
 ghost use Rattle.std.specs.Option.{option_map_or};
 ghost use Rattle.hex.specs.Hex.{decode_of};
 ghost use Rattle.std.specs.Result.{is_ok, result_ok};
-ghost use Rattle.std.specs.Prelude.{◌/◌, if◌then◌else◌, None, Some, IfNone, IfOk, IfSome, false, length, map, position, vec_capacity, vec_len, [], ◌∷◌, ◌+◌, ◌++◌, ◌==◌, ◌<◌, ◌≡◌, ◌≤◌, ⊤};
+ghost use Rattle.std.specs.Prelude.{◌/◌, if◌then◌else◌, None, Ok, Some, IfNone, IfOk, IfSome, false, length, map, position, vec_capacity, vec_len, [], ◌∷◌, ◌+◌, ◌++◌, ◌==◌, ◌<◌, ◌≡◌, ◌≤◌, ⊤};
 ghost use Rattle.std.specs.Char.{is_ascii_digit};
 ghost use mathlib.Core.Option.{none};
 
@@ -73,30 +73,93 @@ impl Decoded {
         ensures* keeps_room { sem 𝓛 (follows_so the_row the_row self.entry.ghost_name none (λ _ _. ⊤) (λ after. decoded_room self.old ≤ decoded_room after)) }
         ensures meaning { line_asks result ≡ in_grammar bytes.now }
     {
-        match written(bytes) {
-            Ok(Line::Call(call)) => Ok(Line::Call(self.call(call))),
-            Ok(Line::Sync) => Ok(Line::Sync),
-            Ok(Line::Space) => Ok(Line::Space),
-            Err(error) => Err(error),
+        match words_in(bytes) {
+            Some(words) => self.by_words(words.as_slice()),
+            None => Err(Syntax),
         }
     }
 
-    /// The call with its paths decoded.
-    fn call(&mut self, written: Call<'_>) -> Call<'_>
-        requires { longest_path (call_of written) ≤ decoded_room self.old }
+    /// What the words of a line ask for, none of which is empty.
+    fn by_words(&mut self, words: &[&[u8]]) -> Result<Line<'_>, Syntax>
+        requires { AllFit (decoded_room self.old) words.now }
         ensures* keeps_room { sem 𝓛 (follows_so the_row the_row self.entry.ghost_name none (λ _ _. ⊤) (λ after. decoded_room self.old ≤ decoded_room after)) }
-        ensures call { call_of result ≡ decoded_call (call_of written.entry) }
+        ensures meaning { line_asks result ≡ decoded (command_by_words (map (λ word. word.now) words.now)) }
     {
-        match written {
-            Call::Create(path) => Call::Create(self.path_of(path)),
-            Call::List(path) => Call::List(self.path_of(path)),
-            Call::Stat(path) => Call::Stat(self.path_of(path)),
-            Call::Read { path, off, len } => Call::Read {
-                path: self.path_of(path),
-                off,
-                len,
-            },
+        match words {
+            [verb] => bare(verb),
+            [verb, path] => self.on_path(verb, path),
+            [verb, path, last] => self.on_pair(verb, path, last),
+            [verb, path, second, third] => self.long(verb, path, second, third),
+            _ => Err(Syntax),
         }
+    }
+
+    /// What a line of a word and a path asks for.
+    fn on_path(&mut self, verb: &[u8], path: &[u8]) -> Result<Line<'_>, Syntax>
+        requires { length path.now ≤ decoded_room self.old }
+        ensures* keeps_room { sem 𝓛 (follows_so the_row the_row self.entry.ghost_name none (λ _ _. ⊤) (λ after. decoded_room self.old ≤ decoded_room after)) }
+        ensures meaning { line_asks result ≡ decoded (path_command verb.now path.now) }
+    {
+        path_line(verb, self.path_of(path))
+    }
+
+    /// What a line of a word, a path and a last word asks for.
+    fn on_pair(&mut self, verb: &[u8], path: &[u8], last: &[u8]) -> Result<Line<'_>, Syntax>
+        requires { length path.now ≤ decoded_room self.old }
+        ensures* keeps_room { sem 𝓛 (follows_so the_row the_row self.entry.ghost_name none (λ _ _. ⊤) (λ after. decoded_room self.old ≤ decoded_room after)) }
+        ensures meaning { line_asks result ≡ decoded (pair_command verb.now path.now last.now) }
+    {
+        match verb {
+            b"truncate" => truncate(self.path_of(path), number(last)),
+            _ => Err(Syntax),
+        }
+    }
+
+    /// What a line of four words asks for.
+    fn long(
+        &mut self,
+        verb: &[u8],
+        path: &[u8],
+        second: &[u8],
+        third: &[u8],
+    ) -> Result<Line<'_>, Syntax>
+        requires path { length path.now ≤ decoded_room self.old }
+        requires third { length third.now ≤ decoded_room self.old }
+        ensures* keeps_room { sem 𝓛 (follows_so the_row the_row self.entry.ghost_name none (λ _ _. ⊤) (λ after. decoded_room self.old ≤ decoded_room after)) }
+        ensures meaning { line_asks result ≡ decoded (long_command verb.now path.now second.now third.now) }
+    {
+        match verb {
+            b"read" => read(self.path_of(path), number(second), number(third)),
+            b"write" => self.write(path, number(second), third),
+            _ => Err(Syntax),
+        }
+    }
+
+    /// The line of a write.
+    fn write(&mut self, path: &[u8], off: Option<u64>, word: &[u8]) -> Result<Line<'_>, Syntax>
+        requires path { length path.now ≤ decoded_room self.old }
+        requires word { length word.now ≤ decoded_room self.old }
+        ensures* keeps_room { sem 𝓛 (follows_so the_row the_row self.entry.ghost_name none (λ _ _. ⊤) (λ after. decoded_room self.old ≤ decoded_room after)) }
+        ensures meaning { line_asks result ≡ decoded (write_command path.now off (bytes_of word.now)) }
+    {
+        match off {
+            Some(off) => match self.path_and_bytes(path, digits_of(word)) {
+                Ok(()) => Ok(self.write_held(off)),
+                Err(error) => Err(error),
+            },
+            None => Err(Syntax),
+        }
+    }
+
+    /// The line of a write with the path and the bytes that are held.
+    fn write_held(&self, off: u64) -> Line<'_>
+        ensures { line_asks (Ok result) ≡ file_call (write (first_held self.now) off (second_held self.now)) }
+    {
+        Line::Call(Call::Write {
+            path: self.first.as_slice(),
+            off,
+            bytes: self.second.as_slice(),
+        })
     }
 
     /// The path of a word.
@@ -196,21 +259,11 @@ fn decode(word: &[u8], into: &mut Vec<u8>)
     }
 }
 
-/// What a line asks for, with its paths as they are written.
-fn written(bytes: &[u8]) -> Result<Line<'_>, Syntax>
-    ensures asks { line_asks result ≡ written_command bytes.now }
-    ensures len { path_len (line_asks result) ≤ length bytes.now }
-{
-    match words_in(bytes) {
-        Some(words) => by_words(words.as_slice()),
-        None => Err(Syntax),
-    }
-}
-
 /// The words of a line, where they are at most four and none is empty.
 fn words_in(bytes: &[u8]) -> Option<ArrayVec<&[u8], MOST_WORDS>>
     ensures words { IfSome result (λ words. map (λ word. word.now) words.items ≡ words_of bytes.now) }
     ensures full { IfSome result (λ _. list_any is_empty_word (words_of bytes.now) ≡ false) }
+    ensures fit { IfSome result (λ words. AllFit (length bytes.now) words.items) }
     ensures others { IfNone result (bad_syntax ≡ written_command bytes.now) }
 {
     let mut words = ArrayVec::new();
@@ -229,18 +282,6 @@ fn words_in(bytes: &[u8]) -> Option<ArrayVec<&[u8], MOST_WORDS>>
     Some(words)
 }
 
-/// What the words of a line ask for, none of which is empty.
-fn by_words<'a>(words: &[&'a [u8]]) -> Result<Line<'a>, Syntax>
-    ensures { line_asks result ≡ command_by_words (map (λ word. word.now) words.now) }
-{
-    match words {
-        [verb] => bare(verb),
-        [verb, path] => on_path(verb, path),
-        [verb, first, second, third] => long(verb, first, second, third),
-        _ => Err(Syntax),
-    }
-}
-
 /// What a line of one word asks for.
 fn bare(verb: &[u8]) -> Result<Line<'static>, Syntax>
     ensures { line_asks result ≡ bare_command verb.now }
@@ -252,8 +293,8 @@ fn bare(verb: &[u8]) -> Result<Line<'static>, Syntax>
     }
 }
 
-/// What a line of a word and a path asks for.
-fn on_path<'a>(verb: &[u8], path: &'a [u8]) -> Result<Line<'a>, Syntax>
+/// What a line of a word and a decoded path asks for.
+fn path_line<'a>(verb: &[u8], path: &'a [u8]) -> Result<Line<'a>, Syntax>
     ensures { line_asks result ≡ path_command verb.now path.now }
 {
     match verb {
@@ -264,13 +305,13 @@ fn on_path<'a>(verb: &[u8], path: &'a [u8]) -> Result<Line<'a>, Syntax>
     }
 }
 
-/// What a line of four words asks for.
-fn long<'a>(verb: &[u8], first: &'a [u8], second: &[u8], third: &[u8]) -> Result<Line<'a>, Syntax>
-    ensures { line_asks result ≡ long_command verb.now first.now second.now third.now }
+/// The line of another size of a file.
+fn truncate(path: &[u8], size: Option<u64>) -> Result<Line<'_>, Syntax>
+    ensures { line_asks result ≡ truncate_command path.now size }
 {
-    match verb {
-        b"read" => read(first, number(second), number(third)),
-        _ => Err(Syntax),
+    match size {
+        Some(size) => Ok(Line::Call(Call::Truncate { path, size })),
+        None => Err(Syntax),
     }
 }
 
@@ -292,6 +333,14 @@ fn read(path: &[u8], off: Option<u64>, len: Option<u64>) -> Result<Line<'_>, Syn
         }
         _ => Err(Syntax),
     }
+}
+
+/// The hexadecimal digits of a word, of which `-` stands for none.
+fn digits_of(word: &[u8]) -> &[u8]
+    ensures bytes { result_ok (decode_of result.now) ≡ bytes_of word.now }
+    ensures len { length result.now ≤ length word.now }
+{
+    if word == b"-".as_slice() { &[] } else { word }
 }
 
 /// The number that a word stands for: one to twenty decimal digits, with a value below 2^64.

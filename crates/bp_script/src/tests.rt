@@ -16,7 +16,7 @@ fn asks(rt: &impl Abort, decoded: &mut Decoded, bytes: &[u8], want: Result<Line<
 #[test]
 fn lines_of_the_table(rt: HostRuntime) -> Result<(), Fail> {
     let mut decoded = Decoded::new(rt.alloc(), 64)?;
-    let calls: [(&[u8], Call<'static>); 11] = [
+    let calls: [(&[u8], Call<'static>); 14] = [
         (b"create /a", Call::Create(b"/a")),
         (b"list /", Call::List(b"/")),
         (b"stat /a/b", Call::Stat(b"/a/b")),
@@ -28,6 +28,29 @@ fn lines_of_the_table(rt: HostRuntime) -> Result<(), Fail> {
         (b"stat /%%41", Call::Stat(b"/%A")),
         (b"stat /%2/F", Call::Stat(b"/%2/F")),
         (b"list //a\r", Call::List(b"//a\r")),
+        (
+            b"write /a 7 00fF",
+            Call::Write {
+                path: b"/a",
+                off: 7,
+                bytes: b"\x00\xff",
+            },
+        ),
+        (
+            b"write a%2Fb 18446744073709551615 -",
+            Call::Write {
+                path: b"a\0b",
+                off: u64::MAX,
+                bytes: b"",
+            },
+        ),
+        (
+            b"truncate /%20 00000000000000000010",
+            Call::Truncate {
+                path: b"/ ",
+                size: 10,
+            },
+        ),
     ];
     for (bytes, call) in calls {
         asks(&rt, &mut decoded, bytes, Ok(Line::Call(call)));
@@ -79,7 +102,15 @@ fn lines_of_reads(rt: HostRuntime) -> Result<(), Fail> {
 #[test]
 fn lines_outside_the_table(rt: HostRuntime) -> Result<(), Fail> {
     let mut decoded = Decoded::new(rt.alloc(), 64)?;
-    let lines: [&[u8]; 16] = [
+    let lines: [&[u8]; 24] = [
+        b"write /a 0 0",
+        b"write /a 0 0g",
+        b"write /a 0 --",
+        b"write /a -1 00",
+        b"write /a 0",
+        b"truncate /a",
+        b"truncate /a -",
+        b"truncate /a 18446744073709551616",
         b"",
         b" ",
         b"sync ",

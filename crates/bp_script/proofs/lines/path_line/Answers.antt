@@ -1,6 +1,6 @@
 use Rattle.std.proofs.Common.{◌≡◌, codes, arith, refl}
 use Rattle.std.proofs.lemmas.Slice.Eq.{text_from_reads}
-use Rattle.bp_script.proofs.lines.on_path.Goals as goal
+use Rattle.bp_script.proofs.lines.path_line.Goals as goal
 
 pub returns-in-create : goal.returns-in-create
 returns-in-create c =

@@ -1,14 +1,14 @@
 -- Steps of a call that creates a file.
-use Rattle.std.proofs.Common.{◌≡◌, ◌≢◌, ℕ, ◌≤◌, ◌<◌, ◌==◌, List, [], ◌∷◌, ◌++◌, true, false, refl, sym, ◌∙◌, ap, subst, arith, true≢false, Option, None, Some}
+use Rattle.std.proofs.Common.{◌≡◌, ◌≢◌, ℕ, ◌==◌, List, [], ◌∷◌, ◌++◌, true, false, refl, sym, ◌∙◌, ap, subst, true≢false, Option, None, Some}
 use Rattle.std.specs.Prelude.{not, ◌&&◌, is_none, is_some, if◌then◌else◌, unwrap_or}
 use Rattle.std.specs.Option.{option_map}
-use Rattle.std.specs.FinMap.{get, insert}
+use Rattle.std.specs.FinMap.{get}
 use Rattle.bp_layout.specs.Words.{Image}
 use Rattle.bp_layout.specs.Inode.{kind_of}
 use Rattle.bp_layout.specs.Directory.{Name, inumber_at, slot_named}
 use Rattle.bp_layout.specs.Lookup.{Path, lookup, node_of}
-use Rattle.bp_layout.specs.Lookup.Node.{file}
-use Rattle.bp_layout.specs.Free.{HasFree, TellsFreeInode}
+use Rattle.bp_layout.specs.declared.fields.Kind.TheVariants.{File}
+use Rattle.bp_layout.specs.Free.{TellsFreeInode}
 use Rattle.bp_layout.specs.Need.{Change, need}
 use Rattle.bp_layout.specs.Need.Change.{enters}
 use Rattle.bp_layout.specs.PathText.{parse}
@@ -17,18 +17,17 @@ use Rattle.bp_plain.specs.Stands.{Stands}
 use Rattle.bp_plain.specs.Calls.{Refusal}
 use Rattle.bp_plain.specs.Calls.Call.{create}
 use Rattle.bp_plain.specs.Calls.Refusal.{bad_path, exists, not_dir, no_space, later}
-use Rattle.bp_plain.specs.Calls.Answer.{done, refused}
-use Rattle.bp_plain.specs.Plain.{plain, is_changing, refusal, walk_parent, answer_or, on_parsed, first, when, is_dir_at, is_root_path, parent_of, path_of}
-use Rattle.bp_calls.specs.Created.{IsRefused, NeedsLeaf}
+use Rattle.bp_plain.specs.Calls.Answer.{refused}
+use Rattle.bp_plain.specs.Plain.{refusal, walk_parent, on_parsed, first, when, is_dir_at, is_root_path, parent_of, path_of, tree_after, with_bytes}
+use Rattle.bp_calls.specs.Created.{GainsName, IsRefused, NeedsLeaf}
 use Rattle.bp_calls.specs.Created.IsRefused.{no_inode as no_free_inode, no_leaf, no_block}
 use Rattle.bp_calls.specs.declared.fault.CreateFault.TheVariants.{Later, NoSpace}
-use Rattle.bp_volume.specs.Step.{Steps, IsLater, IsChange, NamesNew, Fits, last_of}
-use Rattle.bp_volume.specs.Step.Steps.{changed}
+use Rattle.bp_volume.specs.Step.{IsLater, IsChange, NamesNew, last_of}
 use Rattle.bp_volume.specs.Step.IsLater.{no_inode, full_leaf}
 use Rattle.bp_volume.specs.Step.IsChange.{by_create}
-use Rattle.bp_volume.specs.FileCall.{has_changed}
 use Rattle.bp_volume.specs.Told.{Tells, refusal_of_new}
-use Rattle.bp_volume.proofs.StepLaws.{later_steps, no_space_steps}
+use Rattle.bp_volume.proofs.ChangeLaws.{Makes, lacks_space}
+use Rattle.bp_volume.proofs.StepLaws.{later_steps}
 use Rattle.bp_volume.proofs.WalkLaws.{dir_at, get-next, walk-found}
 
 pub create_no_path : (tree : FileTree) (text : List ℕ) → parse text ≡ None → refusal tree (create text) ≡ Some bad_path
@@ -89,9 +88,6 @@ module _ (image : Image) (text : List ℕ) (i : ℕ) (name : Name) (names : Name
       refusal-create tree text names.path names.parsed
       ∙ create_goes image names.path names.new.below i names.new.parent names.new.directory name names.new.last tree stands names.new.missing
 
-  create_changes : (tree : FileTree) → Stands image tree → is_changing tree (create text) ≡ true
-  create_changes tree stands = ap (λ o. is_none o && true) (not_refused tree stands)
-
   -- the text spells no other path, so its parent is no other directory
   same_directory : (k : ℕ) (other : Name) → NamesNew image text k other → k ≡ i
   same_directory k other new =
@@ -102,7 +98,7 @@ module _ (image : Image) (text : List ℕ) (i : ℕ) (name : Name) (names : Name
 
   -- where no inode is free, or the directory needs a leaf, this version can't do it
   pub create_later : IsRefused image i Later → Tells image (create text) (refused later)
-  create_later why tree stands = later_steps image tree (create text) (create_changes tree stands) (go why)
+  create_later why tree stands = later_steps image tree (create text) (ap (λ o. is_none o && true) (not_refused tree stands)) (go why)
     where
       go : IsRefused image i Later → IsLater image (create text)
       go (no_free_inode none) = no_inode names none
@@ -120,32 +116,19 @@ module _ (image : Image) (text : List ℕ) (i : ℕ) (name : Name) (names : Name
         let some : free ≡ true = told.none (tells.some refl).0 (tells.some refl).1 in
         rw (one, some) refl
 
-    -- where fewer blocks are free than it needs, it is refused
-    pub create_no_space : (needed free : ℕ) → need image (enters i true) ≡ needed → HasFree image free → free < needed → Tells image (create text) (refused (no_space needed free))
-    create_no_space needed free needs has short tree stands =
-        no_space_steps image tree (create text) needed free (create_changes tree stands) not_later
-        (record { change = enters i true; is = by_create names tells; needs = needs; has = has }) short
+    -- else the name is what the call makes
+    pub create_makes : Makes image (create text) (enters i true)
+    create_makes = record { is = by_create names tells; alike = need_of; possible = not_later; allowed = not_refused; changing = λ tree stands. refl; says = λ tree. refl }
 
-    module _ (room : (free : ℕ) → HasFree image free → need image (enters i true) ≤ free) where
-      fits : Fits image (create text)
-      fits needed free has =
-          omega (arith, need_of has.change has.is, has.needs, room free has.has)
+  text_path : path_of text ≡ parent_of names.path ++ name ∷ []
+  text_path =
+      ap (λ (o : Option Path). unwrap_or o []) names.parsed ∙ path_is image names.path names.new.below i names.new.parent names.new.directory name names.new.last
 
-      -- the new image stands for the tree with an empty file at that name
-      pub create_steps : (new : Image) → ((tree : FileTree) (here : Path) → Stands image tree → lookup image here ≡ Some i → Stands new (insert tree (here ++ name ∷ []) (file []))) →
-          (tree : FileTree) → Stands image tree → (has_changed tree (create text) done ≡ true) × Steps image tree (create text) done new
-      create_steps new becomes tree stands =
-          let none : refusal tree (create text) ≡ None = not_refused tree stands in
-          let changing : is_changing tree (create text) ≡ true = create_changes tree stands in
-          let path : path_of text ≡ parent_of names.path ++ name ∷ [] =
-          ap (λ (o : Option Path). unwrap_or o []) names.parsed ∙ path_is image names.path names.new.below i names.new.parent names.new.directory name names.new.last in
-          let says : (plain tree (create text)).0 ≡ done = ap (λ o. (answer_or tree (create text) o).0) none in
-          let makes : (plain tree (create text)).1 ≡ insert tree (parent_of names.path ++ name ∷ []) (file []) = ap (λ o. (answer_or tree (create text) o).1) none ∙ ap (λ p. insert tree p (file [])) path in (
-            ap (λ b. b && true) changing,
-            subst (λ a. Steps image tree (create text) a new) says
-                (changed changing not_later fits (subst (λ t. Stands new t) (sym makes) (becomes tree (parent_of names.path) stands names.new.parent))),
-          )
+  -- a directory that gains the name makes the tree of the call
+  pub create_becomes : (new : Image) → GainsName i name File image new → (tree : FileTree) → Stands image tree → Stands new (tree_after tree (create text))
+  create_becomes new gains tree stands = subst (λ p. Stands new (with_bytes tree p [])) (sym text_path) (gains tree (parent_of names.path) stands names.new.parent)
 
--- why a new name is refused, as a call tells it
-pub create_refused : (image : Image) (text : List ℕ) (i : ℕ) (name : Name) → NamesNew image text i name → (needed free : ℕ) → IsRefused image i (NoSpace needed free) → Tells image (create text) (refused (no_space needed free))
-create_refused image text i name names needed free (no_block tells leaf needs has short) = create_no_space image text i name names tells leaf needed free needs has short
+-- fewer blocks are free than the name needs, as a call tells it
+pub create_lacks : (image : Image) (text : List ℕ) (i : ℕ) (name : Name) → NamesNew image text i name → (needed free : ℕ) → IsRefused image i (NoSpace needed free) → Tells image (create text) (refused (no_space needed free))
+create_lacks image text i name names needed free (no_block tells leaf needs has short) =
+    lacks_space image (create text) (enters i true) (create_makes image text i name names tells leaf) (record { need = needed; free = free }) (record { needed = needs; free = has; fewer = short })

@@ -11,7 +11,7 @@ use Rattle.pm_region.proofs.SafeLaws.{safe_mark, safe_drained}
 use Rattle.bp_free.specs.Set.{Set}
 use Rattle.bp_layout.specs.Same.{Same}
 use Rattle.bp_plain.specs.Calls.{Call, Answer}
-use Rattle.bp_volume.specs.Created.{Changes, PerformsCall}
+use Rattle.bp_volume.specs.Carried.{Changes, PerformsCall}
 use Rattle.bp_volume.specs.Step.{IsChange}
 use Rattle.bp_limits.specs.Limits.{call_room}
 use Rattle.bp_volume.specs.FileCall.{FileCall}

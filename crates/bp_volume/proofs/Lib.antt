@@ -5,7 +5,8 @@ pub mod StepLaws
 pub mod FileCallLaws
 pub mod CreateLaws
 pub mod AskingLaws
-pub mod CreatedLaws
+pub mod ChangeLaws
+pub mod CarriedLaws
 pub mod LaidLaws
 pub mod WalkingLaws
 pub mod SpaceLaws

@@ -4,4 +4,4 @@ pub mod Volume
 pub mod Told
 pub mod Laid
 pub mod Seen
-pub mod Created
+pub mod Carried

@@ -1,14 +1,12 @@
 //! New files.
 
-ghost use Rattle.std.specs.Prelude.{◌≡◌, ◌≤◌, IfErr, OnErr, OnOk};
+ghost use Rattle.std.specs.Prelude.{◌≤◌};
 ghost use Rattle.bp_shapes.specs.Sets.{AreExact};
 ghost use Rattle.bp_layout.specs.WellFormed.{IsWellFormed};
-ghost use Rattle.bp_plain.specs.Calls.Answer.{refused};
 ghost use Rattle.bp_plain.specs.Calls.Call.{create};
-ghost use Rattle.bp_plain.specs.Seen.{refusal_of};
-ghost use Rattle.bp_volume.specs.Created.{CreatesFile};
+ghost use Rattle.bp_volume.specs.Carried.{CarriesOut};
+ghost use Rattle.bp_volume.specs.Seen.{unit_answer};
 ghost use Rattle.bp_volume.specs.Step.{NamesNew};
-ghost use Rattle.bp_volume.specs.Told.{Tells};
 ghost use Rattle.pm_region.specs.Memory.{current_words, room_in};
 
 use crate::walking::{NewName, new_name};
@@ -24,10 +22,8 @@ fn create_new<R: Region>(parts: &mut Parts<R>, text: &[u8], new: NewName<'_>) ->
     requires exact { AreExact (current_words (R.memory parts.old.region)) parts.old.blocks parts.old.inodes }
     requires new { NamesNew (current_words (R.memory parts.old.region)) text.now new.dir new.name.now }
     requires room { 64 ≤ room_in (R.memory parts.old.region) }
-    ensures ok { OnOk result (CreatesFile (R.memory parts.old.region) text.now (R.memory parts.new.region)) }
+    ensures called { CarriesOut (R.memory parts.old.region) (create text.now) (unit_answer result) (R.memory parts.new.region) }
     ensures exact { AreExact (current_words (R.memory parts.new.region)) parts.new.blocks parts.new.inodes }
-    ensures refused { IfErr result (λ e. Tells (current_words (R.memory parts.old.region)) (create text.now) (refused (refusal_of e))) }
-    ensures same { OnErr result (parts.new ≡ parts.old) }
 {
     match bp_calls::create(parts, new.dir, new.name, Kind::File) {
         Ok(()) => Ok(()),
@@ -41,10 +37,8 @@ pub(crate) fn create_at<R: Region>(parts: &mut Parts<R>, text: &[u8]) -> Result<
     requires well_formed { IsWellFormed (current_words (R.memory parts.old.region)) }
     requires exact { AreExact (current_words (R.memory parts.old.region)) parts.old.blocks parts.old.inodes }
     requires room { 64 ≤ room_in (R.memory parts.old.region) }
-    ensures ok { OnOk result (CreatesFile (R.memory parts.old.region) text.now (R.memory parts.new.region)) }
+    ensures called { CarriesOut (R.memory parts.old.region) (create text.now) (unit_answer result) (R.memory parts.new.region) }
     ensures exact { AreExact (current_words (R.memory parts.new.region)) parts.new.blocks parts.new.inodes }
-    ensures refused { IfErr result (λ e. Tells (current_words (R.memory parts.old.region)) (create text.now) (refused (refusal_of e))) }
-    ensures same { OnErr result (parts.new ≡ parts.old) }
 {
     match new_name(&parts.region, text) {
         Ok(new) => create_new(parts, text, new),

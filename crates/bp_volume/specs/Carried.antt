@@ -1,28 +1,28 @@
--- What a call that changes the tree does to a region before its mark.
-use Rattle.std.specs.Prelude.{◌≡◌, ◌≤◌, ◌+◌, ℕ, List, true}
+-- What a call does to a region before its mark.
+use Rattle.std.specs.Prelude.{◌≡◌, ◌<◌, true}
 use Rattle.pm_region.specs.Memory.{Memory, current_words, room_in}
 use Rattle.bp_layout.specs.Need.{Change}
 use Rattle.bp_layout.specs.Words.{Image}
 use Rattle.bp_plain.specs.PlainTree.{FileTree}
 use Rattle.bp_plain.specs.Stands.{Stands}
 use Rattle.bp_plain.specs.Calls.{Call, Answer}
-use Rattle.bp_plain.specs.Calls.Call.{create}
-use Rattle.bp_plain.specs.Calls.Answer.{done}
 use Rattle.bp_tree.specs.Performs.{Performs}
 use Rattle.bp_volume.specs.Step.{Steps, IsChange}
 use Rattle.bp_volume.specs.FileCall.{has_changed}
+use Rattle.bp_volume.specs.Told.{Tells}
 
 -- the call with this answer changes the tree for which the first image stands, and is a step to the second
 abbrev pub Changes : Call → Answer → Image → Image → Type 0
 Changes call answer image new = (tree : FileTree) → Stands image tree → (has_changed tree call answer ≡ true) × Steps image tree call answer new
 
--- the call makes one change of the image, and is that step by it
+-- the call makes one change of the image, is that step by it, and leaves room for its mark
 pub record PerformsCall (old : Memory) (call : Call) (answer : Answer) (new : Memory) : Type 0 where
   pub change : Change
   pub is : IsChange (current_words old) call change
   pub performs : Performs old new change (Changes call answer)
+  pub room : 0 < room_in new
 
--- a new file, with few events
-pub record CreatesFile (old : Memory) (text : List ℕ) (new : Memory) : Type 0 where
-  pub does : PerformsCall old (create text) done new
-  pub few : room_in old ≤ room_in new + 63
+-- The call is carried out up to its mark: it changes the tree so, or it changes nothing and this may be its answer.
+pub data CarriesOut (old : Memory) (call : Call) (answer : Answer) (new : Memory) : Type 0 where
+  changed : PerformsCall old call answer new → CarriesOut old call answer new
+  unchanged : new ≡ old → Tells (current_words old) call answer → CarriesOut old call answer new

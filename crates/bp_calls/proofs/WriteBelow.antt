@@ -1,5 +1,5 @@
 -- A write below the size of a file: what it asks of a commit, and that it is performed.
-use Rattle.std.proofs.Common.{◌≡◌, ◌⊎◌, ℕ, zero, suc, ◌-◌, ◌<◌, [], length, Some, slice_index, sym, ◌∙◌, ap, subst, inl, inr, arith}
+use Rattle.std.proofs.Common.{◌≡◌, ◌⊎◌, ℕ, zero, suc, ◌+◌, ◌-◌, ◌<◌, ◌≤◌, List, [], length, Some, slice_index, sym, ◌∙◌, ap, subst, inl, inr, arith}
 use Rattle.std.proofs.lemmas.Bool.{cases_eq}
 use Rattle.std.proofs.lemmas.List.{take_all}
 use Rattle.bp_free.specs.Set.{Set, has, members}
@@ -29,18 +29,19 @@ use Rattle.bp_cow.proofs.RunThere.{run_cover, run_need}
 use Rattle.bp_cow.proofs.RunWrites.{run_bytes, run_changes, run_size}
 use Rattle.bp_calls.specs.CanWrite.{CanWrite}
 use Rattle.bp_calls.specs.Space.{LacksSpace}
+use Rattle.bp_calls.specs.TouchedBelow.{WritesBelow}
 use Rattle.bp_calls.specs.WritesFile.{WritesFile}
 use Rattle.bp_calls.proofs.FreeCounts.{free_members}
 use Rattle.bp_calls.proofs.RunCommits.{IsRunOf, commit_exact, commit_writes_file, few_leaves, run_in, run_is, run_open}
 
 -- The run is all that is touched.
-pub record IsRunAlone (image : Image) (i : ℕ) (touched : Touched) (run : Run) : Type 0 where
+record IsRunAlone (image : Image) (i : ℕ) (touched : Touched) (run : Run) : Type 0 where
   pub one : touched.run ≡ Some run
   pub no_words : touched.words.items ≡ []
   pub of : IsRunOf image i run
 
 -- what a commit of the run asks
-pub record CanCommitRun (memory : Memory) (blocks : Set) (i : ℕ) (touched : Touched) (run : Run) : Type 0 where
+record CanCommitRun (memory : Memory) (blocks : Set) (i : ℕ) (touched : Touched) (run : Run) : Type 0 where
   pub can : CanCommit (current_words memory) (size_of (current_words memory)) touched (has blocks)
   pub need_is : copied_count (current_words memory) touched ≡ need (current_words memory) (writes i run.off (length run.bytes.now))
   pub room : HasRoom memory touched
@@ -74,7 +75,7 @@ module _ (old : Memory) (blocks inodes : Set) (n : ℕ) (touched : Touched) (run
   copies_need : copied_count image touched ≡ need image (writes (suc n) run.off (length run.bytes.now))
   copies_need = run_need image wf (size_of image) touched (has blocks) can run n is.one is.no_words asks.reached is.of.root is.of.height is.of.some is.of.below
 
-  pub below_can : CanCommitRun old blocks (suc n) touched run
+  below_can : CanCommitRun old blocks (suc n) touched run
   below_can = record {
     can = can;
     need_is = copies_need;
@@ -105,7 +106,7 @@ module _ (old : Memory) (blocks inodes : Set) (n : ℕ) (touched : Touched) (run
         (run_bytes image (current_words new) wf touched (has blocks) can run n is.one none asks.reached asks.file is.of.root is.of.height is.of.some is.of.below small (IsTurned (job_of touched) turned) done.words)
         (λ o past low. absurd (omega (arith, past, low, size_is)))
 
-    pub below_performs : Performs old new (writes (suc n) run.off (length run.bytes.now)) (WritesFile (suc n) run.off run.bytes.now)
+    below_performs : Performs old new (writes (suc n) run.off (length run.bytes.now)) (WritesFile (suc n) run.off run.bytes.now)
     below_performs =
         commit_performs old new (writes (suc n) run.off (length run.bytes.now)) (WritesFile (suc n) run.off run.bytes.now) (size_of image) touched blocks after done
         (run_cover image wf (size_of image) touched (has blocks) can run n is.one is.no_words asks.reached is.of.root is.of.height is.of.some is.of.below) copies_need
@@ -113,7 +114,7 @@ module _ (old : Memory) (blocks inodes : Set) (n : ℕ) (touched : Touched) (run
         (run_open image wf n asks.reached run is.of touched shape is.one done.taken)
         (well_formed-same image (current_words new) (suc n) wf changes) below_writes
 
-    pub below_exact : length after ≡ length blocks → AreExact (current_words new) after inodes
+    below_exact : length after ≡ length blocks → AreExact (current_words new) after inodes
     below_exact room = commit_exact image (current_words new) (suc n) wf changes (size_of image) sizes blocks after inodes asks.exact room done.exact
 
 -- ---- by the number of the inode
@@ -122,23 +123,69 @@ module _ (old : Memory) (blocks inodes : Set) (touched : Touched) (run : Run) wh
   not_inodes : (P : Type 0) → CanWrite old blocks inodes 0 run.off run.bytes.now → P
   not_inodes P asks = absurd (omega (arith, asks.file))
 
-  pub below_can_at : (i : ℕ) → IsRunAlone (current_words old) i touched run → CanWrite old blocks inodes i run.off run.bytes.now → CanCommitRun old blocks i touched run
-  below_can_at zero is asks = not_inodes _ asks
-  below_can_at (suc n) is asks = below_can old blocks inodes n touched run is asks
+  can_at : (i : ℕ) → IsRunAlone (current_words old) i touched run → CanWrite old blocks inodes i run.off run.bytes.now → CanCommitRun old blocks i touched run
+  can_at zero is asks = not_inodes _ asks
+  can_at (suc n) is asks = below_can old blocks inodes n touched run is asks
 
-  pub below_lacks : (i needed free : ℕ) → IsRunAlone (current_words old) i touched run → CanWrite old blocks inodes i run.off run.bytes.now →
-      needed ≡ copied_count (current_words old) touched → free ≡ length (members blocks) → free < needed → LacksSpace (current_words old) (writes i run.off (length run.bytes.now)) (record { need = needed; free = free })
-  below_lacks i needed free is asks counted number fewer = record {
-    needed = let can = below_can_at i is asks in sym (counted ∙ can.need_is);
+  module _ (new : Memory) (after : Set) (small : (i : ℕ) → slice_index run.bytes.now i < 256) (done : CommitsTouched (size_of (current_words old)) touched old new blocks after) where
+    performs_at : (i : ℕ) → IsRunAlone (current_words old) i touched run → CanWrite old blocks inodes i run.off run.bytes.now → Performs old new (writes i run.off (length run.bytes.now)) (WritesFile i run.off run.bytes.now)
+    performs_at zero is asks = not_inodes _ asks
+    performs_at (suc n) is asks = below_performs old blocks inodes n touched run is asks new after small done
+
+    exact_at : (i : ℕ) → IsRunAlone (current_words old) i touched run → CanWrite old blocks inodes i run.off run.bytes.now → length after ≡ length blocks → AreExact (current_words new) after inodes
+    exact_at zero is asks = λ room. not_inodes _ asks
+    exact_at (suc n) is asks = λ room. below_exact old blocks inodes n touched run is asks new after small done room
+
+-- ---- by what is touched
+
+module _ (old : Memory) (blocks inodes : Set) (i off : ℕ) (bytes : List ℕ) (touched : Touched) (write : WritesBelow old blocks inodes i off bytes touched) where
+  abbrev run : Run
+  run = write.touches.run
+
+  -- what holds of the offset and the bytes holds of the run's, and back
+  of_run : (P : ℕ → List ℕ → Type 0) → P off bytes → P run.off run.bytes.now
+  of_run P here = subst (λ o. P o run.bytes.now) (sym write.touches.from) (subst (λ (bs : List ℕ). P off bs) (sym write.touches.bytes_are) here)
+
+  from_run : (P : ℕ → List ℕ → Type 0) → P run.off run.bytes.now → P off bytes
+  from_run P there = subst (λ o. P o bytes) write.touches.from (subst (λ (bs : List ℕ). P run.off bs) write.touches.bytes_are there)
+
+  asks : CanWrite old blocks inodes i run.off run.bytes.now
+  asks = of_run (CanWrite old blocks inodes i) write.can
+
+  alone : IsRunAlone (current_words old) i touched run
+  alone = record {
+    one = write.touches.one;
+    no_words = write.touches.no_words;
+    of = record {
+      root = write.touches.root;
+      height = write.touches.height;
+      some = omega (arith, asks.some);
+      below = of_run (λ o bs. o + length bs ≤ size_of (current_words old) i) write.below;
+    };
+  }
+
+  ready : CanCommitRun old blocks i touched run
+  ready = can_at old blocks inodes touched run i alone asks
+
+  pub write_can : CanCommit (current_words old) (size_of (current_words old)) touched (has blocks)
+  write_can = ready.can
+
+  pub write_room : HasRoom old touched
+  write_room = ready.room
+
+  pub write_lacks : (copies free : ℕ) → copies ≡ copied_count (current_words old) touched → free ≡ length (members blocks) → free < copies → LacksSpace (current_words old) (writes i off (length bytes)) (record { need = copies; free = free })
+  write_lacks copies free counted number fewer = record {
+    needed = sym (counted ∙ from_run (λ o bs. copied_count (current_words old) touched ≡ need (current_words old) (writes i o (length bs))) ready.need_is);
     free = subst (HasFree (current_words old)) (sym number) (free_members (current_words old) blocks asks.exact.free_blocks asks.exact.block_room);
     fewer = fewer;
   }
 
-  module _ (new : Memory) (after : Set) (small : (i : ℕ) → slice_index run.bytes.now i < 256) (done : CommitsTouched (size_of (current_words old)) touched old new blocks after) where
-    pub below_performs_at : (i : ℕ) → IsRunAlone (current_words old) i touched run → CanWrite old blocks inodes i run.off run.bytes.now → Performs old new (writes i run.off (length run.bytes.now)) (WritesFile i run.off run.bytes.now)
-    below_performs_at zero is asks = not_inodes _ asks
-    below_performs_at (suc n) is asks = below_performs old blocks inodes n touched run is asks new after small done
+  module _ (new : Memory) (after : Set) (small : (k : ℕ) → slice_index bytes k < 256) (done : CommitsTouched (size_of (current_words old)) touched old new blocks after) where
+    run_small : (k : ℕ) → slice_index run.bytes.now k < 256
+    run_small = of_run (λ o bs. (k : ℕ) → slice_index bs k < 256) small
 
-    pub below_exact_at : (i : ℕ) → IsRunAlone (current_words old) i touched run → CanWrite old blocks inodes i run.off run.bytes.now → length after ≡ length blocks → AreExact (current_words new) after inodes
-    below_exact_at zero is asks = λ room. not_inodes _ asks
-    below_exact_at (suc n) is asks = λ room. below_exact old blocks inodes n touched run is asks new after small done room
+    pub write_performs : Performs old new (writes i off (length bytes)) (WritesFile i off bytes)
+    write_performs = from_run (λ o bs. Performs old new (writes i o (length bs)) (WritesFile i o bs)) (performs_at old blocks inodes touched run new after run_small done i alone asks)
+
+    pub write_exact : length after ≡ length blocks → AreExact (current_words new) after inodes
+    write_exact = exact_at old blocks inodes touched run new after run_small done i alone asks

@@ -14,3 +14,4 @@ pub mod CanWrite
 pub mod WritesFile
 pub mod Growth
 pub mod TouchedAcross
+pub mod TouchedBelow

@@ -4,6 +4,7 @@ ghost use Rattle.std.specs.Prelude.{◌≡◌, ◌+◌, ◌≤◌, length, IfErr
 ghost use Rattle.bp_calls.specs.CanWrite.{CanWrite};
 ghost use Rattle.bp_shapes.specs.Sets.{AreExact};
 ghost use Rattle.bp_calls.specs.Space.{LacksSpace};
+ghost use Rattle.bp_calls.specs.TouchedBelow.{TouchesBelow};
 ghost use Rattle.bp_calls.specs.WritesFile.{WritesFile};
 ghost use Rattle.bp_layout.specs.Inode.{root_of, size_of};
 ghost use Rattle.bp_layout.specs.Need.Change.{writes};
@@ -22,7 +23,7 @@ use bp_free::{NoSpace, Parts};
 use bp_inodes::{inode_file, place};
 use bp_inplace::commit_word;
 use bp_limits::INODE_SIZE;
-use bp_tree::{Slots, word_path};
+use bp_tree::{Slots, Tree, word_path};
 use pm_region::Region;
 
 /// The path of the root word of an inode.
@@ -67,6 +68,30 @@ pub(crate) fn write_behind<R: Region>(
     Ok(())
 }
 
+/// What is touched by bytes below the size of a file: they alone, in its tree.
+fn touched_below<'a, R: Region>(
+    region: &R,
+    i: u32,
+    tree: Tree,
+    off: u64,
+    bytes: &'a [u8],
+) -> Touched<'a>
+    requires some { 4 ≤ length (current_words (R.memory region.now)) }
+    requires root { tree.root ≡ root_of (current_words (R.memory region.now)) i }
+    ensures { TouchesBelow (current_words (R.memory region.now)) i off bytes.now result }
+{
+    let run = Run {
+        root: root_path(region, i),
+        height: (tree.root & 7) as u32,
+        off,
+        bytes,
+    };
+    Touched {
+        words: ArrayVec::new(),
+        run: Some(run),
+    }
+}
+
 /// Writes bytes below the size of a file, by one commit of them.
 ///
 /// # Errors
@@ -89,20 +114,11 @@ pub(crate) fn write_below<R: Region>(
     ensures same { OnErr result (parts.new ≡ parts.old) }
 {
     let tree = tree_of(&parts.region, i);
-    let run = Run {
-        root: root_path(&parts.region, i),
-        height: (tree.root & 7) as u32,
-        off,
-        bytes,
-    };
-    let touched = Touched {
-        words: ArrayVec::new(),
-        run: Some(run),
-    };
-    let need = need_cover(&parts.region, &touched);
+    let touched = touched_below(&parts.region, i, tree, off, bytes);
+    let copies = need_cover(&parts.region, &touched);
     let free = parts.blocks.count();
-    if free < need {
-        return Err(NoSpace { need, free });
+    if free < copies {
+        return Err(NoSpace { need: copies, free });
     }
     commit(parts, &touched);
     Ok(())

@@ -1,0 +1,15 @@
+use Rattle.std.proofs.Common.{refl, ◌∙◌, ap}
+use Rattle.std.proofs.lemmas.Nat.{and_mask}
+use Rattle.bp_layout.specs.Words.{height_of}
+use Rattle.bp_calls.proofs.writing.touched_below.Goals as goal
+
+pub returns : goal.returns
+returns g c = record {
+  run = record { root = c.root_path.result; height = _; off = c.args.off; bytes = c.args.bytes };
+  one = refl;
+  no_words = c.new.ensures;
+  root = c.root_path.ensures;
+  height = and_mask c.args.tree.root 3 ∙ ap height_of c.requires.root;
+  from = refl;
+  bytes_are = refl;
+}

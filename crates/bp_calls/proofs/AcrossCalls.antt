@@ -151,8 +151,8 @@ module _ (old : Memory) (blocks inodes : Set) (off : ℕ) (bytes : List ℕ) (to
     module _ (new : Memory) (last : Set) where
       pub at_done : (i : ℕ) → WritesAcross old blocks inodes i off bytes touched →
           PreparesWith old middle (members blocks) (members after) i (size_of (current_words old) i) (off + length bytes) (drop (size_of (current_words old) i - off) bytes) → ((k : ℕ) → slice_index bytes k < 256) →
-          CommitsTouched (sizes_with (current_words middle) touched) touched middle new after last → length last ≡ length blocks →
+          CommitsTouched (sizes_with (current_words middle) touched) touched middle new after last → length last ≡ length after → length after ≡ length blocks →
           Performs old new (writes i off (length bytes)) (WritesFile i off bytes) × AreExact (current_words new) last inodes
       at_done zero across = not_inodes _ across
-      at_done (suc n) across = λ prepared small done room.
-          (across_performs old middle new blocks inodes after last n off bytes touched across prepared small done, across_exact old middle new blocks inodes after last n off bytes touched across prepared small done room)
+      at_done (suc n) across = λ prepared small done same room.
+          (across_performs old middle new blocks inodes after last n off bytes touched across prepared small done, across_exact old middle new blocks inodes after last n off bytes touched across prepared small done same room)

@@ -1,7 +1,7 @@
 -- What a write across the size of a file makes of an image, and that it is performed.
-use Rattle.std.proofs.Common.{◌≡◌, ◌≢◌, ◌⊎◌, ℕ, zero, suc, ◌+◌, ◌-◌, ◌*◌, ◌/◌, ◌<◌, ◌≤◌, max, List, [], ◌∷◌, length, take, drop, Bool, true, false, ◌&&◌, nat_le, if◌then◌else◌, slice_index, refl, sym, ◌∙◌, ap, inl, inr, arith, lt-ltb, le-ltb, le-leb}
-use Rattle.std.proofs.lemmas.Bool.{cases_eq, cases_lt, lt-leb}
-use Rattle.std.proofs.lemmas.List.{get_or-drop, get_or-take}
+use Rattle.std.proofs.Common.{◌≡◌, ◌⊎◌, ℕ, zero, suc, ◌+◌, ◌-◌, ◌*◌, ◌/◌, ◌<◌, ◌≤◌, max, List, [], ◌∷◌, length, take, drop, slice_index, sym, ◌∙◌, ap, subst, inl, inr, arith}
+use Rattle.std.proofs.lemmas.Bool.{cases_eq}
+use Rattle.std.proofs.lemmas.List.{get_or-drop}
 use Rattle.bp_free.specs.Set.{Set, has, members}
 use Rattle.bp_layout.specs.Inode.{kind_of, root_of, size_of}
 use Rattle.bp_layout.specs.Need.{Change, need}
@@ -30,14 +30,14 @@ use Rattle.bp_cow.specs.declared.touched.Run.{Run}
 use Rattle.bp_cow.specs.declared.touched.Touched.{Touched}
 use Rattle.bp_cow.proofs.CommitTaking.{commit_performs_after, cover_open}
 use Rattle.bp_cow.proofs.LeafCover.{has_size}
-use Rattle.bp_cow.proofs.RunSized.{IsFileRun, sized_bytes, sized_changes, sized_size}
+use Rattle.bp_cow.proofs.RunWrites.{IsFileRun, sized_bytes, sized_changes, sized_size}
 use Rattle.pm_region.specs.Memory.{Memory, current_words}
 use Rattle.bp_calls.specs.TouchedAcross.{WritesAcross}
-use Rattle.bp_calls.specs.WritesFile.{WritesFile, written_byte}
-use Rattle.bp_calls.proofs.AcrossMiddle.{across_can, across_file, bound_here, bound_low, bound_other, held_back, left_free, middle_count, middle_cover, middle_formed, run_there, size_fronts, sizes_with, wider}
+use Rattle.bp_calls.specs.WritesFile.{WritesFile}
+use Rattle.bp_calls.proofs.AcrossMiddle.{across_can, across_file, bound_here, bound_low, bound_other, held_back, left_free, middle_count, middle_cover, middle_formed, middle_sets, run_there, size_fronts, sizes_with, wider}
 use Rattle.bp_calls.proofs.AcrossTouched.{across_copies, across_cover, across_end, across_needs, across_shape, across_words}
-use Rattle.bp_calls.proofs.SetLaws.{free_inodes_stay}
-use Rattle.bp_calls.proofs.WriteBehind.{given_inside, written_before, written_inside}
+use Rattle.bp_calls.proofs.RunCommits.{commit_exact, commit_writes_file, laid_past}
+use Rattle.bp_calls.proofs.WriteBehind.{given_inside}
 
 -- ---- one byte
 
@@ -46,20 +46,6 @@ small_take zero bytes small k = omega arith
 small_take (suc count) [] small k = omega arith
 small_take (suc count) (b ∷ bytes) small zero = small 0
 small_take (suc count) (b ∷ bytes) small (suc k) = small_take count bytes (λ j. small (suc j)) k
-
-module _ (run : Run) (o old : ℕ) where
-  run_before : o < run.off → run_byte run o old ≡ old
-  run_before less = rw (lt-leb run.off o less) refl
-
-  run_inside : run.off ≤ o → o < run_end run → run_byte run o old ≡ slice_index run.bytes.now (o - run.off)
-  run_inside low high = rw (le-leb run.off o low, lt-ltb o (run_end run) high) refl
-
-  run_behind : run_end run ≤ o → run_byte run o old ≡ old
-  run_behind past = rw (le-ltb o (run_end run) past) (go (nat_le run.off o))
-    where
-      go : (b : Bool) → (if b && false then slice_index run.bytes.now (o - run.off) else old) ≡ old
-      go true = refl
-      go false = refl
 
 -- ---- the call
 
@@ -116,39 +102,27 @@ module _ (old middle new : Memory) (blocks inodes after last : Set) (n off : ℕ
   size_was : size_of mid (suc n) ≡ size_of image (suc n)
   size_was = prepared.ready.sizes (suc n) across.can.reached
 
-  byte_is : (o : ℕ) → o < off + length bytes →
-      byte (current_words new) (root_of (current_words new) (suc n)) o ≡ written_byte off bytes (size_of image (suc n)) (byte image (root_of image (suc n))) o
+  -- each byte is that of the run, or the one that the preparation left
+  byte_is : (o : ℕ) → o < off + length bytes → byte (current_words new) (root_of (current_words new) (suc n)) o ≡ run_byte across.touches.run o (byte mid (root_of mid (suc n)) o)
   byte_is o low =
       sized_bytes mid (current_words new) bound wf_mid touched (has after) can across.touches.run n file (IsTurned (job_of touched) (length (commit_cover mid touched))) done.words grown o (omega (arith, low, size_is))
-      ∙ go (cases_lt o off) (cases_lt o (size_of image (suc n)))
-    where
-      end_is : run_end across.touches.run ≡ size_of image (suc n)
-      end_is = across_end old blocks inodes n off bytes touched across
 
-      go : (o < off) ⊎ (off ≤ o) → (o < size_of image (suc n)) ⊎ (size_of image (suc n) ≤ o) →
-          run_byte across.touches.run o (byte mid (root_of mid (suc n)) o) ≡ written_byte off bytes (size_of image (suc n)) (byte image (root_of image (suc n))) o
-      go (inl before) any =
-          run_before across.touches.run o (byte mid (root_of mid (suc n)) o) (omega (arith, before, across.touches.from))
-          ∙ prepared.ready.kept o (omega (arith, before, across.below))
-          ∙ sym (written_before off bytes (size_of image (suc n)) (byte image (root_of image (suc n))) o before (omega (arith, before, across.below)))
-      go (inr inside) (inl below) =
-          run_inside across.touches.run o (byte mid (root_of mid (suc n)) o) (omega (arith, inside, across.touches.from)) (omega (arith, below, end_is))
-          ∙ ap (λ (bs : List ℕ). slice_index bs (o - across.touches.run.off)) across.touches.bytes_are ∙ ap (λ f. slice_index (take (size_of image (suc n) - off) bytes) (o - f)) across.touches.from
-          ∙ get_or-take (size_of image (suc n) - off) bytes (o - off) 0 (omega (arith, inside, below))
-          ∙ sym (written_inside off bytes (size_of image (suc n)) (byte image (root_of image (suc n))) o inside low)
-      go (inr inside) (inr past) =
-          let at : size_of image (suc n) - off + (o - size_of image (suc n)) ≡ o - off = omega (arith, past, across.below) in
-          run_behind across.touches.run o (byte mid (root_of mid (suc n)) o) (omega (arith, past, end_is))
-          ∙ prepared.ready.bytes_are o past low ∙ given_inside (size_of image (suc n)) (drop (size_of image (suc n) - off) bytes) o past
-          ∙ get_or-drop (size_of image (suc n) - off) bytes (o - size_of image (suc n)) 0 ∙ ap (slice_index bytes) at
-          ∙ sym (written_inside off bytes (size_of image (suc n)) (byte image (root_of image (suc n))) o inside low)
+  behind : (o : ℕ) → size_of image (suc n) ≤ o → o < off + length bytes → byte (current_words new) (root_of (current_words new) (suc n)) o ≡ slice_index bytes (o - across.touches.run.off)
+  behind o past low =
+      let at : size_of image (suc n) - off + (o - size_of image (suc n)) ≡ o - across.touches.run.off = omega (arith, past, across.below, across.touches.from) in
+      byte_is o low
+      ∙ laid_past across.touches.run o (byte mid (root_of mid (suc n)) o) (omega (arith, past, across_end old blocks inodes n off bytes touched across))
+      ∙ prepared.ready.bytes_are o past low ∙ given_inside (size_of image (suc n)) (drop (size_of image (suc n) - off) bytes) o past
+      ∙ get_or-drop (size_of image (suc n) - off) bytes (o - size_of image (suc n)) 0 ∙ ap (slice_index bytes) at
 
   pub across_writes : WritesFile (suc n) off bytes (current_words old) (current_words new)
-  across_writes = record {
-    changes = changes;
-    size = omega (arith, size_is, across.past);
-    bytes_are = λ o low. byte_is o (omega (arith, low, size_is));
-  }
+  across_writes =
+      subst (λ f. WritesFile (suc n) f bytes image (current_words new)) across.touches.from
+      (commit_writes_file image (current_words new) (suc n) across.touches.run bytes changes
+      (across.touches.bytes_are ∙ ap (λ f. take (size_of image (suc n) - f) bytes) (sym across.touches.from)) (omega (arith, across.below, across.touches.from))
+      (omega (arith, size_is, across.past, across.touches.from))
+      (λ o low. byte_is o (omega (arith, low, across.past)) ∙ ap (run_byte across.touches.run o) (prepared.ready.kept o low))
+      (λ o past low. behind o past (omega (arith, low, size_is))))
 
   -- ---- the stores
 
@@ -197,26 +171,6 @@ module _ (old middle new : Memory) (blocks inodes after last : Set) (n off : ℕ
       go (inl e) = rw e (size_is ∙ sym bound_is)
       go (inr other) = changes_mid.size t reached other ∙ sym (bound_other old middle blocks inodes after n off bytes touched across prepared t other)
 
-  held : (b : ℕ) → IsLiveBlock (current_words new) b → HoldsBlock (current_words new) (IsReached mid) bound b
-  held b one =
-      let reached : IsReached mid one.tree = changed.reached-back mid (current_words new) (suc n) wf_mid changes_mid one.tree one.reached in
-      record { tree = one.tree; reached = reached; has = wider (current_words new) (root_of (current_words new) one.tree) (size_of (current_words new) one.tree) (bound one.tree) b (omega (arith, bounds one.tree reached)) one.has }
-
-  lives : (b : ℕ) → HoldsBlock (current_words new) (IsReached mid) bound b → IsLiveBlock (current_words new) b
-  lives b one = record {
-    tree = one.tree;
-    reached = changed.reached-on mid (current_words new) (suc n) wf_mid changes_mid one.tree one.reached;
-    has = wider (current_words new) (root_of (current_words new) one.tree) (bound one.tree) (size_of (current_words new) one.tree) b (omega (arith, bounds one.tree one.reached)) one.has;
-  }
-
-  pub across_exact : length last ≡ length blocks → AreExact (current_words new) last inodes
-  across_exact room = record {
-    block_room = rw changes.trees.whole (room ∙ across.can.exact.block_room);
-    inode_room = rw changes.trees.whole across.can.exact.inode_room;
-    free_blocks = record {
-      free = λ b there. let free = done.exact.free b there in record { low = free.low; high = free.high; free = λ one. free.free (held b one) };
-      all = λ b free. done.exact.all b (record { low = free.low; high = free.high; free = λ one. free.free (lives b one) });
-    };
-    free_inodes = free_inodes_stay image (current_words new) (has inodes) (changes.size 0 inode_file (changed.not_zero image (current_words new) (suc n) wf changes))
-        (changed.reached-back image (current_words new) (suc n) wf changes) (changed.reached-on image (current_words new) (suc n) wf changes) across.can.exact.free_inodes;
-  }
+  pub across_exact : length last ≡ length after → length after ≡ length blocks → AreExact (current_words new) last inodes
+  across_exact same room =
+      commit_exact mid (current_words new) (suc n) wf_mid changes_mid bound bounds after last inodes (middle_sets old middle blocks inodes after n off bytes touched across prepared room) same done.exact

@@ -23,6 +23,7 @@ use Rattle.bp_tree.proofs.Digits.{length-digits}
 use Rattle.bp_tree.proofs.ExistingPaths.{number-digits}
 use Rattle.bp_tree.proofs.PerformsLaws.{has-behind}
 use Rattle.bp_shapes.specs.Forest.{along, tree_trail, IsForest, IsTreePointer}
+use Rattle.bp_shapes.specs.Sets.{AreExactFor}
 use Rattle.bp_shapes.specs.Trail.{Trail, trail_of}
 use Rattle.bp_shapes.proofs.FreeSets.{content_fronts, content_no_pointer, wf_forest}
 use Rattle.bp_shapes.proofs.PathTrails.{length-trail_of}
@@ -33,11 +34,11 @@ use Rattle.bp_cow.specs.declared.touched.Run.{Run}
 use Rattle.bp_cow.specs.declared.touched.Touched.{Touched}
 use Rattle.bp_cow.proofs.LeafCover.{IsSizedRun, leaf_cover, leaf_count, leaf_path}
 use Rattle.bp_cow.proofs.RunLaws.{length-run_path}
-use Rattle.bp_cow.proofs.RunSized.{IsFileRun}
-use Rattle.bp_cow.proofs.RunWrites.{digits_trail, root_path_trail}
+use Rattle.bp_cow.proofs.RunWrites.{IsFileRun, digits_trail, root_path_trail}
 use Rattle.pm_region.specs.Memory.{Memory, current_words}
 use Rattle.bp_calls.specs.TouchedAcross.{WritesAcross}
 use Rattle.bp_calls.proofs.AcrossTouched.{across_end, across_run, across_shape, across_some, across_words}
+use Rattle.bp_calls.proofs.SetLaws.{free_inodes_stay}
 use Rattle.bp_calls.proofs.TakenBlocks.{has_either, in_members, members_apart, of_members}
 
 -- the sizes that count: that of the touched word for its inode, and else those of the image
@@ -212,6 +213,15 @@ module _ (old middle : Memory) (blocks inodes after : Set) (n off : ℕ) (bytes 
           | inl early ↦ absurd (unheld.free (in_file_block b (prepared.ready.has_taken b early)))
           | inr late ↦ of_members after b late
         ];
+  }
+
+  -- so the sets are exact under these sizes
+  pub middle_sets : length after ≡ length blocks → AreExactFor (current_words middle) (IsReached (current_words middle)) (sizes_with (current_words middle) touched) after inodes
+  middle_sets room = record {
+    block_room = rw prepared.ready.meaning.whole (room ∙ across.can.exact.block_room);
+    inode_room = rw prepared.ready.meaning.whole across.can.exact.inode_room;
+    free_blocks = middle_exact;
+    free_inodes = free_inodes_stay image mid (has inodes) (prepared.ready.sizes 0 inode_file) back on across.can.exact.free_inodes;
   }
 
   -- ---- the paths

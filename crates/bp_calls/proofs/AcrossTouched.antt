@@ -29,6 +29,7 @@ use Rattle.bp_cow.proofs.FewCopies.{run_copies}
 use Rattle.bp_cow.proofs.LeafCover.{IsSizedRun, leaf_path, change_count, change_leaf, leaf_count, leaf_inside, one_word, sized_apart, sized_shape}
 use Rattle.pm_region.specs.Memory.{Memory, current_words}
 use Rattle.bp_calls.specs.TouchedAcross.{WritesAcross}
+use Rattle.bp_calls.proofs.RunCommits.{few_leaves}
 
 -- ---- the change
 
@@ -141,7 +142,7 @@ module _ (old : Memory) (blocks inodes : Set) (n off : ℕ) (bytes : List ℕ) (
 
   pub across_copies : (other : Image) → copied_count other touched ≤ 50
   across_copies other =
-      let few : run_leaves across.touches.run ≤ 17 = omega (arith, across_long, across.past, across.can.short) in
+      let few : run_leaves across.touches.run ≤ 17 = few_leaves across.touches.run (omega (arith, across_long, across.past, across.can.short)) in
       let most = run_copies other touched across_shape across_apart across.touches.run across.touches.one few in
       omega (arith, most, across_words)
 

@@ -19,3 +19,4 @@ pub use fault::CreateFault;
 pub use reading::{list, read, stat};
 pub use removing::remove;
 pub use resizing::truncate;
+pub use writing::write;

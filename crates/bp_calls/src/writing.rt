@@ -16,6 +16,7 @@ ghost use Rattle.pm_region.specs.Memory.{current_words};
 mod across;
 
 use crate::entering::tree_of;
+use crate::writing::across::write_across;
 use arrayvec::ArrayVec;
 use bp_append::{need_prep, prep};
 use bp_cow::{Run, Touched, commit, need_cover};
@@ -39,7 +40,7 @@ pub(crate) fn root_path<R: Region>(region: &R, i: u32) -> Slots
 /// # Errors
 ///
 /// Where fewer blocks are free than are needed.
-pub(crate) fn write_behind<R: Region>(
+fn write_behind<R: Region>(
     parts: &mut Parts<R>,
     i: u32,
     off: u64,
@@ -98,7 +99,7 @@ fn touched_below<'a, R: Region>(
 ///
 /// Where fewer blocks are free than are needed: one for each block on the ways to the bytes, from the word that covers
 /// them down, and none where they lie in one word.
-pub(crate) fn write_below<R: Region>(
+fn write_below<R: Region>(
     parts: &mut Parts<R>,
     i: u32,
     off: u64,
@@ -122,4 +123,30 @@ pub(crate) fn write_below<R: Region>(
     }
     commit(parts, &touched);
     Ok(())
+}
+
+/// Writes bytes into a file from an offset on, by one store alone in its epoch. The file reaches to the end of the bytes
+/// at least, with zeros where it had none.
+///
+/// # Errors
+///
+/// `NoSpace` exactly where fewer blocks are free than it needs: those for bytes past the size, and those that are copied
+/// for bytes below it. Nothing has changed then.
+pub fn write<R: Region>(parts: &mut Parts<R>, i: u32, off: u64, bytes: &[u8]) -> Result<(), NoSpace>
+    requires can { CanWrite (R.memory parts.old.region) parts.old.blocks parts.old.inodes i off bytes.now }
+    ensures performs { OnOk result (Performs (R.memory parts.old.region) (R.memory parts.new.region)
+        (writes i off (length bytes.now)) (WritesFile i off bytes.now)) }
+    ensures exact { AreExact (current_words (R.memory parts.new.region)) parts.new.blocks parts.new.inodes }
+    ensures refused { IfErr result (LacksSpace (current_words (R.memory parts.old.region))
+        (writes i off (length bytes.now))) }
+    ensures same { OnErr result (parts.new ≡ parts.old) }
+{
+    let size = tree_of(&parts.region, i).size;
+    if size <= off {
+        return write_behind(parts, i, off, bytes);
+    }
+    if off + bytes.len() as u64 <= size {
+        return write_below(parts, i, off, bytes);
+    }
+    write_across(parts, i, off, bytes)
 }

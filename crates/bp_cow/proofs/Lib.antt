@@ -30,5 +30,4 @@ pub mod RunTouched
 pub mod FewCopies
 pub mod RunThere
 pub mod RunWrites
-pub mod RunSized
 pub mod LeafCover

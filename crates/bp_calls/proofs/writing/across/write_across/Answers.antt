@@ -1,4 +1,4 @@
-use Rattle.std.proofs.Common.{◌≡◌, ℕ, ◌+◌, ◌-◌, ◌*◌, ◌<◌, ◌≤◌, List, drop, length, slice_index, ◌∙◌, arith}
+use Rattle.std.proofs.Common.{◌≡◌, ℕ, ◌+◌, ◌-◌, ◌*◌, ◌<◌, ◌≤◌, List, drop, length, slice_index, arith}
 use Rattle.pm_region.specs.Memory.{current_words}
 use Rattle.bp_append.specs.Prepared.{CanPrepare, PreparesWith}
 use Rattle.bp_free.specs.Set.{members}
@@ -87,7 +87,7 @@ returns-clause-performs g c =
     let prepared = at_prepared (g.R.Region.memory c.args.parts.now.region) c.args.parts.now.blocks c.args.parts.now.inodes c.args.off c.args.bytes.now c.touched_across-touched.result (g.R.Region.memory c.prep.new.parts.region) c.prep.new.parts.blocks
     c.args.i c.tree_of-tree.result.size c.split_at.result.1.now c.tree_of-tree.ensures.size c.split_at.ensures.back (c.prep.ensures.prepares c.args.i can) in
     let done = at_done (g.R.Region.memory c.args.parts.now.region) c.args.parts.now.blocks c.args.parts.now.inodes c.args.off c.args.bytes.now c.touched_across-touched.result (g.R.Region.memory c.prep.new.parts.region) c.prep.new.parts.blocks
-    (g.R.Region.memory c.commit.new.parts.region) c.commit.new.parts.blocks c.args.i across prepared (λ k. omega (arith, c.type_inv.bytes k)) c.commit.ensures.commits (c.commit.ensures.size ∙ c.prep.ensures.room) in
+    (g.R.Region.memory c.commit.new.parts.region) c.commit.new.parts.blocks c.args.i across prepared (λ k. omega (arith, c.type_inv.bytes k)) c.commit.ensures.commits c.commit.ensures.size c.prep.ensures.room in
     done.0
 
 pub returns-clause-exact : goal.returns-clause-exact
@@ -103,5 +103,5 @@ returns-clause-exact g c =
     let prepared = at_prepared (g.R.Region.memory c.args.parts.now.region) c.args.parts.now.blocks c.args.parts.now.inodes c.args.off c.args.bytes.now c.touched_across-touched.result (g.R.Region.memory c.prep.new.parts.region) c.prep.new.parts.blocks
     c.args.i c.tree_of-tree.result.size c.split_at.result.1.now c.tree_of-tree.ensures.size c.split_at.ensures.back (c.prep.ensures.prepares c.args.i can) in
     let done = at_done (g.R.Region.memory c.args.parts.now.region) c.args.parts.now.blocks c.args.parts.now.inodes c.args.off c.args.bytes.now c.touched_across-touched.result (g.R.Region.memory c.prep.new.parts.region) c.prep.new.parts.blocks
-    (g.R.Region.memory c.commit.new.parts.region) c.commit.new.parts.blocks c.args.i across prepared (λ k. omega (arith, c.type_inv.bytes k)) c.commit.ensures.commits (c.commit.ensures.size ∙ c.prep.ensures.room) in
+    (g.R.Region.memory c.commit.new.parts.region) c.commit.new.parts.blocks c.args.i across prepared (λ k. omega (arith, c.type_inv.bytes k)) c.commit.ensures.commits c.commit.ensures.size c.prep.ensures.room in
     rw (c.commit.ensures.inodes, c.prep.ensures.inodes) done.1

@@ -1,12 +1,12 @@
 -- What calls that ask answer.
-use Rattle.std.proofs.Common.{◌≡◌, ◌≢◌, ℕ, zero, suc, ◌<◌, ◌≤◌, ◌-◌, ◌==◌, List, [], ◌∷◌, length, take, drop, min, Bool, true, false, not, Option, None, Some, refl, sym, ◌∙◌, ap, arith}
-use Rattle.std.specs.Prelude.{unwrap_or, nat_le, if◌then◌else◌}
+use Rattle.std.proofs.Common.{◌≡◌, ◌≢◌, ℕ, ◌≤◌, ◌==◌, List, [], ◌∷◌, take, drop, Bool, true, false, not, Option, None, Some, refl, sym, ◌∙◌, ap, arith}
+use Rattle.std.specs.Prelude.{unwrap_or, if◌then◌else◌}
 use Rattle.std.proofs.lemmas.Bool.{eqb-true, eqb-false}
 use Rattle.std.specs.FinMap.{get}
 use Rattle.std.proofs.lemmas.List.FromFn.{length-map-range_with_len}
 use Rattle.bp_layout.specs.Words.{Image}
-use Rattle.bp_layout.specs.Tree.{byte, content}
-use Rattle.bp_layout.specs.Inode.{kind_of, root_of, size_of, inode_count}
+use Rattle.bp_layout.specs.Tree.{content}
+use Rattle.bp_layout.specs.Inode.{kind_of, root_of, size_of}
 use Rattle.bp_layout.specs.Directory.{Name}
 use Rattle.bp_layout.specs.Reached.{IsReached}
 use Rattle.bp_layout.specs.Lookup.{Path, lookup}
@@ -22,17 +22,21 @@ use Rattle.bp_plain.specs.Plain.{walk, refusal, on_parsed, first, when, listing,
 use Rattle.bp_layout.specs.WellFormed.{IsWellFormed}
 use Rattle.bp_dirs.specs.Names.{name_count}
 use Rattle.bp_volume.specs.Step.{PathFinds}
-use Rattle.bp_volume.specs.Told.{Tells, StopsWalk}
+use Rattle.bp_volume.specs.Told.{Tells, StopsAtFile, StopsWalk}
 use Rattle.bp_volume.proofs.WalkLaws.{some_inode, reached_at, node_at, dir_at, walk-found}
 use Rattle.bp_volume.proofs.EntryLaws.{length-entries}
 use Rattle.bp_calls.specs.Asked.{stat_of}
 use Rattle.bp_calls.proofs.ReadingLaws.{IsInode, inode_reached, length-seen}
 use Rattle.bp_volume.specs.Seen.{stat_seen}
-use Rattle.bp_volume.proofs.StepLaws.{refused_steps, answer_steps, memory_steps, refusal-list_stopped, refusal-list_walked, refusal-read_stopped, refusal-read_walked}
+use Rattle.bp_volume.proofs.StepLaws.{refused_steps, answer_steps, memory_steps, refusal-list_stopped, refusal-list_walked, refusal-read_walked}
 
 module _ (image : Image) (wf : IsWellFormed image) where
   pub at_reached : (text : List ℕ) (i : ℕ) → PathFinds image text i → IsReached image i
   at_reached text i at = reached_at image wf at.path i at.inode
+
+  -- what a path finds is an inode
+  pub inode_found : (path : Path) (i : ℕ) → lookup image path ≡ Some i → IsInode image wf i
+  inode_found path i found = inode_reached image wf i (reached_at image wf path i found) (let some : i ≢ 0 = some_inode image wf path i found in omega arith)
 
   pub at_low : (text : List ℕ) (i : ℕ) → PathFinds image text i → 1 ≤ i
   at_low text i at = let some : i ≢ 0 = some_inode image wf at.path i at.inode in omega arith
@@ -71,8 +75,8 @@ module _ (image : Image) (text : List ℕ) where
   pub list_stops : (why : Refusal) → StopsWalk image text why → Tells image (list text) (refused why)
   list_stops why stops tree stands = refused_steps image tree (list text) why (refusal-list_stopped tree text why (stops tree stands))
 
-  pub read_stops : (off len : ℕ) (why : Refusal) → StopsWalk image text why → Tells image (read text off len) (refused why)
-  read_stops off len why stops tree stands = refused_steps image tree (read text off len) why (refusal-read_stopped tree text off len why (stops tree stands))
+  pub read_stops : (off len : ℕ) (why : Refusal) → StopsAtFile image text why → Tells image (read text off len) (refused why)
+  read_stops off len why stops tree stands = refused_steps image tree (read text off len) why (stops tree stands)
 
   module _ (i : ℕ) (at : PathFinds image text i) where
     path_is : path_of text ≡ at.path
@@ -108,9 +112,6 @@ module _ (image : Image) (text : List ℕ) where
     refusal_of_read off len tree stands =
         refusal-read_walked tree text off len at.path at.parsed (walk-found image tree stands at.path i at.inode)
         ∙ ap (λ b. first (when b is_dir ∷ [])) (dir_at image tree stands at.path i at.inode)
-
-    pub read_directory : (off len : ℕ) → kind_of image i ≡ 2 → Tells image (read text off len) (refused is_dir)
-    read_directory off len kind tree stands = refused_steps image tree (read text off len) is_dir (refusal_of_read off len tree stands ∙ ap (λ k. first (when (k == 2) is_dir ∷ [])) kind)
 
     pub read_tells : (off len : ℕ) (told : List ℕ) → kind_of image i ≡ 1 → told ≡ take len (drop off (content image (root_of image i) (size_of image i))) → Tells image (read text off len) (bytes told)
     read_tells off len told kind says tree stands =

@@ -6,6 +6,8 @@ pub mod FileCallLaws
 pub mod CreateLaws
 pub mod AskingLaws
 pub mod ChangeLaws
+pub mod FewBlocks
+pub mod FileLaws
 pub mod CarriedLaws
 pub mod LaidLaws
 pub mod WalkingLaws

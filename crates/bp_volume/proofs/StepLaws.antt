@@ -65,10 +65,7 @@ module _ (tree : FileTree) (text : List ℕ) where
       ap (λ o. on_parsed o (λ p. first (walk tree p ∷ when (not (is_dir_at tree p)) not_dir ∷ []))) parsed
       ∙ ap (λ o. first (o ∷ when (not (is_dir_at tree path)) not_dir ∷ [])) walked
 
-  -- that of a read, and then that of a directory
-  pub refusal-read_stopped : (off len : ℕ) (why : Refusal) → on_path text (walk tree) ≡ Some why → refusal tree (read text off len) ≡ Some why
-  refusal-read_stopped off len why stops = walk_first (λ p. when (is_dir_at tree p) is_dir ∷ []) why stops
-
+  -- that of a directory, behind the walk of a read
   pub refusal-read_walked : (off len : ℕ) (path : Path) → parse text ≡ Some path → walk tree path ≡ None → refusal tree (read text off len) ≡ first (when (is_dir_at tree path) is_dir ∷ [])
   refusal-read_walked off len path parsed walked =
       ap (λ o. on_parsed o (λ p. first (walk tree p ∷ when (is_dir_at tree p) is_dir ∷ []))) parsed

@@ -11,12 +11,12 @@ use Rattle.bp_layout.specs.Directory.{Name, IsName, slot_named}
 use Rattle.bp_layout.specs.Lookup.{Path, lookup}
 use Rattle.bp_layout.specs.PathText.{is_name, parse}
 use Rattle.bp_plain.specs.Calls.{Refusal}
-use Rattle.bp_plain.specs.Calls.Refusal.{exists}
-use Rattle.bp_plain.specs.Plain.{on_parsed, walk, parent_of}
+use Rattle.bp_plain.specs.Calls.Refusal.{exists, is_dir}
+use Rattle.bp_plain.specs.Plain.{on_parsed, first, when, is_dir_at, walk, parent_of}
 use Rattle.bp_path.specs.Walk.{Walked, walk_from, in_directory}
 use Rattle.bp_volume.specs.Step.{IsNewIn, last_of}
-use Rattle.bp_volume.specs.Told.{StopsWalk, RefusesNew, refusal_of_new, refusal_of_walk}
-use Rattle.bp_volume.proofs.WalkLaws.{walk-image, walk_parent-image}
+use Rattle.bp_volume.specs.Told.{StopsWalk, RefusesFile, RefusesNew, RefusesWalk, refusal_of_new, refusal_of_walk}
+use Rattle.bp_volume.proofs.WalkLaws.{walk-image, walk-found, walk_parent-image, dir_at}
 use Rattle.bp_volume.proofs.CreateLaws.{create_stopped, create_there}
 
 -- ---- the form of a name
@@ -47,10 +47,17 @@ name_form name e =
 
 -- ---- walks that stop
 
-pub walk_stops : (image : Image) (text : List ℕ) (path : Path) (walked : Walked) (why : Refusal) → parse text ≡ Some path → walked ≡ walk_from image 1 path → refusal_of_walk walked ≡ Some why →
-    StopsWalk image text why
-walk_stops image text path walked why parsed is told tree stands =
-    ap (λ o. on_parsed o (walk tree)) parsed ∙ walk-image image tree stands path ∙ ap refusal_of_walk (sym is) ∙ told
+pub walk_ends : (image : Image) (path : Path) (walked : Walked) (why : Refusal) → walked ≡ walk_from image 1 path → refusal_of_walk walked ≡ Some why → RefusesWalk image path why
+walk_ends image path walked why is told tree stands = walk-image image tree stands path ∙ ap refusal_of_walk (sym is) ∙ told
+
+pub walk_stops : (image : Image) (text : List ℕ) (path : Path) (why : Refusal) → parse text ≡ Some path → RefusesWalk image path why → StopsWalk image text why
+walk_stops image text path why parsed ends tree stands = ap (λ o. on_parsed o (walk tree)) parsed ∙ ends tree stands
+
+-- a directory stands where a file is wanted
+pub no_file : (image : Image) (path : Path) (i : ℕ) → lookup image path ≡ Some i → kind_of image i ≡ 2 → RefusesFile image path is_dir
+no_file image path i found kind tree stands =
+    ap (λ o. first (o ∷ when (is_dir_at tree path) is_dir ∷ [])) (walk-found image tree stands path i found)
+    ∙ ap (λ b. first (when b is_dir ∷ [])) (dir_at image tree stands path i found ∙ ap (λ k. k == 2) kind)
 
 pub parent_stops : (image : Image) (path : Path) (walked : Walked) (why : Refusal) → path ≢ [] → walked ≡ in_directory image (walk_from image 1 (parent_of path)) → refusal_of_walk walked ≡ Some why → RefusesNew image path why
 parent_stops image path walked why below is told tree stands =

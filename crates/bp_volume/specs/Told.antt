@@ -6,8 +6,8 @@ use Rattle.bp_layout.specs.Lookup.{Path}
 use Rattle.bp_plain.specs.PlainTree.{FileTree}
 use Rattle.bp_plain.specs.Stands.{Stands}
 use Rattle.bp_plain.specs.Calls.{Call, Answer, Refusal}
-use Rattle.bp_plain.specs.Plain.{on_path, refusal, walk, walk_parent, first, when, is_root_path}
-use Rattle.bp_plain.specs.Calls.Refusal.{not_found, not_dir, exists}
+use Rattle.bp_plain.specs.Plain.{on_path, refusal, walk, walk_parent, first, when, is_dir_at, is_root_path}
+use Rattle.bp_plain.specs.Calls.Refusal.{not_found, not_dir, is_dir, exists}
 use Rattle.bp_path.specs.Walk.{Walked}
 use Rattle.bp_path.specs.Walk.Walked.{found, missing, in_file}
 use Rattle.bp_volume.specs.Step.{Steps}
@@ -30,6 +30,22 @@ StopsWalk image text why = (tree : FileTree) → Stands image tree → on_path t
 -- the plain call is refused so
 abbrev pub Refuses : Image → Call → Refusal → Type 0
 Refuses image call why = (tree : FileTree) → Stands image tree → refusal tree call ≡ Some why
+
+-- the walk to the path ends so
+abbrev pub RefusesWalk : Image → Path → Refusal → Type 0
+RefusesWalk image path why = (tree : FileTree) → Stands image tree → walk tree path ≡ Some why
+
+-- the refusals that a call on a file at a path may meet, in order
+abbrev pub refusal_of_file : FileTree → Path → Option Refusal
+refusal_of_file tree path = first (walk tree path ∷ when (is_dir_at tree path) is_dir ∷ [])
+
+-- a call on a file at the path is refused so
+abbrev pub RefusesFile : Image → Path → Refusal → Type 0
+RefusesFile image path why = (tree : FileTree) → Stands image tree → refusal_of_file tree path ≡ Some why
+
+-- the text is no path, or a call on a file there is refused so
+abbrev pub StopsAtFile : Image → List ℕ → Refusal → Type 0
+StopsAtFile image text why = (tree : FileTree) → Stands image tree → on_path text (refusal_of_file tree) ≡ Some why
 
 -- the refusals that a new file at a path may meet, in order
 abbrev pub refusal_of_new : FileTree → Path → Option Refusal

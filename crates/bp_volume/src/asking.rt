@@ -8,7 +8,7 @@ ghost use Rattle.bp_volume.specs.Step.{PathFinds};
 ghost use Rattle.bp_volume.specs.Told.{Tells};
 ghost use Rattle.pm_region.specs.Memory.{current_words};
 
-use crate::walking::inode_at;
+use crate::walking::{file_at, inode_at};
 use bp_calls::{list, read, stat};
 use bp_inodes::get;
 use bp_layout::{Kind, Listing, Stat};
@@ -53,27 +53,6 @@ pub(crate) fn list_at<R: Region>(alloc: Global, region: &R, text: &[u8]) -> Resu
     }
 }
 
-/// Reads bytes of the file at a path text, which has inode `i`.
-fn read_inode<R: Region>(
-    region: &R,
-    text: &[u8],
-    i: u32,
-    off: u64,
-    into: &mut [u8],
-) -> Result<usize, FsError>
-    requires well_formed { IsWellFormed (current_words (R.memory region.now)) }
-    requires at { PathFinds (current_words (R.memory region.now)) text.now i }
-    ensures told { Tells (current_words (R.memory region.now)) (read text.now off (length into.old)) (read_answer result into.new) }
-    ensures fits { IfOk result (λ count. count ≤ length into.new) }
-    ensures rest { IfOk result (λ count. drop count into.new ≡ drop count into.old) }
-    ensures unread { OnErr result (into.new ≡ into.old) }
-{
-    match get(region, i).kind {
-        Kind::File => Ok(read(region, i, off, into)),
-        Kind::Dir => Err(FsError::IsDir),
-    }
-}
-
 /// What `read` answers.
 pub(crate) fn read_at<R: Region>(
     region: &R,
@@ -87,8 +66,8 @@ pub(crate) fn read_at<R: Region>(
     ensures rest { IfOk result (λ count. drop count into.new ≡ drop count into.old) }
     ensures unread { OnErr result (into.new ≡ into.old) }
 {
-    match inode_at(region, text) {
-        Ok(i) => read_inode(region, text, i, off, into),
+    match file_at(region, text) {
+        Ok(file) => Ok(read(region, file.inumber, off, into)),
         Err(error) => Err(error),
     }
 }

@@ -4,13 +4,16 @@
 mod asking;
 mod creating;
 mod laying;
+mod refusing;
 mod replying;
+mod resizing;
 mod sets;
 mod space;
 #[cfg(test)]
 mod tests;
 mod volume;
 mod walking;
+mod writing;
 
 pub use bp_scan::MountFault;
 pub use laying::lay_out;

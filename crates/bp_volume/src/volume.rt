@@ -7,7 +7,7 @@ ghost use Rattle.bp_layout.specs.Words.{block_count};
 ghost use Rattle.bp_limits.specs.Limits.{call_room, max_blocks, min_blocks};
 ghost use Rattle.pm_region.specs.Memory.{current_words, drained, room_in, with_room};
 ghost use Rattle.bp_limits.specs.Limits.{max_read};
-ghost use Rattle.bp_plain.specs.Calls.Call.{create, list, read, stat};
+ghost use Rattle.bp_plain.specs.Calls.Call.{create, list, read, stat, truncate, write};
 ghost use Rattle.bp_plain.specs.PlainTree.{empty_tree};
 ghost use Rattle.bp_plain.specs.Seen.{call_of};
 ghost use Rattle.bp_plain.specs.Stands.{Stands};
@@ -21,8 +21,10 @@ use crate::asking::{list_at, read_at, stat_at};
 use crate::creating::create_at;
 use crate::laying::lay_out;
 use crate::replying::{tell_done, tell_list, tell_read, tell_stat};
+use crate::resizing::truncate_at;
 use crate::sets::Sets;
 use crate::space::Space;
+use crate::writing::write_at;
 use bp_free::Parts;
 use bp_layout::{Listing, Stat};
 use bp_limits::CALL_ROOM;
@@ -146,6 +148,40 @@ impl<R: Region> Volume<R> {
         made
     }
 
+    /// Writes bytes into the file at a path, from byte `off` on. Between its end and `off` it gets zeros. With no bytes the file
+    /// stays as it is, whatever `off` is.
+    ///
+    /// # Errors
+    ///
+    /// `BadPath` where the text is no path; `TooLong` where there are more than 65,536 bytes; `NotFound` or `NotDir` at the
+    /// first name on the way that is missing, or is sought in a file; `IsDir` where a directory stands there; `TooBig` where
+    /// there are bytes, and the last would lie past the greatest size of a file; and last `NoSpace` where fewer blocks are
+    /// free than the write needs. Nothing has changed then.
+    pub fn write(&mut self, path: &[u8], off: u64, bytes: &[u8]) -> Result<(), FsError>
+        ensures { FileCall self.old (write path.now off bytes.now) (unit_answer result) self.new }
+    {
+        self.make_room();
+        let made = write_at(&mut self.parts, path, off, bytes);
+        self.parts.region.mark();
+        made
+    }
+
+    /// Gives the file at a path another size in bytes: it is cut off there, or gets zeros behind its end.
+    ///
+    /// # Errors
+    ///
+    /// `BadPath` where the text is no path; `NotFound` or `NotDir` at the first name on the way that is missing, or is sought
+    /// in a file; `IsDir` where a directory stands there; `TooBig` where the size is above the greatest of a file; and last
+    /// `NoSpace` where fewer blocks are free than a higher tree needs. Nothing has changed then.
+    pub fn truncate(&mut self, path: &[u8], size: u64) -> Result<(), FsError>
+        ensures { FileCall self.old (truncate path.now size) (unit_answer result) self.new }
+    {
+        self.make_room();
+        let made = truncate_at(&mut self.parts, path, size);
+        self.parts.region.mark();
+        made
+    }
+
     /// Reads bytes of the file at a path from an offset on, as many as `into` has room for and the file has there, and says
     /// how many these are. There are none at and past the end of the file. The rest of `into` stays as it was.
     ///
@@ -203,6 +239,8 @@ impl<R: Region> Volume<R> {
             Call::List(path) => tell_list(reply, self.list(alloc, path)),
             Call::Stat(path) => tell_stat(reply, self.stat(path)),
             Call::Read { path, off, len } => self.apply_read(path, *off, *len, reply),
+            Call::Write { path, off, bytes } => tell_done(reply, self.write(path, *off, bytes)),
+            Call::Truncate { path, size } => tell_done(reply, self.truncate(path, *size)),
         }
     }
 

@@ -2,7 +2,8 @@
 
 ghost use Rattle.std.specs.Prelude.{◌≡◌, ◌≢◌, ◌≤◌, IfErr, IfOk, Some, [], is_some, length};
 ghost use Rattle.bp_layout.specs.Directory.{slot_named};
-ghost use Rattle.bp_layout.specs.Inode.{kind_of};
+ghost use Rattle.bp_layout.specs.Inode.{kind_of, size_of};
+ghost use Rattle.bp_layout.specs.Lookup.{lookup};
 ghost use Rattle.bp_limits.specs.Limits.{max_name};
 ghost use Rattle.bp_layout.specs.Reached.{IsReached};
 ghost use Rattle.bp_layout.specs.WellFormed.{IsWellFormed};
@@ -10,11 +11,12 @@ ghost use Rattle.bp_path.specs.Places.{fault_of};
 ghost use Rattle.bp_plain.specs.Calls.Call.{create};
 ghost use Rattle.bp_plain.specs.Seen.{refusal_of};
 ghost use Rattle.bp_volume.specs.Step.{PathFinds, IsNewIn, NamesNew};
-ghost use Rattle.bp_volume.specs.Told.{Refuses, RefusesNew, StopsWalk, refusal_of_walk};
+ghost use Rattle.bp_volume.specs.Told.{Refuses, RefusesFile, RefusesNew, RefusesWalk, StopsAtFile, StopsWalk, refusal_of_walk};
 ghost use Rattle.pm_region.specs.Memory.{current_words};
 
 use bp_dirs::find;
 use bp_inodes::get;
+use bp_layout::Kind;
 use bp_path::{Path, WalkFault, parse, walk, walk_parent};
 use bp_plain::FsError;
 use bp_tree::Tree;
@@ -29,6 +31,15 @@ pub(crate) struct NewName<'a> {
     pub name: &'a [u8],
 }
 
+/// A file that a path finds.
+#[derive(Clone, Copy)]
+pub(crate) struct FoundFile {
+    /// The number of its inode.
+    pub inumber: u32,
+    /// Its size in bytes.
+    pub size: u64,
+}
+
 /// The refusal of a call whose path leads nowhere.
 fn refused(fault: WalkFault) -> FsError
     ensures { refusal_of_walk (fault_of fault) ≡ Some (refusal_of result) }
@@ -39,6 +50,18 @@ fn refused(fault: WalkFault) -> FsError
     }
 }
 
+/// The inode at a path.
+pub(crate) fn inode_on<R: Region>(region: &R, path: &Path<'_>) -> Result<u32, FsError>
+    requires { IsWellFormed (current_words (R.memory region.now)) }
+    ensures found { IfOk result (λ i. lookup (current_words (R.memory region.now)) path.now ≡ Some i) }
+    ensures stopped { IfErr result (λ e. RefusesWalk (current_words (R.memory region.now)) path.now (refusal_of e)) }
+{
+    match walk(region, path) {
+        Ok(place) => Ok(place.inumber),
+        Err(fault) => Err(refused(fault)),
+    }
+}
+
 /// The inode at a path text.
 pub(crate) fn inode_at<R: Region>(region: &R, text: &[u8]) -> Result<u32, FsError>
     requires { IsWellFormed (current_words (R.memory region.now)) }
@@ -46,9 +69,49 @@ pub(crate) fn inode_at<R: Region>(region: &R, text: &[u8]) -> Result<u32, FsErro
     ensures stopped { IfErr result (λ e. StopsWalk (current_words (R.memory region.now)) text.now (refusal_of e)) }
 {
     match parse(text) {
-        Ok(path) => match walk(region, &path) {
-            Ok(place) => Ok(place.inumber),
-            Err(fault) => Err(refused(fault)),
+        Ok(path) => match inode_on(region, &path) {
+            Ok(i) => Ok(i),
+            Err(error) => Err(error),
+        },
+        Err(_) => Err(FsError::BadPath),
+    }
+}
+
+/// The file at a path.
+pub(crate) fn file_on<R: Region>(region: &R, path: &Path<'_>) -> Result<FoundFile, FsError>
+    requires { IsWellFormed (current_words (R.memory region.now)) }
+    ensures found { IfOk result (λ file. lookup (current_words (R.memory region.now)) path.now ≡ Some file.inumber) }
+    ensures kind { IfOk result (λ file. kind_of (current_words (R.memory region.now)) file.inumber ≡ 1) }
+    ensures size { IfOk result (λ file. file.size ≡ size_of (current_words (R.memory region.now)) file.inumber) }
+    ensures refused { IfErr result (λ e. RefusesFile (current_words (R.memory region.now)) path.now (refusal_of e)) }
+{
+    match inode_on(region, path) {
+        Ok(i) => {
+            let inode = get(region, i);
+            match inode.kind {
+                Kind::File => Ok(FoundFile {
+                    inumber: i,
+                    size: inode.size,
+                }),
+                Kind::Dir => Err(FsError::IsDir),
+            }
+        }
+        Err(error) => Err(error),
+    }
+}
+
+/// The file at a path text.
+pub(crate) fn file_at<R: Region>(region: &R, text: &[u8]) -> Result<FoundFile, FsError>
+    requires { IsWellFormed (current_words (R.memory region.now)) }
+    ensures found { IfOk result (λ file. PathFinds (current_words (R.memory region.now)) text.now file.inumber) }
+    ensures kind { IfOk result (λ file. kind_of (current_words (R.memory region.now)) file.inumber ≡ 1) }
+    ensures size { IfOk result (λ file. file.size ≡ size_of (current_words (R.memory region.now)) file.inumber) }
+    ensures refused { IfErr result (λ e. StopsAtFile (current_words (R.memory region.now)) text.now (refusal_of e)) }
+{
+    match parse(text) {
+        Ok(path) => match file_on(region, &path) {
+            Ok(file) => Ok(file),
+            Err(error) => Err(error),
         },
         Err(_) => Err(FsError::BadPath),
     }

@@ -1,0 +1,223 @@
+-- A call needs few blocks, so that a log with room for a call keeps room for the mark.
+use Rattle.std.proofs.Common.{◌≡◌, ◌⊎◌, ℕ, zero, suc, ◌+◌, ◌-◌, ◌*◌, ◌/◌, ◌%◌, ◌<◌, ◌≤◌, List, [], ◌∷◌, ◌++◌, length, take, map, filter, Bool, true, false, not, ◌||◌, ◌==◌, refl, sym, ◌∙◌, ap, inl, inr, arith, append_assoc}
+use Rattle.std.specs.Prelude.{bytes_eq, if◌then◌else◌, flat_map, fold, nat_lt, min, max}
+use Rattle.std.specs.List.{range_with_len, list_any}
+use Rattle.std.proofs.lemmas.Bool.{cases_eq, cases_lt, le-ltb, ltb-true}
+use Rattle.std.proofs.lemmas.List.{length-append, length-map, length-take-le, take-append-le}
+use Rattle.std.proofs.lemmas.List.FromFn.{length-map-range_with_len}
+use Rattle.pm_region.specs.Memory.{Memory, current_words, room_in}
+use Rattle.pm_region.proofs.SafeLaws.{room_after_commit}
+use Rattle.bp_limits.specs.Limits.{call_room, max_height, max_write}
+use Rattle.bp_layout.specs.Inode.{root_of, size_of}
+use Rattle.bp_layout.specs.Need.{Beyond, Change, beyond, prepared_for, new_inodes, height_after, touched, content_path, inode_word_path, is_prefix, prefixes_from, prefixes_of, cover_of, is_there_after, need}
+use Rattle.bp_layout.specs.Need.Change.{writes, resizes}
+use Rattle.bp_layout.specs.Nodes.{TreeNode, height_with, nodes_for}
+use Rattle.bp_layout.specs.Reached.{IsReached}
+use Rattle.bp_layout.specs.Reached.IsReached.{inode_file}
+use Rattle.bp_layout.specs.Same.{Same}
+use Rattle.bp_layout.specs.WellFormed.{IsWellFormed}
+use Rattle.bp_layout.specs.WordPaths.{WordPath, digits}
+use Rattle.bp_layout.specs.Words.{Image, height_of}
+use Rattle.bp_layout.proofs.Below.{bytes_eq_self}
+use Rattle.bp_append.proofs.FewNeeded.{few_needed}
+use Rattle.bp_append.proofs.NeedLaws.{tall_low}
+use Rattle.bp_tree.specs.Performs.{Performs, most_stores}
+use Rattle.bp_tree.proofs.Digits.{length-digits}
+
+-- ---- copies
+
+filter_few : (p : WordPath → Bool) (xs : List WordPath) → length (filter p xs) ≤ length xs
+filter_few p [] = omega arith
+filter_few p (x ∷ xs) = go (p x) refl (filter_few p xs)
+  where
+    go : (b : Bool) → p x ≡ b → length (filter p xs) ≤ length xs → length (filter p (x ∷ xs)) ≤ length (x ∷ xs)
+    go true at rest = rw at (omega (arith, rest))
+    go false at rest = rw at (omega (arith, rest))
+
+-- a path copies as many blocks as it has slots, at most
+one_few : (shortest : ℕ) (earlier : List WordPath) (path : WordPath) → length (filter (λ prefix. not (list_any (is_prefix prefix) earlier)) (prefixes_from shortest path)) ≤ length path
+one_few shortest earlier path =
+    let few = filter_few (λ prefix. not (list_any (is_prefix prefix) earlier)) (prefixes_from shortest path) in
+    let many : length (prefixes_from shortest path) ≡ length path - shortest = length-map-range_with_len (λ n. take n path) shortest (length path - shortest) in
+    omega (arith, few, many)
+
+-- paths that begin alike share these prefixes
+shared_prefix : (n : ℕ) (front rest other : WordPath) → n ≤ length front → is_prefix (take n (front ++ rest)) (front ++ other) ≡ true
+shared_prefix n front rest other low =
+    let one : take n (front ++ rest) ≡ take n front = take-append-le n front rest low in
+    let two : take (length (take n front)) (front ++ other) ≡ take n front = ap (λ m. take m (front ++ other)) (length-take-le n front low) ∙ take-append-le n front other low in
+    ap (λ p. is_prefix p (front ++ other)) one ∙ ap (bytes_eq (take n front)) two ∙ bytes_eq_self (take n front)
+
+module _ (front rest other : WordPath) (earlier : List WordPath) where
+  abbrev is_new : WordPath → Bool
+  is_new prefix = not (list_any (is_prefix prefix) ((front ++ other) ∷ earlier))
+
+  new_from : (count from : ℕ) → length (filter is_new (map (λ n. take n (front ++ rest)) (range_with_len from count))) ≤ from + count - suc (length front)
+  new_from zero from = omega arith
+  new_from (suc count) from = go (cases_lt (length front) from) (new_from count (from + 1))
+    where
+      go : (length front < from) ⊎ (from ≤ length front) → length (filter is_new (map (λ n. take n (front ++ rest)) (range_with_len (from + 1) count))) ≤ from + 1 + count - suc (length front) →
+          length (filter is_new (map (λ n. take n (front ++ rest)) (range_with_len from (suc count)))) ≤ from + suc count - suc (length front)
+      go (inl past) few =
+          let all = filter_few is_new (map (λ n. take n (front ++ rest)) (range_with_len from (suc count))) in
+          let many : length (map (λ n. take n (front ++ rest)) (range_with_len from (suc count))) ≡ suc count = length-map-range_with_len (λ n. take n (front ++ rest)) from (suc count) in
+          omega (arith, all, many, past)
+      go (inr low) few =
+          let old : is_new (take from (front ++ rest)) ≡ false = ap (λ b. not (b || list_any (is_prefix (take from (front ++ rest))) earlier)) (shared_prefix from front rest other low) in
+          rw old (omega (arith, few))
+
+  -- so one more of them copies what it has of its own at most, but for its last slot
+  next_few : (shortest : ℕ) → length (filter is_new (prefixes_from shortest (front ++ rest))) ≤ length rest - 1
+  next_few shortest = go (cases_lt (length (front ++ rest)) shortest)
+    where
+      go : (length (front ++ rest) < shortest) ⊎ (shortest ≤ length (front ++ rest)) → length (filter is_new (prefixes_from shortest (front ++ rest))) ≤ length rest - 1
+      go (inl past) =
+          let none : length (front ++ rest) - shortest ≡ 0 = omega (arith, past) in
+          rw none (omega arith)
+      go (inr low) = omega (arith, new_from (length (front ++ rest) - shortest) shortest, low, length-append front rest)
+
+-- ---- a run of paths
+
+module _ (base : WordPath) (height : ℕ) (low : height ≤ 3) (shortest : ℕ) where
+  abbrev path : ℕ → WordPath
+  path k = base ++ digits (suc height) k
+
+  near : (k : ℕ) → suc k / 512 ≡ k / 512 → (earlier : List WordPath) → length (filter (λ prefix. not (list_any (is_prefix prefix) (path k ∷ earlier))) (prefixes_from shortest (path (suc k)))) ≤ 0
+  near k same earlier =
+      let one : path k ≡ (base ++ digits height (k / 512)) ++ k % 512 ∷ [] = sym (append_assoc base (digits height (k / 512)) (k % 512 ∷ [])) in
+      let two : path (suc k) ≡ (base ++ digits height (k / 512)) ++ suc k % 512 ∷ [] =
+      ap (λ q. base ++ (digits height q ++ suc k % 512 ∷ [])) same ∙ sym (append_assoc base (digits height (k / 512)) (suc k % 512 ∷ [])) in
+      rw (one, two) (next_few (base ++ digits height (k / 512)) (suc k % 512 ∷ []) (k % 512 ∷ []) earlier shortest)
+
+  step : (k : ℕ) (earlier : List WordPath) → length (filter (λ prefix. not (list_any (is_prefix prefix) (path k ∷ earlier))) (prefixes_from shortest (path (suc k)))) ≤ 3 * (suc k / 512 - k / 512)
+  step k earlier = go (cases_eq (suc k / 512) (k / 512))
+    where
+      go : (suc k / 512 ≡ k / 512) ⊎ (suc k / 512 ≡ k / 512 → ⊥) → length (filter (λ prefix. not (list_any (is_prefix prefix) (path k ∷ earlier))) (prefixes_from shortest (path (suc k)))) ≤ 3 * (suc k / 512 - k / 512)
+      go (inl same) = omega (arith, near k same earlier)
+      go (inr other) = omega (arith, next_few base (digits (suc height) (suc k)) (digits (suc height) k) earlier shortest, length-digits (suc height) (suc k), low, other)
+
+  module _ (rest : List WordPath) (most : ℕ) (few : (earlier : List WordPath) → length (prefixes_of shortest earlier rest) ≤ most) where
+    run_behind : (n k : ℕ) (earlier : List WordPath) → length (prefixes_of shortest (path k ∷ earlier) (map path (range_with_len (k + 1) n) ++ rest)) ≤ 3 * ((k + n) / 512 - k / 512) + most
+    run_behind zero k earlier = omega (arith, few (path k ∷ earlier))
+    run_behind (suc n) k earlier =
+        let next : k + 1 ≡ suc k = omega arith in
+        let behind : length (prefixes_of shortest (path (k + 1) ∷ path k ∷ earlier) (map path (range_with_len (k + 1 + 1) n) ++ rest)) ≤ 3 * ((k + 1 + n) / 512 - (k + 1) / 512) + most = run_behind n (k + 1) (path k ∷ earlier) in
+        let here : length (filter (λ prefix. not (list_any (is_prefix prefix) (path k ∷ earlier))) (prefixes_from shortest (path (k + 1)))) ≤ 3 * ((k + 1) / 512 - k / 512) = rw next (step k earlier) in
+        let both = length-append (filter (λ prefix. not (list_any (is_prefix prefix) (path k ∷ earlier))) (prefixes_from shortest (path (k + 1)))) (prefixes_of shortest (path (k + 1) ∷ path k ∷ earlier) (map path (range_with_len (k + 1 + 1) n) ++ rest)) in
+        omega (arith, behind, here, both)
+
+    -- a run of paths copies few blocks besides those of the first
+    run_few : (n k : ℕ) → length (prefixes_of shortest [] (map path (range_with_len k n) ++ rest)) ≤ length (path k) + 3 * ((k + n) / 512 - k / 512) + most
+    run_few zero k = omega (arith, few [])
+    run_few (suc n) k =
+        let behind = run_behind n k [] in
+        let here = one_few shortest [] (path k) in
+        let both = length-append (filter (λ prefix. not (list_any (is_prefix prefix) [])) (prefixes_from shortest (path k))) (prefixes_of shortest (path k ∷ []) (map path (range_with_len (k + 1) n) ++ rest)) in
+        omega (arith, behind, here, both)
+
+-- a path by itself
+alone_few : (shortest : ℕ) (earlier : List WordPath) (path : WordPath) → length (prefixes_of shortest earlier (path ∷ [])) ≤ length path
+alone_few shortest earlier path =
+    let few = one_few shortest earlier path in
+    let end = length-append (filter (λ prefix. not (list_any (is_prefix prefix) earlier)) (prefixes_from shortest path)) [] in
+    omega (arith, few, end)
+
+-- ---- heights and preparations
+
+module _ (image : Image) where
+  heights_low : (t : ℕ) → (0 < size_of image t → height_of (root_of image t) ≤ max_height) → (bytes : List Beyond) (height : ℕ) → height ≤ max_height →
+      fold (λ h b. if b.tree == t then height_with (root_of image t) (size_of image t) b.to else h) height bytes ≤ max_height
+  heights_low t low [] height fits = fits
+  heights_low t low (b ∷ bytes) height fits = heights_low t low bytes _ (go (b.tree == t))
+    where
+      go : (is : Bool) → (if is then height_with (root_of image t) (size_of image t) b.to else height) ≤ max_height
+      go true = tall_low (root_of image t) (size_of image t) b.to low
+      go false = fits
+
+  -- the blocks of the bytes of one call behind a size
+  prepared_few : (b : Beyond) → size_of image b.tree ≤ b.from → b.to ≤ b.from + max_write → (0 < size_of image b.tree → height_of (root_of image b.tree) ≤ max_height) → (is : Bool) →
+      length (flat_map (prepared_for image) (if is then b ∷ [] else [])) ≤ 27
+  prepared_few b behind close low false = omega arith
+  prepared_few b behind close low true =
+      let few = few_needed image (root_of image b.tree) (size_of image b.tree) b.from b.to close behind low in
+      let with_tree : TreeNode → ℕ × TreeNode = λ n. (b.tree, n) in
+      let same = length-map (nodes_for image (root_of image b.tree) (size_of image b.tree) b.from b.to) with_tree in
+      let end = length-append (prepared_for image b) [] in
+      omega (arith, few, same, end)
+
+  module _ (wf : IsWellFormed image) (change : Change) where
+    top_low : height_after image change 0 ≤ max_height
+    top_low =
+        let low : height_of (root_of image 0) ≤ max_height = (wf.sound 0 inode_file).low (omega (arith, wf.some_inodes)) in
+        heights_low 0 (wf.sound 0 inode_file).low (beyond image change ++ new_inodes image change) (height_of (root_of image 0)) low
+
+    height_low : (i : ℕ) → IsReached image i → 0 < size_of image i → height_after image change i ≤ max_height
+    height_low i reached some = heights_low i (wf.sound i reached).low (beyond image change ++ new_inodes image change) (height_of (root_of image i)) ((wf.sound i reached).low some)
+
+    inode_slots : (i f : ℕ) → length (inode_word_path image change i f) ≤ 4
+    inode_slots i f = omega (arith, length-digits (suc (height_after image change 0)) (8 * i + f), top_low)
+
+    -- the size word, where it is touched
+    size_few : (i shortest : ℕ) (earlier : List WordPath) (is : Bool) → length (prefixes_of shortest earlier (if is then inode_word_path image change i 2 ∷ [] else [])) ≤ 4
+    size_few i shortest earlier false = omega arith
+    size_few i shortest earlier true = omega (arith, alone_few shortest earlier (inode_word_path image change i 2), inode_slots i 2)
+
+-- ---- changes
+
+-- so many blocks leave room for a mark, where each takes as many stores as it has words
+abbrev pub IsFew : ℕ → Type 0
+IsFew needed = needed ≤ 121
+
+module _ (image : Image) (wf : IsWellFormed image) (i : ℕ) (reached : IsReached image i) where
+  -- a file of another size
+  pub few_resized : (size : ℕ) → IsFew (need image (resizes i size))
+  few_resized size = go (cases_lt (size_of image i) size)
+    where
+      copies : length (prefixes_of (length (cover_of (is_there_after image (resizes i size)) (touched image (resizes i size)))) [] (touched image (resizes i size))) ≤ 4
+      copies = omega (arith, alone_few (length (cover_of (is_there_after image (resizes i size)) (touched image (resizes i size)))) [] (inode_word_path image (resizes i size) i 2), inode_slots image wf (resizes i size) i 2)
+
+      go : (size_of image i < size) ⊎ (size ≤ size_of image i) → IsFew (need image (resizes i size))
+      go (inl longer) =
+          let prepares = prepared_few image (record { tree = i; from = size; to = size }) (omega (arith, longer)) (omega arith) (wf.sound i reached).low (nat_lt (size_of image i) size) in
+          omega (arith, prepares, copies)
+      go (inr no_longer) =
+          let none : length (flat_map (prepared_for image) (if nat_lt (size_of image i) size then record { tree = i; from = size; to = size } ∷ [] else [])) ≡ 0 = rw (le-ltb (size_of image i) size no_longer) refl in
+          omega (arith, none, copies)
+
+module _ (image : Image) (wf : IsWellFormed image) (n : ℕ) (reached : IsReached image (suc n)) (off len : ℕ) (short : len ≤ max_write) where
+  abbrev change : Change
+  change = writes (suc n) off len
+
+  abbrev last : ℕ
+  last = min (off + len) (size_of image (suc n)) - 1
+
+  copied_few : (shortest : ℕ) (below above : Bool) → nat_lt off (size_of image (suc n)) ≡ below →
+      length (prefixes_of shortest [] (map (content_path image change (suc n)) (if below then range_with_len (off / 8) (suc (last / 8 - off / 8)) else []) ++ (if above then inode_word_path image change (suc n) 2 ∷ [] else []))) ≤ 63
+  copied_few shortest false above at = omega (arith, size_few image wf change (suc n) shortest [] above)
+  copied_few shortest true above at =
+      let inside : off < size_of image (suc n) = ltb-true off (size_of image (suc n)) at in
+      let low : height_after image change (suc n) ≤ max_height = height_low image wf change (suc n) reached (omega (arith, inside)) in
+      let run = run_few (inode_word_path image change (suc n) 1) (height_after image change (suc n)) low shortest (if above then inode_word_path image change (suc n) 2 ∷ [] else []) 4
+      (λ earlier. size_few image wf change (suc n) shortest earlier above) (suc (last / 8 - off / 8)) (off / 8) in
+      let first : length (inode_word_path image change (suc n) 1 ++ digits (suc (height_after image change (suc n))) (off / 8)) ≡ length (inode_word_path image change (suc n) 1) + length (digits (suc (height_after image change (suc n))) (off / 8)) =
+      length-append (inode_word_path image change (suc n) 1) (digits (suc (height_after image change (suc n))) (off / 8)) in
+      let near : (off / 8 + suc (last / 8 - off / 8)) / 512 - off / 8 / 512 ≤ 17 = omega (arith, short, inside) in
+      omega (arith, run, first, near, low, inode_slots image wf change (suc n) 1, length-digits (suc (height_after image change (suc n))) (off / 8))
+
+  -- the bytes of one write
+  few_written : IsFew (need image (writes (suc n) off len))
+  few_written =
+      let prepares = prepared_few image (record { tree = suc n; from = max off (size_of image (suc n)); to = off + len }) (omega arith) (omega (arith, short)) (wf.sound (suc n) reached).low (nat_lt (size_of image (suc n)) (off + len)) in
+      let copies = copied_few (length (cover_of (is_there_after image change) (touched image change))) (nat_lt off (size_of image (suc n))) (nat_lt (size_of image (suc n)) (off + len)) refl in
+      omega (arith, prepares, copies)
+
+-- the same for any file
+pub few_writes : (image : Image) → IsWellFormed image → (i : ℕ) → 1 ≤ i → IsReached image i → (off len : ℕ) → len ≤ max_write → IsFew (need image (writes i off len))
+few_writes image wf zero low reached off len short = absurd (omega (arith, low))
+few_writes image wf (suc n) low reached off len short = few_written image wf n reached off len short
+
+-- few blocks leave room
+pub performs_room : (old new : Memory) (change : Change) (Effect : Image → Image → Type 0) → Performs old new change Effect → IsFew (need (current_words old) change) → call_room ≤ room_in old → 0 < room_in new
+performs_room old new change Effect performs few room =
+    let left = room_after_commit Same _ performs.value 8 (most_stores (need (current_words old) change)) old new performs.commit in
+    omega (arith, left, few, room)

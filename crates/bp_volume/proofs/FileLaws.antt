@@ -1,0 +1,173 @@
+-- Calls that change the file at a path: why they are refused, and what they make of the plain tree.
+use Rattle.std.proofs.Common.{◌≡◌, ◌≢◌, ℕ, ◌+◌, ◌≤◌, ◌<◌, ◌==◌, List, [], ◌∷◌, length, refl, sym, ◌∙◌, ap, ap₂, subst, Option, None, Some}
+use Rattle.std.specs.Prelude.{not, ◌&&◌, nat_lt, unwrap_or, if◌then◌else◌}
+use Rattle.std.proofs.lemmas.Bool.{lt-ltb, le-ltb, eq-eqb, ne_eqb}
+use Rattle.std.proofs.lemmas.List.FromFn.{length-map-range_with_len}
+use Rattle.bp_calls.specs.Resized.{GetsSize}
+use Rattle.bp_calls.specs.WritesFile.{GetsBytes}
+use Rattle.bp_layout.specs.Inode.{kind_of, root_of, size_of}
+use Rattle.bp_layout.specs.Lookup.{Path, lookup}
+use Rattle.bp_layout.specs.Lookup.Node.{dir, file}
+use Rattle.bp_layout.specs.Need.{Change, need}
+use Rattle.bp_layout.specs.Need.Change.{writes, resizes}
+use Rattle.bp_layout.specs.PathText.{parse}
+use Rattle.bp_layout.specs.Tree.{byte, content}
+use Rattle.bp_layout.specs.Words.{Image}
+use Rattle.bp_limits.specs.Limits.{max_size, max_write}
+use Rattle.bp_plain.specs.Calls.{Refusal}
+use Rattle.bp_plain.specs.Calls.Answer.{done, refused}
+use Rattle.bp_plain.specs.Calls.Call.{write, truncate}
+use Rattle.bp_plain.specs.Calls.Refusal.{is_dir, too_long, too_big}
+use Rattle.bp_plain.specs.Plain.{refusal, walk, on_path, on_parsed, first, when, is_dir_at, path_of, bytes_in, bytes_at, tree_after, with_bytes, written, resized}
+use Rattle.bp_plain.specs.PlainTree.{FileTree}
+use Rattle.bp_plain.specs.Stands.{Stands}
+use Rattle.bp_volume.specs.Step.{IsChange, IsLater, PathFinds}
+use Rattle.bp_volume.specs.Step.IsChange.{by_write, by_truncate}
+use Rattle.bp_volume.specs.Told.{Refuses, RefusesFile, StopsAtFile, Tells, refusal_of_file}
+use Rattle.bp_volume.proofs.ChangeLaws.{Makes}
+use Rattle.bp_volume.proofs.StepLaws.{refused_steps, answer_steps}
+use Rattle.bp_volume.proofs.WalkLaws.{node_at, dir_at, walk-found}
+
+-- ---- refusals by the path
+
+-- the first two of some refusals
+first_two : (one two : Option Refusal) (rest : List (Option Refusal)) (why : Refusal) → first (one ∷ two ∷ []) ≡ Some why → first (one ∷ two ∷ rest) ≡ Some why
+first_two (Some other) two rest why e = e
+first_two None (Some other) rest why e = e
+first_two None None rest why e = absurd (cc)
+
+module _ (tree : FileTree) (text : List ℕ) where
+  -- a call on a file is refused as any call there, whatever comes behind
+  file_first : (others : Path → List (Option Refusal)) (why : Refusal) → on_path text (refusal_of_file tree) ≡ Some why → on_path text (λ p. first (walk tree p ∷ when (is_dir_at tree p) is_dir ∷ others p)) ≡ Some why
+  file_first others why stops = go (parse text) stops
+    where
+      go : (o : Option Path) → on_parsed o (refusal_of_file tree) ≡ Some why → on_parsed o (λ p. first (walk tree p ∷ when (is_dir_at tree p) is_dir ∷ others p)) ≡ Some why
+      go None e = e
+      go (Some path) e = first_two (walk tree path) (when (is_dir_at tree path) is_dir) (others path) why e
+
+  -- those of a write of few enough bytes
+  refusal-write : (off : ℕ) (new : List ℕ) → length new ≤ max_write →
+      refusal tree (write text off new) ≡ on_path text (λ p. first (walk tree p ∷ when (is_dir_at tree p) is_dir ∷ when (nat_lt 0 (length new) && nat_lt max_size (off + length new)) too_big ∷ []))
+  refusal-write off new short =
+      ap (λ b. on_path text (λ p. first (when b too_long ∷ walk tree p ∷ when (is_dir_at tree p) is_dir ∷ when (nat_lt 0 (length new) && nat_lt max_size (off + length new)) too_big ∷ []))) (le-ltb max_write (length new) short)
+
+module _ (image : Image) (text : List ℕ) where
+  -- more bytes than a call writes
+  pub write_too_long : (off : ℕ) (new : List ℕ) (path : Path) → parse text ≡ Some path → max_write < length new → Refuses image (write text off new) too_long
+  write_too_long off new path parsed long tree stands =
+      ap (λ o. on_parsed o (λ p. first (when (nat_lt max_write (length new)) too_long ∷ walk tree p ∷ when (is_dir_at tree p) is_dir ∷ when (nat_lt 0 (length new) && nat_lt max_size (off + length new)) too_big ∷ []))) parsed
+      ∙ ap (λ b. first (when b too_long ∷ walk tree path ∷ when (is_dir_at tree path) is_dir ∷ when (nat_lt 0 (length new) && nat_lt max_size (off + length new)) too_big ∷ [])) (lt-ltb max_write (length new) long)
+
+  pub write_stops : (off : ℕ) (new : List ℕ) (path : Path) (why : Refusal) → parse text ≡ Some path → length new ≤ max_write → RefusesFile image path why → Refuses image (write text off new) why
+  write_stops off new path why parsed short stops tree stands =
+      refusal-write tree text off new short
+      ∙ file_first tree text (λ p. when (nat_lt 0 (length new) && nat_lt max_size (off + length new)) too_big ∷ []) why (ap (λ o. on_parsed o (refusal_of_file tree)) parsed ∙ stops tree stands)
+
+  pub truncate_stops : (size : ℕ) (why : Refusal) → StopsAtFile image text why → Tells image (truncate text size) (refused why)
+  truncate_stops size why stops tree stands =
+      refused_steps image tree (truncate text size) why (file_first tree text (λ p. when (nat_lt max_size size) too_big ∷ []) why (stops tree stands))
+
+-- ---- a file that the path finds
+
+module _ (image : Image) (text : List ℕ) (i : ℕ) (at : PathFinds image text i) (kind : kind_of image i ≡ 1) where
+  abbrev had : List ℕ
+  had = content image (root_of image i) (size_of image i)
+
+  had_length : length had ≡ size_of image i
+  had_length = length-map-range_with_len (byte image (root_of image i)) 0 (size_of image i)
+
+  path_is : path_of text ≡ at.path
+  path_is = ap (λ (o : Option Path). unwrap_or o []) at.parsed
+
+  -- the text spells no other path
+  same_file : (k : ℕ) → PathFinds image text k → k ≡ i
+  same_file k other =
+      let paths : ◌≡◌ {A = Option Path} (Some other.path) (Some at.path) = sym other.parsed ∙ at.parsed in
+      let same : other.path ≡ at.path = cc in
+      let found : ◌≡◌ {A = Option ℕ} (Some k) (Some i) = sym other.inode ∙ ap (lookup image) same ∙ at.inode in
+      cc
+
+  module _ (tree : FileTree) (stands : Stands image tree) where
+    behind : (others : Path → List (Option Refusal)) → on_path text (λ p. first (walk tree p ∷ when (is_dir_at tree p) is_dir ∷ others p)) ≡ first (others at.path)
+    behind others =
+        ap (λ o. on_parsed o (λ p. first (walk tree p ∷ when (is_dir_at tree p) is_dir ∷ others p))) at.parsed
+        ∙ ap (λ o. first (o ∷ when (is_dir_at tree at.path) is_dir ∷ others at.path)) (walk-found image tree stands at.path i at.inode)
+        ∙ ap (λ b. first (when b is_dir ∷ others at.path)) (dir_at image tree stands at.path i at.inode ∙ ap (λ k. k == 2) kind)
+
+    has_bytes : length (bytes_at tree (path_of text)) ≡ size_of image i
+    has_bytes =
+        ap (λ p. length (bytes_at tree p)) path_is
+        ∙ ap (λ o. length (bytes_in o)) (node_at image tree stands at.path i at.inode ∙ ap (λ k. Some (if k == 1 then file had else dir)) kind)
+        ∙ had_length
+
+  -- a write
+
+  module _ (off : ℕ) (new : List ℕ) (short : length new ≤ max_write) where
+    write_left : (tree : FileTree) → Stands image tree → refusal tree (write text off new) ≡ first (when (nat_lt 0 (length new) && nat_lt max_size (off + length new)) too_big ∷ [])
+    write_left tree stands = refusal-write tree text off new short ∙ behind tree stands (λ p. when (nat_lt 0 (length new) && nat_lt max_size (off + length new)) too_big ∷ [])
+
+    pub write_too_big : 0 < length new → max_size < off + length new → Tells image (write text off new) (refused too_big)
+    write_too_big some big tree stands =
+        refused_steps image tree (write text off new) too_big
+        (write_left tree stands ∙ ap₂ (λ a b. first (when (a && b) too_big ∷ [])) (lt-ltb 0 (length new) some) (lt-ltb max_size (off + length new) big))
+
+    -- no bytes change nothing
+    pub write_nothing : length new ≤ 0 → Tells image (write text off new) done
+    write_nothing none tree stands =
+        answer_steps image tree (write text off new) done
+        (write_left tree stands ∙ ap (λ b. first (when (b && nat_lt max_size (off + length new)) too_big ∷ [])) (le-ltb 0 (length new) none)) (le-ltb 0 (length new) none) refl
+
+    write_later : IsLater image (write text off new) → ⊥
+    write_later later = elim later [ ]
+
+    write_need : (other : Change) → IsChange image (write text off new) other → need image other ≡ need image (writes i off (length new))
+    write_need _ (by_write {i = k} finds) = ap (λ j. need image (writes j off (length new))) (same_file k finds)
+
+    pub write_makes : 0 < length new → off + length new ≤ max_size → Makes image (write text off new) (writes i off (length new))
+    write_makes some fits = record {
+      is = by_write at;
+      alike = write_need;
+      possible = write_later;
+      allowed = λ tree stands. write_left tree stands ∙ ap₂ (λ a b. first (when (a && b) too_big ∷ [])) (lt-ltb 0 (length new) some) (le-ltb max_size (off + length new) fits);
+      changing = λ tree stands. lt-ltb 0 (length new) some;
+      says = λ tree. refl;
+    }
+
+  pub write_becomes : (off : ℕ) (new : List ℕ) (after : Image) → GetsBytes i off new image after → (tree : FileTree) → Stands image tree → Stands after (tree_after tree (write text off new))
+  write_becomes off new after gets tree stands = subst (λ p. Stands after (with_bytes tree p (written (bytes_at tree p) off new))) (sym path_is) (gets tree at.path stands at.inode)
+
+  -- another size
+
+  module _ (size : ℕ) where
+    truncate_left : (tree : FileTree) → Stands image tree → refusal tree (truncate text size) ≡ first (when (nat_lt max_size size) too_big ∷ [])
+    truncate_left tree stands = behind tree stands (λ p. when (nat_lt max_size size) too_big ∷ [])
+
+    pub truncate_too_big : max_size < size → Tells image (truncate text size) (refused too_big)
+    truncate_too_big big tree stands = refused_steps image tree (truncate text size) too_big (truncate_left tree stands ∙ ap (λ b. first (when b too_big ∷ [])) (lt-ltb max_size size big))
+
+    truncate_goes : size ≤ max_size → (tree : FileTree) → Stands image tree → refusal tree (truncate text size) ≡ None
+    truncate_goes fits tree stands = truncate_left tree stands ∙ ap (λ b. first (when b too_big ∷ [])) (le-ltb max_size size fits)
+
+    -- the size that it has changes nothing
+    pub truncate_nothing : size ≤ max_size → size ≡ size_of image i → Tells image (truncate text size) done
+    truncate_nothing fits same tree stands =
+        answer_steps image tree (truncate text size) done (truncate_goes fits tree stands) (ap not (eq-eqb size (length (bytes_at tree (path_of text))) (same ∙ sym (has_bytes tree stands)))) refl
+
+    truncate_later : IsLater image (truncate text size) → ⊥
+    truncate_later later = elim later [ ]
+
+    truncate_need : (other : Change) → IsChange image (truncate text size) other → need image other ≡ need image (resizes i size)
+    truncate_need _ (by_truncate {i = k} finds) = ap (λ j. need image (resizes j size)) (same_file k finds)
+
+    pub truncate_makes : size ≤ max_size → size ≢ size_of image i → Makes image (truncate text size) (resizes i size)
+    truncate_makes fits other = record {
+      is = by_truncate at;
+      alike = truncate_need;
+      possible = truncate_later;
+      allowed = truncate_goes fits;
+      changing = λ tree stands. ap not (ne_eqb size (length (bytes_at tree (path_of text))) (λ e. other (e ∙ has_bytes tree stands)));
+      says = λ tree. refl;
+    }
+
+    pub truncate_becomes : (after : Image) → GetsSize i size image after → (tree : FileTree) → Stands image tree → Stands after (tree_after tree (truncate text size))
+    truncate_becomes after gets tree stands = subst (λ p. Stands after (with_bytes tree p (resized (bytes_at tree p) size))) (sym path_is) (gets tree at.path stands at.inode)

@@ -1,0 +1,37 @@
+use Rattle.std.proofs.Common.{◌≢◌, refl, ap, arith}
+use Rattle.bp_calls.proofs.ResizedStands.{resized_gets}
+use Rattle.bp_free.specs.declared.parts.Parts.{Parts}
+use Rattle.bp_layout.specs.Inode.{size_of}
+use Rattle.bp_layout.specs.Need.Change.{resizes}
+use Rattle.pm_region.specs.Memory.{current_words}
+use Rattle.bp_volume.specs.Carried.CarriesOut.{changed, unchanged}
+use Rattle.bp_volume.proofs.AskingLaws.{at_reached}
+use Rattle.bp_volume.proofs.ChangeLaws.{lacks_space, performs_call}
+use Rattle.bp_volume.proofs.FewBlocks.{few_resized, performs_room}
+use Rattle.bp_volume.proofs.FileLaws.{truncate_becomes, truncate_makes, truncate_nothing, truncate_too_big}
+use Rattle.bp_volume.proofs.resizing.resize.Goals as goal
+
+pub returns-then-size-gt-MAX_SIZE-clause-called : goal.returns-then-size-gt-MAX_SIZE-clause-called
+returns-then-size-gt-MAX_SIZE-clause-called g c = unchanged refl (truncate_too_big _ c.args.text.now c.args.file.inumber c.requires.at c.requires.kind c.args.size (omega arith))
+
+pub returns-then-size-file-clause-called : goal.returns-then-size-file-clause-called
+returns-then-size-file-clause-called g c =
+    unchanged refl (truncate_nothing _ c.args.text.now c.args.file.inumber c.requires.at c.requires.kind c.args.size (omega arith) (omega (arith, c.requires.size)))
+
+pub truncate-requires-clause-reached : goal.truncate-requires-clause-reached
+truncate-requires-clause-reached g c = at_reached _ c.requires.well_formed c.args.text.now c.args.file.inumber c.requires.at
+
+pub returns-in-Ok-clause-called : goal.returns-in-Ok-clause-called
+returns-in-Ok-clause-called g c =
+    let other : c.args.size ≢ size_of (current_words (g.R.Region.memory c.args.parts.now.region)) c.args.file.inumber = omega (arith, c.requires.size) in
+    changed (performs_call _ _ _ (resizes c.args.file.inumber c.args.size) _
+    (truncate_makes _ c.args.text.now c.args.file.inumber c.requires.at c.requires.kind c.args.size (omega arith) other) c.in-Ok.ensures.performs
+    (λ resizes_file. truncate_becomes _ c.args.text.now c.args.file.inumber c.requires.at c.requires.kind c.args.size _ (resized_gets _ _ c.requires.well_formed c.args.file.inumber c.args.size resizes_file))
+    (performs_room _ _ _ _ c.in-Ok.ensures.performs (few_resized _ c.requires.well_formed c.args.file.inumber (at_reached _ c.requires.well_formed c.args.text.now c.args.file.inumber c.requires.at) c.args.size) c.requires.room))
+
+pub returns-in-Err-clause-called : goal.returns-in-Err-clause-called
+returns-in-Err-clause-called g c =
+    let other : c.args.size ≢ size_of (current_words (g.R.Region.memory c.args.parts.now.region)) c.args.file.inumber = omega (arith, c.requires.size) in
+    unchanged (ap (λ (parts : Parts g.row.R.Denot). g.R.Region.memory parts.region) c.in-Err.ensures.same)
+    (rw c.no_space.ensures (lacks_space _ _ (resizes c.args.file.inumber c.args.size)
+    (truncate_makes _ c.args.text.now c.args.file.inumber c.requires.at c.requires.kind c.args.size (omega arith) other) _ c.in-Err.ensures.refused))

@@ -1,0 +1,55 @@
+use Rattle.std.proofs.Common.{◌∙◌, ◌≢◌, ◌≤◌, ◌+◌, length, refl, sym, ap, arith}
+use Rattle.std.proofs.lemmas.Bool.{eqb-true, eqb-false}
+use Rattle.bp_calls.proofs.WrittenStands.{written_gets}
+use Rattle.bp_free.specs.declared.parts.Parts.{Parts}
+use Rattle.bp_layout.specs.Need.Change.{writes}
+use Rattle.bp_limits.specs.Limits.{max_size}
+use Rattle.bp_volume.specs.Carried.CarriesOut.{changed, unchanged}
+use Rattle.bp_volume.proofs.AskingLaws.{at_low, at_reached}
+use Rattle.bp_volume.proofs.ChangeLaws.{lacks_space, performs_call}
+use Rattle.bp_volume.proofs.FewBlocks.{few_writes, performs_room}
+use Rattle.bp_volume.proofs.FileLaws.{write_becomes, write_makes, write_nothing, write_too_big}
+use Rattle.bp_volume.proofs.writing.write_into.Goals as goal
+
+pub returns-then-is_empty-clause-called : goal.returns-then-is_empty-clause-called
+returns-then-is_empty-clause-called g c =
+    unchanged refl (write_nothing _ c.args.text.now c.args.i c.requires.at c.requires.kind c.args.off c.args.bytes.now c.requires.short (omega (arith, eqb-true _ _ (sym c.is_empty.ensures ∙ c.if-is_empty.true))))
+
+pub returns-then-off-bytes-clause-called : goal.returns-then-off-bytes-clause-called
+returns-then-off-bytes-clause-called g c =
+    let some : length c.args.bytes.now ≢ 0 = eqb-false _ _ (sym c.is_empty.ensures ∙ c.if-is_empty.false) in
+    unchanged refl (write_too_big _ c.args.text.now c.args.i c.requires.at c.requires.kind c.args.off c.args.bytes.now c.requires.short (omega (arith, some)) (omega arith))
+
+pub write-requires : goal.write-requires
+write-requires g c =
+    let some : length c.args.bytes.now ≢ 0 = eqb-false _ _ (sym c.is_empty.ensures ∙ c.if-is_empty.false) in
+    record {
+      can = record {
+        well_formed = c.requires.well_formed;
+        exact = c.requires.exact;
+        reached = at_reached _ c.requires.well_formed c.args.text.now c.args.i c.requires.at;
+        file = c.requires.kind;
+        some = omega (arith, some);
+        short = c.requires.short;
+        fits = omega (arith, c.requires.short);
+        room = c.requires.room;
+      };
+    }
+
+pub returns-in-Ok-clause-called : goal.returns-in-Ok-clause-called
+returns-in-Ok-clause-called g c =
+    let some : length c.args.bytes.now ≢ 0 = eqb-false _ _ (sym c.is_empty.ensures ∙ c.if-is_empty.false) in
+    let fits : c.args.off + length c.args.bytes.now ≤ max_size = omega (arith, c.requires.short) in
+    changed (performs_call _ _ _ (writes c.args.i c.args.off (length c.args.bytes.now)) _
+    (write_makes _ c.args.text.now c.args.i c.requires.at c.requires.kind c.args.off c.args.bytes.now c.requires.short (omega (arith, some)) fits) c.in-Ok.ensures.performs
+    (λ writes_file. write_becomes _ c.args.text.now c.args.i c.requires.at c.requires.kind c.args.off c.args.bytes.now _ (written_gets _ _ c.requires.well_formed c.args.i c.args.off c.args.bytes.now writes_file))
+    (performs_room _ _ _ _ c.in-Ok.ensures.performs
+    (few_writes _ c.requires.well_formed c.args.i (at_low _ c.requires.well_formed c.args.text.now c.args.i c.requires.at) (at_reached _ c.requires.well_formed c.args.text.now c.args.i c.requires.at) c.args.off (length c.args.bytes.now) c.requires.short) c.requires.room))
+
+pub returns-in-Err-clause-called : goal.returns-in-Err-clause-called
+returns-in-Err-clause-called g c =
+    let some : length c.args.bytes.now ≢ 0 = eqb-false _ _ (sym c.is_empty.ensures ∙ c.if-is_empty.false) in
+    let fits : c.args.off + length c.args.bytes.now ≤ max_size = omega (arith, c.requires.short) in
+    unchanged (ap (λ (parts : Parts g.row.R.Denot). g.R.Region.memory parts.region) c.in-Err.ensures.same)
+    (rw c.no_space.ensures (lacks_space _ _ (writes c.args.i c.args.off (length c.args.bytes.now))
+    (write_makes _ c.args.text.now c.args.i c.requires.at c.requires.kind c.args.off c.args.bytes.now c.requires.short (omega (arith, some)) fits) _ c.in-Err.ensures.refused))

@@ -1,0 +1,65 @@
+//! Files of another size.
+
+ghost use Rattle.std.specs.Prelude.{◌≡◌, ◌≤◌};
+ghost use Rattle.bp_layout.specs.Inode.{kind_of, size_of};
+ghost use Rattle.bp_layout.specs.WellFormed.{IsWellFormed};
+ghost use Rattle.bp_limits.specs.Limits.{call_room};
+ghost use Rattle.bp_plain.specs.Calls.Call.{truncate};
+ghost use Rattle.bp_shapes.specs.Sets.{AreExact};
+ghost use Rattle.bp_volume.specs.Carried.{CarriesOut};
+ghost use Rattle.bp_volume.specs.Seen.{unit_answer};
+ghost use Rattle.bp_volume.specs.Step.{PathFinds};
+ghost use Rattle.pm_region.specs.Memory.{current_words, room_in};
+
+use crate::refusing::no_space;
+use crate::walking::{FoundFile, file_at};
+use bp_free::Parts;
+use bp_limits::MAX_SIZE;
+use bp_plain::FsError;
+use pm_region::Region;
+
+/// Gives the file that a path text finds another size.
+fn resize<R: Region>(
+    parts: &mut Parts<R>,
+    text: &[u8],
+    file: FoundFile,
+    size: u64,
+) -> Result<(), FsError>
+    requires well_formed { IsWellFormed (current_words (R.memory parts.old.region)) }
+    requires exact { AreExact (current_words (R.memory parts.old.region)) parts.old.blocks parts.old.inodes }
+    requires at { PathFinds (current_words (R.memory parts.old.region)) text.now file.inumber }
+    requires kind { kind_of (current_words (R.memory parts.old.region)) file.inumber ≡ 1 }
+    requires size { file.size ≡ size_of (current_words (R.memory parts.old.region)) file.inumber }
+    requires room { call_room ≤ room_in (R.memory parts.old.region) }
+    ensures called { CarriesOut (R.memory parts.old.region) (truncate text.now size) (unit_answer result) (R.memory parts.new.region) }
+    ensures exact { AreExact (current_words (R.memory parts.new.region)) parts.new.blocks parts.new.inodes }
+{
+    if size > MAX_SIZE {
+        return Err(FsError::TooBig);
+    }
+    if size == file.size {
+        return Ok(());
+    }
+    match bp_calls::truncate(parts, file.inumber, size) {
+        Ok(()) => Ok(()),
+        Err(lacks) => Err(no_space(lacks)),
+    }
+}
+
+/// What `truncate` does before its mark.
+pub(crate) fn truncate_at<R: Region>(
+    parts: &mut Parts<R>,
+    text: &[u8],
+    size: u64,
+) -> Result<(), FsError>
+    requires well_formed { IsWellFormed (current_words (R.memory parts.old.region)) }
+    requires exact { AreExact (current_words (R.memory parts.old.region)) parts.old.blocks parts.old.inodes }
+    requires room { call_room ≤ room_in (R.memory parts.old.region) }
+    ensures called { CarriesOut (R.memory parts.old.region) (truncate text.now size) (unit_answer result) (R.memory parts.new.region) }
+    ensures exact { AreExact (current_words (R.memory parts.new.region)) parts.new.blocks parts.new.inodes }
+{
+    match file_at(&parts.region, text) {
+        Ok(file) => resize(parts, text, file, size),
+        Err(error) => Err(error),
+    }
+}

@@ -1,0 +1,93 @@
+//! Bytes into files.
+
+ghost use Rattle.std.specs.Prelude.{◌≡◌, ◌≤◌, ℕ, IfErr, IfOk, OnOk, length};
+ghost use Rattle.bp_layout.specs.Inode.{kind_of};
+ghost use Rattle.bp_layout.specs.WellFormed.{IsWellFormed};
+ghost use Rattle.bp_limits.specs.Limits.{call_room, max_write};
+ghost use Rattle.bp_plain.specs.Calls.Call.{write};
+ghost use Rattle.bp_plain.specs.Seen.{refusal_of};
+ghost use Rattle.bp_shapes.specs.Sets.{AreExact};
+ghost use Rattle.bp_volume.specs.Carried.{CarriesOut};
+ghost use Rattle.bp_volume.specs.Seen.{unit_answer};
+ghost use Rattle.bp_volume.specs.Step.{PathFinds};
+ghost use Rattle.bp_volume.specs.Told.{Refuses};
+ghost use Rattle.pm_region.specs.Memory.{current_words, room_in};
+
+use crate::refusing::no_space;
+use crate::walking::file_on;
+use bp_free::Parts;
+use bp_limits::{MAX_SIZE, MAX_WRITE};
+use bp_path::parse;
+use bp_plain::FsError;
+use pm_region::Region;
+
+/// The inode of the file at a path text, into which bytes are to be written. More than 65,536 of them are too many
+/// whatever stands there.
+fn file_for<R: Region>(region: &R, text: &[u8], bytes: &[u8]) -> Result<u32, FsError>
+    requires { IsWellFormed (current_words (R.memory region.now)) }
+    ensures found { IfOk result (λ i. PathFinds (current_words (R.memory region.now)) text.now i) }
+    ensures kind { IfOk result (λ i. kind_of (current_words (R.memory region.now)) i ≡ 1) }
+    ensures short { OnOk result (length bytes.now ≤ max_write) }
+    ensures refused { IfErr result (λ e. (off : ℕ) → Refuses (current_words (R.memory region.now)) (write text.now off bytes.now) (refusal_of e)) }
+{
+    match parse(text) {
+        Ok(path) => {
+            if bytes.len() > MAX_WRITE {
+                return Err(FsError::TooLong);
+            }
+            match file_on(region, &path) {
+                Ok(file) => Ok(file.inumber),
+                Err(error) => Err(error),
+            }
+        }
+        Err(_) => Err(FsError::BadPath),
+    }
+}
+
+/// Writes bytes into the file at a path text, which has inode `i`.
+fn write_into<R: Region>(
+    parts: &mut Parts<R>,
+    text: &[u8],
+    i: u32,
+    off: u64,
+    bytes: &[u8],
+) -> Result<(), FsError>
+    requires well_formed { IsWellFormed (current_words (R.memory parts.old.region)) }
+    requires exact { AreExact (current_words (R.memory parts.old.region)) parts.old.blocks parts.old.inodes }
+    requires at { PathFinds (current_words (R.memory parts.old.region)) text.now i }
+    requires kind { kind_of (current_words (R.memory parts.old.region)) i ≡ 1 }
+    requires short { length bytes.now ≤ max_write }
+    requires room { call_room ≤ room_in (R.memory parts.old.region) }
+    ensures called { CarriesOut (R.memory parts.old.region) (write text.now off bytes.now) (unit_answer result) (R.memory parts.new.region) }
+    ensures exact { AreExact (current_words (R.memory parts.new.region)) parts.new.blocks parts.new.inodes }
+{
+    if bytes.is_empty() {
+        return Ok(());
+    }
+    if off > MAX_SIZE - bytes.len() as u64 {
+        return Err(FsError::TooBig);
+    }
+    match bp_calls::write(parts, i, off, bytes) {
+        Ok(()) => Ok(()),
+        Err(lacks) => Err(no_space(lacks)),
+    }
+}
+
+/// What `write` does before its mark.
+pub(crate) fn write_at<R: Region>(
+    parts: &mut Parts<R>,
+    text: &[u8],
+    off: u64,
+    bytes: &[u8],
+) -> Result<(), FsError>
+    requires well_formed { IsWellFormed (current_words (R.memory parts.old.region)) }
+    requires exact { AreExact (current_words (R.memory parts.old.region)) parts.old.blocks parts.old.inodes }
+    requires room { call_room ≤ room_in (R.memory parts.old.region) }
+    ensures called { CarriesOut (R.memory parts.old.region) (write text.now off bytes.now) (unit_answer result) (R.memory parts.new.region) }
+    ensures exact { AreExact (current_words (R.memory parts.new.region)) parts.new.blocks parts.new.inodes }
+{
+    match file_for(&parts.region, text, bytes) {
+        Ok(i) => write_into(parts, text, i, off, bytes),
+        Err(error) => Err(error),
+    }
+}

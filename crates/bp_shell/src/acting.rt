@@ -8,6 +8,7 @@ ghost use Rattle.bp_script.specs.Commands.{command_of};
 ghost use Rattle.bp_shell.specs.Acting.{Does, reply_of};
 ghost use Rattle.bp_shell.specs.Files.{IsReady};
 ghost use Rattle.bp_shell.specs.Serving.{DoesLine, FailsLine};
+ghost use Rattle.bp_shell.specs.Work.{answer_in, line_in};
 
 use crate::outcome::Outcome;
 use crate::saving::save;
@@ -19,15 +20,11 @@ use bp_volume::Volume;
 use pm_region::Region;
 use std::alloc::Global;
 
-/// Does what the line asks for over a volume alone. The answer of a call stands in the buffers' reply. At `Outcome::Synced` all is
-/// written back, and a file that is to hold it is to be saved.
-pub(crate) fn act<R: Region>(
-    alloc: Global,
-    volume: &mut Volume<R>,
-    buffers: &mut LineBuffers,
-) -> Outcome
-    ensures does { Does volume.old (command_of buffers.old.line.items) result buffers.new.reply.answer volume.new }
-    ensures line { buffers.new.line.items ≡ buffers.old.line.items }
+/// Does what the line of the buffers asks for, over a volume alone. The answer of a call stands in the buffers' reply. At
+/// `Outcome::Synced` all is written back, and a file that is to hold it is to be saved.
+pub fn act<R: Region>(alloc: Global, volume: &mut Volume<R>, buffers: &mut LineBuffers) -> Outcome
+    ensures does { Does volume.old (command_of (line_in buffers.old)) result (answer_in buffers.new) volume.new }
+    ensures line { line_in buffers.new ≡ line_in buffers.old }
 {
     if buffers.line.len() > MAX_LINE {
         return Outcome::TooLong;
@@ -60,15 +57,15 @@ pub(crate) fn act_and_save<R: Region, F: Files>(
     files: &mut F,
 ) -> Result<Outcome, Failed>
     requires { IsReady volume.old.base (F.view files.old) }
-    ensures does { IfOk result (λ outcome. DoesLine volume.old (F.view files.old) (command_of buffers.old.line.items)
-        (reply_of outcome buffers.new.reply.answer) volume.new (F.view files.new)) }
-    ensures fails { OnErr result (FailsLine volume.old (F.view files.old) (command_of buffers.old.line.items)
+    ensures does { IfOk result (λ outcome. DoesLine volume.old (F.view files.old) (command_of (line_in buffers.old))
+        (reply_of outcome (answer_in buffers.new)) volume.new (F.view files.new)) }
+    ensures fails { OnErr result (FailsLine volume.old (F.view files.old) (command_of (line_in buffers.old))
         volume.new (F.view files.new)) }
-    ensures synced { OnOk result (command_of buffers.old.line.items ≡ sync → (F.view files.new).is_flushed ≡ true) }
+    ensures synced { OnOk result (command_of (line_in buffers.old) ≡ sync → (F.view files.new).is_flushed ≡ true) }
     ensures flushed { OnOk result ((F.view files.old).is_flushed ≡ true → (F.view files.new).is_flushed ≡ true) }
     ensures size { length volume.new.base ≡ length volume.old.base }
     ensures attached { StaysAttached (F.view files.old) (F.view files.new) }
-    ensures line { buffers.new.line.items ≡ buffers.old.line.items }
+    ensures line { line_in buffers.new ≡ line_in buffers.old }
     ensures cause { HasCause (F.view files.old).faults (F.view files.new).faults result }
 {
     match act(alloc, volume, buffers) {

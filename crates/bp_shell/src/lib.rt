@@ -19,6 +19,8 @@ mod telling;
 mod tests;
 mod work;
 
+pub use acting::act;
+pub use outcome::Outcome;
 pub use running::run;
 pub use serving::{serve, serve_line};
-pub use work::Work;
+pub use work::{LineBuffers, Work};

@@ -2,13 +2,18 @@
 
 /// What a line came to.
 #[derive(Clone, Copy, Debug, PartialEq, Eq)]
-pub(crate) enum Outcome {
+pub enum Outcome {
     /// A call was answered; the answer stands in the reply.
     Answered,
-    /// The file holds the words.
+    /// All is written back.
     Synced,
-    /// So many blocks are free and live.
-    Counted { free: u32, live: u32 },
+    /// Blocks were counted.
+    Counted {
+        /// The number of free blocks.
+        free: u32,
+        /// The number of live blocks.
+        live: u32,
+    },
     /// The line is none of the grammar.
     BadSyntax,
     /// The line is too long.

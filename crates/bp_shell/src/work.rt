@@ -13,9 +13,9 @@ use std::alloc::{AllocError, Global};
 // The bytes of a read.
 const PIECE: usize = 65_536;
 
-// The line as far as it was read, of which one byte more than the longest is kept, and what it takes to answer it.
+/// A line, of which one byte more than the longest is kept, and what it takes to answer it.
 #[derive(Drop)]
-pub(crate) struct LineBuffers {
+pub struct LineBuffers {
     pub(crate) line: Vec<u8>,
     pub(crate) decoded: Decoded,
     pub(crate) reply: Reply,
@@ -24,6 +24,53 @@ pub(crate) struct LineBuffers {
     ghost fits: { vec_len line ≤ max_line + 1 },
     ghost decodes: { max_line ≤ decoded_room decoded },
     ghost spelled: { vec_len text ≡ max_text },
+}
+
+impl LineBuffers {
+    ghost use Rattle.bp_shell.specs.Work.{answer_in, line_in, line_of};
+    ghost use Rattle.std.specs.Prelude.{take, option_map};
+
+    /// Room for lines of 140,000 bytes, with the empty line in it. It fails for want of memory alone.
+    pub fn new(alloc: Global) -> Result<Self, AllocError>
+        ensures { IfOk result (λ buffers. line_in buffers ≡ []) }
+    {
+        Ok(LineBuffers {
+            line: Vec::with_capacity(alloc, MAX_LINE + 1)?,
+            decoded: Decoded::new(alloc, MAX_LINE)?,
+            reply: Reply::new(alloc)?,
+            text: vec![in alloc; 0; MAX_TEXT]?,
+        })
+    }
+
+    /// Sets the line. Of one above the limit only that it is too long is kept.
+    pub fn set_line(&mut self, bytes: &[u8])
+        ensures { line_in self.new ≡ take (max_line + 1) bytes.now }
+    {
+        let kept = bytes.len().min(MAX_LINE + 1);
+        self.line.clear();
+        match self.line.extend_from_slice(&bytes[..kept]) {
+            Ok(()) => {}
+            Err(_) => unreachable!(),
+        }
+    }
+
+    /// The line, where it is not too long.
+    pub fn line(&self) -> Option<&[u8]>
+        ensures { option_map (λ bytes. bytes.now) result ≡ line_of (line_in self.now) }
+    {
+        if self.line.len() <= MAX_LINE {
+            Some(&self.line)
+        } else {
+            None
+        }
+    }
+
+    /// The answer of the last call.
+    pub fn reply(&self) -> &Reply
+        ensures { result.now.answer ≡ answer_in self.now }
+    {
+        &self.reply
+    }
 }
 
 /// A line as far as it was read, a piece of the source, and what it takes to answer a line. Serving takes no other memory, but
@@ -43,14 +90,8 @@ impl Work {
     pub fn new(alloc: Global) -> Result<Self, AllocError>
         ensures { IfOk result (λ work. held_line work ≡ []) }
     {
-        let buffers = LineBuffers {
-            line: Vec::with_capacity(alloc, MAX_LINE + 1)?,
-            decoded: Decoded::new(alloc, MAX_LINE)?,
-            reply: Reply::new(alloc)?,
-            text: vec![in alloc; 0; MAX_TEXT]?,
-        };
         Ok(Work {
-            buffers,
+            buffers: LineBuffers::new(alloc)?,
             piece: vec![in alloc; 0; PIECE]?,
         })
     }
@@ -59,23 +100,13 @@ impl Work {
     pub fn set_line(&mut self, bytes: &[u8])
         ensures { held_line self.new ≡ take (max_line + 1) bytes.now }
     {
-        let kept = bytes.len().min(MAX_LINE + 1);
-        self.buffers.line.clear();
-        match self.buffers.line.extend_from_slice(&bytes[..kept]) {
-            Ok(()) => {}
-            Err(_) => unreachable!(),
-        }
+        self.buffers.set_line(bytes);
     }
 
     /// The line, where it is not too long.
     pub fn line(&self) -> Option<&[u8]>
         ensures { option_map (λ bytes. bytes.now) result ≡ line_of (held_line self.now) }
     {
-        let line = &self.buffers.line;
-        if line.len() <= MAX_LINE {
-            Some(line)
-        } else {
-            None
-        }
+        self.buffers.line()
     }
 }

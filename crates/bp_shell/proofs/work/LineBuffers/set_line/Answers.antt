@@ -1,6 +1,6 @@
 use Rattle.std.proofs.Common.{rules}
 use Rattle.bp_shell.proofs.BlockLaws.{take_least}
-use Rattle.bp_shell.proofs.work.Work.set_line.Goals as goal
+use Rattle.bp_shell.proofs.work.LineBuffers.set_line.Goals as goal
 
 pub returns : goal.returns
 returns c =

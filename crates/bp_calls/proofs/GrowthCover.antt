@@ -4,10 +4,10 @@ use Rattle.std.proofs.lemmas.Bool.{cases_lt, ne_eqb}
 use Rattle.std.proofs.lemmas.List.{append-nil, length-map}
 use Rattle.bp_append.proofs.TallyLaws.{span-suc}
 use Rattle.bp_layout.specs.Words.{Image, block_of, height_of}
-use Rattle.bp_layout.specs.Tree.{node, covered, span, IsLivePointer, IsLiveWord, IsSound, IsFull}
+use Rattle.bp_layout.specs.Tree.{node, span, IsLivePointer, IsLiveWord, IsSound}
 use Rattle.bp_layout.specs.Inode.{kind_of, root_of, size_of, inode_count}
 use Rattle.bp_layout.specs.Directory.{empty_slot, inumber_at}
-use Rattle.bp_layout.specs.Need.{Beyond, new_entry, prepared_for, preparation, height_after, inode_word_path, entry_path, entered, touched, is_there, is_there_after, copied, cover, need, number_of, prep_count}
+use Rattle.bp_layout.specs.Need.{Beyond, new_entry, prepared_for, height_after, inode_word_path, entry_path, entered, touched, is_there, is_there_after, copied, cover, need, number_of, prep_count}
 use Rattle.bp_layout.specs.Need.Change.{enters}
 use Rattle.bp_layout.specs.Nodes.{height_with, nodes_for}
 use Rattle.bp_layout.specs.Reached.{IsReached}
@@ -21,7 +21,7 @@ use Rattle.bp_limits.specs.Limits.{block_size, entry_size}
 use Rattle.bp_tree.proofs.Digits.{length-digits}
 use Rattle.bp_tree.proofs.ExistingPaths.{AllThere, there-append, reads-inodes, reads-tree, node-there, number-digits, content_path-there, inode_path-there, cover-one, copied-one}
 use Rattle.bp_calls.specs.Growth.{AddsInodes, growth_need}
-use Rattle.bp_calls.proofs.GrowthLaws.{longer_empty_slot, longer_kind, longer_node, longer_reached, longer_size, longer_well_formed, no_inode_file}
+use Rattle.bp_calls.proofs.GrowthLaws.{longer_empty_slot, longer_kind, longer_node, longer_reached, longer_size, longer_well_formed}
 use Rattle.bp_calls.proofs.GrowthNodes.{grown_there, nodes_same}
 use Rattle.bp_calls.proofs.NeedLaws.{cover_behind, cover_in_slot}
 

@@ -1,7 +1,7 @@
 -- What stays where the inode file gets one more leaf: trees, entries and blocks.
-use Rattle.std.proofs.Common.{◌≡◌, ◌≢◌, ◌⊎◌, ℕ, zero, suc, ◌+◌, ◌/◌, ◌<◌, List, Bool, true, false, ◌==◌, refl, sym, ◌∙◌, ap, ap₂, subst, subst₂, inl, inr, arith}
+use Rattle.std.proofs.Common.{◌≡◌, ◌≢◌, ◌⊎◌, ℕ, zero, suc, ◌<◌, List, Bool, true, false, ◌==◌, refl, sym, ◌∙◌, ap, subst, subst₂, inl, inr, arith}
 use Rattle.std.proofs.lemmas.Bool.{cases_eq, eqb-false}
-use Rattle.bp_layout.specs.Words.{Image, block_of, height_of}
+use Rattle.bp_layout.specs.Words.{Image, block_of}
 use Rattle.bp_layout.specs.Tree.{node, HasBlock, IsLivePointer}
 use Rattle.bp_layout.specs.Inode.{kind_of, root_of, size_of}
 use Rattle.bp_layout.specs.Directory.{Name, EntryNames, inumber_at, entry_count, is_named, slot_named, empty_slot}

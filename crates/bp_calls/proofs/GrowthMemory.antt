@@ -1,9 +1,9 @@
 -- The events by which the inode file grows: a preparation, and then a store of the size in an epoch of its own.
-use Rattle.std.proofs.Common.{◌≡◌, ◌⊎◌, ℕ, zero, suc, ◌+◌, ◌*◌, ◌/◌, ◌%◌, ◌<◌, ◌≤◌, List, [], ◌∷◌, ◌++◌, length, ◌==◌, nat_le, true, set, refl, sym, ◌∙◌, ap, subst, inl, inr, arith}
+use Rattle.std.proofs.Common.{◌≡◌, ◌⊎◌, ℕ, ◌+◌, ◌*◌, ◌/◌, ◌%◌, ◌≤◌, List, [], ◌∷◌, ◌++◌, length, true, set, refl, sym, ◌∙◌, ap, subst, inl, inr, arith}
 use Rattle.std.proofs.lemmas.Bool.{cases_eq, le-leb, eq-eqb}
 use Rattle.std.proofs.lemmas.List.{append-nil, length-map}
 use Rattle.bp_append.specs.Prepared.{PreparesWith, need_for}
-use Rattle.bp_append.specs.Stores.{is_one_leaf, prep_stores, stores_behind}
+use Rattle.bp_append.specs.Stores.{is_one_leaf, prep_stores}
 use Rattle.bp_append.proofs.OtherTrees.{other_block_back}
 use Rattle.bp_changes.proofs.SameMeaning.{reached-back, same-by_meaning}
 use Rattle.bp_layout.proofs.SameLaws.{same_symmetric, same_transitive}
@@ -13,12 +13,12 @@ use Rattle.bp_layout.specs.Inode.{root_of, size_of}
 use Rattle.bp_layout.specs.Members.{Has}
 use Rattle.bp_layout.specs.Need.{prepared_for}
 use Rattle.bp_layout.specs.Nodes.{nodes_for}
-use Rattle.bp_layout.specs.Reached.{IsReached, IsLiveBlock, IsFreeBlock}
+use Rattle.bp_layout.specs.Reached.{IsReached, IsLiveBlock}
 use Rattle.bp_layout.specs.Reached.IsReached.{inode_file}
 use Rattle.bp_layout.specs.Same.{Same}
 use Rattle.bp_layout.specs.WellFormed.{IsWellFormed}
-use Rattle.bp_limits.specs.Limits.{block_size, max_height, super_size}
-use Rattle.bp_tree.specs.Performs.{IsOpen, TakesBlocks, AddsTaking}
+use Rattle.bp_limits.specs.Limits.{block_size, super_size}
+use Rattle.bp_tree.specs.Performs.{AddsTaking}
 use Rattle.bp_tree.specs.Performs.IsOpen.{at_size}
 use Rattle.bp_tree.proofs.PerformsLaws.{taking_twice}
 use Rattle.pm_epochs.specs.declared.event.Event.TheVariants.{Store, Barrier}
@@ -27,7 +27,6 @@ use Rattle.pm_epochs.proofs.PieceLaws.{IsPiece-append, IsPiece-barrier, IsPiece-
 use Rattle.pm_region.specs.Memory.{Memory, Adds, current_words, room_in}
 use Rattle.pm_region.proofs.MemoryLaws.{current_words-adds, room_in-piece}
 use Rattle.bp_calls.specs.Growth.{AddsInodes, GrowsInodes, growth_need, growth_stores}
-use Rattle.bp_calls.proofs.BehindLaws.{has_more}
 use Rattle.bp_calls.proofs.GrowthImage.{adds_inodes}
 use Rattle.bp_calls.proofs.GrowthWithin.{equivalence}
 
@@ -42,6 +41,16 @@ taking_more taken most_barriers most barriers stores old new low few adds = reco
     piece = IsPiece-more most_barriers most barriers stores adds.part.added low few adds.part.piece;
   };
   takes = adds.takes;
+}
+
+-- a block stays where the size is greater
+block_wider : (image : Image) (root size more b : ℕ) → HasBlock image root size b → HasBlock image root (size + more) b
+block_wider image root size more b has = record {
+  depth = has.depth;
+  index = has.index;
+  pointer = record { level = has.pointer.level; height = has.pointer.height; live = omega (arith, has.pointer.live) };
+  named = has.named;
+  not_null = has.not_null;
 }
 
 -- the nodes that are made for one more leaf of the inode file
@@ -100,7 +109,7 @@ module _ (old middle new : Memory) (free_old free_new : List ℕ) (wf : IsWellFo
   live_cases t b reached has (inl e) =
       let here : HasBlock mid (root_of mid 0) (size_of image 0) b =
       subst (λ s. HasBlock mid (root_of mid 0) s b) (prepared.ready.sizes 0 inode_file) (subst (λ u. HasBlock mid (root_of mid u) (size_of mid u) b) e has) in
-      elim (prepared.ready.blocks b (has_more mid (root_of mid 0) (size_of image 0) block_size b here)) [
+      elim (prepared.ready.blocks b (block_wider mid (root_of mid 0) (size_of image 0) block_size b here)) [
         | inl was ↦ inl (record { tree = 0; reached = inode_file; has = was })
         | inr took ↦ inr took
       ]

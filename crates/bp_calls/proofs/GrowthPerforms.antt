@@ -1,7 +1,6 @@
 -- A new name behind a growth of the inode file: where the call is performed on the longer file, it is performed with the growth.
-use Rattle.std.proofs.Common.{◌≡◌, ℕ, zero, suc, ◌+◌, ◌*◌, ◌≤◌, length, true, false, sym, ◌∙◌, ap, arith}
+use Rattle.std.proofs.Common.{◌≡◌, ℕ, zero, suc, ◌+◌, ◌≤◌, length, true, false, sym, ◌∙◌, ap, arith}
 use Rattle.bp_layout.specs.Inode.{kind_of}
-use Rattle.bp_layout.specs.Members.{Has}
 use Rattle.bp_layout.specs.Need.{cover, need}
 use Rattle.bp_layout.specs.Need.Change.{enters}
 use Rattle.bp_layout.specs.Reached.{IsReached, IsFreeBlock}

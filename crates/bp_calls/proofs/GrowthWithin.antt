@@ -1,5 +1,5 @@
 -- What is performed with bounds of its own on barriers and stores: how it is put together, and that it is performed.
-use Rattle.std.proofs.Common.{◌≡◌, ℕ, ◌+◌, ◌≤◌, List, ◌++◌, length, arith}
+use Rattle.std.proofs.Common.{◌≡◌, ℕ, ◌+◌, ◌≤◌, List, ◌++◌, length}
 use Rattle.bp_layout.proofs.SameLaws.{same_symmetric, same_transitive}
 use Rattle.bp_layout.specs.Members.{Each, AreApart}
 use Rattle.bp_layout.specs.Need.{Change, cover, need}

@@ -39,7 +39,7 @@ pub(crate) fn grow<R: Region>(parts: &mut Parts<R>)
     prep(parts, &Slots::new(), size, &[], end);
     parts.region.store(SUPER_SIZE, end);
     parts.region.barrier();
-    parts
-        .inodes
-        .fill((size / INODE_SIZE) as u32, (end / INODE_SIZE) as u32);
+    let from = (size / INODE_SIZE) as u32;
+    let to = (end / INODE_SIZE) as u32;
+    parts.inodes.fill(from, to);
 }

@@ -24,11 +24,11 @@ pub barrier-requires : goal.barrier-requires
 barrier-requires g c =
     omega (arith, room_prepared (g.R.Region.memory c.args.parts.now.region) c.args.parts.now.blocks c.args.parts.now.inodes c.new.result.items c.inode_file-size.result.size c.requires.can c.new.ensures c.inode_file-size.ensures.size (g.R.Region.memory c.prep.new.parts.region) c.prep.new.parts.blocks (c.prep.ensures.prepares 0), room_in-adds (g.R.Region.memory c.prep.new.parts.region) (g.R.Region.memory c.store.new.self) _ c.store.ensures)
 
-pub overflow_cast-size : goal.overflow_cast-size
-overflow_cast-size g c = omega (arith, last_low (g.R.Region.memory c.args.parts.now.region) c.args.parts.now.blocks c.args.parts.now.inodes c.new.result.items c.inode_file-size.result.size c.requires.can c.new.ensures c.inode_file-size.ensures.size)
+pub overflow_cast-from : goal.overflow_cast-from
+overflow_cast-from g c = omega (arith, last_low (g.R.Region.memory c.args.parts.now.region) c.args.parts.now.blocks c.args.parts.now.inodes c.new.result.items c.inode_file-size.result.size c.requires.can c.new.ensures c.inode_file-size.ensures.size)
 
-pub overflow_cast-end : goal.overflow_cast-end
-overflow_cast-end g c = omega (arith, last_low (g.R.Region.memory c.args.parts.now.region) c.args.parts.now.blocks c.args.parts.now.inodes c.new.result.items c.inode_file-size.result.size c.requires.can c.new.ensures c.inode_file-size.ensures.size)
+pub overflow_cast-to : goal.overflow_cast-to
+overflow_cast-to g c = omega (arith, last_low (g.R.Region.memory c.args.parts.now.region) c.args.parts.now.blocks c.args.parts.now.inodes c.new.result.items c.inode_file-size.result.size c.requires.can c.new.ensures c.inode_file-size.ensures.size)
 
 pub fill-requires-clause-in_range : goal.fill-requires-clause-in_range
 fill-requires-clause-in_range g c = rw c.prep.ensures.inodes (last_fits (g.R.Region.memory c.args.parts.now.region) c.args.parts.now.blocks c.args.parts.now.inodes c.new.result.items c.inode_file-size.result.size c.requires.can c.new.ensures c.inode_file-size.ensures.size)

@@ -1,4 +1,4 @@
-use Rattle.std.proofs.Common.{ℕ, ◌+◌, ◌*◌, ◌≤◌, arith}
+use Rattle.std.proofs.Common.{◌+◌, arith}
 use Rattle.bp_append.proofs.FewNeeded.{few_needed}
 use Rattle.bp_calls.proofs.GrowthRoom.{inodes_end_fits}
 use Rattle.bp_layout.specs.Reached.IsReached.{inode_file}

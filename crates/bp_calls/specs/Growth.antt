@@ -23,23 +23,26 @@ use Rattle.pm_region.specs.Safe.{AddsCommit}
 abbrev pub growth_need : Image → ℕ
 growth_need image = growth_count image (enters 1 false)
 
--- The image is well formed, and the sets are exact. As many blocks are free as the inode file takes, and the log has room for a call.
+-- The image is well formed, and the sets are exact. As many blocks are free as the inode file takes, and the log has room
+-- for a call.
 pub record CanGrowInodes (memory : Memory) (blocks inodes : Set) : Type 0 where
   pub well_formed : IsWellFormed (current_words memory)
   pub exact : AreExact (current_words memory) blocks inodes
   pub enough : growth_need (current_words memory) ≤ length (members blocks)
   pub room : call_room ≤ room_in memory
 
--- The inode file has one more leaf, whose inodes are all zero. Its blocks are those that it had and the ones taken. All else that the image means is as it was,
--- and each other tree stands where it stood, but that its root word may stand in another place.
+-- The inode file has one more leaf, whose inodes are all zero. Its blocks are those that it had and the ones taken. All
+-- else that the image means is as it was, and each other tree stands where it stood.
 pub record AddsInodes (old new : Image) (taken : List ℕ) : Type 0 where
   pub meaning : SameMeaning old new
   pub size : size_of new 0 ≡ size_of old 0 + block_size
   pub height : height_of (root_of new 0) ≡ height_with (root_of old 0) (size_of old 0) (size_of new 0)
   pub kept : (o : ℕ) → o < size_of old 0 → byte new (root_of new 0) o ≡ byte old (root_of old 0) o
   pub zeros : (o : ℕ) → size_of old 0 ≤ o → o < size_of new 0 → byte new (root_of new 0) o ≡ 0
-  pub blocks : (b : ℕ) → HasBlock new (root_of new 0) (size_of new 0) b → HasBlock old (root_of old 0) (size_of old 0) b ⊎ Has taken b
-  pub has_old : (b : ℕ) → HasBlock old (root_of old 0) (size_of old 0) b → HasBlock new (root_of new 0) (size_of new 0) b
+  pub blocks : (b : ℕ) → HasBlock new (root_of new 0) (size_of new 0) b →
+      HasBlock old (root_of old 0) (size_of old 0) b ⊎ Has taken b
+  pub has_old : (b : ℕ) → HasBlock old (root_of old 0) (size_of old 0) b →
+      HasBlock new (root_of new 0) (size_of new 0) b
   pub has_taken : (b : ℕ) → Has taken b → HasBlock new (root_of new 0) (size_of new 0) b
   pub roots : (u : ℕ) → IsReached old u → u ≢ 0 → root_of new u ≡ root_of old u
   pub words : (u d k : ℕ) → IsReached old u → u ≢ 0 → IsLiveWord (root_of old u) (size_of old u) (suc d) k →
@@ -51,11 +54,13 @@ pub record AddsInodes (old new : Image) (taken : List ℕ) : Type 0 where
 abbrev pub growth_stores : ℕ → ℕ
 growth_stores needed = block_words * (needed + 2)
 
--- and how many a call makes at most behind it that needs so many more: with those of the growth no more than a call may make
+-- and how many a call makes at most behind it that needs so many more: with those of the growth no more than a call may
+-- make
 abbrev pub stores_behind_growth : ℕ → ℕ
 stores_behind_growth needed = block_words * (needed + 4) + 64
 
--- Nobody sees at any moment of a crash that the inode file grows. It takes as many blocks as it needs, and each gets a store.
+-- Nobody sees at any moment of a crash that the inode file grows. It takes as many blocks as it needs, and each gets a
+-- store.
 pub record GrowsInodes (old new : Memory) : Type 0 where
   pub taken : List ℕ
   pub adds : AddsTaking taken 3 (growth_stores (length taken)) old new
@@ -63,9 +68,11 @@ pub record GrowsInodes (old new : Memory) : Type 0 where
   pub grown : AddsInodes (current_words old) (current_words new) taken
 
 -- What is performed, with so many barriers and stores at most.
-pub record PerformsWithin (most_barriers most : ℕ) (old new : Memory) (change : Change) (Effect : Image → Image → Type 0) : Type 0 where
+pub record PerformsWithin (most_barriers most : ℕ) (old new : Memory) (change : Change)
+    (Effect : Image → Image → Type 0) : Type 0 where
   pub value : ℕ
-  pub commit : AddsCommit Same (address (current_words new) (cover (current_words old) change)) value most_barriers most old new
+  pub commit : AddsCommit Same (address (current_words new) (cover (current_words old) change)) value
+      most_barriers most old new
   pub taken : List ℕ
   pub takes : TakesBlocks (current_words old) taken commit.prepared
   pub number : length taken ≡ need (current_words old) change

@@ -25,8 +25,10 @@ pub(crate) fn grow_need<R: Region>(region: &R) -> u32
     need_prep(region, inodes, inodes.size, inodes.size + BLOCK_SIZE)
 }
 
-/// Lets the inode file grow by one leaf, whose inodes are zero and free. Nobody sees it at any moment of a crash: the size
-/// is stored once the leaf is linked, and a longer inode file reaches no inode more.
+/// Lets the inode file grow by one leaf, whose inodes are zero and free. It takes the blocks that [`grow_need`] counts.
+///
+/// Nobody sees it at any moment of a crash: the size is stored once the leaf is linked, and a longer inode file reaches
+/// no inode more.
 pub(crate) fn grow<R: Region>(parts: &mut Parts<R>)
     requires can { CanGrowInodes (R.memory parts.old.region) parts.old.blocks parts.old.inodes }
     ensures grows { GrowsInodes (R.memory parts.old.region) (R.memory parts.new.region) }

@@ -1,19 +1,18 @@
 -- What stays where the inode file gets one more leaf: trees, entries and blocks.
-use Rattle.std.proofs.Common.{◌≡◌, ◌≢◌, ◌⊎◌, ℕ, zero, suc, ◌<◌, List, Bool, true, false, ◌==◌, refl, sym, ◌∙◌, ap, subst, subst₂, inl, inr, arith}
-use Rattle.std.proofs.lemmas.Bool.{cases_eq, eqb-false}
+use Rattle.std.proofs.Common.{◌≡◌, ◌≢◌, ◌⊎◌, ℕ, zero, suc, List, ◌==◌, refl, sym, ◌∙◌, ap, subst, subst₂, inl, inr, arith}
+use Rattle.std.proofs.lemmas.Bool.{cases_eq}
 use Rattle.bp_layout.specs.Words.{Image, block_of}
 use Rattle.bp_layout.specs.Tree.{node, HasBlock, IsLivePointer}
 use Rattle.bp_layout.specs.Inode.{kind_of, root_of, size_of}
-use Rattle.bp_layout.specs.Directory.{Name, EntryNames, inumber_at, entry_count, is_named, slot_named, empty_slot}
+use Rattle.bp_layout.specs.Directory.{inumber_at, entry_count, empty_slot}
 use Rattle.bp_layout.specs.Members.{Has}
 use Rattle.bp_layout.specs.Reached.{IsReached, IsLiveBlock, IsFreeBlock}
 use Rattle.bp_layout.specs.Reached.IsReached.{inode_file}
 use Rattle.bp_layout.specs.WellFormed.{IsWellFormed}
 use Rattle.bp_layout.proofs.Finding.{find-same}
 use Rattle.bp_layout.proofs.TreeLaws.{word_at-zero, live_pointer_word}
-use Rattle.bp_layout.proofs.View.{SameDirectories}
 use Rattle.bp_changes.proofs.ReachedOn.{reached_on}
-use Rattle.bp_changes.proofs.SameMeaning.{view-same, reached-back, well_formed-same}
+use Rattle.bp_changes.proofs.SameMeaning.{reached-back, well_formed-same}
 use Rattle.bp_calls.specs.Growth.{AddsInodes}
 
 module _ (old new : Image) (taken : List ℕ) (wf : IsWellFormed old) (adds : AddsInodes old new taken) where
@@ -92,9 +91,6 @@ module _ (old new : Image) (taken : List ℕ) (wf : IsWellFormed old) (adds : Ad
 
   -- ---- the slots of a directory
 
-  alike : SameDirectories old new
-  alike = (view-same old new wf adds.meaning).directories
-
   module _ (i : ℕ) (reached : IsReached old i) (kind : kind_of old i ≡ 2) where
     pub longer_kind : kind_of new i ≡ 2
     longer_kind = adds.meaning.kind i reached ∙ kind
@@ -102,22 +98,8 @@ module _ (old new : Image) (taken : List ℕ) (wf : IsWellFormed old) (adds : Ad
     pub no_inode_file : i ≢ 0
     no_inode_file e = let two : kind_of old 0 ≡ 2 = subst (λ x. kind_of old x ≡ 2) e kind in omega (arith, two)
 
-    named_kept : (name : Name) (slot : ℕ) → slot < entry_count old i → is_named new i name slot ≡ is_named old i name slot
-    named_kept name slot in_size = go (inumber_at old i slot == 0) refl
-      where
-        go : (b : Bool) → (inumber_at old i slot == 0) ≡ b → is_named new i name slot ≡ is_named old i name slot
-        go true at = rw (alike.inumber i slot reached kind in_size, at) refl
-        go false at =
-            let entry : EntryNames old i slot (inumber_at old i slot) = record { directory = kind; in_size = in_size; inumber = refl; not_empty = eqb-false _ _ at } in
-            rw (alike.inumber i slot reached kind in_size, at, alike.name i slot (inumber_at old i slot) reached entry) refl
-
-    pub longer_slot_named : (name : Name) → slot_named new i name ≡ slot_named old i name
-    longer_slot_named name =
-        rw (longer_size i reached no_inode_file)
-        (find-same (is_named new i name) (is_named old i name) 0 (entry_count old i) (λ k low high. named_kept name k (omega (arith, high))))
-
     pub longer_empty_slot : empty_slot new i ≡ empty_slot old i
     longer_empty_slot =
         rw (longer_size i reached no_inode_file)
         (find-same (λ slot. inumber_at new i slot == 0) (λ slot. inumber_at old i slot == 0) 0 (entry_count old i)
-        (λ k low high. ap (λ n. n == 0) (alike.inumber i k reached kind (omega (arith, high)))))
+        (λ k low high. ap (λ n. n == 0) (adds.meaning.inumber i k reached kind (omega (arith, high)))))

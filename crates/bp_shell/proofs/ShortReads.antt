@@ -7,7 +7,7 @@ use Rattle.bp_limits.specs.Limits.{max_read}
 use Rattle.bp_plain.specs.Calls.{Call}
 use Rattle.bp_plain.specs.Calls.Call.{create, mkdir, unlink, rmdir, list, stat, read, write, truncate, rename}
 use Rattle.bp_volume.specs.Seen.{IsShortCall}
-use Rattle.bp_script.specs.Commands.{Command, in_grammar, words_of, command_by_words, path_command, long_command, bare_command, read_command, number_of, decoded, is_empty_word}
+use Rattle.bp_script.specs.Commands.{Command, in_grammar, words_of, command_by_words, path_command, pair_command, long_command, bare_command, read_command, write_command, truncate_command, number_of, bytes_of, decoded, is_empty_word}
 use Rattle.bp_script.specs.Commands.Command.{file_call, sync, space, bad_syntax, too_long}
 
 abbrev pub IsShort : Command → Type 0
@@ -27,6 +27,15 @@ short_read path (Some off) (Some len) = go (nat_le len max_read) refl
 short_read path None len = tt
 short_read path (Some off) None = tt
 
+short_write : (path : List ℕ) (off : Option ℕ) (new : Option (List ℕ)) → IsShort (write_command path off new)
+short_write path (Some off) (Some new) = tt
+short_write path (Some off) None = tt
+short_write path None new = tt
+
+short_truncate : (path : List ℕ) (size : Option ℕ) → IsShort (truncate_command path size)
+short_truncate path (Some size) = tt
+short_truncate path None = tt
+
 short_bare : (verb : List ℕ) → IsShort (bare_command verb)
 short_bare verb = short_either (bytes_eq verb (codes "sync")) sync _ tt (short_either (bytes_eq verb (codes "space")) space bad_syntax tt tt)
 
@@ -35,14 +44,19 @@ short_path verb path =
     short_either (bytes_eq verb (codes "create")) (file_call (create path)) _ tt
     (short_either (bytes_eq verb (codes "list")) (file_call (list path)) _ tt (short_either (bytes_eq verb (codes "stat")) (file_call (stat path)) bad_syntax tt tt))
 
+short_pair : (verb first second : List ℕ) → IsShort (pair_command verb first second)
+short_pair verb first second = short_either (bytes_eq verb (codes "truncate")) (truncate_command first (number_of second)) bad_syntax (short_truncate first (number_of second)) tt
+
 short_long : (verb first second third : List ℕ) → IsShort (long_command verb first second third)
-short_long verb first second third = short_either (bytes_eq verb (codes "read")) (read_command first (number_of second) (number_of third)) bad_syntax (short_read first (number_of second) (number_of third)) tt
+short_long verb first second third =
+    short_either (bytes_eq verb (codes "read")) (read_command first (number_of second) (number_of third)) _ (short_read first (number_of second) (number_of third))
+    (short_either (bytes_eq verb (codes "write")) (write_command first (number_of second) (bytes_of third)) bad_syntax (short_write first (number_of second) (bytes_of third)) tt)
 
 short_words : (words : List (List ℕ)) → IsShort (command_by_words words)
 short_words [] = tt
 short_words (verb ∷ []) = short_bare verb
 short_words (verb ∷ path ∷ []) = short_path verb path
-short_words (verb ∷ first ∷ second ∷ []) = tt
+short_words (verb ∷ first ∷ second ∷ []) = short_pair verb first second
 short_words (verb ∷ first ∷ second ∷ third ∷ []) = short_long verb first second third
 short_words (verb ∷ first ∷ second ∷ third ∷ fourth ∷ more) = tt
 

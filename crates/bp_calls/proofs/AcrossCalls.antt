@@ -3,24 +3,23 @@ use Rattle.std.proofs.Common.{◌≡◌, ℕ, zero, suc, ◌+◌, ◌-◌, ◌*�
 use Rattle.std.proofs.lemmas.List.{append-nil, length-append}
 use Rattle.bp_free.specs.Set.{Set, has, members}
 use Rattle.bp_layout.specs.Free.{HasFree}
-use Rattle.bp_layout.specs.Inode.{kind_of, root_of, size_of}
+use Rattle.bp_layout.specs.Inode.{root_of, size_of}
 use Rattle.bp_layout.specs.Need.Change.{writes}
 use Rattle.bp_layout.specs.Nodes.{nodes_for}
 use Rattle.bp_layout.specs.WellFormed.{IsWellFormed}
 use Rattle.bp_layout.specs.WordPaths.{WordPath, inode_path}
 use Rattle.bp_layout.specs.Words.{Image, block_count, height_of}
-use Rattle.bp_limits.specs.Limits.{max_height}
+use Rattle.bp_limits.specs.Limits.{block_words, call_room, max_height}
 use Rattle.bp_append.specs.Prepared.{CanPrepare, PreparesWith, need_for}
-use Rattle.bp_append.specs.Stores.{prep_stores}
 use Rattle.bp_append.proofs.StoresLaws.{behind_whole}
 use Rattle.bp_shapes.specs.Sets.{AreExact}
 use Rattle.bp_tree.specs.Performs.{Performs}
 use Rattle.bp_cow.specs.CanCommit.{CanCommit}
-use Rattle.bp_cow.specs.Commit.{CommitsTouched, HasBlocks, HasRoom, commit_stores}
+use Rattle.bp_cow.specs.Commit.{CommitsTouched, HasBlocks, HasRoom}
 use Rattle.bp_cow.specs.Cover.{LeadsInside, copied_count}
 use Rattle.bp_cow.specs.Touched.{IsTouched, NoneBegins, all_paths}
 use Rattle.bp_cow.specs.declared.touched.Touched.{Touched}
-use Rattle.pm_region.specs.Memory.{Memory, current_words, room_in}
+use Rattle.pm_region.specs.Memory.{Memory, current_words}
 use Rattle.pm_region.proofs.MemoryLaws.{length-current_words, room_in-piece}
 use Rattle.bp_calls.specs.CanWrite.{CanWrite}
 use Rattle.bp_calls.specs.Space.{LacksSpace}
@@ -44,7 +43,8 @@ parted : (taken rest : List ℕ) {all : List ℕ} → all ≡ taken ++ rest → 
 parted taken rest e = ap (λ (xs : List ℕ). length xs) e ∙ length-append taken rest
 
 -- the log has room for both parts
-roomy : (made behind copied words room left : ℕ) → room ≤ left + (2 + (512 * made + behind + 2)) → behind ≤ 512 * suc 3 → made ≤ 18 + 3 * 3 → words ≡ 1 → copied ≤ 50 → 65536 ≤ room → (512 + 1) * copied + words + 1 + 2 ≤ left
+roomy : (made behind copied words room left : ℕ) → room ≤ left + (2 + (block_words * made + behind + 2)) → behind ≤ block_words * suc max_height → made ≤ 18 + 3 * max_height → words ≡ 1 → copied ≤ 50 → call_room ≤ room →
+    (block_words + 1) * copied + words + 1 + 2 ≤ left
 roomy made behind copied words room left a b c d e f = omega (arith, a, b, c, d, e, f)
 
 module _ (old : Memory) (blocks inodes : Set) (off : ℕ) (bytes : List ℕ) (touched : Touched) where
@@ -124,9 +124,9 @@ module _ (old : Memory) (blocks inodes : Set) (off : ℕ) (bytes : List ℕ) (to
 
   module _ (middle : Memory) (after : Set) where
     -- the preparation, told at the size of the file
-    pub at_prepared : (i size : ℕ) (beyond : List ℕ) → size ≡ size_of (current_words old) i → beyond ≡ drop (size - off) bytes → PreparesWith old middle (members blocks) (members after) i size (off + length bytes) beyond →
+    pub at_prepared : (i size : ℕ) (beyond : List ℕ) → PreparesWith old middle (members blocks) (members after) i size (off + length bytes) beyond → size ≡ size_of (current_words old) i → beyond ≡ drop (size - off) bytes →
         PreparesWith old middle (members blocks) (members after) i (size_of (current_words old) i) (off + length bytes) (drop (size_of (current_words old) i - off) bytes)
-    at_prepared i size beyond is cut prepared =
+    at_prepared i size beyond prepared is cut =
         subst₂ (λ s bs. PreparesWith old middle (members blocks) (members after) i s (off + length bytes) bs) is (cut ∙ ap (λ s. drop (s - off) bytes) is) prepared
 
     pub at_commit : (i root size made : ℕ) → WritesAcross old blocks inodes i off bytes touched → root ≡ root_of (current_words old) i → size ≡ size_of (current_words old) i →
@@ -144,7 +144,7 @@ module _ (old : Memory) (blocks inodes : Set) (off : ℕ) (bytes : List ℕ) (to
           fits = let whole = ap (λ words. words / 512) prepared.ready.meaning.whole in omega (arith, whole, room, across.can.exact.block_room);
           some = omega (arith, parts, prepared.counted, counted, need_is, count, enough);
           room = let left = room_in-piece _ _ old middle prepared.adds.part.added prepared.adds.part.adds prepared.adds.part.piece in
-              roomy _ _ _ _ _ _ left (behind_whole (size_of (current_words old) (suc n)) (size_of (current_words old) (suc n)) (off + length bytes) 3) (across_made old blocks inodes n off bytes touched across)
+              roomy _ _ _ _ _ _ left (behind_whole (size_of (current_words old) (suc n)) (size_of (current_words old) (suc n)) (off + length bytes) max_height) (across_made old blocks inodes n off bytes touched across)
               (across_words old blocks inodes n off bytes touched across) (across_copies old blocks inodes n off bytes touched across (current_words middle)) across.can.room;
         }
 

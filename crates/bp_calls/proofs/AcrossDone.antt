@@ -1,14 +1,13 @@
 -- What a write across the size of a file makes of an image, and that it is performed.
-use Rattle.std.proofs.Common.{◌≡◌, ◌⊎◌, ℕ, zero, suc, ◌+◌, ◌-◌, ◌*◌, ◌/◌, ◌<◌, ◌≤◌, max, List, [], ◌∷◌, length, take, drop, slice_index, sym, ◌∙◌, ap, subst, inl, inr, arith}
+use Rattle.std.proofs.Common.{◌≡◌, ◌⊎◌, ℕ, zero, suc, ◌+◌, ◌-◌, ◌*◌, ◌<◌, ◌≤◌, List, [], ◌∷◌, length, take, drop, slice_index, sym, ◌∙◌, ap, subst, inl, inr, arith}
 use Rattle.std.proofs.lemmas.Bool.{cases_eq}
 use Rattle.std.proofs.lemmas.List.{get_or-drop}
 use Rattle.bp_free.specs.Set.{Set, has, members}
-use Rattle.bp_layout.specs.Inode.{kind_of, root_of, size_of}
+use Rattle.bp_layout.specs.Inode.{root_of, size_of}
 use Rattle.bp_layout.specs.Need.{Change, need}
 use Rattle.bp_layout.specs.Need.Change.{writes}
-use Rattle.bp_layout.specs.Reached.{IsReached, HoldsBlock, IsLiveBlock}
-use Rattle.bp_layout.specs.Reached.IsReached.{inode_file}
-use Rattle.bp_layout.specs.Tree.{byte, HasBlock}
+use Rattle.bp_layout.specs.Reached.{IsReached}
+use Rattle.bp_layout.specs.Tree.{byte}
 use Rattle.bp_layout.specs.WellFormed.{IsWellFormed}
 use Rattle.bp_layout.specs.WordPaths.{inode_path}
 use Rattle.bp_layout.specs.Words.{Image, height_of}
@@ -25,12 +24,12 @@ use Rattle.bp_cow.specs.CanCommit.{CanCommit}
 use Rattle.bp_cow.specs.Commit.{CommitsTouched, commit_stores, cover_word}
 use Rattle.bp_cow.specs.Cover.{commit_cover, copied_count}
 use Rattle.bp_cow.specs.Job.{IsTurned}
-use Rattle.bp_cow.specs.Touched.{job_of, run_byte, run_end}
-use Rattle.bp_cow.specs.declared.touched.Run.{Run}
+use Rattle.bp_cow.specs.Touched.{job_of, run_byte}
 use Rattle.bp_cow.specs.declared.touched.Touched.{Touched}
 use Rattle.bp_cow.proofs.CommitTaking.{commit_performs_after, cover_open}
 use Rattle.bp_cow.proofs.LeafCover.{has_size}
 use Rattle.bp_cow.proofs.RunWrites.{IsFileRun, sized_bytes, sized_changes, sized_size}
+use Rattle.bp_limits.specs.Limits.{block_words, max_height}
 use Rattle.pm_region.specs.Memory.{Memory, current_words}
 use Rattle.bp_calls.specs.TouchedAcross.{WritesAcross}
 use Rattle.bp_calls.specs.WritesFile.{WritesFile}
@@ -140,11 +139,11 @@ module _ (old middle new : Memory) (blocks inodes after last : Set) (n off : ℕ
 
   few : prep_stores (size_of image (suc n)) (size_of image (suc n)) (off + length bytes) (need_for image (suc n) (size_of image (suc n)) (off + length bytes)) + commit_stores mid touched ≤ most_stores (need image write)
   few =
-      go _ _ _ _ _ _ needs count_is (behind_whole (size_of image (suc n)) (size_of image (suc n)) (off + length bytes) 3) (across_words old blocks inodes n off bytes touched across)
+      go _ _ _ _ _ _ needs count_is (behind_whole (size_of image (suc n)) (size_of image (suc n)) (off + length bytes) max_height) (across_words old blocks inodes n off bytes touched across)
       (across_copies old blocks inodes n off bytes touched across image)
     where
-      go : (made copied copied_mid words needed behind : ℕ) → needed ≡ made + copied → copied_mid ≡ copied → behind ≤ 512 * suc 3 → words ≡ 1 → copied ≤ 50 →
-          512 * made + behind + 2 + ((512 + 1) * copied_mid + words + 1) ≤ 512 * (needed + 6) + 64
+      go : (made copied copied_mid words needed behind : ℕ) → needed ≡ made + copied → copied_mid ≡ copied → behind ≤ block_words * suc max_height → words ≡ 1 → copied ≤ 50 →
+          block_words * made + behind + 2 + ((block_words + 1) * copied_mid + words + 1) ≤ most_stores needed
       go made copied copied_mid words needed behind a b c d e = omega (arith, a, b, c, d, e)
 
   pub across_performs : Performs old new (writes (suc n) off (length bytes)) (WritesFile (suc n) off bytes)

@@ -1,35 +1,35 @@
 -- Behind the preparation of a write across the size of a file, what is touched can be committed: the sizes that count are those that the trees have, and for the file the end of the bytes.
-use Rattle.std.proofs.Common.{◌≡◌, ◌≢◌, ◌⊎◌, ℕ, suc, ◌+◌, ◌-◌, ◌*◌, ◌/◌, ◌%◌, ◌<◌, ◌≤◌, List, [], ◌∷◌, ◌++◌, ◌==◌, length, drop, if◌then◌else◌, None, Some, slice_index, refl, sym, ◌∙◌, ap, subst, subst₂, suc-ne-zero, inl, inr, arith, true, lt_of_lt_of_le}
+use Rattle.std.proofs.Common.{◌≡◌, ◌≢◌, ◌⊎◌, ℕ, suc, ◌+◌, ◌-◌, ◌*◌, ◌/◌, ◌<◌, ◌≤◌, List, [], ◌∷◌, ◌==◌, length, drop, if◌then◌else◌, Some, slice_index, refl, sym, ◌∙◌, ap, subst, suc-ne-zero, inl, inr, arith, true, lt_of_lt_of_le}
 use Rattle.std.proofs.lemmas.Bool.{cases_eq, eq-eqb, ne_eqb}
 use Rattle.bp_free.specs.Set.{Set, has, members}
 use Rattle.bp_layout.specs.Free.{AreUnheld}
-use Rattle.bp_layout.specs.Inode.{kind_of, root_of, size_of, inode_count}
+use Rattle.bp_layout.specs.Inode.{root_of, size_of, inode_count}
 use Rattle.bp_layout.specs.Members.{Has, AreApart}
 use Rattle.bp_layout.specs.Need.{number_of}
-use Rattle.bp_layout.specs.Reached.{IsReached, HoldsBlock, IsUnheld, IsLiveBlock, IsFreeBlock}
+use Rattle.bp_layout.specs.Reached.{IsReached, HoldsBlock, IsLiveBlock, IsFreeBlock}
 use Rattle.bp_layout.specs.Reached.IsReached.{inode_file}
 use Rattle.bp_layout.specs.Tree.{HasBlock, IsSound}
 use Rattle.bp_layout.specs.WellFormed.{IsWellFormed}
-use Rattle.bp_layout.specs.WordPaths.{WordPath, digits, inode_path}
-use Rattle.bp_layout.specs.Words.{Image, word, block_count, height_of}
+use Rattle.bp_layout.specs.WordPaths.{WordPath, inode_path}
+use Rattle.bp_layout.specs.Words.{Image, word, height_of}
 use Rattle.bp_layout.proofs.Reached.{reached-in_file}
 use Rattle.bp_layout.proofs.TreeLaws.{live_content}
 use Rattle.bp_changes.proofs.ReachedOn.{reached_on}
 use Rattle.bp_changes.proofs.SameMeaning as meaning
-use Rattle.bp_append.specs.Prepared.{PreparesWith, need_for}
+use Rattle.bp_append.specs.Prepared.{PreparesWith}
 use Rattle.bp_append.proofs.FillLaws.{apart_parts}
 use Rattle.bp_append.proofs.OtherTrees.{other_block_back, other_block_on}
 use Rattle.bp_tree.proofs.Digits.{length-digits}
 use Rattle.bp_tree.proofs.ExistingPaths.{number-digits}
 use Rattle.bp_tree.proofs.PerformsLaws.{has-behind}
-use Rattle.bp_shapes.specs.Forest.{along, tree_trail, IsForest, IsTreePointer}
+use Rattle.bp_shapes.specs.Forest.{tree_trail, IsForest, IsTreePointer}
 use Rattle.bp_shapes.specs.Sets.{AreExactFor}
 use Rattle.bp_shapes.specs.Trail.{Trail, trail_of}
 use Rattle.bp_shapes.proofs.FreeSets.{content_fronts, content_no_pointer, wf_forest}
 use Rattle.bp_shapes.proofs.PathTrails.{length-trail_of}
-use Rattle.bp_cow.specs.CanCommit.{CanCommit, HasRunIn, IsRunIn}
+use Rattle.bp_cow.specs.CanCommit.{CanCommit, HasRunIn}
 use Rattle.bp_cow.specs.Cover.{commit_cover, copied_count}
-use Rattle.bp_cow.specs.Touched.{path_of, run_end, run_path, touched_trail, word_paths, word_values}
+use Rattle.bp_cow.specs.Touched.{path_of, run_path, word_paths, word_values}
 use Rattle.bp_cow.specs.declared.touched.Run.{Run}
 use Rattle.bp_cow.specs.declared.touched.Touched.{Touched}
 use Rattle.bp_cow.proofs.LeafCover.{IsSizedRun, leaf_cover, leaf_count, leaf_path}

@@ -1,9 +1,9 @@
 -- What a write across the size of a file touches and needs, before it prepares anything.
-use Rattle.std.proofs.Common.{◌≡◌, ◌≢◌, ℕ, suc, ◌+◌, ◌-◌, ◌*◌, ◌/◌, ◌^◌, ◌<◌, ◌≤◌, min, max, List, [], ◌∷◌, ◌++◌, ◌==◌, length, take, map, fold, flat_map, Bool, true, Some, nat_lt, if◌then◌else◌, refl, sym, ◌∙◌, ap, subst, suc-ne-zero, arith}
+use Rattle.std.proofs.Common.{◌≡◌, ℕ, suc, ◌+◌, ◌-◌, ◌*◌, ◌/◌, ◌^◌, ◌<◌, ◌≤◌, min, max, List, [], ◌∷◌, ◌++◌, ◌==◌, length, map, fold, flat_map, Bool, true, Some, nat_lt, if◌then◌else◌, refl, sym, ◌∙◌, ap, subst, suc-ne-zero, arith}
 use Rattle.std.specs.List.{range_with_len}
 use Rattle.std.proofs.lemmas.Bool.{eq-eqb, lt-ltb, ne_eqb}
 use Rattle.std.proofs.lemmas.List.{append-nil, length-map, length-take}
-use Rattle.bp_limits.specs.Limits.{block_size, block_words, max_height, max_size}
+use Rattle.bp_limits.specs.Limits.{block_size, block_words, max_height}
 use Rattle.bp_free.specs.Set.{Set}
 use Rattle.bp_layout.specs.Inode.{root_of, size_of, inode_count}
 use Rattle.bp_layout.specs.Need.{Change, Beyond, beyond, new_inodes, prepared_for, height_after, content_path, inode_word_path, need, prefixes_of}
@@ -21,7 +21,7 @@ use Rattle.bp_layout.proofs.TreeLaws.{span-is}
 use Rattle.bp_append.specs.Prepared.{need_for}
 use Rattle.bp_append.proofs.FewNeeded.{few_needed}
 use Rattle.bp_append.proofs.NeedLaws.{tall_fits, tall_low}
-use Rattle.bp_cow.specs.Cover.{LeadsInside, commit_cover, copied_count}
+use Rattle.bp_cow.specs.Cover.{LeadsInside, copied_count}
 use Rattle.bp_cow.specs.Touched.{IsTouched, NoneBegins, all_paths, run_end, run_leaves, run_path, run_paths, word_paths}
 use Rattle.bp_cow.specs.declared.touched.Run.{Run}
 use Rattle.bp_cow.specs.declared.touched.Touched.{Touched}

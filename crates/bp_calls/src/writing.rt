@@ -125,8 +125,8 @@ fn write_below<R: Region>(
     Ok(())
 }
 
-/// Writes bytes into a file from an offset on, by one store alone in its epoch. The file reaches to the end of the bytes
-/// at least, with zeros where it had none.
+/// Writes bytes into a file from an offset in bytes on, by one store alone in its epoch. The file then reaches to their
+/// end at least, with zeros where it had no bytes.
 ///
 /// # Errors
 ///

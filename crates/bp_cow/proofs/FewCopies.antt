@@ -1,19 +1,19 @@
 -- The leaves of a run stand side by side, so few blocks are copied for them.
 use Rattle.std.proofs.Common.{◌≡◌, ◌⊎◌, ℕ, zero, suc, ◌+◌, ◌-◌, ◌*◌, ◌/◌, ◌%◌, ◌<◌, ◌≤◌, List, [], ◌∷◌, ◌++◌, ◌&&◌, length, Bool, true, false, Some, refl, sym, ◌∙◌, ap, subst, arith, inl, inr, append_assoc}
 use Rattle.std.specs.Prelude.{nat_le, bytes_eq}
-use Rattle.std.proofs.lemmas.Bool.{cases_eq, cases_lt, le-leb, leb-true, or_left, or_right}
-use Rattle.std.proofs.lemmas.List.{length-append, append-nil}
+use Rattle.std.proofs.lemmas.Bool.{cases_eq, cases_lt, le-leb, leb-true, or_right}
+use Rattle.std.proofs.lemmas.List.{length-append}
 use Rattle.bp_layout.proofs.Below.{bytes_eq_self}
 use Rattle.bp_layout.specs.WellFormed.{IsWellFormed}
 use Rattle.bp_layout.specs.WordPaths.{digits}
 use Rattle.bp_layout.specs.Words.{Image}
 use Rattle.bp_tree.proofs.Digits.{length-digits}
-use Rattle.bp_shapes.specs.Trail.{Trail, trail_of}
+use Rattle.bp_shapes.specs.Trail.{trail_of}
 use Rattle.bp_shapes.proofs.PathTrails.{length-trail_of}
 use Rattle.bp_cow.specs.CanCommit.{CanCommit}
 use Rattle.bp_cow.specs.Cover.{commit_cover, copied_count}
 use Rattle.bp_cow.specs.Job.{Job, front, ways, begins, copied, turned_for, turned_upto}
-use Rattle.bp_cow.specs.Touched.{IsTouched, NoneBegins, all_paths, run_leaves, run_way, leaves_of, job_of}
+use Rattle.bp_cow.specs.Touched.{IsTouched, NoneBegins, all_paths, run_leaves, leaves_of, job_of}
 use Rattle.bp_cow.specs.declared.touched.Run.{Run}
 use Rattle.bp_cow.specs.declared.touched.Touched.{Touched}
 use Rattle.bp_cow.proofs.CopiesNeed.{none-begins}

@@ -1,6 +1,6 @@
 -- The words of a run in an inode's tree, with the word of the inode's size, have the pointer to the inode's leaf for their cover, since the inode file has no null.
 -- So they have it in each image, and before a preparation as behind it.
-use Rattle.std.proofs.Common.{◌≡◌, ◌≢◌, ◌⊎◌, ℕ, zero, suc, ◌+◌, ◌-◌, ◌*◌, ◌/◌, ◌%◌, ◌^◌, ◌<◌, ◌≤◌, List, [], ◌∷◌, ◌++◌, length, take, None, Some, slice_index, refl, sym, ◌∙◌, ap, subst, inl, inr, arith, append_assoc}
+use Rattle.std.proofs.Common.{◌≡◌, ◌⊎◌, ℕ, zero, suc, ◌+◌, ◌-◌, ◌*◌, ◌/◌, ◌%◌, ◌^◌, ◌<◌, ◌≤◌, List, [], ◌∷◌, length, take, Some, slice_index, refl, sym, ◌∙◌, ap, subst, inl, inr, arith}
 use Rattle.std.specs.List.{All}
 use Rattle.std.proofs.lemmas.Bool.{cases_lt}
 use Rattle.std.proofs.lemmas.List.{length-map, length-take}
@@ -11,13 +11,11 @@ use Rattle.bp_layout.specs.Inode.{root_of, size_of, inode_count}
 use Rattle.bp_layout.specs.Members.{Has}
 use Rattle.bp_layout.specs.Need.{Change, height_after, is_there_after, existing_from, common_all, cover_of, prefixes_of}
 use Rattle.bp_layout.specs.Need as layout
-use Rattle.bp_layout.specs.Reached.{IsReached}
-use Rattle.bp_layout.specs.Tree.{node, IsFull, IsLivePointer, IsLiveWord, IsSound}
+use Rattle.bp_layout.specs.Tree.{node, IsFull, IsLiveWord, IsSound}
 use Rattle.bp_layout.specs.WellFormed.{IsWellFormed}
 use Rattle.bp_layout.specs.WordPaths.{WordPath, digits, inode_path}
 use Rattle.bp_layout.specs.Words.{Image, block_count, block_of, height_of}
 use Rattle.bp_layout.proofs.Addresses.{IsUnderNodes}
-use Rattle.bp_layout.proofs.Reached.{reached-in_file}
 use Rattle.bp_layout.proofs.TreeLaws.{live_above, live_content, live_pointer_word}
 use Rattle.bp_shapes.specs.Forest.{along}
 use Rattle.bp_shapes.specs.Trail.{Trail, block_on, trail_of}
@@ -26,7 +24,7 @@ use Rattle.bp_tree.proofs.Digits.{length-digits}
 use Rattle.bp_tree.proofs.ExistingPaths.{AllThere, existing-all, inodes-there}
 use Rattle.bp_tree.proofs.PathLaws.{small_digits}
 use Rattle.bp_cow.specs.Cover.{end_path, end_path_of, ends, ends_of, BeginAlike, CoverHas, LeadsInside, commit_cover, copied_count}
-use Rattle.bp_cow.specs.Touched.{HasRun, IsRun, IsTouched, NoneBegins, all_paths, job_of, leaves_of, path_of, run_end, run_leaves, run_path, word_paths}
+use Rattle.bp_cow.specs.Touched.{HasRun, IsTouched, NoneBegins, all_paths, leaves_of, path_of, run_end, run_leaves, run_path, word_paths}
 use Rattle.bp_cow.specs.declared.touched.Run.{Run}
 use Rattle.bp_cow.specs.declared.touched.Touched.{Touched}
 use Rattle.bp_cow.proofs.CommonPaths.{Begins, all-begin, all-most}

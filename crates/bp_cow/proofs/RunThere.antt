@@ -1,21 +1,20 @@
 -- A write below the size of a file makes no node, so on the common path of its words a node is there just where a pointer of the image leads to it.
 use Rattle.std.proofs.Common.{◌≡◌, ◌≢◌, ◌⊎◌, ℕ, zero, suc, ◌+◌, ◌-◌, ◌*◌, ◌/◌, ◌%◌, ◌<◌, ◌≤◌, List, [], ◌∷◌, ◌++◌, length, take, Bool, true, false, not, ◌==◌, ◌||◌, Some, refl, sym, ◌∙◌, ap, subst, arith, inl, inr}
 use Rattle.std.proofs.lemmas.Bool.{cases_eq, cases_lt, eq-eqb, le-leb, lt-ltb}
-use Rattle.std.proofs.lemmas.List.{length-append, length-take, take-append-le, take-take}
+use Rattle.std.proofs.lemmas.List.{length-append, take-append-le, take-take}
 use Rattle.std.proofs.Math.Seq.{take-append-add, take-length}
 use Rattle.bp_layout.specs.Inode.{root_of, size_of, inode_count}
 use Rattle.bp_layout.specs.Need.{Change, preparation, growth, height_after, number_of, is_there, is_there_after, common_all}
 use Rattle.bp_layout.specs.Need.Change.{writes}
-use Rattle.bp_layout.specs.Nodes.{is_present}
 use Rattle.bp_layout.specs.Reached.{IsReached}
 use Rattle.bp_layout.specs.Reached.IsReached.{inode_file}
-use Rattle.bp_layout.specs.Tree.{node, word_at, place_of, span, IsLivePointer, IsLiveWord, IsSound}
+use Rattle.bp_layout.specs.Tree.{node, span, IsLivePointer, IsLiveWord, IsSound}
 use Rattle.bp_layout.specs.WellFormed.{IsWellFormed}
 use Rattle.bp_layout.specs.WordPaths.{WordPath, address, address_from, digits, inode_path, is_pointed}
 use Rattle.bp_layout.specs.Words.{Image, word, block_of, height_of}
 use Rattle.bp_layout.proofs.Addresses.{IsUnderNodes, address_from-append, address_from-digits, word-place_of}
 use Rattle.bp_layout.proofs.Reached.{reached-in_file}
-use Rattle.bp_layout.proofs.TreeLaws.{live_above, live_content, live_pointer_word, word_at-suc, word_at-zero}
+use Rattle.bp_layout.proofs.TreeLaws.{live_above, live_content, live_pointer_word}
 use Rattle.bp_tree.proofs.Digits.{length-digits}
 use Rattle.bp_tree.proofs.ExistingPaths.{node_under, reads-inodes, reads-tree, number-digits}
 use Rattle.bp_cow.specs.Touched.{all_paths, run_end, run_path}

@@ -1,5 +1,5 @@
 -- What a commit of a run, alone or with the size of its file beside it, makes of an image: the file has the new bytes and that size, and nothing else has changed.
-use Rattle.std.proofs.Common.{◌≡◌, ◌≢◌, ◌⊎◌, ℕ, zero, suc, ◌+◌, ◌-◌, ◌*◌, ◌/◌, ◌%◌, ◌^◌, ◌<◌, ◌≤◌, List, [], ◌∷◌, ◌++◌, length, max, Bool, true, false, ◌&&◌, nat_le, if◌then◌else◌, Some, slice_index, refl, sym, ◌∙◌, ap, subst, arith, inl, inr, lt_of_lt_of_le}
+use Rattle.std.proofs.Common.{◌≡◌, ◌⊎◌, ℕ, zero, suc, ◌+◌, ◌-◌, ◌*◌, ◌/◌, ◌%◌, ◌^◌, ◌<◌, ◌≤◌, List, [], ◌∷◌, ◌++◌, length, max, Bool, true, false, ◌&&◌, nat_le, if◌then◌else◌, Some, slice_index, refl, sym, ◌∙◌, ap, subst, arith, inl, inr, lt_of_lt_of_le}
 use Rattle.std.proofs.lemmas.Bool.{cases_eq, cases_lt, le-ltb, lt-leb}
 use Rattle.bp_layout.specs.Inode.{kind_of, root_of, size_of}
 use Rattle.bp_layout.specs.Reached.{IsReached}
@@ -12,7 +12,7 @@ use Rattle.bp_layout.proofs.TreeLaws.{live_above, live_content}
 use Rattle.bp_changes.specs.Commits.{Commits, CommitsOnly, word_after}
 use Rattle.bp_changes.specs.Effects.{ChangesFile}
 use Rattle.bp_changes.proofs.Committed.{commit_writes}
-use Rattle.bp_shapes.specs.Forest.{along, root_trail, tree_trail, IsForest, IsTreePointer}
+use Rattle.bp_shapes.specs.Forest.{along, root_trail, tree_trail, IsTreePointer}
 use Rattle.bp_shapes.specs.Trail.{Trail, trail_of, word_on}
 use Rattle.bp_shapes.proofs.ForestLaws.{IsShort, same_along, same_trail, short, word-tree}
 use Rattle.bp_tree.proofs.Digits.{length-digits}

@@ -1,9 +1,6 @@
-use Rattle.std.proofs.Common.{◌≡◌, ℕ, ◌+◌, ◌-◌, ◌*◌, ◌<◌, ◌≤◌, List, drop, length, slice_index, arith}
+use Rattle.std.proofs.Common.{◌+◌, ◌≤◌, length, arith}
 use Rattle.pm_region.specs.Memory.{current_words}
-use Rattle.bp_append.specs.Prepared.{CanPrepare, PreparesWith}
 use Rattle.bp_free.specs.Set.{members}
-use Rattle.bp_layout.specs.Inode.{size_of}
-use Rattle.bp_layout.specs.Nodes.{nodes_for}
 use Rattle.bp_cow.specs.Cover.{copied_count}
 use Rattle.bp_calls.specs.TouchedAcross.{WritesAcross}
 use Rattle.bp_calls.proofs.AcrossCalls.{at_apart, at_commit, at_done, at_few, at_inside, at_lacks, at_prepare, at_prepared, at_shape, cut_at}
@@ -53,10 +50,13 @@ prep-requires g c =
     c.requires.can c.requires.below c.requires.past c.tree_of-tree.ensures.size c.split_at.ensures.front c.touched_across-touched.ensures in
     let enough : c.need_prep-behind.result + copied_count (current_words (g.R.Region.memory c.args.parts.now.region)) c.touched_across-touched.result ≤ length (members c.args.parts.now.blocks) =
     omega (arith, c.if-free-need.false, c.count-free.ensures, c.need_cover.ensures) in
-    let can : CanPrepare (g.R.Region.memory c.args.parts.now.region) (members c.args.parts.now.blocks) c.args.i c.root_path-root.result.items c.tree_of-tree.result.size (c.args.off + length c.args.bytes.now) =
-    at_prepare (g.R.Region.memory c.args.parts.now.region) c.args.parts.now.blocks c.args.parts.now.inodes c.args.off c.args.bytes.now c.touched_across-touched.result c.args.i c.tree_of-tree.result.root c.tree_of-tree.result.size c.need_prep-behind.result c.root_path-root.result.items
-    across c.tree_of-tree.ensures.root c.tree_of-tree.ensures.size c.need_prep-behind.ensures (omega (arith, enough)) c.root_path-root.ensures in
-    record { can = (c.args.i, can) }
+    record {
+      can = (
+        c.args.i,
+        at_prepare (g.R.Region.memory c.args.parts.now.region) c.args.parts.now.blocks c.args.parts.now.inodes c.args.off c.args.bytes.now c.touched_across-touched.result c.args.i
+            c.tree_of-tree.result.root _ c.need_prep-behind.result c.root_path-root.result.items across c.tree_of-tree.ensures.root c.tree_of-tree.ensures.size c.need_prep-behind.ensures (omega (arith, enough)) c.root_path-root.ensures,
+      );
+    }
 
 pub commit-requires : goal.commit-requires
 commit-requires g c κs within =
@@ -65,11 +65,10 @@ commit-requires g c κs within =
     c.requires.can c.requires.below c.requires.past c.tree_of-tree.ensures.size c.split_at.ensures.front c.touched_across-touched.ensures in
     let enough : c.need_prep-behind.result + copied_count (current_words (g.R.Region.memory c.args.parts.now.region)) c.touched_across-touched.result ≤ length (members c.args.parts.now.blocks) =
     omega (arith, c.if-free-need.false, c.count-free.ensures, c.need_cover.ensures) in
-    let can : CanPrepare (g.R.Region.memory c.args.parts.now.region) (members c.args.parts.now.blocks) c.args.i c.root_path-root.result.items c.tree_of-tree.result.size (c.args.off + length c.args.bytes.now) =
-    at_prepare (g.R.Region.memory c.args.parts.now.region) c.args.parts.now.blocks c.args.parts.now.inodes c.args.off c.args.bytes.now c.touched_across-touched.result c.args.i c.tree_of-tree.result.root c.tree_of-tree.result.size c.need_prep-behind.result c.root_path-root.result.items
-    across c.tree_of-tree.ensures.root c.tree_of-tree.ensures.size c.need_prep-behind.ensures (omega (arith, enough)) c.root_path-root.ensures in
     let prepared = at_prepared (g.R.Region.memory c.args.parts.now.region) c.args.parts.now.blocks c.args.parts.now.inodes c.args.off c.args.bytes.now c.touched_across-touched.result (g.R.Region.memory c.prep.new.parts.region) c.prep.new.parts.blocks
-    c.args.i c.tree_of-tree.result.size c.split_at.result.1.now c.tree_of-tree.ensures.size c.split_at.ensures.back (c.prep.ensures.prepares c.args.i can) in
+    c.args.i _ _ (c.prep.ensures.prepares c.args.i
+    (at_prepare (g.R.Region.memory c.args.parts.now.region) c.args.parts.now.blocks c.args.parts.now.inodes c.args.off c.args.bytes.now c.touched_across-touched.result c.args.i
+    c.tree_of-tree.result.root _ c.need_prep-behind.result c.root_path-root.result.items across c.tree_of-tree.ensures.root c.tree_of-tree.ensures.size c.need_prep-behind.ensures (omega (arith, enough)) c.root_path-root.ensures)) c.tree_of-tree.ensures.size c.split_at.ensures.back in
     let asks = at_commit (g.R.Region.memory c.args.parts.now.region) c.args.parts.now.blocks c.args.parts.now.inodes c.args.off c.args.bytes.now c.touched_across-touched.result (g.R.Region.memory c.prep.new.parts.region) c.prep.new.parts.blocks
     c.args.i c.tree_of-tree.result.root c.tree_of-tree.result.size c.need_prep-behind.result across c.tree_of-tree.ensures.root c.tree_of-tree.ensures.size c.need_prep-behind.ensures enough prepared c.prep.ensures.room in
     (within, (asks.well_formed, (asks.can, (asks.fits, (asks.some, asks.room)))))
@@ -81,11 +80,10 @@ returns-clause-performs g c =
     c.requires.can c.requires.below c.requires.past c.tree_of-tree.ensures.size c.split_at.ensures.front c.touched_across-touched.ensures in
     let enough : c.need_prep-behind.result + copied_count (current_words (g.R.Region.memory c.args.parts.now.region)) c.touched_across-touched.result ≤ length (members c.args.parts.now.blocks) =
     omega (arith, c.if-free-need.false, c.count-free.ensures, c.need_cover.ensures) in
-    let can : CanPrepare (g.R.Region.memory c.args.parts.now.region) (members c.args.parts.now.blocks) c.args.i c.root_path-root.result.items c.tree_of-tree.result.size (c.args.off + length c.args.bytes.now) =
-    at_prepare (g.R.Region.memory c.args.parts.now.region) c.args.parts.now.blocks c.args.parts.now.inodes c.args.off c.args.bytes.now c.touched_across-touched.result c.args.i c.tree_of-tree.result.root c.tree_of-tree.result.size c.need_prep-behind.result c.root_path-root.result.items
-    across c.tree_of-tree.ensures.root c.tree_of-tree.ensures.size c.need_prep-behind.ensures (omega (arith, enough)) c.root_path-root.ensures in
     let prepared = at_prepared (g.R.Region.memory c.args.parts.now.region) c.args.parts.now.blocks c.args.parts.now.inodes c.args.off c.args.bytes.now c.touched_across-touched.result (g.R.Region.memory c.prep.new.parts.region) c.prep.new.parts.blocks
-    c.args.i c.tree_of-tree.result.size c.split_at.result.1.now c.tree_of-tree.ensures.size c.split_at.ensures.back (c.prep.ensures.prepares c.args.i can) in
+    c.args.i _ _ (c.prep.ensures.prepares c.args.i
+    (at_prepare (g.R.Region.memory c.args.parts.now.region) c.args.parts.now.blocks c.args.parts.now.inodes c.args.off c.args.bytes.now c.touched_across-touched.result c.args.i
+    c.tree_of-tree.result.root _ c.need_prep-behind.result c.root_path-root.result.items across c.tree_of-tree.ensures.root c.tree_of-tree.ensures.size c.need_prep-behind.ensures (omega (arith, enough)) c.root_path-root.ensures)) c.tree_of-tree.ensures.size c.split_at.ensures.back in
     let done = at_done (g.R.Region.memory c.args.parts.now.region) c.args.parts.now.blocks c.args.parts.now.inodes c.args.off c.args.bytes.now c.touched_across-touched.result (g.R.Region.memory c.prep.new.parts.region) c.prep.new.parts.blocks
     (g.R.Region.memory c.commit.new.parts.region) c.commit.new.parts.blocks c.args.i across prepared (λ k. omega (arith, c.type_inv.bytes k)) c.commit.ensures.commits c.commit.ensures.size c.prep.ensures.room in
     done.0
@@ -97,11 +95,10 @@ returns-clause-exact g c =
     c.requires.can c.requires.below c.requires.past c.tree_of-tree.ensures.size c.split_at.ensures.front c.touched_across-touched.ensures in
     let enough : c.need_prep-behind.result + copied_count (current_words (g.R.Region.memory c.args.parts.now.region)) c.touched_across-touched.result ≤ length (members c.args.parts.now.blocks) =
     omega (arith, c.if-free-need.false, c.count-free.ensures, c.need_cover.ensures) in
-    let can : CanPrepare (g.R.Region.memory c.args.parts.now.region) (members c.args.parts.now.blocks) c.args.i c.root_path-root.result.items c.tree_of-tree.result.size (c.args.off + length c.args.bytes.now) =
-    at_prepare (g.R.Region.memory c.args.parts.now.region) c.args.parts.now.blocks c.args.parts.now.inodes c.args.off c.args.bytes.now c.touched_across-touched.result c.args.i c.tree_of-tree.result.root c.tree_of-tree.result.size c.need_prep-behind.result c.root_path-root.result.items
-    across c.tree_of-tree.ensures.root c.tree_of-tree.ensures.size c.need_prep-behind.ensures (omega (arith, enough)) c.root_path-root.ensures in
     let prepared = at_prepared (g.R.Region.memory c.args.parts.now.region) c.args.parts.now.blocks c.args.parts.now.inodes c.args.off c.args.bytes.now c.touched_across-touched.result (g.R.Region.memory c.prep.new.parts.region) c.prep.new.parts.blocks
-    c.args.i c.tree_of-tree.result.size c.split_at.result.1.now c.tree_of-tree.ensures.size c.split_at.ensures.back (c.prep.ensures.prepares c.args.i can) in
+    c.args.i _ _ (c.prep.ensures.prepares c.args.i
+    (at_prepare (g.R.Region.memory c.args.parts.now.region) c.args.parts.now.blocks c.args.parts.now.inodes c.args.off c.args.bytes.now c.touched_across-touched.result c.args.i
+    c.tree_of-tree.result.root _ c.need_prep-behind.result c.root_path-root.result.items across c.tree_of-tree.ensures.root c.tree_of-tree.ensures.size c.need_prep-behind.ensures (omega (arith, enough)) c.root_path-root.ensures)) c.tree_of-tree.ensures.size c.split_at.ensures.back in
     let done = at_done (g.R.Region.memory c.args.parts.now.region) c.args.parts.now.blocks c.args.parts.now.inodes c.args.off c.args.bytes.now c.touched_across-touched.result (g.R.Region.memory c.prep.new.parts.region) c.prep.new.parts.blocks
     (g.R.Region.memory c.commit.new.parts.region) c.commit.new.parts.blocks c.args.i across prepared (λ k. omega (arith, c.type_inv.bytes k)) c.commit.ensures.commits c.commit.ensures.size c.prep.ensures.room in
     rw (c.commit.ensures.inodes, c.prep.ensures.inodes) done.1

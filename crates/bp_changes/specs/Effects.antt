@@ -142,3 +142,36 @@ pub record RespellsEntry (old new : Image) (i s j : ℕ) : Type 0 where
   pub new_name : (x l : ℕ) → EntryNames old i x l → x ≢ s → name_at old i x ≢ name_at new i s
   pub bytes : (u o : ℕ) → IsReached old u → kind_of old u ≡ 1 → o < size_of old u →
       byte new (root_of new u) o ≡ byte old (root_of old u) o
+
+-- ---- a name carried to another directory
+
+-- inode j, and each inode that a path from it finds
+pub data IsAtOrBelow (image : Image) (j : ℕ) : ℕ → Type 0 where
+  itself : {k : ℕ} → k ≡ j → IsAtOrBelow image j k
+  named : {i k : ℕ} → (slot : ℕ) → IsAtOrBelow image j i → EntryNames image i slot k → IsAtOrBelow image j k
+
+-- an entry that the first image has, and not the one at slot s of directory i
+pub record IsOldEntry (old : Image) (i s u x l : ℕ) : Type 0 where
+  pub before : EntryNames old u x l
+  pub other : (u ≡ i) → (x ≡ s) → ⊥
+
+-- Entry (k, r) names j, which entry (i, s) named, under a name that is new to directory k. The target was empty, or the
+-- directory grew by it. The source is empty. All other entries keep their slots, their names and what they name.
+pub record CarriesEntry (old new : Image) (i s k r j : ℕ) : Type 0 where
+  pub reached : IsReached old i
+  pub names : EntryNames old i s j
+  pub target : IsReached old k
+  pub trees : KeepsTrees old new
+  pub kind : (u : ℕ) → IsReached old u → kind_of new u ≡ kind_of old u
+  pub size : (u : ℕ) → IsReached old u → u ≢ k → size_of new u ≡ size_of old u
+  pub directory_size : size_of new k % entry_size ≡ 0
+  pub emptied : inumber_at new i s ≡ 0
+  pub entry : EntryNames new k r j
+  pub back : (u x l : ℕ) → IsReached old u → EntryNames new u x l → IsNewEntry k r j u x l ⊎ IsOldEntry old i s u x l
+  pub stay : (u x l : ℕ) → IsReached old u → EntryNames old u x l → ((u ≡ i) → (x ≡ s) → ⊥) → EntryNames new u x l
+  pub same_names : (u x l : ℕ) → IsReached old u → EntryNames old u x l → ((u ≡ i) → (x ≡ s) → ⊥) →
+      name_at new u x ≡ name_at old u x
+  pub name : IsName (name_at new k r)
+  pub new_name : (x l : ℕ) → EntryNames old k x l → name_at old k x ≢ name_at new k r
+  pub bytes : (u o : ℕ) → IsReached old u → kind_of old u ≡ 1 → o < size_of old u →
+      byte new (root_of new u) o ≡ byte old (root_of old u) o

@@ -1,8 +1,7 @@
 -- The bytes of a file change in an image that means the same as a first one: so they change in the first.
-use Rattle.std.proofs.Common.{◌≡◌, ◌≢◌, ℕ, zero, suc, ◌+◌, ◌*◌, ◌/◌, ◌<◌, sym, ◌∙◌, ap, arith}
+use Rattle.std.proofs.Common.{◌≡◌, ℕ, sym, ◌∙◌}
 use Rattle.bp_layout.specs.Words.{Image}
-use Rattle.bp_layout.specs.Inode.{kind_of, size_of}
-use Rattle.bp_layout.specs.Directory.{entry_count}
+use Rattle.bp_layout.specs.Inode.{size_of}
 use Rattle.bp_layout.specs.Reached.{IsReached}
 use Rattle.bp_layout.specs.WellFormed.{IsWellFormed}
 use Rattle.bp_changes.specs.Effects.{ChangesFile}

@@ -15,3 +15,4 @@ pub mod Move
 pub mod Respell
 pub mod ReachedOn
 pub mod ChangesOver
+pub mod Carry

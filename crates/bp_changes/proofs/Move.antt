@@ -12,7 +12,7 @@ use Rattle.bp_layout.specs.Reached.IsReached.{inode_file, root_directory, named}
 use Rattle.bp_layout.specs.Lookup.{node_of}
 use Rattle.bp_layout.specs.Lookup.Node.{file}
 use Rattle.bp_layout.specs.WellFormed.{IsWellFormed}
-use Rattle.bp_changes.specs.Effects.{CanMoveEntry, MovesEntry}
+use Rattle.bp_changes.specs.Effects.{CanMoveEntry, MovesEntry, CarriesEntry, IsNewEntry, IsOldEntry}
 use Rattle.bp_layout.proofs.Finding.{map-same}
 use Rattle.bp_layout.proofs.Reached.{reached-in_file}
 use Rattle.bp_layout.proofs.LookupLaws.{Shows, lookup_in-shows, lookup_in-found, lookup_in-none}
@@ -75,7 +75,7 @@ module _ (old new : Image) (wf : IsWellFormed old) (i s k r j : ℕ) (can : CanM
       go (inl e) (inr f) = other (λ a b. f b)
       go (inr e) f = other (λ a b. e a)
 
-  names_stay : (u x l : ℕ) → IsReached old u → EntryNames old u x l → ((u ≡ i) → (x ≡ s) → ⊥) → ((u ≡ k) → (x ≡ r) → ⊥) → EntryNames new u x l
+  pub names_stay : (u x l : ℕ) → IsReached old u → EntryNames old u x l → ((u ≡ i) → (x ≡ s) → ⊥) → ((u ≡ k) → (x ≡ r) → ⊥) → EntryNames new u x l
   names_stay u x l reached n one two = record {
     directory = moves.kind u (in_inodes u reached) ∙ n.directory;
     in_size = rw (count_stays u reached) n.in_size;
@@ -83,7 +83,7 @@ module _ (old new : Image) (wf : IsWellFormed old) (i s k r j : ℕ) (can : CanM
     not_empty = n.not_empty;
   }
 
-  new_entry : EntryNames new k r j
+  pub new_entry : EntryNames new k r j
   new_entry = record {
     directory = moves.kind k (in_inodes k can.target) ∙ can.directory;
     in_size = rw (count_stays k can.target) can.in_size;
@@ -91,7 +91,7 @@ module _ (old new : Image) (wf : IsWellFormed old) (i s k r j : ℕ) (can : CanM
     not_empty = can.entry.not_empty;
   }
 
-  reached_back : (t : ℕ) → IsReached new t → IsReached old t
+  pub reached_back : (t : ℕ) → IsReached new t → IsReached old t
   reached_back _ inode_file = inode_file
   reached_back _ root_directory = root_directory
   reached_back _ (named {i = u} {j = l} x from n) = go (reached_back u from) (entry_of u x l (reached_back u from) n)
@@ -240,3 +240,30 @@ module _ (old new : Image) (wf : IsWellFormed old) (i s k r j : ℕ) (can : CanM
           let inumber : inumber_at old k r ≡ v = ap (inumber_at old k) (sym slot) ∙ shows.entry.inumber in
           lookup_in-none old v name (λ l below.
           can.alone below.slot l (λ empty. shows.entry.not_empty (sym inumber ∙ empty)) (subst (λ a. EntryNames old a below.slot l) (sym inumber) below.entry))
+
+  -- where no name was in the target, it is one that its directory had not
+  pub moves_carry : inumber_at old k r ≡ 0 → CarriesEntry old new i s k r j
+  moves_carry empty = record {
+    reached = can.reached;
+    names = can.entry;
+    target = can.target;
+    trees = moves.trees;
+    kind = λ u reached. moves.kind u (in_inodes u reached);
+    size = λ u reached other. moves.size u (in_inodes u reached);
+    directory_size = rw (moves.size k (in_inodes k can.target)) (wf.directory_sizes k can.target can.directory);
+    emptied = moves.emptied;
+    entry = new_entry;
+    back = λ u x l reached n. back u x l (entry_of u x l reached n);
+    stay = λ u x l reached n other. names_stay u x l reached n other (not_target u x l n);
+    same_names = λ u x l reached n other. name_of_old u x l reached n;
+    name = rw name_of_target can.name;
+    new_name = λ x l n same. not_target k x l n refl (can.new_name x l n (same ∙ name_of_target));
+    bytes = moves.bytes;
+  }
+    where
+      not_target : (u x l : ℕ) → EntryNames old u x l → (u ≡ k) → (x ≡ r) → ⊥
+      not_target u x l n e f = n.not_empty (sym n.inumber ∙ subst₂ (λ a b. inumber_at old a b ≡ 0) (sym e) (sym f) empty)
+
+      back : (u x l : ℕ) → Entry u x l → IsNewEntry k r j u x l ⊎ IsOldEntry old i s u x l
+      back u x l (is_target e f g) = inl (record { directory = e; slot = f; inode = g })
+      back u x l (is_old n one two) = inr (record { before = n; other = one })

@@ -91,6 +91,31 @@ module _ (old new : Image) (i : ℕ) (was : Name) (k : ℕ) (now : Name) (j : �
       go None f = refl
       go (Some u) f = ap Some (moves.nodes u (lookup_from-reached old 1 u also root_directory f))
 
+  -- the source's directory is not below the target, as what had the new name before has no names
+  pub not_below_target : (from to : Path) → lookup old from ≡ Some i → lookup old to ≡ Some k → rest_below (to ++ now ∷ []) from ≡ None
+  not_below_target from to from_is to_is = go (rest_below (to ++ now ∷ []) from) refl
+    where
+      nothing : (x : ℕ) → ◌≡◌ {A = Option ℕ} (Some x) None → ⊥
+      nothing x e = absurd (cc)
+
+      by_rest : (v : ℕ) (rest : Path) → lookup_in old k now ≡ Some v → ◌≡◌ {A = Option ℕ} (Some i) (lookup_from old v rest) → ⊥
+      by_rest v [] found e =
+          let gone : lookup_in old v was ≡ None = moves.alone v was found in
+          let there : lookup_in old i was ≡ Some j = moves.source in
+          nothing j (cc)
+      by_rest v (n ∷ rest) found e = nothing i (rw (moves.alone v n found) at e)
+
+      by_found : (rest : Path) (found : Option ℕ) → lookup_in old k now ≡ found → Some i ≡ option_and_then (λ v. lookup_from old v rest) found → ⊥
+      by_found rest None f e = nothing i e
+      by_found rest (Some v) f e = by_rest v rest f e
+
+      go : (o : Option Path) → rest_below (to ++ now ∷ []) from ≡ o → rest_below (to ++ now ∷ []) from ≡ None
+      go None e = e
+      go (Some rest) e =
+          let inside : lookup old (to ++ now ∷ []) ≡ lookup_in old k now = lookup_from-append old 1 to now ∙ rw to_is refl in
+          absurd (by_found rest (lookup_in old k now) refl
+          (sym from_is ∙ ap (lookup old) (rest_below-is (to ++ now ∷ []) from rest e) ∙ lookup_from-join old 1 (to ++ now ∷ []) rest ∙ rw inside refl))
+
   -- p and q are the paths of the source and of the target
   module _ (from to : Path) (from_is : lookup old from ≡ Some i) (to_is : lookup old to ≡ Some k)
       (outside : rest_below (from ++ was ∷ []) to ≡ None) (aside : rest_below (to ++ now ∷ []) from ≡ None) where

@@ -16,3 +16,4 @@ pub mod Respell
 pub mod ReachedOn
 pub mod ChangesOver
 pub mod Carry
+pub mod MoveReach

@@ -54,7 +54,7 @@ module _ (old new : Image) (wf : IsWellFormed old) (i s k r j : ℕ) (can : CanM
     is_target : u ≡ k → x ≡ r → l ≡ j → Entry u x l
     is_old : EntryNames old u x l → ((u ≡ i) → (x ≡ s) → ⊥) → ((u ≡ k) → (x ≡ r) → ⊥) → Entry u x l
 
-  entry_of : (u x l : ℕ) → IsReached old u → EntryNames new u x l → Entry u x l
+  pub entry_of : (u x l : ℕ) → IsReached old u → EntryNames new u x l → Entry u x l
   entry_of u x l reached n = go (cases_eq u k) (cases_eq x r)
     where
       kind : kind_of old u ≡ 2

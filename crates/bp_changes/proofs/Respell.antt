@@ -31,7 +31,7 @@ module _ (old new : Image) (wf : IsWellFormed old) (i s j : ℕ) (spells : Respe
       let low : x < entry_count old u = rw (count_stays u reached) at n.in_size in
       record { directory = kind; in_size = low; inumber = sym (spells.inumber u x reached kind low) ∙ n.inumber; not_empty = n.not_empty }
 
-  names_stay : (u x l : ℕ) → IsReached old u → EntryNames old u x l → EntryNames new u x l
+  pub names_stay : (u x l : ℕ) → IsReached old u → EntryNames old u x l → EntryNames new u x l
   names_stay u x l reached n = record {
     directory = spells.kind u (in_inodes u reached) ∙ n.directory;
     in_size = rw (count_stays u reached) n.in_size;
@@ -39,7 +39,7 @@ module _ (old new : Image) (wf : IsWellFormed old) (i s j : ℕ) (spells : Respe
     not_empty = n.not_empty;
   }
 
-  reached_back : (t : ℕ) → IsReached new t → IsReached old t
+  pub reached_back : (t : ℕ) → IsReached new t → IsReached old t
   reached_back _ inode_file = inode_file
   reached_back _ root_directory = root_directory
   reached_back _ (named {i = u} {j = l} x from n) = named x (reached_back u from) (names_back u x l (reached_back u from) n)

@@ -1,15 +1,19 @@
 -- What a commit makes of an image: a name moved, a name spelled anew, the bytes of one file. It may give any values to words that nobody reads.
-use Rattle.std.proofs.Common.{◌≡◌, ◌≢◌, ◌⊎◌, ℕ, zero, suc, ◌+◌, ◌*◌, ◌/◌, ◌%◌, ◌<◌, ◌≤◌, refl, sym, ◌∙◌, ap, subst, arith, inl, inr}
+use Rattle.std.proofs.Common.{◌≡◌, ◌≢◌, ◌⊎◌, ℕ, zero, suc, ◌+◌, ◌*◌, ◌/◌, ◌%◌, ◌<◌, ◌≤◌, length, refl, sym, ◌∙◌, ap, ap₂, subst, arith, inl, inr}
+use Rattle.std.proofs.lemmas.Bool.{cases_eq}
+use Rattle.std.proofs.lemmas.List.FromFn.{length-map-range_with_len}
+use Rattle.bp_limits.specs.Limits.{max_name}
+use Rattle.bp_layout.proofs.Finding.{map-same}
 use Rattle.bp_layout.specs.Words.{Image, byte_of}
 use Rattle.bp_layout.specs.Tree.{content_word, byte}
 use Rattle.bp_layout.specs.Inode.{inode_word, kind_of, root_of, size_of, inode_count}
-use Rattle.bp_layout.specs.Directory.{EntryNames, IsName, name_at, entry_count}
+use Rattle.bp_layout.specs.Directory.{EntryNames, IsName, word_in, name_at, inumber_at, entry_word, entry_count}
 use Rattle.bp_layout.specs.Reached.{IsReached}
 use Rattle.bp_layout.specs.Reached.IsReached.{inode_file}
 use Rattle.bp_layout.specs.WellFormed.{IsWellFormed}
 use Rattle.bp_layout.proofs.Reached.{reached-in_file}
 use Rattle.bp_changes.specs.Commits.{Changes, word_after, CommitsOnly}
-use Rattle.bp_changes.specs.Effects.{SetsInumber, CanMoveEntry, MovesEntry, RespellsEntry, ChangesFile}
+use Rattle.bp_changes.specs.Effects.{SetsInumber, CanMoveEntry, MovesEntry, CarriesEntry, IsNewEntry, IsOldEntry, RespellsEntry, ChangesFile}
 use Rattle.bp_changes.specs.SameContent.{IsReadByWords}
 
 no_directory : (image : Image) (t : ℕ) → kind_of image t ≡ 2 → t ≢ 0
@@ -88,6 +92,158 @@ commit_moves old new changes i s k r j can only emptied entered = record {
 
     no_file : (u d : ℕ) → kind_of old u ≡ 1 → kind_of old d ≡ 2 → u ≡ d → ⊥
     no_file u d kind directory e = let two : kind_of old u ≡ 2 = subst (λ x. kind_of old x ≡ 2) (sym e) directory in omega (arith, kind, two)
+
+-- ---- a name carried behind the last entry of a directory
+
+-- Behind the last entry of directory k stands one for j, with a name that no entry has.
+module _ (old new : Image) (changes : Changes) (i s k j : ℕ) (wf : IsWellFormed old) (reached : IsReached old i) (names : EntryNames old i s j)
+    (target : IsReached old k) (directory : kind_of old k ≡ 2) (ready : inumber_at old k (entry_count old k) ≡ j) (name : IsName (name_at old k (entry_count old k)))
+    (new_name : (x l : ℕ) → EntryNames old k x l → name_at old k x ≢ name_at old k (entry_count old k))
+    (only : CommitsOnly old new changes (λ t l. ((t ≡ i) × (l ≡ 32 * s + 0)) ⊎ ((t ≡ 0) × (l ≡ 8 * k + 2))))
+    (emptied : word_after changes old i (32 * s + 0) ≡ 0) (grown : word_after changes old 0 (8 * k + 2) ≡ size_of old k + 256)
+    (behind : (f : ℕ) → f < 32 → word_after changes old k (32 * entry_count old k + f) ≡ word_in old (root_of old k) (entry_count old k) f) where
+  in_inodes : (t : ℕ) → IsReached old t → t < inode_count old
+  in_inodes = reached-in_file old wf
+
+  kinds_stay : (u : ℕ) → IsReached old u → kind_of new u ≡ kind_of old u
+  kinds_stay u also = kind-kept old new changes _ only u (in_inodes u also) (λ here. elim here [
+    | inl source ↦ no_directory old i names.directory (sym source.0)
+    | inr size ↦ omega (arith, size.1)
+  ])
+
+  sizes_stay : (u : ℕ) → IsReached old u → u ≢ k → size_of new u ≡ size_of old u
+  sizes_stay u also other = size-kept old new changes _ only u (in_inodes u also) (λ here. elim here [
+    | inl source ↦ no_directory old i names.directory (sym source.0)
+    | inr size ↦ other (omega (arith, size.1))
+  ])
+
+  size_here : size_of new k ≡ size_of old k + 256
+  size_here = go k refl
+    where
+      go : (u : ℕ) → k ≡ u → size_of new k ≡ size_of old k + 256
+      go zero e = absurd (no_directory old k directory e)
+      go (suc n) e =
+          let low : suc n < inode_count old = rw e at (in_inodes k target) in
+          let stored : size_of new (suc n) ≡ word_after changes old 0 (8 * suc n + 2) =
+          word_committed old new changes _ only 0 (8 * suc n + 2) inode_file (inl refl) (omega (arith, low)) (λ z f. omega (arith, f)) in
+          subst (λ x. size_of new x ≡ word_after changes old 0 (8 * x + 2)) (sym e) stored ∙ grown
+
+  whole_entries : size_of old k % 256 ≡ 0
+  whole_entries = wf.directory_sizes k target directory
+
+  count_here : entry_count new k ≡ suc (entry_count old k)
+  count_here = omega (arith, size_here, whole_entries)
+
+  words_stay : (u x f : ℕ) → IsReached old u → kind_of old u ≡ 2 → x < entry_count old u → f < 32 → ((u ≡ i) → (x ≡ s) → f ≡ 0 → ⊥) → entry_word new u x f ≡ entry_word old u x f
+  words_stay u x f also kind low few other =
+      word-kept old new changes _ only u (32 * x + f) also (inr kind) (omega (arith, low, few)) (λ e. absurd (no_directory old u kind e)) (λ here. elim here [
+        | inl source ↦ other source.0 (omega (arith, source.1, few)) (omega (arith, source.1, few))
+        | inr size ↦ no_directory old u kind size.0
+      ])
+
+  words_here : (f : ℕ) → f < 32 → entry_word new k (entry_count old k) f ≡ entry_word old k (entry_count old k) f
+  words_here f few =
+      only.commits.words k (32 * entry_count old k + f) target (inr directory)
+      (let room : 8 * (32 * entry_count old k + f) + 8 ≤ size_of new k = omega (arith, few, size_here, whole_entries) in omega (arith, room)) (λ e. absurd (no_directory old k directory e))
+      ∙ behind f few
+
+  name_stays : (u x : ℕ) → length (name_at old u x) ≤ max_name → ((f : ℕ) → 1 ≤ f → f < 32 → entry_word new u x f ≡ entry_word old u x f) → name_at new u x ≡ name_at old u x
+  name_stays u x few same =
+      let short : entry_word old u x 1 ≤ max_name = (rw length-map-range_with_len at few) in
+      let byte_stays : (o : ℕ) → o < max_name → byte new (root_of new u) (256 * x + 16 + o) ≡ byte old (root_of old u) (256 * x + 16 + o) =
+      λ o small.
+      let number : (256 * x + 16 + o) / 8 ≡ 32 * x + (2 + o / 8) = omega arith in
+      rw number (ap (λ w. byte_of w ((256 * x + 16 + o) % 8)) (same (2 + o / 8) (omega arith) (omega (arith, small)))) in
+      rw (same 1 (omega arith) (omega arith)) (map-same _ _ 0 (entry_word old u x 1) (λ o low high. byte_stays o (omega (arith, high, short))))
+
+  name_here : name_at new k (entry_count old k) ≡ name_at old k (entry_count old k)
+  name_here = name_stays k (entry_count old k) name.short (λ f some few. words_here f few)
+
+  name_of_old : (u x l : ℕ) → IsReached old u → EntryNames old u x l → name_at new u x ≡ name_at old u x
+  name_of_old u x l also n = name_stays u x (wf.names u x l also n).short (λ f some few. words_stay u x f also n.directory n.in_size few (λ a b c. omega (arith, some, c)))
+
+  new_entry : EntryNames new k (entry_count old k) j
+  new_entry = record {
+    directory = kinds_stay k target ∙ directory;
+    in_size = omega (arith, count_here);
+    inumber = words_here 0 (omega arith) ∙ ready;
+    not_empty = names.not_empty;
+  }
+
+  source_empty : inumber_at new i s ≡ 0
+  source_empty =
+      word_committed old new changes _ only i (32 * s + 0) reached (inr names.directory) (omega (arith, names.in_size)) (λ e. absurd (no_directory old i names.directory e)) ∙ emptied
+
+  in_old : (u x : ℕ) → IsReached old u → kind_of old u ≡ 2 → x < entry_count new u → ((u ≡ k) → (x ≡ entry_count old k) → ⊥) → x < entry_count old u
+  in_old u x also kind low other = go (cases_eq u k)
+    where
+      go : (u ≡ k) ⊎ (u ≡ k → ⊥) → x < entry_count old u
+      go (inl e) =
+          let here : x < entry_count new k = rw (← e) low in
+          let apart : x ≢ entry_count old k = other e in
+          let below : x < entry_count old k = omega (arith, here, count_here, apart) in
+          rw e below
+      go (inr apart) = rw (sizes_stay u also apart) at low
+
+  entry_cases : (u x l : ℕ) → IsReached old u → EntryNames new u x l → IsNewEntry k (entry_count old k) j u x l ⊎ IsOldEntry old i s u x l
+  entry_cases u x l also n = go (cases_eq u k) (cases_eq x (entry_count old k))
+    where
+      kind : kind_of old u ≡ 2
+      kind = sym (kinds_stay u also) ∙ n.directory
+
+      not_source : (u ≡ i) → (x ≡ s) → ⊥
+      not_source e f = n.not_empty (sym n.inumber ∙ ap₂ (λ a b. inumber_at new a b) e f ∙ source_empty)
+
+      before : ((u ≡ k) → (x ≡ entry_count old k) → ⊥) → IsOldEntry old i s u x l
+      before other =
+          let low : x < entry_count old u = in_old u x also kind n.in_size other in
+          record {
+            before = record { directory = kind; in_size = low; inumber = sym (words_stay u x 0 also kind low (omega arith) (λ a b c. not_source a b)) ∙ n.inumber; not_empty = n.not_empty };
+            other = not_source;
+          }
+
+      go : (u ≡ k) ⊎ (u ≡ k → ⊥) → (x ≡ entry_count old k) ⊎ (x ≡ entry_count old k → ⊥) → IsNewEntry k (entry_count old k) j u x l ⊎ IsOldEntry old i s u x l
+      go (inl e) (inl f) = inl (record { directory = e; slot = f; inode = sym n.inumber ∙ ap₂ (λ a b. inumber_at new a b) e f ∙ new_entry.inumber })
+      go (inl e) (inr f) = inr (before (λ a b. f b))
+      go (inr e) f = inr (before (λ a b. e a))
+
+  names_stay : (u x l : ℕ) → IsReached old u → EntryNames old u x l → ((u ≡ i) → (x ≡ s) → ⊥) → EntryNames new u x l
+  names_stay u x l also n other = record {
+    directory = kinds_stay u also ∙ n.directory;
+    in_size = go (cases_eq u k);
+    inumber = words_stay u x 0 also n.directory n.in_size (omega arith) (λ a b c. other a b) ∙ n.inumber;
+    not_empty = n.not_empty;
+  }
+    where
+      go : (u ≡ k) ⊎ (u ≡ k → ⊥) → x < entry_count new u
+      go (inl e) =
+          let low : x < entry_count old k = rw (← e) n.in_size in
+          let more : x < entry_count new k = omega (arith, low, count_here) in
+          rw e more
+      go (inr apart) = rw (sizes_stay u also apart) n.in_size
+
+  pub commit_carries : CarriesEntry old new i s k (entry_count old k) j
+  commit_carries = record {
+    reached = reached;
+    names = names;
+    target = target;
+    trees = only.commits.trees;
+    kind = kinds_stay;
+    size = sizes_stay;
+    directory_size = omega (arith, size_here, whole_entries);
+    emptied = source_empty;
+    entry = new_entry;
+    back = entry_cases;
+    stay = names_stay;
+    same_names = λ u x l also n other. name_of_old u x l also n;
+    name = rw name_here name;
+    new_name = λ x l n. rw name_here (new_name x l n);
+    bytes = λ u o also kind low.
+        byte-kept old new changes _ only u o also kind low (λ here. elim here [
+          | inl source ↦ (let two : kind_of old u ≡ 2 = subst (λ x. kind_of old x ≡ 2) (sym source.0) names.directory in omega (arith, kind, two))
+          | inr size ↦ (let none : kind_of old 0 ≡ 1 = subst (λ x. kind_of old x ≡ 1) size.0 kind in omega (arith, none))
+        ]);
+  }
 
 -- ---- a name spelled anew
 

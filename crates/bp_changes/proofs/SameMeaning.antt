@@ -25,7 +25,7 @@ module _ (old new : Image) (wf : IsWellFormed old) (same : SameMeaning old new) 
       let number : (256 * slot + 16 + o) / 8 ≡ 32 * slot + (2 + o / 8) = omega arith in
       rw number (ap (λ w. byte_of w ((256 * slot + 16 + o) % 8)) (same.entry i slot j (2 + o / 8) reached names (omega (arith, low))))
 
-  name-same : (i slot j : ℕ) → IsReached old i → EntryNames old i slot j → name_at new i slot ≡ name_at old i slot
+  pub name-same : (i slot j : ℕ) → IsReached old i → EntryNames old i slot j → name_at new i slot ≡ name_at old i slot
   name-same i slot j reached names =
       let form : IsName (name_at old i slot) = wf.names i slot j reached names in
       let short : entry_word old i slot 1 ≤ max_name = (rw length-map-range_with_len at form.short) in
@@ -43,7 +43,7 @@ module _ (old new : Image) (wf : IsWellFormed old) (same : SameMeaning old new) 
     bytes = λ i reached kind. rw (size-same i 0 kind reached) (map-same _ _ 0 (size_of old i) (λ o low high. same.bytes i o reached kind (omega (arith, high))));
   }
 
-  names-back : (i s j : ℕ) → IsReached old i → EntryNames new i s j → EntryNames old i s j
+  pub names-back : (i s j : ℕ) → IsReached old i → EntryNames new i s j → EntryNames old i s j
   names-back i s j reached n =
       let kind : kind_of old i ≡ 2 = sym (same.kind i reached) ∙ n.directory in
       let in_size : s < entry_count old i = rw (size-same i 1 kind reached) at n.in_size in

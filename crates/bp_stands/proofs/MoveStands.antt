@@ -6,19 +6,23 @@ use Rattle.bp_layout.specs.Lookup.{Path, lookup, shown}
 use Rattle.bp_layout.specs.WellFormed.{IsWellFormed}
 use Rattle.bp_layout.specs.Below.{rest_below}
 use Rattle.bp_layout.proofs.Below.{rest_below-is}
-use Rattle.bp_changes.specs.Effects.{CanMoveEntry, MovesEntry, RespellsEntry}
+use Rattle.bp_changes.specs.Effects.{CanMoveEntry, MovesEntry, RespellsEntry, CarriesEntry}
+use Rattle.bp_changes.proofs.Carry.{carry_moves, carried_well_formed}
 use Rattle.bp_changes.proofs.Move.{entry_moves, moved_well_formed}
 use Rattle.bp_changes.proofs.Respell.{respell_moves, respelled_well_formed}
-use Rattle.bp_changes.proofs.MoveName.{MovesName, not_longer, shown_target, shown_source, shown_elsewhere, target_aside, target_empty}
+use Rattle.bp_changes.proofs.MoveName.{MovesName, not_below_target, not_longer, shown_target, shown_source, shown_elsewhere, target_aside, target_empty}
 use Rattle.bp_plain.specs.PlainTree.{FileTree}
 use Rattle.bp_plain.specs.Stands.{Stands}
 use Rattle.bp_plain.specs.Plain.{moved}
 use Rattle.bp_plain.proofs.Moved.{get-moved, after_move}
 
--- `from` and `to` are the paths of the two directories, of which neither lies below the name
+-- `from` and `to` are the paths of the two directories, of which the second does not lie below the name
 module _ (old new : Image) (i : ℕ) (was : Name) (k : ℕ) (now : Name) (j : ℕ) (moves : MovesName old new i was k now j)
     (from to : Path) (from_is : lookup old from ≡ Some i) (to_is : lookup old to ≡ Some k)
-    (outside : rest_below (from ++ was ∷ []) to ≡ None) (aside : rest_below (to ++ now ∷ []) from ≡ None) where
+    (outside : rest_below (from ++ was ∷ []) to ≡ None) where
+  aside : rest_below (to ++ now ∷ []) from ≡ None
+  aside = not_below_target old new i was k now j moves from to from_is to_is
+
   -- the tree has what was below the source below the target
   pub move_stands : (tree : FileTree) → Stands old tree → IsWellFormed new → Stands new (moved (from ++ was ∷ []) (to ++ now ∷ []) tree)
   move_stands tree stands wf = record {
@@ -37,11 +41,19 @@ module _ (old new : Image) (i : ℕ) (was : Name) (k : ℕ) (now : Name) (j : �
 -- an inumber has come from one entry into another
 pub entry_move_stands : (old new : Image) (wf : IsWellFormed old) (i s k r j : ℕ) → CanMoveEntry old i s k r j → MovesEntry old new i s k r j →
     (from to : Path) → lookup old from ≡ Some i → lookup old to ≡ Some k →
-    rest_below (from ++ name_at old i s ∷ []) to ≡ None → rest_below (to ++ name_at old k r ∷ []) from ≡ None →
+    rest_below (from ++ name_at old i s ∷ []) to ≡ None →
     (tree : FileTree) → Stands old tree → Stands new (moved (from ++ name_at old i s ∷ []) (to ++ name_at old k r ∷ []) tree)
-entry_move_stands old new wf i s k r j can moves from to from_is to_is outside aside tree stands =
-    move_stands old new i (name_at old i s) k (name_at old k r) j (entry_moves old new wf i s k r j can moves) from to from_is to_is outside aside
+entry_move_stands old new wf i s k r j can moves from to from_is to_is outside tree stands =
+    move_stands old new i (name_at old i s) k (name_at old k r) j (entry_moves old new wf i s k r j can moves) from to from_is to_is outside
     tree stands (moved_well_formed old new wf i s k r j can moves)
+
+-- a name has come to another directory under a new name
+pub carry_stands : (old new : Image) (wf : IsWellFormed old) (i s k r j : ℕ) → CarriesEntry old new i s k r j →
+    (from to : Path) → lookup old from ≡ Some i → lookup old to ≡ Some k → rest_below (from ++ name_at old i s ∷ []) to ≡ None →
+    (tree : FileTree) → Stands old tree → Stands new (moved (from ++ name_at old i s ∷ []) (to ++ name_at new k r ∷ []) tree)
+carry_stands old new wf i s k r j carries from to from_is to_is outside tree stands =
+    move_stands old new i (name_at old i s) k (name_at new k r) j (carry_moves old new wf i s k r j carries) from to from_is to_is outside
+    tree stands (carried_well_formed old new wf i s k r j carries)
 
 -- no path lies below a name in itself
 not_below : (path : Path) (name : Name) → rest_below (path ++ name ∷ []) path ≡ None
@@ -56,4 +68,4 @@ pub respell_stands : (old new : Image) (wf : IsWellFormed old) (i s j : ℕ) →
     (tree : FileTree) → Stands old tree → Stands new (moved (from ++ name_at old i s ∷ []) (from ++ name_at new i s ∷ []) tree)
 respell_stands old new wf i s j spells from from_is tree stands =
     move_stands old new i (name_at old i s) i (name_at new i s) j (respell_moves old new wf i s j spells) from from from_is from_is
-    (not_below from (name_at old i s)) (not_below from (name_at new i s)) tree stands (respelled_well_formed old new wf i s j spells)
+    (not_below from (name_at old i s)) tree stands (respelled_well_formed old new wf i s j spells)

@@ -35,7 +35,7 @@ module _ (old new : Image) (wf : IsWellFormed old) (i s k r j : ℕ) (carries : 
   two_there : kind_of new k ≡ 2
   two_there = carries.entry.directory
 
-  inode_bytes : size_of new 0 ≡ size_of old 0
+  pub inode_bytes : size_of new 0 ≡ size_of old 0
   inode_bytes =
       carries.size 0 inode_file
       (λ e. let none : kind_of new 0 ≡ 2 = subst (λ u. kind_of new u ≡ 2) (sym e) two_there in omega (arith, none))

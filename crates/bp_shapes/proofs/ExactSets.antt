@@ -1,8 +1,8 @@
 -- The blocks to which pointers lead are those that trees have, so the sets that are exact for the one are exact for the other.
-use Rattle.std.proofs.Common.{◌≡◌, ℕ, ◌<◌, ◌≤◌, Bool, true, false, refl, sym, ◌∙◌, ap}
+use Rattle.std.proofs.Common.{◌≡◌, ℕ, Bool, true, false, refl, sym, ◌∙◌, ap}
 use Rattle.bp_layout.specs.Free.{AreUnheld}
 use Rattle.bp_layout.specs.Reached.{IsReached, HoldsBlock}
-use Rattle.bp_layout.specs.Words.{Image, block_count}
+use Rattle.bp_layout.specs.Words.{Image}
 use Rattle.bp_shapes.specs.Forest.{IsExactSet, IsForest, IsTreePointer}
 use Rattle.bp_shapes.specs.Trail.{Trail, LeadsTo, block_on}
 use Rattle.bp_shapes.proofs.ForestLaws.{block-tree}

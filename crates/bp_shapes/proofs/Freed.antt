@@ -3,7 +3,7 @@ use Rattle.std.proofs.Common.{◌≡◌, ◌≢◌, ◌⊎◌, ℕ, suc, ◌+◌
 use Rattle.std.proofs.lemmas.Bool.{cases_eq, cases_lt}
 use Rattle.bp_layout.specs.Words.{Image, block_count}
 use Rattle.bp_layout.specs.Tree.{covered, HasBlock}
-use Rattle.bp_layout.specs.Inode.{root_of, size_of, ContentStandsAt}
+use Rattle.bp_layout.specs.Inode.{root_of, size_of, inode_count, ContentStandsAt}
 use Rattle.bp_layout.specs.Free.{AreFreeBlocks, AreFreeInodes, IsFreeInode}
 use Rattle.bp_layout.specs.Reached.{IsReached, IsLiveBlock, IsFreeBlock}
 use Rattle.bp_layout.specs.WellFormed.{IsWellFormed}
@@ -98,6 +98,30 @@ resize_frees old wf n size place can smaller =
 
 -- ---- an inode that is not reached any more
 
+-- the number of an inode that may be free
+pub record IsInodeNumber (image : Image) (j : ℕ) : Type 0 where
+  pub low : 2 ≤ j
+  pub high : j < inode_count image
+
+-- All but one inode are reached as before: the number of that one is free too.
+pub free_inodes_but : (old new : Image) (j : ℕ) → size_of new 0 ≡ size_of old 0 → ((t : ℕ) → IsReached new t → IsReached old t) → ((t : ℕ) → IsReached old t → t ≢ j → IsReached new t) →
+    ((t : ℕ) → IsReached new t → t ≢ j) → IsInodeNumber old j → (free after : ℕ → Bool) → AreFreeInodes old free → after j ≡ true → ((t : ℕ) → t ≢ j → after t ≡ free t) → AreFreeInodes new after
+free_inodes_but old new j bytes back on none number free after are here others = record {
+  free = λ t is. free_now t is (cases_eq t j);
+  all = λ t open_inode. all_now t open_inode (cases_eq t j);
+}
+  where
+    free_now : (t : ℕ) → after t ≡ true → (t ≡ j) ⊎ (t ≡ j → ⊥) → IsFreeInode new t
+    free_now t is (inl e) = record { low = rw e number.low; high = rw (e, bytes) number.high; free = λ reached. none t reached e }
+    free_now t is (inr apart) =
+        let was : IsFreeInode old t = are.free t (sym (others t apart) ∙ is) in
+        record { low = was.low; high = rw bytes was.high; free = λ reached. was.free (back t reached) }
+
+    all_now : (t : ℕ) → IsFreeInode new t → (t ≡ j) ⊎ (t ≡ j → ⊥) → after t ≡ true
+    all_now t open_inode (inl e) = subst (λ u. after u ≡ true) (sym e) here
+    all_now t open_inode (inr apart) =
+        others t apart ∙ are.all t (record { low = open_inode.low; high = rw bytes at open_inode.high; free = λ reached. open_inode.free (on t reached apart) })
+
 module _ (old new : Image) (wf : IsWellFormed old) (i s j : ℕ) (can : CanUnlink old i s j) (removes : RemovesEntry old new i s) where
   j_reached : IsReached old j
   j_reached = IsReached.named s can.reached can.entry
@@ -122,32 +146,9 @@ module _ (old new : Image) (wf : IsWellFormed old) (i s j : ℕ) (can : CanUnlin
 
   -- its number is free
   pub removed_inode : (free after : ℕ → Bool) → AreFreeInodes old free → after j ≡ true → ((t : ℕ) → (t ≡ j → ⊥) → after t ≡ free t) → AreFreeInodes new after
-  removed_inode free after are here others = record {
-    free = λ t is. free_now t is (cases_eq t j);
-    all = λ t open_inode. all_now t open_inode (cases_eq t j);
-  }
-    where
-      bytes : size_of new 0 ≡ size_of old 0
-      bytes = removes.size 0 (omega (arith, wf.some_inodes))
-
-      free_now : (t : ℕ) → after t ≡ true → (t ≡ j) ⊎ (t ≡ j → ⊥) → IsFreeInode new t
-      free_now t is (inl e) = record {
-        low = omega (arith, e, can.entry.not_empty, wf.not_root i s j can.reached can.entry);
-        high = rw (e, bytes) (wf.inumbers i s j can.reached can.entry);
-        free = λ reached. other t reached e;
-      }
-      free_now t is (inr apart) =
-          let was : IsFreeInode old t = are.free t (sym (others t apart) ∙ is) in
-          record { low = was.low; high = rw bytes was.high; free = λ reached. was.free (reached_back old new wf i s j can removes t reached) }
-
-      all_now : (t : ℕ) → IsFreeInode new t → (t ≡ j) ⊎ (t ≡ j → ⊥) → after t ≡ true
-      all_now t open_inode (inl e) = subst (λ u. after u ≡ true) (sym e) here
-      all_now t open_inode (inr apart) =
-          others t apart ∙ are.all t (record {
-            low = open_inode.low;
-            high = rw bytes at open_inode.high;
-            free = λ reached. open_inode.free (reached_stays old new wf i s j can removes t reached apart);
-          })
+  removed_inode =
+      free_inodes_but old new j (removes.size 0 (omega (arith, wf.some_inodes))) (reached_back old new wf i s j can removes) (reached_stays old new wf i s j can removes) other
+      (record { low = omega (arith, can.entry.not_empty, wf.not_root i s j can.reached can.entry); high = wf.inumbers i s j can.reached can.entry })
 
 -- the same by one store of 0 to the inumber
 pub remove_frees : (old : Image) (wf : IsWellFormed old) (i s j place : ℕ) → CanUnlink old i s j → ContentStandsAt old i (32 * s + 0) place →

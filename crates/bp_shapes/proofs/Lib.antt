@@ -13,3 +13,4 @@ pub mod FreeSets
 pub mod Behind
 pub mod Freed
 pub mod ExactSets
+pub mod MovedSets

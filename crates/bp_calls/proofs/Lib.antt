@@ -37,6 +37,7 @@ pub mod GrowthMemory
 pub mod GrowthRoom
 pub mod GrowthSets
 pub mod GrowthNodes
+pub mod GrowthNeed
 pub mod GrowthCover
 pub mod GrowthPerforms
 pub mod WrittenStands

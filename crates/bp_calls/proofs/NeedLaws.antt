@@ -202,6 +202,14 @@ module _ (image : Image) (i : ℕ) (wf : IsWellFormed image) (reached : IsReache
         ap (λ s. length (nodes_for image (root_of image i) s s (s + 256))) empty ∙ one_first image (root_of image i) in
         omega (arith, nothing_copied, made, count)
 
+  -- so no block is copied
+  pub none_copied : length (copied image (enters i true)) ≡ 0
+  none_copied = go (empty_slot image i) refl
+    where
+      go : (found : Option ℕ) → empty_slot image i ≡ found → length (copied image (enters i true)) ≡ 0
+      go (Some s) found = ap length (copied-one image (enters i true) (entry_path image (enters i true) i s 0) (one_slot s found) (all_slot s found))
+      go None none = nothing_copied none
+
   -- ---- so it needs at most one block, unless the directory needs one more leaf
 
   -- none, or the first leaf of a directory without entries

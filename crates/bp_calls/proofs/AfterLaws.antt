@@ -3,8 +3,8 @@ use Rattle.std.proofs.Common.{◌≡◌, ℕ, zero, suc, ◌<◌, Bool, true, fa
 use Rattle.std.proofs.lemmas.Bool.{eqb-false}
 use Rattle.bp_layout.specs.Words.{Image}
 use Rattle.bp_layout.specs.Inode.{kind_of, size_of}
-use Rattle.bp_layout.specs.Directory.{Name, EntryNames, inumber_at, name_at, entry_count, is_named, slot_named, empty_slot}
-use Rattle.bp_layout.specs.Reached.{IsReached, IsLiveBlock, IsFreeBlock}
+use Rattle.bp_layout.specs.Directory.{Name, EntryNames, inumber_at, entry_count, is_named, slot_named, empty_slot}
+use Rattle.bp_layout.specs.Reached.{IsReached, IsLiveBlock}
 use Rattle.bp_layout.specs.Reached.IsReached.{inode_file, root_directory, named}
 use Rattle.bp_layout.specs.WellFormed.{IsWellFormed}
 use Rattle.bp_layout.specs.Free.{IsFreeInode}
@@ -90,9 +90,6 @@ module _ (old new : Image) (wf : IsWellFormed old) (prepared : IsPrepared old ne
     not_empty = n.not_empty;
   }
 
-  pub name_after : (i s j : ℕ) → IsReached old i → EntryNames old i s j → name_at new i s ≡ name_at old i s
-  name_after i s j reached n = alike.name i s j reached n
-
   pub reached_after : (t : ℕ) → IsReached old t → IsReached new t
   reached_after _ inode_file = inode_file
   reached_after _ root_directory = root_directory
@@ -109,9 +106,6 @@ module _ (old new : Image) (wf : IsWellFormed old) (prepared : IsPrepared old ne
   pub live_after : (b : ℕ) → IsLiveBlock old b → IsLiveBlock new b
   live_after b live = record { tree = live.tree; reached = reached_after live.tree live.reached; has = prepared.blocks.stay live.tree b live.reached live.has }
 
-  pub free_block_after : (b : ℕ) → IsFreeBlock old b → IsFreeBlock new b
-  free_block_after b free = record { low = free.low; high = rw prepared.meaning.whole free.high; free = λ live. free.free (live_before_too b live) }
-
   pub free_inode_after : (j : ℕ) → IsFreeInode old j → IsFreeInode new j
   free_inode_after j free = record { low = free.low; high = rw prepared.inode_bytes free.high; free = λ reached. free.free (reached_before j reached) }
 
@@ -119,9 +113,6 @@ module _ (old new : Image) (wf : IsWellFormed old) (prepared : IsPrepared old ne
 
   pub slot_named_after : (i : ℕ) (name : Name) → IsReached old i → kind_of old i ≡ 2 → slot_named new i name ≡ slot_named old i name
   slot_named_after = slot_named_over old new wf prepared.meaning
-
-  pub empty_slot_after : (i : ℕ) → IsReached old i → kind_of old i ≡ 2 → empty_slot new i ≡ empty_slot old i
-  empty_slot_after = empty_slot_over old new wf prepared.meaning
 
   -- ---- paths
 

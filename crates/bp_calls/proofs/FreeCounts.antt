@@ -1,12 +1,11 @@
 -- How many blocks are free, by a set that has just the free blocks.
-use Rattle.std.proofs.Common.{◌≡◌, ◌⊎◌, ℕ, zero, suc, ◌+◌, ◌<◌, ◌≤◌, [], length, filter, Bool, true, false, sym, ◌∙◌, ap, arith, inl, inr}
+use Rattle.std.proofs.Common.{◌≡◌, ◌⊎◌, ℕ, ◌<◌, ◌≤◌, [], length, filter, Bool, true, false, sym, ◌∙◌, ap, arith, inl, inr}
 use Rattle.std.specs.List.{range_with_len}
-use Rattle.std.proofs.lemmas.Bool.{cases_eq, cases_lt, cases_Bool, false_from_ne_true, true≢false}
+use Rattle.std.proofs.lemmas.Bool.{cases_lt, cases_Bool, false_from_ne_true}
 use Rattle.std.proofs.lemmas.List.Elements.{filter_agree}
 use Rattle.bp_free.specs.Set.{Set, has, members}
 use Rattle.bp_free.proofs.Members.{filter_none, has_past, members_all}
 use Rattle.bp_layout.specs.Words.{Image, block_count}
-use Rattle.bp_layout.specs.Reached.{IsFreeBlock}
 use Rattle.bp_layout.specs.Free.{AreFreeBlocks, HasFree}
 
 -- two sets of just the free blocks are one
@@ -41,20 +40,3 @@ no_free image blocks are none = record {
   are = are;
   number = ap length (filter_none (has blocks) 0 (block_count image) (λ k low high. has_none blocks none k));
 }
-
--- one number that passes
-some_pass : (p : ℕ → Bool) (a n k : ℕ) → a ≤ k → k < a + n → p k ≡ true → 1 ≤ length (filter p (range_with_len a n))
-some_pass p a zero k low high is = absurd (omega (arith, low, high))
-some_pass p a (suc n) k low high is = go (λ more. some_pass p (a + 1) n k more (omega (arith, high)) is) (cases_Bool (p a)) (cases_eq a k)
-  where
-    go : (a + 1 ≤ k → 1 ≤ length (filter p (range_with_len (a + 1) n))) → (p a ≡ true) ⊎ (p a ≡ false) → (a ≡ k) ⊎ (a ≡ k → ⊥) → 1 ≤ length (filter p (range_with_len a (suc n)))
-    go rest (inl passes) which = rw passes (omega arith)
-    go rest (inr fails) (inl e) = absurd (true≢false (sym is ∙ ap p (sym e) ∙ fails))
-    go rest (inr fails) (inr other) = rw fails (rest (omega (arith, low, other)))
-
--- where a block is free the number is not 0
-pub some_free : (image : Image) (b free : ℕ) → IsFreeBlock image b → HasFree image free → 1 ≤ free
-some_free image b free open_block count =
-    let number : length (filter count.set (range_with_len 0 (block_count image))) ≡ free = count.number in
-    let some = some_pass count.set 0 (block_count image) b (omega arith) (omega (arith, open_block.high)) (count.are.all b open_block) in
-    omega (arith, number, some)

@@ -6,7 +6,7 @@ use Rattle.bp_layout.specs.Words.{Image, word, byte_of, height_of, slot_word}
 use Rattle.bp_layout.specs.Tree.{node, content_word, HasBlock, IsSound, IsFull, IsLiveWord}
 use Rattle.bp_layout.specs.Inode.{inode_word, kind_of, root_of, size_of, inode_count, ContentStandsAt}
 use Rattle.bp_layout.specs.Directory.{Name, EntryNames, IsName, name_at, inumber_at, entry_word, entry_count, slot_named}
-use Rattle.bp_layout.specs.Reached.{IsReached, IsFreeBlock}
+use Rattle.bp_layout.specs.Reached.{IsReached}
 use Rattle.bp_layout.specs.Reached.IsReached.{inode_file}
 use Rattle.bp_layout.specs.WellFormed.{IsWellFormed}
 use Rattle.bp_layout.proofs.TreeLaws.{KeepsPointers, content-kept, slot_word-same, word_at-suc, live_pointer_word, live_content, live_above, sound-kept, full-kept, has_block-kept, has_block-stays}
@@ -34,11 +34,7 @@ module _ (old : Image) (wf : IsWellFormed old) (n j place : ℕ) (name : Name) (
 
   -- the new blocks are in no other tree
   apart : (u b : ℕ) → IsReached old u → u ≢ suc n → HasBlock old (root_of old (suc n)) (size_of old (suc n) + 256) b → HasBlock old (root_of old u) (size_of old u) b → ⊥
-  apart u b reached other has also = go (ready.blocks b has)
-    where
-      go : HasBlock old (root_of old (suc n)) (size_of old (suc n)) b ⊎ IsFreeBlock old b → ⊥
-      go (inl mine) = other (wf.apart u (suc n) b reached ready.reached also mine)
-      go (inr free) = free.free (record { tree = u; reached = reached; has = also })
+  apart u b reached other has also = ready.apart u b reached other has also
 
   -- each other live word stays
   elsewhere : (u e l : ℕ) → IsReached old u → IsLiveWord (root_of old u) (size_of old u) (suc e) l → ((0 ≡ u) → (height_of (root_of old 0) ≡ e) → (8 * suc n + 2 ≡ l) → ⊥) →

@@ -2,16 +2,14 @@
 use Rattle.std.proofs.Common.{◌≡◌, ◌≢◌, ℕ, ◌+◌, ◌-◌, ◌*◌, ◌/◌, ◌%◌, ◌<◌, ◌≤◌, List, [], suc, true, Some, unwrap_or, ap₂, set, refl, sym, ◌∙◌, ap, subst, arith}
 use Rattle.bp_calls.specs.Entered.{IsNewInode, IsReadyEntry}
 use Rattle.bp_calls.specs.Created.{EntersName}
-use Rattle.bp_layout.specs.Need.{cover}
+use Rattle.bp_layout.specs.Need.{cover, need}
 use Rattle.bp_layout.specs.Need.Change.{enters as gains}
 use Rattle.bp_layout.specs.WordPaths.{address, tree_path}
 use Rattle.bp_changes.proofs.AddsNames.{reached_stays}
-use Rattle.bp_tree.specs.Performs.{IsOpen, Performs}
-use Rattle.bp_tree.proofs.PerformsLaws.{performs_stores}
-use Rattle.pm_region.specs.Memory.{room_in}
-use Rattle.pm_region.proofs.MayLaws.{room_after_may}
-use Rattle.pm_region.proofs.MemoryLaws.{room_in-piece}
-use Rattle.pm_epochs.proofs.PieceLaws.{IsPiece-commit}
+use Rattle.bp_tree.specs.Performs.{IsOpen}
+use Rattle.bp_calls.specs.Growth.{PerformsWithin, stores_behind_growth}
+use Rattle.bp_calls.proofs.GrowthWithin.{within_stores, within_more}
+use Rattle.bp_layout.specs.Free.{IsFreeInode}
 use Rattle.bp_calls.proofs.NeedLaws.{cover_in_slot, need_in_slot}
 use Rattle.bp_calls.proofs.OpenPlaces.{content_open, each_weaker, stands_stored, root_word_stays, content_address}
 use Rattle.bp_calls.proofs.StandsLaws.{enters_well_formed, enters_over}
@@ -53,22 +51,22 @@ pub inode_row : (image : Image) (j at : ℕ) → ContentStandsAt image 0 (8 * j)
 inode_row image j at stands = let same : 8 * j ≡ 8 * j + 0 = omega arith in subst (λ k. ContentStandsAt image 0 k at) same stands
 
 -- stores to an inode that nobody reaches
-pub inode_spare : (image : Image) → IsWellFormed image → (i j at : ℕ) (name : Name) → CanName image i j name → ContentStandsAt image 0 (8 * j + 0) at → (p v : ℕ) → AnyAt (IsWithin at 3) p v → AnyAt (IsSpare image) p v
-inode_spare image wf i j at name can stands p v inside =
+pub inode_spare : (image : Image) → IsWellFormed image → (j at : ℕ) → IsFreeInode image j → ContentStandsAt image 0 (8 * j + 0) at → (p v : ℕ) → AnyAt (IsWithin at 3) p v → AnyAt (IsSpare image) p v
+inode_spare image wf j at free stands p v inside =
     let low : at ≤ p = inside.low in
     let high : p < at + 3 = inside.high in
     let f : ℕ = p - at in
-    spare_inode image wf j f p can.free (omega arith) (row_stands image 0 (8 * j + 0) f (8 * j + f) at p (omega arith) (omega arith) (omega arith) stands)
+    spare_inode image wf j f p free (omega arith) (row_stands image 0 (8 * j + 0) f (8 * j + f) at p (omega arith) (omega arith) (omega arith) stands)
 
 -- where the file has its words: nobody reads them, and they are in a live block
-pub inode_inside : (image : Image) → IsWellFormed image → (i j at : ℕ) (name : Name) (taken : List ℕ) → CanName image i j name → ContentStandsAt image 0 (8 * j + 0) at → (p v : ℕ) → AnyAt (IsWithin at 3) p v →
+pub inode_inside : (image : Image) → IsWellFormed image → (j at : ℕ) (taken : List ℕ) → IsFreeInode image j → ContentStandsAt image 0 (8 * j + 0) at → (p v : ℕ) → AnyAt (IsWithin at 3) p v →
     AnyAt (λ q. IsSpare image q × IsOpen image taken q) p v
-inode_inside image wf i j at name taken can stands p v inside =
+inode_inside image wf j at taken free stands p v inside =
     let low : at ≤ p = inside.low in
     let high : p < at + 3 = inside.high in
     let f : ℕ = p - at in
-    let in_file : j < inode_count image = can.free.high in (
-      inode_spare image wf i j at name can stands p v inside,
+    let in_file : j < inode_count image = free.high in (
+      inode_spare image wf j at free stands p v inside,
       content_open image taken 0 (8 * j + f) p inode_file (omega (arith, in_file)) (row_stands image 0 (8 * j + 0) f (8 * j + f) at p (omega arith) (omega arith) (omega arith) stands),
     )
 
@@ -126,7 +124,7 @@ module _ (first second third last : Memory) (i s j entry : ℕ) (name : Name) (k
 
   all_inside : AddsMay (AnyAt Inside) 0 34 first third
   all_inside = may_twice (AnyAt Inside) 0 3 first 0 31 second third
-      (may_weaker (AnyAt (IsWithin at 3)) (AnyAt Inside) 0 3 first second (inode_inside image wf i j at name [] can inode_at) filled.stores)
+      (may_weaker (AnyAt (IsWithin at 3)) (AnyAt Inside) 0 3 first second (inode_inside image wf j at [] can.free inode_at) filled.stores)
       (may_weaker (AnyAt (IsWithin (entry + 1) 31)) (AnyAt Inside) 0 31 second third name_inside spells)
 
   trees_of : (other : Image) → EachMay (AnyAt Inside) image other → SameTrees image other
@@ -215,17 +213,15 @@ module _ (first second third last : Memory) (i s j entry : ℕ) (name : Name) (k
       (stands_stored mid mid_well_formed i (32 * s + 0) entry j mid_reached mid_below mid_entry
       (root_stays mid mid_well_formed i (32 * s + 0) entry j mid_reached not_file mid_below mid_entry i mid_in_file))
 
-  pub slot_performs : Performs first last (gains i true) (EntersName i name kind)
-  slot_performs = performs_stores first last (gains i true) (EntersName i name kind) (AnyAt Inside) 34 third entry j [] (λ other all. prepared_same image other wf (trees_of other all).prepared) all_inside commits tt tt tt
-      (λ p v both. both.1) (sym (subst (λ w. address w (cover image (gains i true)) ≡ entry) (sym committed) covered_after)) (omega arith) (sym (need_in_slot image i wf reached can.lacks.directory s found))
+  in_two : PerformsWithin 2 35 first last (gains i true) (EntersName i name kind)
+  in_two = within_stores first last (gains i true) (EntersName i name kind) (AnyAt Inside) 34 third entry j [] (λ other all. prepared_same image other wf (trees_of other all).prepared) all_inside commits tt tt tt
+      (λ p v both. both.1) (sym (subst (λ w. address w (cover image (gains i true)) ≡ entry) (sym committed) covered_after)) (sym (need_in_slot image i wf reached can.lacks.directory s found))
       (content_open image [] i (32 * s + 0) entry reached (omega (arith, in_size)) entry_at) (subst IsWellFormed (sym committed) after_well_formed)
       (enters_over image mid (current_words last) wf trees.prepared.meaning i s j name kind can.free (sym (ap (λ o. unwrap_or o (entry_count image i)) found)) enters)
 
-  pub slot_few : room_in first ≤ room_in last + 63
-  slot_few =
-      let one : room_in first ≤ room_in third + (0 + 34) = room_after_may (AnyAt Inside) 0 34 first third all_inside in
-      let two : room_in third ≤ room_in last + (2 + 1) = room_in-piece 2 1 third last (commit entry j) commits (IsPiece-commit entry j) in
-      omega (arith, one, two)
+  pub slot_performs : PerformsWithin 5 (stores_behind_growth (need image (gains i true))) first last (gains i true) (EntersName i name kind)
+  slot_performs =
+      within_more 2 35 first last (gains i true) (EntersName i name kind) in_two 5 (stores_behind_growth (need image (gains i true))) (omega arith) (omega arith)
 
   pub slot_exact : (blocks inodes : Set) → AreExact image blocks inodes → AreExact (current_words last) blocks (without inodes j)
   slot_exact blocks inodes exact =

@@ -1,6 +1,5 @@
 pub mod EnteredLaws
 pub mod GrownLaws
-pub mod BehindLaws
 pub mod AfterLaws
 pub mod SetLaws
 pub mod StandsLaws
@@ -11,8 +10,10 @@ pub mod Spares
 pub mod Rooms
 pub mod ReadBack
 pub mod InSlot
-pub mod AtEnd
-pub mod InFirst
+pub mod EntryBytes
+pub mod PutsLaws
+pub mod ReadyKept
+pub mod InBehind
 pub mod Refusals
 pub mod Samples
 pub mod OpenPlaces
@@ -40,6 +41,7 @@ pub mod GrowthNodes
 pub mod GrowthNeed
 pub mod GrowthCover
 pub mod GrowthPerforms
+pub mod NewNames
 pub mod WrittenStands
 pub mod RunCommits
 pub mod WriteBelow

@@ -18,7 +18,7 @@ use Rattle.bp_layout.specs.Directory.{empty_slot}
 use Rattle.bp_layout.specs.Need.{cover}
 use Rattle.bp_layout.specs.Need.Change.{enters}
 use Rattle.bp_calls.proofs.NeedLaws.{cover_behind}
-use Rattle.bp_calls.proofs.Trees.{SameTrees, live_leaf}
+use Rattle.bp_calls.proofs.Trees.{live_leaf}
 
 -- a content word of a live leaf stands in a live block
 pub content_live : (image : Image) (t k place : ℕ) → IsReached image t → 4096 * (k / 512) < size_of image t → ContentStandsAt image t k place → IsLiveBlock image (place / 512)
@@ -76,12 +76,12 @@ module _ (image : Image) where
       address-tree_path image t (suc (height_of (root_of image t))) k (wf.full_inode_file _ _ (live_leaf (root_of image 0) (size_of image 0) ((8 * t + 1) / 512) (omega (arith, in_file)))) stands.present ∙ stands.at
 
 -- where no entry of a directory is empty, the cover of a new name is the word of its size, also once it has another value there
-pub size_covered : (image mid : Image) (i place value : ℕ) → IsWellFormed image → IsWellFormed mid → SameTrees image mid → IsReached image i → kind_of image i ≡ 2 → empty_slot image i ≡ None →
+pub size_covered : (image mid : Image) (i place value : ℕ) → IsWellFormed image → IsWellFormed mid → root_of mid 0 ≡ root_of image 0 → IsReached image i → IsReached mid i → kind_of image i ≡ 2 → empty_slot image i ≡ None →
     ContentStandsAt mid 0 (8 * i + 2) place → address (set mid place value) (cover image (enters i true)) ≡ place
-size_covered image mid i place value wf also trees reached kind none stands =
-    let in_file : i < inode_count image = reached-in_file image wf i reached in
-    let below : 8 * (8 * i + 2) < size_of mid 0 = omega (arith, in_file, trees.prepared.inode_bytes) in
+size_covered image mid i place value wf also same_root reached there kind none stands =
+    let in_file : i < inode_count mid = reached-in_file mid also i there in
+    let below : 8 * (8 * i + 2) < size_of mid 0 = omega (arith, in_file) in
     let stays : root_of (set mid place value) 0 ≡ root_of mid 0 = root_word_stays mid also 0 (8 * i + 2) place value inode_file below stands in
-    let top : root_of (set mid place value) 0 ≡ root_of image 0 = stays ∙ trees.root 0 inode_file (omega (arith, in_file)) in
+    let top : root_of (set mid place value) 0 ≡ root_of image 0 = stays ∙ same_root in
     ap (address (set mid place value)) (cover_behind image i wf reached kind none ∙ ap (λ r. inode_path (height_of r) i 2) (sym top))
     ∙ inode_address (set mid place value) i 2 place (stands_stored mid also 0 (8 * i + 2) place value inode_file below stands stays)

@@ -1,12 +1,10 @@
 -- The words and the room of a memory, before and after stores, and places that lie in it.
-use Rattle.std.proofs.Common.{◌≡◌, ℕ, zero, suc, ◌+◌, ◌*◌, ◌/◌, ◌%◌, ◌<◌, ◌≤◌, length, ap, arith}
-use Rattle.bp_layout.specs.Free.{IsFreeInode}
-use Rattle.bp_layout.specs.Inode.{ContentStandsAt, root_of, size_of, inode_count}
+use Rattle.std.proofs.Common.{◌≡◌, ℕ, ◌+◌, ◌*◌, ◌/◌, ◌%◌, ◌<◌, ◌≤◌, length, ap, arith}
+use Rattle.bp_layout.specs.Inode.{ContentStandsAt, root_of, size_of}
 use Rattle.bp_layout.specs.Reached.{IsReached}
-use Rattle.bp_layout.specs.Reached.IsReached.{inode_file}
-use Rattle.bp_layout.specs.Tree.{node, covered, IsSound}
+use Rattle.bp_layout.specs.Tree.{node}
 use Rattle.bp_layout.specs.WellFormed.{IsWellFormed}
-use Rattle.bp_layout.specs.Words.{Image, block_count, height_of}
+use Rattle.bp_layout.specs.Words.{block_count, height_of}
 use Rattle.pm_region.specs.Memory.{Memory, current_words, room_in}
 use Rattle.pm_region.specs.Safe.{AddsMay}
 use Rattle.pm_region.proofs.MemoryLaws.{base-adds, length-current_words}
@@ -27,20 +25,3 @@ row_in_range memory wf t k place count reached below fits stands =
     let low : node (current_words memory) (root_of (current_words memory) t) (height_of (root_of (current_words memory) t)) (k / 512) < block_count (current_words memory) =
     (wf.sound t reached).in_range _ _ (live_leaf (root_of (current_words memory) t) (size_of (current_words memory) t) (k / 512) below) in
     omega (arith, low, stands.at, fits, wf.whole, length-current_words memory)
-
--- what a tree of the greatest height covers
-low_cover : (height : ℕ) → height ≤ 3 → covered (suc height) ≤ 549755813888
-low_cover zero low = omega arith
-low_cover (suc zero) low = omega arith
-low_cover (suc (suc zero)) low = omega arith
-low_cover (suc (suc (suc zero))) low = omega arith
-low_cover (suc (suc (suc (suc height)))) low = absurd (omega (arith, low))
-
--- no size is greater
-pub size_small : (image : Image) (root size : ℕ) → IsSound image root size → size ≤ 549755813888
-size_small image root zero sound = omega arith
-size_small image root (suc size) sound =
-    let low : height_of root ≤ 3 = sound.low (omega arith) in
-    let covers : covered (suc (height_of root)) ≤ 549755813888 = low_cover (height_of root) low in
-    let fits : suc size ≤ covered (suc (height_of root)) = sound.fits in
-    omega (arith, covers, fits)

@@ -1,5 +1,5 @@
--- The sets of free numbers stay exact: over a preparation, and where the new inode and the new block are taken out.
-use Rattle.std.proofs.Common.{◌≡◌, ◌≢◌, ◌⊎◌, ℕ, ◌+◌, ◌*◌, ◌/◌, ◌%◌, ◌<◌, ◌≤◌, Bool, true, false, length, set, None, sym, ◌∙◌, ap, subst, inl, inr, true≢false}
+-- The sets of free numbers stay exact: over a preparation, and where the new inode is taken out.
+use Rattle.std.proofs.Common.{◌≡◌, ◌≢◌, ◌⊎◌, ℕ, ◌+◌, ◌*◌, ◌<◌, ◌≤◌, Bool, true, false, length, set, None, sym, ◌∙◌, ap, subst, inl, inr, true≢false}
 use Rattle.std.proofs.lemmas.Bool.{cases_eq, cases_lt}
 use Rattle.std.proofs.lemmas.List.{length-set}
 use Rattle.bp_free.specs.Set.{Set, has, without}
@@ -15,11 +15,9 @@ use Rattle.bp_changes.specs.Harmless.{Agrees}
 use Rattle.bp_layout.proofs.SmallTrees.{empty_has_none}
 use Rattle.bp_changes.specs.Effects.{AddsNames, KeepsBlocks}
 use Rattle.bp_changes.proofs.AddsNames.{reached_cases, reached_stays}
-use Rattle.bp_calls.specs.Entered.{IsNewInode, IsReadyEntry, IsReadyBehind}
+use Rattle.bp_calls.specs.Entered.{IsNewInode, IsReadyEntry}
 use Rattle.bp_shapes.specs.Sets.{AreExact}
-use Rattle.bp_calls.proofs.EnteredLaws.{Enters, entered, entered_blocks, entered_file}
-use Rattle.bp_calls.proofs.GrownLaws.{GrowsBlocks, grown, grown_blocks, grown_file}
-use Rattle.bp_calls.proofs.BehindLaws.{has_more, behind_same_blocks, first_block, has_first}
+use Rattle.bp_calls.proofs.EnteredLaws.{entered, entered_blocks, entered_file}
 use Rattle.bp_calls.proofs.AfterLaws.{IsPrepared, agrees_prepared, live_before_too, live_after, reached_before, reached_after}
 
 -- ---- one number less
@@ -51,21 +49,6 @@ free_blocks_stay old new numbers whole back stay are = record {
   free = λ b is. let free : IsFreeBlock old b = are.free b is in record { low = free.low; high = rw whole free.high; free = λ live. free.free (back b live) };
   all = λ b free. are.all b (record { low = free.low; high = rw whole at free.high; free = λ live. free.free (stay b live) });
 }
-
-pub free_blocks_taken : (old new : Image) (numbers : Set) (taken : ℕ) → length new ≡ length old → has numbers taken ≡ true → IsLiveBlock new taken →
-    ((b : ℕ) → IsLiveBlock new b → (b ≡ taken) ⊎ IsLiveBlock old b) → ((b : ℕ) → IsLiveBlock old b → IsLiveBlock new b) → AreFreeBlocks old (has numbers) → AreFreeBlocks new (has (without numbers taken))
-free_blocks_taken old new numbers taken whole there here cases stay are = record { free = free_now; all = all_now }
-  where
-    free_now : (b : ℕ) → has (without numbers taken) b ≡ true → IsFreeBlock new b
-    free_now b is =
-        let still : (b ≢ taken) × (has numbers b ≡ true) = still_in numbers taken b there is in
-        let free : IsFreeBlock old b = are.free b still.1 in
-        record { low = free.low; high = rw whole free.high; free = λ live. elim (cases b live) [ inl same ↦ still.0 same | inr before ↦ free.free before ] }
-
-    all_now : (b : ℕ) → IsFreeBlock new b → has (without numbers taken) b ≡ true
-    all_now b free =
-        has_without_other numbers taken b (λ same. free.free (subst (IsLiveBlock new) (sym same) here))
-        ∙ are.all b (record { low = free.low; high = rw whole at free.high; free = λ live. free.free (stay b live) })
 
 pub free_inodes_stay : (old new : Image) (numbers : ℕ → Bool) → size_of new 0 ≡ size_of old 0 → ((t : ℕ) → IsReached new t → IsReached old t) → ((t : ℕ) → IsReached old t → IsReached new t) →
     AreFreeInodes old numbers → AreFreeInodes new numbers
@@ -134,66 +117,9 @@ module _ (old new : Image) (wf : IsWellFormed old) (i s j : ℕ) (adds : AddsNam
     free_inodes = inodes_taken;
   }
 
-  -- the directory has one block more
-  pub exact_added_block : (b : ℕ) → IsFreeBlock old b → IsLiveBlock new b → ((t x : ℕ) → IsReached old t → HasBlock new (root_of new t) (size_of new t) x → (x ≡ b) ⊎ IsLiveBlock old x) →
-      ((t x : ℕ) → IsReached old t → HasBlock old (root_of old t) (size_of old t) x → HasBlock new (root_of new t) (size_of new t) x) → AreExact new (without blocks b) (without inodes j)
-  exact_added_block b open_block here back stay = record {
-    block_room = rw adds.trees.whole (length_without blocks b ∙ exact.block_room);
-    inode_room = rw adds.trees.whole (length_without inodes j ∙ exact.inode_room);
-    free_blocks = free_blocks_taken old new blocks b adds.trees.whole (exact.free_blocks.all b open_block) here (live_cases (λ x. x ≡ b) back) (live_stays stay) exact.free_blocks;
-    free_inodes = inodes_taken;
-  }
-
 -- an inumber came into a ready entry
 pub exact_entered : (old : Image) → IsWellFormed old → (i s j kind place : ℕ) (name : Name) → IsNewInode old j kind → IsReadyEntry old i s name → IsName name → slot_named old i name ≡ None →
     ContentStandsAt old i (32 * s + 0) place → (blocks inodes : Set) → AreExact old blocks inodes → AreExact (set old place j) blocks (without inodes j)
 exact_entered old wf i s j kind place name fresh ready form missing stands blocks inodes exact =
     exact_added old (set old place j) wf i s j (entered old wf i s j kind place name fresh ready form missing stands).adds blocks inodes exact fresh.free
     (entered_file old wf i s j kind place name fresh ready form missing stands) (entered_blocks old wf i s j kind place name fresh ready form missing stands)
-
--- the directory grew over a ready entry
-module _ (old : Image) (wf : IsWellFormed old) (i j kind place : ℕ) (name : Name) (fresh : IsNewInode old j kind) (ready : IsReadyBehind old i j name) (form : IsName name) (missing : slot_named old i name ≡ None)
-    (stands : ContentStandsAt old 0 (8 * i + 2) place) (blocks inodes : Set) (exact : AreExact old blocks inodes) where
-  abbrev new : Image
-  new = set old place (size_of old i + 256)
-
-  grows : GrowsBlocks old new i
-  grows = grown_blocks old wf i j place name ready stands
-
-  enters : Enters old new i (size_of old i / 256) j name kind
-  enters = grown old wf i j kind place name fresh ready form missing stands
-
-  same_file : size_of new 0 ≡ size_of old 0
-  same_file = grown_file old wf i j place name ready stands
-
-  stay_on : (t b : ℕ) → IsReached old t → HasBlock old (root_of old t) (size_of old t) b → HasBlock new (root_of new t) (size_of new t) b
-  stay_on t b reached has = go (cases_eq t i)
-    where
-      go : (t ≡ i) ⊎ (t ≡ i → ⊥) → HasBlock new (root_of new t) (size_of new t) b
-      go (inl e) =
-          subst (λ x. HasBlock new (root_of new x) (size_of new x) b) (sym e)
-          (grows.here b (has_more old (root_of old i) (size_of old i) 256 b (subst (λ x. HasBlock old (root_of old x) (size_of old x) b) e has)))
-      go (inr other) = grows.stay t b reached other has
-
-  -- no block is new
-  pub exact_grown : ((b : ℕ) → HasBlock old (root_of old i) (size_of old i + 256) b → HasBlock old (root_of old i) (size_of old i) b) → AreExact new blocks (without inodes j)
-  exact_grown same =
-      exact_added old new wf i (size_of old i / 256) j enters.adds blocks inodes exact fresh.free same_file (record { back = λ t b reached has. go t b (grows.back t b reached has); stay = stay_on })
-    where
-      go : (t b : ℕ) → HasBlock old (root_of old t) (size_of old t) b ⊎ ((t ≡ i) × HasBlock old (root_of old i) (size_of old i + 256) b) → HasBlock old (root_of old t) (size_of old t) b
-      go t b (inl before) = before
-      go t b (inr more) = subst (λ x. HasBlock old (root_of old x) (size_of old x) b) (sym more.0) (same b more.1)
-
-  pub exact_grown_in_leaf : size_of old i % 4096 ≢ 0 → AreExact new blocks (without inodes j)
-  exact_grown_in_leaf part = exact_grown (behind_same_blocks old wf i ready.reached ready.directory part)
-
-  -- the first block of the directory is new
-  pub exact_grown_first : (b : ℕ) → size_of old i ≡ 0 → root_of old i ≡ 4096 * b → IsFreeBlock old b → AreExact new (without blocks b) (without inodes j)
-  exact_grown_first b empty root open_block =
-      exact_added_block old new wf i (size_of old i / 256) j enters.adds blocks inodes exact fresh.free same_file b open_block
-      (record { tree = i; reached = reached_stays old new wf i (size_of old i / 256) j enters.adds i ready.reached; has = grows.here b (has_first old i b empty root open_block) })
-      (λ t x reached has. go t x reached (grows.back t x reached has)) stay_on
-    where
-      go : (t x : ℕ) → IsReached old t → HasBlock old (root_of old t) (size_of old t) x ⊎ ((t ≡ i) × HasBlock old (root_of old i) (size_of old i + 256) x) → (x ≡ b) ⊎ IsLiveBlock old x
-      go t x reached (inl before) = inr (record { tree = t; reached = reached; has = before })
-      go t x reached (inr more) = inl (first_block old i b empty root open_block x more.1)

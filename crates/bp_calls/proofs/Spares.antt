@@ -1,18 +1,16 @@
--- Which words are spare: those of an inode that nobody reaches, those of an empty entry but its inumber, those behind the
--- size, those of a free block, and the root word of a tree without bytes.
-use Rattle.std.proofs.Common.{◌≡◌, ◌≢◌, ℕ, zero, suc, ◌+◌, ◌*◌, ◌/◌, ◌%◌, ◌<◌, ◌≤◌, refl, sym, ◌∙◌, ap, subst, arith}
+-- Which words are spare: those of an inode that nobody reaches, and those of an empty entry but its inumber.
+use Rattle.std.proofs.Common.{◌≡◌, ◌≢◌, ℕ, suc, ◌+◌, ◌*◌, ◌/◌, ◌%◌, ◌<◌, ◌≤◌, sym, ◌∙◌, ap, subst, arith}
 use Rattle.bp_calls.specs.Spare.{IsSpare}
 use Rattle.bp_layout.specs.Directory.{inumber_at, entry_count}
 use Rattle.bp_layout.specs.Free.{IsFreeInode}
 use Rattle.bp_layout.specs.Inode.{StandsAt, ContentStandsAt, kind_of, root_of, size_of, inode_count}
-use Rattle.bp_layout.specs.Reached.{IsReached, IsFreeBlock}
+use Rattle.bp_layout.specs.Reached.{IsReached}
 use Rattle.bp_layout.specs.Reached.IsReached.{inode_file}
 use Rattle.bp_layout.specs.Tree.{IsLiveWord, IsLivePointer, node}
 use Rattle.bp_layout.specs.WellFormed.{IsWellFormed}
 use Rattle.bp_layout.specs.Words.{Image, height_of}
-use Rattle.bp_shapes.proofs.Behind.{behind_harmless}
 use Rattle.bp_layout.proofs.Reached.{reached-in_file}
-use Rattle.bp_changes.proofs.Separation.{SameWord, one_place, one_place_in_nodes, free-harmless, dead_root-harmless}
+use Rattle.bp_changes.proofs.Separation.{SameWord, one_place, one_place_in_nodes}
 use Rattle.bp_layout.proofs.TreeLaws.{live_pointer_word, live_content}
 use Rattle.bp_calls.proofs.Trees.{live_leaf}
 
@@ -33,16 +31,6 @@ pub one_content : (image : Image) → IsWellFormed image → (t k u l place : �
 one_content image wf t k u l place reached also below low stands stand =
     let same = one_place_in_nodes image wf t (height_of (root_of image t)) k u (height_of (root_of image u)) l place reached also (live_leaf _ _ _ below) (live_leaf _ _ _ low) stands stand in
     (same.tree, same.index)
-
--- no content word of a live leaf stands in a free block
-pub not_in_free : (image : Image) (t k b s : ℕ) → IsReached image t → 4096 * (k / 512) < size_of image t → IsFreeBlock image b → s < 512 → ContentStandsAt image t k (512 * b + s) → ⊥
-not_in_free image t k b s reached below free low stands =
-    let same : node image (root_of image t) (height_of (root_of image t)) (k / 512) ≡ b = omega (arith, stands.at, low) in
-    free.free (record {
-      tree = t;
-      reached = reached;
-      has = record { depth = height_of (root_of image t); index = k / 512; pointer = live_leaf _ _ _ below; named = same; not_null = λ null. let some : 1 ≤ b = free.low in omega (arith, null, some) };
-    })
 
 -- a live content word at a place is the only live word there
 module _ (image : Image) (wf : IsWellFormed image) (t k place : ℕ) (reached : IsReached image t) (below : 8 * k < size_of image t) (stands : ContentStandsAt image t k place) where
@@ -109,27 +97,3 @@ spare_entry image wf i s f place reached kind in_size empty some few stands valu
 
     at : (u l : ℕ) → IsReached image u → 8 * l < size_of image u → ContentStandsAt image u l place → (i ≡ u) × (32 * s + f ≡ l)
     at = same_content image wf i (32 * s + f) place reached below stands
-
--- words behind the size, in the last leaf
-pub spare_behind : (image : Image) → IsWellFormed image → (t k place : ℕ) → IsReached image t → size_of image t ≤ 8 * k → 4096 * (k / 512) < size_of image t → ContentStandsAt image t k place → IsSpare image place
-spare_behind image wf t k place reached behind leaf stands value =
-    behind_harmless image wf t place value
-    (record {
-      reached = reached;
-      depth = height_of (root_of image t);
-      index = k;
-      parent = live_leaf (root_of image t) (size_of image t) (k / 512) leaf;
-      stands = stands;
-      no_pointer = λ live. omega (arith, live.height);
-      ends = λ bottom. omega (arith, behind);
-      kept = λ c bottom few low. absurd (omega (arith, behind, low));
-    })
-
--- words of a free block
-pub spare_free : (image : Image) → IsWellFormed image → (b s : ℕ) → IsFreeBlock image b → s < 512 → IsSpare image (512 * b + s)
-spare_free image wf b s free low value = free-harmless image wf b s value free.low low free.free
-
--- the root word of a file or a directory without bytes
-pub spare_root : (image : Image) → IsWellFormed image → (i place : ℕ) → IsReached image i → i ≢ 0 → size_of image i ≡ 0 → ContentStandsAt image 0 (8 * i + 1) place → IsSpare image place
-spare_root image wf zero place reached inode none stands value = absurd (inode refl)
-spare_root image wf (suc i) place reached inode none stands value = dead_root-harmless image wf i place value reached none stands

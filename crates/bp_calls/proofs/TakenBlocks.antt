@@ -1,10 +1,9 @@
--- The sets of free numbers stay exact over a change of a file's bytes that takes blocks for it.
-use Rattle.std.proofs.Common.{◌≡◌, ◌≢◌, ◌⊎◌, ℕ, ◌+◌, ◌<◌, ◌≤◌, List, [], ◌∷◌, ◌++◌, length, true, refl, sym, ◌∙◌, inl, inr, subst, true≢false, arith}
-use Rattle.std.proofs.lemmas.Bool.{cases_lt}
+-- The sets of free numbers stay exact over a call that takes some of the blocks.
+use Rattle.std.proofs.Common.{◌≡◌, ◌⊎◌, ℕ, ◌<◌, ◌≤◌, List, [], ◌∷◌, ◌++◌, length, true, sym, ◌∙◌, inl, inr, subst, arith}
 use Rattle.std.specs.List.{range_with_len}
 use Rattle.bp_free.specs.Set.{Set, has, members}
 use Rattle.bp_layout.specs.Words.{Image, block_count}
-use Rattle.bp_layout.specs.Inode.{kind_of}
+use Rattle.bp_layout.specs.Free.{AreFreeBlocks}
 use Rattle.bp_layout.specs.Members.{Has, Each, AreApart}
 use Rattle.bp_layout.specs.Reached.{IsLiveBlock, IsFreeBlock}
 use Rattle.bp_layout.specs.Reached.IsReached.{inode_file}
@@ -53,11 +52,10 @@ module _ (image : Image) (blocks inodes : Set) (exact : AreExact image blocks in
   pub unused_members : Each (λ b. IsLiveBlock image b → ⊥) (members blocks)
   unused_members = each-of (λ b. IsLiveBlock image b → ⊥) (members blocks) (λ b there. (free_of b there).free)
 
--- ---- the file takes some of them
+-- ---- a call takes some of them
 
-module _ (old new : Image) (x : ℕ) (wf : IsWellFormed old) (changes : ChangesFile old new x) (taken : List ℕ) (blocks after inodes : Set) (exact : AreExact old blocks inodes)
-    (takes : members blocks ≡ taken ++ members after) (room : length after ≡ length blocks) (back : (b : ℕ) → IsLiveBlock new b → IsLiveBlock old b ⊎ Has taken b) (stays : (b : ℕ) → IsLiveBlock old b → IsLiveBlock new b)
-    (took : (b : ℕ) → Has taken b → IsLiveBlock new b) where
+module _ (old new : Image) (whole : length new ≡ length old) (taken : List ℕ) (blocks after inodes : Set) (exact : AreExact old blocks inodes) (takes : members blocks ≡ taken ++ members after)
+    (back : (b : ℕ) → IsLiveBlock new b → IsLiveBlock old b ⊎ Has taken b) (stays : (b : ℕ) → IsLiveBlock old b → IsLiveBlock new b) (took : (b : ℕ) → Has taken b → IsLiveBlock new b) where
   apart : AreApart (taken ++ members after)
   apart = subst AreApart takes (members_apart blocks)
 
@@ -67,19 +65,24 @@ module _ (old new : Image) (x : ℕ) (wf : IsWellFormed old) (changes : ChangesF
       let free : IsFreeBlock old b = free_of old blocks inodes exact b there in
       record {
         low = free.low;
-        high = rw changes.trees.whole free.high;
+        high = rw whole free.high;
         free = λ live. elim (back b live) [ inl was ↦ free.free was | inr early ↦ apart_parts taken (members after) b apart early (in_members after b is) ];
       }
 
   all_now : (b : ℕ) → IsFreeBlock new b → has after b ≡ true
   all_now b free =
-      let was : has blocks b ≡ true = exact.free_blocks.all b (record { low = free.low; high = rw changes.trees.whole at free.high; free = λ live. free.free (stays b live) }) in
+      let was : has blocks b ≡ true = exact.free_blocks.all b (record { low = free.low; high = rw whole at free.high; free = λ live. free.free (stays b live) }) in
       elim (has_either taken (members after) b (subst (λ bs. Has bs b) takes (in_members blocks b was))) [ inl early ↦ absurd (free.free (took b early)) | inr late ↦ of_members after b late ]
 
-  pub exact_taken : AreExact new after inodes
-  exact_taken = record {
-    block_room = rw changes.trees.whole (room ∙ exact.block_room);
-    inode_room = rw changes.trees.whole exact.inode_room;
-    free_blocks = record { free = free_now; all = all_now };
-    free_inodes = free_inodes_stay old new (has inodes) (changes.size 0 inode_file (changed.not_zero old new x wf changes)) (changed.reached-back old new x wf changes) (changed.reached-on old new x wf changes) exact.free_inodes;
-  }
+  pub free_taken : AreFreeBlocks new (has after)
+  free_taken = record { free = free_now; all = all_now }
+
+-- so where a file takes them
+pub exact_taken : (old new : Image) (x : ℕ) → IsWellFormed old → ChangesFile old new x → (taken : List ℕ) (blocks after inodes : Set) → AreExact old blocks inodes → members blocks ≡ taken ++ members after →
+    length after ≡ length blocks → ((b : ℕ) → IsLiveBlock new b → IsLiveBlock old b ⊎ Has taken b) → ((b : ℕ) → IsLiveBlock old b → IsLiveBlock new b) → ((b : ℕ) → Has taken b → IsLiveBlock new b) → AreExact new after inodes
+exact_taken old new x wf changes taken blocks after inodes exact takes room back stays took = record {
+  block_room = rw changes.trees.whole (room ∙ exact.block_room);
+  inode_room = rw changes.trees.whole exact.inode_room;
+  free_blocks = free_taken old new changes.trees.whole taken blocks after inodes exact takes back stays took;
+  free_inodes = free_inodes_stay old new (has inodes) (changes.size 0 inode_file (changed.not_zero old new x wf changes)) (changed.reached-back old new x wf changes) (changed.reached-on old new x wf changes) exact.free_inodes;
+}

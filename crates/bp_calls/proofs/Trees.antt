@@ -3,7 +3,7 @@ use Rattle.std.proofs.Common.{◌≡◌, ◌⊎◌, ℕ, ◌+◌, ◌*◌, ◌/�
 use Rattle.bp_changes.specs.Harmless.{IsHarmless, Agrees}
 use Rattle.bp_layout.specs.Inode.{ContentStandsAt, root_of, size_of}
 use Rattle.bp_layout.specs.Reached.{IsReached}
-use Rattle.bp_layout.specs.Tree.{node, content_word, IsLivePointer}
+use Rattle.bp_layout.specs.Tree.{node, content_word, HasBlock, IsLivePointer}
 use Rattle.bp_layout.specs.WellFormed.{IsWellFormed}
 use Rattle.bp_layout.specs.Words.{Image, word, height_of, slot_word}
 use Rattle.bp_changes.proofs.Frame as frame
@@ -40,6 +40,16 @@ spare_trees old new wf all = agreed_trees old new wf (record { whole = all.size;
 -- a leaf that begins below the size is live
 pub live_leaf : (root size leaf : ℕ) → 4096 * leaf < size → IsLivePointer root size (height_of root) leaf
 live_leaf root size leaf below = record { level = 0; height = omega arith; live = omega (arith, below) }
+
+-- a block stays where the size grows
+pub has_more : (image : Image) (root size more b : ℕ) → HasBlock image root size b → HasBlock image root (size + more) b
+has_more image root size more b has = record {
+  depth = has.depth;
+  index = has.index;
+  pointer = record { level = has.pointer.level; height = has.pointer.height; live = omega (arith, has.pointer.live) };
+  named = has.named;
+  not_null = has.not_null;
+}
 
 module _ (old new : Image) (trees : SameTrees old new) (t k place : ℕ) (reached : IsReached old t) (below : 4096 * (k / 512) < size_of old t) (stands : ContentStandsAt old t k place) where
   some : 0 < size_of old t

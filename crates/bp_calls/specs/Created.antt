@@ -1,37 +1,27 @@
--- What a call that creates a name makes of an image, and why it is refused.
-use Rattle.std.specs.Prelude.{◌≡◌, ◌⊎◌, ℕ, ◌%◌, ◌<◌, ◌≤◌, [], ◌∷◌, ◌++◌, true, false, None, Some, unwrap_or}
+-- What a call that creates a name makes of an image, and of the plain tree.
+use Rattle.std.specs.Prelude.{◌≡◌, ◌⊎◌, ℕ, ◌≤◌, [], ◌∷◌, ◌++◌, Some, unwrap_or}
 use Rattle.std.specs.FinMap.{insert}
 use Rattle.bp_layout.specs.Directory.{Name, empty_slot, entry_count, name_at}
-use Rattle.bp_layout.specs.Free.{HasFree, IsFreeInode, TellsFreeInode}
-use Rattle.bp_layout.specs.Inode.{inode_count, kind_of, size_of}
+use Rattle.bp_layout.specs.Free.{IsFreeInode}
+use Rattle.bp_layout.specs.Inode.{inode_count, kind_of}
 use Rattle.bp_layout.specs.Lookup.{Path, Node, lookup}
 use Rattle.bp_layout.specs.Lookup.Node.{dir, file}
-use Rattle.bp_layout.specs.Need.{need}
-use Rattle.bp_layout.specs.Need.Change.{enters}
 use Rattle.bp_layout.specs.Words.{Image}
-use Rattle.bp_limits.specs.Limits.{block_size}
 use Rattle.bp_layout.specs.Fields.{kind_word}
 use Rattle.bp_changes.specs.Effects.{AddsNames}
 use Rattle.bp_layout.specs.declared.fields.Kind.{Kind}
 use Rattle.bp_layout.specs.declared.fields.Kind.TheVariants.{File, Dir}
 use Rattle.bp_plain.specs.PlainTree.{FileTree}
 use Rattle.bp_plain.specs.Stands.{Stands}
-use Rattle.bp_calls.specs.declared.fault.CreateFault.{CreateFault}
-use Rattle.bp_calls.specs.declared.fault.CreateFault.TheVariants.{Later, NoSpace}
 
 -- what stands at a new name
 abbrev pub empty_node : Kind → Node
 empty_node File = file []
 empty_node Dir = dir
 
--- no entry of the directory is empty, and its last leaf is full
-pub record NeedsLeaf (image : Image) (i : ℕ) : Type 0 where
-  pub none : empty_slot image i ≡ None
-  pub some : 0 < size_of image i
-  pub full : size_of image i % block_size ≡ 0
-
--- The name comes into directory i: its least empty entry, or one behind the last where none is empty, names an inode of this kind, without bytes, that was free, or
--- lies behind the last one that the inode file had. All other entries keep their slots, their names and what they name.
+-- The name comes into directory i: its least empty entry, or one behind the last where none is empty, names an inode of
+-- this kind, without bytes, that was free, or lies behind the last one that the inode file had. All other entries keep
+-- their slots, their names and what they name.
 pub record EntersName (i : ℕ) (name : Name) (kind : Kind) (old new : Image) : Type 0 where
   pub slot : ℕ
   pub inode : ℕ
@@ -41,14 +31,9 @@ pub record EntersName (i : ℕ) (name : Name) (kind : Kind) (old new : Image) : 
   pub name_is : name_at new i slot ≡ name
   pub kind_is : kind_of new inode ≡ kind_word kind
 
--- The directory gains the name: wherever a path finds it, the second image stands for the tree with an empty file or directory there.
+-- The directory gains the name: wherever a path finds it, the second image stands for the tree with an empty file or
+-- directory there.
 abbrev pub GainsName : ℕ → Name → Kind → Image → Image → Type 0
-GainsName i name kind old new = (tree : FileTree) (here : Path) → Stands old tree → lookup old here ≡ Some i → Stands new (insert tree (here ++ name ∷ []) (empty_node kind))
-
--- why no name is created: no inode is free, or the directory needs one more leaf, which this version can't do; or fewer blocks
--- are free than it needs
-pub data IsRefused (image : Image) (i : ℕ) : CreateFault → Type 0 where
-  no_inode : TellsFreeInode image false → IsRefused image i Later
-  no_leaf : NeedsLeaf image i → IsRefused image i Later
-  no_block : {needed free : ℕ} → TellsFreeInode image true → ¬ NeedsLeaf image i → need image (enters i true) ≡ needed → HasFree image free → free < needed →
-      IsRefused image i (NoSpace needed free)
+GainsName i name kind old new =
+    (tree : FileTree) (here : Path) → Stands old tree → lookup old here ≡ Some i →
+    Stands new (insert tree (here ++ name ∷ []) (empty_node kind))

@@ -13,5 +13,6 @@ pub mod Space
 pub mod CanWrite
 pub mod WritesFile
 pub mod Growth
+pub mod Entries
 pub mod TouchedAcross
 pub mod TouchedBelow

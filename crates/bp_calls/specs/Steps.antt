@@ -1,11 +1,18 @@
 -- What stands before a name is entered in a directory.
-use Rattle.std.specs.Prelude.{◌≡◌, ℕ, None}
-use Rattle.bp_layout.specs.Directory.{Name, IsName, slot_named}
+use Rattle.std.specs.Prelude.{◌≡◌, ◌≢◌, ℕ, ◌+◌, ◌*◌, ◌≤◌, [], true, None, length}
+use Rattle.bp_append.specs.Prepared.{need_for}
+use Rattle.bp_free.specs.Set.{Set, members}
+use Rattle.bp_layout.specs.Directory.{Name, IsName, empty_slot, slot_named}
 use Rattle.bp_layout.specs.Free.{IsFreeInode}
-use Rattle.bp_layout.specs.Inode.{kind_of}
+use Rattle.bp_layout.specs.Inode.{kind_of, size_of}
+use Rattle.bp_layout.specs.Need.{need}
+use Rattle.bp_layout.specs.Need.Change.{enters}
 use Rattle.bp_layout.specs.Reached.{IsReached}
 use Rattle.bp_layout.specs.WellFormed.{IsWellFormed}
 use Rattle.bp_layout.specs.Words.{Image}
+use Rattle.bp_limits.specs.Limits.{block_words, entry_size}
+use Rattle.bp_shapes.specs.Sets.{AreExact}
+use Rattle.pm_region.specs.Memory.{Memory, current_words, room_in}
 
 -- directory i is reached, and has no such name
 pub record LacksName (image : Image) (i : ℕ) (name : Name) : Type 0 where
@@ -19,3 +26,26 @@ pub record LacksName (image : Image) (i : ℕ) (name : Name) : Type 0 where
 pub record CanName (image : Image) (i j : ℕ) (name : Name) : Type 0 where
   pub lacks : LacksName image i name
   pub free : IsFreeInode image j
+
+-- the room in the log that a name asks once an inode is free
+abbrev pub entering_room : ℕ
+entering_room = 32 * block_words
+
+-- The same, no entry is empty, and as many blocks are free as the directory lacks for one entry more. The set of blocks
+-- is exact, with one of inodes.
+pub record CanEnterBehind (memory : Memory) (blocks : Set) (i j : ℕ) (name : Name) : Type 0 where
+  pub can : CanName (current_words memory) i j name
+  pub none : empty_slot (current_words memory) i ≡ None
+  pub inodes : Set
+  pub exact : AreExact (current_words memory) blocks inodes
+  pub enough : need_for (current_words memory) i (size_of (current_words memory) i)
+      (size_of (current_words memory) i + entry_size) ≤ length (members blocks)
+  pub room : entering_room ≤ room_in memory
+
+-- The directory lacks the name, the sets are exact, an inode is free, and so are as many blocks as the name needs.
+pub record CanEnter (memory : Memory) (blocks inodes : Set) (i : ℕ) (name : Name) : Type 0 where
+  pub lacks : LacksName (current_words memory) i name
+  pub exact : AreExact (current_words memory) blocks inodes
+  pub some : members inodes ≢ []
+  pub enough : need (current_words memory) (enters i true) ≤ length (members blocks)
+  pub room : entering_room ≤ room_in memory

@@ -1,25 +1,29 @@
-//! A name and its inode in a directory: three places for its entry.
+//! A name and its inode in a directory: in an empty entry, or in one behind the last.
 
-ghost use Rattle.std.specs.Prelude.{None, Some, true, ◌≡◌, ◌≢◌, ◌+◌, ◌%◌, ◌*◌, ◌/◌, ◌<◌, ◌≤◌, length};
+ghost use Rattle.std.specs.Prelude.{Some, true, ◌≡◌, ◌+◌, ◌≤◌, length};
 ghost use Rattle.bp_shapes.specs.Sets.{AreExact};
 ghost use Rattle.bp_calls.specs.Created.{EntersName};
-ghost use Rattle.bp_calls.specs.Steps.{CanName};
-ghost use Rattle.bp_free.specs.Set.{Set, without};
+ghost use Rattle.bp_calls.specs.Entries.{IsEntry, PutsBehind, entry_byte};
+ghost use Rattle.bp_calls.specs.Growth.{PerformsWithin, stores_behind_growth};
+ghost use Rattle.bp_calls.specs.Steps.{CanEnterBehind, CanName, entering_room};
+ghost use Rattle.bp_free.specs.Set.{Set, members, without};
 ghost use Rattle.bp_layout.specs.Directory.{empty_slot};
-ghost use Rattle.bp_layout.specs.Inode.{ContentStandsAt, kind_of, root_of, size_of};
-ghost use Rattle.bp_layout.specs.Reached.{IsFreeBlock, IsReached};
-ghost use Rattle.bp_limits.specs.Limits.{block_size};
-ghost use Rattle.bp_layout.specs.WellFormed.{IsWellFormed};
+ghost use Rattle.bp_layout.specs.Inode.{root_of, size_of};
+ghost use Rattle.bp_layout.specs.Need.{need};
 ghost use Rattle.bp_layout.specs.Need.Change.{enters};
-ghost use Rattle.bp_tree.specs.Performs.{Performs};
+ghost use Rattle.bp_layout.specs.Reached.{IsReached};
+ghost use Rattle.bp_layout.specs.WellFormed.{IsWellFormed};
 ghost use Rattle.pm_region.specs.Memory.{current_words, room_in};
 
-use bp_dirs::{entry_place, put_entry, put_name};
+use crate::writing::root_path;
+use bp_append::prep;
+use bp_dirs::{entry_place, put_name};
+use bp_free::Parts;
 use bp_inodes::{fill, place};
 use bp_inplace::commit_word;
 use bp_layout::Kind;
-use bp_limits::BLOCK_SIZE;
-use bp_tree::{Tree, leaf_block};
+use bp_limits::ENTRY_SIZE;
+use bp_tree::{Tree, content_word};
 use pm_region::Region;
 
 /// The tree of an inode.
@@ -48,10 +52,12 @@ pub(crate) fn enter_slot<R: Region>(
 )
     requires can { CanName (current_words (R.memory region.old)) dir inode name.now }
     requires found { empty_slot (current_words (R.memory region.old)) dir ≡ Some slot }
-    requires room { 64 ≤ room_in (R.memory region.old) }
-    ensures performs { Performs (R.memory region.old) (R.memory region.new) (enters dir true) (EntersName dir name.now kind) }
-    ensures few { room_in (R.memory region.old) ≤ room_in (R.memory region.new) + 63 }
-    ensures exact { (blocks inodes : Set) → AreExact (current_words (R.memory region.old)) blocks inodes → AreExact (current_words (R.memory region.new)) blocks (without inodes inode) }
+    requires room { entering_room ≤ room_in (R.memory region.old) }
+    ensures performs { PerformsWithin 5
+        (stores_behind_growth (need (current_words (R.memory region.old)) (enters dir true)))
+        (R.memory region.old) (R.memory region.new) (enters dir true) (EntersName dir name.now kind) }
+    ensures exact { (blocks inodes : Set) → AreExact (current_words (R.memory region.old)) blocks inodes
+        → AreExact (current_words (R.memory region.new)) blocks (without inodes inode) }
 {
     let tree = tree_of(region, dir);
     let entry = entry_place(region, tree, slot, 0);
@@ -60,60 +66,77 @@ pub(crate) fn enter_slot<R: Region>(
     commit_word(region, entry, u64::from(inode));
 }
 
-/// The place behind the last entry of a directory whose last leaf is not full.
-fn place_behind<R: Region>(region: &R, dir: u32) -> u32
-    requires well_formed { IsWellFormed (current_words (R.memory region.now)) }
-    requires reached { IsReached (current_words (R.memory region.now)) dir }
-    requires directory { kind_of (current_words (R.memory region.now)) dir ≡ 2 }
-    requires not_full { size_of (current_words (R.memory region.now)) dir % block_size ≢ 0 }
-    ensures place { ContentStandsAt (current_words (R.memory region.now)) dir (32 * (size_of (current_words (R.memory region.now)) dir / 256)) result }
-    ensures in_range { result + 32 ≤ length (current_words (R.memory region.now)) }
+/// A byte of an entry: eight are the number of the inode that it names, the lowest first, eight the length of the name,
+/// and then comes the name, with zeros behind it.
+fn entry_byte(inode: u32, name: &[u8], at: usize) -> u8
+    ensures { result ≡ entry_byte inode name.now at }
 {
-    let _words = region.words();
-    let tree = tree_of(region, dir);
-    (512 * leaf_block(region, tree, tree.size / BLOCK_SIZE) + tree.size / 8 % 512) as u32
+    if at < 8 {
+        u64::from(inode).to_le_bytes()[at]
+    } else if at < 16 {
+        (name.len() as u64).to_le_bytes()[at - 8]
+    } else if at - 16 < name.len() {
+        name[at - 16]
+    } else {
+        0
+    }
 }
 
-/// Names a new inode in an entry behind the last one of a directory whose last leaf is not full.
-pub(crate) fn enter_behind<R: Region>(region: &mut R, dir: u32, inode: u32, name: &[u8], kind: Kind)
-    requires can { CanName (current_words (R.memory region.old)) dir inode name.now }
-    requires none { empty_slot (current_words (R.memory region.old)) dir ≡ None }
-    requires not_full { size_of (current_words (R.memory region.old)) dir % block_size ≢ 0 }
-    requires room { 64 ≤ room_in (R.memory region.old) }
-    ensures performs { Performs (R.memory region.old) (R.memory region.new) (enters dir true) (EntersName dir name.now kind) }
-    ensures few { room_in (R.memory region.old) ≤ room_in (R.memory region.new) + 63 }
-    ensures exact { (blocks inodes : Set) → AreExact (current_words (R.memory region.old)) blocks inodes → AreExact (current_words (R.memory region.new)) blocks (without inodes inode) }
+/// The bytes of an entry.
+fn entry_bytes(inode: u32, name: &[u8]) -> [u8; ENTRY_SIZE as usize]
+    ensures { IsEntry inode name.now result }
 {
-    let size = tree_of(region, dir).size;
-    let size_place = place(region, dir, 2);
-    let entry = place_behind(region, dir);
-    fill(region, inode, kind);
-    put_entry(region, entry, inode, name);
-    commit_word(region, size_place, size + 256);
+    let mut bytes = [0; ENTRY_SIZE as usize];
+    for at in 0..bytes.len() {
+        bytes[at] = entry_byte(inode, name, at);
+    }
+    bytes
 }
 
-/// Names a new inode in the first entry of a directory without bytes, which a free block takes.
-pub(crate) fn enter_first<R: Region>(
-    region: &mut R,
+/// Writes an entry behind the last one of a directory, where nobody sees it: the directory's tree is prepared for one
+/// entry more.
+fn put_behind<R: Region>(parts: &mut Parts<R>, dir: u32, tree: Tree, inode: u32, name: &[u8])
+    requires can { CanEnterBehind (R.memory parts.old.region) parts.old.blocks dir inode name.now }
+    requires root { tree.root ≡ root_of (current_words (R.memory parts.old.region)) dir }
+    requires size { tree.size ≡ size_of (current_words (R.memory parts.old.region)) dir }
+    ensures puts { PutsBehind (R.memory parts.old.region) (R.memory parts.new.region) (members parts.old.blocks)
+        (members parts.new.blocks) dir inode name.now }
+    ensures blocks { length parts.new.blocks ≡ length parts.old.blocks }
+    ensures inodes { parts.new.inodes ≡ parts.old.inodes }
+{
+    let end = tree.size + ENTRY_SIZE;
+    let at = root_path(&parts.region, dir);
+    prep(parts, &at, tree.size, &entry_bytes(inode, name), end);
+    let prepared = Tree {
+        root: tree_of(&parts.region, dir).root,
+        size: end,
+    };
+    // A preparation tells of bytes. What two words are follows once they are read, as words of 64 bits.
+    let inumber = content_word(&parts.region, prepared, tree.size / 8);
+    let length = content_word(&parts.region, prepared, tree.size / 8 + 1);
+    prove_eq!(inumber, u64::from(inode));
+    prove_eq!(length, name.len() as u64);
+}
+
+/// Names a new inode in an entry behind the last one of a directory, whose size then takes it in.
+pub(crate) fn enter_behind<R: Region>(
+    parts: &mut Parts<R>,
     dir: u32,
-    block: u32,
     inode: u32,
     name: &[u8],
     kind: Kind,
 )
-    requires can { CanName (current_words (R.memory region.old)) dir inode name.now }
-    requires none { empty_slot (current_words (R.memory region.old)) dir ≡ None }
-    requires empty { size_of (current_words (R.memory region.old)) dir ≡ 0 }
-    requires block { IsFreeBlock (current_words (R.memory region.old)) block }
-    requires room { 64 ≤ room_in (R.memory region.old) }
-    ensures performs { Performs (R.memory region.old) (R.memory region.new) (enters dir true) (EntersName dir name.now kind) }
-    ensures few { room_in (R.memory region.old) ≤ room_in (R.memory region.new) + 63 }
-    ensures exact { (blocks inodes : Set) → AreExact (current_words (R.memory region.old)) blocks inodes → AreExact (current_words (R.memory region.new)) (without blocks block) (without inodes inode) }
+    requires can { CanEnterBehind (R.memory parts.old.region) parts.old.blocks dir inode name.now }
+    ensures performs { PerformsWithin 5
+        (stores_behind_growth (need (current_words (R.memory parts.old.region)) (enters dir true)))
+        (R.memory parts.old.region) (R.memory parts.new.region) (enters dir true) (EntersName dir name.now kind) }
+    ensures exact { (inodes : Set) → AreExact (current_words (R.memory parts.old.region)) parts.old.blocks inodes
+        → AreExact (current_words (R.memory parts.new.region)) parts.new.blocks (without inodes inode) }
+    ensures inodes { parts.new.inodes ≡ parts.old.inodes }
 {
-    let root_place = place(region, dir, 1);
-    let size_place = place(region, dir, 2);
-    fill(region, inode, kind);
-    region.store(root_place, BLOCK_SIZE * u64::from(block));
-    put_entry(region, 512 * block, inode, name);
-    commit_word(region, size_place, 256);
+    let tree = tree_of(&parts.region, dir);
+    let size_place = place(&parts.region, dir, 2);
+    put_behind(parts, dir, tree, inode, name);
+    fill(&mut parts.region, inode, kind);
+    commit_word(&mut parts.region, size_place, tree.size + ENTRY_SIZE);
 }

@@ -1,7 +1,8 @@
-//! Laws of the paths of words, and of what a new name needs. Each is the contract of a function that does nothing.
+//! Laws of the paths of words, of free blocks, and of what calls make of the plain tree. Each is the contract of a
+//! function that does nothing.
 
-ghost use Rattle.std.specs.Prelude.{◌≡◌, ◌≢◌, ℕ, ◌*◌, ◌%◌, ◌<◌, ◌≤◌, List, [], None, Some, true, length};
-ghost use Rattle.bp_calls.specs.Created.{EntersName, GainsName, NeedsLeaf};
+ghost use Rattle.std.specs.Prelude.{◌≡◌, ℕ, ◌*◌, ◌<◌, List, [], length};
+ghost use Rattle.bp_calls.specs.Created.{EntersName, GainsName};
 ghost use Rattle.bp_calls.specs.Removed.{IsFoundAt, LosesName};
 ghost use Rattle.bp_calls.specs.Resized.{GetsSize, ResizesFile};
 ghost use Rattle.bp_calls.specs.WritesFile.{GetsBytes, WritesFile};
@@ -9,15 +10,13 @@ ghost use Rattle.bp_layout.specs.declared.fields.Kind.{Kind};
 ghost use Rattle.bp_changes.specs.Effects.{CanUnlink, RemovesEntry};
 ghost use Rattle.bp_dirs.specs.Names.{name_count};
 ghost use Rattle.bp_free.specs.Set.{has, members};
-ghost use Rattle.bp_layout.specs.Directory.{Name, empty_slot, inumber_at, name_at};
+ghost use Rattle.bp_layout.specs.Directory.{Name, inumber_at, name_at};
 ghost use Rattle.bp_layout.specs.Free.{AreFreeBlocks, HasFree};
 ghost use Rattle.bp_layout.specs.Inode.{kind_of, root_of, size_of};
 ghost use Rattle.bp_layout.specs.Lookup.{Path};
-ghost use Rattle.bp_layout.specs.Need.{Change, content_path, existing_from, height_after, is_there_after, need};
-ghost use Rattle.bp_layout.specs.Need.Change.{enters};
-ghost use Rattle.bp_layout.specs.Reached.{IsFreeBlock, IsReached};
+ghost use Rattle.bp_layout.specs.Need.{Change, content_path, existing_from, height_after, is_there_after};
+ghost use Rattle.bp_layout.specs.Reached.{IsReached};
 ghost use Rattle.bp_layout.specs.Tree.{IsFull};
-ghost use Rattle.bp_limits.specs.Limits.{block_size};
 ghost use Rattle.bp_layout.specs.WellFormed.{IsWellFormed};
 ghost use Rattle.bp_layout.specs.Words.{block_count, height_of};
 
@@ -30,28 +29,6 @@ pub fn content_paths_exist(image: &[u64])
     ensures { (change : Change) (t k : ℕ) → IsReached image.now t → IsFull image.now (root_of image.now t) (size_of image.now t) → 8 * k < size_of image.now t
         → height_after image.now change 0 ≡ height_of (root_of image.now 0) → height_after image.now change t ≡ height_of (root_of image.now t)
         → existing_from (is_there_after image.now change) [] (content_path image.now change t k) ≡ content_path image.now change t k }
-{}
-
-/// Where an inode is free, a new name needs no block in an empty entry, none in the last leaf of its directory where that
-/// leaf is not full, and one block in a directory without entries.
-pub fn new_name_needs(image: &[u64], dir: u64)
-    requires well_formed { IsWellFormed image.now }
-    requires reached { IsReached image.now dir }
-    requires directory { kind_of image.now dir ≡ 2 }
-    ensures in_slot { (slot : ℕ) → empty_slot image.now dir ≡ Some slot → need image.now (enters dir true) ≡ 0 }
-    ensures behind { empty_slot image.now dir ≡ None → 0 < size_of image.now dir → size_of image.now dir % block_size ≢ 0 → need image.now (enters dir true) ≡ 0 }
-    ensures first { empty_slot image.now dir ≡ None → size_of image.now dir ≡ 0 → need image.now (enters dir true) ≡ 1 }
-{}
-
-/// Unless its directory needs one more leaf, a new name needs at most one block, and there is room for it where a block is
-/// free.
-pub fn new_name_needs_at_most_one(image: &[u64], dir: u64)
-    requires well_formed { IsWellFormed image.now }
-    requires reached { IsReached image.now dir }
-    requires directory { kind_of image.now dir ≡ 2 }
-    requires no_leaf { ¬ NeedsLeaf image.now dir }
-    ensures few { need image.now (enters dir true) ≤ 1 }
-    ensures room { (block free : ℕ) → IsFreeBlock image.now block → HasFree image.now free → need image.now (enters dir true) ≤ free }
 {}
 
 /// An image has one number of free blocks.

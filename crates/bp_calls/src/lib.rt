@@ -3,7 +3,6 @@
 
 mod creating;
 mod entering;
-mod fault;
 mod giving;
 mod growing;
 pub mod laws;
@@ -15,7 +14,6 @@ mod tests;
 mod writing;
 
 pub use creating::create;
-pub use fault::CreateFault;
 pub use reading::{list, read, stat};
 pub use removing::remove;
 pub use resizing::truncate;

@@ -9,12 +9,12 @@ ghost use Rattle.bp_layout.specs.Reached.{IsReached};
 ghost use Rattle.bp_layout.specs.WellFormed.{IsWellFormed};
 ghost use Rattle.pm_region.specs.Memory.{current_words};
 
+use crate::create;
 use crate::entering::tree_of;
-use crate::{CreateFault, create};
 use bp_dirs::{find, inumber};
-use bp_free::{Blocks, Inodes, Parts};
+use bp_free::{Blocks, Inodes, NoSpace, Parts};
 use bp_layout::Kind;
-use bp_limits::{MAGIC, MAX_NAME};
+use bp_limits::{CALL_ROOM, LOG_EVENTS, MAGIC, MAX_NAME};
 use pm_region::{ListRegion, Region};
 use std::alloc::{AllocError, Global};
 use std::test::Fail;
@@ -42,7 +42,7 @@ fn sample(alloc: Global) -> Result<Parts<ListRegion>, AllocError>
     ensures exact { IfOk result (λ parts. AreExact (current_words parts.region) parts.blocks parts.inodes) }
 {
     let words = sample_words(alloc)?;
-    let region = ListRegion::new(alloc, words, 4096)?;
+    let region = ListRegion::new(alloc, words, LOG_EVENTS)?;
     let mut blocks = Blocks::new(alloc, 8)?;
     blocks.fill(3, 8);
     let mut inodes = Inodes::new(alloc, 512)?;
@@ -94,14 +94,14 @@ fn make(
     parent: &[u8],
     name: &[u8],
     kind: Kind,
-) -> Option<Result<(), CreateFault>>
+) -> Option<Result<(), NoSpace>>
     requires well_formed { IsWellFormed (current_words parts.old.region) }
     requires exact { AreExact (current_words parts.old.region) parts.old.blocks parts.old.inodes }
     ensures well_formed { IsWellFormed (current_words parts.new.region) }
     ensures exact { AreExact (current_words parts.new.region) parts.new.blocks parts.new.inodes }
 {
     let dir = directory(&parts.region, parent)?;
-    if !is_name(name) || parts.region.room() < 64 {
+    if !is_name(name) || parts.region.room() < CALL_ROOM {
         return None;
     }
     let tree = tree_of(&parts.region, dir);

@@ -2,69 +2,74 @@ use Rattle.std.proofs.Common.{arith}
 use Rattle.pm_epochs.specs.May.{AnyAt}
 use Rattle.pm_region.specs.Memory.{current_words}
 use Rattle.pm_region.proofs.MemoryLaws.{length-current_words}
-use Rattle.bp_layout.specs.Inode.{root_of, size_of}
 use Rattle.bp_layout.specs.Reached.IsReached.{inode_file}
 use Rattle.bp_layout.proofs.Reached.{reached-in_file}
 use Rattle.bp_tree.specs.Within.{IsWithin}
-use Rattle.bp_calls.proofs.AtEnd.{end_performs, end_few, end_exact}
-use Rattle.bp_calls.proofs.Rooms.{base_after, room_after, size_small}
+use Rattle.bp_calls.proofs.EnteredLaws.{directory_inode}
+use Rattle.bp_calls.proofs.InBehind.{behind_performs, behind_exact, put_base, put_room, put_free, put_well_formed_behind}
+use Rattle.bp_calls.proofs.PutsLaws.{small_directory}
+use Rattle.bp_calls.proofs.Rooms.{base_after, room_after}
 use Rattle.bp_calls.proofs.entering.enter_behind.Goals as goal
 
+pub tree_of-tree-requires-clause-some : goal.tree_of-tree-requires-clause-some
+tree_of-tree-requires-clause-some g c =
+    let some = directory_inode (current_words (g.R.Region.memory c.args.parts.now.region)) c.args.dir c.requires.can.can.lacks.directory in
+    omega (arith, some)
+
 pub place-size_place-requires-clause-sound : goal.place-size_place-requires-clause-sound
-place-size_place-requires-clause-sound g c = c.requires.can.lacks.well_formed.sound 0 inode_file
+place-size_place-requires-clause-sound g c = c.requires.can.can.lacks.well_formed.sound 0 inode_file
 
 pub place-size_place-requires-clause-there : goal.place-size_place-requires-clause-there
-place-size_place-requires-clause-there g c = reached-in_file (current_words (g.R.Region.memory c.args.region.now)) c.requires.can.lacks.well_formed c.args.dir c.requires.can.lacks.reached
+place-size_place-requires-clause-there g c =
+    let can = c.requires.can in
+    reached-in_file (current_words (g.R.Region.memory c.args.parts.now.region)) can.can.lacks.well_formed c.args.dir can.can.lacks.reached
 
-pub put_entry-requires-clause-in_range : goal.put_entry-requires-clause-in_range
-put_entry-requires-clause-in_range g c =
+pub fill-requires-clause-well_formed : goal.fill-requires-clause-well_formed
+fill-requires-clause-well_formed g c =
     let memory = g.R.Region.memory in
-    let same = base_after (AnyAt (IsWithin c.fill.ensures.place 3)) 3 (memory c.args.region.now) (memory c.fill.new.region) c.fill.ensures.stores in
-    omega (arith, c.place_behind-entry.ensures.in_range, length-current_words (memory c.args.region.now), same)
+    put_well_formed_behind (memory c.args.parts.now.region) (memory c.put_behind.new.parts.region) c.args.parts.now.blocks c.put_behind.new.parts.blocks c.args.dir c.args.inode c.args.name.now c.requires.can c.put_behind.ensures.puts
 
-pub put_entry-requires-clause-room : goal.put_entry-requires-clause-room
-put_entry-requires-clause-room g c =
+pub fill-requires-clause-free : goal.fill-requires-clause-free
+fill-requires-clause-free g c =
     let memory = g.R.Region.memory in
-    let left = room_after (AnyAt (IsWithin c.fill.ensures.place 3)) 3 (memory c.args.region.now) (memory c.fill.new.region) c.fill.ensures.stores in
-    omega (arith, c.requires.room, left)
+    put_free (memory c.args.parts.now.region) (memory c.put_behind.new.parts.region) c.args.parts.now.blocks c.put_behind.new.parts.blocks c.args.dir c.args.inode c.args.name.now c.requires.can c.put_behind.ensures.puts
 
-pub overflow_add-size : goal.overflow_add-size
-overflow_add-size g c =
-    let image = current_words (g.R.Region.memory c.args.region.now) in
-    let small = size_small image (root_of image c.args.dir) (size_of image c.args.dir) (c.requires.can.lacks.well_formed.sound c.args.dir c.requires.can.lacks.reached) in
-    omega (arith, small, c.tree_of-size.ensures.size)
+pub fill-requires-clause-room : goal.fill-requires-clause-room
+fill-requires-clause-room g c =
+    let memory = g.R.Region.memory in
+    let left = put_room (memory c.args.parts.now.region) (memory c.put_behind.new.parts.region) c.args.parts.now.blocks c.put_behind.new.parts.blocks c.args.dir c.args.inode c.args.name.now c.requires.can c.put_behind.ensures.puts in
+    omega (arith, left)
+
+pub overflow_add-tree : goal.overflow_add-tree
+overflow_add-tree g c =
+    let can = c.requires.can in
+    let small = small_directory (current_words (g.R.Region.memory c.args.parts.now.region)) can.can.lacks.well_formed c.args.dir can.can.lacks.reached can.can.lacks.directory in
+    omega (arith, small, c.tree_of-tree.ensures.size)
 
 pub commit_word-requires-clause-in_range : goal.commit_word-requires-clause-in_range
 commit_word-requires-clause-in_range g c =
     let memory = g.R.Region.memory in
-    let same = base_after (AnyAt (IsWithin c.fill.ensures.place 3)) 3 (memory c.args.region.now) (memory c.fill.new.region) c.fill.ensures.stores in
-    let also = base_after _ 32 (memory c.fill.new.region) (memory c.put_entry.new.region) c.put_entry.ensures.stores.part in
-    omega (arith, c.place-size_place.ensures.in_range, length-current_words (memory c.args.region.now), same, also)
+    let first = put_base (memory c.args.parts.now.region) (memory c.put_behind.new.parts.region) c.args.parts.now.blocks c.put_behind.new.parts.blocks c.args.dir c.args.inode c.args.name.now c.requires.can c.put_behind.ensures.puts in
+    let same = base_after (AnyAt (IsWithin c.fill.ensures.place 3)) 3 (memory c.put_behind.new.parts.region) (memory c.fill.new.region) c.fill.ensures.stores in
+    omega (arith, c.place-size_place.ensures.in_range, length-current_words (memory c.args.parts.now.region), first, same)
 
 pub commit_word-requires-clause-room : goal.commit_word-requires-clause-room
 commit_word-requires-clause-room g c =
     let memory = g.R.Region.memory in
-    let left = room_after (AnyAt (IsWithin c.fill.ensures.place 3)) 3 (memory c.args.region.now) (memory c.fill.new.region) c.fill.ensures.stores in
-    let less = room_after _ 32 (memory c.fill.new.region) (memory c.put_entry.new.region) c.put_entry.ensures.stores.part in
-    omega (arith, c.requires.room, left, less)
+    let left = put_room (memory c.args.parts.now.region) (memory c.put_behind.new.parts.region) c.args.parts.now.blocks c.put_behind.new.parts.blocks c.args.dir c.args.inode c.args.name.now c.requires.can c.put_behind.ensures.puts in
+    let less = room_after (AnyAt (IsWithin c.fill.ensures.place 3)) 3 (memory c.put_behind.new.parts.region) (memory c.fill.new.region) c.fill.ensures.stores in
+    omega (arith, left, less)
 
 pub returns-clause-performs : goal.returns-clause-performs
 returns-clause-performs g c =
     let memory = g.R.Region.memory in
-    end_performs (memory c.args.region.now) (memory c.fill.new.region) (memory c.put_entry.new.region) (memory c.commit_word.new.region) c.args.dir c.args.inode c.place_behind-entry.result c.place-size_place.result c.args.name.now c.args.kind
-    c.requires.can c.requires.none c.requires.not_full c.place_behind-entry.ensures.place c.place-size_place.ensures.place
-    c.fill.ensures c.put_entry.ensures.stores.part c.put_entry.ensures.inumber c.put_entry.ensures.name (rw c.tree_of-size.ensures.size at c.commit_word.ensures)
-
-pub returns-clause-few : goal.returns-clause-few
-returns-clause-few g c =
-    let memory = g.R.Region.memory in
-    end_few (memory c.args.region.now) (memory c.fill.new.region) (memory c.put_entry.new.region) (memory c.commit_word.new.region) c.args.dir c.args.inode c.place_behind-entry.result c.place-size_place.result c.args.name.now c.args.kind
-    c.requires.can c.requires.none c.requires.not_full c.place_behind-entry.ensures.place c.place-size_place.ensures.place
-    c.fill.ensures c.put_entry.ensures.stores.part c.put_entry.ensures.inumber c.put_entry.ensures.name (rw c.tree_of-size.ensures.size at c.commit_word.ensures)
+    behind_performs (memory c.args.parts.now.region) (memory c.put_behind.new.parts.region) (memory c.fill.new.region) (memory c.commit_word.new.region) c.args.parts.now.blocks c.put_behind.new.parts.blocks
+    c.args.dir c.args.inode c.place-size_place.result c.args.name.now c.args.kind c.requires.can c.put_behind.ensures.puts c.fill.ensures c.place-size_place.ensures.place
+    (rw c.tree_of-tree.ensures.size at c.commit_word.ensures)
 
 pub returns-clause-exact : goal.returns-clause-exact
 returns-clause-exact g c =
     let memory = g.R.Region.memory in
-    end_exact (memory c.args.region.now) (memory c.fill.new.region) (memory c.put_entry.new.region) (memory c.commit_word.new.region) c.args.dir c.args.inode c.place_behind-entry.result c.place-size_place.result c.args.name.now c.args.kind
-    c.requires.can c.requires.none c.requires.not_full c.place_behind-entry.ensures.place c.place-size_place.ensures.place
-    c.fill.ensures c.put_entry.ensures.stores.part c.put_entry.ensures.inumber c.put_entry.ensures.name (rw c.tree_of-size.ensures.size at c.commit_word.ensures)
+    behind_exact (memory c.args.parts.now.region) (memory c.put_behind.new.parts.region) (memory c.fill.new.region) (memory c.commit_word.new.region) c.args.parts.now.blocks c.put_behind.new.parts.blocks
+    c.args.dir c.args.inode c.place-size_place.result c.args.name.now c.args.kind c.requires.can c.put_behind.ensures.puts c.fill.ensures c.place-size_place.ensures.place
+    (rw c.tree_of-tree.ensures.size at c.commit_word.ensures) c.put_behind.ensures.blocks

@@ -1,9 +1,8 @@
 use Rattle.std.proofs.Common.{◌+◌, ◌*◌, arith}
 use Rattle.pm_epochs.specs.May.{AnyAt}
 use Rattle.pm_region.specs.Memory.{current_words}
-use Rattle.bp_layout.specs.Reached.IsReached.{inode_file}
 use Rattle.bp_tree.specs.Within.{IsWithin}
-use Rattle.bp_calls.proofs.InSlot.{slot_performs, slot_few, slot_exact, entry_stands}
+use Rattle.bp_calls.proofs.InSlot.{slot_performs, slot_exact, entry_stands}
 use Rattle.bp_calls.proofs.Refusals.{found_empty}
 use Rattle.bp_calls.proofs.Rooms.{base_after, room_after, row_in_range}
 use Rattle.bp_calls.proofs.entering.enter_slot.Goals as goal
@@ -47,14 +46,6 @@ pub returns-clause-performs : goal.returns-clause-performs
 returns-clause-performs g c =
     let memory = g.R.Region.memory in
     slot_performs (memory c.args.region.now) (memory c.fill.new.region) (memory c.put_name.new.region) (memory c.commit_word.new.region) c.args.dir c.args.slot c.args.inode c.entry_place-entry.result c.args.name.now c.args.kind
-    c.requires.can c.requires.found
-    (entry_stands (current_words (memory c.args.region.now)) c.args.dir c.args.slot c.entry_place-entry.result c.tree_of-tree.result.root c.tree_of-tree.ensures.root c.entry_place-entry.ensures.place c.entry_place-entry.ensures.present)
-    c.fill.ensures c.put_name.ensures.stores c.put_name.ensures.name (rw c.from.ensures at c.commit_word.ensures)
-
-pub returns-clause-few : goal.returns-clause-few
-returns-clause-few g c =
-    let memory = g.R.Region.memory in
-    slot_few (memory c.args.region.now) (memory c.fill.new.region) (memory c.put_name.new.region) (memory c.commit_word.new.region) c.args.dir c.args.slot c.args.inode c.entry_place-entry.result c.args.name.now c.args.kind
     c.requires.can c.requires.found
     (entry_stands (current_words (memory c.args.region.now)) c.args.dir c.args.slot c.entry_place-entry.result c.tree_of-tree.result.root c.tree_of-tree.ensures.root c.entry_place-entry.ensures.place c.entry_place-entry.ensures.present)
     c.fill.ensures c.put_name.ensures.stores c.put_name.ensures.name (rw c.from.ensures at c.commit_word.ensures)

@@ -1,0 +1,103 @@
+-- An entry is put behind the last one of a directory: what that asks of a preparation, and that it reads back.
+use Rattle.std.proofs.Common.{◌≡◌, ℕ, zero, suc, ◌+◌, ◌*◌, ◌/◌, ◌%◌, ◌^◌, ◌<◌, ◌≤◌, List, length, refl, sym, ◌∙◌, arith}
+use Rattle.std.proofs.lemmas.List.{append-nil}
+use Rattle.bp_append.specs.Prepared.{CanPrepare, PreparesWith, need_for}
+use Rattle.bp_append.proofs.FewNeeded.{few_needed}
+use Rattle.bp_changes.proofs.ReachedOn.{reached_on}
+use Rattle.bp_changes.proofs.SameMeaning.{well_formed-same}
+use Rattle.bp_free.specs.Set.{Set, members}
+use Rattle.bp_inodes.proofs.FewInodes.{few_entries}
+use Rattle.bp_layout.specs.Directory.{Name}
+use Rattle.bp_layout.specs.Inode.{kind_of, root_of, size_of}
+use Rattle.bp_layout.specs.Reached.{IsReached}
+use Rattle.bp_layout.specs.Tree.{byte, content_word, IsSound}
+use Rattle.bp_append.specs.Given.{given}
+use Rattle.bp_layout.specs.WellFormed.{IsWellFormed}
+use Rattle.bp_layout.specs.WordPaths.{WordPath, inode_path}
+use Rattle.bp_layout.specs.Words.{Image, height_of}
+use Rattle.bp_limits.specs.Limits.{max_size}
+use Rattle.pm_region.specs.Memory.{Memory, current_words}
+use Rattle.pm_region.proofs.MemoryLaws.{length-current_words}
+use Rattle.bp_calls.specs.Entries.{IsEntry, PutsBehind}
+use Rattle.bp_calls.specs.Steps.{CanEnterBehind}
+use Rattle.bp_calls.proofs.EnteredLaws.{directory_inode}
+use Rattle.bp_calls.proofs.EntryBytes.{inumber_there, length_there, inumber_read, name_read_back}
+use Rattle.bp_calls.proofs.TakenBlocks.{unused_members, usable_members}
+
+-- a directory is small, since it has no nulls
+pub small_directory : (image : Image) → IsWellFormed image → (i : ℕ) → IsReached image i → kind_of image i ≡ 2 → size_of image i + 256 ≤ max_size
+small_directory image wf i reached kind =
+    let few = few_entries image (root_of image i) (size_of image i) (wf.sound i reached) (wf.full_directories i reached kind) (omega (arith, wf.at_least)) in
+    omega (arith, few, wf.at_most, wf.directory_sizes i reached kind)
+
+-- one entry needs few blocks
+pub few_behind : (image : Image) → IsWellFormed image → (i : ℕ) → IsReached image i → need_for image i (size_of image i) (size_of image i + 256) ≤ 18 + 3 * 3
+few_behind image wf i reached =
+    few_needed image (root_of image i) (size_of image i) (size_of image i) (size_of image i + 256) (omega arith) (omega arith) (wf.sound i reached).low
+
+module _ (old : Memory) (blocks : Set) (j : ℕ) (name : Name) where
+  abbrev image : Image
+  image = current_words old
+
+  prepares : (n : ℕ) → CanEnterBehind old blocks (suc n) j name → (path : WordPath) → path ≡ inode_path (height_of (root_of image 0)) (suc n) 1 →
+      CanPrepare old (members blocks) (suc n) path (size_of image (suc n)) (size_of image (suc n) + 256)
+  prepares n can path is = record {
+    well = can.can.lacks.well_formed;
+    reached = can.can.lacks.reached;
+    leads = is ∙ sym (append-nil (inode_path (height_of (root_of image 0)) (suc n) 1));
+    behind = omega arith;
+    order = omega arith;
+    fits = small_directory image can.can.lacks.well_formed (suc n) can.can.lacks.reached can.can.lacks.directory;
+    by_words = λ by. refl;
+    usable = usable_members image blocks can.inodes can.exact _ (omega (arith, length-current_words old));
+    unused = unused_members image blocks can.inodes can.exact;
+    enough = can.enough;
+    room = let few = few_behind image can.can.lacks.well_formed (suc n) can.can.lacks.reached in omega (arith, few, can.room);
+  }
+
+  -- given the size that was read
+  pub put_prepares : (i : ℕ) → CanEnterBehind old blocks i j name → (path : WordPath) → path ≡ inode_path (height_of (root_of image 0)) i 1 → (size : ℕ) → size ≡ size_of image i →
+      CanPrepare old (members blocks) i path size (size + 256)
+  put_prepares zero can path is size e = absurd (directory_inode image 0 can.can.lacks.directory refl)
+  put_prepares (suc n) can path is size e = rw e (prepares n can path is)
+
+  module _ (new : Memory) (rest : List ℕ) (i size : ℕ) (bytes : List ℕ) (can : CanEnterBehind old blocks i j name) (e : size ≡ size_of image i) (entry : IsEntry j name bytes)
+      (prepared : PreparesWith old new (members blocks) rest i size (size + 256) bytes) where
+    pub put_well_formed : IsWellFormed (current_words new)
+    put_well_formed = well_formed-same image (current_words new) can.can.lacks.well_formed prepared.ready.meaning
+
+    pub put_reached : IsReached (current_words new) i
+    put_reached = reached_on image (current_words new) prepared.ready.meaning i can.can.lacks.reached
+
+    pub put_sound : (root : ℕ) → root ≡ root_of (current_words new) i → IsSound (current_words new) root (size + 256)
+    put_sound root is = rw is prepared.ready.sound
+
+    laid : (o : ℕ) → size ≤ o → o < size + 256 → byte (current_words new) (root_of (current_words new) i) o ≡ given size bytes o
+    laid o low high = prepared.ready.bytes_are o (omega (arith, low, e)) high
+
+    entries : size % 256 ≡ 0
+    entries = rw e (can.can.lacks.well_formed.directory_sizes i can.can.lacks.reached can.can.lacks.directory)
+
+    module _ (root number count : ℕ) (is : root ≡ root_of (current_words new) i) (first : number ≡ content_word (current_words new) root (size / 8)) (second : count ≡ content_word (current_words new) root (size / 8 + 1))
+        (small : number < 2 ^ 64) (also : count < 2 ^ 64) (low : j < 2 ^ 64) where
+      first_is : content_word (current_words new) (root_of (current_words new) i) (size / 8) ≡ j
+      first_is = inumber_there (current_words new) (root_of (current_words new) i) size j name bytes entries entry laid low (rw (first, is) at small)
+
+      second_is : content_word (current_words new) (root_of (current_words new) i) (size / 8 + 1) ≡ length name
+      second_is = length_there (current_words new) (root_of (current_words new) i) size j name bytes entries entry laid
+          (let short = can.can.lacks.form.short in omega (arith, short)) (rw (second, is) at also)
+
+      pub put_number : number ≡ j
+      put_number = first ∙ rw is first_is
+
+      pub put_count : count ≡ length name
+      put_count = second ∙ rw is second_is
+
+      pub put_done : PutsBehind old new (members blocks) rest i j name
+      put_done = record {
+        bytes = bytes;
+        prepared = rw e at prepared;
+        inumber = rw e at (inumber_read (current_words new) (root_of (current_words new) i) size j name bytes entries entry laid first_is);
+        spelled = rw e at
+            (name_read_back (current_words new) (root_of (current_words new) i) size j name bytes entries entry laid can.can.lacks.form.short second_is);
+      }

@@ -1,0 +1,28 @@
+-- An entry behind the last one of a directory: its bytes, and what stands of it before the size takes it in.
+use Rattle.std.specs.Prelude.{◌≡◌, ℕ, ◌+◌, ◌-◌, ◌<◌, List, length, nat_lt, slice_index, if◌then◌else◌}
+use Rattle.bp_append.specs.Prepared.{PreparesWith}
+use Rattle.bp_layout.specs.Directory.{Name, entry_count, inumber_in, name_in}
+use Rattle.bp_layout.specs.Inode.{root_of, size_of}
+use Rattle.bp_layout.specs.Words.{byte_of}
+use Rattle.bp_limits.specs.Limits.{entry_size}
+use Rattle.pm_region.specs.Memory.{Memory, current_words}
+
+-- A byte of an entry: eight of the inumber, the lowest first, eight of the name's length, and then the name, with zeros
+-- behind it.
+abbrev pub entry_byte : ℕ → Name → ℕ → ℕ
+entry_byte inumber name at =
+    if nat_lt at 8 then byte_of inumber at
+    else if nat_lt at 16 then byte_of (length name) (at - 8)
+    else slice_index name (at - 16)
+
+-- these are the bytes of an entry
+abbrev pub IsEntry : ℕ → Name → List ℕ → Type 0
+IsEntry inumber name bytes = (at : ℕ) → at < entry_size → slice_index bytes at ≡ entry_byte inumber name at
+
+-- Directory i is prepared for one entry more, which names inode j. Nobody sees it.
+pub record PutsBehind (old new : Memory) (free_old free_new : List ℕ) (i j : ℕ) (name : Name) : Type 0 where
+  pub bytes : List ℕ
+  pub prepared : PreparesWith old new free_old free_new i (size_of (current_words old) i)
+      (size_of (current_words old) i + entry_size) bytes
+  pub inumber : inumber_in (current_words new) (root_of (current_words new) i) (entry_count (current_words old) i) ≡ j
+  pub spelled : name_in (current_words new) (root_of (current_words new) i) (entry_count (current_words old) i) ≡ name

@@ -1,18 +1,19 @@
 -- A map from lists of names to nodes as a plain tree.
-use Rattle.std.proofs.Common.{◌≡◌, ℕ, List, [], ◌∷◌, Bool, true, false, map, Option, None, Some, refl, sym, ◌∙◌, ap, subst, length, Bor, ◌++◌, ap₂, append_assoc}
+use Rattle.std.proofs.Common.{◌≡◌, ◌&&◌, cond, not, ℕ, List, [], ◌∷◌, Bool, true, false, map, Option, None, Some, refl, sym, ◌∙◌, ap, subst, length, Bor, ◌++◌, ap₂, append_assoc}
 use Rattle.std.proofs.lemmas.List.{map-append}
 use lib.Dec.{T}
 use Rattle.std.specs.Option.{option_map, option_copied}
 use Rattle.std.specs.List.{filter_map, AllZip}
-use Rattle.std.specs.Ordering.{nat_cmp, is_eq, ordering_then, eq_by_cmp}
+use Rattle.std.specs.Ordering.{nat_cmp, is_eq, is_lt, ordering_then, eq_by_cmp}
 use Rattle.std.specs.declared.cmp.Ordering.{Ordering}
 use Rattle.std.specs.declared.cmp.Ordering.TheVariants.{Less, Equal, Greater}
 use Rattle.std.specs.Cmp.Lexicographic.{slice_cmp}
 use Rattle.std.specs.Global.{Vec}
 use Rattle.std.specs.BTreeMap.{insert_entry, is_at}
-use Rattle.std.specs.Map.{lookup}
-use Rattle.std.specs.FinMap.{get, empty, insert, entries, from_sorted, get-from_sorted, entries-from_sorted, entries-insert, same_entries_map, empty_of_len, len-entries}
-use Rattle.std.specs.FinMap.Entries.{find, put, is_sorted, is_sorted-put}
+use Rattle.std.specs.Cmp.{alike_right, eq_by_cmp_equiv}
+use Rattle.std.specs.Map.{lookup, remove_entry}
+use Rattle.std.specs.FinMap.{get, empty, insert, remove, entries, from_sorted, get-from_sorted, get-remove, entries-from_sorted, entries-insert, same_entries_map, same_map, empty_of_len, len-entries}
+use Rattle.std.specs.FinMap.Entries.{below_all, find, find-where_key, put, is_sorted, is_sorted-put, is_sorted-where_key, where_key}
 use Rattle.arrayvec.specs.ArrayVec.{ArrayVec}
 use Rattle.bp_layout.specs.declared.fields.Kind.{Kind}
 use Rattle.bp_layout.specs.Below.{rest_below}
@@ -21,9 +22,9 @@ use Rattle.bp_layout.specs.Listing.{listed}
 use Rattle.bp_layout.specs.Lookup.{Path, Node}
 use Rattle.bp_plain.specs.declared.trees.Node.{Node as Kept}
 use Rattle.bp_plain.specs.Plain.{kind_of_node, only_name}
-use Rattle.bp_plain.specs.PlainTree.{FileTree, path_cmp}
+use Rattle.bp_plain.specs.PlainTree.{path_cmp}
 use Rattle.bp_plain.specs.SeenTree.{names_of, node_seen, entry_seen}
-use Rattle.bp_plain.proofs.Uniqueness.{path_cmp-IsTotalOrder}
+use Rattle.bp_plain.proofs.Uniqueness.{path_cmp-IsAntisymmetric, path_cmp-IsTotalOrder}
 
 -- the order of names and of paths in a program
 abbrev pub name_order : ArrayVec ℕ → ArrayVec ℕ → Ordering
@@ -73,6 +74,19 @@ true_from : (b : Bool) → T b → b ≡ true
 true_from true t = refl
 true_from false t = absurd t
 
+now_of : (a b : Bool) → T (a && b) → T a
+now_of true b both = tt
+now_of false b both = both
+
+later_of : (a b : Bool) → T (a && b) → T b
+later_of true b both = both
+later_of false b both = absurd both
+
+less_than : (r : Ordering) → T (is_lt r) → r ≡ Less
+less_than Less low = refl
+less_than Equal low = absurd low
+less_than Greater low = absurd low
+
 module _ (old : List (Vec (ArrayVec ℕ) × Kept)) (sorted : is_sorted path_cmp (map entry_seen old) ≡ true) (key : Vec (ArrayVec ℕ)) (node : Kept)
     (new : List (Vec (ArrayVec ℕ) × Kept)) (is : new ≡ insert_entry key_order old key node) where
   -- the order stays
@@ -88,6 +102,54 @@ module _ (old : List (Vec (ArrayVec ℕ) × Kept)) (sorted : is_sorted path_cmp 
       (entries-from_sorted path_cmp (map entry_seen new) (passes sorted_after) ∙ ap (map entry_seen) is ∙ put_seen old key node
       ∙ ap (put path_cmp (names_of key.items) (node_seen node)) (sym (entries-from_sorted path_cmp (map entry_seen old) (passes sorted)))
       ∙ sym (entries-insert path_cmp-IsTotalOrder (from_sorted {R = path_cmp} (map entry_seen old)) (names_of key.items) (node_seen node)))
+
+-- ---- a node that goes
+
+-- entries behind a key are not those of the key
+others_kept : (k x : Path) (es : List (Path × Node)) → path_cmp k x ≡ Equal → T (below_all path_cmp x es) → where_key path_cmp (λ y. not (eq_by_cmp path_cmp k y)) es ≡ es
+others_kept k x [] tied below = refl
+others_kept k x (e ∷ es) tied below =
+    let less = less_than (path_cmp x e.0) (now_of _ _ below) in
+    let other : eq_by_cmp path_cmp k e.0 ≡ false = ap is_eq (path_cmp-IsTotalOrder.congr k x e.0 tied ∙ less) in
+    rw other (ap (λ es. e ∷ es) (others_kept k x es tied (later_of _ _ below)))
+
+pub remove_seen : (path : List (ArrayVec ℕ)) (es : List (Vec (ArrayVec ℕ) × Kept)) → T (is_sorted path_cmp (map entry_seen es)) →
+    map entry_seen (remove_entry (is_at (λ key. slice_cmp name_order path key.items)) es) ≡ where_key path_cmp (λ y. not (eq_by_cmp path_cmp (names_of path) y)) (map entry_seen es)
+remove_seen path [] sorted = refl
+remove_seen path (e ∷ es) sorted = go (slice_cmp name_order path e.0.items) refl (remove_seen path es (later_of _ _ sorted))
+  where
+    go : (r : Ordering) → slice_cmp name_order path e.0.items ≡ r →
+        map entry_seen (remove_entry (is_at (λ key. slice_cmp name_order path key.items)) es) ≡ where_key path_cmp (λ y. not (eq_by_cmp path_cmp (names_of path) y)) (map entry_seen es) →
+        map entry_seen (remove_entry (is_at (λ key. slice_cmp name_order path key.items)) (e ∷ es)) ≡ where_key path_cmp (λ y. not (eq_by_cmp path_cmp (names_of path) y)) (map entry_seen (e ∷ es))
+    go Less at rest = rw (sym (order_seen path e.0.items) ∙ at, at) (ap (λ es. entry_seen e ∷ es) rest)
+    go Equal at rest = rw (sym (order_seen path e.0.items) ∙ at, at) (sym (others_kept (names_of path) (names_of e.0.items) (map entry_seen es) (sym (order_seen path e.0.items) ∙ at) (now_of _ _ sorted)))
+    go Greater at rest = rw (sym (order_seen path e.0.items) ∙ at, at) (ap (λ es. entry_seen e ∷ es) rest)
+
+module _ (old : List (Vec (ArrayVec ℕ) × Kept)) (sorted : is_sorted path_cmp (map entry_seen old) ≡ true) (path : List (ArrayVec ℕ))
+    (new : List (Vec (ArrayVec ℕ) × Kept)) (is : new ≡ remove_entry (is_at (λ key. slice_cmp name_order path key.items)) old) where
+  left : map entry_seen new ≡ where_key path_cmp (λ y. not (eq_by_cmp path_cmp (names_of path) y)) (map entry_seen old)
+  left = ap (map entry_seen) is ∙ remove_seen path old (passes sorted)
+
+  -- the order stays
+  pub sorted_without : is_sorted path_cmp (map entry_seen new) ≡ true
+  sorted_without =
+      ap (is_sorted path_cmp) left ∙ true_from _ (is_sorted-where_key path_cmp (λ y. not (eq_by_cmp path_cmp (names_of path) y)) (map entry_seen old) (passes sorted))
+
+  -- and the tree loses the node
+  pub tree_without : from_sorted {R = path_cmp} (map entry_seen new) ≡ remove (from_sorted {R = path_cmp} (map entry_seen old)) (names_of path)
+  tree_without = same_map path_cmp-IsTotalOrder path_cmp-IsAntisymmetric _ _ at
+    where
+      turned : (b : Bool) (found : Option Node) → cond (not b) found None ≡ cond b None found
+      turned true found = refl
+      turned false found = refl
+
+      at : (q : Path) → get (from_sorted {R = path_cmp} (map entry_seen new)) q ≡ get (remove (from_sorted {R = path_cmp} (map entry_seen old)) (names_of path)) q
+      at q =
+          get-from_sorted path_cmp (map entry_seen new) q (passes sorted_without) ∙ ap (find path_cmp q) left
+          ∙ find-where_key path_cmp (λ y. not (eq_by_cmp path_cmp (names_of path) y)) q (λ x tied. ap (λ r. not (is_eq r)) (sym (alike_right path_cmp-IsTotalOrder q x (names_of path) tied))) (map entry_seen old)
+          ∙ turned (eq_by_cmp path_cmp (names_of path) q) _
+          ∙ ap₂ (λ b found. cond b None found) ((eq_by_cmp_equiv path_cmp-IsTotalOrder).symm (names_of path) q) (sym (get-from_sorted path_cmp (map entry_seen old) q (passes sorted)))
+          ∙ sym (get-remove path_cmp-IsTotalOrder (from_sorted {R = path_cmp} (map entry_seen old)) (names_of path) q)
 
 pub no_entries : (es : List (Vec (ArrayVec ℕ) × Kept)) → es ≡ [] → from_sorted {R = path_cmp} (map entry_seen es) ≡ empty
 no_entries es is = ap (λ xs. from_sorted {R = path_cmp} (map entry_seen xs)) is ∙ empty_of_len _ (len-entries _ ∙ ap length (entries-from_sorted path_cmp [] tt))

@@ -1,18 +1,18 @@
 -- Lists of names and of refusals, cut.
-use Rattle.std.proofs.Common.{◌≡◌, ℕ, ◌+◌, ◌<◌, ◌&&◌, Bool, true, false, List, [], ◌∷◌, ◌++◌, length, get_or, map, take, drop, Option, None, Some, refl, sym, ◌∙◌, ap, true≢false, ◌-◌, is_some, arith}
+use Rattle.std.proofs.Common.{◌≡◌, ℕ, ◌+◌, ◌<◌, ◌==◌, Bool, true, false, List, [], ◌∷◌, ◌++◌, length, get_or, map, take, drop, Option, None, Some, refl, sym, ◌∙◌, ap, true≢false, ◌-◌, is_some, arith}
 use Rattle.std.specs.Option.{is_none}
 use Rattle.std.specs.FinMap.{get}
+use Rattle.std.proofs.Math.Dec.{eqb-suc-zero}
 use Rattle.std.proofs.lemmas.List.{drop_more, take_more, map-append}
 use Rattle.std.specs.Option.{option_map}
-use Rattle.std.specs.Prelude.{nat_eq, bytes_eq}
+use Rattle.std.specs.Prelude.{nat_eq}
 use Rattle.std.specs.Cmp.Lexicographic.{pointwise, nat_list_eq_equiv}
 use Rattle.arrayvec.specs.ArrayVec.{ArrayVec}
-use Rattle.bp_layout.specs.Lookup.{Path}
 use Rattle.bp_layout.specs.Below.{rest_below}
 use Rattle.bp_plain.specs.declared.errors.FsError.{FsError}
 use Rattle.bp_plain.specs.Calls.{Refusal}
 use Rattle.bp_plain.specs.Calls.Refusal.{not_dir, not_found}
-use Rattle.bp_plain.specs.Plain.{first, parent_of, walk_from, is_dir_at}
+use Rattle.bp_plain.specs.Plain.{first, is_root_path, parent_of, walk_from, is_dir_at}
 use Rattle.bp_plain.specs.PlainTree.{FileTree}
 use Rattle.bp_plain.specs.Seen.{refusal_of}
 use Rattle.bp_plain.specs.SeenTree.{names_of}
@@ -28,6 +28,10 @@ first_here found i d error low at = rw (drop_more found i d low, at) refl
 pub first_later : (found : List (Option FsError)) (i : ℕ) (d : Option FsError) → i < length found → get_or found i d ≡ None → first (refusals_of (drop (i + 1) found)) ≡ first (refusals_of (drop i found))
 first_later found i d low at = rw (drop_more found i d low, at) refl
 
+pub first_of_four : (a b c d : Option FsError) (e f g h : Option Refusal) →
+    option_map refusal_of a ≡ e → option_map refusal_of b ≡ f → option_map refusal_of c ≡ g → option_map refusal_of d ≡ h → first (refusals_of (a ∷ b ∷ c ∷ d ∷ [])) ≡ first (e ∷ f ∷ g ∷ h ∷ [])
+first_of_four a b c d e f g h one two three four = rw (one, two, three, four) refl
+
 -- ---- parents
 
 pub parent_seen : (x : ArrayVec ℕ) (path : List (ArrayVec ℕ)) → names_of (take (length path) (x ∷ path)) ≡ parent_of (names_of (x ∷ path))
@@ -37,6 +41,10 @@ parent_seen x (y ∷ path) = ap (λ names. x.items ∷ names) (parent_seen y pat
 pub parent_cut : (path : List (ArrayVec ℕ)) (n : ℕ) → n ≡ length path - 1 → names_of (take n path) ≡ parent_of (names_of path)
 parent_cut [] n e = rw e refl
 parent_cut (x ∷ path) n e = let same : n ≡ length path = omega (arith, e) in rw same (parent_seen x path)
+
+pub root_seen : (path : List (ArrayVec ℕ)) → (length path == 0) ≡ is_root_path (names_of path)
+root_seen [] = refl
+root_seen (x ∷ path) = eqb-suc-zero (length path)
 
 -- ---- walks
 

@@ -6,11 +6,14 @@ use Rattle.bp_plain.specs.declared.calls.Call.TheVariants as given
 use Rattle.bp_plain.specs.declared.errors.FsError.{FsError}
 use Rattle.bp_plain.specs.declared.errors.FsError.TheVariants as fault
 use Rattle.bp_plain.specs.Calls.{Call, Refusal}
-use Rattle.bp_plain.specs.Calls.Call.{create, list, stat, read, write, truncate}
+use Rattle.bp_plain.specs.Calls.Call.{create, mkdir, unlink, rmdir, list, stat, read, write, truncate}
 use Rattle.bp_plain.specs.Calls.Refusal.{bad_path, not_found, not_dir, is_dir, exists, not_empty, into_self, is_root, too_long, too_big, no_space, no_memory, later}
 
 abbrev pub call_of : GivenCall → Call
 call_of (given.Create path) = create path.now
+call_of (given.Mkdir path) = mkdir path.now
+call_of (given.Unlink path) = unlink path.now
+call_of (given.Rmdir path) = rmdir path.now
 call_of (given.List path) = list path.now
 call_of (given.Stat path) = stat path.now
 call_of (given.Read path off len) = read path.now off len

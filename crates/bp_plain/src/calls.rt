@@ -5,6 +5,12 @@
 pub enum Call<'a> {
     /// Makes an empty file at a path.
     Create(&'a [u8]),
+    /// Makes an empty directory at a path.
+    Mkdir(&'a [u8]),
+    /// Removes the file at a path.
+    Unlink(&'a [u8]),
+    /// Removes the empty directory at a path.
+    Rmdir(&'a [u8]),
     /// Asks for the names in the directory at a path.
     List(&'a [u8]),
     /// Asks for the size of the file, or the count of the directory, at a path.

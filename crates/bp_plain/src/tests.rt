@@ -64,6 +64,10 @@ fn plain_tree(rt: HostRuntime) -> Result<(), Fail> {
     tree.apply(alloc, &Call::List(b"/"), &mut reply)?;
     assert!(rt; matches!(reply.answer(), Answer::Names(listing) if listing.len() == 1));
     let calls = [
+        Call::Mkdir(b"/d"),
+        Call::Rmdir(b"/d"),
+        Call::Create(b"/d"),
+        Call::Unlink(b"/d"),
         Call::Write {
             path: b"/a",
             off: 2,

@@ -3,10 +3,10 @@
 ghost use Rattle.bp_layout.specs.Below.{rest_below};
 ghost use Rattle.bp_layout.specs.Listing.{listed};
 ghost use Rattle.bp_limits.specs.Limits.{max_read, max_size};
-ghost use Rattle.bp_plain.specs.Calls.Answer.{bytes};
-ghost use Rattle.bp_plain.specs.Calls.Call.{create, list, read, stat, truncate, write};
+ghost use Rattle.bp_plain.specs.Calls.Answer.{bytes, done};
+ghost use Rattle.bp_plain.specs.Calls.Call.{create, list, read, rmdir, stat, truncate, unlink, write};
 ghost use Rattle.bp_plain.specs.Plain as plain;
-ghost use Rattle.bp_plain.specs.Plain.{is_dir_at, listing, with_node};
+ghost use Rattle.bp_plain.specs.Plain.{is_dir_at, listing, with_node, without};
 ghost use Rattle.bp_plain.specs.PlainTree.{empty_tree};
 ghost use Rattle.bp_plain.specs.Seen.{IsShortCall, call_of, refusal_of};
 ghost use Rattle.bp_plain.specs.SeenTree.{carried_out, names_of, node_seen};
@@ -91,7 +91,9 @@ impl Plain {
         ensures { IfOk result (λ found. option_map refusal_of found ≡ plain.refusal self.now (call_of call.now)) }
     {
         match *call {
-            Call::Create(text) => self.refuses_create(alloc, text),
+            Call::Create(text) | Call::Mkdir(text) => self.refuses_new(alloc, text),
+            Call::Unlink(text) => self.refuses_unlink(alloc, text),
+            Call::Rmdir(text) => self.refuses_rmdir(alloc, text),
             Call::List(text) => self.refuses_list(alloc, text),
             Call::Stat(text) => self.refuses_stat(alloc, text),
             Call::Read { path, off, len } => self.refuses_read(alloc, path, off, len),
@@ -100,7 +102,8 @@ impl Plain {
         }
     }
 
-    fn refuses_create(&self, alloc: Global, text: &[u8]) -> Result<Option<FsError>, AllocError>
+    // A new file is refused as a new directory is.
+    fn refuses_new(&self, alloc: Global, text: &[u8]) -> Result<Option<FsError>, AllocError>
         ensures { IfOk result (λ found. option_map refusal_of found ≡ plain.refusal self.now (create text.now)) }
     {
         match parse(alloc, text)? {
@@ -110,6 +113,36 @@ impl Plain {
                 self.walk_parent(&path),
                 when(self.has(&path), FsError::Exists),
             ])),
+        }
+    }
+
+    fn refuses_unlink(&self, alloc: Global, text: &[u8]) -> Result<Option<FsError>, AllocError>
+        ensures { IfOk result (λ found. option_map refusal_of found ≡ plain.refusal self.now (unlink text.now)) }
+    {
+        match parse(alloc, text)? {
+            None => Ok(Some(FsError::BadPath)),
+            Some(path) => Ok(first(&[
+                when(path.is_empty(), FsError::IsDir),
+                self.walk(&path),
+                when(self.is_dir(&path), FsError::IsDir),
+            ])),
+        }
+    }
+
+    fn refuses_rmdir(&self, alloc: Global, text: &[u8]) -> Result<Option<FsError>, AllocError>
+        ensures { IfOk result (λ found. option_map refusal_of found ≡ plain.refusal self.now (rmdir text.now)) }
+    {
+        match parse(alloc, text)? {
+            None => Ok(Some(FsError::BadPath)),
+            Some(path) => {
+                let is_empty = self.is_empty_dir(alloc, &path)?;
+                Ok(first(&[
+                    when(path.is_empty(), FsError::IsRoot),
+                    self.walk(&path),
+                    when(!self.is_dir(&path), FsError::NotDir),
+                    when(!is_empty, FsError::NotEmpty),
+                ]))
+            }
         }
     }
 
@@ -226,7 +259,9 @@ impl Plain {
         ensures kept { OnErr result (self.new ≡ self.old) }
     {
         match *call {
-            Call::Create(text) => self.create(alloc, text, reply),
+            Call::Create(text) => self.make(alloc, text, Node::File(Vec::new(alloc)), reply),
+            Call::Mkdir(text) => self.make(alloc, text, Node::Dir, reply),
+            Call::Unlink(text) | Call::Rmdir(text) => self.remove(alloc, text, reply),
             Call::List(text) => self.list(alloc, text, reply),
             Call::Stat(text) => self.stat(alloc, text, reply),
             Call::Read { path, off, len } => self.read(alloc, path, off, len, reply),
@@ -235,12 +270,32 @@ impl Plain {
         }
     }
 
-    fn create(&mut self, alloc: Global, text: &[u8], reply: &mut Reply) -> Result<(), AllocError>
-        ensures done { OnOk result ((reply.new.answer, self.new) ≡ carried_out self.old (create text.now)) }
+    // Makes a node with nothing in it.
+    fn make(
+        &mut self,
+        alloc: Global,
+        text: &[u8],
+        node: Node,
+        reply: &mut Reply,
+    ) -> Result<(), AllocError>
+        ensures answer { OnOk result (reply.new.answer ≡ done) }
+        ensures made { OnOk result (self.new ≡ with_node self.old (plain.path_of text.now) (node_seen node)) }
         ensures kept { OnErr result (self.new ≡ self.old) }
     {
         let path = path_of(alloc, text)?;
-        self.put(path, Node::File(Vec::new(alloc)))?;
+        self.put(path, node)?;
+        reply.set_done();
+        Ok(())
+    }
+
+    // Removes a file as it removes a directory, which has no names in it.
+    fn remove(&mut self, alloc: Global, text: &[u8], reply: &mut Reply) -> Result<(), AllocError>
+        ensures answer { OnOk result (reply.new.answer ≡ done) }
+        ensures removed { OnOk result (self.new ≡ without self.old (plain.path_of text.now)) }
+        ensures kept { OnErr result (self.new ≡ self.old) }
+    {
+        let path = path_of(alloc, text)?;
+        self.take(&path);
         reply.set_done();
         Ok(())
     }
@@ -332,6 +387,13 @@ impl Plain {
         Ok(())
     }
 
+    // Nothing stands at the path any more.
+    fn take(&mut self, path: &[Name])
+        ensures { self.new ≡ without self.old (names_of path.now) }
+    {
+        let _ = self.nodes.remove(path);
+    }
+
     // ---- what stands at a path
 
     fn node(&self, path: &[Name]) -> Option<&Node>
@@ -353,6 +415,13 @@ impl Plain {
             Some(Node::Dir) => true,
             _ => false,
         }
+    }
+
+    fn is_empty_dir(&self, alloc: Global, path: &[Name]) -> Result<bool, AllocError>
+        ensures { IfOk result (λ is_empty. is_empty ≡ plain.is_empty_dir self.now (names_of path.now)) }
+    {
+        let names = self.names(alloc, path)?;
+        Ok(names.is_empty())
     }
 
     fn bytes(&self, path: &[Name]) -> &[u8]

@@ -3,8 +3,8 @@ use Rattle.std.proofs.Common.{◌≡◌, ℕ, ◌≤◌, List, [], ◌∷◌, �
 use Rattle.std.proofs.lemmas.List.{length-map}
 use Rattle.std.specs.List.{list_any, slice_split, AllByRecursion}
 use Rattle.std.specs.Prelude.{bytes_eq}
-use Rattle.bp_plain.specs.Calls.Call.{create, list, stat}
-use Rattle.bp_script.specs.Commands.{asked_by, decoded, is_empty_word, path_bytes, path_command, truncate_command, words_of, written_command}
+use Rattle.bp_plain.specs.Calls.Call.{create, mkdir, unlink, rmdir, list, stat}
+use Rattle.bp_script.specs.Commands.{Command, asked_by, decoded, is_empty_word, path_bytes, path_command, truncate_command, words_of, written_command}
 use Rattle.bp_script.specs.Commands.Command.{bad_syntax, file_call}
 use Rattle.bp_script.specs.Lines.{AllFit}
 
@@ -51,16 +51,29 @@ fit_more m n (word ∷ words) low all = (omega (arith, low, all.0), fit_more m n
 
 -- ---- rows with their paths decoded
 
+-- a row of a word and a path, by which word it is
+abbrev row : (a b c d e f : Bool) → List ℕ → Command
+row a b c d e f path =
+    if a then file_call (create path)
+    else if b then file_call (mkdir path)
+    else if c then file_call (unlink path)
+    else if d then file_call (rmdir path)
+    else if e then file_call (list path)
+    else if f then file_call (stat path)
+    else bad_syntax
+
 pub decoded-path : (verb path : List ℕ) → path_command verb (path_bytes path) ≡ decoded (path_command verb path)
-decoded-path verb path = go (bytes_eq verb (codes "create")) (bytes_eq verb (codes "list")) (bytes_eq verb (codes "stat"))
+decoded-path verb path =
+    go (bytes_eq verb (codes "create")) (bytes_eq verb (codes "mkdir")) (bytes_eq verb (codes "unlink")) (bytes_eq verb (codes "rmdir")) (bytes_eq verb (codes "list")) (bytes_eq verb (codes "stat"))
   where
-    go : (a b c : Bool) →
-        (if a then file_call (create (path_bytes path)) else if b then file_call (list (path_bytes path)) else if c then file_call (stat (path_bytes path)) else bad_syntax)
-        ≡ decoded (if a then file_call (create path) else if b then file_call (list path) else if c then file_call (stat path) else bad_syntax)
-    go true b c = refl
-    go false true c = refl
-    go false false true = refl
-    go false false false = refl
+    go : (a b c d e f : Bool) → row a b c d e f (path_bytes path) ≡ decoded (row a b c d e f path)
+    go true b c d e f = refl
+    go false true c d e f = refl
+    go false false true d e f = refl
+    go false false false true e f = refl
+    go false false false false true f = refl
+    go false false false false false true = refl
+    go false false false false false false = refl
 
 pub decoded-truncate : (path : List ℕ) (size : Option ℕ) → truncate_command (path_bytes path) size ≡ decoded (truncate_command path size)
 decoded-truncate path None = refl

@@ -76,6 +76,9 @@ bare_command verb =
 abbrev pub path_command : List ℕ → List ℕ → Command
 path_command verb path =
     if bytes_eq verb (codes "create") then file_call (create path)
+    else if bytes_eq verb (codes "mkdir") then file_call (mkdir path)
+    else if bytes_eq verb (codes "unlink") then file_call (unlink path)
+    else if bytes_eq verb (codes "rmdir") then file_call (rmdir path)
     else if bytes_eq verb (codes "list") then file_call (list path)
     else if bytes_eq verb (codes "stat") then file_call (stat path)
     else bad_syntax
@@ -92,7 +95,9 @@ long_command verb first second third =
     else bad_syntax
 
 -- The table of commands, by the words of a line.
---     sync      space      create PATH      list PATH      stat PATH      read PATH OFF LEN      write PATH OFF HEX      truncate PATH SIZE
+--     sync      space
+--     create PATH      mkdir PATH      unlink PATH      rmdir PATH      list PATH      stat PATH
+--     read PATH OFF LEN      write PATH OFF HEX      truncate PATH SIZE
 abbrev pub command_by_words : List (List ℕ) → Command
 command_by_words (verb ∷ []) = bare_command verb
 command_by_words (verb ∷ path ∷ []) = path_command verb path

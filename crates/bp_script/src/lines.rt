@@ -297,11 +297,20 @@ fn bare(verb: &[u8]) -> Result<Line<'static>, Syntax>
 fn path_line<'a>(verb: &[u8], path: &'a [u8]) -> Result<Line<'a>, Syntax>
     ensures { line_asks result ≡ path_command verb.now path.now }
 {
-    match verb {
-        b"create" => Ok(Line::Call(Call::Create(path))),
-        b"list" => Ok(Line::Call(Call::List(path))),
-        b"stat" => Ok(Line::Call(Call::Stat(path))),
-        _ => Err(Syntax),
+    if verb == b"create".as_slice() {
+        Ok(Line::Call(Call::Create(path)))
+    } else if verb == b"mkdir".as_slice() {
+        Ok(Line::Call(Call::Mkdir(path)))
+    } else if verb == b"unlink".as_slice() {
+        Ok(Line::Call(Call::Unlink(path)))
+    } else if verb == b"rmdir".as_slice() {
+        Ok(Line::Call(Call::Rmdir(path)))
+    } else if verb == b"list".as_slice() {
+        Ok(Line::Call(Call::List(path)))
+    } else if verb == b"stat".as_slice() {
+        Ok(Line::Call(Call::Stat(path)))
+    } else {
+        Err(Syntax)
     }
 }
 

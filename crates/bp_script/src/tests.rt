@@ -16,8 +16,11 @@ fn asks(rt: &impl Abort, decoded: &mut Decoded, bytes: &[u8], want: Result<Line<
 #[test]
 fn lines_of_the_table(rt: HostRuntime) -> Result<(), Fail> {
     let mut decoded = Decoded::new(rt.alloc(), 64)?;
-    let calls: [(&[u8], Call<'static>); 14] = [
+    let calls: [(&[u8], Call<'static>); 17] = [
         (b"create /a", Call::Create(b"/a")),
+        (b"mkdir /a", Call::Mkdir(b"/a")),
+        (b"unlink /a%20", Call::Unlink(b"/a ")),
+        (b"rmdir /a%2F", Call::Rmdir(b"/a\0")),
         (b"list /", Call::List(b"/")),
         (b"stat /a/b", Call::Stat(b"/a/b")),
         (b"create a", Call::Create(b"a")),

@@ -15,7 +15,7 @@ use Rattle.bp_plain.specs.Plain.{plain, is_changing, refusal, changes, answer, a
 use Rattle.bp_tree.specs.Performs.{Performs}
 use Rattle.bp_tree.proofs.PerformsLaws.{performs_as, performs_fits}
 use Rattle.bp_calls.specs.Space.{LacksSpace}
-use Rattle.bp_volume.specs.Step.{Steps, IsLater, IsChange, Fits}
+use Rattle.bp_volume.specs.Step.{Steps, IsChange, Fits}
 use Rattle.bp_volume.specs.Step.Steps.{changed}
 use Rattle.bp_volume.specs.Told.{Tells}
 use Rattle.bp_volume.specs.Carried.{Changes, PerformsCall}
@@ -25,7 +25,6 @@ use Rattle.bp_volume.proofs.StepLaws.{no_space_steps}
 pub record Makes (image : Image) (call : Call) (change : Change) : Type 0 where
   pub is : IsChange image call change
   pub alike : (other : Change) → IsChange image call other → need image other ≡ need image change
-  pub possible : IsLater image call → ⊥
   pub allowed : (tree : FileTree) → Stands image tree → refusal tree call ≡ None
   pub changing : (tree : FileTree) → Stands image tree → changes tree call ≡ true
   pub says : (tree : FileTree) → answer tree call ≡ done
@@ -37,7 +36,7 @@ module _ (image : Image) (call : Call) (change : Change) (makes : Makes image ca
   -- where fewer blocks are free than it needs, it is refused
   pub lacks_space : (lacks : NoSpace) → LacksSpace image change lacks → Tells image call (refused (no_space lacks.need lacks.free))
   lacks_space lacks lack tree stands =
-      no_space_steps image tree call lacks.need lacks.free (changes_now tree stands) makes.possible (record { change = change; is = makes.is; needs = lack.needed; has = lack.free }) lack.fewer
+      no_space_steps image tree call lacks.need lacks.free (changes_now tree stands) (record { change = change; is = makes.is; needs = lack.needed; has = lack.free }) lack.fewer
 
   module _ (room : (free : ℕ) → HasFree image free → need image change ≤ free) where
     fits : Fits image call
@@ -50,7 +49,7 @@ module _ (image : Image) (call : Call) (change : Change) (makes : Makes image ca
         let says : (plain tree call).0 ≡ done = ap (λ o. (answer_or tree call o).0) none ∙ makes.says tree in
         let gives : (plain tree call).1 ≡ tree_after tree call = ap (λ o. (answer_or tree call o).1) none ∙ ap (λ b. if b then tree_after tree call else tree) (makes.changing tree stands) in (
           ap (λ b. b && true) (changes_now tree stands),
-          subst (λ a. Steps image tree call a new) says (changed (changes_now tree stands) makes.possible fits (subst (Stands new) (sym gives) (becomes tree stands))),
+          subst (λ a. Steps image tree call a new) says (changed (changes_now tree stands) fits (subst (Stands new) (sym gives) (becomes tree stands))),
         )
 
 -- a change that is performed, with what it makes of the plain tree

@@ -1,47 +1,40 @@
--- Steps of a call that creates a file.
-use Rattle.std.proofs.Common.{◌≡◌, ◌≢◌, ℕ, ◌==◌, List, [], ◌∷◌, ◌++◌, true, false, refl, sym, ◌∙◌, ap, subst, true≢false, Option, None, Some}
-use Rattle.std.specs.Prelude.{not, ◌&&◌, is_none, is_some, if◌then◌else◌, unwrap_or}
+-- Steps of a call that makes an empty file or directory.
+use Rattle.std.proofs.Common.{◌≡◌, ◌≢◌, ℕ, ◌==◌, List, [], ◌∷◌, ◌++◌, Bool, true, false, refl, sym, ◌∙◌, ap, ap₂, subst, arith, true≢false, Option, None, Some}
+use Rattle.std.specs.Prelude.{not, is_some, if◌then◌else◌, unwrap_or}
+use Rattle.std.specs.List.{Contains}
 use Rattle.std.specs.Option.{option_map}
 use Rattle.std.specs.FinMap.{get}
-use Rattle.bp_layout.specs.Words.{Image}
-use Rattle.bp_layout.specs.Inode.{kind_of}
+use Rattle.bp_calls.specs.Created.{GainsName}
+use Rattle.bp_calls.proofs.SetLaws.{in_room}
+use Rattle.bp_free.specs.Set.{Set, has, members}
+use Rattle.bp_free.proofs.Members.{members_all, members_has}
 use Rattle.bp_layout.specs.Directory.{Name, inumber_at, slot_named}
+use Rattle.bp_layout.specs.Free.{IsFreeInode, TellsFreeInode}
+use Rattle.bp_layout.specs.Inode.{kind_of}
 use Rattle.bp_layout.specs.Lookup.{Path, lookup, node_of}
-use Rattle.bp_layout.specs.declared.fields.Kind.TheVariants.{File}
-use Rattle.bp_layout.specs.Free.{TellsFreeInode}
+use Rattle.bp_layout.specs.Lookup.Node.{dir}
 use Rattle.bp_layout.specs.Need.{Change, need}
 use Rattle.bp_layout.specs.Need.Change.{enters}
-use Rattle.bp_layout.specs.PathText.{parse}
+use Rattle.bp_layout.specs.Words.{Image}
+use Rattle.bp_layout.specs.declared.fields.Kind.{Kind}
+use Rattle.bp_layout.specs.declared.fields.Kind.TheVariants.{File, Dir}
 use Rattle.bp_plain.specs.PlainTree.{FileTree}
 use Rattle.bp_plain.specs.Stands.{Stands}
 use Rattle.bp_plain.specs.Calls.{Refusal}
-use Rattle.bp_plain.specs.Calls.Call.{create}
-use Rattle.bp_plain.specs.Calls.Refusal.{bad_path, exists, not_dir, no_space, later}
-use Rattle.bp_plain.specs.Calls.Answer.{refused}
-use Rattle.bp_plain.specs.Plain.{refusal, walk_parent, on_parsed, first, when, is_dir_at, is_root_path, parent_of, path_of, tree_after, with_bytes}
-use Rattle.bp_calls.specs.Created.{GainsName, IsRefused, NeedsLeaf}
-use Rattle.bp_calls.specs.Created.IsRefused.{no_inode as no_free_inode, no_leaf, no_block}
-use Rattle.bp_calls.specs.declared.fault.CreateFault.TheVariants.{Later, NoSpace}
-use Rattle.bp_volume.specs.Step.{IsLater, IsChange, NamesNew, last_of}
-use Rattle.bp_volume.specs.Step.IsLater.{no_inode, full_leaf}
-use Rattle.bp_volume.specs.Step.IsChange.{by_create}
-use Rattle.bp_volume.specs.Told.{Tells, refusal_of_new}
-use Rattle.bp_volume.proofs.ChangeLaws.{Makes, lacks_space}
-use Rattle.bp_volume.proofs.StepLaws.{later_steps}
+use Rattle.bp_plain.specs.Calls.Call.{create, mkdir}
+use Rattle.bp_plain.specs.Calls.Refusal.{exists, not_dir}
+use Rattle.bp_plain.specs.Plain.{walk_parent, on_parsed, on_path, first, when, is_dir_at, is_root_path, parent_of, path_of, tree_after, with_bytes, with_node}
+use Rattle.bp_shapes.specs.Sets.{AreExact}
+use Rattle.bp_volume.specs.Carried.{making}
+use Rattle.bp_volume.specs.Step.{IsChange, NamesNew, last_of}
+use Rattle.bp_volume.specs.Step.IsChange.{by_create, by_mkdir}
+use Rattle.bp_volume.specs.Told.{Refuses, StopsAtNew, refusal_of_new}
+use Rattle.bp_volume.proofs.ChangeLaws.{Makes}
 use Rattle.bp_volume.proofs.WalkLaws.{dir_at, get-next, walk-found}
-
-pub create_no_path : (tree : FileTree) (text : List ℕ) → parse text ≡ None → refusal tree (create text) ≡ Some bad_path
-create_no_path tree text none = ap (λ o. on_parsed o (refusal_of_new tree)) none
-
-pub refusal-create : (tree : FileTree) (text : List ℕ) (path : Path) → parse text ≡ Some path → refusal tree (create text) ≡ refusal_of_new tree path
-refusal-create tree text path parsed = ap (λ o. on_parsed o (refusal_of_new tree)) parsed
 
 pub create_stopped : (tree : FileTree) (path : Path) (why : Refusal) → path ≢ [] → walk_parent tree path ≡ Some why → refusal_of_new tree path ≡ Some why
 create_stopped tree [] why below stops = absurd (below refl)
 create_stopped tree (name ∷ path) why below stops = rw stops refl
-
-pub create_at_root : (tree : FileTree) (path : Path) → path ≡ [] → refusal_of_new tree path ≡ Some exists
-create_at_root tree path root = ap (refusal_of_new tree) root
 
 -- a path below the root directory by its parent and its last name
 pub by_parent : (path : Path) → path ≢ [] → path ≡ parent_of path ++ last_of path ∷ []
@@ -51,7 +44,7 @@ by_parent (name ∷ second ∷ rest) below = ap (λ p. name ∷ p) (by_parent (s
 
 -- ---- a name in a directory
 
-not_root : (path : Path) → path ≢ [] → is_root_path path ≡ false
+pub not_root : (path : Path) → path ≢ [] → is_root_path path ≡ false
 not_root [] below = absurd (below refl)
 not_root (name ∷ path) below = refl
 
@@ -82,10 +75,16 @@ module _ (image : Image) (path : Path) (below : path ≢ []) (i : ℕ) (parent :
     pub create_goes : slot_named image i name ≡ None → refusal_of_new tree path ≡ None
     create_goes missing = refusals-name ∙ ap (λ o. first (when (is_some o) exists ∷ [])) (get-name ∙ ap (λ o. option_map (node_of image) (option_map (inumber_at image i) o)) missing)
 
+-- ---- the call
+
+pub new_stops : (image : Image) (text : List ℕ) (kind : Kind) (why : Refusal) → StopsAtNew image text why → Refuses image (making kind text) why
+new_stops image text File why stops = stops
+new_stops image text Dir why stops = stops
+
 module _ (image : Image) (text : List ℕ) (i : ℕ) (name : Name) (names : NamesNew image text i name) where
-  not_refused : (tree : FileTree) → Stands image tree → refusal tree (create text) ≡ None
-  not_refused tree stands =
-      refusal-create tree text names.path names.parsed
+  goes : (tree : FileTree) → Stands image tree → on_path text (refusal_of_new tree) ≡ None
+  goes tree stands =
+      ap (λ o. on_parsed o (refusal_of_new tree)) names.parsed
       ∙ create_goes image names.path names.new.below i names.new.parent names.new.directory name names.new.last tree stands names.new.missing
 
   -- the text spells no other path, so its parent is no other directory
@@ -96,39 +95,49 @@ module _ (image : Image) (text : List ℕ) (i : ℕ) (name : Name) (names : Name
       let found : Some k ≡ Some i = sym new.new.parent ∙ ap (λ p. lookup image (parent_of p)) paths ∙ names.new.parent in
       cc
 
-  -- where no inode is free, or the directory needs a leaf, this version can't do it
-  pub create_later : IsRefused image i Later → Tells image (create text) (refused later)
-  create_later why tree stands = later_steps image tree (create text) (ap (λ o. is_none o && true) (not_refused tree stands)) (go why)
-    where
-      go : IsRefused image i Later → IsLater image (create text)
-      go (no_free_inode none) = no_inode names none
-      go (no_leaf full) = full_leaf names full.none full.some full.full
+  module _ (free : Bool) (tells : TellsFreeInode image free) where
+    -- an inode is free, or none is
+    same_free : (other : Bool) → TellsFreeInode image other → other ≡ free
+    same_free true told = sym (tells.none (told.some refl).0 (told.some refl).1)
+    same_free false told = go free refl
+      where
+        go : (b : Bool) → free ≡ b → false ≡ free
+        go false is = sym is
+        go true is = told.none (tells.some is).0 (tells.some is).1 ∙ sym is
 
-  module _ (tells : TellsFreeInode image true) (leaf : ¬ NeedsLeaf image i) where
-    not_later : IsLater image (create text) → ⊥
-    not_later (no_inode new none) = true≢false (sym (none.none (tells.some refl).0 (tells.some refl).1))
-    not_later (full_leaf {name = other} {i = k} new none some full) =
-        leaf (subst (NeedsLeaf image) (same_directory k other new) (record { none = none; some = some; full = full }))
+    need_file : (change : Change) → IsChange image (create text) change → need image change ≡ need image (enters i free)
+    need_file _ (by_create {name = other} {i = k} {free = f} new told) = ap₂ (λ j b. need image (enters j b)) (same_directory k other new) (same_free f told)
 
-    need_of : (change : Change) → IsChange image (create text) change → need image change ≡ need image (enters i true)
-    need_of _ (by_create {name = other} {i = k} {free = free} new told) =
-        let one : k ≡ i = same_directory k other new in
-        let some : free ≡ true = told.none (tells.some refl).0 (tells.some refl).1 in
-        rw (one, some) refl
+    need_dir : (change : Change) → IsChange image (mkdir text) change → need image change ≡ need image (enters i free)
+    need_dir _ (by_mkdir {name = other} {i = k} {free = f} new told) = ap₂ (λ j b. need image (enters j b)) (same_directory k other new) (same_free f told)
 
-    -- else the name is what the call makes
-    pub create_makes : Makes image (create text) (enters i true)
-    create_makes = record { is = by_create names tells; alike = need_of; possible = not_later; allowed = not_refused; changing = λ tree stands. refl; says = λ tree. refl }
+    -- the name is what the call makes
+    pub making_makes : (kind : Kind) → Makes image (making kind text) (enters i free)
+    making_makes File = record { is = by_create names tells; alike = need_file; allowed = goes; changing = λ tree stands. refl; says = λ tree. refl }
+    making_makes Dir = record { is = by_mkdir names tells; alike = need_dir; allowed = goes; changing = λ tree stands. refl; says = λ tree. refl }
 
   text_path : path_of text ≡ parent_of names.path ++ name ∷ []
   text_path =
       ap (λ (o : Option Path). unwrap_or o []) names.parsed ∙ path_is image names.path names.new.below i names.new.parent names.new.directory name names.new.last
 
   -- a directory that gains the name makes the tree of the call
-  pub create_becomes : (new : Image) → GainsName i name File image new → (tree : FileTree) → Stands image tree → Stands new (tree_after tree (create text))
-  create_becomes new gains tree stands = subst (λ p. Stands new (with_bytes tree p [])) (sym text_path) (gains tree (parent_of names.path) stands names.new.parent)
+  pub making_becomes : (kind : Kind) (after : Image) → GainsName i name kind image after → (tree : FileTree) → Stands image tree → Stands after (tree_after tree (making kind text))
+  making_becomes File after gains tree stands = subst (λ p. Stands after (with_bytes tree p [])) (sym text_path) (gains tree (parent_of names.path) stands names.new.parent)
+  making_becomes Dir after gains tree stands = subst (λ p. Stands after (with_node tree p dir)) (sym text_path) (gains tree (parent_of names.path) stands names.new.parent)
 
--- fewer blocks are free than the name needs, as a call tells it
-pub create_lacks : (image : Image) (text : List ℕ) (i : ℕ) (name : Name) → NamesNew image text i name → (needed free : ℕ) → IsRefused image i (NoSpace needed free) → Tells image (create text) (refused (no_space needed free))
-create_lacks image text i name names needed free (no_block tells leaf needs has short) =
-    lacks_space image (create text) (enters i true) (create_makes image text i name names tells leaf) (record { need = needed; free = free }) (record { needed = needs; free = has; fewer = short })
+-- whether an inode is free, by a set of just the free ones
+pub tells_free : (image : Image) (blocks inodes : Set) → AreExact image blocks inodes → (free : Bool) × TellsFreeInode image free
+tells_free image blocks inodes exact = go (members inodes) refl
+  where
+    nowhere : members inodes ≡ [] → (i : ℕ) → IsFreeInode image i → ⊥
+    nowhere none i free =
+        let is : has inodes i ≡ true = exact.free_inodes.all i free in
+        let there = members_all inodes i (in_room inodes i is) is in
+        let here = rw none at there in
+        omega (arith, here.1)
+
+    go : (xs : List ℕ) → members inodes ≡ xs → (free : Bool) × TellsFreeInode image free
+    go [] none = (false, record { some = λ e. absurd (true≢false (sym e)); none = λ i free. absurd (nowhere none i free) })
+    go (x ∷ xs) some =
+        let there : Contains (members inodes) x = subst (λ ys. Contains ys x) (sym some) (0, omega arith, refl) in
+        (true, record { some = λ e. (x, exact.free_inodes.free x (members_has inodes x there)); none = λ i free. refl })

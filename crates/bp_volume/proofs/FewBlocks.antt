@@ -1,5 +1,5 @@
 -- A call needs few blocks, so that a log with room for a call keeps room for the mark.
-use Rattle.std.proofs.Common.{◌≡◌, ◌⊎◌, ℕ, zero, suc, ◌+◌, ◌-◌, ◌*◌, ◌/◌, ◌%◌, ◌<◌, ◌≤◌, List, [], ◌∷◌, ◌++◌, length, take, map, filter, Bool, true, false, not, ◌||◌, ◌==◌, refl, sym, ◌∙◌, ap, inl, inr, arith, append_assoc}
+use Rattle.std.proofs.Common.{◌≡◌, ◌⊎◌, ℕ, zero, suc, ◌+◌, ◌-◌, ◌*◌, ◌/◌, ◌%◌, ◌<◌, ◌≤◌, List, [], ◌∷◌, ◌++◌, length, take, map, filter, Bool, true, false, Option, None, Some, not, ◌||◌, ◌==◌, refl, sym, ◌∙◌, ap, inl, inr, arith, append_assoc}
 use Rattle.std.specs.Prelude.{bytes_eq, if◌then◌else◌, flat_map, fold, nat_lt, min, max}
 use Rattle.std.specs.List.{range_with_len, list_any}
 use Rattle.std.proofs.lemmas.Bool.{cases_eq, cases_lt, le-ltb, ltb-true}
@@ -7,10 +7,11 @@ use Rattle.std.proofs.lemmas.List.{length-append, length-map, length-take-le, ta
 use Rattle.std.proofs.lemmas.List.FromFn.{length-map-range_with_len}
 use Rattle.pm_region.specs.Memory.{Memory, current_words, room_in}
 use Rattle.pm_region.proofs.SafeLaws.{room_after_commit}
-use Rattle.bp_limits.specs.Limits.{call_room, max_height, max_write}
+use Rattle.bp_limits.specs.Limits.{block_size, call_room, entry_size, max_height, max_write}
+use Rattle.bp_layout.specs.Directory.{empty_slot, entry_count, inumber_at}
 use Rattle.bp_layout.specs.Inode.{root_of, size_of}
-use Rattle.bp_layout.specs.Need.{Beyond, Change, beyond, prepared_for, new_inodes, height_after, touched, content_path, inode_word_path, is_prefix, prefixes_from, prefixes_of, cover_of, is_there_after, need}
-use Rattle.bp_layout.specs.Need.Change.{writes, resizes}
+use Rattle.bp_layout.specs.Need.{Beyond, Change, beyond, prepared_for, new_inodes, height_after, touched, content_path, entered, entry_path, inode_word_path, new_entry, is_prefix, prefixes_from, prefixes_of, cover_of, is_there_after, need}
+use Rattle.bp_layout.specs.Need.Change.{writes, resizes, enters, leaves}
 use Rattle.bp_layout.specs.Nodes.{TreeNode, height_with, nodes_for}
 use Rattle.bp_layout.specs.Reached.{IsReached}
 use Rattle.bp_layout.specs.Reached.IsReached.{inode_file}
@@ -19,6 +20,7 @@ use Rattle.bp_layout.specs.WellFormed.{IsWellFormed}
 use Rattle.bp_layout.specs.WordPaths.{WordPath, digits}
 use Rattle.bp_layout.specs.Words.{Image, height_of}
 use Rattle.bp_layout.proofs.Below.{bytes_eq_self}
+use Rattle.bp_layout.proofs.Finding.{Finds, find-passes}
 use Rattle.bp_append.proofs.FewNeeded.{few_needed}
 use Rattle.bp_append.proofs.NeedLaws.{tall_low}
 use Rattle.bp_tree.specs.Performs.{Performs, most_stores}
@@ -215,6 +217,37 @@ module _ (image : Image) (wf : IsWellFormed image) (n : ℕ) (reached : IsReache
 pub few_writes : (image : Image) → IsWellFormed image → (i : ℕ) → 1 ≤ i → IsReached image i → (off len : ℕ) → len ≤ max_write → IsFew (need image (writes i off len))
 few_writes image wf zero low reached off len short = absurd (omega (arith, low))
 few_writes image wf (suc n) low reached off len short = few_written image wf n reached off len short
+
+-- a path of a content word
+content_slots : (image : Image) (wf : IsWellFormed image) (change : Change) (i index : ℕ) → IsReached image i → 0 < size_of image i → length (content_path image change i index) ≤ 8
+content_slots image wf change zero index reached some = omega (arith, length-digits (suc (height_after image change 0)) index, top_low image wf change)
+content_slots image wf change (suc n) index reached some =
+    omega (arith, length-append (inode_word_path image change (suc n) 1) (digits (suc (height_after image change (suc n))) index), inode_slots image wf change (suc n) 1, length-digits (suc (height_after image change (suc n))) index, height_low image wf change (suc n) reached some)
+
+-- one name fewer
+pub few_left : (image : Image) → IsWellFormed image → (i s : ℕ) → IsReached image i → 0 < size_of image i → IsFew (need image (leaves i s))
+few_left image wf i s reached some =
+    omega (arith, alone_few (length (cover_of (is_there_after image (leaves i s)) (touched image (leaves i s)))) [] (entry_path image (leaves i s) i s 0), content_slots image wf (leaves i s) i (32 * s + 0) reached some)
+
+-- one name more
+module _ (image : Image) (wf : IsWellFormed image) (i : ℕ) (reached : IsReached image i) (free : Bool) where
+  enters_alone : (slot : Option ℕ) → empty_slot image i ≡ slot → (shortest : ℕ) → length (prefixes_of shortest [] (entered image (enters i free) i slot ∷ [])) ≤ 8
+  enters_alone None at shortest = omega (arith, alone_few shortest [] (inode_word_path image (enters i free) i 2), inode_slots image wf (enters i free) i 2)
+  enters_alone (Some slot) at shortest =
+      let found : Finds (λ s. inumber_at image i s == 0) 0 (entry_count image i) slot = find-passes (λ s. inumber_at image i s == 0) 0 (entry_count image i) slot at in
+      omega (arith, alone_few shortest [] (entry_path image (enters i free) i slot 0), content_slots image wf (enters i free) i (32 * slot + 0) reached (omega (arith, found.high)))
+
+  entry_few : (slot : Option ℕ) → length (flat_map (prepared_for image) (new_entry image i slot)) ≤ 27
+  entry_few None = prepared_few image (record { tree = i; from = size_of image i; to = size_of image i + entry_size }) (omega arith) (omega arith) (wf.sound i reached).low true
+  entry_few (Some slot) = omega arith
+
+  inodes_few : (some : Bool) → length (flat_map (prepared_for image) (new_inodes image (enters i some))) ≤ 27
+  inodes_few true = omega arith
+  inodes_few false = prepared_few image (record { tree = 0; from = size_of image 0; to = size_of image 0 + block_size }) (omega arith) (omega arith) (wf.sound 0 inode_file).low true
+
+  pub few_entered : IsFew (need image (enters i free))
+  few_entered =
+      omega (arith, entry_few (empty_slot image i), inodes_few free, enters_alone (empty_slot image i) refl (length (cover_of (is_there_after image (enters i free)) (touched image (enters i free)))))
 
 -- few blocks leave room
 pub performs_room : (old new : Memory) (change : Change) (Effect : Image → Image → Type 0) → Performs old new change Effect → IsFew (need (current_words old) change) → call_room ≤ room_in old → 0 < room_in new

@@ -21,20 +21,14 @@ use Rattle.bp_plain.specs.Calls.Refusal.{is_dir, too_long, too_big}
 use Rattle.bp_plain.specs.Plain.{refusal, walk, on_path, on_parsed, first, when, is_dir_at, path_of, bytes_in, bytes_at, tree_after, with_bytes, written, resized}
 use Rattle.bp_plain.specs.PlainTree.{FileTree}
 use Rattle.bp_plain.specs.Stands.{Stands}
-use Rattle.bp_volume.specs.Step.{IsChange, IsLater, PathFinds}
+use Rattle.bp_volume.specs.Step.{IsChange, PathFinds}
 use Rattle.bp_volume.specs.Step.IsChange.{by_write, by_truncate}
 use Rattle.bp_volume.specs.Told.{Refuses, RefusesFile, StopsAtFile, Tells, refusal_of_file}
 use Rattle.bp_volume.proofs.ChangeLaws.{Makes}
-use Rattle.bp_volume.proofs.StepLaws.{refused_steps, answer_steps}
+use Rattle.bp_volume.proofs.StepLaws.{first_two, refused_steps, answer_steps}
 use Rattle.bp_volume.proofs.WalkLaws.{node_at, dir_at, walk-found}
 
 -- ---- refusals by the path
-
--- the first two of some refusals
-first_two : (one two : Option Refusal) (rest : List (Option Refusal)) (why : Refusal) → first (one ∷ two ∷ []) ≡ Some why → first (one ∷ two ∷ rest) ≡ Some why
-first_two (Some other) two rest why e = e
-first_two None (Some other) rest why e = e
-first_two None None rest why e = absurd (cc)
 
 module _ (tree : FileTree) (text : List ℕ) where
   -- a call on a file is refused as any call there, whatever comes behind
@@ -117,9 +111,6 @@ module _ (image : Image) (text : List ℕ) (i : ℕ) (at : PathFinds image text 
         answer_steps image tree (write text off new) done
         (write_left tree stands ∙ ap (λ b. first (when (b && nat_lt max_size (off + length new)) too_big ∷ [])) (le-ltb 0 (length new) none)) (le-ltb 0 (length new) none) refl
 
-    write_later : IsLater image (write text off new) → ⊥
-    write_later later = elim later [ ]
-
     write_need : (other : Change) → IsChange image (write text off new) other → need image other ≡ need image (writes i off (length new))
     write_need _ (by_write {i = k} finds) = ap (λ j. need image (writes j off (length new))) (same_file k finds)
 
@@ -127,7 +118,6 @@ module _ (image : Image) (text : List ℕ) (i : ℕ) (at : PathFinds image text 
     write_makes some fits = record {
       is = by_write at;
       alike = write_need;
-      possible = write_later;
       allowed = λ tree stands. write_left tree stands ∙ ap₂ (λ a b. first (when (a && b) too_big ∷ [])) (lt-ltb 0 (length new) some) (le-ltb max_size (off + length new) fits);
       changing = λ tree stands. lt-ltb 0 (length new) some;
       says = λ tree. refl;
@@ -153,9 +143,6 @@ module _ (image : Image) (text : List ℕ) (i : ℕ) (at : PathFinds image text 
     truncate_nothing fits same tree stands =
         answer_steps image tree (truncate text size) done (truncate_goes fits tree stands) (ap not (eq-eqb size (length (bytes_at tree (path_of text))) (same ∙ sym (has_bytes tree stands)))) refl
 
-    truncate_later : IsLater image (truncate text size) → ⊥
-    truncate_later later = elim later [ ]
-
     truncate_need : (other : Change) → IsChange image (truncate text size) other → need image other ≡ need image (resizes i size)
     truncate_need _ (by_truncate {i = k} finds) = ap (λ j. need image (resizes j size)) (same_file k finds)
 
@@ -163,7 +150,6 @@ module _ (image : Image) (text : List ℕ) (i : ℕ) (at : PathFinds image text 
     truncate_makes fits other = record {
       is = by_truncate at;
       alike = truncate_need;
-      possible = truncate_later;
       allowed = truncate_goes fits;
       changing = λ tree stands. ap not (ne_eqb size (length (bytes_at tree (path_of text))) (λ e. other (e ∙ has_bytes tree stands)));
       says = λ tree. refl;

@@ -8,6 +8,7 @@ pub mod AskingLaws
 pub mod ChangeLaws
 pub mod FewBlocks
 pub mod FileLaws
+pub mod LeavingLaws
 pub mod CarriedLaws
 pub mod LaidLaws
 pub mod WalkingLaws

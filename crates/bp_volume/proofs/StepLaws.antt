@@ -7,11 +7,11 @@ use Rattle.bp_layout.specs.PathText.{parse}
 use Rattle.bp_plain.specs.PlainTree.{FileTree}
 use Rattle.bp_plain.specs.Calls.{Call, Refusal, Answer}
 use Rattle.bp_plain.specs.Calls.Call.{list, read, stat}
-use Rattle.bp_plain.specs.Calls.Refusal.{not_dir, is_dir, no_memory, no_space, later}
+use Rattle.bp_plain.specs.Calls.Refusal.{not_dir, is_dir, no_memory, no_space}
 use Rattle.bp_plain.specs.Calls.Answer.{refused}
 use Rattle.bp_plain.specs.Plain.{plain, is_changing, refusal, walk, changes, answer, answer_or, on_parsed, on_path, first, when, is_dir_at}
-use Rattle.bp_volume.specs.Step.{Steps, HasNeed, IsLater}
-use Rattle.bp_volume.specs.Step.Steps.{unchanged, no_listing, later_version, no_room}
+use Rattle.bp_volume.specs.Step.{Steps, HasNeed}
+use Rattle.bp_volume.specs.Step.Steps.{unchanged, no_listing, no_room}
 use Rattle.bp_volume.specs.FileCall.{has_changed, is_refused}
 
 module _ (image : Image) (tree : FileTree) where
@@ -34,15 +34,17 @@ module _ (image : Image) (tree : FileTree) where
   memory_steps text none = (ap (λ o. is_none o && false && not (is_refused (refused no_memory))) none, no_listing none)
 
   -- a call for which there is no space
-  pub no_space_steps : (call : Call) (needed free : ℕ) → is_changing tree call ≡ true → (IsLater image call → ⊥) → HasNeed image call needed free → free < needed →
+  pub no_space_steps : (call : Call) (needed free : ℕ) → is_changing tree call ≡ true → HasNeed image call needed free → free < needed →
       (has_changed tree call (refused (no_space needed free)) ≡ false) × Steps image tree call (refused (no_space needed free)) image
-  no_space_steps call needed free changing now need short = (ap (λ b. b && false) changing, no_room changing now need short)
-
-  -- a call that this version can't do
-  pub later_steps : (call : Call) → is_changing tree call ≡ true → IsLater image call → (has_changed tree call (refused later) ≡ false) × Steps image tree call (refused later) image
-  later_steps call changing is = (ap (λ b. b && false) changing, later_version changing is)
+  no_space_steps call needed free changing need short = (ap (λ b. b && false) changing, no_room changing need short)
 
 -- ---- refusals by the path
+
+-- the first two of some refusals
+pub first_two : (one two : Option Refusal) (rest : List (Option Refusal)) (why : Refusal) → first (one ∷ two ∷ []) ≡ Some why → first (one ∷ two ∷ rest) ≡ Some why
+first_two (Some other) two rest why e = e
+first_two None (Some other) rest why e = e
+first_two None None rest why e = absurd (cc)
 
 module _ (tree : FileTree) (text : List ℕ) where
   pub refusal-stat : refusal tree (stat text) ≡ on_path text (walk tree)

@@ -26,7 +26,7 @@ use Rattle.bp_path.specs.Walk.Walked.{found, missing, in_file}
 use Rattle.bp_path.proofs.WalkLaws.{walk_is_lookup}
 use Rattle.bp_volume.specs.Told.{refusal_of_walk}
 
-first_one : (r : Option Refusal) → first (r ∷ []) ≡ r
+pub first_one : (r : Option Refusal) → first (r ∷ []) ≡ r
 first_one None = refl
 first_one (Some r) = refl
 

@@ -13,11 +13,13 @@ use Rattle.bp_layout.specs.PathText.{is_name, parse}
 use Rattle.bp_plain.specs.Calls.{Refusal}
 use Rattle.bp_plain.specs.Calls.Refusal.{exists, is_dir}
 use Rattle.bp_plain.specs.Plain.{on_parsed, first, when, is_dir_at, walk, parent_of}
+use Rattle.bp_path.specs.Places.{IsEntryOf}
 use Rattle.bp_path.specs.Walk.{Walked, walk_from, in_directory}
-use Rattle.bp_volume.specs.Step.{IsNewIn, last_of}
-use Rattle.bp_volume.specs.Told.{StopsWalk, RefusesFile, RefusesNew, RefusesWalk, refusal_of_new, refusal_of_walk}
-use Rattle.bp_volume.proofs.WalkLaws.{walk-image, walk-found, walk_parent-image, dir_at}
-use Rattle.bp_volume.proofs.CreateLaws.{create_stopped, create_there}
+use Rattle.bp_path.specs.declared.steps.Place.{Place}
+use Rattle.bp_volume.specs.Step.{IsEntryOn, IsNewIn, last_of}
+use Rattle.bp_volume.specs.Told.{StopsAtEntry, StopsWalk, RefusesEntry, RefusesFile, RefusesNew, RefusesWalk, refusal_of_entry, refusal_of_new, refusal_of_walk}
+use Rattle.bp_volume.proofs.WalkLaws.{first_one, walk-image, walk-found, walk_parent-image, dir_at}
+use Rattle.bp_volume.proofs.CreateLaws.{by_parent, create_stopped, create_there, not_root}
 
 -- ---- the form of a name
 
@@ -52,6 +54,22 @@ walk_ends image path walked why is told tree stands = walk-image image tree stan
 
 pub walk_stops : (image : Image) (text : List ℕ) (path : Path) (why : Refusal) → parse text ≡ Some path → RefusesWalk image path why → StopsWalk image text why
 walk_stops image text path why parsed ends tree stands = ap (λ o. on_parsed o (walk tree)) parsed ∙ ends tree stands
+
+-- ---- the entry at a path
+
+pub entry_found : (image : Image) (path : Path) (place : Place) → path ≢ [] → IsEntryOf image path place → lookup image path ≡ Some place.inumber → IsEntryOn image path place.dir place.slot place.inumber
+entry_found image path place below entry found =
+    let both = entry.below (parent_of path) (last_of path) (by_parent path below) in
+    record { below = below; parent = both.0; slot = both.1; inode = found }
+
+pub entry_ends : (image : Image) (path : Path) (root why : Refusal) → path ≢ [] → RefusesWalk image path why → RefusesEntry image path root why
+entry_ends image path root why below ends tree stands =
+    ap (λ b. first (when b root ∷ walk tree path ∷ [])) (not_root path below) ∙ first_one (walk tree path) ∙ ends tree stands
+
+pub entry_stops : (image : Image) (text : List ℕ) (path : Path) (root why : Refusal) → parse text ≡ Some path → RefusesEntry image path root why → StopsAtEntry image text root why
+entry_stops image text path root why parsed ends tree stands = ap (λ o. on_parsed o (refusal_of_entry root tree)) parsed ∙ ends tree stands
+
+-- ---- the file at a path
 
 -- a directory stands where a file is wanted
 pub no_file : (image : Image) (path : Path) (i : ℕ) → lookup image path ≡ Some i → kind_of image i ≡ 2 → RefusesFile image path is_dir

@@ -1,15 +1,23 @@
 -- What a call does to a region before its mark.
-use Rattle.std.specs.Prelude.{◌≡◌, ◌<◌, true}
+use Rattle.std.specs.Prelude.{◌≡◌, ℕ, ◌<◌, List, true}
 use Rattle.pm_region.specs.Memory.{Memory, current_words, room_in}
 use Rattle.bp_layout.specs.Need.{Change}
 use Rattle.bp_layout.specs.Words.{Image}
+use Rattle.bp_layout.specs.declared.fields.Kind.{Kind}
+use Rattle.bp_layout.specs.declared.fields.Kind.TheVariants.{File, Dir}
 use Rattle.bp_plain.specs.PlainTree.{FileTree}
 use Rattle.bp_plain.specs.Stands.{Stands}
 use Rattle.bp_plain.specs.Calls.{Call, Answer}
+use Rattle.bp_plain.specs.Calls.Call.{create, mkdir}
 use Rattle.bp_tree.specs.Performs.{Performs}
 use Rattle.bp_volume.specs.Step.{Steps, IsChange}
 use Rattle.bp_volume.specs.FileCall.{has_changed}
 use Rattle.bp_volume.specs.Told.{Tells}
+
+-- the call that makes an empty file or directory
+abbrev pub making : Kind → List ℕ → Call
+making File text = create text
+making Dir text = mkdir text
 
 -- the call with this answer changes the tree for which the first image stands, and is a step to the second
 abbrev pub Changes : Call → Answer → Image → Image → Type 0

@@ -1,16 +1,15 @@
 -- What a call may make of an image.
-use Rattle.std.specs.Prelude.{◌≡◌, ◌≢◌, ℕ, ◌%◌, ◌<◌, ◌≤◌, List, [], ◌∷◌, length, Bool, true, false, None, Some}
+use Rattle.std.specs.Prelude.{◌≡◌, ◌≢◌, ℕ, ◌<◌, ◌≤◌, List, [], ◌∷◌, length, Bool, true, false, None, Some}
 use Rattle.bp_layout.specs.Words.{Image}
-use Rattle.bp_limits.specs.Limits.{block_size}
-use Rattle.bp_layout.specs.Directory.{Name, IsName, slot_named, empty_slot}
-use Rattle.bp_layout.specs.Inode.{kind_of, size_of}
+use Rattle.bp_layout.specs.Directory.{Name, IsName, slot_named}
+use Rattle.bp_layout.specs.Inode.{kind_of}
 use Rattle.bp_layout.specs.Lookup.{Path, lookup}
 use Rattle.bp_plain.specs.PlainTree.{FileTree}
 use Rattle.bp_plain.specs.Stands.{Stands}
 use Rattle.bp_layout.specs.PathText.{parse}
 use Rattle.bp_plain.specs.Calls.{Call, Answer}
 use Rattle.bp_plain.specs.Calls.Call.{create, mkdir, unlink, rmdir, list, write, truncate, rename}
-use Rattle.bp_plain.specs.Calls.Refusal.{no_space, no_memory, later}
+use Rattle.bp_plain.specs.Calls.Refusal.{no_space, no_memory}
 use Rattle.bp_plain.specs.Calls.Answer.{refused}
 use Rattle.bp_plain.specs.Plain.{plain, is_changing, refusal, parent_of}
 use Rattle.bp_layout.specs.Need.{Change, need}
@@ -44,6 +43,19 @@ pub record NamesNew (image : Image) (text : List ℕ) (i : ℕ) (name : Name) : 
   pub parsed : parse text ≡ Some path
   pub new : IsNewIn image path i name
 
+-- the path below the root directory finds inode j, by slot s of directory i
+pub record IsEntryOn (image : Image) (path : Path) (i s j : ℕ) : Type 0 where
+  pub below : path ≢ []
+  pub parent : lookup image (parent_of path) ≡ Some i
+  pub slot : slot_named image i (last_of path) ≡ Some s
+  pub inode : lookup image path ≡ Some j
+
+-- the text spells such a path
+pub record FindsEntry (image : Image) (text : List ℕ) (i s j : ℕ) : Type 0 where
+  pub path : Path
+  pub parsed : parse text ≡ Some path
+  pub entry : IsEntryOn image path i s j
+
 -- the text spells a path to this inode
 pub record PathFinds (image : Image) (text : List ℕ) (i : ℕ) : Type 0 where
   pub path : Path
@@ -73,22 +85,14 @@ pub record HasNeed (image : Image) (call : Call) (needed free : ℕ) : Type 0 wh
 abbrev pub Fits : Image → Call → Type 0
 Fits image call = (needed free : ℕ) → HasNeed image call needed free → needed ≤ free
 
--- What this version can't do yet: create a file where no inode is free, or where the directory has no empty entry and its
--- leaves are full.
-pub data IsLater (image : Image) : Call → Type 0 where
-  no_inode : {text : List ℕ} {name : Name} {i : ℕ} → NamesNew image text i name → TellsFreeInode image false → IsLater image (create text)
-  full_leaf : {text : List ℕ} {name : Name} {i : ℕ} → NamesNew image text i name → empty_slot image i ≡ None → 0 < size_of image i → size_of image i % block_size ≡ 0 →
-      IsLater image (create text)
-
 -- The image stands for a tree. A changing call that needs more blocks than are free is refused; want of memory may be
 -- answered to a listing; else the answer is that of the plain tree, and the new image stands for the new tree.
 pub data Steps (image : Image) (tree : FileTree) : Call → Answer → Image → Type 0 where
-  no_room : {call : Call} {needed free : ℕ} → is_changing tree call ≡ true → ¬ IsLater image call → HasNeed image call needed free → free < needed →
+  no_room : {call : Call} {needed free : ℕ} → is_changing tree call ≡ true → HasNeed image call needed free → free < needed →
       Steps image tree call (refused (no_space needed free)) image
   no_listing : {text : List ℕ} → refusal tree (list text) ≡ None → Steps image tree (list text) (refused no_memory) image
-  later_version : {call : Call} → is_changing tree call ≡ true → IsLater image call → Steps image tree call (refused later) image
   unchanged : {call : Call} → is_changing tree call ≡ false → Steps image tree call (plain tree call).0 image
-  changed : {call : Call} {new : Image} → is_changing tree call ≡ true → ¬ IsLater image call → Fits image call → Stands new (plain tree call).1 → Steps image tree call (plain tree call).0 new
+  changed : {call : Call} {new : Image} → is_changing tree call ≡ true → Fits image call → Stands new (plain tree call).1 → Steps image tree call (plain tree call).0 new
 
 abbrev pub Step : Image → Call → Answer → Image → Type 0
 Step image call answer new = (tree : FileTree) → Stands image tree → Steps image tree call answer new

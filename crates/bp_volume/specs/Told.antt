@@ -51,6 +51,22 @@ StopsAtFile image text why = (tree : FileTree) → Stands image tree → on_path
 abbrev pub refusal_of_new : FileTree → Path → Option Refusal
 refusal_of_new tree path = first (when (is_root_path path) exists ∷ walk_parent tree path ∷ when (is_some (get tree path)) exists ∷ [])
 
+-- the text is no path, or a new file there is refused so
+abbrev pub StopsAtNew : Image → List ℕ → Refusal → Type 0
+StopsAtNew image text why = (tree : FileTree) → Stands image tree → on_path text (refusal_of_new tree) ≡ Some why
+
+-- the refusals before the entry of a path is found, where the root directory has its own
+abbrev pub refusal_of_entry : Refusal → FileTree → Path → Option Refusal
+refusal_of_entry root tree path = first (when (is_root_path path) root ∷ walk tree path ∷ [])
+
+-- no entry is found at the path, and so the refusal
+abbrev pub RefusesEntry : Image → Path → Refusal → Refusal → Type 0
+RefusesEntry image path root why = (tree : FileTree) → Stands image tree → refusal_of_entry root tree path ≡ Some why
+
+-- the text is no path, or no entry is found there, and so the refusal
+abbrev pub StopsAtEntry : Image → List ℕ → Refusal → Refusal → Type 0
+StopsAtEntry image text root why = (tree : FileTree) → Stands image tree → on_path text (refusal_of_entry root tree) ≡ Some why
+
 -- a new file at the path is refused so
 abbrev pub RefusesNew : Image → Path → Refusal → Type 0
 RefusesNew image path why = (tree : FileTree) → Stands image tree → refusal_of_new tree path ≡ Some why

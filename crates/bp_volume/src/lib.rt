@@ -5,6 +5,7 @@ mod asking;
 mod creating;
 mod laying;
 mod refusing;
+mod removing;
 mod replying;
 mod resizing;
 mod sets;

@@ -7,7 +7,7 @@ ghost use Rattle.bp_layout.specs.Words.{block_count};
 ghost use Rattle.bp_limits.specs.Limits.{call_room, max_blocks, min_blocks};
 ghost use Rattle.pm_region.specs.Memory.{current_words, drained, room_in, with_room};
 ghost use Rattle.bp_limits.specs.Limits.{max_read};
-ghost use Rattle.bp_plain.specs.Calls.Call.{create, list, read, stat, truncate, write};
+ghost use Rattle.bp_plain.specs.Calls.Call.{create, list, mkdir, read, rmdir, stat, truncate, unlink, write};
 ghost use Rattle.bp_plain.specs.PlainTree.{empty_tree};
 ghost use Rattle.bp_plain.specs.Seen.{call_of};
 ghost use Rattle.bp_plain.specs.Stands.{Stands};
@@ -20,13 +20,14 @@ ghost use Rattle.bp_volume.specs.Seen.{IsShortCall, list_answer_of, read_answer,
 use crate::asking::{list_at, read_at, stat_at};
 use crate::creating::create_at;
 use crate::laying::lay_out;
+use crate::removing::{rmdir_at, unlink_at};
 use crate::replying::{tell_done, tell_list, tell_read, tell_stat};
 use crate::resizing::truncate_at;
 use crate::sets::Sets;
 use crate::space::Space;
 use crate::writing::write_at;
 use bp_free::Parts;
-use bp_layout::{Listing, Stat};
+use bp_layout::{Kind, Listing, Stat};
 use bp_limits::CALL_ROOM;
 use bp_plain::{Call, FsError, Reply};
 use bp_scan::{MountFault, Pending, scan};
@@ -136,14 +137,58 @@ impl<R: Region> Volume<R> {
     /// # Errors
     ///
     /// `BadPath` where the text is no path; `Exists` at the root directory; `NotFound` or `NotDir` at the first name on
-    /// the way that is missing, or is sought in a file; `Exists` where the name is there; then `Later` where no inode is
-    /// free, or the directory has no empty entry and its blocks are full; and last `NoSpace` where fewer blocks are free
-    /// than the file needs.
+    /// the way that is missing, or is sought in a file; `Exists` where the name is there; and last `NoSpace` where fewer
+    /// blocks are free than the file needs. Nothing has changed then.
     pub fn create(&mut self, path: &[u8]) -> Result<(), FsError>
         ensures { FileCall self.old (create path.now) (unit_answer result) self.new }
     {
         self.make_room();
-        let made = create_at(&mut self.parts, path);
+        let made = create_at(&mut self.parts, path, Kind::File);
+        self.parts.region.mark();
+        made
+    }
+
+    /// Makes an empty directory at a path.
+    ///
+    /// # Errors
+    ///
+    /// Those of `create`.
+    pub fn mkdir(&mut self, path: &[u8]) -> Result<(), FsError>
+        ensures { FileCall self.old (mkdir path.now) (unit_answer result) self.new }
+    {
+        self.make_room();
+        let made = create_at(&mut self.parts, path, Kind::Dir);
+        self.parts.region.mark();
+        made
+    }
+
+    /// Removes the file at a path. Its blocks are free then.
+    ///
+    /// # Errors
+    ///
+    /// `BadPath` where the text is no path; `IsDir` at the root directory; `NotFound` or `NotDir` at the first name on the
+    /// way that is missing, or is sought in a file; and last `IsDir` where a directory stands there. Nothing has changed then.
+    pub fn unlink(&mut self, path: &[u8]) -> Result<(), FsError>
+        ensures { FileCall self.old (unlink path.now) (unit_answer result) self.new }
+    {
+        self.make_room();
+        let made = unlink_at(&mut self.parts, path);
+        self.parts.region.mark();
+        made
+    }
+
+    /// Removes the directory at a path, which has no names. Its blocks are free then.
+    ///
+    /// # Errors
+    ///
+    /// `BadPath` where the text is no path; `IsRoot` at the root directory; `NotFound` or `NotDir` at the first name on the
+    /// way that is missing, or is sought in a file; `NotDir` where a file stands there; and last `NotEmpty` where the
+    /// directory has a name. Nothing has changed then.
+    pub fn rmdir(&mut self, path: &[u8]) -> Result<(), FsError>
+        ensures { FileCall self.old (rmdir path.now) (unit_answer result) self.new }
+    {
+        self.make_room();
+        let made = rmdir_at(&mut self.parts, path);
         self.parts.region.mark();
         made
     }
@@ -236,6 +281,9 @@ impl<R: Region> Volume<R> {
     {
         match call {
             Call::Create(path) => tell_done(reply, self.create(path)),
+            Call::Mkdir(path) => tell_done(reply, self.mkdir(path)),
+            Call::Unlink(path) => tell_done(reply, self.unlink(path)),
+            Call::Rmdir(path) => tell_done(reply, self.rmdir(path)),
             Call::List(path) => tell_list(reply, self.list(alloc, path)),
             Call::Stat(path) => tell_stat(reply, self.stat(path)),
             Call::Read { path, off, len } => self.apply_read(path, *off, *len, reply),

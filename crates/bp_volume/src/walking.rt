@@ -8,16 +8,16 @@ ghost use Rattle.bp_limits.specs.Limits.{max_name};
 ghost use Rattle.bp_layout.specs.Reached.{IsReached};
 ghost use Rattle.bp_layout.specs.WellFormed.{IsWellFormed};
 ghost use Rattle.bp_path.specs.Places.{fault_of};
-ghost use Rattle.bp_plain.specs.Calls.Call.{create};
+ghost use Rattle.bp_plain.specs.Calls.{Refusal};
 ghost use Rattle.bp_plain.specs.Seen.{refusal_of};
-ghost use Rattle.bp_volume.specs.Step.{PathFinds, IsNewIn, NamesNew};
-ghost use Rattle.bp_volume.specs.Told.{Refuses, RefusesFile, RefusesNew, RefusesWalk, StopsAtFile, StopsWalk, refusal_of_walk};
+ghost use Rattle.bp_volume.specs.Step.{FindsEntry, IsEntryOn, IsNewIn, NamesNew, PathFinds};
+ghost use Rattle.bp_volume.specs.Told.{RefusesEntry, RefusesFile, RefusesNew, RefusesWalk, StopsAtEntry, StopsAtFile, StopsAtNew, StopsWalk, refusal_of_walk};
 ghost use Rattle.pm_region.specs.Memory.{current_words};
 
 use bp_dirs::find;
 use bp_inodes::get;
 use bp_layout::Kind;
-use bp_path::{Path, WalkFault, parse, walk, walk_parent};
+use bp_path::{Path, Place, WalkFault, parse, walk, walk_parent};
 use bp_plain::FsError;
 use bp_tree::Tree;
 use pm_region::Region;
@@ -117,6 +117,39 @@ pub(crate) fn file_at<R: Region>(region: &R, text: &[u8]) -> Result<FoundFile, F
     }
 }
 
+/// The entry at a path below the root directory.
+fn entry_on<R: Region>(region: &R, path: &Path<'_>) -> Result<Place, FsError>
+    requires well_formed { IsWellFormed (current_words (R.memory region.now)) }
+    requires below { path.now ≢ [] }
+    ensures found { IfOk result (λ place. IsEntryOn (current_words (R.memory region.now)) path.now place.dir place.slot place.inumber) }
+    ensures refused { IfErr result (λ e. (root : Refusal) → RefusesEntry (current_words (R.memory region.now)) path.now root (refusal_of e)) }
+{
+    match walk(region, path) {
+        Ok(place) => Ok(place),
+        Err(fault) => Err(refused(fault)),
+    }
+}
+
+/// The entry by which a path text finds what stands there. The root directory has none: there it is the error `root`.
+pub(crate) fn entry_at<R: Region>(region: &R, text: &[u8], root: FsError) -> Result<Place, FsError>
+    requires { IsWellFormed (current_words (R.memory region.now)) }
+    ensures found { IfOk result (λ place. FindsEntry (current_words (R.memory region.now)) text.now place.dir place.slot place.inumber) }
+    ensures refused { IfErr result (λ e. StopsAtEntry (current_words (R.memory region.now)) text.now (refusal_of root) (refusal_of e)) }
+{
+    match parse(text) {
+        Ok(path) => {
+            if path.is_root() {
+                return Err(root);
+            }
+            match entry_on(region, &path) {
+                Ok(place) => Ok(place),
+                Err(error) => Err(error),
+            }
+        }
+        Err(_) => Err(FsError::BadPath),
+    }
+}
+
 /// Whether a directory has a name.
 fn has_name<R: Region>(region: &R, dir: u32, name: &[u8]) -> bool
     requires well_formed { IsWellFormed (current_words (R.memory region.now)) }
@@ -153,11 +186,11 @@ fn last_name<'a, R: Region>(region: &R, path: &Path<'a>) -> Result<NewName<'a>, 
     }
 }
 
-/// The directory that is to have a new file at a path text, and its name there.
+/// The directory that is to have a new name at a path text, and its name there.
 pub(crate) fn new_name<'a, R: Region>(region: &R, text: &'a [u8]) -> Result<NewName<'a>, FsError>
     requires { IsWellFormed (current_words (R.memory region.now)) }
     ensures found { IfOk result (λ new. NamesNew (current_words (R.memory region.now)) text.now new.dir new.name.now) }
-    ensures refused { IfErr result (λ e. Refuses (current_words (R.memory region.now)) (create text.now) (refusal_of e)) }
+    ensures refused { IfErr result (λ e. StopsAtNew (current_words (R.memory region.now)) text.now (refusal_of e)) }
 {
     match parse(text) {
         Ok(path) => {

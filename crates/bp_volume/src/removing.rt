@@ -1,0 +1,118 @@
+//! Names that leave their directories.
+
+ghost use Rattle.std.specs.Prelude.{◌≡◌, ◌≤◌, IfErr, IfOk, OnOk};
+ghost use Rattle.bp_dirs.specs.Names.{name_count};
+ghost use Rattle.bp_layout.specs.Inode.{kind_of, root_of, size_of};
+ghost use Rattle.bp_layout.specs.WellFormed.{IsWellFormed};
+ghost use Rattle.bp_limits.specs.Limits.{call_room};
+ghost use Rattle.bp_plain.specs.Calls.Call.{rmdir, unlink};
+ghost use Rattle.bp_plain.specs.Seen.{refusal_of};
+ghost use Rattle.bp_shapes.specs.Sets.{AreExact};
+ghost use Rattle.bp_volume.specs.Carried.{CarriesOut};
+ghost use Rattle.bp_volume.specs.Seen.{unit_answer};
+ghost use Rattle.bp_volume.specs.Step.{FindsEntry};
+ghost use Rattle.bp_volume.specs.Told.{Refuses};
+ghost use Rattle.pm_region.specs.Memory.{current_words, room_in};
+
+use crate::walking::entry_at;
+use bp_calls::remove;
+use bp_dirs::is_empty;
+use bp_free::Parts;
+use bp_inodes::get;
+use bp_layout::Kind;
+use bp_path::Place;
+use bp_plain::FsError;
+use bp_tree::Tree;
+use pm_region::Region;
+
+/// The entry by which a path text finds a file.
+fn file_entry<R: Region>(region: &R, text: &[u8]) -> Result<Place, FsError>
+    requires { IsWellFormed (current_words (R.memory region.now)) }
+    ensures found { IfOk result (λ place. FindsEntry (current_words (R.memory region.now)) text.now place.dir place.slot place.inumber) }
+    ensures file { IfOk result (λ place. kind_of (current_words (R.memory region.now)) place.inumber ≡ 1) }
+    ensures refused { IfErr result (λ e. Refuses (current_words (R.memory region.now)) (unlink text.now) (refusal_of e)) }
+{
+    match entry_at(region, text, FsError::IsDir) {
+        Ok(place) => match get(region, place.inumber).kind {
+            Kind::File => Ok(place),
+            Kind::Dir => Err(FsError::IsDir),
+        },
+        Err(error) => Err(error),
+    }
+}
+
+/// The same entry, where it names a directory without names.
+fn empty_place<R: Region>(region: &R, text: &[u8], place: Place) -> Result<Place, FsError>
+    requires well_formed { IsWellFormed (current_words (R.memory region.now)) }
+    requires at { FindsEntry (current_words (R.memory region.now)) text.now place.dir place.slot place.inumber }
+    ensures same { IfOk result (λ empty. empty ≡ place) }
+    ensures directory { OnOk result (kind_of (current_words (R.memory region.now)) place.inumber ≡ 2) }
+    ensures empty { let words = current_words (R.memory region.now) in
+        OnOk result (name_count words (root_of words place.inumber) (size_of words place.inumber) ≡ 0) }
+    ensures refused { IfErr result (λ e. Refuses (current_words (R.memory region.now)) (rmdir text.now) (refusal_of e)) }
+{
+    let inode = get(region, place.inumber);
+    let tree = Tree {
+        root: inode.root,
+        size: inode.size,
+    };
+    match inode.kind {
+        Kind::File => Err(FsError::NotDir),
+        Kind::Dir => {
+            if is_empty(region, tree) {
+                Ok(place)
+            } else {
+                Err(FsError::NotEmpty)
+            }
+        }
+    }
+}
+
+/// The entry by which a path text finds a directory without names.
+fn empty_entry<R: Region>(region: &R, text: &[u8]) -> Result<Place, FsError>
+    requires { IsWellFormed (current_words (R.memory region.now)) }
+    ensures found { IfOk result (λ place. FindsEntry (current_words (R.memory region.now)) text.now place.dir place.slot place.inumber) }
+    ensures directory { IfOk result (λ place. kind_of (current_words (R.memory region.now)) place.inumber ≡ 2) }
+    ensures empty { let words = current_words (R.memory region.now) in
+        IfOk result (λ place. name_count words (root_of words place.inumber) (size_of words place.inumber) ≡ 0) }
+    ensures refused { IfErr result (λ e. Refuses (current_words (R.memory region.now)) (rmdir text.now) (refusal_of e)) }
+{
+    match entry_at(region, text, FsError::IsRoot) {
+        Ok(place) => empty_place(region, text, place),
+        Err(error) => Err(error),
+    }
+}
+
+/// What `unlink` does before its mark.
+pub(crate) fn unlink_at<R: Region>(parts: &mut Parts<R>, text: &[u8]) -> Result<(), FsError>
+    requires well_formed { IsWellFormed (current_words (R.memory parts.old.region)) }
+    requires exact { AreExact (current_words (R.memory parts.old.region)) parts.old.blocks parts.old.inodes }
+    requires room { call_room ≤ room_in (R.memory parts.old.region) }
+    ensures called { CarriesOut (R.memory parts.old.region) (unlink text.now) (unit_answer result) (R.memory parts.new.region) }
+    ensures exact { AreExact (current_words (R.memory parts.new.region)) parts.new.blocks parts.new.inodes }
+{
+    match file_entry(&parts.region, text) {
+        Ok(place) => {
+            remove(parts, place.dir, place.slot);
+            Ok(())
+        }
+        Err(error) => Err(error),
+    }
+}
+
+/// What `rmdir` does before its mark.
+pub(crate) fn rmdir_at<R: Region>(parts: &mut Parts<R>, text: &[u8]) -> Result<(), FsError>
+    requires well_formed { IsWellFormed (current_words (R.memory parts.old.region)) }
+    requires exact { AreExact (current_words (R.memory parts.old.region)) parts.old.blocks parts.old.inodes }
+    requires room { call_room ≤ room_in (R.memory parts.old.region) }
+    ensures called { CarriesOut (R.memory parts.old.region) (rmdir text.now) (unit_answer result) (R.memory parts.new.region) }
+    ensures exact { AreExact (current_words (R.memory parts.new.region)) parts.new.blocks parts.new.inodes }
+{
+    match empty_entry(&parts.region, text) {
+        Ok(place) => {
+            remove(parts, place.dir, place.slot);
+            Ok(())
+        }
+        Err(error) => Err(error),
+    }
+}

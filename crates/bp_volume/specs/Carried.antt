@@ -21,7 +21,8 @@ making Dir text = mkdir text
 
 -- the call with this answer changes the tree for which the first image stands, and is a step to the second
 abbrev pub Changes : Call → Answer → Image → Image → Type 0
-Changes call answer image new = (tree : FileTree) → Stands image tree → (has_changed tree call answer ≡ true) × Steps image tree call answer new
+Changes call answer image new = (tree : FileTree) → Stands image tree →
+    (has_changed tree call answer ≡ true) × Steps image tree call answer new
 
 -- the call makes one change of the image, is that step by it, and leaves room for its mark
 pub record PerformsCall (old : Memory) (call : Call) (answer : Answer) (new : Memory) : Type 0 where

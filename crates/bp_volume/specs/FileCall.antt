@@ -31,13 +31,15 @@ pub record IsShortCall (image : Image) (call : Call) (new : Image) (events : Lis
   pub is : IsChange image call change
   pub short : IsShort image new change events
 
--- A call on a file: the answer and the new image are a step, the log got the call's events and then its mark, a call that
--- changes nothing has no events, one that changes the tree costs no more than it must, and a crash at any moment leaves what some calls left.
+-- A call on a file: the answer and the new image are a step, the log got the call's events and then its mark, a call
+-- that changes nothing has no events, one that changes the tree costs no more than it must, and a crash at any moment
+-- leaves what some calls left.
 pub record FileCall (old : Memory) (call : Call) (answer : Answer) (new : Memory) : Type 0 where
   pub added : List Event
   pub unmarked : marks added ≡ 0
   pub adds : Adds (with_room call_room old) new (added ++ Mark ∷ [])
   pub step : Step (current_words old) call answer (current_words new)
   pub silent : (tree : FileTree) → Stands (current_words old) tree → has_changed tree call answer ≡ false → added ≡ []
-  pub short : (tree : FileTree) → Stands (current_words old) tree → has_changed tree call answer ≡ true → IsShortCall (current_words old) call (current_words new) added
+  pub short : (tree : FileTree) → Stands (current_words old) tree → has_changed tree call answer ≡ true →
+      IsShortCall (current_words old) call (current_words new) added
   pub right : CrashRight Same new.base new.events

@@ -12,9 +12,11 @@ use Rattle.bp_layout.specs.Words.{Image, word, block_count}
 -- The mark goes, the words of an empty file system are stored, and the mark comes back, each in an epoch of its own.
 abbrev pub format_events : ℕ → List Event
 format_events blocks =
-    Store 0 0 ∷ Barrier ∷ Store 1 blocks ∷ Store 2 0x1000 ∷ Store 3 4096 ∷ Store 520 2 ∷ Store 521 0 ∷ Store 522 0 ∷ Barrier ∷ Store 0 magic ∷ Barrier ∷ []
+    Store 0 0 ∷ Barrier ∷ Store 1 blocks ∷ Store 2 0x1000 ∷ Store 3 4096
+    ∷ Store 520 2 ∷ Store 521 0 ∷ Store 522 0 ∷ Barrier ∷ Store 0 magic ∷ Barrier ∷ []
 
--- What a crash in the middle of a format leaves: the words as they were, words without the mark, or an empty file system.
+-- What a crash in the middle of a format leaves: the words as they were, words without the mark, or an empty file
+-- system.
 pub data IsLeftByFormat (old image : Image) : Type 0 where
   untouched : image ≡ old → IsLeftByFormat old image
   unmarked : word image super_magic ≡ 0 → IsLeftByFormat old image

@@ -64,15 +64,22 @@ pub record PathFinds (image : Image) (text : List ℕ) (i : ℕ) : Type 0 where
 
 -- what a changing call changes
 pub data IsChange (image : Image) : Call → Change → Type 0 where
-  by_create : {text : List ℕ} {name : Name} {i : ℕ} {free : Bool} → NamesNew image text i name → TellsFreeInode image free → IsChange image (create text) (enters i free)
-  by_mkdir : {text : List ℕ} {name : Name} {i : ℕ} {free : Bool} → NamesNew image text i name → TellsFreeInode image free → IsChange image (mkdir text) (enters i free)
-  by_write : {text new : List ℕ} {i off : ℕ} → PathFinds image text i → IsChange image (write text off new) (writes i off (length new))
-  by_truncate : {text : List ℕ} {i size : ℕ} → PathFinds image text i → IsChange image (truncate text size) (resizes i size)
+  by_create : {text : List ℕ} {name : Name} {i : ℕ} {free : Bool} → NamesNew image text i name →
+      TellsFreeInode image free → IsChange image (create text) (enters i free)
+  by_mkdir : {text : List ℕ} {name : Name} {i : ℕ} {free : Bool} → NamesNew image text i name →
+      TellsFreeInode image free → IsChange image (mkdir text) (enters i free)
+  by_write : {text new : List ℕ} {i off : ℕ} → PathFinds image text i →
+      IsChange image (write text off new) (writes i off (length new))
+  by_truncate : {text : List ℕ} {i size : ℕ} → PathFinds image text i →
+      IsChange image (truncate text size) (resizes i size)
   by_unlink : {text : List ℕ} {i s : ℕ} → StandsIn image text i s → IsChange image (unlink text) (leaves i s)
   by_rmdir : {text : List ℕ} {i s : ℕ} → StandsIn image text i s → IsChange image (rmdir text) (leaves i s)
-  onto : {from to : List ℕ} {i s j r : ℕ} → StandsIn image from i s → StandsIn image to j r → IsChange image (rename from to) (replaces i s j r)
-  across : {from to : List ℕ} {i s j : ℕ} {name : Name} → StandsIn image from i s → NamesNew image to j name → i ≢ j → IsChange image (rename from to) (moves i s j)
-  within : {from to : List ℕ} {i s : ℕ} {name : Name} → StandsIn image from i s → NamesNew image to i name → IsChange image (rename from to) (respells i s (length name))
+  onto : {from to : List ℕ} {i s j r : ℕ} → StandsIn image from i s → StandsIn image to j r →
+      IsChange image (rename from to) (replaces i s j r)
+  across : {from to : List ℕ} {i s j : ℕ} {name : Name} → StandsIn image from i s → NamesNew image to j name → i ≢ j →
+      IsChange image (rename from to) (moves i s j)
+  within : {from to : List ℕ} {i s : ℕ} {name : Name} → StandsIn image from i s → NamesNew image to i name →
+      IsChange image (rename from to) (respells i s (length name))
 
 -- a changing call, the blocks that it needs, and those that are free
 pub record HasNeed (image : Image) (call : Call) (needed free : ℕ) : Type 0 where
@@ -88,11 +95,13 @@ Fits image call = (needed free : ℕ) → HasNeed image call needed free → nee
 -- The image stands for a tree. A changing call that needs more blocks than are free is refused; want of memory may be
 -- answered to a listing; else the answer is that of the plain tree, and the new image stands for the new tree.
 pub data Steps (image : Image) (tree : FileTree) : Call → Answer → Image → Type 0 where
-  no_room : {call : Call} {needed free : ℕ} → is_changing tree call ≡ true → HasNeed image call needed free → free < needed →
-      Steps image tree call (refused (no_space needed free)) image
-  no_listing : {text : List ℕ} → refusal tree (list text) ≡ None → Steps image tree (list text) (refused no_memory) image
+  no_room : {call : Call} {needed free : ℕ} → is_changing tree call ≡ true → HasNeed image call needed free →
+      free < needed → Steps image tree call (refused (no_space needed free)) image
+  no_listing : {text : List ℕ} → refusal tree (list text) ≡ None →
+      Steps image tree (list text) (refused no_memory) image
   unchanged : {call : Call} → is_changing tree call ≡ false → Steps image tree call (plain tree call).0 image
-  changed : {call : Call} {new : Image} → is_changing tree call ≡ true → Fits image call → Stands new (plain tree call).1 → Steps image tree call (plain tree call).0 new
+  changed : {call : Call} {new : Image} → is_changing tree call ≡ true → Fits image call →
+      Stands new (plain tree call).1 → Steps image tree call (plain tree call).0 new
 
 abbrev pub Step : Image → Call → Answer → Image → Type 0
 Step image call answer new = (tree : FileTree) → Stands image tree → Steps image tree call answer new

@@ -15,7 +15,8 @@ use Rattle.bp_volume.specs.FileCall.{has_changed}
 
 -- the call changes nothing, and this may be its answer
 abbrev pub Tells : Image → Call → Answer → Type 0
-Tells image call answer = (tree : FileTree) → Stands image tree → (has_changed tree call answer ≡ false) × Steps image tree call answer image
+Tells image call answer = (tree : FileTree) → Stands image tree →
+    (has_changed tree call answer ≡ false) × Steps image tree call answer image
 
 -- the refusal of a walk
 abbrev pub refusal_of_walk : Walked → Option Refusal
@@ -49,7 +50,8 @@ StopsAtFile image text why = (tree : FileTree) → Stands image tree → on_path
 
 -- the refusals that a new file at a path may meet, in order
 abbrev pub refusal_of_new : FileTree → Path → Option Refusal
-refusal_of_new tree path = first (when (is_root_path path) exists ∷ walk_parent tree path ∷ when (is_some (get tree path)) exists ∷ [])
+refusal_of_new tree path =
+    first (when (is_root_path path) exists ∷ walk_parent tree path ∷ when (is_some (get tree path)) exists ∷ [])
 
 -- the text is no path, or a new file there is refused so
 abbrev pub StopsAtNew : Image → List ℕ → Refusal → Type 0
@@ -65,7 +67,8 @@ RefusesEntry image path root why = (tree : FileTree) → Stands image tree → r
 
 -- the text is no path, or no entry is found there, and so the refusal
 abbrev pub StopsAtEntry : Image → List ℕ → Refusal → Refusal → Type 0
-StopsAtEntry image text root why = (tree : FileTree) → Stands image tree → on_path text (refusal_of_entry root tree) ≡ Some why
+StopsAtEntry image text root why = (tree : FileTree) → Stands image tree →
+    on_path text (refusal_of_entry root tree) ≡ Some why
 
 -- a new file at the path is refused so
 abbrev pub RefusesNew : Image → Path → Refusal → Type 0

@@ -9,8 +9,8 @@ use Rattle.bp_layout.specs.WellFormed.{IsWellFormed}
 use Rattle.bp_layout.specs.Words.{block_count}
 use Rattle.bp_limits.specs.Limits.{call_room}
 
--- A crash at any moment leaves what some calls left, a call has its room, the words are a file system, the sets have just its
--- free blocks and its free inodes, and a scan has its memory.
+-- A crash at any moment leaves what some calls left, a call has its room, the words are a file system, the sets have
+-- just its free blocks and its free inodes, and a scan has its memory.
 pub record IsVolume (memory : Memory) (blocks inodes : Set) (pending : ℕ) : Type 0 where
   pub safe : IsSafe Same memory
   pub roomy : call_room ≤ memory.capacity

@@ -61,7 +61,8 @@ pub(crate) fn read_at<R: Region>(
     into: &mut [u8],
 ) -> Result<usize, FsError>
     requires { IsWellFormed (current_words (R.memory region.now)) }
-    ensures told { Tells (current_words (R.memory region.now)) (read text.now off (length into.old)) (read_answer result into.new) }
+    ensures told { Tells (current_words (R.memory region.now)) (read text.now off (length into.old))
+        (read_answer result into.new) }
     ensures fits { IfOk result (λ count. count ≤ length into.new) }
     ensures rest { IfOk result (λ count. drop count into.new ≡ drop count into.old) }
     ensures unread { OnErr result (into.new ≡ into.old) }

@@ -27,7 +27,8 @@ fn create_new<R: Region>(
     requires exact { AreExact (current_words (R.memory parts.old.region)) parts.old.blocks parts.old.inodes }
     requires new { NamesNew (current_words (R.memory parts.old.region)) text.now new.dir new.name.now }
     requires room { call_room ≤ room_in (R.memory parts.old.region) }
-    ensures called { CarriesOut (R.memory parts.old.region) (making kind text.now) (unit_answer result) (R.memory parts.new.region) }
+    ensures called { CarriesOut (R.memory parts.old.region) (making kind text.now) (unit_answer result)
+        (R.memory parts.new.region) }
     ensures exact { AreExact (current_words (R.memory parts.new.region)) parts.new.blocks parts.new.inodes }
 {
     match bp_calls::create(parts, new.dir, new.name, kind) {
@@ -45,7 +46,8 @@ pub(crate) fn create_at<R: Region>(
     requires well_formed { IsWellFormed (current_words (R.memory parts.old.region)) }
     requires exact { AreExact (current_words (R.memory parts.old.region)) parts.old.blocks parts.old.inodes }
     requires room { call_room ≤ room_in (R.memory parts.old.region) }
-    ensures called { CarriesOut (R.memory parts.old.region) (making kind text.now) (unit_answer result) (R.memory parts.new.region) }
+    ensures called { CarriesOut (R.memory parts.old.region) (making kind text.now) (unit_answer result)
+        (R.memory parts.new.region) }
     ensures exact { AreExact (current_words (R.memory parts.new.region)) parts.new.blocks parts.new.inodes }
 {
     match new_name(&parts.region, text) {

@@ -18,8 +18,10 @@ pub fn lay_out<R: Region>(region: &mut R)
     requires most { block_count (R.memory region.old).base ≤ max_blocks }
     requires fresh { (R.memory region.old).events ≡ [] }
     requires room { 16 ≤ room_in (R.memory region.old) }
-    ensures stores { Adds (R.memory region.old) (R.memory region.new) (format_events (block_count (R.memory region.old).base)) }
-    ensures left { (image : Image) → IsReplay (R.memory region.new).base (R.memory region.new).events image → IsLeftByFormat (R.memory region.old).base image }
+    ensures stores { Adds (R.memory region.old) (R.memory region.new)
+        (format_events (block_count (R.memory region.old).base)) }
+    ensures left { (image : Image) → IsReplay (R.memory region.new).base (R.memory region.new).events image
+        → IsLeftByFormat (R.memory region.old).base image }
 {
     let blocks = region.words() / 512;
     // The mark is gone before any other word changes, and comes back once all of them are written back.

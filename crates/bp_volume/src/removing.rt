@@ -28,9 +28,11 @@ use pm_region::Region;
 /// The entry by which a path text finds a file.
 fn file_entry<R: Region>(region: &R, text: &[u8]) -> Result<Place, FsError>
     requires { IsWellFormed (current_words (R.memory region.now)) }
-    ensures found { IfOk result (λ place. FindsEntry (current_words (R.memory region.now)) text.now place.dir place.slot place.inumber) }
+    ensures found { IfOk result
+        (λ place. FindsEntry (current_words (R.memory region.now)) text.now place.dir place.slot place.inumber) }
     ensures file { IfOk result (λ place. kind_of (current_words (R.memory region.now)) place.inumber ≡ 1) }
-    ensures refused { IfErr result (λ e. Refuses (current_words (R.memory region.now)) (unlink text.now) (refusal_of e)) }
+    ensures refused { IfErr result
+        (λ e. Refuses (current_words (R.memory region.now)) (unlink text.now) (refusal_of e)) }
 {
     match entry_at(region, text, FsError::IsDir) {
         Ok(place) => match get(region, place.inumber).kind {
@@ -49,7 +51,8 @@ fn empty_place<R: Region>(region: &R, text: &[u8], place: Place) -> Result<Place
     ensures directory { OnOk result (kind_of (current_words (R.memory region.now)) place.inumber ≡ 2) }
     ensures empty { let words = current_words (R.memory region.now) in
         OnOk result (name_count words (root_of words place.inumber) (size_of words place.inumber) ≡ 0) }
-    ensures refused { IfErr result (λ e. Refuses (current_words (R.memory region.now)) (rmdir text.now) (refusal_of e)) }
+    ensures refused { IfErr result
+        (λ e. Refuses (current_words (R.memory region.now)) (rmdir text.now) (refusal_of e)) }
 {
     let inode = get(region, place.inumber);
     let tree = Tree {
@@ -71,11 +74,13 @@ fn empty_place<R: Region>(region: &R, text: &[u8], place: Place) -> Result<Place
 /// The entry by which a path text finds a directory without names.
 fn empty_entry<R: Region>(region: &R, text: &[u8]) -> Result<Place, FsError>
     requires { IsWellFormed (current_words (R.memory region.now)) }
-    ensures found { IfOk result (λ place. FindsEntry (current_words (R.memory region.now)) text.now place.dir place.slot place.inumber) }
+    ensures found { IfOk result
+        (λ place. FindsEntry (current_words (R.memory region.now)) text.now place.dir place.slot place.inumber) }
     ensures directory { IfOk result (λ place. kind_of (current_words (R.memory region.now)) place.inumber ≡ 2) }
     ensures empty { let words = current_words (R.memory region.now) in
         IfOk result (λ place. name_count words (root_of words place.inumber) (size_of words place.inumber) ≡ 0) }
-    ensures refused { IfErr result (λ e. Refuses (current_words (R.memory region.now)) (rmdir text.now) (refusal_of e)) }
+    ensures refused { IfErr result
+        (λ e. Refuses (current_words (R.memory region.now)) (rmdir text.now) (refusal_of e)) }
 {
     match entry_at(region, text, FsError::IsRoot) {
         Ok(place) => empty_place(region, text, place),
@@ -88,7 +93,8 @@ pub(crate) fn unlink_at<R: Region>(parts: &mut Parts<R>, text: &[u8]) -> Result<
     requires well_formed { IsWellFormed (current_words (R.memory parts.old.region)) }
     requires exact { AreExact (current_words (R.memory parts.old.region)) parts.old.blocks parts.old.inodes }
     requires room { call_room ≤ room_in (R.memory parts.old.region) }
-    ensures called { CarriesOut (R.memory parts.old.region) (unlink text.now) (unit_answer result) (R.memory parts.new.region) }
+    ensures called { CarriesOut (R.memory parts.old.region) (unlink text.now) (unit_answer result)
+        (R.memory parts.new.region) }
     ensures exact { AreExact (current_words (R.memory parts.new.region)) parts.new.blocks parts.new.inodes }
 {
     match file_entry(&parts.region, text) {
@@ -105,7 +111,8 @@ pub(crate) fn rmdir_at<R: Region>(parts: &mut Parts<R>, text: &[u8]) -> Result<(
     requires well_formed { IsWellFormed (current_words (R.memory parts.old.region)) }
     requires exact { AreExact (current_words (R.memory parts.old.region)) parts.old.blocks parts.old.inodes }
     requires room { call_room ≤ room_in (R.memory parts.old.region) }
-    ensures called { CarriesOut (R.memory parts.old.region) (rmdir text.now) (unit_answer result) (R.memory parts.new.region) }
+    ensures called { CarriesOut (R.memory parts.old.region) (rmdir text.now) (unit_answer result)
+        (R.memory parts.new.region) }
     ensures exact { AreExact (current_words (R.memory parts.new.region)) parts.new.blocks parts.new.inodes }
 {
     match empty_entry(&parts.region, text) {

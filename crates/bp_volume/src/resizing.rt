@@ -31,7 +31,8 @@ fn resize<R: Region>(
     requires kind { kind_of (current_words (R.memory parts.old.region)) file.inumber ≡ 1 }
     requires size { file.size ≡ size_of (current_words (R.memory parts.old.region)) file.inumber }
     requires room { call_room ≤ room_in (R.memory parts.old.region) }
-    ensures called { CarriesOut (R.memory parts.old.region) (truncate text.now size) (unit_answer result) (R.memory parts.new.region) }
+    ensures called { CarriesOut (R.memory parts.old.region) (truncate text.now size) (unit_answer result)
+        (R.memory parts.new.region) }
     ensures exact { AreExact (current_words (R.memory parts.new.region)) parts.new.blocks parts.new.inodes }
 {
     if size > MAX_SIZE {
@@ -55,7 +56,8 @@ pub(crate) fn truncate_at<R: Region>(
     requires well_formed { IsWellFormed (current_words (R.memory parts.old.region)) }
     requires exact { AreExact (current_words (R.memory parts.old.region)) parts.old.blocks parts.old.inodes }
     requires room { call_room ≤ room_in (R.memory parts.old.region) }
-    ensures called { CarriesOut (R.memory parts.old.region) (truncate text.now size) (unit_answer result) (R.memory parts.new.region) }
+    ensures called { CarriesOut (R.memory parts.old.region) (truncate text.now size) (unit_answer result)
+        (R.memory parts.new.region) }
     ensures exact { AreExact (current_words (R.memory parts.new.region)) parts.new.blocks parts.new.inodes }
 {
     match file_at(&parts.region, text) {

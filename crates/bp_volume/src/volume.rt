@@ -88,8 +88,8 @@ impl<R: Region> Volume<R> {
     /// # Errors
     ///
     /// `NotFormatted` where the region doesn't begin with the mark of a format; `BadSize` where it was formatted for
-    /// another number of blocks; `Damaged` where a check of the format fails, with one that does; `Memory` where there is
-    /// none for the volume. The region comes back as it was.
+    /// another number of blocks; `Damaged` where a check of the format fails, with one that does; `Memory` where
+    /// there is none for the volume. The region comes back as it was.
     pub fn mount(alloc: Global, region: R) -> Result<Volume<R>, (R, MountFault)>
         requires whole { length (R.memory region).base ≡ 512 * block_count (R.memory region).base }
         requires least { min_blocks ≤ block_count (R.memory region).base }
@@ -136,9 +136,9 @@ impl<R: Region> Volume<R> {
     ///
     /// # Errors
     ///
-    /// `BadPath` where the text is no path; `Exists` at the root directory; `NotFound` or `NotDir` at the first name on
-    /// the way that is missing, or is sought in a file; `Exists` where the name is there; and last `NoSpace` where fewer
-    /// blocks are free than the file needs. Nothing has changed then.
+    /// `BadPath` where the text is no path; `Exists` at the root directory; `NotFound` or `NotDir` at the first name
+    /// on the way that is missing, or is sought in a file; `Exists` where the name is there; and last `NoSpace` where
+    /// fewer blocks are free than the file needs. Nothing has changed then.
     pub fn create(&mut self, path: &[u8]) -> Result<(), FsError>
         ensures { FileCall self.old (create path.now) (unit_answer result) self.new }
     {
@@ -152,7 +152,9 @@ impl<R: Region> Volume<R> {
     ///
     /// # Errors
     ///
-    /// Those of `create`.
+    /// `BadPath` where the text is no path; `Exists` at the root directory; `NotFound` or `NotDir` at the first name
+    /// on the way that is missing, or is sought in a file; `Exists` where the name is there; and last `NoSpace` where
+    /// fewer blocks are free than the directory needs. Nothing has changed then.
     pub fn mkdir(&mut self, path: &[u8]) -> Result<(), FsError>
         ensures { FileCall self.old (mkdir path.now) (unit_answer result) self.new }
     {
@@ -166,8 +168,9 @@ impl<R: Region> Volume<R> {
     ///
     /// # Errors
     ///
-    /// `BadPath` where the text is no path; `IsDir` at the root directory; `NotFound` or `NotDir` at the first name on the
-    /// way that is missing, or is sought in a file; and last `IsDir` where a directory stands there. Nothing has changed then.
+    /// `BadPath` where the text is no path; `IsDir` at the root directory; `NotFound` or `NotDir` at the first name
+    /// on the way that is missing, or is sought in a file; and last `IsDir` where a directory stands there. Nothing
+    /// has changed then.
     pub fn unlink(&mut self, path: &[u8]) -> Result<(), FsError>
         ensures { FileCall self.old (unlink path.now) (unit_answer result) self.new }
     {
@@ -181,9 +184,9 @@ impl<R: Region> Volume<R> {
     ///
     /// # Errors
     ///
-    /// `BadPath` where the text is no path; `IsRoot` at the root directory; `NotFound` or `NotDir` at the first name on the
-    /// way that is missing, or is sought in a file; `NotDir` where a file stands there; and last `NotEmpty` where the
-    /// directory has a name. Nothing has changed then.
+    /// `BadPath` where the text is no path; `IsRoot` at the root directory; `NotFound` or `NotDir` at the first name
+    /// on the way that is missing, or is sought in a file; `NotDir` where a file stands there; and last `NotEmpty`
+    /// where the directory has a name. Nothing has changed then.
     pub fn rmdir(&mut self, path: &[u8]) -> Result<(), FsError>
         ensures { FileCall self.old (rmdir path.now) (unit_answer result) self.new }
     {
@@ -193,15 +196,15 @@ impl<R: Region> Volume<R> {
         made
     }
 
-    /// Writes bytes into the file at a path, from byte `off` on. Between its end and `off` it gets zeros. With no bytes the file
-    /// stays as it is, whatever `off` is.
+    /// Writes bytes into the file at a path, from byte `off` on. Between its end and `off` it gets zeros. With no
+    /// bytes the file stays as it is, whatever `off` is.
     ///
     /// # Errors
     ///
-    /// `BadPath` where the text is no path; `TooLong` where there are more than 65,536 bytes; `NotFound` or `NotDir` at the
-    /// first name on the way that is missing, or is sought in a file; `IsDir` where a directory stands there; `TooBig` where
-    /// there are bytes, and the last would lie past the greatest size of a file; and last `NoSpace` where fewer blocks are
-    /// free than the write needs. Nothing has changed then.
+    /// `BadPath` where the text is no path; `TooLong` where there are more than 65,536 bytes; `NotFound` or `NotDir`
+    /// at the first name on the way that is missing, or is sought in a file; `IsDir` where a directory stands there;
+    /// `TooBig` where there are bytes, and the last would lie past the greatest size of a file; and last `NoSpace`
+    /// where fewer blocks are free than the write needs. Nothing has changed then.
     pub fn write(&mut self, path: &[u8], off: u64, bytes: &[u8]) -> Result<(), FsError>
         ensures { FileCall self.old (write path.now off bytes.now) (unit_answer result) self.new }
     {
@@ -215,9 +218,9 @@ impl<R: Region> Volume<R> {
     ///
     /// # Errors
     ///
-    /// `BadPath` where the text is no path; `NotFound` or `NotDir` at the first name on the way that is missing, or is sought
-    /// in a file; `IsDir` where a directory stands there; `TooBig` where the size is above the greatest of a file; and last
-    /// `NoSpace` where fewer blocks are free than a higher tree needs. Nothing has changed then.
+    /// `BadPath` where the text is no path; `NotFound` or `NotDir` at the first name on the way that is missing, or
+    /// is sought in a file; `IsDir` where a directory stands there; `TooBig` where the size is above the greatest of
+    /// a file; and last `NoSpace` where fewer blocks are free than a higher tree needs. Nothing has changed then.
     pub fn truncate(&mut self, path: &[u8], size: u64) -> Result<(), FsError>
         ensures { FileCall self.old (truncate path.now size) (unit_answer result) self.new }
     {
@@ -227,14 +230,16 @@ impl<R: Region> Volume<R> {
         made
     }
 
-    /// Reads bytes of the file at a path from an offset on, as many as `into` has room for and the file has there, and says
-    /// how many these are. There are none at and past the end of the file. The rest of `into` stays as it was.
+    /// Reads bytes of the file at a path from an offset on, as many as `into` has room for and the file has there,
+    /// and says how many these are. There are none at and past the end of the file. The rest of `into` stays as it
+    /// was.
     ///
     /// # Errors
     ///
     /// Those of `stat`; and then `IsDir` where a directory stands there. `into` stays as it was then.
     pub fn read(&mut self, path: &[u8], off: u64, into: &mut [u8]) -> Result<usize, FsError>
-        ensures called { FileCall self.old (read path.now off (length into.old)) (read_answer result into.new) self.new }
+        ensures called { FileCall self.old (read path.now off (length into.old)) (read_answer result into.new)
+            self.new }
         ensures fits { IfOk result (λ count. count ≤ length into.new) }
         ensures rest { IfOk result (λ count. drop count into.new ≡ drop count into.old) }
         ensures unread { OnErr result (into.new ≡ into.old) }

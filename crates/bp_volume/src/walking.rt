@@ -11,7 +11,8 @@ ghost use Rattle.bp_path.specs.Places.{fault_of};
 ghost use Rattle.bp_plain.specs.Calls.{Refusal};
 ghost use Rattle.bp_plain.specs.Seen.{refusal_of};
 ghost use Rattle.bp_volume.specs.Step.{FindsEntry, IsEntryOn, IsNewIn, NamesNew, PathFinds};
-ghost use Rattle.bp_volume.specs.Told.{RefusesEntry, RefusesFile, RefusesNew, RefusesWalk, StopsAtEntry, StopsAtFile, StopsAtNew, StopsWalk, refusal_of_walk};
+ghost use Rattle.bp_volume.specs.Told.{RefusesEntry, RefusesFile, RefusesNew, RefusesWalk, refusal_of_walk};
+ghost use Rattle.bp_volume.specs.Told.{StopsAtEntry, StopsAtFile, StopsAtNew, StopsWalk};
 ghost use Rattle.pm_region.specs.Memory.{current_words};
 
 use bp_dirs::find;
@@ -121,8 +122,10 @@ pub(crate) fn file_at<R: Region>(region: &R, text: &[u8]) -> Result<FoundFile, F
 fn entry_on<R: Region>(region: &R, path: &Path<'_>) -> Result<Place, FsError>
     requires well_formed { IsWellFormed (current_words (R.memory region.now)) }
     requires below { path.now ≢ [] }
-    ensures found { IfOk result (λ place. IsEntryOn (current_words (R.memory region.now)) path.now place.dir place.slot place.inumber) }
-    ensures refused { IfErr result (λ e. (root : Refusal) → RefusesEntry (current_words (R.memory region.now)) path.now root (refusal_of e)) }
+    ensures found { IfOk result
+        (λ place. IsEntryOn (current_words (R.memory region.now)) path.now place.dir place.slot place.inumber) }
+    ensures refused { IfErr result
+        (λ e. (root : Refusal) → RefusesEntry (current_words (R.memory region.now)) path.now root (refusal_of e)) }
 {
     match walk(region, path) {
         Ok(place) => Ok(place),
@@ -133,8 +136,10 @@ fn entry_on<R: Region>(region: &R, path: &Path<'_>) -> Result<Place, FsError>
 /// The entry by which a path text finds what stands there. The root directory has none: there it is the error `root`.
 pub(crate) fn entry_at<R: Region>(region: &R, text: &[u8], root: FsError) -> Result<Place, FsError>
     requires { IsWellFormed (current_words (R.memory region.now)) }
-    ensures found { IfOk result (λ place. FindsEntry (current_words (R.memory region.now)) text.now place.dir place.slot place.inumber) }
-    ensures refused { IfErr result (λ e. StopsAtEntry (current_words (R.memory region.now)) text.now (refusal_of root) (refusal_of e)) }
+    ensures found { IfOk result
+        (λ place. FindsEntry (current_words (R.memory region.now)) text.now place.dir place.slot place.inumber) }
+    ensures refused { IfErr result
+        (λ e. StopsAtEntry (current_words (R.memory region.now)) text.now (refusal_of root) (refusal_of e)) }
 {
     match parse(text) {
         Ok(path) => {

@@ -28,7 +28,8 @@ fn file_for<R: Region>(region: &R, text: &[u8], bytes: &[u8]) -> Result<u32, FsE
     ensures found { IfOk result (λ i. PathFinds (current_words (R.memory region.now)) text.now i) }
     ensures kind { IfOk result (λ i. kind_of (current_words (R.memory region.now)) i ≡ 1) }
     ensures short { OnOk result (length bytes.now ≤ max_write) }
-    ensures refused { IfErr result (λ e. (off : ℕ) → Refuses (current_words (R.memory region.now)) (write text.now off bytes.now) (refusal_of e)) }
+    ensures refused { IfErr result (λ e. (off : ℕ) → Refuses (current_words (R.memory region.now))
+        (write text.now off bytes.now) (refusal_of e)) }
 {
     match parse(text) {
         Ok(path) => {
@@ -58,7 +59,8 @@ fn write_into<R: Region>(
     requires kind { kind_of (current_words (R.memory parts.old.region)) i ≡ 1 }
     requires short { length bytes.now ≤ max_write }
     requires room { call_room ≤ room_in (R.memory parts.old.region) }
-    ensures called { CarriesOut (R.memory parts.old.region) (write text.now off bytes.now) (unit_answer result) (R.memory parts.new.region) }
+    ensures called { CarriesOut (R.memory parts.old.region) (write text.now off bytes.now) (unit_answer result)
+        (R.memory parts.new.region) }
     ensures exact { AreExact (current_words (R.memory parts.new.region)) parts.new.blocks parts.new.inodes }
 {
     if bytes.is_empty() {
@@ -83,7 +85,8 @@ pub(crate) fn write_at<R: Region>(
     requires well_formed { IsWellFormed (current_words (R.memory parts.old.region)) }
     requires exact { AreExact (current_words (R.memory parts.old.region)) parts.old.blocks parts.old.inodes }
     requires room { call_room ≤ room_in (R.memory parts.old.region) }
-    ensures called { CarriesOut (R.memory parts.old.region) (write text.now off bytes.now) (unit_answer result) (R.memory parts.new.region) }
+    ensures called { CarriesOut (R.memory parts.old.region) (write text.now off bytes.now) (unit_answer result)
+        (R.memory parts.new.region) }
     ensures exact { AreExact (current_words (R.memory parts.new.region)) parts.new.blocks parts.new.inodes }
 {
     match file_for(&parts.region, text, bytes) {

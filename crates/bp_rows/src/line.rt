@@ -61,6 +61,8 @@ pub enum Line<'a> {
     Part(&'a str),
     /// Run it.
     Go,
+    /// Run it over a format of so many blocks, and compare its replies with those of the plain, slow program.
+    Plain(&'a str),
     /// Run it again and again, each time with another call of a device failing, from 0 up to a number of calls.
     Sweep(Device, u64),
 }
@@ -103,6 +105,7 @@ pub fn read(line: &str) -> Option<Line<'_>> {
         ">" => Line::Script(rest),
         ">|" => Line::Part(rest),
         "go" => Line::Go,
+        "plain" => Line::Plain(rest),
         "sweep" => {
             let (device, count) = rest.split_once(' ')?;
             Line::Sweep(Device::named(device)?, number(count)?)

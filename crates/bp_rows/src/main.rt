@@ -2,6 +2,7 @@
 //! each run its replies, its status and what FILE holds then. `docs/rows.md` has the form of a row.
 #![tactic(auto)]
 
+mod comparing;
 mod image;
 mod line;
 mod playing;

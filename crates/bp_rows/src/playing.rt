@@ -1,6 +1,6 @@
 //! Runs over the devices in memory.
 
-use crate::row::{MOST_BYTES, Row};
+use crate::row::Row;
 use bp_io::{FairSource, MemFiles, MemSink, MemSource};
 use bp_shell::run;
 use std::alloc::{AllocError, Global};
@@ -18,18 +18,6 @@ pub struct Ran {
     pub file: Option<Vec<u8>>,
 }
 
-/// Files with this image, of which these calls fail.
-fn files_of<'a>(
-    alloc: Global,
-    image: Option<&[u8]>,
-    fail_at: &'a [u64],
-) -> Result<MemFiles<'a>, AllocError> {
-    match image {
-        Some(bytes) if bytes.len() <= MOST_BYTES => MemFiles::new(alloc, Some(bytes), fail_at),
-        _ => MemFiles::new(alloc, None, fail_at),
-    }
-}
-
 fn image_of(alloc: Global, files: &MemFiles<'_>) -> Result<Option<Vec<u8>>, AllocError> {
     match files.image() {
         Some(bytes) => Ok(Some(Vec::from_slice(alloc, bytes)?)),
@@ -40,7 +28,7 @@ fn image_of(alloc: Global, files: &MemFiles<'_>) -> Result<Option<Vec<u8>>, Allo
 /// The bytes of a format of so many blocks, `None` where the program refuses the number.
 pub fn formatted(alloc: Global, blocks: &str) -> Result<Option<Vec<u8>>, AllocError> {
     let words = ["bpfs", "format", "f", "--blocks", blocks];
-    let mut files = files_of(alloc, None, &[])?;
+    let mut files = MemFiles::new(alloc, None, &[])?;
     let mut source = FairSource::new(b"");
     let mut sink = MemSink::new(alloc, ROOM, &[])?;
     if run(alloc, &words, &mut source, &mut sink, &mut files) != 0 {
@@ -53,8 +41,7 @@ pub fn formatted(alloc: Global, blocks: &str) -> Result<Option<Vec<u8>>, AllocEr
 pub fn play(alloc: Global, row: &Row) -> Result<Ran, AllocError> {
     let failing = &row.failing;
     let words: Vec<&str> = row.words.split_whitespace().collect(alloc)?;
-    let image = row.file.as_deref();
-    let mut files = files_of(alloc, image, &failing.files)?;
+    let mut files = MemFiles::new(alloc, row.file.as_deref(), &failing.files)?;
     let mut source = MemSource::new(row.script.as_bytes(), row.piece.max(1), &failing.source);
     let mut sink = MemSink::new(alloc, ROOM, &failing.sink)?;
     let status = run(alloc, &words, &mut source, &mut sink, &mut files);

@@ -7,8 +7,11 @@ use crate::script::expand;
 use bp_limits::{BLOCK_SIZE, MAX_BLOCKS};
 use std::alloc::{AllocError, Global};
 
-/// The most bytes of FILE.
-pub const MOST_BYTES: usize = MAX_BLOCKS as usize * BLOCK_SIZE as usize;
+/// The most bytes of zeros that FILE is made of: a block more than an image has.
+const MOST_ZEROS: u64 = (MAX_BLOCKS as u64 + 1) * BLOCK_SIZE;
+
+/// The most bytes of a piece of the source, where a row says nothing.
+const PIECE: usize = 65_536;
 
 /// The numbers of the calls that fail, device by device.
 #[derive(Drop)]
@@ -58,7 +61,7 @@ impl Row {
             file: None,
             words: String::from_str(alloc, "bpfs run f")?,
             script: String::new(alloc),
-            piece: MOST_BYTES,
+            piece: PIECE,
             failing: Failing::none(alloc),
         })
     }
@@ -82,7 +85,7 @@ impl Row {
             Line::Set(pairs) => return Ok(self.set_words(pairs)),
             Line::Fill { from, to, value } => return Ok(self.fill(from, to, value)),
             Line::Fail(device, calls) => return self.fail(device, calls),
-            Line::Piece(most) => self.piece = most.min(MOST_BYTES as u64) as usize,
+            Line::Piece(most) => self.piece = most.min(PIECE as u64) as usize,
             Line::Words(words) => self.words = String::from_str(alloc, words)?,
             Line::Script(text) => {
                 let is_whole = expand(text, &mut self.script)?;
@@ -96,7 +99,7 @@ impl Row {
     }
 
     fn set_zeros(&mut self, alloc: Global, count: u64) -> Result<bool, AllocError> {
-        if count > MOST_BYTES as u64 {
+        if count > MOST_ZEROS {
             return Ok(false);
         }
         self.file = Some(vec![in alloc; 0u8; count as usize]?);

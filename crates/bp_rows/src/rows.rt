@@ -1,7 +1,8 @@
 //! Rows, one line after another, and the report on their runs.
 
+use crate::comparing::compare;
 use crate::line::{Device, Line, read};
-use crate::playing::play;
+use crate::playing::{formatted, play};
 use crate::row::{Failing, Row};
 use crate::showing::{show, show_short};
 use std::alloc::{AllocError, Global};
@@ -54,6 +55,7 @@ impl Rows {
                 Ok(())
             }
             Line::Go => self.go(),
+            Line::Plain(blocks) => self.plain(text, blocks),
             Line::Sweep(device, count) => self.sweep(device, count),
             _ => {
                 if self.row.set(self.alloc, line)? {
@@ -77,6 +79,17 @@ impl Rows {
     fn go(&mut self) -> Result<(), AllocError> {
         let ran = play(self.alloc, &self.row)?;
         show(&mut self.report, self.row.file.as_deref(), &ran)?;
+        self.row.go_on(self.alloc, ran.file)
+    }
+
+    fn plain(&mut self, text: &str, blocks: &str) -> Result<(), AllocError> {
+        self.row.file = formatted(self.alloc, blocks)?;
+        if self.row.file.is_none() {
+            return self.refuse(text);
+        }
+        let ran = play(self.alloc, &self.row)?;
+        let told = str::from_utf8(&ran.told).unwrap_or("");
+        compare(self.alloc, self.row.script.as_str(), told, &mut self.report)?;
         self.row.go_on(self.alloc, ran.file)
     }
 

@@ -26,18 +26,24 @@ fn show_replies(report: &mut String, told: &[u8]) -> Result<(), AllocError> {
         return report.push_str("replies that are no text\n");
     };
     for line in text.lines() {
-        let length = line.len();
-        if length <= MOST_REPLY {
-            writeln!(report, "  {line}")?;
-        } else {
-            let front = line.get(..MOST_REPLY).unwrap_or("");
-            writeln!(report, "  {front}.. {length} bytes")?;
-        }
+        report.push_str("  ")?;
+        put_short(report, line)?;
     }
     if !text.is_empty() && !text.ends_with('\n') {
         report.push_str("  without a newline\n")?;
     }
     Ok(())
+}
+
+/// Writes a line, and of a long one the front.
+pub fn put_short(report: &mut String, line: &str) -> Result<(), AllocError> {
+    let length = line.len();
+    if length <= MOST_REPLY {
+        writeln!(report, "{line}")
+    } else {
+        let front = line.get(..MOST_REPLY).unwrap_or("");
+        writeln!(report, "{front}.. {length} bytes")
+    }
 }
 
 /// How many words differ.

@@ -1,0 +1,165 @@
+//! The replies of a run beside those of the plain, slow program.
+
+ghost use Rattle.bp_limits.specs.Limits.{max_line};
+ghost use Rattle.bp_plain.specs.Seen.{IsShortCall, call_of};
+ghost use Rattle.bp_script.specs.Lines.{decoded_room};
+ghost use Rattle.bp_script.specs.Sayings.{FitsReply};
+ghost use Rattle.std.specs.Prelude.{true, ◌≡◌, ◌≤◌};
+
+use crate::showing::put_short;
+use bp_limits::{MAX_LINE, MAX_READ, MAX_TEXT};
+use bp_plain::{Answer, Call, Plain, Reply};
+use bp_script::{Decoded, Line, Said, Syntax, say};
+use std::alloc::{AllocError, Global};
+
+/// The beginnings of replies that a volume gives for want of blocks or of memory. A plain tree lacks neither.
+const OWN_REPLIES: [&str; 2] = ["err 11 ", "err 12 "];
+
+/// A plain tree, what it takes to ask it, and the replies that were not compared yet.
+#[derive(Drop)]
+struct Comparison<'a> {
+    tree: Plain,
+    decoded: Decoded,
+    reply: Reply,
+    replies: &'a str,
+    lines: u64,
+    ghost decodes: { max_line ≤ decoded_room decoded },
+}
+
+/// Writes whether the replies to a script are those of the plain program, or else the first line at which they differ. A line for
+/// which the volume lacks blocks is told, and the plain program does not do it either.
+pub fn compare(
+    alloc: Global,
+    script: &str,
+    replies: &str,
+    report: &mut String,
+) -> Result<(), AllocError> {
+    let mut comparison = Comparison::new(alloc, replies)?;
+    for line in script.lines() {
+        if !comparison.take(alloc, line, report)? {
+            return Ok(());
+        }
+    }
+    comparison.finish(report)
+}
+
+/// The first line of a text, and what stands behind it.
+fn first_line(text: &str) -> (&str, &str) {
+    text.split_once('\n').unwrap_or((text, ""))
+}
+
+impl<'a> Comparison<'a> {
+    fn new(alloc: Global, replies: &'a str) -> Result<Comparison<'a>, AllocError> {
+        Ok(Comparison {
+            tree: Plain::new(alloc)?,
+            decoded: Decoded::new(alloc, MAX_LINE)?,
+            reply: Reply::new(alloc)?,
+            replies,
+            lines: 0,
+        })
+    }
+
+    /// Does a line, and compares what it says with the first of the replies. False is the answer where they differ.
+    fn take(&mut self, alloc: Global, line: &str, report: &mut String) -> Result<bool, AllocError> {
+        self.lines = self.lines.saturating_add(1);
+        let (reply, rest) = first_line(self.replies);
+        if is_own(reply) {
+            self.replies = rest;
+            report.push_str("  no space: ")?;
+            put_short(report, line)?;
+            return Ok(true);
+        }
+        let mut expected = String::new(alloc);
+        if !self.answer(alloc, line, &mut expected)? {
+            self.replies = rest;
+            return Ok(true);
+        }
+        match self.replies.strip_prefix(expected.as_str()) {
+            Some(rest) => self.replies = rest,
+            None => {
+                self.differ(line, expected.as_str(), report)?;
+                return Ok(false);
+            }
+        }
+        Ok(true)
+    }
+
+    /// Ends the comparison behind the last line.
+    fn finish(&self, report: &mut String) -> Result<(), AllocError> {
+        if !self.replies.is_empty() {
+            return self.differ("", "", report);
+        }
+        let lines = self.lines;
+        writeln!(report, "same as the plain tree in {lines} lines")
+    }
+
+    /// Writes at which line the replies differ, and both replies.
+    fn differ(&self, line: &str, expected: &str, report: &mut String) -> Result<(), AllocError> {
+        report.push_str("differs from the plain tree at: ")?;
+        put_short(report, line)?;
+        report.push_str("  volume: ")?;
+        put_short(report, first_line(self.replies).0)?;
+        report.push_str("  plain: ")?;
+        put_short(report, first_line(expected).0)
+    }
+
+    /// Does a line, and writes its reply. False is the answer for a line that asks for blocks, of which a plain tree knows nothing.
+    fn answer(&mut self, alloc: Global, line: &str, told: &mut String) -> Result<bool, AllocError> {
+        if line.len() > MAX_LINE {
+            put_said(alloc, &Said::LongLine, told)?;
+            return Ok(true);
+        }
+        match self.decoded.line(line.as_bytes()) {
+            Ok(Line::Call(call)) if is_short(&call) => {
+                self.tree.apply(alloc, &call, &mut self.reply)?;
+                put_answer(alloc, &self.reply, told)?;
+            }
+            Ok(Line::Sync) => put_said(alloc, &Said::Synced, told)?,
+            Ok(Line::Space) => return Ok(false),
+            // A read of more bytes than one call reads is no line of a script either.
+            Ok(Line::Call(_)) | Err(Syntax) => put_said(alloc, &Said::Syntax, told)?,
+        }
+        Ok(true)
+    }
+}
+
+fn is_own(reply: &str) -> bool {
+    OWN_REPLIES.iter().any(|front| reply.starts_with(*front))
+}
+
+/// Whether a read asks for no more bytes than one call reads.
+fn is_short(call: &Call<'_>) -> bool
+    ensures { result ≡ true → IsShortCall (call_of call.now) }
+{
+    match *call {
+        Call::Read { len, .. } => len <= MAX_READ,
+        _ => true,
+    }
+}
+
+/// Writes an answer, each name of a listing on a line of its own.
+fn put_answer(alloc: Global, reply: &Reply, told: &mut String) -> Result<(), AllocError> {
+    match reply.answer() {
+        Answer::Names(listing) => {
+            for i in 0..listing.len() {
+                let (kind, name) = listing.at(i);
+                let said = Said::Name {
+                    kind: *kind,
+                    name: name.as_slice(),
+                };
+                put_said(alloc, &said, told)?;
+            }
+            put_said(alloc, &Said::End, told)
+        }
+        answer => put_said(alloc, &Said::Answer(answer), told),
+    }
+}
+
+/// Writes a line of a reply.
+fn put_said(alloc: Global, said: &Said<'_>, told: &mut String) -> Result<(), AllocError>
+    requires { FitsReply said.now }
+{
+    let mut text = vec![in alloc; 0u8; MAX_TEXT]?;
+    let count = say(said, &mut text);
+    told.push_str(str::from_utf8(&text[..count]).unwrap_or(""))
+}

@@ -138,7 +138,6 @@ module _ (old new : Image) (wf : IsWellFormed old) (i s k r j : ℕ) (can : CanM
       reach_stays old new i s k r j Replaced can.reached can.entry can.target (move.new_entry old new wf i s k r j can moves) alone not_target stay outside t was
       (λ gone. kept gone.0 gone.1)
 
-module _ (old new : Image) (wf : IsWellFormed old) (i s k r j : ℕ) (can : CanMoveEntry old i s k r j) (moves : MovesEntry old new i s k r j) where
   -- what it named is not reached any more
   pub replaced_not_reached : inumber_at old k r ≢ 0 → IsReached new (inumber_at old k r) → ⊥
   replaced_not_reached some now = go (inumber_at old k r) now refl

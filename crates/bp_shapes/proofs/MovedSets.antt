@@ -55,7 +55,7 @@ module _ (old new : Image) (bound : ℕ → ℕ) (whole : length new ≡ length 
     };
   }
 
--- a name came to another directory, to which that of an entry that was empty belongs or one behind the last
+-- a name came to another directory, into an entry that was empty or into one behind the last
 pub carried_exact : (old new : Image) (wf : IsWellFormed old) (i s k r j : ℕ) (carries : CarriesEntry old new i s k r j) → (IsAtOrBelow old j k → ⊥) →
     (bound : ℕ → ℕ) → ((t : ℕ) → IsReached old t → size_of new t ≡ bound t) → (before blocks inodes : Set) → AreExactFor old (IsReached old) bound before inodes →
     length blocks ≡ length before → AreUnheld new (IsReached old) bound (has blocks) → AreExact new blocks inodes
@@ -90,7 +90,7 @@ module _ (old new : Image) (wf : IsWellFormed old) (i s k r j : ℕ) (can : CanM
   on t reached other = moved_on old new wf i s k r j can moves outside t reached (λ not_zero. other)
 
   none : (t : ℕ) → IsReached new t → t ≢ gone
-  none t reached e = replaced_not_reached old new wf i s k r j can moves some (subst (IsReached new) e reached)
+  none t reached e = replaced_not_reached old new wf i s k r j can moves outside some (subst (IsReached new) e reached)
 
   sizes : (t : ℕ) → IsReached old t → size_of new t ≡ size_of old t
   sizes t reached = moves.size t (reached-in_file old wf t reached)

@@ -17,6 +17,7 @@ ghost use mathlib.Core.Option.{none};
 use arrayvec::ArrayVec;
 use bp_limits::MAX_READ;
 use bp_plain::Call;
+use memchr::memchr;
 use percent_encoding::percent_decode;
 use std::alloc::{AllocError, Global};
 use thiserror::Error;
@@ -387,7 +388,7 @@ fn split_once(text: &[u8], at: u8) -> (&[u8], Option<&[u8]>)
 fn find(text: &[u8], at: u8) -> Option<usize>
     ensures { result ≡ position (λ b. b == at) text.now }
 {
-    text.iter().position(|b| *b == at)
+    memchr(at, text)
 }
 
 /// Adds what a part of a path stands for, in room that is there.

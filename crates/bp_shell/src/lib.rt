@@ -20,7 +20,9 @@ mod tests;
 mod work;
 
 pub use acting::act;
+pub use opening::open;
 pub use outcome::Outcome;
 pub use running::run;
 pub use serving::{serve, serve_line};
+pub use stop::Stop;
 pub use work::{LineBuffers, Work};

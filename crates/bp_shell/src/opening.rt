@@ -6,7 +6,7 @@ ghost use Rattle.bp_layout.specs.WellFormed.{IsWellFormed};
 ghost use Rattle.bp_layout.specs.Words.{Image, block_count};
 ghost use Rattle.bp_limits.specs.Limits.{block_words};
 ghost use Rattle.bp_script.specs.declared.notices.Notice.{Notice};
-ghost use Rattle.bp_shell.specs.Files.{AreWordsOf64Bits, HasImage, Holds, HoldsFront};
+ghost use Rattle.bp_shell.specs.Files.{AreWordsOf64Bits, HasImage, Holds, HoldsFront, IsReady};
 ghost use Rattle.bp_shell.specs.Opening.{HasSized, HoldsFileSystem, RefusesFile, start};
 ghost use Rattle.bp_shell.specs.Stops.{HasStopCause, IsReason, stop_by};
 ghost use Rattle.bp_shell.specs.declared.stop.Stop.TheVariants.{Memory, Outside, Refused};
@@ -106,15 +106,16 @@ fn mount(alloc: Global, words: Vec<u64>) -> Result<Volume<ListRegion>, Stop>
     }
 }
 
-/// Mounts the file of a name, which is then attached to be written.
-pub(crate) fn open<F: Files>(
-    alloc: Global,
-    name: &str,
-    files: &mut F,
-) -> Result<Volume<ListRegion>, Stop>
+/// Mounts the file of a name, which is then attached to be written: scripts can be served over both. No file is made.
+///
+/// # Errors
+///
+/// `Missing` where the file is not there; `Outside` where the files failed; `Refused` where it is no file system; `Memory`
+/// where there is no memory for the volume.
+pub fn open<F: Files>(alloc: Global, name: &str, files: &mut F) -> Result<Volume<ListRegion>, Stop>
     ensures opened { IfOk result (λ volume. (image : Image) × HoldsFileSystem ((F.view files.old).contents name.now) image
         × (volume ≡ (start image).memory) × Holds (F.view files.new) name.now image) }
-    ensures may_write { OnOk result ((F.view files.new).may_write ≡ true) }
+    ensures ready { IfOk result (λ volume. IsReady volume.base (F.view files.new)) }
     ensures reason { IfErr result (IsReason ((F.view files.old).contents name.now)) }
     ensures cause { HasStopCause (F.view files.old).faults (F.view files.new).faults result }
     ensures file { (F.view files.new).contents name.now ≡ (F.view files.old).contents name.now }

@@ -35,6 +35,7 @@ pub fn serve_line<R: Region, K: Sink, F: Files>(
         (moment volume.old (F.view files.old) (K.taken out.old) (K.faults out.old))
         (moment volume.new (F.view files.new) (K.taken out.new) (K.faults out.new)) }
     ensures synced { ¬ (result ≡ 5) → command_of (held_line work.old) ≡ sync → (F.view files.new).is_flushed ≡ true }
+    ensures ready { IsReady volume.new.base (F.view files.new) }
     ensures line { held_line work.new ≡ held_line work.old }
     ensures piece { read_piece work.new ≡ read_piece work.old }
 {
@@ -141,9 +142,10 @@ pub fn serve<R: Region, S: Source, K: Sink, F: Files>(
     files: &mut F,
 ) -> u8
     requires { IsReady volume.old.base (F.view files.old) }
-    ensures { ServeOutcome result (told (S.left src.old) (S.faults src.old)) (told (S.left src.new) (S.faults src.new))
+    ensures outcome { ServeOutcome result (told (S.left src.old) (S.faults src.old)) (told (S.left src.new) (S.faults src.new))
         (moment volume.old (F.view files.old) (K.taken out.old) (K.faults out.old))
         (moment volume.new (F.view files.new) (K.taken out.new) (K.faults out.new)) }
+    ensures ready { IsReady volume.new.base (F.view files.new) }
 {
     work.buffers.line.clear();
     let mut taken: usize = 0;

@@ -4,7 +4,7 @@ use bp_script::Notice;
 
 /// Why a program ends before it serves or tells of its file.
 #[derive(Clone, Copy, Debug, PartialEq, Eq)]
-pub(crate) enum Stop {
+pub enum Stop {
     /// The file is not there.
     Missing,
     /// The files failed.

@@ -3,7 +3,7 @@ use Rattle.bp_layout.specs.Bytes.{image_bytes}
 use Rattle.bp_shell.proofs.ActingLaws.{holds_bytes, size-drained}
 use Rattle.bp_shell.proofs.OpeningLaws.{if_memory, if_missing, if_refused}
 use Rattle.bp_shell.proofs.ProgramLaws.{run_faulty, run_memory, run_missing, run_refused, run_served, run_unsaved, run_whole}
-use Rattle.bp_shell.proofs.SavingLaws.{still_ready}
+use Rattle.bp_shell.proofs.SavingLaws.{still_attached, still_ready}
 use Rattle.bp_shell.proofs.running.run_file.Goals as goal
 
 pub returns-in-Err-Missing-clause-outcome : goal.returns-in-Err-Missing-clause-outcome
@@ -28,23 +28,15 @@ returns-in-Err-Memory-clause-outcome g c =
 pub returns-in-Err-clause-outcome : goal.returns-in-Err-clause-outcome
 returns-in-Err-clause-outcome g c = run_memory _ _ (record { left = refl; file = c.open.ensures.file }) c.open.ensures.flushed refl refl refl c.in-Ok.ensures.cause.same
 
-pub serve-status-requires : goal.serve-status-requires
-serve-status-requires g c =
-    let opened = c.in-Ok.ensures.opened in record {
-      size = rw opened.2 opened.3.size;
-      attached = (c.args.name.now, opened.3.attached);
-      may_write = c.in-Ok.ensures.may_write;
-    }
-
 pub returns-then-status-ne0-clause-outcome : goal.returns-then-status-ne0-clause-outcome
 returns-then-status-ne0-clause-outcome g c =
     let opened = c.in-Ok.ensures.opened in
-    run_served _ _ (g.F.Files.view c.args.files.now) _ _ c.args.name.now opened.0 opened.1 opened.2 opened.3 c.open.ensures.flushed c.in-Ok.ensures.cause.same _ (search rules) c.serve-status.ensures
+    run_served _ _ (g.F.Files.view c.args.files.now) _ _ c.args.name.now opened.0 opened.1 opened.2 opened.3 c.open.ensures.flushed c.in-Ok.ensures.cause.same _ (search rules) c.serve-status.ensures.outcome
 
 pub returns-in-Ok-save-clause-outcome : goal.returns-in-Ok-save-clause-outcome
 returns-in-Ok-save-clause-outcome g c =
     let opened = c.in-Ok.ensures.opened in
-    let served = rw c.if-status-ne0.false at c.serve-status.ensures in
+    let served = rw c.if-status-ne0.false at c.serve-status.ensures.outcome in
     let told = (served.whole refl).4 c.args.name.now opened.0 opened.3 in
     let saved = c.in-Ok-save.ensures.saved c.args.name.now (image_bytes told.after) (holds_bytes _ _ told.after told.file) in
     run_whole _ _ (g.F.Files.view c.args.files.now) _ _ c.args.name.now opened.0 opened.1 opened.2 opened.3 c.open.ensures.flushed c.in-Ok.ensures.cause.same (g.F.Files.view c.save.new.files) served
@@ -53,13 +45,9 @@ returns-in-Ok-save-clause-outcome g c =
 pub returns-clause-outcome : goal.returns-clause-outcome
 returns-clause-outcome g c =
     let opened = c.in-Ok.ensures.opened in
-    let served = rw c.if-status-ne0.false at c.serve-status.ensures in
+    let served = rw c.if-status-ne0.false at c.serve-status.ensures.outcome in
     run_unsaved _ _ (g.F.Files.view c.args.files.now) _ _ c.args.name.now opened.0 opened.1 opened.2 opened.3 c.open.ensures.flushed c.in-Ok.ensures.cause.same (g.F.Files.view c.save.new.files) served _ c.sync.ensures
     (λ was file. rw (c.region.ensures, c.sync.ensures) at (c.in-Err-save.ensures.partly c.args.name.now (image_bytes was) (holds_bytes _ _ was file))) c.in-Err-save.ensures.cause.failed
 
 pub save-requires : goal.save-requires
-save-requires g c =
-    let opened = c.in-Ok.ensures.opened in
-    rw (c.region.ensures, c.sync.ensures)
-    (still_ready _ _ _ _ (record { size = rw opened.2 opened.3.size; attached = (c.args.name.now, opened.3.attached); may_write = c.in-Ok.ensures.may_write })
-    (size-drained c.serve-status.new.volume ∙ c.serve-status.ensures.keeps.size) c.serve-status.ensures.keeps.attached)
+save-requires g c = rw (c.region.ensures, c.sync.ensures) (still_ready _ _ _ _ c.serve-status.ensures.ready (size-drained c.serve-status.new.volume) (still_attached _))

@@ -13,8 +13,8 @@ loop-count-init g c = record {
   taken = search rules;
 }
 
-pub returns-in-Err : goal.returns-in-Err
-returns-in-Err g c =
+pub returns-in-Err-clause-outcome : goal.returns-in-Err-clause-outcome
+returns-in-Err-clause-outcome g c =
     let before = c.loop-count.invariant.served in
     serve_part _ _ _ _ before.0 _ (consumes_kept _ _ _ _ before.1 c.in-Err.ensures.bytes) before.3 (rw c.loop-count.invariant.source at c.in-Err.ensures.cause.failed)
 
@@ -34,8 +34,8 @@ loop-count-preserved g c =
       taken = search rules;
     }
 
-pub returns-then-status-ne0 : goal.returns-then-status-ne0
-returns-then-status-ne0 g c =
+pub returns-then-status-ne0-clause-outcome : goal.returns-then-status-ne0-clause-outcome
+returns-then-status-ne0-clause-outcome g c =
     let before = c.loop-count.invariant.served in
     let piece = c.fill.new.piece.items in
     let served = c.min-served.result in
@@ -44,8 +44,8 @@ returns-then-status-ne0 g c =
     serve_ended _ _ _ _ _ (before.0 ++ take c.in-Ok.count piece) _ (search rules) (Consumes-trans _ _ _ _ _ before.1 c.in-Ok.ensures.bytes.0)
     (piece_then _ _ _ _ _ _ _ _ _ before.3 (rw whole at ended)) (c.in-Ok.ensures.cause.same ∙ c.loop-count.invariant.source)
 
-pub returns-then-served-count : goal.returns-then-served-count
-returns-then-served-count g c =
+pub returns-then-served-count-clause-outcome : goal.returns-then-served-count-clause-outcome
+returns-then-served-count-clause-outcome g c =
     let before = c.loop-count.invariant.served in
     let piece = c.fill.new.piece.items in
     let served = c.min-served.result in
@@ -61,8 +61,8 @@ returns-then-served-count g c =
     (omega (arith, first, more)) (omega (arith, first, more, most))
     (piece_then 0 _ _ _ _ _ _ _ _ before.3 (rw c.if-status-ne0.false at c.take_piece-status.ensures)) (c.in-Ok.ensures.cause.same ∙ c.loop-count.invariant.source)
 
-pub returns : goal.returns
-returns g c =
+pub returns-clause-outcome : goal.returns-clause-outcome
+returns-clause-outcome g c =
     let before = c.loop-count.invariant.served in
     let none : Consumes (g.S.Source.left c.loop-count.src) (g.S.Source.left c.fill.new.src) [] = rw c.if-count-eq0.true at c.in-Ok.ensures.bytes.0 in
     serve_end _ _ _ _ _ (before.0 ++ []) _ _ (Consumes-trans _ _ _ _ _ before.1 none) (c.in-Ok.ensures.bytes.1 c.if-count-eq0.true (search rules))

@@ -30,8 +30,6 @@ pub data Refusal : Type 0 where
   -- the blocks that the call needs, and those that are free
   no_space : ℕ → ℕ → Refusal
   no_memory : Refusal
-  -- this version can't do it yet
-  later : Refusal
 
 pub data Answer : Type 0 where
   done : Answer

@@ -7,7 +7,7 @@ use Rattle.bp_plain.specs.declared.errors.FsError.{FsError}
 use Rattle.bp_plain.specs.declared.errors.FsError.TheVariants as fault
 use Rattle.bp_plain.specs.Calls.{Call, Refusal}
 use Rattle.bp_plain.specs.Calls.Call.{create, mkdir, unlink, rmdir, list, stat, read, write, truncate}
-use Rattle.bp_plain.specs.Calls.Refusal.{bad_path, not_found, not_dir, is_dir, exists, not_empty, into_self, is_root, too_long, too_big, no_space, no_memory, later}
+use Rattle.bp_plain.specs.Calls.Refusal.{bad_path, not_found, not_dir, is_dir, exists, not_empty, into_self, is_root, too_long, too_big, no_space, no_memory}
 
 abbrev pub call_of : GivenCall → Call
 call_of (given.Create path) = create path.now
@@ -33,7 +33,6 @@ refusal_of fault.TooLong = too_long
 refusal_of fault.TooBig = too_big
 refusal_of (fault.NoSpace need free) = no_space need free
 refusal_of fault.Memory = no_memory
-refusal_of fault.Later = later
 
 -- a read asks for no more bytes than one call reads
 abbrev pub IsShortCall : Call → Type 0

@@ -50,9 +50,6 @@ pub enum FsError {
     /// The program has no memory left for the answer.
     #[error("out of memory")]
     Memory,
-    /// This version can't do it yet.
-    #[error("not yet possible in this version")]
-    Later,
 }
 
 impl FsError {
@@ -73,7 +70,6 @@ impl FsError {
             FsError::TooBig => 10,
             FsError::NoSpace { .. } => 11,
             FsError::Memory => 12,
-            FsError::Later => 22,
         }
     }
 
@@ -94,7 +90,6 @@ impl FsError {
             FsError::TooBig => "toobig",
             FsError::NoSpace { .. } => "nospace",
             FsError::Memory => "memory",
-            FsError::Later => "later",
         }
     }
 }

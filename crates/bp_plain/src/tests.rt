@@ -19,7 +19,6 @@ fn refusals(rt: HostRuntime) {
         (FsError::TooBig, 10, "toobig"),
         (full, 11, "nospace"),
         (FsError::Memory, 12, "memory"),
-        (FsError::Later, 22, "later"),
     ];
     for (error, number, word) in rows {
         assert_eq!(rt; error.number(), number);

@@ -206,12 +206,6 @@ fn refusal_texts(rt: HostRuntime) -> Result<(), Fail> {
         b"err 3 notdir\n",
     );
     answers(&rt, Answer::Refused(full), into, b"err 11 nospace 5 4\n");
-    answers(
-        &rt,
-        Answer::Refused(FsError::Later),
-        into,
-        b"err 22 later\n",
-    );
     Ok(())
 }
 

@@ -80,7 +80,7 @@ module _ (front rest other : WordPath) (earlier : List WordPath) where
 
 -- ---- a run of paths
 
-module _ (base : WordPath) (height : ℕ) (low : height ≤ 3) (shortest : ℕ) where
+module _ (base : WordPath) (height : ℕ) (low : height ≤ max_height) (shortest : ℕ) where
   abbrev path : ℕ → WordPath
   path k = base ++ digits (suc height) k
 

@@ -14,7 +14,7 @@ use Rattle.bp_plain.specs.Stands.{Stands}
 use Rattle.bp_layout.specs.Words.{Image}
 use Rattle.bp_plain.specs.Calls.{Call, Answer}
 use Rattle.bp_volume.specs.Step.{Steps}
-use Rattle.bp_volume.specs.Step.Steps.{no_room, no_listing, later_version, unchanged, changed}
+use Rattle.bp_volume.specs.Step.Steps.{no_room, no_listing, unchanged, changed}
 use Rattle.bp_plain.specs.Plain.{plain, is_changing, refusal, changes}
 use Rattle.bp_shell.specs.Session.{State, Line, Session}
 use Rattle.bp_script.specs.Commands.{Command}
@@ -27,7 +27,7 @@ use Rattle.std.specs.Prelude.{Option, Some, None, is_none, ◌&&◌, ◌⊎◌, 
 use Rattle.std.proofs.lemmas.Bool.{leb-true, leb-false}
 use Rattle.bp_shell.specs.PlainSession.{PlainSession, PlainLine, Plain, PlainCall, latest, tree_at, tree_now, after_crash, with_call, fresh, Follows, FollowsTree, IsPlainly}
 use Rattle.bp_shell.proofs.ServingLaws.{session_split}
-use Rattle.bp_shell.specs.PlainSession.PlainCall.{plainly, no_room as finds_no_room, not_yet, no_listing as finds_no_memory}
+use Rattle.bp_shell.specs.PlainSession.PlainCall.{plainly, no_room as finds_no_room, no_listing as finds_no_memory}
 
 -- ---- trees
 
@@ -46,11 +46,10 @@ pub record PlainStep (tree : FileTree) (call : Call) (answer : Answer) (new : Im
   pub stands : Stands new after
 
 pub plain_step : (old : Image) (tree : FileTree) (call : Call) (answer : Answer) (new : Image) → Stands old tree → Steps old tree call answer new → PlainStep tree call answer new
-plain_step old tree call answer new stands (no_room change able need few) = record { after = tree; does = finds_no_room change; stands = stands }
+plain_step old tree call answer new stands (no_room change need few) = record { after = tree; does = finds_no_room change; stands = stands }
 plain_step old tree call answer new stands (no_listing none) = record { after = tree; does = finds_no_memory none; stands = stands }
-plain_step old tree call answer new stands (later_version change unable) = record { after = tree; does = not_yet change; stands = stands }
 plain_step old tree call answer new stands (unchanged same) = record { after = (plain tree call).1; does = plainly; stands = rw (plain-unchanged tree call same) stands }
-plain_step old tree call answer new stands (changed change able fits shown) = record { after = (plain tree call).1; does = plainly; stands = shown }
+plain_step old tree call answer new stands (changed change fits shown) = record { after = (plain tree call).1; does = plainly; stands = shown }
 
 pub stands_by_same : (first second : Image) (tree : FileTree) → Same first second → Stands second tree → Stands first tree
 stands_by_same first second tree same stands = record { well_formed = same.old_well_formed; shows = λ path. stands.shows path ∙ same.shows path }

@@ -42,7 +42,10 @@ short_bare verb = short_either (bytes_eq verb (codes "sync")) sync _ tt (short_e
 short_path : (verb path : List ℕ) → IsShort (path_command verb path)
 short_path verb path =
     short_either (bytes_eq verb (codes "create")) (file_call (create path)) _ tt
-    (short_either (bytes_eq verb (codes "list")) (file_call (list path)) _ tt (short_either (bytes_eq verb (codes "stat")) (file_call (stat path)) bad_syntax tt tt))
+    (short_either (bytes_eq verb (codes "mkdir")) (file_call (mkdir path)) _ tt
+    (short_either (bytes_eq verb (codes "unlink")) (file_call (unlink path)) _ tt
+    (short_either (bytes_eq verb (codes "rmdir")) (file_call (rmdir path)) _ tt
+    (short_either (bytes_eq verb (codes "list")) (file_call (list path)) _ tt (short_either (bytes_eq verb (codes "stat")) (file_call (stat path)) bad_syntax tt tt)))))
 
 short_pair : (verb first second : List ℕ) → IsShort (pair_command verb first second)
 short_pair verb first second = short_either (bytes_eq verb (codes "truncate")) (truncate_command first (number_of second)) bad_syntax (short_truncate first (number_of second)) tt

@@ -5,7 +5,7 @@ use Rattle.bp_plain.specs.Stands.{Stands}
 use Rattle.bp_plain.specs.Calls.{Call, Answer}
 use Rattle.bp_plain.specs.Calls.Call.{list}
 use Rattle.bp_plain.specs.Calls.Answer.{refused}
-use Rattle.bp_plain.specs.Calls.Refusal.{no_space, no_memory, later}
+use Rattle.bp_plain.specs.Calls.Refusal.{no_space, no_memory}
 use Rattle.bp_plain.specs.Plain.{plain, is_changing, refusal}
 use Rattle.pm_epochs.specs.Log.{marks}
 use Rattle.pm_epochs.specs.Replay.{Cut, IsRight, replay, kept_calls, after_calls}
@@ -16,12 +16,11 @@ use Rattle.bp_script.specs.Commands.Command.{file_call, sync, space, bad_syntax,
 use Rattle.bp_script.specs.Texts.{LineReply}
 use Rattle.bp_script.specs.Texts.LineReply.{answered, synced, space_of, syntax, long}
 
--- A call on a plain tree. Besides the tree's own answer there are three: a call that changes the tree may find no room or may
--- be one that this version can't do, and a listing may find no memory; none of them does anything.
+-- A call on a plain tree. Besides the tree's own answer there are two: a call that changes the tree may find no room, and a listing
+-- may find no memory; neither does anything.
 pub data PlainCall (tree : FileTree) : Call → Answer → FileTree → Type 0 where
   plainly : {call : Call} → PlainCall tree call (plain tree call).0 (plain tree call).1
   no_room : {call : Call} {needed free : ℕ} → is_changing tree call ≡ true → PlainCall tree call (refused (no_space needed free)) tree
-  not_yet : {call : Call} → is_changing tree call ≡ true → PlainCall tree call (refused later) tree
   no_listing : {text : List ℕ} → refusal tree (list text) ≡ None → PlainCall tree (list text) (refused no_memory) tree
 
 -- The tree that is certain, and the trees after each call since, the last one last.

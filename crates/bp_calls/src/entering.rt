@@ -27,7 +27,7 @@ use bp_tree::{Tree, content_word};
 use pm_region::Region;
 
 /// The tree of an inode.
-pub(crate) fn tree_of<R: Region>(region: &R, i: u32) -> Tree
+pub fn tree_of<R: Region>(region: &R, i: u32) -> Tree
     requires well_formed { IsWellFormed (current_words (R.memory region.now)) }
     requires reached { IsReached (current_words (R.memory region.now)) i }
     requires some { 1 ≤ i }
@@ -95,7 +95,7 @@ fn entry_bytes(inode: u32, name: &[u8]) -> [u8; ENTRY_SIZE as usize]
 
 /// Writes an entry behind the last one of a directory, where nobody sees it: the directory's tree is prepared for one
 /// entry more.
-fn put_behind<R: Region>(parts: &mut Parts<R>, dir: u32, tree: Tree, inode: u32, name: &[u8])
+pub fn put_behind<R: Region>(parts: &mut Parts<R>, dir: u32, tree: Tree, inode: u32, name: &[u8])
     requires can { CanEnterBehind (R.memory parts.old.region) parts.old.blocks dir inode name.now }
     requires root { tree.root ≡ root_of (current_words (R.memory parts.old.region)) dir }
     requires size { tree.size ≡ size_of (current_words (R.memory parts.old.region)) dir }

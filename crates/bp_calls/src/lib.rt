@@ -14,7 +14,9 @@ mod tests;
 mod writing;
 
 pub use creating::create;
+pub use entering::{put_behind, tree_of};
+pub use giving::give_back;
 pub use reading::{list, read, stat};
 pub use removing::remove;
 pub use resizing::truncate;
-pub use writing::write;
+pub use writing::{root_path, write};

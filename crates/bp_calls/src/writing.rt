@@ -28,7 +28,7 @@ use bp_tree::{Slots, Tree, word_path};
 use pm_region::Region;
 
 /// The path of the root word of an inode.
-pub(crate) fn root_path<R: Region>(region: &R, i: u32) -> Slots
+pub fn root_path<R: Region>(region: &R, i: u32) -> Slots
     requires { 4 ≤ length (current_words (R.memory region.now)) }
     ensures { result.items ≡ inode_path (height_of (root_of (current_words (R.memory region.now)) 0)) i 1 }
 {

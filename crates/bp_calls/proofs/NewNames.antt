@@ -1,5 +1,6 @@
 -- A name is entered: what it needs, and that there is what it needs, also where the inode file grows first.
 use Rattle.std.proofs.Common.{◌≡◌, ◌≢◌, ℕ, ◌+◌, ◌*◌, ◌<◌, ◌≤◌, [], length, Bool, true, false, None, sym, ◌∙◌, ap, subst, arith}
+use Rattle.std.specs.Prelude.{Result, Ok, Err, OnErr, OnOk}
 use Rattle.bp_append.specs.Prepared.{need_for}
 use Rattle.bp_free.specs.Set.{Set, IsLeast, members}
 use Rattle.bp_layout.specs.Directory.{Name, empty_slot}
@@ -30,7 +31,7 @@ use Rattle.bp_calls.proofs.GrowthPerforms.{grown_need, performs_grown}
 use Rattle.bp_calls.proofs.GrowthRoom.{growth_few}
 use Rattle.bp_calls.proofs.GrowthWithin.{performs_within}
 use Rattle.bp_calls.proofs.NeedLaws.{need_behind}
-use Rattle.bp_calls.proofs.Refusals.{has_members, tells_false, tells_true}
+use Rattle.bp_calls.proofs.Refusals.{has_members, tells, tells_false, tells_true}
 use Rattle.bp_calls.proofs.StandsLaws.{entered_over}
 
 -- ---- what a name needs
@@ -155,3 +156,10 @@ module _ (old : Memory) (blocks inodes : Set) (i : ℕ) (exact : AreExact (curre
     enough = let needs = need_growing (current_words old) wf i reached kind in omega (arith, needs, enough);
     room = room;
   }
+
+-- whether the name comes in or not, a file system is left
+pub left_well_formed : {T E : Type 0} (result : Result T E) (old new : Memory) (blocks inodes : Set) (i : ℕ) (Effect : Image → Image → Type 0) (Kept : Type 0) → AreExact (current_words old) blocks inodes →
+    OnOk result ((free : Bool) → TellsFreeInode (current_words old) free → Performs old new (enters i free) Effect) → OnErr result Kept → (Kept → IsWellFormed (current_words new)) → IsWellFormed (current_words new)
+left_well_formed (Ok value) old new blocks inodes i Effect Kept exact performs same kept =
+    let told = tells (current_words old) blocks inodes exact in (performs told.0 told.1).well_formed
+left_well_formed (Err fault) old new blocks inodes i Effect Kept exact performs same kept = kept same

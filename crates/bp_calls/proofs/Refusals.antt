@@ -1,5 +1,5 @@
 -- Whether an inode is free, by a set that has just the free inodes; and a slot that is found.
-use Rattle.std.proofs.Common.{◌≡◌, ◌≢◌, ℕ, ◌<◌, List, [], ◌∷◌, length, Bool, true, false, ◌==◌, Some, refl, ap, arith}
+use Rattle.std.proofs.Common.{◌≡◌, ◌≢◌, ℕ, ◌<◌, List, [], ◌∷◌, length, Bool, true, false, ◌==◌, Some, refl, sym, ◌∙◌, ap, arith, true≢false}
 use Rattle.std.proofs.lemmas.Bool.{eqb-true, false_from_ne_true}
 use Rattle.std.specs.List.{Contains}
 use Rattle.bp_shapes.specs.Sets.{AreExact}
@@ -41,6 +41,16 @@ module _ (image : Image) (blocks inodes : Set) (exact : AreExact image blocks in
 
   pub tells_false : members inodes ≡ [] → (free : Bool) → TellsFreeInode image free → free ≡ false
   tells_false none free tells = false_from_ne_true free (λ is. let some = tells.some is in has_members inodes some.0 (exact.free_inodes.all some.0 some.1) none)
+
+  -- so it is told whether one is free
+  pub tells : (free : Bool) × TellsFreeInode image free
+  tells = go (members inodes) refl
+    where
+      go : (xs : List ℕ) → members inodes ≡ xs → (free : Bool) × TellsFreeInode image free
+      go [] none = (false, record { some = λ e. absurd (true≢false (sym e)); none = λ i free. absurd (has_members inodes i (exact.free_inodes.all i free) none) })
+      go (x ∷ xs) is =
+          let one = some_number inodes (λ none. let count : length (x ∷ xs) ≡ 0 = ap length (sym is ∙ none) in omega (arith, count)) in
+          (true, record { some = λ e. (one.0, exact.free_inodes.free one.0 one.1); none = λ i free. refl })
 
 -- the slot that is found is one of the directory's, and empty
 pub found_empty : (image : Image) (i s : ℕ) → empty_slot image i ≡ Some s → (s < entry_count image i) × (inumber_at image i s ≡ 0)

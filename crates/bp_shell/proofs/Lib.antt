@@ -11,3 +11,4 @@ pub mod FormattingLaws
 pub mod RunningLaws
 mod OutcomeLaws
 mod ProgramLaws
+mod Runs

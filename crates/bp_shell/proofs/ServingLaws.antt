@@ -1,7 +1,7 @@
 -- Serving goes on from piece to piece.
-use Rattle.std.proofs.Common.{refl, sym, ◌∙◌, ap, arith, ◌≡◌, ℕ, ◌<◌, List, [], ◌∷◌, ◌++◌, length, take, map, true, false, nat_eq, cond, length-append, nat_lt, get_or, drop, zero, suc, ◌≤◌, ◌+◌}
-use Rattle.std.proofs.lemmas.List.{append_assoc, append-nil}
-use Rattle.std.proofs.lemmas.Bool.{lt-ltb}
+use Rattle.std.proofs.Common.{refl, sym, ◌∙◌, ap, arith, ◌≡◌, ℕ, ◌<◌, List, [], ◌∷◌, ◌++◌, length, take, map, true, false, nat_eq, Bool, cond, length-append, nat_lt, get_or, drop, zero, suc, ◌≤◌, ◌+◌}
+use Rattle.std.proofs.lemmas.List.{append_assoc, append-nil, take_all}
+use Rattle.std.proofs.lemmas.Bool.{lt-ltb, ltb-true, ltb-false}
 use Rattle.std.proofs.Math.Seq.{take-suc}
 use Rattle.std.proofs.KnownBytes.{Appends-trans}
 use Rattle.std.specs.Prelude.{Option, Some, None}
@@ -78,6 +78,26 @@ commands_too_long (x ∷ a) (y ∷ b) (c ∷ rest) p q =
       | true ↦ rw (long_command (x ∷ a) p, long_command (y ∷ b) q) refl
       | false ↦ commands_too_long ((x ∷ a) ++ c ∷ []) ((y ∷ b) ++ c ∷ []) rest (omega (arith, length-append a (c ∷ []))) (omega (arith, length-append b (c ∷ [])))
     ]
+
+pub length_taken : (xs : List ℕ) (n : ℕ) → n ≤ length xs → length (take n xs) ≡ n
+length_taken [] zero low = refl
+length_taken [] (suc n) low = absurd (omega arith)
+length_taken (x ∷ xs) zero low = refl
+length_taken (x ∷ xs) (suc n) low = ap suc (length_taken xs n (omega arith))
+
+-- bytes with no newline go to the line
+pub commands_at_run : (held run rest : List ℕ) → ((k : ℕ) → k < length run → nat_eq (get_or run k 0) 10 ≡ false) → commands_from held (run ++ rest) ≡ commands_from (held ++ run) rest
+commands_at_run held [] rest quiet = rw (append-nil held) refl
+commands_at_run held (b ∷ run) rest quiet =
+    commands_at_byte held (run ++ rest) b (quiet 0 (omega arith)) ∙ commands_at_run (held ++ b ∷ []) run rest (λ k low. quiet (suc k) (omega (arith, low))) ∙ ap (λ l. commands_from l rest) (append_assoc held (b ∷ []) run)
+
+-- .. of which the line keeps only its first bytes
+pub commands_kept : (line rest : List ℕ) → commands_from line rest ≡ commands_from (take 140001 line) rest
+commands_kept line rest = go (nat_lt 140000 (length line)) refl
+  where
+    go : (long : Bool) → nat_lt 140000 (length line) ≡ long → commands_from line rest ≡ commands_from (take 140001 line) rest
+    go true e = let low = ltb-true 140000 (length line) e in commands_too_long line (take 140001 line) rest low (omega (arith, low, length_taken line 140001 (omega (arith, low))))
+    go false e = let high = ltb-false 140000 (length line) e in ap (λ l. commands_from l rest) (sym (take_all 140001 line (omega (arith, high))))
 
 pub commands_at_end : (x : ℕ) (held : List ℕ) → commands_from (x ∷ held) [] ≡ command_of (x ∷ held) ∷ []
 unfolding commands_from
@@ -250,12 +270,6 @@ take_more [] (suc n) (suc m) low = refl
 take_more (x ∷ xs) zero m low = refl
 take_more (x ∷ xs) (suc n) zero low = absurd (omega arith)
 take_more (x ∷ xs) (suc n) (suc m) low = ap (λ l. x ∷ l) (take_more xs n m (omega arith))
-
-pub length_taken : (xs : List ℕ) (n : ℕ) → n ≤ length xs → length (take n xs) ≡ n
-length_taken [] zero low = refl
-length_taken [] (suc n) low = absurd (omega arith)
-length_taken (x ∷ xs) zero low = refl
-length_taken (x ∷ xs) (suc n) low = ap suc (length_taken xs n (omega arith))
 
 pub session_split : (old new : State) (first rest : List Command) (replies : List LineReply) → Session old (first ++ rest) replies new →
     (middle : State) × (front : List LineReply) × (behind : List LineReply) × (replies ≡ front ++ behind) × Session old first front middle × Session middle rest behind new

@@ -1,6 +1,7 @@
 //! Lines of a source in any pieces, each with its reply to a sink.
 
-ghost use Rattle.std.specs.Prelude.{◌≡◌, ◌≤◌, ◌∷◌, [], take, true, vec_len};
+ghost use Rattle.memchr.specs.Find.{IsFirst, Nowhere, Passes, is_byte};
+ghost use Rattle.std.specs.Prelude.{◌≡◌, ◌≤◌, ◌∷◌, ◌++◌, List, ℕ, [], length, slice_range, take, true, vec_len};
 ghost use Rattle.std.specs.Io.{ReadsAtMost};
 ghost use Rattle.std.specs.Io.KnownBytes.{ReadConsumes};
 ghost use Rattle.bp_io.specs.Causes.{HasCause};
@@ -16,8 +17,9 @@ use crate::acting::act_and_save;
 use crate::telling::tell;
 use crate::work::Work;
 use bp_io::{Failed, Files, Sink, Source};
-use bp_limits::{MAX_INPUT, MAX_LINE};
+use bp_limits::MAX_INPUT;
 use bp_volume::Volume;
+use memchr::memchr;
 use pm_region::Region;
 use std::alloc::Global;
 
@@ -49,33 +51,48 @@ pub fn serve_line<R: Region, K: Sink, F: Files>(
     }
 }
 
-// Goes on by a byte of the input.
-fn take_byte<R: Region, K: Sink, F: Files>(
+// Serves the line that a newline ends, and begins the next.
+fn end_line<R: Region, K: Sink, F: Files>(
     alloc: Global,
     volume: &mut Volume<R>,
     work: &mut Work,
-    byte: u8,
     out: &mut K,
     files: &mut F,
 ) -> u8
     requires { IsReady volume.old.base (F.view files.old) }
-    ensures outcome { PieceOutcome result (held_line work.old) (byte ∷ []) (held_line work.new)
+    ensures outcome { PieceOutcome result (held_line work.old) (10 ∷ []) (held_line work.new)
         (moment volume.old (F.view files.old) (K.taken out.old) (K.faults out.old))
         (moment volume.new (F.view files.new) (K.taken out.new) (K.faults out.new)) }
     ensures piece { read_piece work.new ≡ read_piece work.old }
 {
-    if byte == b'\n' {
-        let status = serve_line(alloc, volume, work, out, files);
-        work.buffers.line.clear();
-        return status;
+    let status = serve_line(alloc, volume, work, out, files);
+    work.buffers.line.clear();
+    status
+}
+
+// Goes on by bytes of the piece that have no newline.
+fn take_run(work: &mut Work, from: usize, to: usize)
+    requires order { from ≤ to }
+    requires inside { to ≤ piece_size }
+    requires quiet { Nowhere (Passes (is_byte 10) (read_piece work.old)) from to }
+    ensures same { (rest : List ℕ) → commands_from (held_line work.old) (slice_range (read_piece work.old) from to ++ rest)
+        ≡ commands_from (held_line work.new) rest }
+    ensures piece { read_piece work.new ≡ read_piece work.old }
+{
+    let Work { buffers, piece } = work;
+    buffers.add(&piece[from..to]);
+}
+
+// Where the first newline stands from one place of the bytes up to another.
+fn newline_in(bytes: &[u8], from: usize, to: usize) -> Option<usize>
+    requires order { from ≤ to }
+    requires inside { to ≤ length bytes.now }
+    ensures { IsFirst (Passes (is_byte 10) bytes.now) from to result }
+{
+    match memchr(b'\n', &bytes[from..to]) {
+        Some(i) => Some(from + i),
+        None => None,
     }
-    if work.buffers.line.len() <= MAX_LINE {
-        match work.buffers.line.push(byte) {
-            Ok(()) => {}
-            Err(_) => unreachable!(),
-        }
-    }
-    0
 }
 
 // Goes on by the first bytes of the piece that was read.
@@ -93,13 +110,16 @@ fn take_piece<R: Region, K: Sink, F: Files>(
         (moment volume.old (F.view files.old) (K.taken out.old) (K.faults out.old))
         (moment volume.new (F.view files.new) (K.taken out.new) (K.faults out.new)) }
 {
-    for i in 0..count {
-        let byte = work.piece[i];
-        let status = take_byte(alloc, volume, work, byte, out, files);
+    let mut at: usize = 0;
+    while let Some(end) = newline_in(&work.piece, at, count) {
+        take_run(work, at, end);
+        let status = end_line(alloc, volume, work, out, files);
         if status != 0 {
             return status;
         }
+        at = end + 1;
     }
+    take_run(work, at, count);
     0
 }
 

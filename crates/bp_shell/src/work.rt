@@ -28,7 +28,7 @@ pub struct LineBuffers {
 
 impl LineBuffers {
     ghost use Rattle.bp_shell.specs.Work.{answer_in, line_in, line_of};
-    ghost use Rattle.std.specs.Prelude.{take, option_map};
+    ghost use Rattle.std.specs.Prelude.{◌++◌, take, option_map};
 
     /// Room for lines of 140,000 bytes, with the empty line in it. It fails for want of memory alone.
     pub fn new(alloc: Global) -> Result<Self, AllocError>
@@ -46,8 +46,15 @@ impl LineBuffers {
     pub fn set_line(&mut self, bytes: &[u8])
         ensures { line_in self.new ≡ take (max_line + 1) bytes.now }
     {
-        let kept = bytes.len().min(MAX_LINE + 1);
         self.line.clear();
+        self.add(bytes);
+    }
+
+    /// Adds bytes to the line. Of one above the limit only that it is too long is kept.
+    pub(crate) fn add(&mut self, bytes: &[u8])
+        ensures { line_in self.new ≡ take (max_line + 1) (line_in self.old ++ bytes.now) }
+    {
+        let kept = bytes.len().min(MAX_LINE + 1 - self.line.len());
         match self.line.extend_from_slice(&bytes[..kept]) {
             Ok(()) => {}
             Err(_) => unreachable!(),

@@ -1,6 +1,6 @@
 -- A file between its old bytes and an image.
-use Rattle.std.proofs.Common.{zero, suc, refl, sym, ◌∙◌, ap, true, arith, ◌≡◌, ℕ, ◌+◌, ◌*◌, ◌-◌, ◌<◌, ◌≤◌, List, [], ◌∷◌, ◌++◌, length, take, drop, replicate, inl, inr, length-append, length-take}
-use Rattle.std.specs.Prelude.{Option, Some, None, Result, Ok, Err, OnOk, OnErr, ◌⊎◌}
+use Rattle.std.proofs.Common.{zero, suc, refl, sym, ◌∙◌, ap, true, true≢false, arith, ◌≡◌, ℕ, ◌+◌, ◌*◌, ◌-◌, ◌<◌, ◌≤◌, List, [], ◌∷◌, ◌++◌, length, take, drop, replicate, inl, inr, length-append, length-take}
+use Rattle.std.specs.Prelude.{Option, Some, None, is_some, Result, Ok, Err, OnOk, OnErr, ◌⊎◌}
 use Rattle.std.specs.Io.KnownBytes.{Appends}
 use Rattle.std.proofs.Math.Seq.{take-length}
 use Rattle.std.proofs.lemmas.List.{length-replicate}
@@ -85,7 +85,7 @@ all_filled old wanted blocks size = record {
 
 -- an attach failed
 pub partly_attached : (old now : Known) (wanted : List ℕ) → Becomes (λ bytes. bytes) old now → StaysOrIsMade true old now → HasPartly old wanted now
-partly_attached None now wanted stays made = tt
+partly_attached None now wanted stays made = stays
 partly_attached (Some None) now wanted stays made = elim made [
   | inl e ↦ rw e refl
   | inr e ↦ rw e.1 (as_before [] wanted)
@@ -94,7 +94,7 @@ partly_attached (Some (Some bytes)) now wanted stays made = rw stays (as_before 
 
 -- a change of the length failed
 pub partly_sized : (old middle now : Known) (n blocks : ℕ) (wanted : List ℕ) → length wanted ≡ 4096 * blocks → Attaches old (Some n) middle → Stays middle now ⊎ Becomes (resized (4096 * blocks)) middle now → HasPartly old wanted now
-partly_sized None middle now n blocks wanted size attaches sizes = tt
+partly_sized None middle now n blocks wanted size attaches sizes = elim (rw attaches at sizes) [ inl e ↦ e | inr e ↦ e ]
 partly_sized (Some None) middle now n blocks wanted size attaches sizes = elim (rw attaches at sizes) [
   | inl e ↦ rw e (as_before [] wanted)
   | inr e ↦ rw e (all_filled [] wanted blocks size)
@@ -110,6 +110,7 @@ pub record Sized (old sized : Known) (blocks : ℕ) : Type 0 where
   pub long : length was ≡ 4096 * blocks
   pub has : HasBytes sized was
   pub from : (o : Option (List ℕ)) → old ≡ Some o → was ≡ resized (4096 * blocks) (bytes_of o)
+  pub told : is_some sized ≡ is_some old
 
 pub is_sized : (old middle sized : Known) (n blocks : ℕ) → Attaches old (Some n) middle → Becomes (resized (4096 * blocks)) middle sized → Sized old sized blocks
 is_sized None middle sized n blocks attaches sizes = record {
@@ -117,26 +118,30 @@ is_sized None middle sized n blocks attaches sizes = record {
   long = length-replicate {A = ℕ} (4096 * blocks) 0;
   has = let now = rw attaches at sizes in rw now tt;
   from = λ o e. absurd (let never : ◌≡◌ {A = Known} None (Some o) = e in cc);
+  told = let now = rw attaches at sizes in rw now refl;
 }
 is_sized (Some None) middle sized n blocks attaches sizes = record {
   was = resized (4096 * blocks) [];
   long = length-resized (4096 * blocks) [];
   has = let now = rw attaches at sizes in rw now refl;
   from = λ o e. let same : None ≡ o = cc in rw (← same) refl;
+  told = let now = rw attaches at sizes in rw now refl;
 }
 is_sized (Some (Some bytes)) middle sized n blocks attaches sizes = record {
   was = resized (4096 * blocks) bytes;
   long = length-resized (4096 * blocks) bytes;
   has = let now = rw attaches at sizes in rw now refl;
   from = λ o e. let same : Some bytes ≡ o = cc in rw (← same) refl;
+  told = let now = rw attaches at sizes in rw now refl;
 }
 
 -- a save failed
-pub partly_mixed : (old now : Known) (was wanted : List ℕ) (blocks : ℕ) → length was ≡ 4096 * blocks → ((o : Option (List ℕ)) → old ≡ Some o → was ≡ resized (4096 * blocks) (bytes_of o)) → HasBlocksOf now was wanted → length wanted ≡ 4096 * blocks → HasPartly old wanted now
-partly_mixed None now was wanted blocks long from mixed size = tt
-partly_mixed (Some o) None was wanted blocks long from mixed size = tt
-partly_mixed (Some o) (Some None) was wanted blocks long from mixed size = absurd mixed
-partly_mixed (Some o) (Some (Some found)) was wanted blocks long from mixed size = record {
+pub partly_mixed : (old now : Known) (was wanted : List ℕ) (blocks : ℕ) → length was ≡ 4096 * blocks → ((o : Option (List ℕ)) → old ≡ Some o → was ≡ resized (4096 * blocks) (bytes_of o)) → is_some now ≡ is_some old → HasBlocksOf now was wanted → length wanted ≡ 4096 * blocks → HasPartly old wanted now
+partly_mixed None None was wanted blocks long from told mixed size = refl
+partly_mixed None (Some now) was wanted blocks long from told mixed size = absurd (true≢false told)
+partly_mixed (Some o) None was wanted blocks long from told mixed size = absurd (true≢false (sym told))
+partly_mixed (Some o) (Some None) was wanted blocks long from told mixed size = absurd mixed
+partly_mixed (Some o) (Some (Some found)) was wanted blocks long from told mixed size = record {
   size = inr (omega (arith, mixed.size, long, size));
   blocks = λ i low. elim (mixed.blocks i low) [
     | inl e ↦ inr (inl (e ∙ ap (λ l. block_of l i) (from o refl) ∙ block_filled (bytes_of o) i blocks (omega (arith, long, mixed.size))))

@@ -1,6 +1,6 @@
 -- A file between two images, while it is saved block by block.
 use Rattle.std.proofs.Common.{zero, suc, refl, sym, ◌∙◌, ap, arith, ◌≡◌, ℕ, ◌+◌, ◌*◌, ◌-◌, ◌≤◌, List, [], ◌∷◌, ◌++◌, length, take, drop, Bool, true, false, inl, inr}
-use Rattle.std.specs.Prelude.{◌⊎◌, nat_lt, Some, None}
+use Rattle.std.specs.Prelude.{◌⊎◌, nat_lt, Some, None, is_some}
 use Rattle.std.proofs.lemmas.Bool.{ltb-true, ltb-false}
 use Rattle.std.specs.Prelude.{Result, Ok, Err, OnOk, OnErr}
 use Rattle.bp_layout.specs.Bytes.{image_bytes}
@@ -89,6 +89,16 @@ pub mixed_known : (known : Known) (first second : List ℕ) (i : ℕ) → 4096 *
 mixed_known None first second i low same has = tt
 mixed_known (Some None) first second i low same has = absurd has
 mixed_known (Some (Some found)) first second i low same has = rw has (saved_mixed first second i low same)
+
+-- what is told stays told
+pub stays_told : (known new : Known) → Stays known new → is_some new ≡ is_some known
+stays_told None new stays = rw stays refl
+stays_told (Some known) new stays = rw stays refl
+
+pub becomes_told : (known new : Known) (f : List ℕ → List ℕ) (bytes : List ℕ) → HasBytes known bytes → Becomes f known new → is_some new ≡ is_some known
+becomes_told None new f bytes has becomes = rw becomes refl
+becomes_told (Some None) new f bytes has becomes = absurd has
+becomes_told (Some (Some found)) new f bytes has becomes = rw becomes refl
 
 -- all blocks are of the second list
 pub all_mixed : (known : Known) (first second : List ℕ) → length first ≡ length second → HasBytes known second → HasBlocksOf known first second

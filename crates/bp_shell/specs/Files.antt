@@ -1,5 +1,5 @@
 -- Which words a file holds.
-use Rattle.std.specs.Prelude.{◌≡◌, ◌⊎◌, ℕ, List, None, Some, ⊤, true, length, take, drop, ◌++◌, ◌*◌, ◌<◌, ◌^◌}
+use Rattle.std.specs.Prelude.{◌≡◌, ◌⊎◌, ℕ, List, None, Some, ⊤, true, is_some, length, take, drop, ◌++◌, ◌*◌, ◌<◌, ◌^◌}
 use Rattle.bp_limits.specs.Limits.{block_size, block_words}
 use Rattle.bp_io.specs.Files.{Known, Tells, View, block_of}
 use Rattle.bp_layout.specs.Words.{Image, word}
@@ -47,6 +47,10 @@ pub record HoldsBytes (files : View) (name bytes : List ℕ) : Type 0 where
   pub attached : files.is_attached name ≡ true
   pub size : length bytes ≡ block_size * files.blocks
   pub has : HasBytes (files.contents name) bytes
+
+-- Where its bytes are told they stay told, and where they are not they stay untold.
+abbrev pub StaysTold : View → View → Type 0
+StaysTold old new = (name was : List ℕ) → HoldsBytes old name was → is_some (new.contents name) ≡ is_some (old.contents name)
 
 -- The file of this name is attached, has these blocks and holds these words.
 pub record Holds (files : View) (name : List ℕ) (image : Image) : Type 0 where

@@ -1,5 +1,5 @@
 -- What a format makes of a file.
-use Rattle.std.specs.Prelude.{◌≡◌, ◌⊎◌, ⊤, ℕ, ◌*◌, ◌<◌, List, [], length, replicate, Option, None, Some}
+use Rattle.std.specs.Prelude.{◌≡◌, ◌⊎◌, ℕ, ◌*◌, ◌<◌, List, [], length, replicate, Option, None, Some}
 use Rattle.bp_limits.specs.Limits.{block_size, block_words}
 use Rattle.bp_io.specs.Files.{Known, block_of, resized}
 use Rattle.bp_layout.specs.Words.{Image}
@@ -21,9 +21,9 @@ abbrev pub bytes_of : Option (List ℕ) → List ℕ
 bytes_of None = []
 bytes_of (Some bytes) = bytes
 
--- The same of a file, where it is told. One that is missing at first may still be, or was made.
+-- The same of a file, where it is told: it is so before and after, or neither. One that is missing at first may still be, or was made.
 abbrev pub HasPartly : Known → List ℕ → Known → Type 0
-HasPartly None wanted now = ⊤
-HasPartly (Some was) wanted None = ⊤
+HasPartly None wanted now = now ≡ None
+HasPartly (Some was) wanted None = ⊥
 HasPartly (Some was) wanted (Some None) = was ≡ None
 HasPartly (Some was) wanted (Some (Some found)) = IsPartly (bytes_of was) wanted found

@@ -4,7 +4,7 @@ ghost use Rattle.std.specs.Prelude.{◌≡◌, List, ℕ, OnOk, OnErr, true};
 ghost use Rattle.bp_io.specs.Causes.{HasCause};
 ghost use Rattle.bp_io.specs.Files.{KeepsFiles, StaysAttached};
 ghost use Rattle.bp_layout.specs.Bytes.{image_bytes};
-ghost use Rattle.bp_shell.specs.Files.{HoldsBytes, HasBlocksOf, IsReady};
+ghost use Rattle.bp_shell.specs.Files.{HoldsBytes, HasBlocksOf, IsReady, StaysTold};
 ghost use Rattle.pm_region.specs.Memory.{current_words};
 
 use crate::blocks::read_block;
@@ -19,6 +19,7 @@ fn write_blocks<R: Region, F: Files>(region: &R, files: &mut F) -> Result<(), Fa
         HoldsBytes (F.view files.new) name (image_bytes (current_words (R.memory region.now)))) }
     ensures partly { OnErr result ((name was : List ℕ) → HoldsBytes (F.view files.old) name was →
         HasBlocksOf ((F.view files.new).contents name) was (image_bytes (current_words (R.memory region.now)))) }
+    ensures told { StaysTold (F.view files.old) (F.view files.new) }
     ensures attached { StaysAttached (F.view files.old) (F.view files.new) }
     ensures cause { HasCause (F.view files.old).faults (F.view files.new).faults result }
 {
@@ -51,6 +52,7 @@ pub fn save<R: Region, F: Files>(region: &R, files: &mut F) -> Result<(), Failed
     ensures partly { OnErr result ((name was : List ℕ) → HoldsBytes (F.view files.old) name was →
         HasBlocksOf ((F.view files.new).contents name) was (image_bytes (current_words (R.memory region.now)))) }
     ensures flushed { OnOk result ((F.view files.new).is_flushed ≡ true) }
+    ensures told { StaysTold (F.view files.old) (F.view files.new) }
     ensures attached { StaysAttached (F.view files.old) (F.view files.new) }
     ensures cause { HasCause (F.view files.old).faults (F.view files.new).faults result }
 {

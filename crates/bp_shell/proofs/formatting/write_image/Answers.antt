@@ -1,6 +1,7 @@
 use Rattle.std.proofs.Common.{arith, ◌∙◌, ◌≡◌, ◌*◌, length, inl, inr}
 use Rattle.pm_region.specs.Memory.{current_words}
 use Rattle.bp_layout.specs.Bytes.{image_bytes}
+use Rattle.bp_shell.specs.Files.{HoldsBytes}
 use Rattle.bp_shell.proofs.BlockLaws.{length-image_bytes}
 use Rattle.bp_shell.proofs.FormattingLaws.{partly_attached, partly_sized, is_sized, partly_mixed}
 use Rattle.bp_shell.proofs.SavingLaws.{size-current}
@@ -46,9 +47,9 @@ returns-in-Err-save-clause-partly g c =
     let words = current_words (g.R.Region.memory c.args.region.now) in
     let long : length (image_bytes words) ≡ 4096 * c.args.blocks = omega (arith, length-image_bytes words, size-current (g.R.Region.memory c.args.region.now), c.requires.size) in
     let s = is_sized _ _ _ _ c.args.blocks contents (c.in-Ok.ensures.resized.bytes c.args.name.now is.attached) in
-    partly_mixed _ _ s.was _ c.args.blocks s.long s.from
-    (c.in-Err-save.ensures.partly c.args.name.now s.was (record {
+    let holds : HoldsBytes (g.F.Files.view c.set_blocks.new.self) c.args.name.now s.was = record {
       attached = c.set_blocks.ensures.attached c.args.name.now ∙ is.attached;
       size = omega (arith, s.long, c.in-Ok.ensures.resized.blocks);
       has = s.has;
-    })) long
+    } in
+    partly_mixed _ _ s.was _ c.args.blocks s.long s.from (c.save.ensures.told c.args.name.now s.was holds ∙ s.told) (c.in-Err-save.ensures.partly c.args.name.now s.was holds) long

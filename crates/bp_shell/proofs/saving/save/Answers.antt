@@ -1,5 +1,5 @@
 use Rattle.std.proofs.Common.{◌∙◌, sym}
-use Rattle.bp_shell.proofs.SavingLaws.{all_mixed, are_sizes, on_err, on_ok, stays_attached, stays_known}
+use Rattle.bp_shell.proofs.SavingLaws.{all_mixed, are_sizes, on_err, on_ok, stays_attached, stays_known, stays_told}
 use Rattle.bp_shell.proofs.saving.save.Goals as goal
 
 pub flush-requires : goal.flush-requires
@@ -24,3 +24,6 @@ pub returns-in-Ok-clause-partly : goal.returns-in-Ok-clause-partly
 returns-in-Ok-clause-partly g c = on_err c.flush.result (λ name was file.
     let sizes = are_sizes was (g.R.Region.memory c.args.region.now) (g.F.Files.view c.args.files.now).blocks file.size c.requires.size in
     all_mixed _ was _ sizes.same (stays_known _ _ _ (c.in-Ok.ensures.saved name was file).has (c.flush.ensures.contents name)))
+
+pub returns-in-Ok-clause-told : goal.returns-in-Ok-clause-told
+returns-in-Ok-clause-told g c = λ name was file. stays_told _ _ (c.flush.ensures.contents name) ∙ c.write_blocks.ensures.told name was file

@@ -27,7 +27,7 @@ struct Comparison<'a> {
 }
 
 /// Writes whether the replies to a script are those of the plain program, or else the first line at which they differ. A line for
-/// which the volume lacks blocks is told, and the plain program does not do it either.
+/// which the volume lacks blocks or memory is told, and the plain program does not do it either.
 pub fn compare(
     alloc: Global,
     script: &str,
@@ -65,7 +65,7 @@ impl<'a> Comparison<'a> {
         let (reply, rest) = first_line(self.replies);
         if is_own(reply) {
             self.replies = rest;
-            report.push_str("  no space: ")?;
+            write!(report, "  {reply}: ")?;
             put_short(report, line)?;
             return Ok(true);
         }

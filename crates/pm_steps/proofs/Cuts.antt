@@ -1,0 +1,152 @@
+-- The cut at which a machine stands keeps the stores that are back.
+use Rattle.std.proofs.Common.{◌≡◌, ℕ, zero, suc, ◌<◌, ◌≤◌, inl, inr, Bool, true, false, Some, List, [], ◌∷◌, length, take, refl, sym, ◌∙◌, ap, arith}
+use Rattle.std.specs.List.{slice_get, items_where_true}
+use Rattle.pm_epochs.specs.declared.event.Event.{Event}
+use Rattle.pm_epochs.specs.declared.event.Event.TheVariants.{Store, Barrier, Mark}
+use Rattle.pm_epochs.specs.Log.{words_after, barriers, epoch_stores}
+use Rattle.pm_epochs.specs.Replay.{IsRight, stores_of, kept_stores, marks_of, replay, kept_calls, after_calls, epoch_of}
+use Rattle.pm_epochs.proofs.Cuts.{stores_of_none, kept_stores_right}
+use Rattle.pm_epochs.specs.Crash.{Likeness, CrashRight}
+use Rattle.pm_steps.specs.Machine.{State, Step, start, Runs, is_some_store, ComesFirst, IsInOrder, open_epoch, epoch_flags, waiting_marks, cut_of}
+use Rattle.pm_steps.proofs.Order.{store_is, IsReached, reached}
+
+-- ## The order of the events behind one
+
+barriers_behind : (event : Event) (events : List Event) (earlier later : ℕ) → epoch_of events earlier < epoch_of events later → epoch_of (event ∷ events) (suc earlier) < epoch_of (event ∷ events) (suc later)
+barriers_behind (Store word value) events earlier later less = less
+barriers_behind Barrier events earlier later less = omega arith
+barriers_behind Mark events earlier later less = less
+
+ComesFirst-behind : (event : Event) (events : List Event) (earlier later : ℕ) → ComesFirst events earlier later → ComesFirst (event ∷ events) (suc earlier) (suc later)
+ComesFirst-behind event events earlier later comes = record {
+  before = omega (arith, comes.before);
+  first_word = comes.first_word;
+  first_value = comes.first_value;
+  word = comes.word;
+  value = comes.value;
+  first_is = comes.first_is;
+  second_is = comes.second_is;
+  must = elim comes.must [ inl less ↦ inl (barriers_behind event events earlier later less) | inr same ↦ inr same ];
+}
+
+IsInOrder-tail : (event : Event) (events : List Event) (flag : Bool) (back : List Bool) → IsInOrder (event ∷ events) (flag ∷ back) → IsInOrder events back
+IsInOrder-tail event events flag back order = record {
+  few = omega (arith, order.few);
+  stores = λ i is. order.stores (suc i) is;
+  first = λ earlier later is comes. order.first (suc earlier) (suc later) is (ComesFirst-behind event events earlier later comes);
+}
+
+-- ## The first epoch
+
+-- what is back is a store before the first barrier
+record IsFirstEpoch (events : List Event) (back : List Bool) : Type 0 where
+  stores : (i : ℕ) → slice_get back i ≡ Some true → is_some_store (slice_get events i) ≡ true
+  early : (i : ℕ) → slice_get back i ≡ Some true → epoch_of events i ≡ 0
+
+none_back : (back : List Bool) (events : List Event) → ((i : ℕ) → slice_get back i ≡ Some true → ⊥) → items_where_true back events ≡ []
+none_back [] events none = refl
+none_back (flag ∷ back) [] none = refl
+none_back (true ∷ back) (event ∷ events) none = absurd (none 0 refl)
+none_back (false ∷ back) (event ∷ events) none = none_back back events (λ i is. none (suc i) is)
+
+first_epoch : (events : List Event) (back : List Bool) → IsFirstEpoch events back → stores_of 0 (epoch_flags 0 events back) events ≡ items_where_true back events
+first_epoch [] [] first = refl
+first_epoch [] (flag ∷ back) first = refl
+first_epoch (event ∷ events) [] first = stores_of_none (event ∷ events)
+first_epoch (Store word value ∷ events) (true ∷ back) first = ap (λ es. Store word value ∷ es) (first_epoch events back (record { stores = λ i is. first.stores (suc i) is; early = λ i is. first.early (suc i) is }))
+first_epoch (Store word value ∷ events) (false ∷ back) first = first_epoch events back (record { stores = λ i is. first.stores (suc i) is; early = λ i is. first.early (suc i) is })
+first_epoch (Barrier ∷ events) (true ∷ back) first = let is = first.stores 0 refl in cc
+first_epoch (Barrier ∷ events) (false ∷ back) first = sym (none_back back events (λ i is. absurd (omega (arith, first.early (suc i) is))))
+first_epoch (Mark ∷ events) (true ∷ back) first = let is = first.stores 0 refl in cc
+first_epoch (Mark ∷ events) (false ∷ back) first = first_epoch events back (record { stores = λ i is. first.stores (suc i) is; early = λ i is. first.early (suc i) is })
+
+-- behind a store that waits, what is back is of its epoch
+behind_waiting : (word value : ℕ) (events : List Event) (back : List Bool) → IsInOrder (Store word value ∷ events) (false ∷ back) → IsFirstEpoch events back
+behind_waiting word value events back order = record {
+  stores = λ i is. order.stores (suc i) is;
+  early = λ i is. early i is (epoch_of events i) refl;
+}
+  where
+    early : (i : ℕ) → slice_get back i ≡ Some true → (epoch : ℕ) → epoch ≡ epoch_of events i → epoch_of events i ≡ 0
+    early i is zero e = sym e
+    early i is (suc epoch) e =
+        let store = store_is (slice_get events i) (order.stores (suc i) is) in
+        let came : Some false ≡ Some true = order.first 0 (suc i) is (record { before = omega arith; first_word = word; first_value = value; word = store.0; value = store.1; first_is = refl; second_is = store.2; must = inl (omega (arith, e)) }) in
+        cc
+
+-- ## The cut
+
+kept_first : (word value epoch : ℕ) (events : List Event) (back : List Bool) (kept : List Event) → stores_of epoch (epoch_flags epoch events back) events ≡ kept → stores_of epoch (epoch_flags epoch (Store word value ∷ events) (true ∷ back)) (Store word value ∷ events) ≡ Store word value ∷ kept
+kept_first word value zero events back kept is = ap (λ es. Store word value ∷ es) is
+kept_first word value (suc epoch) events back kept is = ap (λ es. Store word value ∷ es) is
+
+pub stores_of_open : (events : List Event) (back : List Bool) → IsInOrder events back → stores_of (open_epoch events back) (epoch_flags (open_epoch events back) events back) events ≡ items_where_true back events
+stores_of_open [] [] order = refl
+stores_of_open [] (flag ∷ back) order = refl
+stores_of_open (event ∷ events) [] order = stores_of_none (event ∷ events)
+stores_of_open (Store word value ∷ events) (true ∷ back) order = kept_first word value (open_epoch events back) events back (items_where_true back events) (stores_of_open events back (IsInOrder-tail (Store word value) events true back order))
+stores_of_open (Store word value ∷ events) (false ∷ back) order = first_epoch events back (behind_waiting word value events back order)
+stores_of_open (Barrier ∷ events) (true ∷ back) order = let is = order.stores 0 refl in cc
+stores_of_open (Barrier ∷ events) (false ∷ back) order = stores_of_open events back (IsInOrder-tail Barrier events false back order)
+stores_of_open (Mark ∷ events) (true ∷ back) order = let is = order.stores 0 refl in cc
+stores_of_open (Mark ∷ events) (false ∷ back) order = stores_of_open events back (IsInOrder-tail Mark events false back order)
+
+open_epoch-le : (events : List Event) (back : List Bool) → open_epoch events back ≤ barriers (take (length back) events)
+open_epoch-le [] back = omega arith
+open_epoch-le (event ∷ events) [] = omega arith
+open_epoch-le (Store word value ∷ events) (true ∷ back) = open_epoch-le events back
+open_epoch-le (Store word value ∷ events) (false ∷ back) = omega arith
+open_epoch-le (Barrier ∷ events) (flag ∷ back) = let low = open_epoch-le events back in omega arith
+open_epoch-le (Mark ∷ events) (flag ∷ back) = open_epoch-le events back
+
+length-epoch_flags : (epoch : ℕ) (events : List Event) (back : List Bool) → length (epoch_flags epoch events back) ≤ epoch_stores epoch (take (length back) events)
+length-epoch_flags epoch [] back = omega arith
+length-epoch_flags epoch (event ∷ events) [] = omega arith
+length-epoch_flags zero (Store word value ∷ events) (flag ∷ back) = let low = length-epoch_flags zero events back in omega arith
+length-epoch_flags (suc epoch) (Store word value ∷ events) (flag ∷ back) = length-epoch_flags (suc epoch) events back
+length-epoch_flags zero (Barrier ∷ events) (flag ∷ back) = omega arith
+length-epoch_flags (suc epoch) (Barrier ∷ events) (flag ∷ back) = length-epoch_flags epoch events back
+length-epoch_flags epoch (Mark ∷ events) (flag ∷ back) = length-epoch_flags epoch events back
+
+pub right_open : (events : List Event) (back : List Bool) → IsInOrder events back → IsRight events (cut_of events back)
+right_open events back order = record {
+  moment = order.few;
+  epoch = open_epoch-le events back;
+  mask = length-epoch_flags (open_epoch events back) events back;
+}
+
+pub kept_stores_open : (events : List Event) (back : List Bool) → IsInOrder events back → kept_stores events (cut_of events back) ≡ items_where_true back events
+kept_stores_open events back order = kept_stores_right events (cut_of events back) (right_open events back order) ∙ stores_of_open events back order
+
+-- after any steps the memory is a replay
+pub run_right : (base : List ℕ) (events : List Event) (state : State) → IsReached base events state → IsRight events (cut_of events state.back)
+run_right base events state found = right_open events state.back found.order
+
+pub run_replay : (base : List ℕ) (events : List Event) (state : State) → IsReached base events state → state.words ≡ replay base events (cut_of events state.back)
+run_replay base events state found = found.words ∙ ap (words_after base) (sym (kept_stores_open events state.back found.order))
+
+-- ## The calls
+
+waiting_marks-none : (events : List Event) → waiting_marks events [] ≡ marks_of 0 [] events
+waiting_marks-none [] = refl
+waiting_marks-none (Store word value ∷ events) = refl
+waiting_marks-none (Barrier ∷ events) = waiting_marks-none events
+waiting_marks-none (Mark ∷ events) = ap suc (waiting_marks-none events)
+
+marks_first : (word value epoch : ℕ) (events : List Event) (back : List Bool) → marks_of epoch (epoch_flags epoch (Store word value ∷ events) (true ∷ back)) (Store word value ∷ events) ≡ marks_of epoch (epoch_flags epoch events back) events
+marks_first word value zero events back = refl
+marks_first word value (suc epoch) events back = refl
+
+pub marks_of_open : (events : List Event) (back : List Bool) → marks_of (open_epoch events back) (epoch_flags (open_epoch events back) events back) events ≡ waiting_marks events back
+marks_of_open [] back = refl
+marks_of_open (event ∷ events) [] = sym (waiting_marks-none (event ∷ events))
+marks_of_open (Store word value ∷ events) (true ∷ back) = marks_first word value (open_epoch events back) events back ∙ marks_of_open events back
+marks_of_open (Store word value ∷ events) (false ∷ back) = refl
+marks_of_open (Barrier ∷ events) (flag ∷ back) = marks_of_open events back
+marks_of_open (Mark ∷ events) (flag ∷ back) = ap suc (marks_of_open events back)
+
+-- over a log that is right, the memory is like what the kept calls had made
+pub run_right_log : (Same : Likeness) (base : List ℕ) (events : List Event) (steps : List Step) (state : State) → CrashRight Same base events → Runs events (start base) steps state → Same state.words (after_calls base events (kept_calls events (cut_of events state.back)))
+run_right_log Same base events steps state right runs =
+    let found = reached base events steps state runs in
+    rw (run_replay base events state found) (right.each (cut_of events state.back) (run_right base events state found))

@@ -1,0 +1,308 @@
+-- Each right cut is reached: the stores that it keeps are written back in the order of the log, and with each of
+-- them those of its word before it.
+use Rattle.std.proofs.Common.{◌≡◌, ◌≢◌, ℕ, zero, suc, ◌+◌, ◌<◌, ◌≤◌, inl, inr, Bool, true, false, Some, List, [], ◌∷◌, ◌++◌, length, set, replicate, refl, sym, ◌∙◌, ap, subst, arith, eqb, cond, eq-eqb}
+use Rattle.std.specs.List.{slice_get, items_where_true}
+use Rattle.std.proofs.lemmas.List.{append_assoc, length-replicate, replicate-append-replicate, set_comm, set-set}
+use Rattle.std.proofs.lemmas.Bool.{cases_eq, ne_eqb}
+use Rattle.pm_epochs.specs.declared.event.Event.{Event}
+use Rattle.pm_epochs.specs.declared.event.Event.TheVariants.{Store, Barrier, Mark}
+use Rattle.pm_epochs.specs.Log.{words_after}
+use Rattle.pm_epochs.specs.Replay.{Cut, IsRight, stores_of, replay, epoch_of}
+use Rattle.pm_epochs.proofs.Cuts.{kept_stores_right}
+use Rattle.pm_steps.specs.Machine.{State, start, Step, is_some_store, ComesFirst, IsInOrder, IsReady, written, state_after, Runs}
+use Rattle.pm_steps.specs.Machine.Step.{Execute, WriteBack}
+use Rattle.pm_steps.proofs.Order.{store_is, reached}
+
+-- ## Runs in a row
+
+runs_on : (events : List Event) (old : State) (first : List Step) (middle : State) (rest : List Step) (new : State) → Runs events old first middle → Runs events middle rest new → Runs events old (first ++ rest) new
+runs_on events old [] middle rest new runs more = rw runs more
+runs_on events old (step ∷ first) middle rest new runs more = (runs.0, runs_on events (state_after events old step) first middle rest new runs.1 more)
+
+-- some steps, and the state that they lead to
+record Reaches (events : List Event) (old : State) (back : List Bool) : Type 0 where
+  steps : List Step
+  new : State
+  runs : Runs events old steps new
+  back_is : new.back ≡ back
+
+-- ## The processor does its events
+
+push_replicate : (n : ℕ) → replicate n false ++ false ∷ [] ≡ replicate (suc n) false
+push_replicate n =
+    let more : n + 1 ≡ suc n = omega arith in
+    replicate-append-replicate n 1 false ∙ ap (λ k. replicate k false) more
+
+taken : (base : List ℕ) (events : List Event) (n : ℕ) → n ≤ length events → Reaches events (start base) (replicate n false)
+taken base events zero low = record { steps = []; new = start base; runs = refl; back_is = refl }
+taken base events (suc n) low =
+    let before = taken base events n (omega arith) in
+    let count : length before.new.back ≡ n = ap length before.back_is ∙ length-replicate n false in
+    record {
+      steps = before.steps ++ Execute ∷ [];
+      new = state_after events before.new Execute;
+      runs = runs_on events (start base) before.steps before.new (Execute ∷ []) (state_after events before.new Execute) before.runs (omega (arith, count), refl);
+      back_is = ap (λ bs. bs ++ false ∷ []) before.back_is ∙ push_replicate n;
+    }
+
+-- ## The stores of a list of flags go back in the order of the log
+
+get_front : (front rest : List Bool) (flag : Bool) → slice_get (front ++ flag ∷ rest) (length front) ≡ Some flag
+get_front [] rest flag = refl
+get_front (x ∷ front) rest flag = get_front front rest flag
+
+get_before : (front first second : List Bool) (i : ℕ) (b : Bool) → i < length front → slice_get (front ++ first) i ≡ Some b → slice_get (front ++ second) i ≡ Some b
+get_before [] first second i b low is = absurd (omega arith)
+get_before (x ∷ front) first second zero b low is = is
+get_before (x ∷ front) first second (suc i) b low is = get_before front first second i b (omega arith) is
+
+set_front : (front rest : List Bool) (flag new : Bool) → set (front ++ flag ∷ rest) (length front) new ≡ front ++ new ∷ rest
+set_front [] rest flag new = refl
+set_front (x ∷ front) rest flag new = ap (λ bs. x ∷ bs) (set_front front rest flag new)
+
+runs_written : (events : List Event) (old : State) (which word value : ℕ) → slice_get events which ≡ Some (Store word value) → (steps : List Step) (new : State) → Runs events (record { back = set old.back which true; words = set old.words word value }) steps new → Runs events (written old which (slice_get events which)) steps new
+runs_written events old which word value store steps new runs = rw store runs
+
+-- from a state in which the front is as it is to be and nothing behind it is back
+written_back : (events : List Event) (front rest : List Bool) (old : State) → IsInOrder events (front ++ rest) → old.back ≡ front ++ replicate (length rest) false → Reaches events old (front ++ rest)
+written_back events front [] old order back_is = record { steps = []; new = old; runs = refl; back_is = back_is }
+written_back events front (false ∷ rest) old order back_is =
+    let parts = append_assoc front (false ∷ []) rest in
+    let more = written_back events (front ++ false ∷ []) rest old (rw parts order) (rw append_assoc back_is) in
+    record { steps = more.steps; new = more.new; runs = more.runs; back_is = more.back_is ∙ parts }
+written_back events front (true ∷ rest) old order back_is =
+    let parts = append_assoc front (true ∷ []) rest in
+    let store = store_is (slice_get events (length front)) (order.stores (length front) (get_front front rest true)) in
+    let next : State = record { back = set old.back (length front) true; words = set old.words store.0 store.1 } in
+    let ready : IsReady events old.back (length front) = record {
+      word = store.0;
+      value = store.1;
+      store = store.2;
+      waits = ap (λ bs. slice_get bs (length front)) back_is ∙ get_front front (replicate (length rest) false) false;
+      first = λ earlier comes. rw back_is (get_before front (true ∷ rest) (false ∷ replicate (length rest) false) earlier true comes.before (order.first earlier (length front) (get_front front rest true) comes));
+    } in
+    let next_back : next.back ≡ front ++ true ∷ [] ++ replicate (length rest) false =
+    ap (λ bs. set bs (length front) true) back_is ∙ set_front front (replicate (length rest) false) false true ∙ sym (append_assoc front (true ∷ []) (replicate (length rest) false)) in
+    let more = written_back events (front ++ true ∷ []) rest next (rw parts order) next_back in
+    record {
+      steps = WriteBack (length front) ∷ more.steps;
+      new = more.new;
+      runs = (ready, runs_written events old (length front) store.0 store.1 store.2 more.steps more.new more.runs);
+      back_is = more.back_is ∙ parts;
+    }
+
+-- any flags in order are reached
+flags_reached : (base : List ℕ) (events : List Event) (back : List Bool) → IsInOrder events back → Reaches events (start base) back
+flags_reached base events back order =
+    let before = taken base events (length back) order.few in
+    let after = written_back events [] back before.new order before.back_is in
+    record {
+      steps = before.steps ++ after.steps;
+      new = after.new;
+      runs = runs_on events (start base) before.steps before.new after.steps after.new before.runs after.runs;
+      back_is = after.back_is;
+    }
+
+-- ## What has to go back for a cut
+
+-- a store to the word is kept before the next barrier
+abbrev is_kept_later : ℕ → List Bool → List Event → Bool
+is_kept_later word mask [] = false
+is_kept_later word [] (Store place value ∷ events) = false
+is_kept_later word (true ∷ mask) (Store place value ∷ events) = cond (eqb place word) true (is_kept_later word mask events)
+is_kept_later word (false ∷ mask) (Store place value ∷ events) = is_kept_later word mask events
+is_kept_later word mask (Barrier ∷ events) = false
+is_kept_later word mask (Mark ∷ events) = is_kept_later word mask events
+
+-- the stores that are kept, and those before them of the same word
+abbrev wanted : ℕ → List Bool → List Event → List Bool
+wanted epoch mask [] = []
+wanted zero [] (Store place value ∷ events) = false ∷ wanted zero [] events
+wanted zero (true ∷ mask) (Store place value ∷ events) = true ∷ wanted zero mask events
+wanted zero (false ∷ mask) (Store place value ∷ events) = is_kept_later place mask events ∷ wanted zero mask events
+wanted (suc epoch) mask (Store place value ∷ events) = true ∷ wanted (suc epoch) mask events
+wanted zero mask (Barrier ∷ events) = false ∷ wanted zero [] events
+wanted (suc epoch) mask (Barrier ∷ events) = false ∷ wanted epoch mask events
+wanted epoch mask (Mark ∷ events) = false ∷ wanted epoch mask events
+
+length-wanted : (epoch : ℕ) (mask : List Bool) (events : List Event) → length (wanted epoch mask events) ≡ length events
+length-wanted epoch mask [] = refl
+length-wanted zero [] (Store place value ∷ events) = ap suc (length-wanted zero [] events)
+length-wanted zero (true ∷ mask) (Store place value ∷ events) = ap suc (length-wanted zero mask events)
+length-wanted zero (false ∷ mask) (Store place value ∷ events) = ap suc (length-wanted zero mask events)
+length-wanted (suc epoch) mask (Store place value ∷ events) = ap suc (length-wanted (suc epoch) mask events)
+length-wanted zero mask (Barrier ∷ events) = ap suc (length-wanted zero [] events)
+length-wanted (suc epoch) mask (Barrier ∷ events) = ap suc (length-wanted epoch mask events)
+length-wanted epoch mask (Mark ∷ events) = ap suc (length-wanted epoch mask events)
+
+wanted_store : (epoch : ℕ) (mask : List Bool) (events : List Event) (i : ℕ) → slice_get (wanted epoch mask events) i ≡ Some true → is_some_store (slice_get events i) ≡ true
+wanted_store epoch mask [] i is = absurd (let no : (slice_get {X = Bool} [] i ≡ Some true) → ⊥ = λ e. cc in no is)
+wanted_store zero [] (Store place value ∷ events) zero is = refl
+wanted_store zero [] (Store place value ∷ events) (suc i) is = wanted_store zero [] events i is
+wanted_store zero (true ∷ mask) (Store place value ∷ events) zero is = refl
+wanted_store zero (true ∷ mask) (Store place value ∷ events) (suc i) is = wanted_store zero mask events i is
+wanted_store zero (false ∷ mask) (Store place value ∷ events) zero is = refl
+wanted_store zero (false ∷ mask) (Store place value ∷ events) (suc i) is = wanted_store zero mask events i is
+wanted_store (suc epoch) mask (Store place value ∷ events) zero is = refl
+wanted_store (suc epoch) mask (Store place value ∷ events) (suc i) is = wanted_store (suc epoch) mask events i is
+wanted_store zero mask (Barrier ∷ events) zero is = absurd (let no : Some false ≢ Some true = λ e. cc in no is)
+wanted_store zero mask (Barrier ∷ events) (suc i) is = wanted_store zero [] events i is
+wanted_store (suc epoch) mask (Barrier ∷ events) zero is = absurd (let no : Some false ≢ Some true = λ e. cc in no is)
+wanted_store (suc epoch) mask (Barrier ∷ events) (suc i) is = wanted_store epoch mask events i is
+wanted_store epoch mask (Mark ∷ events) zero is = absurd (let no : Some false ≢ Some true = λ e. cc in no is)
+wanted_store epoch mask (Mark ∷ events) (suc i) is = wanted_store epoch mask events i is
+
+-- nothing is wanted where no epoch and no mask are left
+none_wanted : (events : List Event) (i : ℕ) → slice_get (wanted 0 [] events) i ≡ Some true → ⊥
+none_wanted [] i is = cc
+none_wanted (Store place value ∷ events) zero is = cc
+none_wanted (Store place value ∷ events) (suc i) is = none_wanted events i is
+none_wanted (Barrier ∷ events) zero is = cc
+none_wanted (Barrier ∷ events) (suc i) is = none_wanted events i is
+none_wanted (Mark ∷ events) zero is = cc
+none_wanted (Mark ∷ events) (suc i) is = none_wanted events i is
+
+-- what is wanted of the first epoch lies before the first barrier
+wanted_early : (mask : List Bool) (events : List Event) (i : ℕ) → slice_get (wanted 0 mask events) i ≡ Some true → epoch_of events i ≡ 0
+wanted_early mask [] i is = absurd (let no : (slice_get {X = Bool} [] i ≡ Some true) → ⊥ = λ e. cc in no is)
+wanted_early mask (Store place value ∷ events) zero is = refl
+wanted_early [] (Store place value ∷ events) (suc i) is = wanted_early [] events i is
+wanted_early (true ∷ mask) (Store place value ∷ events) (suc i) is = wanted_early mask events i is
+wanted_early (false ∷ mask) (Store place value ∷ events) (suc i) is = wanted_early mask events i is
+wanted_early mask (Barrier ∷ events) zero is = refl
+wanted_early mask (Barrier ∷ events) (suc i) is = absurd (none_wanted events i is)
+wanted_early mask (Mark ∷ events) zero is = refl
+wanted_early mask (Mark ∷ events) (suc i) is = wanted_early mask events i is
+
+same_event : (place value word other : ℕ) → Some (Store place value) ≡ Some (Store word other) → place ≡ word
+same_event place value word other is = cc
+
+cond_same : (b : Bool) → cond b true true ≡ true
+cond_same true = refl
+cond_same false = refl
+
+-- a store to the word that is wanted is kept, or one behind it is
+wanted_kept : (word other : ℕ) (mask : List Bool) (events : List Event) (i : ℕ) → slice_get (wanted 0 mask events) i ≡ Some true → slice_get events i ≡ Some (Store word other) → is_kept_later word mask events ≡ true
+wanted_kept word other mask [] i is store = absurd (let no : (slice_get {X = Bool} [] i ≡ Some true) → ⊥ = λ e. cc in no is)
+wanted_kept word other [] (Store place value ∷ events) zero is store = absurd (let no : Some false ≢ Some true = λ e. cc in no is)
+wanted_kept word other [] (Store place value ∷ events) (suc i) is store = absurd (none_wanted events i is)
+wanted_kept word other (true ∷ mask) (Store place value ∷ events) zero is store = rw (eq-eqb place word (same_event place value word other store))
+wanted_kept word other (true ∷ mask) (Store place value ∷ events) (suc i) is store = rw (wanted_kept word other mask events i is store) (cond_same (eqb place word))
+wanted_kept word other (false ∷ mask) (Store place value ∷ events) zero is store = subst (λ w. is_kept_later w mask events ≡ true) (same_event place value word other store) (let e : is_kept_later place mask events ≡ true = cc in e)
+wanted_kept word other (false ∷ mask) (Store place value ∷ events) (suc i) is store = wanted_kept word other mask events i is store
+wanted_kept word other mask (Barrier ∷ events) zero is store = absurd (let no : Some false ≢ Some true = λ e. cc in no is)
+wanted_kept word other mask (Barrier ∷ events) (suc i) is store = absurd (none_wanted events i is)
+wanted_kept word other mask (Mark ∷ events) zero is store = absurd (let no : Some false ≢ Some true = λ e. cc in no is)
+wanted_kept word other mask (Mark ∷ events) (suc i) is store = wanted_kept word other mask events i is store
+
+-- ## They are in order
+
+-- what comes first behind an event
+ComesFirst-tail : (event : Event) (events : List Event) (earlier later : ℕ) → ComesFirst (event ∷ events) (suc earlier) (suc later) → ComesFirst events earlier later
+ComesFirst-tail event events earlier later comes = record {
+  before = omega (arith, comes.before);
+  first_word = comes.first_word;
+  first_value = comes.first_value;
+  word = comes.word;
+  value = comes.value;
+  first_is = comes.first_is;
+  second_is = comes.second_is;
+  must = elim comes.must [ inl less ↦ inl (less_behind event events earlier later less) | inr same ↦ inr same ];
+}
+  where
+    less_behind : (event : Event) (events : List Event) (earlier later : ℕ) → epoch_of (event ∷ events) (suc earlier) < epoch_of (event ∷ events) (suc later) → epoch_of events earlier < epoch_of events later
+    less_behind (Store word value) events earlier later less = less
+    less_behind Barrier events earlier later less = omega arith
+    less_behind Mark events earlier later less = less
+
+not_a_store : {A : Type 0} (event : Event) (word value : ℕ) → ((word value : ℕ) → event ≢ Store word value) → Some event ≡ Some (Store word value) → A
+not_a_store event word value other is = absurd (other word value (let e : event ≡ Store word value = cc in e))
+
+-- the first store of a log that has to come before one that is wanted
+wanted_first : (place value : ℕ) (keep : Bool) (mask : List Bool) (events : List Event) (later : ℕ) → slice_get (wanted 0 mask events) later ≡ Some true → ComesFirst (Store place value ∷ events) 0 (suc later) → is_kept_later place mask events ≡ true
+wanted_first place value keep mask events later is comes =
+    elim comes.must [
+      | inl less ↦ absurd (omega (arith, less, wanted_early mask events later is))
+      | inr same ↦
+          let first_is = comes.first_is in
+          let place_is : place ≡ comes.first_word = same_event place value comes.first_word comes.first_value first_is in
+          wanted_kept place comes.value mask events later is (subst (λ w. slice_get events later ≡ Some (Store w comes.value)) (sym (place_is ∙ same)) comes.second_is)
+    ]
+
+wanted_in_order : (epoch : ℕ) (mask : List Bool) (events : List Event) (earlier later : ℕ) → slice_get (wanted epoch mask events) later ≡ Some true → ComesFirst events earlier later → slice_get (wanted epoch mask events) earlier ≡ Some true
+wanted_in_order epoch mask events earlier zero is comes = absurd (omega (arith, comes.before))
+wanted_in_order epoch mask [] earlier (suc later) is comes = absurd (let no : (slice_get {X = Bool} [] (suc later) ≡ Some true) → ⊥ = λ e. cc in no is)
+wanted_in_order zero [] (Store place value ∷ events) zero (suc later) is comes = absurd (none_wanted events later is)
+wanted_in_order zero [] (Store place value ∷ events) (suc earlier) (suc later) is comes = absurd (none_wanted events later is)
+wanted_in_order zero (true ∷ mask) (Store place value ∷ events) zero (suc later) is comes = refl
+wanted_in_order zero (true ∷ mask) (Store place value ∷ events) (suc earlier) (suc later) is comes = wanted_in_order zero mask events earlier later is (ComesFirst-tail (Store place value) events earlier later comes)
+wanted_in_order zero (false ∷ mask) (Store place value ∷ events) zero (suc later) is comes = ap Some (wanted_first place value false mask events later is comes)
+wanted_in_order zero (false ∷ mask) (Store place value ∷ events) (suc earlier) (suc later) is comes = wanted_in_order zero mask events earlier later is (ComesFirst-tail (Store place value) events earlier later comes)
+wanted_in_order (suc epoch) mask (Store place value ∷ events) zero (suc later) is comes = refl
+wanted_in_order (suc epoch) mask (Store place value ∷ events) (suc earlier) (suc later) is comes = wanted_in_order (suc epoch) mask events earlier later is (ComesFirst-tail (Store place value) events earlier later comes)
+wanted_in_order zero mask (Barrier ∷ events) earlier (suc later) is comes = absurd (none_wanted events later is)
+wanted_in_order (suc epoch) mask (Barrier ∷ events) zero (suc later) is comes = not_a_store Barrier comes.first_word comes.first_value (λ w v e. cc) comes.first_is
+wanted_in_order (suc epoch) mask (Barrier ∷ events) (suc earlier) (suc later) is comes = wanted_in_order epoch mask events earlier later is (ComesFirst-tail Barrier events earlier later comes)
+wanted_in_order epoch mask (Mark ∷ events) zero (suc later) is comes = not_a_store Mark comes.first_word comes.first_value (λ w v e. cc) comes.first_is
+wanted_in_order epoch mask (Mark ∷ events) (suc earlier) (suc later) is comes = wanted_in_order epoch mask events earlier later is (ComesFirst-tail Mark events earlier later comes)
+
+in_order_wanted : (epoch : ℕ) (mask : List Bool) (events : List Event) → IsInOrder events (wanted epoch mask events)
+in_order_wanted epoch mask events = record {
+  few = omega (arith, length-wanted epoch mask events);
+  stores = wanted_store epoch mask events;
+  first = wanted_in_order epoch mask events;
+}
+
+-- ## They leave what the cut leaves
+
+-- a store before a kept one of its word is lost on the memory
+overwritten : (words : List ℕ) (word value : ℕ) (mask : List Bool) (events : List Event) → is_kept_later word mask events ≡ true → words_after (set words word value) (stores_of 0 mask events) ≡ words_after words (stores_of 0 mask events)
+overwritten words word value mask [] later = cc
+overwritten words word value [] (Store place other ∷ events) later = cc
+overwritten words word value (true ∷ mask) (Store place other ∷ events) later =
+    elim (cases_eq place word) [
+      | inl same ↦ rw same (ap (λ ws. words_after ws (stores_of 0 mask events)) (set-set words word value other))
+      | inr differ ↦
+          let behind : is_kept_later word mask events ≡ true = rw (ne_eqb place word differ) at later in
+          ap (λ ws. words_after ws (stores_of 0 mask events)) (set_comm words word place value other (λ e. differ (sym e)))
+          ∙ overwritten (set words place other) word value mask events behind
+    ]
+overwritten words word value (false ∷ mask) (Store place other ∷ events) later = overwritten words word value mask events later
+overwritten words word value mask (Barrier ∷ events) later = cc
+overwritten words word value mask (Mark ∷ events) later = overwritten words word value mask events later
+
+none_items : (events : List Event) → items_where_true (wanted 0 [] events) events ≡ []
+none_items [] = refl
+none_items (Store place value ∷ events) = none_items events
+none_items (Barrier ∷ events) = none_items events
+none_items (Mark ∷ events) = none_items events
+
+-- a store that is not kept, and that is wanted where one behind it is kept
+lost : (words : List ℕ) (place value : ℕ) (mask : List Bool) (events : List Event) → ((ws : List ℕ) → words_after ws (items_where_true (wanted 0 mask events) events) ≡ words_after ws (stores_of 0 mask events)) → (later : Bool) → is_kept_later place mask events ≡ later → words_after words (items_where_true (later ∷ wanted 0 mask events) (Store place value ∷ events)) ≡ words_after words (stores_of 0 mask events)
+lost words place value mask events behind true is = behind (set words place value) ∙ overwritten words place value mask events is
+lost words place value mask events behind false is = behind words
+
+left_by_wanted : (words : List ℕ) (epoch : ℕ) (mask : List Bool) (events : List Event) → words_after words (items_where_true (wanted epoch mask events) events) ≡ words_after words (stores_of epoch mask events)
+left_by_wanted words epoch mask [] = refl
+left_by_wanted words zero [] (Store place value ∷ events) = ap (words_after words) (none_items events)
+left_by_wanted words zero (true ∷ mask) (Store place value ∷ events) = left_by_wanted (set words place value) zero mask events
+left_by_wanted words zero (false ∷ mask) (Store place value ∷ events) =
+    lost words place value mask events (λ ws. left_by_wanted ws zero mask events) (is_kept_later place mask events) refl
+left_by_wanted words (suc epoch) mask (Store place value ∷ events) = left_by_wanted (set words place value) (suc epoch) mask events
+left_by_wanted words zero mask (Barrier ∷ events) = ap (words_after words) (none_items events)
+left_by_wanted words (suc epoch) mask (Barrier ∷ events) = left_by_wanted words epoch mask events
+left_by_wanted words epoch mask (Mark ∷ events) = left_by_wanted words epoch mask events
+
+-- what any right cut leaves is reached by some steps
+pub replay_reached : (base : List ℕ) (events : List Event) (cut : Cut) → IsRight events cut → (steps : List Step) × (state : State) × Runs events (start base) steps state × (state.words ≡ replay base events cut)
+replay_reached base events cut right =
+    let back = wanted cut.epoch cut.mask events in
+    let found = flags_reached base events back (in_order_wanted cut.epoch cut.mask events) in
+    let state = reached base events found.steps found.new found.runs in (
+      found.steps,
+      found.new,
+      found.runs,
+      state.words ∙ ap (λ bs. words_after base (items_where_true bs events)) found.back_is
+          ∙ left_by_wanted base cut.epoch cut.mask events
+          ∙ ap (words_after base) (sym (kept_stores_right events cut right)),
+    )

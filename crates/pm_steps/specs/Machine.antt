@@ -1,0 +1,153 @@
+-- Write-back: the processor executes the events of a log in order, and an engine writes stores back to the memory. The
+-- steps of the two come in any order.
+use Rattle.std.specs.Prelude.{◌≡◌, ℕ, ◌<◌, ◌≤◌, ◌⊎◌, Bool, true, false, Option, Some, None, List, [], ◌∷◌, ◌++◌, length, drop, slice_get, slice_set}
+use Rattle.std.proofs.Common.{zero, suc}
+use Rattle.pm_epochs.specs.declared.event.Event.{Event}
+use Rattle.pm_epochs.specs.declared.event.Event.TheVariants.{Store, Barrier, Mark}
+use Rattle.pm_epochs.specs.Replay.{Cut, is_store, epoch_of}
+
+-- One flag for each event that the processor has executed, whether it is a store that is written back; and the words of
+-- the memory, without what is still in a cache.
+pub record State : Type 0 where
+  pub back : List Bool
+  pub words : List ℕ
+
+-- nothing executed over these words
+abbrev pub start : List ℕ → State
+start base = record { back = []; words = base }
+
+-- the processor executes its next event, or a store goes back to the memory
+pub data Step : Type 0 where
+  Execute : Step
+  WriteBack : (which : ℕ) → Step
+
+-- an earlier store that has to be written back first: it is of an earlier epoch, or of the same word
+pub record ComesFirst (events : List Event) (earlier later : ℕ) : Type 0 where
+  pub before : earlier < later
+  pub first_word : ℕ
+  pub first_value : ℕ
+  pub word : ℕ
+  pub value : ℕ
+  pub first_is : slice_get events earlier ≡ Some (Store first_word first_value)
+  pub second_is : slice_get events later ≡ Some (Store word value)
+  pub must : (epoch_of events earlier < epoch_of events later) ⊎ (first_word ≡ word)
+
+-- whether there is an event, and it is a store
+abbrev pub is_some_store : Option Event → Bool
+is_some_store None = false
+is_some_store (Some event) = is_store event
+
+-- only stores are written back, and what must come first came first
+pub record IsInOrder (events : List Event) (back : List Bool) : Type 0 where
+  pub few : length back ≤ length events
+  pub stores : (i : ℕ) → slice_get back i ≡ Some true → is_some_store (slice_get events i) ≡ true
+  pub first : (earlier later : ℕ) → slice_get back later ≡ Some true → ComesFirst events earlier later →
+      slice_get back earlier ≡ Some true
+
+-- the first store that must be written back before this one, and is not
+pub record IsFirstMissing (events : List Event) (back : List Bool) (which needs : ℕ) : Type 0 where
+  pub comes : ComesFirst events needs which
+  pub waits : slice_get back needs ≡ Some false
+  pub first : (earlier : ℕ) → earlier < needs → ComesFirst events earlier which → slice_get back earlier ≡ Some true
+
+-- each store below is back
+pub record IsBackBelow (events : List Event) (back : List Bool) (low : ℕ) : Type 0 where
+  pub few : low ≤ length back
+  pub each : (i : ℕ) → i < low → is_some_store (slice_get events i) ≡ true → slice_get back i ≡ Some true
+
+-- a store that was executed and is not back
+abbrev pub IsWaiting : List Event → List Bool → ℕ → Type 0
+IsWaiting events back which = (is_some_store (slice_get events which) ≡ true) × (slice_get back which ≡ Some false)
+
+-- a store to this word
+pub record IsStoreTo (events : List Event) (word i : ℕ) : Type 0 where
+  pub value : ℕ
+  pub store : slice_get events i ≡ Some (Store word value)
+
+-- each store to the word in this range is back
+abbrev pub AllToBack : List Event → List Bool → ℕ → ℕ → ℕ → Type 0
+AllToBack events back word from to =
+    (i : ℕ) → from ≤ i → i < to → IsStoreTo events word i → slice_get back i ≡ Some true
+
+-- the first store to the word in this range that is not back
+pub record IsFirstTo (events : List Event) (back : List Bool) (word from to first : ℕ) : Type 0 where
+  pub low : from ≤ first
+  pub high : first < to
+  pub store : IsStoreTo events word first
+  pub waits : slice_get back first ≡ Some false
+  pub before : AllToBack events back word from first
+
+-- flags that code holds, and how many it has room for, both counted in events
+pub record Flags : Type 0 where
+  pub back : List Bool
+  pub room : ℕ
+
+-- a store that was executed and is not back, while all that must come first is
+pub record IsReady (events : List Event) (back : List Bool) (which : ℕ) : Type 0 where
+  pub word : ℕ
+  pub value : ℕ
+  pub store : slice_get events which ≡ Some (Store word value)
+  pub waits : slice_get back which ≡ Some false
+  pub first : (earlier : ℕ) → ComesFirst events earlier which → slice_get back earlier ≡ Some true
+
+-- the steps that may be taken: there is a next event, or the store may go back
+abbrev pub Allowed : List Event → List Bool → Step → Type 0
+Allowed events back Execute = length back < length events
+Allowed events back (WriteBack which) = IsReady events back which
+
+-- the state after this event of the log goes back: its word takes its value
+abbrev pub written : State → ℕ → Option Event → State
+written state which (Some (Store word value)) = record {
+  back = slice_set state.back which true;
+  words = slice_set state.words word value;
+}
+written state which (Some Barrier) = state
+written state which (Some Mark) = state
+written state which None = state
+
+-- the state after a step
+abbrev pub state_after : List Event → State → Step → State
+state_after events state Execute = record { back = state.back ++ false ∷ []; words = state.words }
+state_after events state (WriteBack which) = written state which (slice_get events which)
+
+-- from one state to another by steps that are allowed
+abbrev pub Runs : List Event → State → List Step → State → Type 0
+Runs events old [] new = old ≡ new
+Runs events old (step ∷ steps) new = Allowed events old.back step × Runs events (state_after events old step) steps new
+
+-- the epoch that is being written back: the barriers that were executed before the first store that is not back, or all
+-- that were executed
+abbrev pub open_epoch : List Event → List Bool → ℕ
+open_epoch [] back = 0
+open_epoch (event ∷ events) [] = 0
+open_epoch (Store word value ∷ events) (true ∷ back) = open_epoch events back
+open_epoch (Store word value ∷ events) (false ∷ back) = 0
+open_epoch (Barrier ∷ events) (flag ∷ back) = suc (open_epoch events back)
+open_epoch (Mark ∷ events) (flag ∷ back) = open_epoch events back
+
+-- the flags of the stores of an epoch, as far as they were executed
+abbrev pub epoch_flags : ℕ → List Event → List Bool → List Bool
+epoch_flags epoch [] back = []
+epoch_flags epoch (event ∷ events) [] = []
+epoch_flags zero (Store word value ∷ events) (flag ∷ back) = flag ∷ epoch_flags zero events back
+epoch_flags (suc epoch) (Store word value ∷ events) (flag ∷ back) = epoch_flags (suc epoch) events back
+epoch_flags zero (Barrier ∷ events) (flag ∷ back) = []
+epoch_flags (suc epoch) (Barrier ∷ events) (flag ∷ back) = epoch_flags epoch events back
+epoch_flags epoch (Mark ∷ events) (flag ∷ back) = epoch_flags epoch events back
+
+-- the cut at which a machine stands
+abbrev pub cut_of : List Event → List Bool → Cut
+cut_of events back = record {
+  moment = length back;
+  epoch = open_epoch events back;
+  mask = epoch_flags (open_epoch events back) events back;
+}
+
+-- the marks before the first store that is not written back
+abbrev pub waiting_marks : List Event → List Bool → ℕ
+waiting_marks [] back = 0
+waiting_marks (Store word value ∷ events) [] = 0
+waiting_marks (Store word value ∷ events) (true ∷ back) = waiting_marks events back
+waiting_marks (Store word value ∷ events) (false ∷ back) = 0
+waiting_marks (Barrier ∷ events) back = waiting_marks events (drop 1 back)
+waiting_marks (Mark ∷ events) back = suc (waiting_marks events (drop 1 back))

@@ -1,0 +1,349 @@
+ghost use Rattle.std.specs.Prelude.{◌≡◌, ℕ, ◌<◌, ◌≤◌, ◌↔◌, [], ◌∷◌, ◌++◌, IsOk, OnOk, IfErr, OnErr, MatchOption, length, slice_get, slice_index, slice_set, Some, true, false};
+ghost use Rattle.pm_region.specs.Memory.{Memory};
+ghost use Rattle.pm_epochs.specs.Log.{marks};
+ghost use Rattle.pm_epochs.specs.Replay.{IsRight, epoch_of, replay, kept_calls};
+ghost use Rattle.pm_steps.specs.Machine.{IsInOrder, IsReady, IsFirstMissing, IsBackBelow, IsWaiting, AllToBack, IsFirstTo, ComesFirst, is_some_store, cut_of, open_epoch, epoch_flags, waiting_marks};
+
+use super::backs::Backs;
+use pm_epochs::{Choice, Event, Kept};
+use pm_region::Region;
+
+/// A store can't go back yet, since an earlier one has to go first: of an earlier epoch, or to the same word.
+#[derive(Clone, Copy, Debug, PartialEq, Eq)]
+pub struct NotYet {
+    /// The first such store that is not back, by its place in the log, from 0.
+    pub needs: usize,
+}
+
+/// The log of a region, how far the processor has come in it, and which of its stores are written back. The region itself
+/// stays as it is: the machine tells what a crash would find in memory.
+#[derive(Drop)]
+pub struct Machine<'a, R: Region> {
+    /// The region whose log it is.
+    pub region: &'a R,
+    /// What is executed and what is written back.
+    pub backs: &'a mut Backs,
+    // Each store before this place of the log is written back, so that a search begins there.
+    low: usize,
+    ghost in_order: { IsInOrder (R.memory region.now).events backs.now.back },
+    ghost fits: { length (R.memory region.now).events ≤ backs.now.room },
+    ghost below: { IsBackBelow (R.memory region.now).events backs.now.back low },
+}
+
+impl<'a, R: Region> Machine<'a, R> {
+    /// The processor has executed nothing yet, and the memory has the words of the last drain. The backs are cleared.
+    pub fn over(region: &'a R, backs: &'a mut Backs) -> Machine<'a, R>
+        requires { length (R.memory region.now).events ≤ backs.old.room }
+        ensures same_region { result.region.now ≡ region.now }
+        ensures same_backs { result.backs.ghost_name ≡ backs.entry.ghost_name }
+        ensures none { result.backs.now ≡ record { back = []; room = backs.old.room } }
+    {
+        backs.clear();
+        Machine {
+            region,
+            backs,
+            low: 0,
+        }
+    }
+
+    /// How many events the processor has executed.
+    pub fn moment(&self) -> usize
+        ensures { result ≡ length self.now.backs.now.back }
+    {
+        self.backs.len()
+    }
+
+    /// The processor executes the next event of the log.
+    pub fn execute(&mut self)
+        requires { length self.old.backs.now.back < length (R.memory self.old.region.now).events }
+        ensures same_region { self.new.region.now ≡ self.old.region.now }
+        ensures same_backs { self.new.backs.ghost_name ≡ self.old.backs.ghost_name }
+        ensures executed { self.new.backs.now ≡ record {
+          back = self.old.backs.now.back ++ false ∷ [];
+          room = self.old.backs.now.room;
+        } }
+    {
+        self.backs.push();
+    }
+
+    /// Whether an event that was executed is a store that is written back. `which` is its place in the log, from 0.
+    pub fn is_back(&self, which: usize) -> bool
+        requires { which < length self.now.backs.now.back }
+        ensures { slice_get self.now.backs.now.back which ≡ Some result }
+    {
+        self.backs.is_back(which)
+    }
+
+    /// Writes a store back that was executed and is not back; `which` is its place in the log, from 0. `NotYet` is the answer
+    /// where an earlier store has to go first, with the first that has, and then nothing changes. A log that is written back
+    /// in order takes constant time for each store; a store behind one that waits takes time for the events between.
+    pub fn back(&mut self, which: usize) -> Result<(), NotYet>
+        requires store { is_some_store (slice_get (R.memory self.old.region.now).events which) ≡ true }
+        requires waits { slice_get self.old.backs.now.back which ≡ Some false }
+        ensures same_region { self.new.region.now ≡ self.old.region.now }
+        ensures same_backs { self.new.backs.ghost_name ≡ self.old.backs.ghost_name }
+        ensures allowed { IsOk result ↔ IsReady (R.memory self.old.region.now).events self.old.backs.now.back which }
+        ensures written { OnOk result (self.new.backs.now ≡ record {
+          back = slice_set self.old.backs.now.back which true;
+          room = self.old.backs.now.room;
+        }) }
+        ensures missing { IfErr result (λ not_yet.
+            IsFirstMissing (R.memory self.old.region.now).events self.old.backs.now.back which not_yet.needs) }
+        ensures err { OnErr result (self.new.backs.now ≡ self.old.backs.now) }
+    {
+        self.low = first_waiting(self.region, self.backs, self.low);
+        match first_missing(self.region, self.backs, self.low, which) {
+            Some(needs) => Err(NotYet { needs }),
+            None => {
+                self.backs.set_back(which);
+                Ok(())
+            }
+        }
+    }
+
+    /// A word of the memory: what a crash would leave now, since what is not back is lost. Takes time for all events that
+    /// were executed.
+    pub fn image_word(&self, word: u32) -> u64
+        requires { word < length (R.memory self.now.region.now).base }
+        ensures { result ≡ slice_index (replay (R.memory self.now.region.now).base (R.memory self.now.region.now).events
+            (cut_of (R.memory self.now.region.now).events self.now.backs.now.back)) word }
+    {
+        image_word_of(self.region, self.backs, word)
+    }
+
+    /// Says what a crash would keep now. `Region::crash_to` takes it, and leaves the words of this memory.
+    pub fn choice(&self, choice: &mut Choice)
+        requires { length self.now.backs.now.back ≤ choice.old.room }
+        ensures chosen { choice.new ≡ record {
+          cut = cut_of (R.memory self.now.region.now).events self.now.backs.now.back;
+          room = choice.old.room;
+        } }
+        ensures right { IsRight (R.memory self.now.region.now).events choice.new.cut }
+    {
+        let epoch = open_epoch_at(self.region, self.backs);
+        choice.start(self.backs.len(), epoch);
+        push_flags(self.region, self.backs, epoch, choice);
+    }
+
+    /// How many calls a crash would keep whole now, and how many the log has.
+    pub fn kept(&self) -> Kept
+        ensures c { result.c ≡ kept_calls (R.memory self.now.region.now).events
+            (cut_of (R.memory self.now.region.now).events self.now.backs.now.back) }
+        ensures n { result.n ≡ marks (R.memory self.now.region.now).events }
+    {
+        Kept {
+            c: waiting_mark_count(self.region, self.backs),
+            n: mark_count(self.region),
+        }
+    }
+}
+
+/// Whether an event that was executed needs no more of the engine: it is no store, or it is back.
+fn is_done<R: Region>(region: &R, backs: &Backs, which: usize) -> bool
+    requires done { length backs.now.back ≤ length (R.memory region.now).events }
+    requires taken { which < length backs.now.back }
+    ensures back { result ≡ true → is_some_store (slice_get (R.memory region.now).events which) ≡ true →
+        slice_get backs.now.back which ≡ Some true }
+    ensures waits { result ≡ false → IsWaiting (R.memory region.now).events backs.now.back which }
+{
+    match region.event(which) {
+        Event::Store { .. } => backs.is_back(which),
+        Event::Barrier => true,
+        Event::Mark => true,
+    }
+}
+
+/// The first store from `low` on that was executed and is not back, or how many events were executed.
+fn first_waiting<R: Region>(region: &R, backs: &Backs, low: usize) -> usize
+    requires done { length backs.now.back ≤ length (R.memory region.now).events }
+    requires below { IsBackBelow (R.memory region.now).events backs.now.back low }
+    ensures below { IsBackBelow (R.memory region.now).events backs.now.back result }
+    ensures waits { result < length backs.now.back → IsWaiting (R.memory region.now).events backs.now.back result }
+{
+    for i in low..backs.len() {
+        let done = is_done(region, backs, i);
+        if !done {
+            return i;
+        }
+    }
+    backs.len()
+}
+
+/// Whether a barrier stands in this range.
+fn has_barrier<R: Region>(region: &R, from: usize, to: usize) -> bool
+    requires { (from ≤ to) × (to ≤ length (R.memory region.now).events) }
+    ensures some { result ≡ true →
+        epoch_of (R.memory region.now).events from < epoch_of (R.memory region.now).events to }
+    ensures none { result ≡ false →
+        epoch_of (R.memory region.now).events from ≡ epoch_of (R.memory region.now).events to }
+{
+    for i in from..to {
+        match region.event(i) {
+            Event::Store { .. } => {}
+            Event::Barrier => return true,
+            Event::Mark => {}
+        }
+    }
+    false
+}
+
+/// The first store to a word in this range that is not back.
+fn first_waiting_to<R: Region>(
+    region: &R,
+    backs: &Backs,
+    word: u32,
+    from: usize,
+    to: usize,
+) -> Option<usize>
+    requires done { length backs.now.back ≤ length (R.memory region.now).events }
+    requires taken { (from ≤ to) × (to ≤ length backs.now.back) }
+    ensures { MatchOption result
+        (AllToBack (R.memory region.now).events backs.now.back word from to)
+        (IsFirstTo (R.memory region.now).events backs.now.back word from to) }
+{
+    for i in from..to {
+        match region.event(i) {
+            Event::Store { word: place, .. } => {
+                let is_back = backs.is_back(i);
+                if place == word && !is_back {
+                    return Some(i);
+                }
+            }
+            Event::Barrier => {}
+            Event::Mark => {}
+        }
+    }
+    None
+}
+
+/// The first store that has to be written back before this one, and is not. `low` is the first store that is not back.
+fn first_missing<R: Region>(region: &R, backs: &Backs, low: usize, which: usize) -> Option<usize>
+    requires done { length backs.now.back ≤ length (R.memory region.now).events }
+    requires below { IsBackBelow (R.memory region.now).events backs.now.back low }
+    requires low { IsWaiting (R.memory region.now).events backs.now.back low }
+    requires which { IsWaiting (R.memory region.now).events backs.now.back which }
+    ensures { MatchOption result
+        ((earlier : ℕ) → ComesFirst (R.memory region.now).events earlier which →
+        slice_get backs.now.back earlier ≡ Some true)
+        (IsFirstMissing (R.memory region.now).events backs.now.back which) }
+{
+    let word = match region.event(which) {
+        Event::Store { word, .. } => word,
+        Event::Barrier => unreachable!(),
+        Event::Mark => unreachable!(),
+    };
+    if low >= which {
+        return None;
+    }
+    if has_barrier(region, low, which) {
+        return Some(low);
+    }
+    first_waiting_to(region, backs, word, low, which)
+}
+
+/// A word after the stores that are back.
+fn image_word_of<R: Region>(region: &R, backs: &Backs, word: u32) -> u64
+    requires in_order { IsInOrder (R.memory region.now).events backs.now.back }
+    requires in_range { word < length (R.memory region.now).base }
+    ensures { result ≡ slice_index (replay (R.memory region.now).base (R.memory region.now).events
+        (cut_of (R.memory region.now).events backs.now.back)) word }
+{
+    let mut now = region.base_word(word);
+    for i in 0..backs.len() {
+        let is_back = backs.is_back(i);
+        match region.event(i) {
+            Event::Store { word: place, value } => {
+                if is_back && place == word {
+                    now = value;
+                }
+            }
+            Event::Barrier => {}
+            Event::Mark => {}
+        }
+    }
+    now
+}
+
+/// The epoch that is being written back: the barriers that were executed before the first store that is not back.
+fn open_epoch_at<R: Region>(region: &R, backs: &Backs) -> usize
+    requires { length backs.now.back ≤ length (R.memory region.now).events }
+    ensures { result ≡ open_epoch (R.memory region.now).events backs.now.back }
+{
+    let mut passed = 0;
+    for i in 0..backs.len() {
+        let is_back = backs.is_back(i);
+        match region.event(i) {
+            Event::Store { .. } => {
+                if !is_back {
+                    return passed;
+                }
+            }
+            Event::Barrier => passed += 1,
+            Event::Mark => {}
+        }
+    }
+    passed
+}
+
+/// Says of each store of an epoch whether it is back.
+fn push_flags<R: Region>(region: &R, backs: &Backs, epoch: usize, choice: &mut Choice)
+    requires done { length backs.now.back ≤ length (R.memory region.now).events }
+    requires room { length backs.now.back ≤ choice.old.room }
+    requires empty { choice.old.cut.mask ≡ [] }
+    ensures { choice.new ≡ record {
+      cut = record choice.old.cut { mask = epoch_flags epoch (R.memory region.now).events backs.now.back };
+      room = choice.old.room;
+    } }
+{
+    let mut left = epoch;
+    for i in 0..backs.len() {
+        let is_back = backs.is_back(i);
+        match region.event(i) {
+            Event::Store { .. } => {
+                if left == 0 {
+                    choice.push(is_back);
+                }
+            }
+            Event::Barrier => {
+                if left == 0 {
+                    return;
+                }
+                left -= 1;
+            }
+            Event::Mark => {}
+        }
+    }
+}
+
+/// The marks before the first store that is not written back.
+fn waiting_mark_count<R: Region>(region: &R, backs: &Backs) -> usize
+    ensures { result ≡ waiting_marks (R.memory region.now).events backs.now.back }
+{
+    let mut count = 0;
+    for i in 0..region.event_count() {
+        match region.event(i) {
+            Event::Store { .. } => {
+                let is_back = i < backs.len() && backs.is_back(i);
+                if !is_back {
+                    return count;
+                }
+            }
+            Event::Barrier => {}
+            Event::Mark => count += 1,
+        }
+    }
+    count
+}
+
+/// How many marks the log has.
+fn mark_count<R: Region>(region: &R) -> usize
+    ensures { result ≡ marks (R.memory region.now).events }
+{
+    let mut count = 0;
+    for i in 0..region.event_count() {
+        if let Event::Mark = region.event(i) {
+            count += 1;
+        }
+    }
+    count
+}

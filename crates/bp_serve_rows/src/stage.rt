@@ -1,0 +1,70 @@
+//! A volume over a file, and the memory to serve it.
+
+ghost use Rattle.bp_io.specs.Memory.{fair_view};
+ghost use Rattle.bp_shell.specs.Files.{IsReady};
+
+use crate::report::tell;
+use bp_io::{FairFiles, FairSource, MemSink};
+use bp_shell::{Work, serve, serve_line};
+use bp_volume::Volume;
+use pm_region::ListRegion;
+use std::alloc::{AllocError, Global};
+
+/// The room of a sink, in bytes.
+const ROOM: usize = 4096;
+
+/// Serves a script, and writes its replies and its status.
+pub fn serve_script(
+    alloc: Global,
+    volume: &mut Volume<ListRegion>,
+    work: &mut Work,
+    files: &mut FairFiles,
+    script: &str,
+    report: &mut String,
+) -> Result<(), AllocError>
+    requires { IsReady volume.old.base (fair_view files.old) }
+    ensures { IsReady volume.new.base (fair_view files.new) }
+{
+    let mut source = FairSource::new(script.as_bytes());
+    let mut sink = match MemSink::new(alloc, ROOM, &[]) {
+        Ok(sink) => sink,
+        Err(error) => return Err(error),
+    };
+    let status = serve(alloc, volume, work, &mut source, &mut sink, files);
+    tell(report, sink.bytes(), status)
+}
+
+/// Sets the line and serves it, and writes its length, its reply and its status.
+pub fn serve_bytes(
+    alloc: Global,
+    volume: &mut Volume<ListRegion>,
+    work: &mut Work,
+    files: &mut FairFiles,
+    line: &[u8],
+    report: &mut String,
+) -> Result<(), AllocError>
+    requires { IsReady volume.old.base (fair_view files.old) }
+    ensures { IsReady volume.new.base (fair_view files.new) }
+{
+    work.set_line(line);
+    match tell_line(work, report) {
+        Ok(()) => {}
+        Err(error) => return Err(error),
+    }
+    let mut sink = match MemSink::new(alloc, ROOM, &[]) {
+        Ok(sink) => sink,
+        Err(error) => return Err(error),
+    };
+    let status = serve_line(alloc, volume, work, &mut sink, files);
+    tell(report, sink.bytes(), status)
+}
+
+fn tell_line(work: &Work, report: &mut String) -> Result<(), AllocError> {
+    match work.line() {
+        Some(line) => {
+            let length = line.len();
+            writeln!(report, "a line of {length} bytes")
+        }
+        None => report.push_str("a line that is too long\n"),
+    }
+}

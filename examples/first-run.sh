@@ -8,7 +8,7 @@ bpfs=$PWD/out/bpfs
 work=$(mktemp -d)
 echo "\$ bpfs format $work/f --blocks 8"
 "$bpfs" format "$work/f" --blocks 8
-echo "\$ bpfs run $work/f    # space, create /a, space, read /a 0 8, list /, sync"
-printf 'space\ncreate /a\nspace\nread /a 0 8\nlist /\nsync\n' | "$bpfs" run "$work/f"
+echo "\$ bpfs run $work/f    # mkdir /d, create /d/a, write /d/a 0 68656c6c6f, space, read /d/a 0 8, list /d, sync"
+printf 'mkdir /d\ncreate /d/a\nwrite /d/a 0 68656c6c6f\nspace\nread /d/a 0 8\nlist /d\nsync\n' | "$bpfs" run "$work/f"
 echo "\$ bpfs check $work/f"
 "$bpfs" check "$work/f"

@@ -33,7 +33,7 @@ use Rattle.bp_limits.specs.Limits.{block_words, max_height}
 use Rattle.pm_region.specs.Memory.{Memory, current_words}
 use Rattle.bp_calls.specs.TouchedAcross.{WritesAcross}
 use Rattle.bp_calls.specs.WritesFile.{WritesFile}
-use Rattle.bp_calls.proofs.AcrossMiddle.{across_can, across_file, bound_here, bound_low, bound_other, held_back, left_free, middle_count, middle_cover, middle_formed, middle_sets, run_there, size_fronts, sizes_with, wider}
+use Rattle.bp_calls.proofs.AcrossMiddle.{across_can, across_file, bound_here, bound_other, left_free, middle_count, middle_cover, middle_formed, middle_live, middle_sets, run_there, size_fronts, sizes_with}
 use Rattle.bp_calls.proofs.AcrossTouched.{across_copies, across_cover, across_end, across_needs, across_shape, across_words}
 use Rattle.bp_calls.proofs.RunCommits.{commit_exact, commit_writes_file, laid_past}
 use Rattle.bp_calls.proofs.WriteBehind.{given_inside}
@@ -150,12 +150,7 @@ module _ (old middle new : Memory) (blocks inodes after last : Set) (n off : ℕ
   across_performs =
       commit_performs_after old middle new (writes (suc n) off (length bytes)) (WritesFile (suc n) off bytes) bound touched after last prepared.taken 2
       (prep_stores (size_of image (suc n)) (size_of image (suc n)) (off + length bytes) (need_for image (suc n) (size_of image (suc n)) (off + length bytes))) prepared.adds done
-      (λ b live.
-      held_back old middle blocks inodes after n off bytes touched across prepared b (record {
-        tree = live.tree;
-        reached = live.reached;
-        has = wider mid (root_of mid live.tree) (size_of mid live.tree) (bound live.tree) b (bound_low old middle blocks inodes after n off bytes touched across prepared live.tree) live.has;
-      }))
+      (middle_live old middle blocks inodes after n off bytes touched across prepared)
       (left_free old middle blocks inodes after n off bytes touched across prepared)
       (middle_cover old middle blocks inodes after n off bytes touched across prepared ∙ sym (across_cover old blocks inodes n off bytes touched across)) (omega arith) few
       (omega (arith, prepared.counted, count_is, needs)) open_cover

@@ -1,14 +1,14 @@
 -- Behind the preparation of a write across the size of a file, what is touched can be committed: the sizes that count are those that the trees have, and for the file the end of the bytes.
-use Rattle.std.proofs.Common.{◌≡◌, ◌≢◌, ◌⊎◌, ℕ, suc, ◌+◌, ◌-◌, ◌*◌, ◌/◌, ◌<◌, ◌≤◌, List, [], ◌∷◌, ◌==◌, length, drop, if◌then◌else◌, Some, slice_index, refl, sym, ◌∙◌, ap, subst, suc-ne-zero, inl, inr, arith, true, lt_of_lt_of_le}
-use Rattle.std.proofs.lemmas.Bool.{cases_eq, eq-eqb, ne_eqb}
+use Rattle.std.proofs.Common.{◌≡◌, ◌≢◌, ◌⊎◌, ℕ, suc, ◌+◌, ◌-◌, ◌*◌, ◌/◌, ◌<◌, ◌≤◌, List, [], ◌∷◌, ◌==◌, length, drop, if◌then◌else◌, Some, slice_index, refl, sym, ◌∙◌, ap, subst, suc-ne-zero, arith, true}
+use Rattle.std.proofs.lemmas.Bool.{eq-eqb, ne_eqb}
 use Rattle.bp_free.specs.Set.{Set, has, members}
 use Rattle.bp_layout.specs.Free.{AreUnheld}
 use Rattle.bp_layout.specs.Inode.{root_of, size_of, inode_count}
-use Rattle.bp_layout.specs.Members.{Has, AreApart}
+use Rattle.bp_layout.specs.Members.{Has}
 use Rattle.bp_layout.specs.Need.{number_of}
-use Rattle.bp_layout.specs.Reached.{IsReached, HoldsBlock, IsLiveBlock, IsFreeBlock}
+use Rattle.bp_layout.specs.Reached.{IsReached, IsLiveBlock, IsFreeBlock}
 use Rattle.bp_layout.specs.Reached.IsReached.{inode_file}
-use Rattle.bp_layout.specs.Tree.{HasBlock, IsSound}
+use Rattle.bp_layout.specs.Tree.{IsSound}
 use Rattle.bp_layout.specs.WellFormed.{IsWellFormed}
 use Rattle.bp_layout.specs.WordPaths.{WordPath, inode_path}
 use Rattle.bp_layout.specs.Words.{Image, word, height_of}
@@ -17,11 +17,8 @@ use Rattle.bp_layout.proofs.TreeLaws.{live_content}
 use Rattle.bp_changes.proofs.ReachedOn.{reached_on}
 use Rattle.bp_changes.proofs.SameMeaning as meaning
 use Rattle.bp_append.specs.Prepared.{PreparesWith}
-use Rattle.bp_append.proofs.FillLaws.{apart_parts}
-use Rattle.bp_append.proofs.OtherTrees.{other_block_back, other_block_on}
 use Rattle.bp_tree.proofs.Digits.{length-digits}
 use Rattle.bp_tree.proofs.ExistingPaths.{number-digits}
-use Rattle.bp_tree.proofs.PerformsLaws.{has-behind}
 use Rattle.bp_shapes.specs.Forest.{tree_trail, IsForest, IsTreePointer}
 use Rattle.bp_shapes.specs.Sets.{AreExactFor}
 use Rattle.bp_shapes.specs.Trail.{Trail, trail_of}
@@ -38,22 +35,11 @@ use Rattle.bp_cow.proofs.RunWrites.{IsFileRun, digits_trail, root_path_trail}
 use Rattle.pm_region.specs.Memory.{Memory, current_words}
 use Rattle.bp_calls.specs.TouchedAcross.{WritesAcross}
 use Rattle.bp_calls.proofs.AcrossTouched.{across_end, across_run, across_shape, across_some, across_words}
-use Rattle.bp_calls.proofs.SetLaws.{free_inodes_stay}
-use Rattle.bp_calls.proofs.TakenBlocks.{has_either, in_members, members_apart, of_members}
+use Rattle.bp_calls.proofs.PreparedSets.{live_before, prepared_exact, prepared_forest, prepared_sets, sizes_low, still_free}
 
 -- the sizes that count: that of the touched word for its inode, and else those of the image
 abbrev pub sizes_with : Image → Touched → ℕ → ℕ
 sizes_with image touched t = if t == number_of (path_of (word_paths touched) 0) / 8 then slice_index (word_values touched) 0 else size_of image t
-
--- a tree has its blocks under a greater size too
-pub wider : (image : Image) (root size more b : ℕ) → size ≤ more → HasBlock image root size b → HasBlock image root more b
-wider image root size more b low has = record {
-  depth = has.depth;
-  index = has.index;
-  pointer = record { level = has.pointer.level; height = has.pointer.height; live = lt_of_lt_of_le has.pointer.live low };
-  named = has.named;
-  not_null = has.not_null;
-}
 
 module _ (old middle : Memory) (blocks inodes after : Set) (n off : ℕ) (bytes : List ℕ) (touched : Touched) (across : WritesAcross old blocks inodes (suc n) off bytes touched)
     (prepared : PreparesWith old middle (members blocks) (members after) (suc n) (size_of (current_words old) (suc n)) (off + length bytes) (drop (size_of (current_words old) (suc n) - off) bytes)) where
@@ -77,9 +63,6 @@ module _ (old middle : Memory) (blocks inodes after : Set) (n off : ℕ) (bytes 
 
   on : (t : ℕ) → IsReached image t → IsReached mid t
   on = reached_on (current_words old) (current_words middle) prepared.ready.meaning
-
-  back : (t : ℕ) → IsReached mid t → IsReached image t
-  back = meaning.reached-back (current_words old) (current_words middle) across.can.well_formed prepared.ready.meaning
 
   here : IsReached mid (suc n)
   here = on (suc n) across.can.reached
@@ -114,115 +97,44 @@ module _ (old middle : Memory) (blocks inodes after : Set) (n off : ℕ) (bytes 
   pub bound_other : (t : ℕ) → (t ≡ suc n → ⊥) → sizes_with (current_words middle) touched t ≡ size_of (current_words middle) t
   bound_other t other = rw (ne_eqb t (number_of (path_of (word_paths touched) 0) / 8) (λ e. other (e ∙ inode_is))) refl
 
-  size_was : size_of mid (suc n) ≡ size_of image (suc n)
-  size_was = prepared.ready.sizes (suc n) across.can.reached
+  past : size_of (current_words old) (suc n) ≤ off + length bytes
+  past = omega (arith, across.past)
+
+  some : suc n ≢ 0
+  some e = suc-ne-zero n e
 
   pub bound_low : (t : ℕ) → size_of (current_words middle) t ≤ sizes_with (current_words middle) touched t
-  bound_low t = go (cases_eq t (suc n))
-    where
-      go : (t ≡ suc n) ⊎ (t ≡ suc n → ⊥) → size_of (current_words middle) t ≤ sizes_with (current_words middle) touched t
-      go (inl e) = subst (λ x. size_of mid x ≤ bound x) (sym e) (omega (arith, size_was, bound_here, across.past))
-      go (inr other) = omega (arith, bound_other t other)
-
-  by_tree : (P : ℕ → ℕ → Type 0) (t : ℕ) → P (root_of mid (suc n)) (off + length bytes) → ((t ≡ suc n → ⊥) → P (root_of mid t) (size_of mid t)) → P (root_of mid t) (sizes_with (current_words middle) touched t)
-  by_tree P t file others = go (cases_eq t (suc n))
-    where
-      go : (t ≡ suc n) ⊎ (t ≡ suc n → ⊥) → P (root_of mid t) (sizes_with (current_words middle) touched t)
-      go (inl e) = subst (λ x. P (root_of mid x) (sizes_with (current_words middle) touched x)) (sym e) (subst (P (root_of mid (suc n))) (sym bound_here) file)
-      go (inr other) = subst (P (root_of mid t)) (sym (bound_other t other)) (others other)
-
-  -- a block under these sizes is the file's, or another tree's
-  of_file : (t b : ℕ) → t ≡ suc n → HasBlock mid (root_of mid t) (bound t) b → HasBlock mid (root_of mid (suc n)) (off + length bytes) b
-  of_file t b e has = subst (λ s. HasBlock mid (root_of mid (suc n)) s b) bound_here (subst (λ x. HasBlock mid (root_of mid x) (bound x) b) e has)
-
-  of_other : (t b : ℕ) → (t ≡ suc n → ⊥) → HasBlock mid (root_of mid t) (bound t) b → HasBlock mid (root_of mid t) (size_of mid t) b
-  of_other t b other has = subst (λ s. HasBlock mid (root_of mid t) s b) (bound_other t other) has
+  bound_low =
+      sizes_low old middle blocks inodes after (suc n) (size_of (current_words old) (suc n)) (off + length bytes) (drop (size_of (current_words old) (suc n) - off) bytes) across.can.well_formed across.can.exact across.can.reached
+      some past prepared (sizes_with (current_words middle) touched) bound_here bound_other
 
   pub middle_forest : IsForest (current_words middle) (sizes_with (current_words middle) touched)
   middle_forest =
-      let plain : IsForest mid (size_of mid) = wf_forest (current_words middle) middle_formed in
-      let zero_bound : bound 0 ≡ size_of mid 0 = bound_other 0 (λ e. suc-ne-zero n (sym e)) in
-      record {
-        some = omega (arith, plain.some, zero_bound);
-        in_file = λ i reached. omega (arith, plain.in_file i reached, zero_bound);
-        sound = λ t reached. by_tree (IsSound mid) t prepared.ready.sound (λ other. (middle_formed).sound t reached);
-        apart = λ t u b r q has also. apart t u b r q has also (cases_eq t (suc n)) (cases_eq u (suc n));
-      }
-    where
-      apart : (t u b : ℕ) → IsReached mid t → IsReached mid u → HasBlock mid (root_of mid t) (bound t) b → HasBlock mid (root_of mid u) (bound u) b → (t ≡ suc n) ⊎ (t ≡ suc n → ⊥) → (u ≡ suc n) ⊎ (u ≡ suc n → ⊥) → t ≡ u
-      apart t u b r q has also (inl e) (inl f) = e ∙ sym f
-      apart t u b r q has also (inl e) (inr f) = absurd (prepared.ready.apart u b (back u q) f (of_other u b f also) (of_file t b e has))
-      apart t u b r q has also (inr e) (inl f) = absurd (prepared.ready.apart t b (back t r) e (of_other t b e has) (of_file u b f also))
-      apart t u b r q has also (inr e) (inr f) = (middle_formed).apart t u b r q (of_other t b e has) (of_other u b f also)
+      prepared_forest old middle blocks inodes after (suc n) (size_of (current_words old) (suc n)) (off + length bytes) (drop (size_of (current_words old) (suc n) - off) bytes) across.can.well_formed across.can.exact across.can.reached
+      some past prepared (sizes_with (current_words middle) touched) bound_here bound_other
 
   -- ---- the blocks
 
-  pub held_back : (b : ℕ) → HoldsBlock (current_words middle) (IsReached (current_words middle)) (sizes_with (current_words middle) touched) b → IsLiveBlock (current_words old) b ⊎ Has prepared.taken b
-  held_back b one = go (cases_eq one.tree (suc n))
-    where
-      go : (one.tree ≡ suc n) ⊎ (one.tree ≡ suc n → ⊥) → IsLiveBlock (current_words old) b ⊎ Has prepared.taken b
-      go (inl e) =
-          elim (prepared.ready.blocks b (of_file one.tree b e one.has)) [
-            | inl was ↦ inl (record { tree = suc n; reached = across.can.reached; has = was })
-            | inr took ↦ inr took
-          ]
-      go (inr other) =
-          inl (record {
-            tree = one.tree;
-            reached = back one.tree one.reached;
-            has = other_block_back image mid (suc n) (size_of image (suc n)) (off + length bytes) (drop (size_of image (suc n) - off) bytes) prepared.taken prepared.ready one.tree (back one.tree one.reached) other b
-                (of_other one.tree b other one.has);
-          })
+  pub middle_live : (b : ℕ) → IsLiveBlock (current_words middle) b → IsLiveBlock (current_words old) b ⊎ Has prepared.taken b
+  middle_live =
+      live_before old middle blocks inodes after (suc n) (size_of (current_words old) (suc n)) (off + length bytes) (drop (size_of (current_words old) (suc n) - off) bytes) across.can.well_formed across.can.exact across.can.reached
+      some past prepared (sizes_with (current_words middle) touched) bound_here bound_other
 
-  in_file_block : (b : ℕ) → HasBlock mid (root_of mid (suc n)) (off + length bytes) b → HoldsBlock mid (IsReached mid) bound b
-  in_file_block b has = record { tree = suc n; reached = here; has = subst (λ s. HasBlock mid (root_of mid (suc n)) s b) (sym bound_here) has }
-
-  held_on : (b : ℕ) → IsLiveBlock image b → HoldsBlock mid (IsReached mid) bound b
-  held_on b live = go (cases_eq live.tree (suc n))
-    where
-      go : (live.tree ≡ suc n) ⊎ (live.tree ≡ suc n → ⊥) → HoldsBlock mid (IsReached mid) bound b
-      go (inl e) = in_file_block b (prepared.ready.has_old b (subst (λ x. HasBlock image (root_of image x) (size_of image x) b) e live.has))
-      go (inr other) = record {
-        tree = live.tree;
-        reached = on live.tree live.reached;
-        has = wider mid (root_of mid live.tree) (size_of mid live.tree) (bound live.tree) b (bound_low live.tree)
-            (other_block_on image mid (suc n) (size_of image (suc n)) (off + length bytes) (drop (size_of image (suc n) - off) bytes) prepared.taken prepared.ready live.tree live.reached other b live.has);
-      }
-
-  -- the blocks that are left in the set were free, and the preparation did not take them
   pub left_free : (b : ℕ) → has after b ≡ true → IsFreeBlock (current_words old) b × (Has prepared.taken b → ⊥)
-  left_free b is =
-      let there : Has (members blocks) b = subst (λ bs. Has bs b) (sym prepared.takes) (has-behind prepared.taken (members after) b (in_members after b is)) in (
-        across.can.exact.free_blocks.free b (of_members blocks b there),
-        λ took. apart_parts prepared.taken (members after) b (subst AreApart prepared.takes (members_apart blocks)) took (in_members after b is),
-      )
-
-  pub middle_exact : AreUnheld (current_words middle) (IsReached (current_words middle)) (sizes_with (current_words middle) touched) (has after)
-  middle_exact = record {
-    free = λ b is.
-        let free = left_free b is in
-        record {
-          low = free.0.low;
-          high = rw prepared.ready.meaning.whole free.0.high;
-          free = λ held. elim (held_back b held) [ inl was ↦ free.0.free was | inr took ↦ free.1 took ];
-        };
-    all = λ b unheld.
-        let was : has blocks b ≡ true =
-        across.can.exact.free_blocks.all b (record { low = unheld.low; high = rw prepared.ready.meaning.whole at unheld.high; free = λ live. unheld.free (held_on b live) }) in
-        elim (has_either prepared.taken (members after) b (subst (λ bs. Has bs b) prepared.takes (in_members blocks b was))) [
-          | inl early ↦ absurd (unheld.free (in_file_block b (prepared.ready.has_taken b early)))
-          | inr late ↦ of_members after b late
-        ];
-  }
+  left_free =
+      still_free old middle blocks inodes after (suc n) (size_of (current_words old) (suc n)) (off + length bytes) (drop (size_of (current_words old) (suc n) - off) bytes) across.can.well_formed across.can.exact across.can.reached
+      some past prepared (sizes_with (current_words middle) touched) bound_here bound_other
 
   -- so the sets are exact under these sizes
   pub middle_sets : length after ≡ length blocks → AreExactFor (current_words middle) (IsReached (current_words middle)) (sizes_with (current_words middle) touched) after inodes
-  middle_sets room = record {
-    block_room = rw prepared.ready.meaning.whole (room ∙ across.can.exact.block_room);
-    inode_room = rw prepared.ready.meaning.whole across.can.exact.inode_room;
-    free_blocks = middle_exact;
-    free_inodes = free_inodes_stay image mid (has inodes) (prepared.ready.sizes 0 inode_file) back on across.can.exact.free_inodes;
-  }
+  middle_sets =
+      prepared_sets old middle blocks inodes after (suc n) (size_of (current_words old) (suc n)) (off + length bytes) (drop (size_of (current_words old) (suc n) - off) bytes) across.can.well_formed across.can.exact across.can.reached
+      some past prepared (sizes_with (current_words middle) touched) bound_here bound_other
+
+  pub middle_exact : AreUnheld (current_words middle) (IsReached (current_words middle)) (sizes_with (current_words middle) touched) (has after)
+  middle_exact =
+      prepared_exact old middle blocks inodes after (suc n) (size_of (current_words old) (suc n)) (off + length bytes) (drop (size_of (current_words old) (suc n) - off) bytes) across.can.well_formed across.can.exact across.can.reached
+      some past prepared (sizes_with (current_words middle) touched) bound_here bound_other
 
   -- ---- the paths
 

@@ -148,7 +148,7 @@ module _ (first second third last : Memory) (blocks after : Set) (i j place : �
   before = reached-back image mid wf ready.meaning
 
   mid_free : IsFreeInode mid j
-  mid_free = record { low = can.can.free.low; high = rw (ready.sizes 0 inode_file) can.can.free.high; free = λ there. can.can.free.free (before j there) }
+  mid_free = record { low = can.free.low; high = rw (ready.sizes 0 inode_file) can.free.high; free = λ there. can.free.free (before j there) }
 
   mid_ready : IsReadyBehind mid i j name
   mid_ready = record {
@@ -234,10 +234,10 @@ module _ (first second third last : Memory) (blocks after : Set) (i j place : �
   enters = grown full full_well_formed i j (kind_word kind) place name fresh full_ready can.can.lacks.form missing full_size_at
 
   slot : size_of full i / 256 ≡ unwrap_or (empty_slot image i) (entry_count image i)
-  slot = ap (λ n. n / 256) full_size ∙ sym (ap (λ o. unwrap_or o (entry_count image i)) can.none)
+  slot = ap (λ n. n / 256) full_size ∙ sym (ap (λ o. unwrap_or o (entry_count image i)) can.can.none)
 
   effect : EntersName i name kind image (current_words last)
-  effect = rw committed (enters_over image full done wf meaning i (size_of full i / 256) j name kind can.can.free slot enters)
+  effect = rw committed (enters_over image full done wf meaning i (size_of full i / 256) j name kind can.free slot enters)
 
   full_root : root_of full 0 ≡ root_of image 0
   full_root = trees.root 0 inode_file (omega (arith, mid_size_leaf)) ∙ mid_root
@@ -245,7 +245,7 @@ module _ (first second third last : Memory) (blocks after : Set) (i j place : �
   covered : place ≡ address (current_words last) (cover image (gains i true))
   covered =
       rw committed
-      (sym (size_covered image full i place (size_of full i + 256) wf full_well_formed full_root reached full_ready.reached can.can.lacks.directory can.none full_size_at))
+      (sym (size_covered image full i place (size_of full i + 256) wf full_well_formed full_root reached full_ready.reached can.can.lacks.directory can.can.none full_size_at))
 
   -- a live block was live, or it was taken
   mid_live : (b : ℕ) → IsLiveBlock mid b → IsLiveBlock image b ⊎ Has puts.prepared.taken b
@@ -265,7 +265,7 @@ module _ (first second third last : Memory) (blocks after : Set) (i j place : �
           })
 
   number : length puts.prepared.taken ≡ need image (gains i true)
-  number = puts.prepared.counted ∙ sym (need_behind image i wf reached can.can.lacks.directory can.none)
+  number = puts.prepared.counted ∙ sym (need_behind image i wf reached can.can.lacks.directory can.can.none)
 
   abbrev stores : ℕ
   stores = prep_stores (size_of image i) (size_of image i) (size_of image i + 256) (need_for image i (size_of image i) (size_of image i + 256))
@@ -277,7 +277,7 @@ module _ (first second third last : Memory) (blocks after : Set) (i j place : �
       (rw committed (enters_well_formed full done full_well_formed i (size_of full i / 256) j (kind_word kind) name enters)) effect
 
   few : stores + 4 ≤ stores_behind_growth (need image (gains i true))
-  few = go _ _ _ (need_behind image i wf reached can.can.lacks.directory can.none) (behind_whole (size_of image i) (size_of image i) (size_of image i + 256) 3)
+  few = go _ _ _ (need_behind image i wf reached can.can.lacks.directory can.can.none) (behind_whole (size_of image i) (size_of image i) (size_of image i + 256) 3)
     where
       go : (made needs behind : ℕ) → needs ≡ made → behind ≤ 512 * suc 3 → 512 * made + behind + 2 + 4 ≤ 512 * (needs + 4) + 64
       go made needs behind e low = omega (arith, e, low)
@@ -360,7 +360,7 @@ module _ (first second third last : Memory) (blocks after : Set) (i j place : �
     block_room = rw whole (room ∙ exact.block_room);
     inode_room = rw whole (length_without inodes j ∙ exact.inode_room);
     free_blocks = free_taken image done whole puts.prepared.taken blocks after inodes exact puts.prepared.takes done_back done_on (λ b took. own_on b (ready.has_taken b took));
-    free_inodes = free_inodes_taken image done inodes j same_file (exact.free_inodes.all j can.can.free)
+    free_inodes = free_inodes_taken image done inodes j same_file (exact.free_inodes.all j can.free)
         (IsReached.named (size_of full i / 256) (done_stays i reached) enters.adds.entry) done_cases done_stays exact.free_inodes;
   })
     where
@@ -377,16 +377,16 @@ module _ (first second : Memory) (blocks after : Set) (i j : ℕ) (name : Name) 
   put_room =
       enough _ _ _ _ (room_in-piece _ _ first second puts.prepared.adds.part.added puts.prepared.adds.part.adds puts.prepared.adds.part.piece)
       (behind_whole (size_of (current_words first) i) (size_of (current_words first) i) (size_of (current_words first) i + 256) 3)
-      (few_behind (current_words first) can.can.lacks.well_formed i can.can.lacks.reached) can.room
+      (few_behind (current_words first) can.can.lacks.well_formed i can.can.lacks.reached) can.can.room
     where
       enough : (needed behind room left : ℕ) → room ≤ left + (2 + (512 * needed + behind + 2)) → behind ≤ 512 * suc 3 → needed ≤ 18 + 3 * 3 → 32 * 512 ≤ room → 6 ≤ left
       enough needed behind room left a b c d = omega (arith, a, b, c, d)
 
   pub put_free : IsFreeInode (current_words second) j
   put_free = record {
-    low = can.can.free.low;
-    high = rw (puts.prepared.ready.sizes 0 inode_file) can.can.free.high;
-    free = λ there. can.can.free.free (reached-back (current_words first) (current_words second) can.can.lacks.well_formed puts.prepared.ready.meaning j there);
+    low = can.free.low;
+    high = rw (puts.prepared.ready.sizes 0 inode_file) can.free.high;
+    free = λ there. can.free.free (reached-back (current_words first) (current_words second) can.can.lacks.well_formed puts.prepared.ready.meaning j there);
   }
 
   pub put_well_formed_behind : IsWellFormed (current_words second)

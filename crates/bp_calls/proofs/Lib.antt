@@ -25,6 +25,7 @@ pub mod MayLeave
 pub mod TakenBlocks
 pub mod WriteBehind
 pub mod AcrossTouched
+pub mod PreparedSets
 pub mod AcrossMiddle
 pub mod AcrossDone
 pub mod AcrossCalls

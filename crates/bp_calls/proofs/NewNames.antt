@@ -53,12 +53,15 @@ module _ (memory : Memory) (blocks inodes : Set) (i j : ℕ) (name : Name) (can 
 
   pub can_enter_behind : empty_slot (current_words memory) i ≡ None → CanEnterBehind memory blocks i j name
   can_enter_behind none = record {
-    can = can_name;
-    none = none;
-    inodes = inodes;
-    exact = can.exact;
-    enough = rw (need_behind (current_words memory) i can.lacks.well_formed can.lacks.reached can.lacks.directory none) at can.enough;
-    room = can.room;
+    can = record {
+      lacks = can.lacks;
+      none = none;
+      inodes = inodes;
+      exact = can.exact;
+      enough = rw (need_behind (current_words memory) i can.lacks.well_formed can.lacks.reached can.lacks.directory none) at can.enough;
+      room = can.room;
+    };
+    free = can_name.free;
   }
 
 -- ---- none is free, and the inode file has grown

@@ -19,7 +19,7 @@ use Rattle.bp_limits.specs.Limits.{max_size}
 use Rattle.pm_region.specs.Memory.{Memory, current_words}
 use Rattle.pm_region.proofs.MemoryLaws.{length-current_words}
 use Rattle.bp_calls.specs.Entries.{IsEntry, PutsBehind}
-use Rattle.bp_calls.specs.Steps.{CanEnterBehind}
+use Rattle.bp_calls.specs.Steps.{CanPutBehind}
 use Rattle.bp_calls.proofs.EnteredLaws.{directory_inode}
 use Rattle.bp_calls.proofs.EntryBytes.{inumber_there, length_there, inumber_read, name_read_back}
 use Rattle.bp_calls.proofs.TakenBlocks.{unused_members, usable_members}
@@ -39,35 +39,35 @@ module _ (old : Memory) (blocks : Set) (j : ℕ) (name : Name) where
   abbrev image : Image
   image = current_words old
 
-  prepares : (n : ℕ) → CanEnterBehind old blocks (suc n) j name → (path : WordPath) → path ≡ inode_path (height_of (root_of image 0)) (suc n) 1 →
+  prepares : (n : ℕ) → CanPutBehind old blocks (suc n) name → (path : WordPath) → path ≡ inode_path (height_of (root_of image 0)) (suc n) 1 →
       CanPrepare old (members blocks) (suc n) path (size_of image (suc n)) (size_of image (suc n) + 256)
   prepares n can path is = record {
-    well = can.can.lacks.well_formed;
-    reached = can.can.lacks.reached;
+    well = can.lacks.well_formed;
+    reached = can.lacks.reached;
     leads = is ∙ sym (append-nil (inode_path (height_of (root_of image 0)) (suc n) 1));
     behind = omega arith;
     order = omega arith;
-    fits = small_directory image can.can.lacks.well_formed (suc n) can.can.lacks.reached can.can.lacks.directory;
+    fits = small_directory image can.lacks.well_formed (suc n) can.lacks.reached can.lacks.directory;
     by_words = λ by. refl;
     usable = usable_members image blocks can.inodes can.exact _ (omega (arith, length-current_words old));
     unused = unused_members image blocks can.inodes can.exact;
     enough = can.enough;
-    room = let few = few_behind image can.can.lacks.well_formed (suc n) can.can.lacks.reached in omega (arith, few, can.room);
+    room = let few = few_behind image can.lacks.well_formed (suc n) can.lacks.reached in omega (arith, few, can.room);
   }
 
   -- given the size that was read
-  pub put_prepares : (i : ℕ) → CanEnterBehind old blocks i j name → (path : WordPath) → path ≡ inode_path (height_of (root_of image 0)) i 1 → (size : ℕ) → size ≡ size_of image i →
+  pub put_prepares : (i : ℕ) → CanPutBehind old blocks i name → (path : WordPath) → path ≡ inode_path (height_of (root_of image 0)) i 1 → (size : ℕ) → size ≡ size_of image i →
       CanPrepare old (members blocks) i path size (size + 256)
-  put_prepares zero can path is size e = absurd (directory_inode image 0 can.can.lacks.directory refl)
+  put_prepares zero can path is size e = absurd (directory_inode image 0 can.lacks.directory refl)
   put_prepares (suc n) can path is size e = rw e (prepares n can path is)
 
-  module _ (new : Memory) (rest : List ℕ) (i size : ℕ) (bytes : List ℕ) (can : CanEnterBehind old blocks i j name) (e : size ≡ size_of image i) (entry : IsEntry j name bytes)
+  module _ (new : Memory) (rest : List ℕ) (i size : ℕ) (bytes : List ℕ) (can : CanPutBehind old blocks i name) (e : size ≡ size_of image i) (entry : IsEntry j name bytes)
       (prepared : PreparesWith old new (members blocks) rest i size (size + 256) bytes) where
     pub put_well_formed : IsWellFormed (current_words new)
-    put_well_formed = well_formed-same image (current_words new) can.can.lacks.well_formed prepared.ready.meaning
+    put_well_formed = well_formed-same image (current_words new) can.lacks.well_formed prepared.ready.meaning
 
     pub put_reached : IsReached (current_words new) i
-    put_reached = reached_on image (current_words new) prepared.ready.meaning i can.can.lacks.reached
+    put_reached = reached_on image (current_words new) prepared.ready.meaning i can.lacks.reached
 
     pub put_sound : (root : ℕ) → root ≡ root_of (current_words new) i → IsSound (current_words new) root (size + 256)
     put_sound root is = rw is prepared.ready.sound
@@ -76,7 +76,7 @@ module _ (old : Memory) (blocks : Set) (j : ℕ) (name : Name) where
     laid o low high = prepared.ready.bytes_are o (omega (arith, low, e)) high
 
     entries : size % 256 ≡ 0
-    entries = rw e (can.can.lacks.well_formed.directory_sizes i can.can.lacks.reached can.can.lacks.directory)
+    entries = rw e (can.lacks.well_formed.directory_sizes i can.lacks.reached can.lacks.directory)
 
     module _ (root number count : ℕ) (is : root ≡ root_of (current_words new) i) (first : number ≡ content_word (current_words new) root (size / 8)) (second : count ≡ content_word (current_words new) root (size / 8 + 1))
         (small : number < 2 ^ 64) (also : count < 2 ^ 64) (low : j < 2 ^ 64) where
@@ -85,7 +85,7 @@ module _ (old : Memory) (blocks : Set) (j : ℕ) (name : Name) where
 
       second_is : content_word (current_words new) (root_of (current_words new) i) (size / 8 + 1) ≡ length name
       second_is = length_there (current_words new) (root_of (current_words new) i) size j name bytes entries entry laid
-          (let short = can.can.lacks.form.short in omega (arith, short)) (rw (second, is) at also)
+          (let short = can.lacks.form.short in omega (arith, short)) (rw (second, is) at also)
 
       pub put_number : number ≡ j
       put_number = first ∙ rw is first_is
@@ -99,5 +99,5 @@ module _ (old : Memory) (blocks : Set) (j : ℕ) (name : Name) where
         prepared = rw e at prepared;
         inumber = rw e at (inumber_read (current_words new) (root_of (current_words new) i) size j name bytes entries entry laid first_is);
         spelled = rw e at
-            (name_read_back (current_words new) (root_of (current_words new) i) size j name bytes entries entry laid can.can.lacks.form.short second_is);
+            (name_read_back (current_words new) (root_of (current_words new) i) size j name bytes entries entry laid can.lacks.form.short second_is);
       }

@@ -31,16 +31,21 @@ pub record CanName (image : Image) (i j : ℕ) (name : Name) : Type 0 where
 abbrev pub entering_room : ℕ
 entering_room = 32 * block_words
 
--- The same, no entry is empty, and as many blocks are free as the directory lacks for one entry more. The set of blocks
--- is exact, with one of inodes.
-pub record CanEnterBehind (memory : Memory) (blocks : Set) (i j : ℕ) (name : Name) : Type 0 where
-  pub can : CanName (current_words memory) i j name
+-- Directory i lacks the name, no entry is empty, and as many blocks are free as the directory lacks for one entry more.
+-- The set of blocks is exact, with one of inodes.
+pub record CanPutBehind (memory : Memory) (blocks : Set) (i : ℕ) (name : Name) : Type 0 where
+  pub lacks : LacksName (current_words memory) i name
   pub none : empty_slot (current_words memory) i ≡ None
   pub inodes : Set
   pub exact : AreExact (current_words memory) blocks inodes
   pub enough : need_for (current_words memory) i (size_of (current_words memory) i)
       (size_of (current_words memory) i + entry_size) ≤ length (members blocks)
   pub room : entering_room ≤ room_in memory
+
+-- the same, and inode j is free for it
+pub record CanEnterBehind (memory : Memory) (blocks : Set) (i j : ℕ) (name : Name) : Type 0 where
+  pub can : CanPutBehind memory blocks i name
+  pub free : IsFreeInode (current_words memory) j
 
 -- The directory lacks the name, the sets are exact, an inode is free, and so are as many blocks as the name needs.
 pub record CanEnter (memory : Memory) (blocks inodes : Set) (i : ℕ) (name : Name) : Type 0 where

@@ -5,7 +5,7 @@ ghost use Rattle.bp_shapes.specs.Sets.{AreExact};
 ghost use Rattle.bp_calls.specs.Created.{EntersName};
 ghost use Rattle.bp_calls.specs.Entries.{IsEntry, PutsBehind, entry_byte};
 ghost use Rattle.bp_calls.specs.Growth.{PerformsWithin, stores_behind_growth};
-ghost use Rattle.bp_calls.specs.Steps.{CanEnterBehind, CanName, entering_room};
+ghost use Rattle.bp_calls.specs.Steps.{CanEnterBehind, CanName, CanPutBehind, entering_room};
 ghost use Rattle.bp_free.specs.Set.{Set, members, without};
 ghost use Rattle.bp_layout.specs.Directory.{empty_slot};
 ghost use Rattle.bp_layout.specs.Inode.{root_of, size_of};
@@ -96,7 +96,7 @@ fn entry_bytes(inode: u32, name: &[u8]) -> [u8; ENTRY_SIZE as usize]
 /// Writes an entry behind the last one of a directory, where nobody sees it: the directory's tree is prepared for one
 /// entry more.
 pub fn put_behind<R: Region>(parts: &mut Parts<R>, dir: u32, tree: Tree, inode: u32, name: &[u8])
-    requires can { CanEnterBehind (R.memory parts.old.region) parts.old.blocks dir inode name.now }
+    requires can { CanPutBehind (R.memory parts.old.region) parts.old.blocks dir name.now }
     requires root { tree.root ≡ root_of (current_words (R.memory parts.old.region)) dir }
     requires size { tree.size ≡ size_of (current_words (R.memory parts.old.region)) dir }
     ensures puts { PutsBehind (R.memory parts.old.region) (R.memory parts.new.region) (members parts.old.blocks)

@@ -19,4 +19,4 @@ pub use giving::give_back;
 pub use reading::{list, read, stat};
 pub use removing::remove;
 pub use resizing::truncate;
-pub use writing::{root_path, write};
+pub use writing::{root_path, size_path, write};

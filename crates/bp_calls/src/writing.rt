@@ -35,6 +35,14 @@ pub fn root_path<R: Region>(region: &R, i: u32) -> Slots
     word_path(inode_file(region), u64::from(i) * INODE_SIZE + 8)
 }
 
+/// The path of the size word of an inode.
+pub fn size_path<R: Region>(region: &R, i: u32) -> Slots
+    requires { 4 ≤ length (current_words (R.memory region.now)) }
+    ensures { result.items ≡ inode_path (height_of (root_of (current_words (R.memory region.now)) 0)) i 2 }
+{
+    word_path(inode_file(region), u64::from(i) * INODE_SIZE + 16)
+}
+
 /// Writes bytes behind the size of a file. Its tree is prepared for them, and then its size takes them in.
 ///
 /// # Errors

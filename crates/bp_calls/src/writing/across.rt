@@ -8,30 +8,18 @@ ghost use Rattle.bp_calls.specs.TouchedAcross.{TouchesAcross};
 ghost use Rattle.bp_calls.specs.WritesFile.{WritesFile};
 ghost use Rattle.bp_layout.specs.Inode.{root_of, size_of};
 ghost use Rattle.bp_layout.specs.Need.Change.{writes};
-ghost use Rattle.bp_layout.specs.WordPaths.{inode_path};
-ghost use Rattle.bp_layout.specs.Words.{height_of};
 ghost use Rattle.bp_shapes.specs.Sets.{AreExact};
 ghost use Rattle.bp_tree.specs.Performs.{Performs};
 ghost use Rattle.pm_region.specs.Memory.{current_words};
 
 use crate::entering::tree_of;
-use crate::writing::root_path;
+use crate::writing::{root_path, size_path};
 use arrayvec::ArrayVec;
 use bp_append::{height_with, need_prep, prep};
 use bp_cow::{Run, Touched, commit, need_cover};
 use bp_free::{NoSpace, Parts};
-use bp_inodes::inode_file;
-use bp_limits::INODE_SIZE;
-use bp_tree::{Slots, Tree, word_path};
+use bp_tree::Tree;
 use pm_region::Region;
-
-/// The path of the size word of an inode.
-fn size_path<R: Region>(region: &R, i: u32) -> Slots
-    requires { 4 ≤ length (current_words (R.memory region.now)) }
-    ensures { result.items ≡ inode_path (height_of (root_of (current_words (R.memory region.now)) 0)) i 2 }
-{
-    word_path(inode_file(region), u64::from(i) * INODE_SIZE + 16)
-}
 
 /// What is touched by bytes that end past the size of a file: those below its size, in its tree once it is high enough
 /// for all of them, and its size, which will be the end.

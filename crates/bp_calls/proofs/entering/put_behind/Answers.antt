@@ -7,11 +7,11 @@ use Rattle.bp_calls.proofs.entering.put_behind.Goals as goal
 pub overflow_add-end : goal.overflow_add-end
 overflow_add-end g c =
     let can = c.requires.can in
-    let small = small_directory (current_words (g.R.Region.memory c.args.parts.now.region)) can.can.lacks.well_formed c.args.dir can.can.lacks.reached can.can.lacks.directory in
+    let small = small_directory (current_words (g.R.Region.memory c.args.parts.now.region)) can.lacks.well_formed c.args.dir can.lacks.reached can.lacks.directory in
     omega (arith, small, c.requires.size)
 
 pub root_path-at-requires : goal.root_path-at-requires
-root_path-at-requires g c = let wf = c.requires.can.can.lacks.well_formed in omega (arith, wf.at_least, wf.whole)
+root_path-at-requires g c = let wf = c.requires.can.lacks.well_formed in omega (arith, wf.at_least, wf.whole)
 
 pub prep-requires : goal.prep-requires
 prep-requires g c =
@@ -39,7 +39,7 @@ tree_of-requires-clause-reached g c =
 
 pub tree_of-requires-clause-some : goal.tree_of-requires-clause-some
 tree_of-requires-clause-some g c =
-    let some = directory_inode (current_words (g.R.Region.memory c.args.parts.now.region)) c.args.dir c.requires.can.can.lacks.directory in
+    let some = directory_inode (current_words (g.R.Region.memory c.args.parts.now.region)) c.args.dir c.requires.can.lacks.directory in
     omega (arith, some)
 
 pub content_word-inumber-requires-clause-sound : goal.content_word-inumber-requires-clause-sound

@@ -1,0 +1,249 @@
+-- Content words that are committed, each in a tree: what they ask, and what the commit makes of an image.
+use Rattle.std.proofs.Common.{◌≡◌, ◌≢◌, ◌⊎◌, ℕ, zero, suc, ◌+◌, ◌-◌, ◌*◌, ◌/◌, ◌%◌, ◌<◌, ◌≤◌, max, List, [], ◌∷◌, ◌++◌, length, Bool, None, Some, slice_index, refl, sym, ◌∙◌, ap, subst, subst₂, arith, inl, inr, lt_of_lt_of_le}
+use Rattle.std.specs.List.{All}
+use Rattle.std.proofs.lemmas.List.{length-append, length-take}
+use Rattle.std.proofs.lemmas.List.Elements.{All-append, All-get_or}
+use Rattle.bp_limits.specs.Limits.{max_height}
+use Rattle.bp_layout.specs.Free.{AreUnheld}
+use Rattle.bp_layout.specs.Inode.{kind_of, root_of, size_of}
+use Rattle.bp_layout.specs.Members.{Has}
+use Rattle.bp_layout.specs.Reached.{IsReached}
+use Rattle.bp_layout.specs.Reached.IsReached.{inode_file}
+use Rattle.bp_layout.specs.Tree.{content_word, IsFull, IsLivePointer}
+use Rattle.bp_layout.specs.WellFormed.{IsWellFormed}
+use Rattle.bp_layout.specs.WordPaths.{WordPath, digits, inode_path, tree_path}
+use Rattle.bp_layout.specs.Words.{Image, word, height_of}
+use Rattle.bp_layout.proofs.TreeLaws.{live_above, live_content}
+use Rattle.bp_changes.specs.Commits.{Commits, CommitsOnly, word_after}
+use Rattle.bp_shapes.specs.Forest.{along, root_trail, tree_trail, IsForest, IsTreePointer}
+use Rattle.bp_shapes.specs.Trail.{Trail, trail_of}
+use Rattle.bp_shapes.proofs.ForestLaws.{same_along, same_trail, short, skeleton, word-tree}
+use Rattle.bp_shapes.proofs.FreeSets.{content_fronts, content_no_pointer}
+use Rattle.bp_tree.proofs.Digits.{length-digits}
+use Rattle.bp_tree.proofs.PathLaws.{small_digits}
+use Rattle.bp_cow.specs.CanCommit.{CanCommit, HasRunIn}
+use Rattle.bp_cow.specs.Committed.{IsCommitted, after_commit, changes_of}
+use Rattle.bp_cow.specs.Cover.{LeadsInside, end_path, end_path_of}
+use Rattle.bp_cow.specs.Touched.{HasRun, IsTouched, NoneBegins, all_paths, job_of, leaves_of, path_of, touched_trail, word_paths}
+use Rattle.bp_cow.specs.declared.touched.Run.{Run}
+use Rattle.bp_cow.specs.declared.touched.Touched.{Touched}
+use Rattle.bp_cow.proofs.CommitLaws.{committed_commits, size_after}
+use Rattle.bp_cow.proofs.CopiesNeed.{paths-by}
+use Rattle.bp_cow.proofs.CoverLaws.{some-ends}
+use Rattle.bp_cow.proofs.RunFronts.{trail_of-take}
+use Rattle.bp_cow.proofs.RunWrites.{digits_trail, root_path_trail}
+use Rattle.bp_cow.proofs.Values.{after-others, after-word}
+
+-- Content words alone are touched: each in a reached tree below a size that counts, no root word, and no two alike.
+pub record AreContent (image : Image) (bound : ℕ → ℕ) (touched : Touched) (tree number : ℕ → ℕ) : Type 0 where
+  pub none : touched.run ≡ None
+  pub some : 1 ≤ length touched.words.items
+  pub few : length touched.words.items ≤ 32
+  pub reached : (i : ℕ) → i < length touched.words.items → IsReached image (tree i)
+  pub below : (i : ℕ) → i < length touched.words.items → 8 * number i < bound (tree i)
+  pub no_root : (i : ℕ) → i < length touched.words.items → tree i ≡ 0 → number i % 8 ≢ 1
+  pub path : (i : ℕ) → i < length touched.words.items →
+      path_of (word_paths touched) i ≡ tree_path (height_of (root_of image 0)) (tree i) (suc (height_of (root_of image (tree i)))) (number i)
+  pub apart : (i k : ℕ) → i < length touched.words.items → k < length touched.words.items → tree i ≡ tree k → number i ≡ number k → i ≡ k
+
+long_along : (base : Trail) (depth index : ℕ) → length (along base depth index) ≡ depth + length base
+long_along base zero index = omega arith
+long_along base (suc depth) index = omega (arith, long_along base depth (index / 512))
+
+-- ---- the path of a content word
+
+pub content_long : (top t depth k : ℕ) → length (tree_path top t depth k) ≤ depth + suc top
+content_long top zero depth k = omega (arith, length-digits depth k)
+content_long top (suc n) depth k =
+    omega (arith, length-append (inode_path top (suc n) 1) (digits depth k), length-digits depth k, length-digits (suc top) (8 * suc n + 1))
+
+pub content_some : (top t depth k : ℕ) → depth ≤ length (tree_path top t depth k)
+content_some top zero depth k = omega (arith, length-digits depth k)
+content_some top (suc n) depth k = omega (arith, length-append (inode_path top (suc n) 1) (digits depth k), length-digits depth k)
+
+pub content_slots : (top t depth k : ℕ) → All (λ slot. slot < 512) (tree_path top t depth k)
+content_slots top zero depth k = small_digits depth k
+content_slots top (suc n) depth k =
+    All-append (λ slot. slot < 512) (inode_path top (suc n) 1) (digits depth k) (small_digits (suc top) (8 * suc n + 1)) (small_digits depth k)
+
+pub content_trail : (top t depth k : ℕ) → trail_of (tree_path top t depth k) (length (tree_path top t depth k)) ≡ tree_trail top t depth k
+content_trail top zero depth k =
+    let size : length (digits depth k) ≡ 0 + depth = omega (arith, length-digits depth k) in
+    ap (trail_of (digits depth k)) size ∙ digits_trail [] depth k
+content_trail top (suc n) depth k =
+    let root : List ℕ = inode_path top (suc n) 1 in
+    let size : length (inode_path top (suc n) 1 ++ digits depth k) ≡ length (inode_path top (suc n) 1) + depth =
+    omega (arith, length-append (inode_path top (suc n) 1) (digits depth k), length-digits depth k) in
+    ap (trail_of (inode_path top (suc n) 1 ++ digits depth k)) size ∙ digits_trail (inode_path top (suc n) 1) depth k
+    ∙ ap (λ (base : Trail). along base depth k) (root_path_trail top n (inode_path top (suc n) 1) refl)
+
+-- ---- different words are on different trails
+
+module _ (image : Image) (bound : ℕ → ℕ) (forest : IsForest image bound) where
+  -- a word of the inode file is on a shorter trail than those of an inode's tree
+  other_tree : (k m l : ℕ) → tree_trail (height_of (word image 2)) 0 (suc (height_of (root_of image 0))) k ≡ tree_trail (height_of (word image 2)) (suc m) (suc (height_of (root_of image (suc m)))) l → ⊥
+  other_tree k m l same =
+      omega (
+        arith,
+        ap (λ (x : Trail). length x) same,
+        long_along [] (suc (height_of (root_of image 0))) k,
+        long_along (root_trail (height_of (word image 2)) (suc m)) (suc (height_of (root_of image (suc m)))) l,
+        long_along [] (suc (height_of (word image 2))) (8 * suc m + 1),
+      )
+
+  leaf : (t k : ℕ) → 8 * k < bound t → IsLivePointer (root_of image t) (bound t) (height_of (root_of image t)) (k / 512)
+  leaf t k low = live_above _ _ _ _ (live_content (root_of image t) (bound t) k low)
+
+  -- a word's trail tells its tree and its number
+  pub same_word : (t k u l : ℕ) → IsReached image t → IsReached image u → 8 * k < bound t → 8 * l < bound u →
+      tree_trail (height_of (word image 2)) t (suc (height_of (root_of image t))) k ≡ tree_trail (height_of (word image 2)) u (suc (height_of (root_of image u))) l → (t ≡ u) × (k ≡ l)
+  same_word zero k zero l one two low few same =
+      let all = same_along [] [] (suc (height_of (root_of image 0))) k l
+      (short image bound forest 0 (height_of (root_of image 0)) (k / 512) one (leaf 0 k low)) (short image bound forest 0 (height_of (root_of image 0)) (l / 512) two (leaf 0 l few)) same in
+      (refl, all.1)
+  same_word zero k (suc m) l one two low few same = absurd (other_tree k m l same)
+  same_word (suc n) k zero l one two low few same = absurd (other_tree l n k (sym same))
+  same_word (suc n) k (suc m) l one two low few same =
+      let all = same_trail image bound forest (suc n) (suc (height_of (root_of image (suc n)))) k (suc m) (suc (height_of (root_of image (suc m)))) l one two
+      (short image bound forest (suc n) (height_of (root_of image (suc n))) (k / 512) one (leaf (suc n) k low))
+      (short image bound forest (suc m) (height_of (root_of image (suc m))) (l / 512) two (leaf (suc m) l few))
+      (omega arith) (omega arith) (λ e _ _. absurd (omega (arith, e))) (λ e _ _. absurd (omega (arith, e))) same in
+      (all.0, all.2)
+
+module _ (image : Image) (bound : ℕ → ℕ) (forest : IsForest image bound) (touched : Touched) (tree number : ℕ → ℕ) (are : AreContent image bound touched tree number) where
+  abbrev count : ℕ
+  count = length touched.words.items
+
+  abbrev trail : ℕ → ℕ → Trail
+  trail t k = tree_trail (height_of (word image 2)) t (suc (height_of (root_of image t))) k
+
+  low_tree : (t : ℕ) → IsReached image t → 0 < bound t → height_of (root_of image t) ≤ max_height
+  low_tree t reached some = (forest.sound t reached).low some
+
+  pub words_shape : IsTouched touched
+  words_shape =
+      let top : height_of (root_of image 0) ≤ max_height = low_tree 0 inode_file forest.some in
+      record {
+        run = subst HasRun (sym are.none) tt;
+        few = are.few;
+        words = λ i here.
+            rw (are.path i here) (omega (arith, content_some (height_of (root_of image 0)) (tree i) (suc (height_of (root_of image (tree i)))) (number i)));
+        short = λ i here.
+            let below : 8 * number i < bound (tree i) = are.below i here in
+            let low : height_of (root_of image (tree i)) ≤ max_height = low_tree (tree i) (are.reached i here) (omega (arith, below)) in
+            rw (are.path i here) (omega (arith, top, low, content_long (height_of (root_of image 0)) (tree i) (suc (height_of (root_of image (tree i)))) (number i)));
+        slots = λ i d here deep.
+            All-get_or (λ slot. slot < 512) (path_of (word_paths touched) i) d 0 deep
+            (subst (All (λ slot. slot < 512)) (sym (are.path i here)) (content_slots (height_of (root_of image 0)) (tree i) (suc (height_of (root_of image (tree i)))) (number i)));
+        some = omega (arith, are.some);
+      }
+
+  pub words_trail : (i : ℕ) → i < length touched.words.items → touched_trail touched i ≡ tree_trail (height_of (word image 2)) (tree i) (suc (height_of (root_of image (tree i)))) (number i)
+  words_trail i here =
+      ap (λ (p : WordPath). trail_of p (length p)) (are.path i here) ∙ content_trail (height_of (root_of image 0)) (tree i) (suc (height_of (root_of image (tree i)))) (number i)
+
+  whole : (i : ℕ) → i < length touched.words.items → length (path_of (word_paths touched) i) ≡ suc (length (path_of (word_paths touched) i) - 1)
+  whole i here = omega (arith, words_shape.words i here)
+
+  at : (i : ℕ) → i < length touched.words.items →
+      trail_of (path_of (word_paths touched) i) (suc (length (path_of (word_paths touched) i) - 1)) ≡ tree_trail (height_of (word image 2)) (tree i) (suc (height_of (root_of image (tree i)))) (number i)
+  at i here = ap (trail_of (path_of (word_paths touched) i)) (sym (whole i here)) ∙ words_trail i here
+
+  -- each proper front of a path is a pointer, and no path is one
+  pub words_fronts : (i d : ℕ) → i < length touched.words.items → d < length (path_of (word_paths touched) i) → IsTreePointer image bound (trail_of (path_of (word_paths touched) i) d)
+  words_fronts i d here deep =
+      content_fronts image bound forest (path_of (word_paths touched) i) (length (path_of (word_paths touched) i) - 1) (tree i) (number i) (are.reached i here) (are.below i here) (at i here) d (omega (arith, deep))
+
+  words_no_pointer : (i : ℕ) → i < length touched.words.items → IsTreePointer image bound (touched_trail touched i) → ⊥
+  words_no_pointer i here pointer =
+      content_no_pointer image bound forest (path_of (word_paths touched) i) (length (path_of (word_paths touched) i) - 1) (tree i) (number i) (are.reached i here) (are.below i here) (at i here) (are.no_root i here)
+      (subst (λ d. IsTreePointer image bound (trail_of (path_of (word_paths touched) i) d)) (whole i here) pointer)
+
+  no_run : (run : Run) → touched.run ≡ Some run → ⊥
+  no_run run e = clash (sym are.none ∙ e)
+    where
+      clash : None ≡ Some run → ⊥
+      clash f = absurd (cc)
+
+  -- so the cover and its need can be asked for
+  pub words_apart : NoneBegins (all_paths touched)
+  words_apart path other has also m low same =
+      let size : length path ≡ m = ap (λ (p : WordPath). length p) (sym same) ∙ length-take m other ∙ omega (arith, low) in
+      plain path has
+      (subst (IsTreePointer image bound) (sym (ap (trail_of path) size ∙ ap (λ p. trail_of p m) (sym same) ∙ trail_of-take other m m (omega arith))) (fronts other also m low))
+    where
+      plain : (p : WordPath) → Has (all_paths touched) p → IsTreePointer image bound (trail_of p (length p)) → ⊥
+      plain = paths-by touched words_shape (λ p. IsTreePointer image bound (trail_of p (length p)) → ⊥) (λ run k e _ _. absurd (no_run run e)) words_no_pointer
+
+      fronts : (p : WordPath) → Has (all_paths touched) p → (d : ℕ) → d < length p → IsTreePointer image bound (trail_of p d)
+      fronts = paths-by touched words_shape (λ p. (d : ℕ) → d < length p → IsTreePointer image bound (trail_of p d)) (λ run k e _ _. absurd (no_run run e)) (λ i here d deep. words_fronts i d here deep)
+
+  pub words_inside : IsWellFormed image → LeadsInside image touched
+  words_inside wf d alike =
+      let first : end_path touched 0 ≡ path_of (word_paths touched) 0 = ap (λ r. end_path_of r (word_paths touched) 0) are.none in
+      let long : d + 1 ≤ length (end_path touched 0) = alike.long 0 (some-ends touched words_shape) in
+      let deep : d < length (path_of (word_paths touched) 0) = subst (λ (p : WordPath). d < length p) first (omega (arith, long)) in
+      (skeleton image bound forest wf.whole).in_range _ (subst (λ p. IsTreePointer image bound (trail_of p d)) (sym first) (words_fronts 0 d (omega (arith, are.some)) deep))
+
+  module _ (sizes : (t : ℕ) → IsReached image t → size_of image t ≤ bound t) (free : ℕ → Bool) (exact : AreUnheld image (IsReached image) bound free) where
+    pub words_can : CanCommit image bound touched free
+    words_can = record {
+      shape = words_shape;
+      forest = forest;
+      sizes = sizes;
+      exact = exact;
+      pointers = words_fronts;
+      contents = words_no_pointer;
+      run = subst (HasRunIn image bound) (sym are.none) tt;
+      apart = λ i k here there same.
+          let both = same_word image bound forest (tree i) (number i) (tree k) (number k) (are.reached i here) (are.reached k there) (are.below i here) (are.below k there)
+          (sym (words_trail i here) ∙ same ∙ words_trail k there) in
+          are.apart i k here there both.0 both.1;
+      beside = λ run i k e here low high same. no_run run e;
+    }
+
+  -- ---- what the commit makes
+
+  module _ (free : ℕ → Bool) (wf : IsWellFormed image) (can : CanCommit image bound touched free) where
+    -- a touched word has its value
+    pub words_value : (i : ℕ) → i < length touched.words.items →
+        after_commit image (job_of touched) (tree_trail (height_of (word image 2)) (tree i) (suc (height_of (root_of image (tree i)))) (number i)) ≡ (job_of touched).value i
+    words_value i here = ap (after_commit image (job_of touched)) (sym (words_trail i here)) ∙ after-word image bound touched free wf can i here
+
+    -- another word stays
+    pub words_kept : (t k : ℕ) → IsReached image t → 8 * k < bound t → ((i : ℕ) → i < length touched.words.items → t ≡ tree i → k ≡ number i → ⊥) →
+        after_commit image (job_of touched) (tree_trail (height_of (word image 2)) t (suc (height_of (root_of image t))) k) ≡ content_word image (root_of image t) k
+    words_kept t k reached low other =
+        after-others image bound touched free wf can (k % 512) (along (root_trail (height_of (word image 2)) t) (height_of (root_of image t)) (k / 512)) (omega arith)
+        (λ i here same.
+        let both = same_word image bound forest t k (tree i) (number i) reached (are.reached i here) low (are.below i here) (same ∙ words_trail i here) in
+        other i here both.0 both.1)
+        (λ run l e low high same. no_run run e)
+        ∙ word-tree image t (suc (height_of (root_of image t))) k
+
+    -- Where no size grows past what counts, the commit is told on content words.
+    module _ (new : Image) (turned : Trail → Type 0) (stage : IsCommitted image new (IsTreePointer image bound) turned (after_commit image (job_of touched))) where
+      -- a size that is not touched stays
+      pub size_kept : (t : ℕ) → IsReached image t → ((i : ℕ) → i < length touched.words.items → tree i ≡ 0 → number i ≡ 8 * t + 2 → ⊥) → size_of new t ≡ size_of image t
+      size_kept zero reached other = stage.superblock 3 (omega arith) (λ e. omega (arith, e))
+      size_kept (suc n) reached other =
+          let inside : 64 * suc n + 64 ≤ bound 0 = forest.in_file n reached in
+          size_after image new bound forest turned (job_of touched) stage n reached
+          ∙ words_kept 0 (8 * suc n + 2) inode_file (omega (arith, inside)) (λ i here e f. other i here (sym e) (sym f))
+
+      -- a size that is touched has its value
+      pub size_given : (n i : ℕ) → IsReached image (suc n) → i < length touched.words.items → tree i ≡ 0 → number i ≡ 8 * suc n + 2 → size_of new (suc n) ≡ (job_of touched).value i
+      size_given n i reached here e f =
+          size_after image new bound forest turned (job_of touched) stage n reached
+          ∙ sym (subst₂ (λ t k. after_commit image (job_of touched) (tree_trail (height_of (word image 2)) t (suc (height_of (root_of image t))) k) ≡ after_commit image (job_of touched) (tree_trail (height_of (word image 2)) 0 (suc (height_of (root_of image 0))) (8 * suc n + 2))) (sym e) (sym f) refl)
+          ∙ words_value i here
+
+      pub words_only : (Changed : ℕ → ℕ → Type 0) → ((t : ℕ) → IsReached image t → size_of new t ≤ bound t) →
+          IsFull image (root_of image 0) (bound 0) → ((i : ℕ) → IsReached image i → kind_of image i ≡ 2 → IsFull image (root_of image i) (bound i)) →
+          ((i : ℕ) → i < length touched.words.items → Changed (tree i) (number i)) →
+          CommitsOnly image new (changes_of image (job_of touched)) Changed
+      words_only Changed low file directories told = record {
+        commits = committed_commits image new bound forest turned (job_of touched) stage can.sizes low file directories;
+        kept = λ t k reached below other.
+            words_kept t k reached (lt_of_lt_of_le below (can.sizes t reached)) (λ i here e f. other (subst₂ Changed (sym e) (sym f) (told i here)));
+      }

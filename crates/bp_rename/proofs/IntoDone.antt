@@ -1,0 +1,118 @@
+-- A name has moved into an empty entry of another directory: that it is performed, and that the sets are exact.
+use Rattle.std.proofs.Common.{◌≡◌, ◌≢◌, ◌⊎◌, ℕ, zero, suc, ◌+◌, ◌*◌, ◌/◌, ◌%◌, ◌<◌, ◌≤◌, List, [], ◌∷◌, ◌++◌, ◌==◌, if◌then◌else◌, length, flat_map, None, Some, unwrap_or, refl, sym, ◌∙◌, ap, ap₂, subst, arith, inl, inr}
+use Rattle.bp_free.specs.Set.{Set, has, members}
+use Rattle.bp_layout.specs.Directory.{Name, empty_slot, entry_count, inumber_at, name_at}
+use Rattle.bp_layout.specs.Inode.{kind_of, root_of, size_of}
+use Rattle.bp_layout.specs.Members.{Has}
+use Rattle.bp_layout.specs.Need.{Beyond, Change, beyond, common_all, content_path, copied, cover, height_after, is_there_after, need, new_entry, new_inodes, preparation, prepared_for}
+use Rattle.bp_layout.specs.Need.Change.{moves}
+use Rattle.bp_layout.specs.Need as layout
+use Rattle.std.specs.List.{fold}
+use Rattle.bp_layout.specs.Nodes.{height_with}
+use Rattle.bp_layout.specs.Reached.{IsReached}
+use Rattle.bp_layout.specs.WellFormed.{IsWellFormed}
+use Rattle.bp_layout.specs.WordPaths.{WordPath, is_pointed, tree_path}
+use Rattle.bp_layout.specs.Words.{Image, height_of, word}
+use Rattle.bp_layout.proofs.Reached.{reached-in_file}
+use Rattle.bp_limits.specs.Limits.{call_room}
+use Rattle.bp_shapes.specs.Forest.{tree_trail}
+use Rattle.bp_shapes.specs.Sets.{AreExact}
+use Rattle.bp_shapes.proofs.FreeSets.{wf_forest}
+use Rattle.bp_tree.specs.Performs.{AddsTaking, Performs}
+use Rattle.bp_tree.proofs.ExistingPaths.{AllThere, content_path-there}
+use Rattle.bp_cow.specs.CanCommit.{CanCommit}
+use Rattle.bp_cow.specs.Commit.{CommitsTouched, HasRoom}
+use Rattle.bp_cow.specs.Committed.{after_commit, changes_of}
+use Rattle.bp_cow.specs.Cover.{LeadsInside, commit_cover, copied_count, copied_paths}
+use Rattle.bp_cow.specs.Job.{IsTurned}
+use Rattle.bp_cow.specs.Touched.{IsTouched, NoneBegins, all_paths, job_of}
+use Rattle.bp_cow.specs.declared.touched.Touched.{Touched}
+use Rattle.bp_rename.specs.CanRename.{CanRename, moved_inode}
+use Rattle.bp_rename.specs.TouchesTwo.{TouchesTwo, inumber_path}
+use Rattle.bp_rename.specs.declared.moving.Move.{Move}
+use Rattle.bp_calls.proofs.Refusals.{found_empty}
+use Rattle.bp_rename.proofs.ContentWords.{AreContent, words_apart, words_inside, words_shape}
+use Rattle.bp_rename.proofs.TwoWords.{has_first, pick, two_are, two_paths}
+use Rattle.bp_rename.proofs.WholePaths.{cover-whole, pointed-directory}
+
+-- ---- what is touched, told on the image before
+
+module _ (image : Image) (move : Move) (s : ℕ) (can : CanRename image move) (other : move.from_dir ≢ move.to_dir) (found : empty_slot image move.to_dir ≡ Some s)
+    (touched : Touched) (is : TouchesTwo touched (inumber_path image move.to_dir s) (inumber_path image move.from_dir move.from_slot) (moved_inode image move) 0) where
+  abbrev change : Change
+  change = moves move.from_dir move.from_slot move.to_dir
+
+  low_target : 8 * (32 * s + 0) < size_of image move.to_dir
+  low_target = let low = (found_empty image move.to_dir s found).0 in omega (arith, low)
+
+  low_source : 8 * (32 * move.from_slot + 0) < size_of image move.from_dir
+  low_source = omega (arith, can.entry.in_size)
+
+  are : AreContent image (size_of image) touched (pick move.to_dir move.from_dir) (pick (32 * s + 0) (32 * move.from_slot + 0))
+  are =
+      two_are image touched move.to_dir (32 * s + 0) move.from_dir (32 * move.from_slot + 0) (moved_inode image move) 0 is (size_of image) can.target can.source low_target low_source
+      (no_file move.to_dir (32 * s + 0) can.directory) (no_file move.from_dir (32 * move.from_slot + 0) can.entry.directory)
+      (λ e f. other (sym e))
+    where
+      no_file : (t l : ℕ) → kind_of image t ≡ 2 → t ≡ 0 → l % 8 ≢ 1
+      no_file t l kind e = let two : kind_of image 0 ≡ 2 = subst (λ x. kind_of image x ≡ 2) e kind in absurd (omega (arith, two))
+
+  pub into_shape : IsTouched touched
+  into_shape = words_shape image (size_of image) (wf_forest image can.well_formed) touched (pick move.to_dir move.from_dir) (pick (32 * s + 0) (32 * move.from_slot + 0)) are
+
+  pub into_inside : LeadsInside image touched
+  into_inside = words_inside image (size_of image) (wf_forest image can.well_formed) touched (pick move.to_dir move.from_dir) (pick (32 * s + 0) (32 * move.from_slot + 0)) are can.well_formed
+
+  pub into_apart : NoneBegins (all_paths touched)
+  into_apart = words_apart image (size_of image) (wf_forest image can.well_formed) touched (pick move.to_dir move.from_dir) (pick (32 * s + 0) (32 * move.from_slot + 0)) are
+
+  nothing_beyond : beyond image (moves move.from_dir move.from_slot move.to_dir) ≡ []
+  nothing_beyond = ap (new_entry image move.to_dir) found
+
+  heights : (t : ℕ) → height_after image (moves move.from_dir move.from_slot move.to_dir) t ≡ height_of (root_of image t)
+  heights t =
+      ap (λ (bs : List Beyond). fold (λ h (b : Beyond). if b.tree == t then height_with (root_of image t) (size_of image t) b.to else h) (height_of (root_of image t)) (bs ++ new_inodes image (moves move.from_dir move.from_slot move.to_dir))) nothing_beyond
+
+  touched_is : layout.touched image (moves move.from_dir move.from_slot move.to_dir) ≡ inumber_path image move.to_dir s ∷ inumber_path image move.from_dir move.from_slot ∷ []
+  touched_is =
+      ap (λ o. layout.entered image (moves move.from_dir move.from_slot move.to_dir) move.to_dir o ∷ layout.entry_path image (moves move.from_dir move.from_slot move.to_dir) move.from_dir move.from_slot 0 ∷ []) found
+      ∙ ap (λ h. tree_path h move.to_dir (suc (height_after image (moves move.from_dir move.from_slot move.to_dir) move.to_dir)) (32 * s + 0)
+      ∷ tree_path h move.from_dir (suc (height_after image (moves move.from_dir move.from_slot move.to_dir) move.from_dir)) (32 * move.from_slot + 0) ∷ []) (heights 0)
+      ∙ ap₂ (λ h k. tree_path (height_of (root_of image 0)) move.to_dir (suc h) (32 * s + 0) ∷ tree_path (height_of (root_of image 0)) move.from_dir (suc k) (32 * move.from_slot + 0) ∷ []) (heights move.to_dir) (heights move.from_dir)
+
+  pub into_paths : all_paths touched ≡ layout.touched image (moves move.from_dir move.from_slot move.to_dir)
+  into_paths = two_paths image touched move.to_dir (32 * s + 0) move.from_dir (32 * move.from_slot + 0) (moved_inode image move) 0 is ∙ sym touched_is
+
+  target_there : AllThere (is_there_after image (moves move.from_dir move.from_slot move.to_dir)) [] (inumber_path image move.to_dir s)
+  target_there =
+      subst (AllThere (is_there_after image (moves move.from_dir move.from_slot move.to_dir)) []) path
+      (content_path-there image (moves move.from_dir move.from_slot move.to_dir) can.well_formed (heights 0) move.to_dir (32 * s + 0) can.target (heights move.to_dir)
+      (can.well_formed.full_directories move.to_dir can.target can.directory) low_target)
+    where
+      path : content_path image (moves move.from_dir move.from_slot move.to_dir) move.to_dir (32 * s + 0) ≡ inumber_path image move.to_dir s
+      path = ap₂ (λ h k. tree_path h move.to_dir (suc k) (32 * s + 0)) (heights 0) (heights move.to_dir)
+
+  pub into_whole : cover image (moves move.from_dir move.from_slot move.to_dir) ≡ common_all (layout.touched image (moves move.from_dir move.from_slot move.to_dir))
+  into_whole =
+      cover-whole (is_there_after image (moves move.from_dir move.from_slot move.to_dir)) (layout.touched image (moves move.from_dir move.from_slot move.to_dir)) (inumber_path image move.to_dir s)
+      (subst (λ (ps : List WordPath). Has ps (inumber_path image move.to_dir s)) (sym touched_is) (inl refl)) target_there
+
+  -- in any image whose paths are as long, the commit copies as many blocks as are needed
+  pub into_count : (mid : Image) → commit_cover mid touched ≡ cover image (moves move.from_dir move.from_slot move.to_dir) → copied_count mid touched ≡ need image (moves move.from_dir move.from_slot move.to_dir)
+  into_count mid covers =
+      let paths : copied_paths mid touched ≡ copied image (moves move.from_dir move.from_slot move.to_dir) =
+      ap (λ (path : WordPath). layout.prefixes_of (length path) [] (all_paths touched)) covers
+      ∙ ap (λ (paths : List WordPath). layout.prefixes_of (length (cover image (moves move.from_dir move.from_slot move.to_dir))) [] paths) into_paths in
+      let nothing : preparation image (moves move.from_dir move.from_slot move.to_dir) ≡ [] = ap (flat_map (prepared_for image)) nothing_beyond in
+      let none : length (preparation image (moves move.from_dir move.from_slot move.to_dir)) ≡ 0 = ap length nothing in
+      ap (λ (ps : List WordPath). length ps) paths ∙ omega (arith, none)
+
+  pub into_cover : commit_cover image touched ≡ cover image (moves move.from_dir move.from_slot move.to_dir)
+  into_cover =
+      cover-whole (is_pointed image) (all_paths touched) (inumber_path image move.to_dir s)
+      (has_first image touched move.to_dir (32 * s + 0) move.from_dir (32 * move.from_slot + 0) (moved_inode image move) 0 is)
+      (pointed-directory image can.well_formed move.to_dir (32 * s + 0) can.target can.directory low_target)
+      ∙ ap common_all into_paths ∙ sym into_whole
+
+  pub into_need : copied_count image touched ≡ need image (moves move.from_dir move.from_slot move.to_dir)
+  into_need = into_count image into_cover

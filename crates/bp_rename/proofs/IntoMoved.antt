@@ -1,0 +1,196 @@
+-- A name has moved into an empty entry of another directory: that it is performed, and that the sets are exact.
+use Rattle.std.proofs.Common.{◌≡◌, ◌≢◌, ◌⊎◌, ℕ, zero, suc, ◌+◌, ◌*◌, ◌/◌, ◌%◌, ◌<◌, ◌≤◌, [], ◌∷◌, length, None, Some, unwrap_or, refl, sym, ◌∙◌, ap, subst, arith, inl, inr}
+use Rattle.pm_epochs.specs.declared.event.Event.TheVariants.{Barrier}
+use Rattle.pm_epochs.specs.May.{AnyAt}
+use Rattle.pm_region.specs.Memory.{Adds, Memory, current_words, room_in}
+use Rattle.pm_region.specs.Safe.{AddsMay}
+use Rattle.pm_region.proofs.SafeLaws.{room_after_quiet}
+use Rattle.bp_dirs.specs.Written.{HasNameAt}
+use Rattle.bp_tree.specs.Within.{IsWithin}
+use Rattle.bp_tree.specs.Performs.{Performs}
+use Rattle.bp_free.specs.Set.{Set, has, members}
+use Rattle.bp_layout.specs.Directory.{empty_slot, entry_count, name_at}
+use Rattle.bp_layout.specs.Inode.{ContentStandsAt, kind_of, root_of, size_of}
+use Rattle.bp_layout.specs.Need.{common_all, cover, need}
+use Rattle.bp_layout.specs.Need.Change.{moves}
+use Rattle.bp_layout.specs.Reached.{IsReached}
+use Rattle.bp_layout.specs.Same.{Same}
+use Rattle.bp_layout.specs.WellFormed.{IsWellFormed}
+use Rattle.bp_layout.specs.WordPaths.{is_pointed}
+use Rattle.bp_layout.specs.Words.{Image, block_count, height_of, word}
+use Rattle.bp_limits.specs.Limits.{call_room}
+use Rattle.bp_changes.specs.Commits.{CommitsOnly}
+use Rattle.bp_changes.specs.Effects.{CanMoveEntry, CarriesEntry, MovesEntry}
+use Rattle.bp_changes.proofs.ChangesOver.{carries_over}
+use Rattle.bp_changes.proofs.Committed.{commit_moves}
+use Rattle.bp_changes.proofs.Move.{moved_well_formed, moves_carry}
+use Rattle.bp_shapes.specs.Forest.{tree_trail}
+use Rattle.bp_shapes.specs.Sets.{AreExact}
+use Rattle.bp_shapes.proofs.FreeSets.{wf_forest}
+use Rattle.bp_shapes.proofs.MovedSets.{carried_exact}
+use Rattle.bp_cow.specs.CanCommit.{CanCommit}
+use Rattle.bp_cow.specs.Commit.{CommitsTouched, HasRoom}
+use Rattle.bp_cow.specs.Committed.{after_commit, changes_of}
+use Rattle.bp_cow.specs.Cover.{commit_cover, copied_count}
+use Rattle.bp_cow.specs.Job.{IsTurned}
+use Rattle.bp_cow.specs.Touched.{all_paths, job_of, path_of, word_paths}
+use Rattle.bp_cow.specs.declared.touched.Touched.{Touched}
+use Rattle.bp_cow.proofs.CommitTaking.{commit_performs_after, copied_few, cover_open, stores_few}
+use Rattle.bp_cow.proofs.CopiesNeed.{has-word}
+use Rattle.bp_calls.proofs.AfterLaws.{live_before_too, size_after}
+use Rattle.bp_calls.proofs.EnteredLaws.{name_same}
+use Rattle.bp_calls.proofs.SetLaws.{exact_prepared}
+use Rattle.bp_calls.proofs.Trees.{SameTrees}
+use Rattle.bp_rename.specs.CanRename.{CanRename, moved_inode}
+use Rattle.bp_rename.specs.RenamesEntry.{RenamesEntry, new_slot}
+use Rattle.bp_rename.specs.RenamesEntry.RenamesEntry.{across}
+use Rattle.bp_rename.specs.TouchesTwo.{TouchesTwo, inumber_path}
+use Rattle.bp_rename.specs.declared.moving.Move.{Move}
+use Rattle.bp_rename.proofs.ContentWords.{AreContent, size_kept, words_can, words_only, words_value}
+use Rattle.bp_rename.proofs.IntoDone.{into_count, into_paths, into_whole}
+use Rattle.bp_rename.proofs.IntoLaws.{into_can, into_taking, into_trees, mid_empty, mid_formed, mid_name, mid_outside, mid_touches}
+use Rattle.bp_rename.proofs.TwoWords.{first_value, has_first, no_leaves, pick, second_value, two_are, two_count}
+use Rattle.bp_rename.proofs.WholePaths.{cover-whole, pointed-directory}
+
+module _ (old third mid : Memory) (move : Move) (s entry : ℕ) (can : CanRename (current_words old) move) (new_name : move.to_slot ≡ None) (other : move.from_dir ≢ move.to_dir)
+    (found : empty_slot (current_words old) move.to_dir ≡ Some s) (entry_at : ContentStandsAt (current_words old) move.to_dir (32 * s + 0) entry)
+    (spells : AddsMay (AnyAt (IsWithin (entry + 1) 31)) 0 31 old third) (spelled : HasNameAt (current_words third) entry move.name.now)
+    (ends : Adds third mid (Barrier ∷ [])) (touched : Touched)
+    (is : TouchesTwo touched (inumber_path (current_words old) move.to_dir s) (inumber_path (current_words old) move.from_dir move.from_slot) (moved_inode (current_words old) move) 0)
+    (blocks inodes : Set) (exact : AreExact (current_words old) blocks inodes) (room : call_room ≤ room_in old) where
+  can_move : CanMoveEntry (current_words mid) move.from_dir move.from_slot move.to_dir s (moved_inode (current_words old) move)
+  can_move = into_can old third mid move s entry can new_name other found entry_at spells spelled ends
+
+  trees : SameTrees (current_words old) (current_words mid)
+  trees = into_trees old third mid move s entry can new_name other found entry_at spells spelled ends
+
+  formed : IsWellFormed (current_words mid)
+  formed = mid_formed old third mid move s entry can new_name other found entry_at spells spelled ends
+
+  is_mid : TouchesTwo touched (inumber_path (current_words mid) move.to_dir s) (inumber_path (current_words mid) move.from_dir move.from_slot) (moved_inode (current_words old) move) 0
+  is_mid = mid_touches old third mid move s entry can new_name other found entry_at spells spelled ends touched (moved_inode (current_words old) move) 0 is
+
+  low_target : 8 * (32 * s + 0) < size_of (current_words mid) move.to_dir
+  low_target = omega (arith, can_move.in_size)
+
+  are : AreContent (current_words mid) (size_of (current_words mid)) touched (pick move.to_dir move.from_dir) (pick (32 * s + 0) (32 * move.from_slot + 0))
+  are =
+      two_are (current_words mid) touched move.to_dir (32 * s + 0) move.from_dir (32 * move.from_slot + 0) (moved_inode (current_words old) move) 0 is_mid (size_of (current_words mid)) can_move.target can_move.reached low_target
+      (omega (arith, can_move.entry.in_size)) (no_file move.to_dir (32 * s + 0) can_move.directory) (no_file move.from_dir (32 * move.from_slot + 0) can_move.entry.directory)
+      (λ e f. other (sym e))
+    where
+      no_file : (t l : ℕ) → kind_of (current_words mid) t ≡ 2 → t ≡ 0 → l % 8 ≢ 1
+      no_file t l kind e = let two : kind_of (current_words mid) 0 ≡ 2 = subst (λ t. kind_of (current_words mid) t ≡ 2) e kind in absurd (omega (arith, two))
+
+  exact_mid : AreExact (current_words mid) blocks inodes
+  exact_mid = exact_prepared (current_words old) (current_words mid) can.well_formed trees.prepared blocks inodes exact
+
+  pub into_fits : block_count (current_words mid) ≤ length blocks
+  into_fits = omega (arith, exact_mid.block_room)
+
+  pub into_ready : CanCommit (current_words mid) (size_of (current_words mid)) touched (has blocks)
+  into_ready = words_can (current_words mid) (size_of (current_words mid)) (wf_forest (current_words mid) formed) touched (pick move.to_dir move.from_dir) (pick (32 * s + 0) (32 * move.from_slot + 0)) are (λ t q. omega arith) (has blocks) exact_mid.free_blocks
+
+  count : length touched.words.items ≡ 2
+  count = two_count (current_words mid) touched move.to_dir (32 * s + 0) move.from_dir (32 * move.from_slot + 0) (moved_inode (current_words old) move) 0 is_mid
+
+  leaves : (job_of touched).leaves ≡ 0
+  leaves = no_leaves (current_words mid) touched move.to_dir (32 * s + 0) move.from_dir (32 * move.from_slot + 0) (moved_inode (current_words old) move) 0 is_mid
+
+  pub into_room : HasRoom mid touched
+  into_room =
+      let few = copied_few (current_words mid) (size_of (current_words mid)) touched (has blocks) formed into_ready in
+      let left = room_after_quiet Same 1 31 old mid (into_taking old third mid move s entry can new_name other found entry_at spells spelled ends).part in
+      omega (arith, few, count, leaves, room, left)
+
+  covers : commit_cover (current_words mid) touched ≡ cover (current_words old) (moves move.from_dir move.from_slot move.to_dir)
+  covers =
+      cover-whole (is_pointed (current_words mid)) (all_paths touched) (inumber_path (current_words mid) move.to_dir s)
+      (has_first (current_words mid) touched move.to_dir (32 * s + 0) move.from_dir (32 * move.from_slot + 0) (moved_inode (current_words old) move) 0 is_mid)
+      (pointed-directory (current_words mid) formed move.to_dir (32 * s + 0) can_move.target can_move.directory low_target)
+      ∙ ap common_all (into_paths (current_words old) move s can other found touched is) ∙ sym (into_whole (current_words old) move s can other found touched is)
+
+  pub into_copies : copied_count (current_words mid) touched ≡ need (current_words old) (moves move.from_dir move.from_slot move.to_dir)
+  into_copies = into_count (current_words old) move s can other found touched is (current_words mid) covers
+
+  module _ (new : Memory) (left : Set) (done : CommitsTouched (size_of (current_words mid)) touched mid new blocks left) (as_long : length left ≡ length blocks) where
+    apart_from_file : (i : ℕ) → pick move.to_dir move.from_dir i ≡ 0 → ⊥
+    apart_from_file zero e = absurd (no_file can_move.directory e)
+      where
+        no_file : {t : ℕ} → kind_of (current_words mid) t ≡ 2 → t ≡ 0 → ⊥
+        no_file kind e = let two : kind_of (current_words mid) 0 ≡ 2 = subst (λ t. kind_of (current_words mid) t ≡ 2) e kind in omega (arith, two)
+    apart_from_file (suc i) e = absurd (no_file can_move.entry.directory e)
+      where
+        no_file : {t : ℕ} → kind_of (current_words mid) t ≡ 2 → t ≡ 0 → ⊥
+        no_file kind e = let two : kind_of (current_words mid) 0 ≡ 2 = subst (λ t. kind_of (current_words mid) t ≡ 2) e kind in omega (arith, two)
+
+    size_stays : (t : ℕ) → IsReached (current_words mid) t → size_of (current_words new) t ≡ size_of (current_words mid) t
+    size_stays t reached =
+        size_kept (current_words mid) (size_of (current_words mid)) (wf_forest (current_words mid) formed) touched (pick move.to_dir move.from_dir) (pick (32 * s + 0) (32 * move.from_slot + 0))
+        are (has blocks) formed into_ready (current_words new) (IsTurned (job_of touched) (length (commit_cover (current_words mid) touched))) done.words
+        t reached (λ i here e f. apart_from_file i e)
+
+    only : CommitsOnly (current_words mid) (current_words new) (changes_of (current_words mid) (job_of touched)) (λ t l. ((t ≡ move.from_dir) × (l ≡ 32 * move.from_slot + 0)) ⊎ ((t ≡ move.to_dir) × (l ≡ 32 * s + 0)))
+    only =
+        words_only (current_words mid) (size_of (current_words mid)) (wf_forest (current_words mid) formed) touched (pick move.to_dir move.from_dir) (pick (32 * s + 0) (32 * move.from_slot + 0))
+        are (has blocks) formed into_ready (current_words new) (IsTurned (job_of touched) (length (commit_cover (current_words mid) touched))) done.words
+        (λ t l. ((t ≡ move.from_dir) × (l ≡ 32 * move.from_slot + 0)) ⊎ ((t ≡ move.to_dir) × (l ≡ 32 * s + 0)))
+        (λ t reached. omega (arith, size_stays t reached)) formed.full_inode_file formed.full_directories
+        (λ i here. told i)
+      where
+        told : (i : ℕ) → ((pick move.to_dir move.from_dir i ≡ move.from_dir) × (pick (32 * s + 0) (32 * move.from_slot + 0) i ≡ 32 * move.from_slot + 0)) ⊎
+            ((pick move.to_dir move.from_dir i ≡ move.to_dir) × (pick (32 * s + 0) (32 * move.from_slot + 0) i ≡ 32 * s + 0))
+        told zero = inr (refl, refl)
+        told (suc i) = inl (refl, refl)
+
+    value : (i : ℕ) → i < length touched.words.items →
+        after_commit (current_words mid) (job_of touched) (tree_trail (height_of (word (current_words mid) 2)) (pick move.to_dir move.from_dir i) (suc (height_of (root_of (current_words mid) (pick move.to_dir move.from_dir i)))) (pick (32 * s + 0) (32 * move.from_slot + 0) i)) ≡
+        (job_of touched).value i
+    value = words_value (current_words mid) (size_of (current_words mid)) (wf_forest (current_words mid) formed) touched (pick move.to_dir move.from_dir) (pick (32 * s + 0) (32 * move.from_slot + 0)) are (has blocks) formed into_ready
+
+    mid_moves : MovesEntry (current_words mid) (current_words new) move.from_dir move.from_slot move.to_dir s (moved_inode (current_words old) move)
+    mid_moves =
+        commit_moves (current_words mid) (current_words new) (changes_of (current_words mid) (job_of touched)) move.from_dir move.from_slot move.to_dir s (moved_inode (current_words old) move) can_move only
+        (value 1 (omega (arith, count)) ∙ second_value (current_words mid) touched move.to_dir (32 * s + 0) move.from_dir (32 * move.from_slot + 0) (moved_inode (current_words old) move) 0 is_mid)
+        (value 0 (omega (arith, count)) ∙ first_value (current_words mid) touched move.to_dir (32 * s + 0) move.from_dir (32 * move.from_slot + 0) (moved_inode (current_words old) move) 0 is_mid)
+
+    mid_carries : CarriesEntry (current_words mid) (current_words new) move.from_dir move.from_slot move.to_dir s (moved_inode (current_words old) move)
+    mid_carries =
+        moves_carry (current_words mid) (current_words new) formed move.from_dir move.from_slot move.to_dir s (moved_inode (current_words old) move) can_move mid_moves
+        (mid_empty old third mid move s entry can new_name other found entry_at spells spelled ends)
+
+    slot_is : s ≡ new_slot (current_words old) move.to_dir
+    slot_is = sym (ap (λ o. unwrap_or o (entry_count (current_words old) move.to_dir)) found)
+
+    name_is : name_at (current_words new) move.to_dir s ≡ move.name.now
+    name_is =
+        let name = mid_name old third mid move s entry can new_name other found entry_at spells spelled ends in
+        name_same (current_words mid) (current_words new) (root_of (current_words mid) move.to_dir) (root_of (current_words new) move.to_dir) s (rw name can.name.short)
+        (λ f some few. mid_moves.entry move.to_dir s f can_move.target can_move.directory can_move.in_size few (λ e same. other e) (λ e same. omega (arith, same, some)))
+        ∙ name
+
+    pub into_effect : RenamesEntry move (current_words old) (current_words new)
+    into_effect =
+        across new_name other
+        (subst (λ r. CarriesEntry (current_words old) (current_words new) move.from_dir move.from_slot move.to_dir r (moved_inode (current_words old) move)) slot_is
+        (carries_over (current_words old) (current_words mid) (current_words new) can.well_formed trees.prepared.meaning (size_after (current_words old) (current_words mid) can.well_formed trees.prepared)
+        move.from_dir move.from_slot move.to_dir s (moved_inode (current_words old) move) mid_carries))
+        (subst (λ r. name_at (current_words new) move.to_dir r ≡ move.name.now) slot_is name_is)
+
+    pub into_performs : Performs old new (moves move.from_dir move.from_slot move.to_dir) (RenamesEntry move)
+    into_performs =
+        commit_performs_after old mid new (moves move.from_dir move.from_slot move.to_dir) (RenamesEntry move) (size_of (current_words mid)) touched blocks left [] 1 31
+        (into_taking old third mid move s entry can new_name other found entry_at spells spelled ends) done
+        (λ b live. inl (live_before_too (current_words old) (current_words mid) can.well_formed trees.prepared b live))
+        (λ b there. (exact.free_blocks.free b there, λ never. never)) covers (omega arith)
+        (let few = stores_few (current_words mid) (size_of (current_words mid)) touched (has blocks) formed into_ready (omega (arith, leaves)) in omega (arith, few, into_copies))
+        (omega (arith, into_copies))
+        (cover_open (current_words mid) formed touched into_ready.shape (path_of (word_paths touched) 0) (has-word touched into_ready.shape 0 (omega (arith, count)))
+        (λ d low. into_ready.pointers 0 d (omega (arith, count)) low) done.taken)
+        (moved_well_formed (current_words mid) (current_words new) formed move.from_dir move.from_slot move.to_dir s (moved_inode (current_words old) move) can_move mid_moves)
+        into_effect
+
+    pub into_exact : AreExact (current_words new) left inodes
+    into_exact =
+        carried_exact (current_words mid) (current_words new) formed move.from_dir move.from_slot move.to_dir s (moved_inode (current_words old) move) mid_carries
+        (mid_outside old third mid move s entry can new_name other found entry_at spells spelled ends) (size_of (current_words mid)) size_stays blocks left inodes exact_mid as_long done.exact

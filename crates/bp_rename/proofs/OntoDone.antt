@@ -1,0 +1,203 @@
+-- A name has moved onto another one: that it is performed, and that the sets are exact once what had the name comes back.
+use Rattle.std.proofs.Common.{◌≡◌, ◌≢◌, ◌⊎◌, ℕ, zero, suc, ◌+◌, ◌*◌, ◌/◌, ◌%◌, ◌<◌, ◌≤◌, length, Bool, true, false, Some, refl, sym, ◌∙◌, ap, subst, arith, inl, inr}
+use Rattle.std.proofs.lemmas.Bool.{cases_Bool}
+use Rattle.std.proofs.lemmas.List.{length-set}
+use Rattle.bp_free.specs.Set.{Set, has, members, with}
+use Rattle.bp_free.proofs.Members.{has_with_other, has_with_same}
+use Rattle.bp_inodes.proofs.FewInodes.{few_inodes}
+use Rattle.bp_layout.specs.Directory.{EntryNames, inumber_at}
+use Rattle.bp_layout.specs.Inode.{inode_count, kind_of, root_of, size_of}
+use Rattle.bp_layout.specs.Need.{need}
+use Rattle.bp_layout.specs.Need.Change.{replaces}
+use Rattle.bp_layout.specs.Reached.{HoldsBlock, IsReached}
+use Rattle.bp_layout.specs.Reached.IsReached.{inode_file}
+use Rattle.bp_layout.specs.Tree.{HasBlock, IsSound}
+use Rattle.bp_layout.specs.WellFormed.{IsWellFormed}
+use Rattle.bp_layout.specs.Words.{Image, block_count, height_of, word}
+use Rattle.bp_layout.proofs.Reached.{reached-in_file}
+use Rattle.bp_limits.specs.Limits.{call_room}
+use Rattle.bp_changes.specs.Commits.{CommitsOnly}
+use Rattle.bp_changes.specs.Effects.{CanMoveEntry, MovesEntry}
+use Rattle.bp_changes.proofs.Committed.{commit_moves}
+use Rattle.bp_changes.proofs.Move.{moved_well_formed}
+use Rattle.bp_shapes.proofs.MovedSets.{replaced_blocks, replaced_inode}
+use Rattle.bp_shapes.specs.Forest.{tree_trail}
+use Rattle.bp_shapes.specs.Freed.{IsCutOff}
+use Rattle.bp_shapes.specs.Sets.{AreExact}
+use Rattle.bp_shapes.proofs.FreeSets.{wf_forest}
+use Rattle.bp_tree.specs.Performs.{IsOpen, Performs, most_stores}
+use Rattle.bp_cow.specs.CanCommit.{CanCommit}
+use Rattle.bp_cow.specs.Commit.{CommitsTouched, HasRoom, commit_stores, cover_word}
+use Rattle.bp_cow.specs.Committed.{after_commit, changes_of}
+use Rattle.bp_cow.specs.Cover.{commit_cover, copied_count}
+use Rattle.bp_cow.specs.Job.{IsTurned}
+use Rattle.bp_cow.specs.Touched.{job_of, path_of, word_paths}
+use Rattle.bp_cow.specs.declared.touched.Touched.{Touched}
+use Rattle.bp_cow.proofs.CommitTaking.{commit_performs, copied_few, cover_open, stores_few}
+use Rattle.bp_cow.proofs.CopiesNeed.{has-word}
+use Rattle.pm_region.specs.Memory.{Memory, current_words, room_in}
+use Rattle.bp_calls.specs.GivenBack.{GivesBack}
+use Rattle.bp_calls.proofs.CutLaws.{gives_as}
+use Rattle.bp_calls.proofs.Shorter.{CanGiveBack}
+use Rattle.bp_rename.specs.CanRename.{CanRename, moved_inode}
+use Rattle.bp_rename.specs.TouchesTwo.{TouchesTwo, inumber_path}
+use Rattle.bp_rename.specs.declared.moving.Move.{Move}
+use Rattle.bp_rename.proofs.ContentWords.{size_kept, words_only, words_shape, words_value}
+use Rattle.bp_rename.proofs.OntoLaws.{are, onto_can, onto_commit, onto_cover, onto_need, replaced, replaced_reached, replaced_some}
+use Rattle.bp_rename.proofs.TwoWords.{first_value, no_leaves, pick, second_value, two_count}
+
+module _ (memory : Memory) (move : Move) (r : ℕ) (can : CanRename (current_words memory) move) (onto : move.to_slot ≡ Some r) (touched : Touched)
+    (is : TouchesTwo touched (inumber_path (current_words memory) move.from_dir move.from_slot) (inumber_path (current_words memory) move.to_dir r) 0 (moved_inode (current_words memory) move))
+    (blocks inodes : Set) (exact : AreExact (current_words memory) blocks inodes) (room : call_room ≤ room_in memory) where
+  pub ready : CanCommit (current_words memory) (size_of (current_words memory)) touched (has blocks)
+  ready = onto_commit (current_words memory) move r can onto touched is (has blocks) exact.free_blocks
+
+  count : length touched.words.items ≡ 2
+  count = two_count (current_words memory) touched move.from_dir (32 * move.from_slot + 0) move.to_dir (32 * r + 0) 0 (moved_inode (current_words memory) move) is
+
+  leaves : (job_of touched).leaves ≡ 0
+  leaves = no_leaves (current_words memory) touched move.from_dir (32 * move.from_slot + 0) move.to_dir (32 * r + 0) 0 (moved_inode (current_words memory) move) is
+
+  pub has_room : HasRoom memory touched
+  has_room =
+      let few = copied_few (current_words memory) (size_of (current_words memory)) touched (has blocks) can.well_formed ready in
+      omega (arith, few, count, leaves, room)
+
+module _ (old new : Memory) (move : Move) (r : ℕ) (can : CanRename (current_words old) move) (onto : move.to_slot ≡ Some r) (touched : Touched)
+    (is : TouchesTwo touched (inumber_path (current_words old) move.from_dir move.from_slot) (inumber_path (current_words old) move.to_dir r) 0 (moved_inode (current_words old) move))
+    (blocks inodes left : Set) (exact : AreExact (current_words old) blocks inodes) (room : call_room ≤ room_in old)
+    (done : CommitsTouched (size_of (current_words old)) touched old new blocks left) (as_long : length left ≡ length blocks) where
+  commits : CanCommit (current_words old) (size_of (current_words old)) touched (has blocks)
+  commits = ready old move r can onto touched is blocks inodes exact room
+
+  some_words : length touched.words.items ≡ 2
+  some_words = count old move r can onto touched is blocks inodes exact room
+
+  apart_from_file : (i : ℕ) → pick move.from_dir move.to_dir i ≡ 0 → ⊥
+  apart_from_file zero e = absurd (no_file can.entry.directory e)
+    where
+      no_file : {t : ℕ} → kind_of (current_words old) t ≡ 2 → t ≡ 0 → ⊥
+      no_file kind e = let two : kind_of (current_words old) 0 ≡ 2 = subst (λ t. kind_of (current_words old) t ≡ 2) e kind in omega (arith, two)
+  apart_from_file (suc i) e = absurd (no_file can.directory e)
+    where
+      no_file : {t : ℕ} → kind_of (current_words old) t ≡ 2 → t ≡ 0 → ⊥
+      no_file kind e = let two : kind_of (current_words old) 0 ≡ 2 = subst (λ t. kind_of (current_words old) t ≡ 2) e kind in omega (arith, two)
+
+  size_stays : (t : ℕ) → IsReached (current_words old) t → size_of (current_words new) t ≡ size_of (current_words old) t
+  size_stays t reached =
+      size_kept (current_words old) (size_of (current_words old)) (wf_forest (current_words old) can.well_formed) touched (pick move.from_dir move.to_dir) (pick (32 * move.from_slot + 0) (32 * r + 0))
+      (are (current_words old) move r can onto touched is) (has blocks) can.well_formed commits (current_words new) (IsTurned (job_of touched) (length (commit_cover (current_words old) touched))) done.words
+      t reached (λ i here e f. apart_from_file i e)
+
+  only : CommitsOnly (current_words old) (current_words new) (changes_of (current_words old) (job_of touched)) (λ t l. ((t ≡ move.from_dir) × (l ≡ 32 * move.from_slot + 0)) ⊎ ((t ≡ move.to_dir) × (l ≡ 32 * r + 0)))
+  only =
+      words_only (current_words old) (size_of (current_words old)) (wf_forest (current_words old) can.well_formed) touched (pick move.from_dir move.to_dir) (pick (32 * move.from_slot + 0) (32 * r + 0))
+      (are (current_words old) move r can onto touched is) (has blocks) can.well_formed commits (current_words new) (IsTurned (job_of touched) (length (commit_cover (current_words old) touched))) done.words
+      (λ t l. ((t ≡ move.from_dir) × (l ≡ 32 * move.from_slot + 0)) ⊎ ((t ≡ move.to_dir) × (l ≡ 32 * r + 0)))
+      (λ t reached. omega (arith, size_stays t reached)) can.well_formed.full_inode_file can.well_formed.full_directories
+      (λ i here. told i)
+    where
+      told : (i : ℕ) → ((pick move.from_dir move.to_dir i ≡ move.from_dir) × (pick (32 * move.from_slot + 0) (32 * r + 0) i ≡ 32 * move.from_slot + 0)) ⊎
+          ((pick move.from_dir move.to_dir i ≡ move.to_dir) × (pick (32 * move.from_slot + 0) (32 * r + 0) i ≡ 32 * r + 0))
+      told zero = inl (refl, refl)
+      told (suc i) = inr (refl, refl)
+
+  value : (i : ℕ) → i < length touched.words.items →
+      after_commit (current_words old) (job_of touched) (tree_trail (height_of (word (current_words old) 2)) (pick move.from_dir move.to_dir i) (suc (height_of (root_of (current_words old) (pick move.from_dir move.to_dir i)))) (pick (32 * move.from_slot + 0) (32 * r + 0) i)) ≡
+      (job_of touched).value i
+  value = words_value (current_words old) (size_of (current_words old)) (wf_forest (current_words old) can.well_formed) touched (pick move.from_dir move.to_dir) (pick (32 * move.from_slot + 0) (32 * r + 0))
+      (are (current_words old) move r can onto touched is) (has blocks) can.well_formed commits
+
+  pub onto_moves : MovesEntry (current_words old) (current_words new) move.from_dir move.from_slot move.to_dir r (moved_inode (current_words old) move)
+  onto_moves =
+      commit_moves (current_words old) (current_words new) (changes_of (current_words old) (job_of touched)) move.from_dir move.from_slot move.to_dir r (moved_inode (current_words old) move)
+      (onto_can (current_words old) move r can onto) only
+      (value 0 (omega (arith, some_words)) ∙ first_value (current_words old) touched move.from_dir (32 * move.from_slot + 0) move.to_dir (32 * r + 0) 0 (moved_inode (current_words old) move) is)
+      (value 1 (omega (arith, some_words)) ∙ second_value (current_words old) touched move.from_dir (32 * move.from_slot + 0) move.to_dir (32 * r + 0) 0 (moved_inode (current_words old) move) is)
+
+  moved_can : CanMoveEntry (current_words old) move.from_dir move.from_slot move.to_dir r (moved_inode (current_words old) move)
+  moved_can = onto_can (current_words old) move r can onto
+
+  pub onto_well_formed : IsWellFormed (current_words new)
+  onto_well_formed = moved_well_formed (current_words old) (current_words new) can.well_formed move.from_dir move.from_slot move.to_dir r (moved_inode (current_words old) move) moved_can onto_moves
+
+  pub onto_performs : Performs old new (replaces move.from_dir move.from_slot move.to_dir r)
+      (λ image image_after. MovesEntry image image_after move.from_dir move.from_slot move.to_dir r (moved_inode image move))
+  onto_performs =
+      commit_performs old new (replaces move.from_dir move.from_slot move.to_dir r) (λ image image_after. MovesEntry image image_after move.from_dir move.from_slot move.to_dir r (moved_inode image move))
+      (size_of (current_words old)) touched blocks left done
+      (onto_cover (current_words old) move r can onto touched is) (onto_need (current_words old) move r can onto touched is)
+      (let few = stores_few (current_words old) (size_of (current_words old)) touched (has blocks) can.well_formed commits (omega (arith, leaves old move r can onto touched is blocks inodes exact room)) in
+      omega (arith, few, onto_need (current_words old) move r can onto touched is))
+      (cover_open (current_words old) can.well_formed touched commits.shape (path_of (word_paths touched) 0) (has-word touched commits.shape 0 (omega (arith, some_words)))
+      (λ d low. commits.pointers 0 d (omega (arith, some_words)) low) done.taken)
+      onto_well_formed onto_moves
+
+  -- ---- what had the name comes back
+
+  was_there : IsReached (current_words old) (inumber_at (current_words old) move.to_dir r)
+  was_there = replaced_reached (current_words old) move r can onto
+
+  some : inumber_at (current_words old) move.to_dir r ≢ 0
+  some = replaced_some (current_words old) move r can onto
+
+  pub inode_low : inumber_at (current_words old) move.to_dir r < inode_count (current_words old)
+  inode_low = reached-in_file (current_words old) can.well_formed (inumber_at (current_words old) move.to_dir r) was_there
+
+  pub inode_there : inumber_at (current_words old) move.to_dir r < inode_count (current_words new)
+  inode_there = rw (size_stays 0 inode_file) inode_low
+
+  kind_is : kind_of (current_words new) (inumber_at (current_words old) move.to_dir r) ≡ kind_of (current_words old) (inumber_at (current_words old) move.to_dir r)
+  kind_is = onto_moves.kind (inumber_at (current_words old) move.to_dir r) inode_low
+
+  pub kind_some : (1 ≤ kind_of (current_words new) (inumber_at (current_words old) move.to_dir r)) × (kind_of (current_words new) (inumber_at (current_words old) move.to_dir r) ≤ 2)
+  kind_some = rw kind_is (kinds (inumber_at (current_words old) move.to_dir r) was_there some)
+    where
+      kinds : (t : ℕ) → IsReached (current_words old) t → t ≢ 0 → (1 ≤ kind_of (current_words old) t) × (kind_of (current_words old) t ≤ 2)
+      kinds zero reached other = absurd (other refl)
+      kinds (suc n) reached other = can.well_formed.kinds n reached
+
+  pub onto_gives : CanGiveBack (current_words new) (root_of (current_words new) (inumber_at (current_words old) move.to_dir r)) (size_of (current_words new) (inumber_at (current_words old) move.to_dir r)) left
+  onto_gives = record {
+    sound = onto_moves.trees.sound (inumber_at (current_words old) move.to_dir r) was_there;
+    room = rw onto_moves.trees.whole (as_long ∙ exact.block_room);
+    taken = λ b held.
+        go b (record { tree = inumber_at (current_words old) move.to_dir r; reached = was_there; has = rw (size_stays (inumber_at (current_words old) move.to_dir r) was_there) at held })
+        (cases_Bool (has left b));
+  }
+    where
+      go : (b : ℕ) → HoldsBlock (current_words new) (IsReached (current_words old)) (size_of (current_words old)) b → (has left b ≡ true) ⊎ (has left b ≡ false) → has left b ≡ false
+      go b held (inl e) = absurd ((done.exact.free b e).free held)
+      go b held (inr e) = e
+
+  pub inode_in_room : inumber_at (current_words old) move.to_dir r < length inodes
+  inode_in_room =
+      let few : size_of (current_words old) 0 / 64 ≤ 64 * block_count (current_words old) =
+      few_inodes (current_words old) (root_of (current_words old) 0) (size_of (current_words old) 0) (can.well_formed.sound 0 inode_file) can.well_formed.full_inode_file (omega (arith, can.well_formed.at_least)) can.well_formed.inode_blocks in
+      omega (arith, inode_low, few, exact.inode_room)
+
+  pub inode_taken : has inodes (inumber_at (current_words old) move.to_dir r) ≡ false
+  inode_taken = go (cases_Bool (has inodes (inumber_at (current_words old) move.to_dir r)))
+    where
+      go : (has inodes (inumber_at (current_words old) move.to_dir r) ≡ true) ⊎ (has inodes (inumber_at (current_words old) move.to_dir r) ≡ false) → has inodes (inumber_at (current_words old) move.to_dir r) ≡ false
+      go (inl e) = absurd ((exact.free_inodes.free (inumber_at (current_words old) move.to_dir r) e).free was_there)
+      go (inr e) = e
+
+  module _ (final : Set) (gives : GivesBack (IsCutOff (current_words new) (root_of (current_words new) (inumber_at (current_words old) move.to_dir r)) (size_of (current_words new) (inumber_at (current_words old) move.to_dir r)) 0) left final) where
+    told : GivesBack (HasBlock (current_words new) (root_of (current_words new) (inumber_at (current_words old) move.to_dir r)) (size_of (current_words new) (inumber_at (current_words old) move.to_dir r))) left final
+    told = gives_as (IsCutOff (current_words new) (root_of (current_words new) (inumber_at (current_words old) move.to_dir r)) (size_of (current_words new) (inumber_at (current_words old) move.to_dir r)) 0)
+        (HasBlock (current_words new) (root_of (current_words new) (inumber_at (current_words old) move.to_dir r)) (size_of (current_words new) (inumber_at (current_words old) move.to_dir r))) left final
+        (λ b cut. cut.has) (λ b held. record { has = held; past = omega arith }) gives
+
+    pub onto_exact : AreExact (current_words new) final (with inodes (inumber_at (current_words old) move.to_dir r))
+    onto_exact = record {
+      block_room = rw onto_moves.trees.whole (gives.room ∙ as_long ∙ exact.block_room);
+      inode_room = rw onto_moves.trees.whole (length-set inodes (inumber_at (current_words old) move.to_dir r) true ∙ exact.inode_room);
+      free_blocks =
+          replaced_blocks (current_words old) (current_words new) can.well_formed move.from_dir move.from_slot move.to_dir r (moved_inode (current_words old) move) moved_can onto_moves can.outside some
+          (has left) (has final) done.exact told.only told.still told.given;
+      free_inodes =
+          replaced_inode (current_words old) (current_words new) can.well_formed move.from_dir move.from_slot move.to_dir r (moved_inode (current_words old) move) moved_can onto_moves can.outside some
+          (has inodes) (has (with inodes (inumber_at (current_words old) move.to_dir r))) exact.free_inodes
+          (has_with_same inodes (inumber_at (current_words old) move.to_dir r) inode_in_room) (has_with_other inodes (inumber_at (current_words old) move.to_dir r));
+    }

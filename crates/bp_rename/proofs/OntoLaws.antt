@@ -1,0 +1,132 @@
+-- A name moves onto another one: what the commit asks, that it is performed, and what comes back.
+use Rattle.std.proofs.Common.{◌≡◌, ◌≢◌, ◌⊎◌, ℕ, zero, suc, ◌+◌, ◌*◌, ◌/◌, ◌%◌, ◌<◌, ◌≤◌, List, [], ◌∷◌, length, set, Bool, true, false, None, Some, refl, sym, ◌∙◌, ap, subst, subst₂, arith, inl, inr}
+use Rattle.bp_layout.specs.Directory.{EntryNames, entry_count, inumber_at, name_at}
+use Rattle.bp_layout.specs.Free.{AreUnheld, IsFreeInode}
+use Rattle.bp_layout.specs.Inode.{inode_count, kind_of, root_of, size_of}
+use Rattle.bp_layout.specs.Members.{Has}
+use Rattle.bp_layout.specs.Need.{Change, cover, copied, need, is_there_after, common_all}
+use Rattle.bp_layout.specs.Need.Change.{replaces}
+use Rattle.bp_layout.specs.Need as layout
+use Rattle.bp_layout.specs.Reached.{HoldsBlock, IsFreeBlock, IsLiveBlock, IsReached, IsUnheld}
+use Rattle.bp_layout.specs.Reached.IsReached.{inode_file, named}
+use Rattle.bp_layout.specs.Tree.{HasBlock, IsSound}
+use Rattle.bp_layout.specs.WellFormed.{IsWellFormed}
+use Rattle.bp_layout.specs.WordPaths.{WordPath, is_pointed, tree_path}
+use Rattle.bp_layout.specs.Words.{Image, word, block_count, height_of}
+use Rattle.bp_limits.specs.Limits.{call_room}
+use Rattle.bp_changes.specs.Commits.{CommitsOnly, word_after}
+use Rattle.bp_changes.specs.Effects.{CanMoveEntry, MovesEntry}
+use Rattle.bp_changes.proofs.Move.{moved_well_formed, reached_back}
+use Rattle.bp_changes.proofs.MoveReach.{moved_on, replaced_not_reached}
+use Rattle.bp_shapes.specs.Forest.{IsTreePointer}
+use Rattle.bp_shapes.specs.Sets.{AreExact}
+use Rattle.bp_shapes.specs.Trail.{trail_of}
+use Rattle.bp_shapes.proofs.FreeSets.{wf_forest}
+use Rattle.bp_tree.specs.Performs.{IsOpen, Performs}
+use Rattle.bp_tree.proofs.ExistingPaths.{AllThere, content_path-there}
+use Rattle.bp_cow.specs.CanCommit.{CanCommit}
+use Rattle.bp_cow.specs.Commit.{CommitsTouched, HasBlocks, HasRoom, commit_stores, cover_word}
+use Rattle.bp_cow.specs.Committed.{after_commit, changes_of}
+use Rattle.bp_cow.specs.Cover.{LeadsInside, commit_cover, copied_count, copied_paths}
+use Rattle.bp_cow.specs.Job.{IsTurned}
+use Rattle.bp_cow.specs.Touched.{IsTouched, NoneBegins, all_paths, job_of, path_of, word_paths}
+use Rattle.bp_cow.specs.declared.touched.Touched.{Touched}
+use Rattle.bp_cow.proofs.CommitTaking.{commit_performs, copied_few, cover_open, stores_few}
+use Rattle.bp_cow.proofs.CopiesNeed.{has-word}
+use Rattle.bp_calls.proofs.ReadingLaws.{few_inode}
+use Rattle.pm_region.specs.Memory.{Memory, current_words, room_in}
+use Rattle.bp_rename.specs.CanRename.{CanRename, moved_inode}
+use Rattle.bp_rename.specs.TouchesTwo.{TouchesTwo, inumber_path}
+use Rattle.bp_rename.specs.declared.moving.Move.{Move}
+use Rattle.bp_rename.proofs.ContentWords.{AreContent, words_apart, words_can, words_inside, words_shape}
+use Rattle.bp_rename.proofs.FoundNames.{found_entry, found_name}
+use Rattle.bp_rename.proofs.TwoWords.{has_first, no_leaves, pick, first_value, second_value, two_are, two_count, two_paths}
+use Rattle.bp_rename.proofs.WholePaths.{cover-whole, pointed-directory}
+
+module _ (image : Image) (move : Move) (r : ℕ) (can : CanRename image move) (onto : move.to_slot ≡ Some r) where
+  abbrev wf : IsWellFormed image
+  wf = can.well_formed
+
+  pub replaced : EntryNames image move.to_dir r (inumber_at image move.to_dir r)
+  replaced = found_entry image move.to_dir r move.name.now can.directory (can.slot ∙ onto)
+
+  spelled : name_at image move.to_dir r ≡ move.name.now
+  spelled = found_name image move.to_dir r move.name.now can.directory (can.slot ∙ onto)
+
+  pub onto_can : CanMoveEntry image move.from_dir move.from_slot move.to_dir r (moved_inode image move)
+  onto_can = record {
+    reached = can.source;
+    entry = can.entry;
+    target = can.target;
+    directory = can.directory;
+    in_size = replaced.in_size;
+    apart = can.other r onto;
+    alone = λ x l some n. can.alone r x l onto n;
+    name = rw spelled can.name;
+    new_name = λ x l n same. can.well_formed.names_once move.to_dir x r l (inumber_at image move.to_dir r) can.target n replaced same;
+  }
+
+  pub replaced_reached : IsReached image (inumber_at image move.to_dir r)
+  replaced_reached = named r can.target replaced
+
+  pub replaced_some : inumber_at image move.to_dir r ≢ 0
+  replaced_some = replaced.not_empty
+
+  pub replaced_few : inumber_at image move.to_dir r < 1048576
+  replaced_few = few_inode image can.well_formed (inumber_at image move.to_dir r) (can.well_formed.inumbers move.to_dir r (inumber_at image move.to_dir r) can.target replaced)
+
+  low_source : 8 * (32 * move.from_slot + 0) < size_of image move.from_dir
+  low_source = omega (arith, can.entry.in_size)
+
+  low_target : 8 * (32 * r + 0) < size_of image move.to_dir
+  low_target = omega (arith, replaced.in_size)
+
+  no_directory : (t l : ℕ) → kind_of image t ≡ 2 → t ≡ 0 → l % 8 ≢ 1
+  no_directory t l kind e = let two : kind_of image 0 ≡ 2 = subst (λ x. kind_of image x ≡ 2) e kind in absurd (omega (arith, two))
+
+  abbrev change : Change
+  change = replaces move.from_dir move.from_slot move.to_dir r
+
+  source_there : AllThere (is_there_after image (replaces move.from_dir move.from_slot move.to_dir r)) [] (inumber_path image move.from_dir move.from_slot)
+  source_there =
+      content_path-there image (replaces move.from_dir move.from_slot move.to_dir r) can.well_formed refl move.from_dir (32 * move.from_slot + 0) can.source refl
+      (can.well_formed.full_directories move.from_dir can.source can.entry.directory) low_source
+
+  -- ---- what is touched
+
+  module _ (touched : Touched) (is : TouchesTwo touched (inumber_path image move.from_dir move.from_slot) (inumber_path image move.to_dir r) 0 (moved_inode image move)) where
+    pub are : AreContent image (size_of image) touched (pick move.from_dir move.to_dir) (pick (32 * move.from_slot + 0) (32 * r + 0))
+    are =
+        two_are image touched move.from_dir (32 * move.from_slot + 0) move.to_dir (32 * r + 0) 0 (moved_inode image move) is (size_of image) can.source can.target low_source low_target
+        (no_directory move.from_dir (32 * move.from_slot + 0) can.entry.directory) (no_directory move.to_dir (32 * r + 0) can.directory)
+        (λ e f. can.other r onto e (omega (arith, f)))
+
+    pub onto_shape : IsTouched touched
+    onto_shape = words_shape image (size_of image) (wf_forest image can.well_formed) touched (pick move.from_dir move.to_dir) (pick (32 * move.from_slot + 0) (32 * r + 0)) are
+
+    pub onto_inside : LeadsInside image touched
+    onto_inside = words_inside image (size_of image) (wf_forest image can.well_formed) touched (pick move.from_dir move.to_dir) (pick (32 * move.from_slot + 0) (32 * r + 0)) are can.well_formed
+
+    pub onto_apart : NoneBegins (all_paths touched)
+    onto_apart = words_apart image (size_of image) (wf_forest image can.well_formed) touched (pick move.from_dir move.to_dir) (pick (32 * move.from_slot + 0) (32 * r + 0)) are
+
+    pub onto_commit : (free : ℕ → Bool) → AreUnheld image (IsReached image) (size_of image) free → CanCommit image (size_of image) touched free
+    onto_commit free exact = words_can image (size_of image) (wf_forest image can.well_formed) touched (pick move.from_dir move.to_dir) (pick (32 * move.from_slot + 0) (32 * r + 0)) are (λ t q. omega arith) free exact
+
+    all_touched : all_paths touched ≡ inumber_path image move.from_dir move.from_slot ∷ inumber_path image move.to_dir r ∷ []
+    all_touched = two_paths image touched move.from_dir (32 * move.from_slot + 0) move.to_dir (32 * r + 0) 0 (moved_inode image move) is
+
+    pub onto_cover : commit_cover image touched ≡ cover image (replaces move.from_dir move.from_slot move.to_dir r)
+    onto_cover =
+        cover-whole (is_pointed image) (all_paths touched) (inumber_path image move.from_dir move.from_slot)
+        (has_first image touched move.from_dir (32 * move.from_slot + 0) move.to_dir (32 * r + 0) 0 (moved_inode image move) is)
+        (pointed-directory image can.well_formed move.from_dir (32 * move.from_slot + 0) can.source can.entry.directory low_source)
+        ∙ ap common_all all_touched
+        ∙ sym (cover-whole (is_there_after image (replaces move.from_dir move.from_slot move.to_dir r)) (layout.touched image (replaces move.from_dir move.from_slot move.to_dir r)) (inumber_path image move.from_dir move.from_slot) (inl refl) source_there)
+
+    pub onto_need : copied_count image touched ≡ need image (replaces move.from_dir move.from_slot move.to_dir r)
+    onto_need =
+        let paths : copied_paths image touched ≡ copied image (replaces move.from_dir move.from_slot move.to_dir r) =
+        ap (λ (path : WordPath). layout.prefixes_of (length path) [] (all_paths touched)) onto_cover
+        ∙ ap (λ (paths : List WordPath). layout.prefixes_of (length (cover image (replaces move.from_dir move.from_slot move.to_dir r))) [] paths) all_touched in
+        ap (λ (ps : List WordPath). length ps) paths ∙ omega arith

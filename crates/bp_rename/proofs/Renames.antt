@@ -1,0 +1,28 @@
+-- Which change each way of a rename is.
+use Rattle.std.proofs.Common.{◌≡◌, ◌≢◌, ℕ, length, None, Some, refl, sym, ◌∙◌, ap, subst}
+use Rattle.std.proofs.lemmas.Bool.{ne_eqb}
+use Rattle.bp_changes.specs.Effects.{MovesEntry}
+use Rattle.bp_layout.specs.Need.Change.{moves, replaces}
+use Rattle.bp_tree.specs.Performs.{Performs}
+use Rattle.bp_tree.proofs.PerformsLaws.{performs_as}
+use Rattle.pm_region.specs.Memory.{Memory}
+use Rattle.bp_rename.specs.CanRename.{change_of, change_to, moved_inode}
+use Rattle.bp_rename.specs.RenamesEntry.{RenamesEntry}
+use Rattle.bp_rename.specs.RenamesEntry.RenamesEntry.{onto}
+use Rattle.bp_rename.specs.declared.moving.Move.{Move}
+
+pub onto_renames : (old new : Memory) (move : Move) (r : ℕ) → move.to_slot ≡ Some r →
+    Performs old new (replaces move.from_dir move.from_slot move.to_dir r) (λ image after. MovesEntry image after move.from_dir move.from_slot move.to_dir r (moved_inode image move)) →
+    Performs old new (change_of move) (RenamesEntry move)
+onto_renames old new move r is performs =
+    subst (λ change. Performs old new change (RenamesEntry move)) (sym (ap (change_to move.from_dir move.from_slot move.to_dir (length move.name.now)) is))
+    (performs_as old new (replaces move.from_dir move.from_slot move.to_dir r) (λ image after. MovesEntry image after move.from_dir move.from_slot move.to_dir r (moved_inode image move)) performs (RenamesEntry move)
+    (λ moved. onto r is moved))
+
+pub across_renames : (old new : Memory) (move : Move) → move.to_slot ≡ None → move.from_dir ≢ move.to_dir → Performs old new (moves move.from_dir move.from_slot move.to_dir) (RenamesEntry move) →
+    Performs old new (change_of move) (RenamesEntry move)
+across_renames old new move none other performs =
+    subst (λ change. Performs old new change (RenamesEntry move)) (sym (ap (change_to move.from_dir move.from_slot move.to_dir (length move.name.now)) none ∙ apart)) performs
+  where
+    apart : change_to move.from_dir move.from_slot move.to_dir (length move.name.now) None ≡ moves move.from_dir move.from_slot move.to_dir
+    apart = rw (ne_eqb move.from_dir move.to_dir other) refl

@@ -1,0 +1,35 @@
+-- The run of a new name.
+use Rattle.std.proofs.Common.{◌≡◌, ◌⊎◌, ℕ, ◌+◌, ◌*◌, ◌/◌, ◌<◌, ◌≤◌, List, [], length, min, take, Some, get_or, slice_index, refl, sym, ◌∙◌, ap, arith, inl, inr}
+use Rattle.std.proofs.lemmas.Bool.{cases_lt}
+use Rattle.std.proofs.lemmas.List.{get_or_past, get_or-take, length-take}
+use Rattle.bp_layout.specs.Directory.{Name}
+use Rattle.bp_layout.specs.Inode.{root_of}
+use Rattle.bp_layout.specs.WordPaths.{inode_path}
+use Rattle.bp_layout.specs.Words.{Image, height_of}
+use Rattle.bp_limits.specs.Limits.{max_name}
+use Rattle.bp_cow.specs.declared.touched.Run.{Run}
+use Rattle.bp_cow.specs.declared.touched.Touched.{Touched}
+use Rattle.bp_rename.specs.Respelled.{IsRespelled, TouchesName, respelled_length}
+
+small_front : (n : ℕ) (xs : List ℕ) → ((i : ℕ) → slice_index xs i < 256) → (at : ℕ) → slice_index (take n xs) at < 256
+small_front n xs small at = go (cases_lt at n)
+  where
+    go : (at < n) ⊎ (n ≤ at) → slice_index (take n xs) at < 256
+    go (inl low) = rw (get_or-take n xs at 0 low) (small at)
+    go (inr past) = let none : slice_index (take n xs) at ≡ 0 = get_or_past (take n xs) at 0 (omega (arith, past, length-take n xs)) in omega (arith, none)
+
+pub touches_name : {touched : Touched} {run : Run} → (image : Image) (i slot : ℕ) (name : Name) (bytes : List ℕ) → touched.run ≡ Some run → touched.words.items ≡ [] →
+    run.root.items ≡ inode_path (height_of (root_of image 0)) i 1 → run.height ≡ height_of (root_of image i) → run.off ≡ 256 * slot + 8 →
+    run.bytes.now ≡ take (respelled_length name) bytes → length bytes ≡ max_name + 8 → length name ≤ max_name → IsRespelled name bytes → ((at : ℕ) → slice_index bytes at < 256) →
+    TouchesName image i slot name touched
+touches_name {run = run} image i slot name bytes one none root height from part whole short are small = record {
+  run = run;
+  one = one;
+  no_words = none;
+  root = root;
+  height = height;
+  from = from;
+  count = ap (λ (xs : List ℕ). length xs) part ∙ length-take (respelled_length name) bytes ∙ omega (arith, whole, short);
+  bytes_are = λ at low. ap (λ (xs : List ℕ). slice_index xs at) part ∙ get_or-take (respelled_length name) bytes at 0 low ∙ are at (omega (arith, low, short));
+  small = λ at. rw part (small_front (respelled_length name) bytes small at);
+}

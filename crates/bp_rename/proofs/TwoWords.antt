@@ -1,0 +1,110 @@
+-- Two content words that are committed together.
+use Rattle.std.proofs.Common.{◌≡◌, ◌≢◌, ◌⊎◌, ℕ, zero, suc, ◌+◌, ◌*◌, ◌%◌, ◌<◌, ◌≤◌, List, [], ◌∷◌, ◌++◌, length, max, Bool, true, false, None, Some, slice_index, refl, sym, ◌∙◌, ap, subst, arith, inl, inr}
+use Rattle.std.specs.Prelude.{nat_le}
+use Rattle.std.proofs.lemmas.List.{length-map}
+use Rattle.bp_layout.specs.Inode.{root_of, size_of}
+use Rattle.bp_layout.specs.Members.{Has}
+use Rattle.bp_layout.specs.Reached.{IsReached}
+use Rattle.bp_layout.specs.WordPaths.{WordPath, tree_path}
+use Rattle.bp_layout.specs.Words.{Image, word, height_of}
+use Rattle.bp_cow.specs.Commit.{HasRoom, commit_stores}
+use Rattle.bp_cow.specs.Cover.{commit_cover, copied_count}
+use Rattle.bp_cow.specs.Job.{copied, turned_for, turned_upto, ways}
+use Rattle.bp_cow.specs.Touched.{IsTouched, NoneBegins, all_paths, job_of, leaves_of, path_of, run_paths, word_paths}
+use Rattle.bp_cow.specs.declared.touched.Touched.{Touched}
+use Rattle.bp_cow.proofs.CommitTaking.{turned_few}
+use Rattle.bp_cow.proofs.CoverOf.{cover_has, count_is}
+use Rattle.bp_cow.proofs.RunLaws.{way-short}
+use Rattle.bp_rename.specs.TouchesTwo.{TouchesTwo}
+use Rattle.bp_rename.proofs.ContentWords.{AreContent}
+
+-- the first for 0, and else the second
+abbrev pub pick : ℕ → ℕ → ℕ → ℕ
+pick a b zero = a
+pick a b (suc i) = b
+
+-- the path of a content word
+abbrev pub word_path : Image → ℕ → ℕ → WordPath
+word_path image t k = tree_path (height_of (root_of image 0)) t (suc (height_of (root_of image t))) k
+
+module _ (image : Image) (touched : Touched) (t k u l one two : ℕ) (is : TouchesTwo touched (tree_path (height_of (root_of image 0)) t (suc (height_of (root_of image t))) k) (tree_path (height_of (root_of image 0)) u (suc (height_of (root_of image u))) l) one two) where
+  pub two_count : length touched.words.items ≡ 2
+  two_count = sym (length-map touched.words.items (λ word. word.0.items)) ∙ ap (λ (ps : List WordPath). length ps) is.paths
+
+  pub no_leaves : (job_of touched).leaves ≡ 0
+  no_leaves = ap leaves_of is.none
+
+  pub two_paths : all_paths touched ≡ tree_path (height_of (root_of image 0)) t (suc (height_of (root_of image t))) k ∷ tree_path (height_of (root_of image 0)) u (suc (height_of (root_of image u))) l ∷ []
+  two_paths = ap (λ r. run_paths r ++ word_paths touched) is.none ∙ is.paths
+
+  pub has_first : Has (all_paths touched) (tree_path (height_of (root_of image 0)) t (suc (height_of (root_of image t))) k)
+  has_first = rw two_paths (inl refl)
+
+  pub has_second : Has (all_paths touched) (tree_path (height_of (root_of image 0)) u (suc (height_of (root_of image u))) l)
+  has_second = rw two_paths (inr (inl refl))
+
+  -- a way has at most 11 pointers
+  pub two_few : IsTouched touched → NoneBegins (all_paths touched) → copied_count image touched ≤ 23
+  two_few shape apart = subst (λ n. n ≤ 23) (count_is touched shape image apart (length (commit_cover image touched)) (cover_has touched shape image)) (go (nat_le (length (commit_cover image touched)) (length ((job_of touched).way 0))) refl)
+    where
+      ways_two : ways (job_of touched) ≡ 2
+      ways_two = omega (arith, no_leaves, two_count)
+
+      one_way : (i : ℕ) → i < 2 → turned_for (job_of touched) (length (commit_cover image touched)) i (length ((job_of touched).way i)) ≤ 11
+      one_way i low =
+          let all = turned_few (job_of touched) (length (commit_cover image touched)) i (length ((job_of touched).way i)) in
+          let short : length ((job_of touched).way i) ≤ 11 = way-short touched shape i (omega (arith, low, ways_two)) in
+          omega (arith, all, short)
+
+      all : turned_upto (job_of touched) (length (commit_cover image touched)) (ways (job_of touched)) ≤ 22
+      all =
+          let former = one_way 0 (omega arith) in
+          let latter = one_way 1 (omega arith) in
+          subst (λ n. turned_upto (job_of touched) (length (commit_cover image touched)) n ≤ 22) (sym ways_two) (omega (arith, former, latter))
+
+      go : (x : Bool) → nat_le (length (commit_cover image touched)) (length ((job_of touched).way 0)) ≡ x → copied (job_of touched) (length (commit_cover image touched)) ≤ 23
+      go true e = rw e (omega (arith, all))
+      go false e = rw e (omega arith)
+
+  pub first_value : (job_of touched).value 0 ≡ one
+  first_value = ap (λ vs. slice_index vs 0) is.values
+
+  pub second_value : (job_of touched).value 1 ≡ two
+  second_value = ap (λ vs. slice_index vs 1) is.values
+
+  module _ (bound : ℕ → ℕ) (first : IsReached image t) (second : IsReached image u) (low : 8 * k < bound t) (few : 8 * l < bound u)
+      (no_root : t ≡ 0 → k % 8 ≢ 1) (not_root : u ≡ 0 → l % 8 ≢ 1) (apart : t ≡ u → k ≡ l → ⊥) where
+    pub two_are : AreContent image bound touched (pick t u) (pick k l)
+    two_are = record {
+      none = is.none;
+      some = omega (arith, two_count);
+      few = omega (arith, two_count);
+      reached = λ i here. reaches i;
+      below = λ i here. lows i;
+      no_root = λ i here. roots i;
+      path = paths;
+      apart = aparts;
+    }
+      where
+        reaches : (i : ℕ) → IsReached image (pick t u i)
+        reaches zero = first
+        reaches (suc i) = second
+
+        lows : (i : ℕ) → 8 * pick k l i < bound (pick t u i)
+        lows zero = low
+        lows (suc i) = few
+
+        roots : (i : ℕ) → pick t u i ≡ 0 → pick k l i % 8 ≢ 1
+        roots zero = no_root
+        roots (suc i) = not_root
+
+        paths : (i : ℕ) → i < length touched.words.items → path_of (word_paths touched) i ≡ tree_path (height_of (root_of image 0)) (pick t u i) (suc (height_of (root_of image (pick t u i)))) (pick k l i)
+        paths zero here = ap (λ ps. path_of ps 0) is.paths
+        paths (suc zero) here = ap (λ ps. path_of ps 1) is.paths
+        paths (suc (suc i)) here = absurd (omega (arith, here, two_count))
+
+        aparts : (i j : ℕ) → i < length touched.words.items → j < length touched.words.items → pick t u i ≡ pick t u j → pick k l i ≡ pick k l j → i ≡ j
+        aparts zero zero here there e f = refl
+        aparts zero (suc j) here there e f = absurd (apart e f)
+        aparts (suc i) zero here there e f = absurd (apart (sym e) (sym f))
+        aparts (suc i) (suc j) here there e f = omega (arith, here, there, two_count)

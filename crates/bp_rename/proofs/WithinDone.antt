@@ -1,0 +1,158 @@
+-- A name has been spelled anew: that it is performed, and that the sets are exact.
+use Rattle.std.proofs.Common.{◌≡◌, ◌≢◌, ◌⊎◌, ℕ, zero, suc, ◌+◌, ◌-◌, ◌*◌, ◌/◌, ◌%◌, ◌^◌, ◌<◌, ◌≤◌, List, length, get_or, slice_index, refl, sym, ◌∙◌, ap, subst, arith, le-ltb, lt-ltb}
+use Rattle.pm_words.proofs.Bytes.{word_of_bytes}
+use Rattle.pm_words.specs.Bytes.{word_bytes, word_of}
+use Rattle.bp_free.specs.Set.{Set, has}
+use Rattle.bp_layout.specs.Directory.{EntryNames, Name, entry_word, name_at}
+use Rattle.bp_layout.specs.Inode.{root_of, size_of}
+use Rattle.bp_layout.specs.Need.{need}
+use Rattle.bp_layout.specs.Need.Change.{respells}
+use Rattle.bp_layout.specs.Reached.{IsReached}
+use Rattle.bp_layout.specs.Tree.{byte, content_word}
+use Rattle.bp_layout.specs.WellFormed.{IsWellFormed}
+use Rattle.bp_layout.specs.Words.{Image, byte_of}
+use Rattle.bp_layout.proofs.NameBytes.{map-tells}
+use Rattle.bp_limits.specs.Limits.{call_room}
+use Rattle.bp_changes.specs.Effects.{RespellsEntry}
+use Rattle.bp_changes.proofs.Committed.{commit_respells}
+use Rattle.bp_changes.proofs.Respell.{respelled_well_formed}
+use Rattle.bp_shapes.specs.Sets.{AreExact}
+use Rattle.bp_shapes.proofs.MovedSets.{respelled_exact}
+use Rattle.bp_tree.specs.Performs.{Performs}
+use Rattle.bp_cow.specs.CanCommit.{CanCommit}
+use Rattle.bp_cow.specs.Commit.{CommitsTouched, HasRoom}
+use Rattle.bp_cow.specs.Committed.{changes_of}
+use Rattle.bp_cow.specs.Cover.{commit_cover}
+use Rattle.bp_cow.specs.Job.{IsTurned}
+use Rattle.bp_cow.specs.Touched.{job_of, leaves_of, run_end, run_leaves, run_word}
+use Rattle.bp_cow.specs.declared.touched.Touched.{Touched}
+use Rattle.bp_cow.proofs.CommitTaking.{commit_performs, stores_few}
+use Rattle.bp_cow.proofs.FewCopies.{few_copies}
+use Rattle.bp_cow.proofs.RunLaws.{run_word-inside}
+use Rattle.pm_region.specs.Memory.{Memory, current_words, room_in}
+use Rattle.bp_calls.proofs.EnteredLaws.{not_named}
+use Rattle.bp_calls.proofs.RunCommits.{few_leaves, run_open}
+use Rattle.bp_rename.specs.Respelled.{TouchesName, respelled_byte, respelled_length}
+use Rattle.bp_rename.proofs.NameRun.{run_commit, run_given, run_only, run_words}
+use Rattle.bp_rename.proofs.WithinLaws.{CanRespell, few_words, name_end, name_run, no_words, within_cover, within_need, within_shape}
+
+-- the bytes of a word, one by one
+byte_at : (w c : ℕ) → c < 8 → slice_index (word_bytes w) c ≡ byte_of w c
+byte_at w zero low = omega arith
+byte_at w (suc zero) low = refl
+byte_at w (suc (suc zero)) low = refl
+byte_at w (suc (suc (suc zero))) low = refl
+byte_at w (suc (suc (suc (suc zero)))) low = refl
+byte_at w (suc (suc (suc (suc (suc zero))))) low = refl
+byte_at w (suc (suc (suc (suc (suc (suc zero)))))) low = refl
+byte_at w (suc (suc (suc (suc (suc (suc (suc zero))))))) low = refl
+byte_at w (suc (suc (suc (suc (suc (suc (suc (suc c)))))))) low = absurd (omega (arith, low))
+
+-- the bytes of the length, and those of the name
+length_byte : (name : Name) (at : ℕ) → at < 8 → respelled_byte name at ≡ byte_of (length name) at
+length_byte name at low = rw (lt-ltb at 8 low) refl
+
+name_byte : (name : Name) (o : ℕ) → respelled_byte name (8 + o) ≡ slice_index name o
+name_byte name o =
+    let past : 8 ≤ 8 + o = omega arith in
+    let back : 8 + o - 8 ≡ o = omega arith in
+    rw (le-ltb (8 + o) 8 past, back) refl
+
+module _ (memory : Memory) (n s j : ℕ) (name : Name) (can : CanRespell (current_words memory) (suc n) s j name) (touched : Touched) (is : TouchesName (current_words memory) (suc n) s name touched)
+    (blocks inodes : Set) (exact : AreExact (current_words memory) blocks inodes) (room : call_room ≤ room_in memory) where
+  pub within_ready : CanCommit (current_words memory) (size_of (current_words memory)) touched (has blocks)
+  within_ready =
+      run_commit (current_words memory) can.well_formed n can.reached touched is.run is.one (no_words (current_words memory) n s j name can touched is) (name_run (current_words memory) n s j name can touched is)
+      (has blocks) exact.free_blocks
+
+  few : run_leaves is.run ≤ 17
+  few = few_leaves is.run (omega (arith, is.count, few_words (current_words memory) n s j name can touched is))
+
+  pub within_room : HasRoom memory touched
+  within_room =
+      let copies = few_copies (current_words memory) (size_of (current_words memory)) touched (has blocks) can.well_formed within_ready is.run is.one few in
+      omega (arith, copies, no_words (current_words memory) n s j name can touched is, room)
+
+module _ (old new : Memory) (n s j : ℕ) (name : Name) (can : CanRespell (current_words old) (suc n) s j name) (touched : Touched) (is : TouchesName (current_words old) (suc n) s name touched)
+    (blocks inodes left : Set) (exact : AreExact (current_words old) blocks inodes) (room : call_room ≤ room_in old)
+    (done : CommitsTouched (size_of (current_words old)) touched old new blocks left) (as_long : length left ≡ length blocks) where
+  few_of : (length name + 7) / 8 ≤ 30
+  few_of = few_words (current_words old) n s j name can touched is
+
+  ends : run_end is.run ≡ 256 * s + 16 + 8 * ((length name + 7) / 8)
+  ends = name_end (current_words old) n s j name can touched is
+
+  ready : CanCommit (current_words old) (size_of (current_words old)) touched (has blocks)
+  ready = within_ready old n s j name can touched is blocks inodes exact room
+
+  -- the word of the length
+  length_word : entry_word (current_words new) (suc n) s 1 ≡ length name
+  length_word =
+      run_words (current_words old) can.well_formed n can.reached touched is.run is.one (no_words (current_words old) n s j name can touched is) (name_run (current_words old) n s j name can touched is)
+      (has blocks) exact.free_blocks can.names.directory (current_words new) (IsTurned (job_of touched) (length (commit_cover (current_words old) touched))) done.words
+      (32 * s + 1) (omega (arith, is.from)) (omega (arith, ends)) (omega (arith, can.names.in_size))
+      ∙ sym (run_word-inside is.run (32 * s + 1) (content_word (current_words old) (root_of (current_words old) (suc n)) (32 * s + 1)) (word_bytes (length name)) (omega (arith, is.from)) (omega (arith, ends)) refl same)
+      ∙ word_of_bytes (length name) (omega (arith, can.form.short))
+    where
+      same : (i : ℕ) → i < 8 → slice_index (word_bytes (length name)) i ≡ slice_index is.run.bytes.now (8 * (32 * s + 1) - is.run.off + i)
+      same i low =
+          let at : 8 * (32 * s + 1) - is.run.off + i ≡ i = omega (arith, is.from) in
+          byte_at (length name) i low ∙ sym (ap (slice_index is.run.bytes.now) at ∙ is.bytes_are i (omega (arith, low)) ∙ length_byte name i low)
+
+  pub within_name : name_at (current_words new) (suc n) s ≡ name
+  within_name = rw length_word (map-tells (λ o. byte (current_words new) (root_of (current_words new) (suc n)) (256 * s + 16 + o)) name each)
+    where
+      each : (o : ℕ) → o < length name → byte (current_words new) (root_of (current_words new) (suc n)) (256 * s + 16 + o) ≡ get_or name o 0
+      each o low =
+          let at : 256 * s + 16 + o - is.run.off ≡ 8 + o = omega (arith, is.from) in
+          run_given (current_words old) can.well_formed n can.reached touched is.run is.one (no_words (current_words old) n s j name can touched is) (name_run (current_words old) n s j name can touched is)
+          (has blocks) exact.free_blocks can.names.directory (current_words new) (IsTurned (job_of touched) (length (commit_cover (current_words old) touched))) done.words
+          (256 * s + 16 + o) is.small (omega (arith, is.from)) (omega (arith, ends, low)) (omega (arith, low, can.form.short, can.names.in_size))
+          ∙ ap (slice_index is.run.bytes.now) at ∙ is.bytes_are (8 + o) (omega (arith, low)) ∙ name_byte name o
+
+  no_name : (x l : ℕ) → EntryNames (current_words old) (suc n) x l → name_at (current_words old) (suc n) x ≢ name
+  no_name = not_named (current_words old) can.well_formed (suc n) name can.reached can.missing
+
+  pub within_respells : RespellsEntry (current_words old) (current_words new) (suc n) s j
+  within_respells =
+      commit_respells (current_words old) (current_words new) (changes_of (current_words old) (job_of touched)) (suc n) s j can.well_formed can.reached can.names
+      (run_only (current_words old) can.well_formed n can.reached touched is.run is.one (no_words (current_words old) n s j name can touched is) (name_run (current_words old) n s j name can touched is)
+      (has blocks) exact.free_blocks can.names.directory (current_words new) (IsTurned (job_of touched) (length (commit_cover (current_words old) touched))) done.words
+      (λ t l. (t ≡ suc n) × (32 * s + 1 ≤ l) × (l < 32 * s + 32))
+      (λ k first last. (refl, omega (arith, first, is.from), omega (arith, last, ends, few_of))))
+      (rw within_name can.form) (λ same. no_name s j can.names (same ∙ within_name)) (λ x l names other same. no_name x l names (same ∙ within_name))
+
+  pub within_performs : (Effect : Image → Image → Type 0) → (RespellsEntry (current_words old) (current_words new) (suc n) s j → name_at (current_words new) (suc n) s ≡ name → Effect (current_words old) (current_words new)) →
+      Performs old new (respells (suc n) s (length name)) Effect
+  within_performs Effect so =
+      commit_performs old new (respells (suc n) s (length name)) Effect (size_of (current_words old)) touched blocks left done
+      (within_cover (current_words old) n s j name can touched is) (within_need (current_words old) n s j name can touched is)
+      (let stores = stores_few (current_words old) (size_of (current_words old)) touched (has blocks) can.well_formed ready (omega (arith, ap leaves_of is.one, few old n s j name can touched is blocks inodes exact room)) in
+      omega (arith, stores, within_need (current_words old) n s j name can touched is))
+      (run_open (current_words old) can.well_formed n can.reached is.run (name_run (current_words old) n s j name can touched is) touched (within_shape (current_words old) n s j name can touched is) is.one done.taken)
+      (respelled_well_formed (current_words old) (current_words new) can.well_formed (suc n) s j within_respells)
+      (so within_respells within_name)
+
+  pub within_exact : AreExact (current_words new) left inodes
+  within_exact = respelled_exact (current_words old) (current_words new) can.well_formed (suc n) s j within_respells blocks left inodes exact as_long done.exact
+
+-- ---- told of any directory
+
+module _ (old : Memory) (s j : ℕ) (name : Name) (touched : Touched) (blocks inodes : Set) (exact : AreExact (current_words old) blocks inodes) (room : call_room ≤ room_in old) where
+  pub within_ready_at : (i : ℕ) → CanRespell (current_words old) i s j name → TouchesName (current_words old) i s name touched → CanCommit (current_words old) (size_of (current_words old)) touched (has blocks)
+  within_ready_at zero can is = absurd (omega (arith, can.names.directory))
+  within_ready_at (suc n) can is = within_ready old n s j name can touched is blocks inodes exact room
+
+  pub within_room_at : (i : ℕ) → CanRespell (current_words old) i s j name → TouchesName (current_words old) i s name touched → HasRoom old touched
+  within_room_at zero can is = absurd (omega (arith, can.names.directory))
+  within_room_at (suc n) can is = within_room old n s j name can touched is blocks inodes exact room
+
+  module _ (new : Memory) (left : Set) (done : CommitsTouched (size_of (current_words old)) touched old new blocks left) (as_long : length left ≡ length blocks) where
+    pub within_performs_at : (i : ℕ) → CanRespell (current_words old) i s j name → TouchesName (current_words old) i s name touched → (Effect : Image → Image → Type 0) →
+        (RespellsEntry (current_words old) (current_words new) i s j → name_at (current_words new) i s ≡ name → Effect (current_words old) (current_words new)) → Performs old new (respells i s (length name)) Effect
+    within_performs_at zero can is Effect so = absurd (omega (arith, can.names.directory))
+    within_performs_at (suc n) can is Effect so = within_performs old new n s j name can touched is blocks inodes left exact room done as_long Effect so
+
+    pub within_exact_at : (i : ℕ) → CanRespell (current_words old) i s j name → TouchesName (current_words old) i s name touched → AreExact (current_words new) left inodes
+    within_exact_at zero can is = absurd (omega (arith, can.names.directory))
+    within_exact_at (suc n) can is = within_exact old new n s j name can touched is blocks inodes left exact room done as_long

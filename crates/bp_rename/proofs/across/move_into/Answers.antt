@@ -1,0 +1,94 @@
+use Rattle.std.proofs.Common.{◌≡◌, ◌+◌, ◌*◌, ◌<◌, ◌∙◌, ap, arith}
+use Rattle.pm_epochs.specs.May.{AnyAt}
+use Rattle.pm_region.specs.Memory.{Memory, current_words}
+use Rattle.bp_tree.specs.Within.{IsWithin}
+use Rattle.bp_calls.proofs.InSlot.{entry_stands}
+use Rattle.bp_calls.proofs.Refusals.{found_empty}
+use Rattle.bp_calls.proofs.Rooms.{room_after, row_in_range}
+use Rattle.bp_rename.proofs.EntryPaths.{directory_some}
+use Rattle.bp_rename.proofs.IntoLaws.{mid_formed}
+use Rattle.bp_rename.proofs.IntoMoved.{into_copies, into_exact, into_fits, into_performs, into_ready, into_room}
+use Rattle.bp_rename.proofs.across.move_into.Goals as goal
+
+pub entry_place-entry-requires-clause-live : goal.entry_place-entry-requires-clause-live
+entry_place-entry-requires-clause-live g c =
+    let old : Memory = g.R.Region.memory c.args.parts.now.region in
+    let move = c.args.to_move.now in
+    rw c.tree_of-target.ensures.size (found_empty (current_words old) move.to_dir c.args.slot c.requires.found).0
+
+pub tree_of-target-requires-clause-some : goal.tree_of-target-requires-clause-some
+tree_of-target-requires-clause-some g c =
+    let old : Memory = g.R.Region.memory c.args.parts.now.region in
+    let move = c.args.to_move.now in
+    directory_some (current_words old) move.to_dir c.requires.can.directory
+
+pub entry_place-entry-requires-clause-sound : goal.entry_place-entry-requires-clause-sound
+entry_place-entry-requires-clause-sound g c =
+    let old : Memory = g.R.Region.memory c.args.parts.now.region in
+    let move = c.args.to_move.now in
+    rw (c.tree_of-target.ensures.root, c.tree_of-target.ensures.size) (c.requires.can.well_formed.sound move.to_dir c.requires.can.target)
+
+pub entry_place-entry-requires-clause-full : goal.entry_place-entry-requires-clause-full
+entry_place-entry-requires-clause-full g c =
+    let old : Memory = g.R.Region.memory c.args.parts.now.region in
+    let move = c.args.to_move.now in
+    rw (c.tree_of-target.ensures.root, c.tree_of-target.ensures.size) (c.requires.can.well_formed.full_directories move.to_dir c.requires.can.target c.requires.can.directory)
+
+pub put_name-requires-clause-in_range : goal.put_name-requires-clause-in_range
+put_name-requires-clause-in_range g c =
+    let old : Memory = g.R.Region.memory c.args.parts.now.region in
+    let move = c.args.to_move.now in
+    let stands = entry_stands (current_words old) move.to_dir c.args.slot c.entry_place-entry.result c.tree_of-target.result.root c.tree_of-target.ensures.root c.entry_place-entry.ensures.place c.entry_place-entry.ensures.present in
+    let low = (found_empty (current_words old) move.to_dir c.args.slot c.requires.found).0 in
+    let first = row_in_range old c.requires.can.well_formed move.to_dir (32 * c.args.slot + 0) c.entry_place-entry.result 32 c.requires.can.target (omega (arith, low)) (omega arith) stands in
+    omega (arith, first)
+
+pub barrier-requires : goal.barrier-requires
+barrier-requires g c =
+    let old : Memory = g.R.Region.memory c.args.parts.now.region in
+    let third : Memory = g.R.Region.memory c.put_name.new.region in
+    let left = room_after (AnyAt (IsWithin (c.entry_place-entry.result + 1) 31)) 31 old third c.put_name.ensures.stores in
+    omega (arith, c.requires.room, left)
+
+pub commit-requires : goal.commit-requires
+commit-requires g c κs inside =
+    let old : Memory = g.R.Region.memory c.args.parts.now.region in
+    let third : Memory = g.R.Region.memory c.put_name.new.region in
+    let mid : Memory = g.R.Region.memory c.barrier.new.self in
+    let move = c.args.to_move.now in
+    let stands = entry_stands (current_words old) move.to_dir c.args.slot c.entry_place-entry.result c.tree_of-target.result.root c.tree_of-target.ensures.root c.entry_place-entry.ensures.place c.entry_place-entry.ensures.present in
+    let ready = into_ready old third mid move c.args.slot c.entry_place-entry.result c.requires.can c.requires.new c.requires.other c.requires.found stands c.put_name.ensures.stores c.put_name.ensures.name c.barrier.ensures
+    c.touched_into-touched.result c.touched_into-touched.ensures c.args.parts.now.blocks c.args.parts.now.inodes c.requires.exact c.requires.room in
+    let room = into_room old third mid move c.args.slot c.entry_place-entry.result c.requires.can c.requires.new c.requires.other c.requires.found stands c.put_name.ensures.stores c.put_name.ensures.name c.barrier.ensures
+    c.touched_into-touched.result c.touched_into-touched.ensures c.args.parts.now.blocks c.args.parts.now.inodes c.requires.exact c.requires.room in
+    let count = into_copies old third mid move c.args.slot c.entry_place-entry.result c.requires.can c.requires.new c.requires.other c.requires.found stands c.put_name.ensures.stores c.put_name.ensures.name c.barrier.ensures
+    c.touched_into-touched.result c.touched_into-touched.ensures c.args.parts.now.blocks c.args.parts.now.inodes c.requires.exact c.requires.room in
+    let formed = mid_formed old third mid move c.args.slot c.entry_place-entry.result c.requires.can c.requires.new c.requires.other c.requires.found stands c.put_name.ensures.stores c.put_name.ensures.name c.barrier.ensures in
+    let fits = into_fits old third mid move c.args.slot c.entry_place-entry.result c.requires.can c.requires.new c.requires.other c.requires.found stands c.put_name.ensures.stores c.put_name.ensures.name c.barrier.ensures
+    c.touched_into-touched.result c.touched_into-touched.ensures c.args.parts.now.blocks c.args.parts.now.inodes c.requires.exact c.requires.room in
+    (inside, (formed, (ready, (fits, (omega (arith, count, c.requires.enough), room)))))
+
+pub returns-clause-performs : goal.returns-clause-performs
+returns-clause-performs g c =
+    let old : Memory = g.R.Region.memory c.args.parts.now.region in
+    let third : Memory = g.R.Region.memory c.put_name.new.region in
+    let mid : Memory = g.R.Region.memory c.barrier.new.self in
+    let new : Memory = g.R.Region.memory c.commit.new.parts.region in
+    let move = c.args.to_move.now in
+    let stands = entry_stands (current_words old) move.to_dir c.args.slot c.entry_place-entry.result c.tree_of-target.result.root c.tree_of-target.ensures.root c.entry_place-entry.ensures.place c.entry_place-entry.ensures.present in
+    into_performs old third mid move c.args.slot c.entry_place-entry.result c.requires.can c.requires.new c.requires.other c.requires.found stands c.put_name.ensures.stores c.put_name.ensures.name c.barrier.ensures
+    c.touched_into-touched.result c.touched_into-touched.ensures c.args.parts.now.blocks c.args.parts.now.inodes c.requires.exact c.requires.room
+    new c.commit.new.parts.blocks c.commit.ensures.commits c.commit.ensures.size
+
+pub returns-clause-exact : goal.returns-clause-exact
+returns-clause-exact g c =
+    let old : Memory = g.R.Region.memory c.args.parts.now.region in
+    let third : Memory = g.R.Region.memory c.put_name.new.region in
+    let mid : Memory = g.R.Region.memory c.barrier.new.self in
+    let new : Memory = g.R.Region.memory c.commit.new.parts.region in
+    let move = c.args.to_move.now in
+    let stands = entry_stands (current_words old) move.to_dir c.args.slot c.entry_place-entry.result c.tree_of-target.result.root c.tree_of-target.ensures.root c.entry_place-entry.ensures.place c.entry_place-entry.ensures.present in
+    rw c.commit.ensures.inodes
+    (into_exact old third mid move c.args.slot c.entry_place-entry.result c.requires.can c.requires.new c.requires.other c.requires.found stands c.put_name.ensures.stores c.put_name.ensures.name c.barrier.ensures
+    c.touched_into-touched.result c.touched_into-touched.ensures c.args.parts.now.blocks c.args.parts.now.inodes c.requires.exact c.requires.room
+    new c.commit.new.parts.blocks c.commit.ensures.commits c.commit.ensures.size)

@@ -1,0 +1,11 @@
+use Rattle.pm_region.specs.Memory.{Memory}
+use Rattle.bp_rename.proofs.Renames.{across_renames, onto_renames}
+use Rattle.bp_rename.proofs.renaming.rename.Goals as goal
+
+pub returns-in-Some-clause-performs : goal.returns-in-Some-clause-performs
+returns-in-Some-clause-performs g c =
+    onto_renames (g.R.Region.memory c.args.parts.now.region) (g.R.Region.memory c.rename_onto.new.parts.region) c.args.to_move.now c.in-Some.slot c.in-Some.is c.rename_onto.ensures.performs
+
+pub returns-in-None-2-clause-performs : goal.returns-in-None-2-clause-performs
+returns-in-None-2-clause-performs g c =
+    across_renames (g.R.Region.memory c.args.parts.now.region) (g.R.Region.memory c.rename_across.new.parts.region) c.args.to_move.now c.in-None-2.is c.if-to_move.false c.rename_across.ensures.performs

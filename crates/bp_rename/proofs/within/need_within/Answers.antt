@@ -1,0 +1,30 @@
+use Rattle.std.proofs.Common.{◌∙◌}
+use Rattle.pm_region.specs.Memory.{current_words}
+use Rattle.bp_rename.specs.CanRename.{moved_inode}
+use Rattle.bp_rename.proofs.WithinLaws.{respells_can, within_apart_at, within_inside_at, within_need_at, within_shape_at}
+use Rattle.bp_rename.proofs.within.need_within.Goals as goal
+
+pub need_cover-requires-clause-touched : goal.need_cover-requires-clause-touched
+need_cover-requires-clause-touched g c =
+    let image = current_words (g.R.Region.memory c.args.region.now) in
+    let move = c.args.to_move.now in
+    within_shape_at image move.from_slot (moved_inode image move) move.name.now c.touched_name.result move.from_dir (respells_can image move c.requires.can c.requires.new c.requires.here) c.touched_name.ensures
+
+pub need_cover-requires-clause-in_range : goal.need_cover-requires-clause-in_range
+need_cover-requires-clause-in_range g c =
+    let image = current_words (g.R.Region.memory c.args.region.now) in
+    let move = c.args.to_move.now in
+    within_inside_at image move.from_slot (moved_inode image move) move.name.now c.touched_name.result move.from_dir (respells_can image move c.requires.can c.requires.new c.requires.here) c.touched_name.ensures
+
+pub need_cover-requires-clause-apart : goal.need_cover-requires-clause-apart
+need_cover-requires-clause-apart g c =
+    let image = current_words (g.R.Region.memory c.args.region.now) in
+    let move = c.args.to_move.now in
+    within_apart_at image move.from_slot (moved_inode image move) move.name.now c.touched_name.result move.from_dir (respells_can image move c.requires.can c.requires.new c.requires.here) c.touched_name.ensures
+
+pub returns : goal.returns
+returns g c =
+    let image = current_words (g.R.Region.memory c.args.region.now) in
+    let move = c.args.to_move.now in
+    c.need_cover.ensures
+    ∙ within_need_at image move.from_slot (moved_inode image move) move.name.now c.touched_name.result move.from_dir (respells_can image move c.requires.can c.requires.new c.requires.here) c.touched_name.ensures

@@ -1,0 +1,41 @@
+use Rattle.std.proofs.Common.{◌∙◌, arith}
+use Rattle.pm_region.specs.Memory.{Memory, current_words}
+use Rattle.bp_rename.specs.CanRename.{moved_inode}
+use Rattle.bp_rename.specs.RenamesEntry.{RenamesEntry}
+use Rattle.bp_rename.specs.RenamesEntry.RenamesEntry.{within}
+use Rattle.bp_rename.proofs.WithinDone.{within_exact_at, within_performs_at, within_ready_at, within_room_at}
+use Rattle.bp_rename.proofs.WithinLaws.{respells_can, within_need_at}
+use Rattle.bp_rename.proofs.within.rename_within.Goals as goal
+
+pub commit-requires : goal.commit-requires
+commit-requires g c κs inside =
+    let old : Memory = g.R.Region.memory c.args.parts.now.region in
+    let move = c.args.to_move.now in
+    let j = moved_inode (current_words old) move in
+    let can = respells_can (current_words old) move c.requires.can c.requires.new c.requires.here in
+    let ready = within_ready_at old move.from_slot j move.name.now c.touched_name-touched.result c.args.parts.now.blocks c.args.parts.now.inodes c.requires.exact c.requires.room move.from_dir can c.touched_name-touched.ensures in
+    let room = within_room_at old move.from_slot j move.name.now c.touched_name-touched.result c.args.parts.now.blocks c.args.parts.now.inodes c.requires.exact c.requires.room move.from_dir can c.touched_name-touched.ensures in
+    let count = within_need_at (current_words old) move.from_slot j move.name.now c.touched_name-touched.result move.from_dir can c.touched_name-touched.ensures in
+    (inside, (c.requires.can.well_formed, (ready, (omega (arith, c.requires.exact.block_room), (omega (arith, count, c.requires.enough), room)))))
+
+pub returns-clause-performs : goal.returns-clause-performs
+returns-clause-performs g c =
+    let old : Memory = g.R.Region.memory c.args.parts.now.region in
+    let new : Memory = g.R.Region.memory c.commit.new.parts.region in
+    let move = c.args.to_move.now in
+    let j = moved_inode (current_words old) move in
+    let can = respells_can (current_words old) move c.requires.can c.requires.new c.requires.here in
+    within_performs_at old move.from_slot j move.name.now c.touched_name-touched.result c.args.parts.now.blocks c.args.parts.now.inodes c.requires.exact c.requires.room
+    new c.commit.new.parts.blocks c.commit.ensures.commits c.commit.ensures.size move.from_dir can c.touched_name-touched.ensures (RenamesEntry move)
+    (λ spells spelled. within c.requires.new c.requires.here spells spelled)
+
+pub returns-clause-exact : goal.returns-clause-exact
+returns-clause-exact g c =
+    let old : Memory = g.R.Region.memory c.args.parts.now.region in
+    let new : Memory = g.R.Region.memory c.commit.new.parts.region in
+    let move = c.args.to_move.now in
+    let j = moved_inode (current_words old) move in
+    let can = respells_can (current_words old) move c.requires.can c.requires.new c.requires.here in
+    rw c.commit.ensures.inodes
+    (within_exact_at old move.from_slot j move.name.now c.touched_name-touched.result c.args.parts.now.blocks c.args.parts.now.inodes c.requires.exact c.requires.room
+    new c.commit.new.parts.blocks c.commit.ensures.commits c.commit.ensures.size move.from_dir can c.touched_name-touched.ensures)

@@ -1,0 +1,37 @@
+-- What a rename is asked for, and which change it is.
+use Rattle.std.specs.Prelude.{◌≡◌, ℕ, ◌==◌, length, Option, None, Some, if◌then◌else◌}
+use Rattle.bp_changes.specs.Effects.{IsAtOrBelow}
+use Rattle.bp_layout.specs.Directory.{EntryNames, IsName, inumber_at, slot_named}
+use Rattle.bp_layout.specs.Inode.{kind_of}
+use Rattle.bp_layout.specs.Need.{Change}
+use Rattle.bp_layout.specs.Need.Change.{moves, replaces, respells}
+use Rattle.bp_layout.specs.Reached.{IsReached}
+use Rattle.bp_layout.specs.WellFormed.{IsWellFormed}
+use Rattle.bp_layout.specs.Words.{Image}
+use Rattle.bp_rename.specs.declared.moving.Move.{Move}
+
+-- the inode that moves
+abbrev pub moved_inode : Image → Move → ℕ
+moved_inode image move = inumber_at image move.from_dir move.from_slot
+
+-- The image is well formed. The entry names an inode, and the new directory is neither that inode nor below it: so no inode is lost. The entry that has the
+-- new name, where there is one, is another one, and names a file or an empty directory.
+pub record CanRename (image : Image) (move : Move) : Type 0 where
+  pub well_formed : IsWellFormed image
+  pub source : IsReached image move.from_dir
+  pub entry : EntryNames image move.from_dir move.from_slot (inumber_at image move.from_dir move.from_slot)
+  pub target : IsReached image move.to_dir
+  pub directory : kind_of image move.to_dir ≡ 2
+  pub outside : IsAtOrBelow image (inumber_at image move.from_dir move.from_slot) move.to_dir → ⊥
+  pub name : IsName move.name.now
+  pub slot : slot_named image move.to_dir move.name.now ≡ move.to_slot
+  pub other : (r : ℕ) → move.to_slot ≡ Some r → move.from_dir ≡ move.to_dir → move.from_slot ≡ r → ⊥
+  pub alone : (r x l : ℕ) → move.to_slot ≡ Some r → EntryNames image (inumber_at image move.to_dir r) x l → ⊥
+
+-- onto the entry that has the new name; and where none has it, within the directory or across to another one
+abbrev pub change_to : ℕ → ℕ → ℕ → ℕ → Option ℕ → Change
+change_to i s j len (Some r) = replaces i s j r
+change_to i s j len None = if i == j then respells i s len else moves i s j
+
+abbrev pub change_of : Move → Change
+change_of move = change_to move.from_dir move.from_slot move.to_dir (length move.name.now) move.to_slot

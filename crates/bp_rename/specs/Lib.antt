@@ -1,0 +1,4 @@
+pub mod CanRename
+pub mod RenamesEntry
+pub mod TouchesTwo
+pub mod Respelled

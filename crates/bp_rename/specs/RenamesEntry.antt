@@ -1,0 +1,23 @@
+-- What a rename makes of an image, told by slots.
+use Rattle.std.specs.Prelude.{◌≡◌, ◌≢◌, ℕ, None, Some, unwrap_or}
+use Rattle.bp_changes.specs.Effects.{CarriesEntry, MovesEntry, RespellsEntry}
+use Rattle.bp_layout.specs.Directory.{empty_slot, entry_count, name_at}
+use Rattle.bp_layout.specs.Words.{Image}
+use Rattle.bp_rename.specs.CanRename.{moved_inode}
+use Rattle.bp_rename.specs.declared.moving.Move.{Move}
+
+-- the slot into which a name comes that its directory has not: that of the least empty entry, or one behind the last
+abbrev pub new_slot : Image → ℕ → ℕ
+new_slot image i = unwrap_or (empty_slot image i) (entry_count image i)
+
+-- Onto an entry: it names the inode that moves. Within its directory: its entry has the new name. Across to another directory: an entry there has the new
+-- name and names it. Its old entry is empty, but within a directory. All other entries keep their slots, their names and what they name.
+pub data RenamesEntry (move : Move) (old new : Image) : Type 0 where
+  onto : (r : ℕ) → move.to_slot ≡ Some r →
+      MovesEntry old new move.from_dir move.from_slot move.to_dir r (moved_inode old move) → RenamesEntry move old new
+  within : move.to_slot ≡ None → move.from_dir ≡ move.to_dir →
+      RespellsEntry old new move.from_dir move.from_slot (moved_inode old move) →
+      name_at new move.from_dir move.from_slot ≡ move.name.now → RenamesEntry move old new
+  across : move.to_slot ≡ None → move.from_dir ≢ move.to_dir →
+      CarriesEntry old new move.from_dir move.from_slot move.to_dir (new_slot old move.to_dir) (moved_inode old move) →
+      name_at new move.to_dir (new_slot old move.to_dir) ≡ move.name.now → RenamesEntry move old new

@@ -1,0 +1,32 @@
+-- The words of an entry behind its inumber, for a new name.
+use Rattle.std.specs.Prelude.{◌≡◌, ℕ, ◌+◌, ◌-◌, ◌*◌, ◌/◌, ◌<◌, List, [], length, nat_lt, slice_index, Some, if◌then◌else◌}
+use Rattle.bp_cow.specs.declared.touched.Run.{Run}
+use Rattle.bp_cow.specs.declared.touched.Touched.{Touched}
+use Rattle.bp_layout.specs.Directory.{Name}
+use Rattle.bp_layout.specs.Inode.{root_of}
+use Rattle.bp_layout.specs.WordPaths.{inode_path}
+use Rattle.bp_layout.specs.Words.{Image, byte_of, height_of}
+use Rattle.bp_limits.specs.Limits.{entry_size, max_name}
+
+-- a byte of them: eight of the name's length, the lowest first, and then the name, with zeros behind it
+abbrev pub respelled_byte : Name → ℕ → ℕ
+respelled_byte name at = if nat_lt at 8 then byte_of (length name) at else slice_index name (at - 8)
+
+abbrev pub IsRespelled : Name → List ℕ → Type 0
+IsRespelled name bytes = (at : ℕ) → at < max_name + 8 → slice_index bytes at ≡ respelled_byte name at
+
+-- how many of them are touched: those of the length, and those of the name up to the end of its last word
+abbrev pub respelled_length : Name → ℕ
+respelled_length name = 8 + 8 * ((length name + 7) / 8)
+
+-- the bytes of an entry behind its inumber, of which these alone are touched
+pub record TouchesName (image : Image) (i slot : ℕ) (name : Name) (touched : Touched) : Type 0 where
+  pub run : Run
+  pub one : touched.run ≡ Some run
+  pub no_words : touched.words.items ≡ []
+  pub root : run.root.items ≡ inode_path (height_of (root_of image 0)) i 1
+  pub height : run.height ≡ height_of (root_of image i)
+  pub from : run.off ≡ entry_size * slot + 8
+  pub count : length run.bytes.now ≡ respelled_length name
+  pub bytes_are : (at : ℕ) → at < respelled_length name → slice_index run.bytes.now at ≡ respelled_byte name at
+  pub small : (at : ℕ) → slice_index run.bytes.now at < 256

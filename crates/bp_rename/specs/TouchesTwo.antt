@@ -1,0 +1,21 @@
+-- Two touched words.
+use Rattle.std.specs.Prelude.{◌≡◌, ℕ, suc, ◌+◌, ◌*◌, [], ◌∷◌, None}
+use Rattle.bp_cow.specs.Touched.{word_paths, word_values}
+use Rattle.bp_cow.specs.declared.touched.Touched.{Touched}
+use Rattle.bp_layout.specs.Inode.{root_of}
+use Rattle.bp_layout.specs.WordPaths.{WordPath, inode_path, tree_path}
+use Rattle.bp_layout.specs.Words.{Image, height_of}
+
+-- the path of the inumber of an entry
+abbrev pub inumber_path : Image → ℕ → ℕ → WordPath
+inumber_path image i slot = tree_path (height_of (root_of image 0)) i (suc (height_of (root_of image i))) (32 * slot + 0)
+
+-- the path of the size word of an inode
+abbrev pub size_path : Image → ℕ → WordPath
+size_path image i = inode_path (height_of (root_of image 0)) i 2
+
+-- These words alone are touched, in this order, and get these values.
+pub record TouchesTwo (touched : Touched) (first second : WordPath) (one two : ℕ) : Type 0 where
+  pub none : touched.run ≡ None
+  pub paths : word_paths touched ≡ first ∷ second ∷ []
+  pub values : word_values touched ≡ one ∷ two ∷ []

@@ -1,0 +1,105 @@
+//! A name moves to another directory, in which it is new.
+
+ghost use Rattle.std.specs.Prelude.{◌≡◌, ◌≢◌, ◌≤◌, None, Some, length};
+ghost use Rattle.bp_free.specs.Set.{members};
+ghost use Rattle.bp_layout.specs.Directory.{empty_slot};
+ghost use Rattle.bp_layout.specs.Need.{need};
+ghost use Rattle.bp_layout.specs.Need.Change.{moves};
+ghost use Rattle.bp_limits.specs.Limits.{call_room};
+ghost use Rattle.bp_rename.specs.CanRename.{CanRename, moved_inode};
+ghost use Rattle.bp_rename.specs.RenamesEntry.{RenamesEntry};
+ghost use Rattle.bp_rename.specs.TouchesTwo.{TouchesTwo, inumber_path};
+ghost use Rattle.bp_shapes.specs.Sets.{AreExact};
+ghost use Rattle.bp_tree.specs.Performs.{Performs};
+ghost use Rattle.pm_region.specs.Memory.{current_words, room_in};
+
+use crate::behind::{move_behind, need_behind};
+use crate::moving::Move;
+use crate::touching::{entry_path, two_words};
+use bp_calls::tree_of;
+use bp_cow::{Touched, commit, need_cover};
+use bp_dirs::{entry_place, free_slot, inumber, put_name};
+use bp_free::Parts;
+use pm_region::Region;
+
+/// What is touched: the inumber of an empty entry of the new directory, and that of the entry that moves.
+fn touched_into<R: Region>(region: &R, to_move: &Move<'_>, slot: u64) -> Touched<'static>
+    requires can { CanRename (current_words (R.memory region.now)) to_move.now }
+    requires found { empty_slot (current_words (R.memory region.now)) to_move.now.to_dir ≡ Some slot }
+    ensures { TouchesTwo result
+        (inumber_path (current_words (R.memory region.now)) to_move.now.to_dir slot)
+        (inumber_path (current_words (R.memory region.now)) to_move.now.from_dir to_move.now.from_slot)
+        (moved_inode (current_words (R.memory region.now)) to_move.now) 0 }
+{
+    let source = tree_of(region, to_move.from_dir);
+    let inode = inumber(region, source, to_move.from_slot);
+    let entered = entry_path(region, to_move.to_dir, slot);
+    let emptied = entry_path(region, to_move.from_dir, to_move.from_slot);
+    two_words((entered, inode), (emptied, 0))
+}
+
+/// How many blocks a name needs that moves into an empty entry.
+fn need_into<R: Region>(region: &R, to_move: &Move<'_>, slot: u64) -> u32
+    requires can { CanRename (current_words (R.memory region.now)) to_move.now }
+    requires other { to_move.now.from_dir ≢ to_move.now.to_dir }
+    requires found { empty_slot (current_words (R.memory region.now)) to_move.now.to_dir ≡ Some slot }
+    ensures { result ≡ need (current_words (R.memory region.now))
+        (moves to_move.now.from_dir to_move.now.from_slot to_move.now.to_dir) }
+{
+    need_cover(region, &touched_into(region, to_move, slot))
+}
+
+/// Moves a name into an empty entry: it is written there, where nobody sees it, and then one commit gives both inumbers.
+fn move_into<R: Region>(parts: &mut Parts<R>, to_move: &Move<'_>, slot: u64)
+    requires can { CanRename (current_words (R.memory parts.old.region)) to_move.now }
+    requires new { to_move.now.to_slot ≡ None }
+    requires other { to_move.now.from_dir ≢ to_move.now.to_dir }
+    requires found { empty_slot (current_words (R.memory parts.old.region)) to_move.now.to_dir ≡ Some slot }
+    requires exact { AreExact (current_words (R.memory parts.old.region)) parts.old.blocks parts.old.inodes }
+    requires enough { need (current_words (R.memory parts.old.region))
+        (moves to_move.now.from_dir to_move.now.from_slot to_move.now.to_dir) ≤ length (members parts.old.blocks) }
+    requires room { call_room ≤ room_in (R.memory parts.old.region) }
+    ensures performs { Performs (R.memory parts.old.region) (R.memory parts.new.region)
+        (moves to_move.now.from_dir to_move.now.from_slot to_move.now.to_dir) (RenamesEntry to_move.now) }
+    ensures exact { AreExact (current_words (R.memory parts.new.region)) parts.new.blocks parts.new.inodes }
+{
+    let target = tree_of(&parts.region, to_move.to_dir);
+    let entry = entry_place(&parts.region, target, slot, 0);
+    let touched = touched_into(&parts.region, to_move, slot);
+    put_name(&mut parts.region, entry, to_move.name);
+    parts.region.barrier();
+    commit(parts, &touched);
+}
+
+/// How many blocks a name needs that moves to another directory, in which it is new.
+pub(crate) fn need_across<R: Region>(region: &R, to_move: &Move<'_>) -> u32
+    requires can { CanRename (current_words (R.memory region.now)) to_move.now }
+    requires new { to_move.now.to_slot ≡ None }
+    requires other { to_move.now.from_dir ≢ to_move.now.to_dir }
+    ensures { result ≡ need (current_words (R.memory region.now))
+        (moves to_move.now.from_dir to_move.now.from_slot to_move.now.to_dir) }
+{
+    match free_slot(region, tree_of(region, to_move.to_dir)) {
+        Some(slot) => need_into(region, to_move, slot),
+        None => need_behind(region, to_move),
+    }
+}
+
+/// Moves a name to another directory, in which it is new.
+pub(crate) fn rename_across<R: Region>(parts: &mut Parts<R>, to_move: &Move<'_>)
+    requires can { CanRename (current_words (R.memory parts.old.region)) to_move.now }
+    requires new { to_move.now.to_slot ≡ None }
+    requires other { to_move.now.from_dir ≢ to_move.now.to_dir }
+    requires exact { AreExact (current_words (R.memory parts.old.region)) parts.old.blocks parts.old.inodes }
+    requires enough { need (current_words (R.memory parts.old.region))
+        (moves to_move.now.from_dir to_move.now.from_slot to_move.now.to_dir) ≤ length (members parts.old.blocks) }
+    requires room { call_room ≤ room_in (R.memory parts.old.region) }
+    ensures performs { Performs (R.memory parts.old.region) (R.memory parts.new.region)
+        (moves to_move.now.from_dir to_move.now.from_slot to_move.now.to_dir) (RenamesEntry to_move.now) }
+    ensures exact { AreExact (current_words (R.memory parts.new.region)) parts.new.blocks parts.new.inodes }
+{
+    match free_slot(&parts.region, tree_of(&parts.region, to_move.to_dir)) {
+        Some(slot) => move_into(parts, to_move, slot),
+        None => move_behind(parts, to_move),
+    }
+}

@@ -1,0 +1,76 @@
+//! A name moves to another directory, none of whose entries is empty.
+
+ghost use Rattle.std.specs.Prelude.{◌≡◌, ◌≢◌, ◌+◌, ◌≤◌, None, length};
+ghost use Rattle.bp_free.specs.Set.{members};
+ghost use Rattle.bp_layout.specs.Directory.{empty_slot};
+ghost use Rattle.bp_layout.specs.Inode.{size_of};
+ghost use Rattle.bp_layout.specs.Need.{need};
+ghost use Rattle.bp_layout.specs.Need.Change.{moves};
+ghost use Rattle.bp_limits.specs.Limits.{call_room, entry_size};
+ghost use Rattle.bp_rename.specs.CanRename.{CanRename};
+ghost use Rattle.bp_rename.specs.RenamesEntry.{RenamesEntry};
+ghost use Rattle.bp_rename.specs.TouchesTwo.{TouchesTwo, inumber_path, size_path};
+ghost use Rattle.bp_shapes.specs.Sets.{AreExact};
+ghost use Rattle.bp_tree.specs.Performs.{Performs};
+ghost use Rattle.pm_region.specs.Memory.{current_words, room_in};
+
+use crate::moving::Move;
+use crate::touching::{entry_path, two_words};
+use bp_append::need_prep;
+use bp_calls::{put_behind, size_path, tree_of};
+use bp_cow::{Touched, commit, need_cover};
+use bp_dirs::inumber;
+use bp_free::Parts;
+use bp_limits::ENTRY_SIZE;
+use pm_region::Region;
+
+/// What is touched: the size of the new directory, which will take in one entry more, and the inumber of the entry that
+/// moves.
+fn touched_behind<R: Region>(region: &R, to_move: &Move<'_>) -> Touched<'static>
+    requires can { CanRename (current_words (R.memory region.now)) to_move.now }
+    ensures { TouchesTwo result
+        (size_path (current_words (R.memory region.now)) to_move.now.to_dir)
+        (inumber_path (current_words (R.memory region.now)) to_move.now.from_dir to_move.now.from_slot)
+        (size_of (current_words (R.memory region.now)) to_move.now.to_dir + entry_size) 0 }
+{
+    let target = tree_of(region, to_move.to_dir);
+    let sized = size_path(region, to_move.to_dir);
+    let emptied = entry_path(region, to_move.from_dir, to_move.from_slot);
+    two_words((sized, target.size + ENTRY_SIZE), (emptied, 0))
+}
+
+/// How many blocks a name needs that moves behind the last entry of its new directory.
+pub(crate) fn need_behind<R: Region>(region: &R, to_move: &Move<'_>) -> u32
+    requires can { CanRename (current_words (R.memory region.now)) to_move.now }
+    requires other { to_move.now.from_dir ≢ to_move.now.to_dir }
+    requires none { empty_slot (current_words (R.memory region.now)) to_move.now.to_dir ≡ None }
+    ensures { result ≡ need (current_words (R.memory region.now))
+        (moves to_move.now.from_dir to_move.now.from_slot to_move.now.to_dir) }
+{
+    let target = tree_of(region, to_move.to_dir);
+    let behind = need_prep(region, target, target.size, target.size + ENTRY_SIZE);
+    behind + need_cover(region, &touched_behind(region, to_move))
+}
+
+/// Moves a name behind the last entry of its new directory: an entry is put there, where nobody sees it, and then one
+/// commit takes it in by the directory's size, and empties the old one.
+pub(crate) fn move_behind<R: Region>(parts: &mut Parts<R>, to_move: &Move<'_>)
+    requires can { CanRename (current_words (R.memory parts.old.region)) to_move.now }
+    requires new { to_move.now.to_slot ≡ None }
+    requires other { to_move.now.from_dir ≢ to_move.now.to_dir }
+    requires none { empty_slot (current_words (R.memory parts.old.region)) to_move.now.to_dir ≡ None }
+    requires exact { AreExact (current_words (R.memory parts.old.region)) parts.old.blocks parts.old.inodes }
+    requires enough { need (current_words (R.memory parts.old.region))
+        (moves to_move.now.from_dir to_move.now.from_slot to_move.now.to_dir) ≤ length (members parts.old.blocks) }
+    requires room { call_room ≤ room_in (R.memory parts.old.region) }
+    ensures performs { Performs (R.memory parts.old.region) (R.memory parts.new.region)
+        (moves to_move.now.from_dir to_move.now.from_slot to_move.now.to_dir) (RenamesEntry to_move.now) }
+    ensures exact { AreExact (current_words (R.memory parts.new.region)) parts.new.blocks parts.new.inodes }
+{
+    let source = tree_of(&parts.region, to_move.from_dir);
+    let inode = inumber(&parts.region, source, to_move.from_slot) as u32;
+    let target = tree_of(&parts.region, to_move.to_dir);
+    let touched = touched_behind(&parts.region, to_move);
+    put_behind(parts, to_move.to_dir, target, inode, to_move.name);
+    commit(parts, &touched);
+}

@@ -1,0 +1,15 @@
+//! A name moves: onto another one, within its directory, or across to another directory.
+#![tactic(auto)]
+
+mod across;
+mod behind;
+mod moving;
+mod needing;
+mod onto;
+mod renaming;
+mod touching;
+mod within;
+
+pub use moving::Move;
+pub use needing::need;
+pub use renaming::rename;

@@ -1,0 +1,81 @@
+//! A name moves onto another one, which it replaces.
+
+ghost use Rattle.std.specs.Prelude.{◌≡◌, ◌≤◌, Some, length};
+ghost use Rattle.bp_free.specs.Set.{members};
+ghost use Rattle.bp_layout.specs.Need.{need};
+ghost use Rattle.bp_layout.specs.Need.Change.{replaces};
+ghost use Rattle.bp_limits.specs.Limits.{call_room};
+ghost use Rattle.bp_rename.specs.CanRename.{CanRename, moved_inode};
+ghost use Rattle.bp_changes.specs.Effects.{MovesEntry};
+ghost use Rattle.bp_shapes.specs.Sets.{AreExact};
+ghost use Rattle.bp_tree.specs.Performs.{Performs};
+ghost use Rattle.pm_region.specs.Memory.{current_words, room_in};
+ghost use Rattle.bp_rename.specs.TouchesTwo.{TouchesTwo, inumber_path};
+
+use crate::moving::Move;
+use crate::touching::{entry_path, two_words};
+use bp_calls::{give_back, tree_of};
+use bp_cow::{Touched, commit, need_cover};
+use bp_dirs::inumber;
+use bp_free::Parts;
+use bp_inodes::get;
+use bp_tree::Tree;
+use pm_region::Region;
+
+/// What is touched: the inumber of the entry that moves, and that of the entry in a slot of the new directory.
+pub(crate) fn touched_inumbers<R: Region>(
+    region: &R,
+    to_move: &Move<'_>,
+    slot: u64,
+) -> Touched<'static>
+    requires can { CanRename (current_words (R.memory region.now)) to_move.now }
+    requires onto { to_move.now.to_slot ≡ Some slot }
+    ensures { TouchesTwo result
+        (inumber_path (current_words (R.memory region.now)) to_move.now.from_dir to_move.now.from_slot)
+        (inumber_path (current_words (R.memory region.now)) to_move.now.to_dir slot)
+        0 (moved_inode (current_words (R.memory region.now)) to_move.now) }
+{
+    let source = tree_of(region, to_move.from_dir);
+    let inode = inumber(region, source, to_move.from_slot);
+    let emptied = entry_path(region, to_move.from_dir, to_move.from_slot);
+    let entered = entry_path(region, to_move.to_dir, slot);
+    two_words((emptied, 0), (entered, inode))
+}
+
+/// How many blocks a name needs that moves onto another one.
+pub(crate) fn need_onto<R: Region>(region: &R, to_move: &Move<'_>, slot: u64) -> u32
+    requires can { CanRename (current_words (R.memory region.now)) to_move.now }
+    requires onto { to_move.now.to_slot ≡ Some slot }
+    ensures { result ≡ need (current_words (R.memory region.now))
+        (replaces to_move.now.from_dir to_move.now.from_slot to_move.now.to_dir slot) }
+{
+    need_cover(region, &touched_inumbers(region, to_move, slot))
+}
+
+/// Moves a name onto another one, by one commit of both inumbers. What had that name comes back: its blocks and its inode.
+pub(crate) fn rename_onto<R: Region>(parts: &mut Parts<R>, to_move: &Move<'_>, slot: u64)
+    requires can { CanRename (current_words (R.memory parts.old.region)) to_move.now }
+    requires onto { to_move.now.to_slot ≡ Some slot }
+    requires exact { AreExact (current_words (R.memory parts.old.region)) parts.old.blocks parts.old.inodes }
+    requires enough { need (current_words (R.memory parts.old.region))
+        (replaces to_move.now.from_dir to_move.now.from_slot to_move.now.to_dir slot) ≤ length (members parts.old.blocks) }
+    requires room { call_room ≤ room_in (R.memory parts.old.region) }
+    ensures performs { Performs (R.memory parts.old.region) (R.memory parts.new.region)
+        (replaces to_move.now.from_dir to_move.now.from_slot to_move.now.to_dir slot)
+        (λ image after. MovesEntry image after to_move.now.from_dir to_move.now.from_slot to_move.now.to_dir slot
+        (moved_inode image to_move.now)) }
+    ensures exact { AreExact (current_words (R.memory parts.new.region)) parts.new.blocks parts.new.inodes }
+{
+    let target = tree_of(&parts.region, to_move.to_dir);
+    let replaced = inumber(&parts.region, target, slot) as u32;
+    let touched = touched_inumbers(&parts.region, to_move, slot);
+    commit(parts, &touched);
+    // Nobody reaches the inode any more, but its words still lead to its blocks.
+    let inode = get(&parts.region, replaced);
+    let tree = Tree {
+        root: inode.root,
+        size: inode.size,
+    };
+    give_back(&parts.region, tree, 0, &mut parts.blocks);
+    parts.inodes.give(replaced);
+}

@@ -1,0 +1,102 @@
+//! A name is spelled anew, within its directory.
+
+ghost use Rattle.std.specs.Prelude.{◌≡◌, ◌≤◌, None, length};
+ghost use Rattle.bp_free.specs.Set.{members};
+ghost use Rattle.bp_layout.specs.Need.{need};
+ghost use Rattle.bp_layout.specs.Need.Change.{respells};
+ghost use Rattle.bp_limits.specs.Limits.{call_room, max_name};
+ghost use Rattle.bp_rename.specs.CanRename.{CanRename};
+ghost use Rattle.bp_rename.specs.RenamesEntry.{RenamesEntry};
+ghost use Rattle.bp_rename.specs.Respelled.{IsRespelled, TouchesName, respelled_byte};
+ghost use Rattle.bp_shapes.specs.Sets.{AreExact};
+ghost use Rattle.bp_tree.specs.Performs.{Performs};
+ghost use Rattle.pm_region.specs.Memory.{current_words, room_in};
+
+use crate::moving::Move;
+use arrayvec::ArrayVec;
+use bp_calls::{root_path, tree_of};
+use bp_cow::{Run, Touched, commit, need_cover};
+use bp_free::Parts;
+use bp_limits::{ENTRY_SIZE, MAX_NAME};
+use pm_region::Region;
+
+/// A byte of an entry behind its inumber: eight are the length of the name, the lowest first, and then comes the name,
+/// with zeros behind it.
+fn respelled_byte(name: &[u8], at: usize) -> u8
+    requires { length name.now ≤ max_name }
+    ensures { result ≡ respelled_byte name.now at }
+{
+    if at < 8 {
+        (name.len() as u64).to_le_bytes()[at]
+    } else if at - 8 < name.len() {
+        name[at - 8]
+    } else {
+        0
+    }
+}
+
+/// The bytes of an entry behind its inumber.
+fn respelled(name: &[u8]) -> [u8; MAX_NAME + 8]
+    requires { length name.now ≤ max_name }
+    ensures { IsRespelled name.now result }
+{
+    let mut bytes = [0; MAX_NAME + 8];
+    for at in 0..bytes.len() {
+        bytes[at] = respelled_byte(name, at);
+    }
+    bytes
+}
+
+/// What is touched: the length of the name and the words of the new one, to the end of the last.
+fn touched_name<'a, R: Region>(
+    region: &R,
+    to_move: &Move<'_>,
+    bytes: &'a [u8; MAX_NAME + 8],
+) -> Touched<'a>
+    requires can { CanRename (current_words (R.memory region.now)) to_move.now }
+    requires bytes { IsRespelled to_move.now.name.now bytes.now }
+    ensures { TouchesName (current_words (R.memory region.now)) to_move.now.from_dir to_move.now.from_slot
+        to_move.now.name.now result }
+{
+    let tree = tree_of(region, to_move.from_dir);
+    let run = Run {
+        root: root_path(region, to_move.from_dir),
+        height: (tree.root & 7) as u32,
+        off: to_move.from_slot * ENTRY_SIZE + 8,
+        bytes: &bytes[..8 + 8 * to_move.name.len().div_ceil(8)],
+    };
+    Touched {
+        words: ArrayVec::new(),
+        run: Some(run),
+    }
+}
+
+/// How many blocks a name needs that is spelled anew.
+pub(crate) fn need_within<R: Region>(region: &R, to_move: &Move<'_>) -> u32
+    requires can { CanRename (current_words (R.memory region.now)) to_move.now }
+    requires new { to_move.now.to_slot ≡ None }
+    requires here { to_move.now.from_dir ≡ to_move.now.to_dir }
+    ensures { result ≡ need (current_words (R.memory region.now))
+        (respells to_move.now.from_dir to_move.now.from_slot (length to_move.now.name.now)) }
+{
+    let bytes = respelled(to_move.name);
+    need_cover(region, &touched_name(region, to_move, &bytes))
+}
+
+/// Spells a name anew, by one commit of its words.
+pub(crate) fn rename_within<R: Region>(parts: &mut Parts<R>, to_move: &Move<'_>)
+    requires can { CanRename (current_words (R.memory parts.old.region)) to_move.now }
+    requires new { to_move.now.to_slot ≡ None }
+    requires here { to_move.now.from_dir ≡ to_move.now.to_dir }
+    requires exact { AreExact (current_words (R.memory parts.old.region)) parts.old.blocks parts.old.inodes }
+    requires enough { need (current_words (R.memory parts.old.region))
+        (respells to_move.now.from_dir to_move.now.from_slot (length to_move.now.name.now)) ≤ length (members parts.old.blocks) }
+    requires room { call_room ≤ room_in (R.memory parts.old.region) }
+    ensures performs { Performs (R.memory parts.old.region) (R.memory parts.new.region)
+        (respells to_move.now.from_dir to_move.now.from_slot (length to_move.now.name.now)) (RenamesEntry to_move.now) }
+    ensures exact { AreExact (current_words (R.memory parts.new.region)) parts.new.blocks parts.new.inodes }
+{
+    let bytes = respelled(to_move.name);
+    let touched = touched_name(&parts.region, to_move, &bytes);
+    commit(parts, &touched);
+}

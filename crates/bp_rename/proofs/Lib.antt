@@ -16,3 +16,4 @@ pub mod IntoMoved
 pub mod BehindTouched
 pub mod BehindMoved
 pub mod Renames
+pub mod RenamedStands

@@ -2,3 +2,4 @@ pub mod CanRename
 pub mod RenamesEntry
 pub mod TouchesTwo
 pub mod Respelled
+pub mod MovesPath

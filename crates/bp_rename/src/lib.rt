@@ -3,6 +3,7 @@
 
 mod across;
 mod behind;
+pub mod laws;
 mod moving;
 mod needing;
 mod onto;

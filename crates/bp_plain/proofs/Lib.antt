@@ -6,3 +6,4 @@ pub mod Kept
 pub mod Parts
 pub mod PathLaws
 pub mod FileTrees
+pub mod Renamed

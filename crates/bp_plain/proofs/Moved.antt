@@ -1,7 +1,6 @@
 -- What a plain tree has at each path after a rename.
-use Rattle.std.proofs.Common.{◌≡◌, ◌⊎◌, List, [], ◌∷◌, ◌++◌, Bool, true, false, Option, None, Some, unwrap_or, if◌then◌else◌, refl, sym, ◌∙◌, ap, inl, inr, true≢false, append-nil}
+use Rattle.std.proofs.Common.{◌≡◌, ◌⊎◌, List, [], ◌∷◌, ◌++◌, Bool, true, false, Option, None, Some, refl, sym, ◌∙◌, ap, inl, inr, true≢false, append-nil}
 use Rattle.std.proofs.lemmas.List.{append_cancel_left}
-use Rattle.std.specs.Option.{option_map}
 use Rattle.std.specs.List.{filter_map}
 use Rattle.std.specs.FinMap.{get, entries, get-from_entries, get-entries}
 use Rattle.std.specs.FinMap.Entries.{find}
@@ -12,7 +11,7 @@ use Rattle.bp_layout.specs.Lookup.{Path, Node}
 use Rattle.bp_plain.specs.PlainTree.{FileTree, path_cmp}
 use Rattle.bp_layout.specs.Below.{same_path, rest_below}
 use Rattle.bp_layout.proofs.Below.{rest_below-append, rest_below-is, same_path-self, same_path-is, path_case}
-use Rattle.bp_plain.specs.Plain.{moved}
+use Rattle.bp_plain.specs.Plain.{moved, moved_entry, moved_path}
 use Rattle.bp_plain.proofs.Uniqueness.{path_cmp-IsTotalOrder, same_path_from}
 
 -- ---- what is found at a path
@@ -32,12 +31,6 @@ differs p q other = go (eq_by_cmp path_cmp p q) refl
 pub record CanMove (p q : Path) : Type 0 where
   pub apart : rest_below p q ≡ None
 
-abbrev pub new_key : Path → Path → Path → Path
-new_key p q key = unwrap_or (option_map (λ rest. q ++ rest) (rest_below p key)) key
-
-abbrev pub moved_entry : Path → Path → Path × Node → Option (Path × Node)
-moved_entry p q entry = if same_path entry.0 q then None else Some (new_key p q entry.0, entry.1)
-
 not_target : (q path s : Path) → rest_below q path ≡ None → path ≡ q ++ s → ⊥
 not_target q path s apart e = let none : ◌≡◌ {A = Option Path} (Some s) None = sym (rest_below-append q s) ∙ ap (rest_below q) (sym e) ∙ apart in absurd (cc)
 
@@ -47,8 +40,8 @@ module _ (p q : Path) (can : CanMove p q) where
 
   -- the key of an entry: below the source, or where it was
   pub data Key (key : Path) : Type 0 where
-    moves : (rest : Path) → key ≡ p ++ rest → new_key p q key ≡ q ++ rest → Key key
-    stays : rest_below p key ≡ None → new_key p q key ≡ key → Key key
+    moves : (rest : Path) → key ≡ p ++ rest → moved_path p q key ≡ q ++ rest → Key key
+    stays : rest_below p key ≡ None → moved_path p q key ≡ key → Key key
 
   key_of : (key : Path) → Key key
   key_of key = go (rest_below p key) refl

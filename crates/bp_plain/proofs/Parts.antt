@@ -1,5 +1,5 @@
 -- The names in the text of a path.
-use Rattle.std.proofs.Common.{◌≡◌, ◌≢◌, ℕ, suc, ◌+◌, ◌<◌, ◌≤◌, Bool, true, false, ◌&&◌, ◌==◌, List, [], ◌∷◌, ◌++◌, length, take, drop, slice_index, position, nat_lt, Option, None, Some, if◌then◌else◌, refl, sym, ◌∙◌, ap, arith, append_assoc}
+use Rattle.std.proofs.Common.{◌≡◌, ◌≢◌, ℕ, suc, ◌+◌, ◌<◌, ◌≤◌, Bool, true, false, ◌==◌, List, [], ◌∷◌, ◌++◌, length, take, drop, slice_index, position, nat_lt, Option, None, Some, if◌then◌else◌, refl, sym, ◌∙◌, ap, arith, append_assoc}
 use Rattle.std.specs.List.{list_all, position_or_len}
 use Rattle.std.proofs.lemmas.Bool.{eqb-true, eqb-false, ltb-false}
 use Rattle.std.proofs.lemmas.List.Sums.{fails_before_first}

@@ -87,6 +87,30 @@ on_parsed (Some path) refusals = refusals path
 abbrev pub on_path : List ℕ → (Path → Option Refusal) → Option Refusal
 on_path text refusals = on_parsed (parse text) refusals
 
+-- ---- moves that are refused
+
+abbrev pub moves_below : Path → Path → Bool
+moves_below p q = not (same_path p q) && is_some (rest_below p q)
+
+abbrev pub moves_file_onto_dir : FileTree → Path → Path → Bool
+moves_file_onto_dir tree p q = not (is_dir_at tree p) && is_dir_at tree q
+
+abbrev pub moves_dir_onto_file : FileTree → Path → Path → Bool
+moves_dir_onto_file tree p q = is_dir_at tree p && is_some (get tree q) && not (is_dir_at tree q)
+
+-- a directory would move to one that has names in it
+abbrev pub moves_onto_names : FileTree → Path → Path → Bool
+moves_onto_names tree p q = not (same_path p q) && is_dir_at tree p && is_dir_at tree q && not (is_empty_dir tree q)
+
+-- why what stands at the one path does not move to the other
+abbrev pub move_refusal : FileTree → Path → Path → Option Refusal
+move_refusal tree p q = first (
+    when (is_root_path p) is_root ∷ when (is_root_path q) is_root ∷ walk tree p ∷ walk_parent tree q
+    ∷ when (moves_below p q) into_self
+    ∷ when (moves_file_onto_dir tree p q) is_dir
+    ∷ when (moves_dir_onto_file tree p q) not_dir
+    ∷ when (moves_onto_names tree p q) not_empty ∷ [])
+
 -- the first refusal of a call in this order
 abbrev pub refusal : FileTree → Call → Option Refusal
 refusal tree (create text) = on_path text (λ p. first (when (is_root_path p) exists ∷ walk_parent tree p ∷ when (is_some (get tree p)) exists ∷ []))
@@ -97,12 +121,7 @@ refusal tree (write text off new) = on_path text (λ p. first (when (nat_lt max_
 refusal tree (truncate text size) = on_path text (λ p. first (walk tree p ∷ when (is_dir_at tree p) is_dir ∷ when (nat_lt max_size size) too_big ∷ []))
 refusal tree (unlink text) = on_path text (λ p. first (when (is_root_path p) is_dir ∷ walk tree p ∷ when (is_dir_at tree p) is_dir ∷ []))
 refusal tree (rmdir text) = on_path text (λ p. first (when (is_root_path p) is_root ∷ walk tree p ∷ when (not (is_dir_at tree p)) not_dir ∷ when (not (is_empty_dir tree p)) not_empty ∷ []))
-refusal tree (rename from to) = on_path from (λ p. on_path to (λ q. first (
-    when (is_root_path p) is_root ∷ when (is_root_path q) is_root ∷ walk tree p ∷ walk_parent tree q
-    ∷ when (not (same_path p q) && is_some (rest_below p q)) into_self
-    ∷ when (not (is_dir_at tree p) && is_dir_at tree q) is_dir
-    ∷ when (is_dir_at tree p && is_some (get tree q) && not (is_dir_at tree q)) not_dir
-    ∷ when (not (same_path p q) && is_dir_at tree p && is_dir_at tree q && not (is_empty_dir tree q)) not_empty ∷ [])))
+refusal tree (rename from to) = on_path from (λ p. on_path to (λ q. move_refusal tree p q))
 refusal tree (list text) = on_path text (λ p. first (walk tree p ∷ when (not (is_dir_at tree p)) not_dir ∷ []))
 refusal tree (stat text) = on_path text (λ p. walk tree p)
 
@@ -120,9 +139,17 @@ without tree path = remove tree path
 abbrev pub with_bytes : FileTree → Path → List ℕ → FileTree
 with_bytes tree path content = with_node tree path (file content)
 
+-- where a path lies, once what is at or below the one is at or below the other
+abbrev pub moved_path : Path → Path → Path → Path
+moved_path p q path = unwrap_or (option_map (λ rest. q ++ rest) (rest_below p path)) path
+
+-- an entry that moves so, unless it stood at the other path itself
+abbrev pub moved_entry : Path → Path → Path × Node → Option (Path × Node)
+moved_entry p q entry = if same_path entry.0 q then None else Some (moved_path p q entry.0, entry.1)
+
 -- each path below the one moves below the other, whose own node is gone
 abbrev pub moved : Path → Path → FileTree → FileTree
-moved p q tree = from_entries (filter_map (λ entry. if same_path entry.0 q then None else Some (unwrap_or (option_map (λ rest. q ++ rest) (rest_below p entry.0)) entry.0, entry.1)) (entries tree))
+moved p q tree = from_entries (filter_map (moved_entry p q) (entries tree))
 
 -- ---- what a call makes, where it is not refused
 

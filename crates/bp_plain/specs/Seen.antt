@@ -6,7 +6,7 @@ use Rattle.bp_plain.specs.declared.calls.Call.TheVariants as given
 use Rattle.bp_plain.specs.declared.errors.FsError.{FsError}
 use Rattle.bp_plain.specs.declared.errors.FsError.TheVariants as fault
 use Rattle.bp_plain.specs.Calls.{Call, Refusal}
-use Rattle.bp_plain.specs.Calls.Call.{create, mkdir, unlink, rmdir, list, stat, read, write, truncate}
+use Rattle.bp_plain.specs.Calls.Call.{create, mkdir, unlink, rmdir, list, stat, read, write, truncate, rename}
 use Rattle.bp_plain.specs.Calls.Refusal.{bad_path, not_found, not_dir, is_dir, exists, not_empty, into_self, is_root, too_long, too_big, no_space, no_memory}
 
 abbrev pub call_of : GivenCall → Call
@@ -19,6 +19,7 @@ call_of (given.Stat path) = stat path.now
 call_of (given.Read path off len) = read path.now off len
 call_of (given.Write path off bytes) = write path.now off bytes.now
 call_of (given.Truncate path size) = truncate path.now size
+call_of (given.Rename from to) = rename from.now to.now
 
 abbrev pub refusal_of : FsError → Refusal
 refusal_of fault.BadPath = bad_path

@@ -5,6 +5,7 @@ use Rattle.std.specs.Global.{Vec}
 use Rattle.std.specs.FinMap.{from_sorted}
 use Rattle.std.specs.FinMap.Entries.{is_sorted}
 use Rattle.arrayvec.specs.ArrayVec.{ArrayVec}
+use Rattle.bp_layout.specs.Below.{same_path}
 use Rattle.bp_layout.specs.Directory.{Name}
 use Rattle.bp_layout.specs.Lookup.{Path, Node}
 use Rattle.bp_layout.specs.Lookup.Node.{dir, file}
@@ -13,7 +14,7 @@ use Rattle.bp_plain.specs.declared.trees.Node.{Node as Kept}
 use Rattle.bp_plain.specs.declared.trees.Node.TheVariants as kept
 use Rattle.bp_plain.specs.declared.trees.Plain.TheInside.{Inside}
 use Rattle.bp_plain.specs.Calls.{Call, Answer}
-use Rattle.bp_plain.specs.Plain.{answer_or}
+use Rattle.bp_plain.specs.Plain.{answer_or, moved_path, with_node}
 use Rattle.bp_plain.specs.PlainTree.{FileTree, path_cmp}
 
 abbrev pub names_of : List (ArrayVec ℕ) → Path
@@ -42,3 +43,7 @@ carried_out tree call = answer_or tree call None
 -- names behind others, where each of them is one
 abbrev pub all_names : Path → List Name → Option Path
 all_names before parts = if list_all is_name parts then Some (before ++ parts) else None
+
+-- a tree with an entry of another one, where that lies after a rename
+abbrev pub with_moved : Path → Path → Path × Node → FileTree → FileTree
+with_moved p q entry tree = if same_path entry.0 q then tree else with_node tree (moved_path p q entry.0) entry.1

@@ -40,4 +40,11 @@ pub enum Call<'a> {
         /// The size in bytes.
         size: u64,
     },
+    /// Moves the file or the directory at a path, with all below it, to another path.
+    Rename {
+        /// The path that it has.
+        from: &'a [u8],
+        /// The path that it gets. A file or an empty directory that stands there goes.
+        to: &'a [u8],
+    },
 }

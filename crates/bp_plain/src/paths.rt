@@ -1,12 +1,13 @@
 //! Paths as lists of names, and refusals in their order.
 
+ghost use Rattle.bp_layout.specs.Below.{same_path};
 ghost use Rattle.bp_layout.specs.PathText.{is_name, parse, parts};
 ghost use Rattle.bp_plain.specs.Calls.{Refusal};
 ghost use Rattle.bp_plain.specs.Plain as plain;
 ghost use Rattle.bp_plain.specs.Seen.{refusal_of};
 ghost use Rattle.bp_plain.specs.SeenTree.{all_names, names_of};
 ghost use Rattle.std.specs.List.{list_all};
-ghost use Rattle.std.specs.Prelude.{IfOk, None, Some, [], ◌&&◌, ◌<◌, ◌==◌, ◌≡◌, if◌then◌else◌, length, map, not, option_map, position};
+ghost use Rattle.std.specs.Prelude.{IfOk, None, OnOk, Some, [], ◌&&◌, ◌++◌, ◌<◌, ◌==◌, ◌≡◌, if◌then◌else◌, length, map, not, option_map, position};
 
 use crate::errors::FsError;
 use bp_layout::Name;
@@ -113,6 +114,32 @@ pub(crate) fn parent_of(path: &[Name]) -> &[Name]
     ensures { names_of result.now ≡ plain.parent_of (names_of path.now) }
 {
     &path[..path.len().saturating_sub(1)]
+}
+
+/// Whether two paths have the same names.
+pub(crate) fn is_same(path: &[Name], other: &[Name]) -> bool
+    ensures { result ≡ same_path (names_of path.now) (names_of other.now) }
+{
+    path == other
+}
+
+/// The names of one path, and then those of another.
+pub(crate) fn joined(alloc: Global, above: &[Name], below: &[Name]) -> Result<Vec<Name>, AllocError>
+    ensures { IfOk result (λ path. names_of path.items ≡ names_of above.now ++ names_of below.now) }
+{
+    let mut path = Vec::new(alloc);
+    add_names(&mut path, above)?;
+    add_names(&mut path, below)?;
+    Ok(path)
+}
+
+fn add_names(path: &mut Vec<Name>, names: &[Name]) -> Result<(), AllocError>
+    ensures { OnOk result (names_of path.new.items ≡ names_of path.old.items ++ names_of names.now) }
+{
+    for name in names {
+        path.push(name.clone()?)?;
+    }
+    Ok(())
 }
 
 /// The refusal where something holds.

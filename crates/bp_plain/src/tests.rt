@@ -76,13 +76,17 @@ fn plain_tree(rt: HostRuntime) -> Result<(), Fail> {
             path: b"/a",
             size: 3,
         },
+        Call::Rename {
+            from: b"/a",
+            to: b"/b",
+        },
     ];
     for call in calls {
         tree.apply(alloc, &call, &mut reply)?;
         assert!(rt; matches!(reply.answer(), Answer::Done));
     }
     let call = Call::Read {
-        path: b"/a",
+        path: b"/b",
         off: 0,
         len: 9,
     };

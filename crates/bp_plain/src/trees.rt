@@ -13,6 +13,8 @@ ghost use Rattle.bp_plain.specs.SeenTree.{carried_out, names_of, node_seen};
 ghost use Rattle.std.specs.FinMap.{get};
 ghost use Rattle.std.specs.Prelude.{IfOk, None, OnErr, OnOk, [], ◌&&◌, ◌+◌, ◌++◌, ◌<◌, ◌^◌, ◌∷◌, ◌≡◌, ◌≤◌, drop, is_some, length, map, nat_lt, option_map, take};
 
+mod moves;
+
 use crate::calls::Call;
 use crate::errors::FsError;
 use crate::paths::{first, parent_of, parse, path_of, when};
@@ -99,6 +101,7 @@ impl Plain {
             Call::Read { path, off, len } => self.refuses_read(alloc, path, off, len),
             Call::Write { path, off, bytes } => self.refuses_write(alloc, path, off, bytes),
             Call::Truncate { path, size } => self.refuses_truncate(alloc, path, size),
+            Call::Rename { from, to } => self.refuses_rename(alloc, from, to),
         }
     }
 
@@ -267,6 +270,7 @@ impl Plain {
             Call::Read { path, off, len } => self.read(alloc, path, off, len, reply),
             Call::Write { path, off, bytes } => self.write(alloc, path, off, bytes, reply),
             Call::Truncate { path, size } => self.truncate(alloc, path, size, reply),
+            Call::Rename { from, to } => self.rename(alloc, from, to, reply),
         }
     }
 

@@ -1,4 +1,4 @@
-use Rattle.std.proofs.Common.{refl, sym, ◌∙◌, ap, ap₂}
+use Rattle.std.proofs.Common.{refl, ◌∙◌, ap₂}
 use Rattle.std.specs.FinMap.{insert}
 use Rattle.bp_layout.specs.Lookup.Node.{dir}
 use Rattle.bp_plain.specs.declared.trees.Node.TheVariants as kept

@@ -86,6 +86,7 @@ path_command verb path =
 abbrev pub pair_command : List ℕ → List ℕ → List ℕ → Command
 pair_command verb first second =
     if bytes_eq verb (codes "truncate") then truncate_command first (number_of second)
+    else if bytes_eq verb (codes "rename") then file_call (rename first second)
     else bad_syntax
 
 abbrev pub long_command : List ℕ → List ℕ → List ℕ → List ℕ → Command
@@ -98,6 +99,7 @@ long_command verb first second third =
 --     sync      space
 --     create PATH      mkdir PATH      unlink PATH      rmdir PATH      list PATH      stat PATH
 --     read PATH OFF LEN      write PATH OFF HEX      truncate PATH SIZE
+--     rename PATH PATH
 abbrev pub command_by_words : List (List ℕ) → Command
 command_by_words (verb ∷ []) = bare_command verb
 command_by_words (verb ∷ path ∷ []) = path_command verb path

@@ -1,6 +1,6 @@
 //! The lines of a script.
 
-ghost use Rattle.bp_plain.specs.Calls.Call.{write};
+ghost use Rattle.bp_plain.specs.Calls.Call.{rename, write};
 ghost use Rattle.bp_script.specs.Commands.Command.{bad_syntax, file_call};
 ghost use Rattle.bp_script.specs.Commands.{bare_command, bytes_of, command_by_words, decoded, in_grammar, is_empty_word, long_command, number_of, pair_command, part_bytes, path_bytes, path_command, read_command, truncate_command, unslashed, words_of, write_command, written_command};
 ghost use Rattle.bp_script.specs.Lines.{AllFit, decoded_room, first_held, line_asks, second_held};
@@ -106,14 +106,37 @@ impl Decoded {
 
     /// What a line of a word, a path and a last word asks for.
     fn on_pair(&mut self, verb: &[u8], path: &[u8], last: &[u8]) -> Result<Line<'_>, Syntax>
-        requires { length path.now ≤ decoded_room self.old }
+        requires path { length path.now ≤ decoded_room self.old }
+        requires last { length last.now ≤ decoded_room self.old }
         ensures* keeps_room { sem 𝓛 (follows_so the_row the_row self.entry.ghost_name none (λ _ _. ⊤) (λ after. decoded_room self.old ≤ decoded_room after)) }
         ensures meaning { line_asks result ≡ decoded (pair_command verb.now path.now last.now) }
     {
         match verb {
             b"truncate" => truncate(self.path_of(path), number(last)),
+            b"rename" => Ok(self.rename(path, last)),
             _ => Err(Syntax),
         }
+    }
+
+    /// The line of a rename.
+    fn rename(&mut self, from: &[u8], to: &[u8]) -> Line<'_>
+        requires from { length from.now ≤ decoded_room self.old }
+        requires to { length to.now ≤ decoded_room self.old }
+        ensures* keeps_room { sem 𝓛 (follows_so the_row the_row self.entry.ghost_name none (λ _ _. ⊤) (λ after. decoded_room self.old ≤ decoded_room after)) }
+        ensures meaning { line_asks (Ok result) ≡ file_call (rename (path_bytes from.now) (path_bytes to.now)) }
+    {
+        self.pair(from, to);
+        self.rename_held()
+    }
+
+    /// The line of a rename with the paths that are held.
+    fn rename_held(&self) -> Line<'_>
+        ensures { line_asks (Ok result) ≡ file_call (rename (first_held self.now) (second_held self.now)) }
+    {
+        Line::Call(Call::Rename {
+            from: self.first.as_slice(),
+            to: self.second.as_slice(),
+        })
     }
 
     /// What a line of four words asks for.

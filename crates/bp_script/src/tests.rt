@@ -16,7 +16,7 @@ fn asks(rt: &impl Abort, decoded: &mut Decoded, bytes: &[u8], want: Result<Line<
 #[test]
 fn lines_of_the_table(rt: HostRuntime) -> Result<(), Fail> {
     let mut decoded = Decoded::new(rt.alloc(), 64)?;
-    let calls: [(&[u8], Call<'static>); 17] = [
+    let calls: [(&[u8], Call<'static>); 18] = [
         (b"create /a", Call::Create(b"/a")),
         (b"mkdir /a", Call::Mkdir(b"/a")),
         (b"unlink /a%20", Call::Unlink(b"/a ")),
@@ -52,6 +52,13 @@ fn lines_of_the_table(rt: HostRuntime) -> Result<(), Fail> {
             Call::Truncate {
                 path: b"/ ",
                 size: 10,
+            },
+        ),
+        (
+            b"rename /a%20b c%2F",
+            Call::Rename {
+                from: b"/a b",
+                to: b"c\0",
             },
         ),
     ];
@@ -105,12 +112,14 @@ fn lines_of_reads(rt: HostRuntime) -> Result<(), Fail> {
 #[test]
 fn lines_outside_the_table(rt: HostRuntime) -> Result<(), Fail> {
     let mut decoded = Decoded::new(rt.alloc(), 64)?;
-    let lines: [&[u8]; 24] = [
+    let lines: [&[u8]; 26] = [
         b"write /a 0 0",
         b"write /a 0 0g",
         b"write /a 0 --",
         b"write /a -1 00",
         b"write /a 0",
+        b"rename /a",
+        b"rename /a /b /c",
         b"truncate /a",
         b"truncate /a -",
         b"truncate /a 18446744073709551616",

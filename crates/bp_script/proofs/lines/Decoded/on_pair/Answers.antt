@@ -13,3 +13,13 @@ returns-in-truncate c =
         meaning = rw same (c.truncate.ensures ∙ ap₂ truncate_command c.path_of.ensures.path c.number.ensures ∙ decoded-truncate c.args.path.now _);
       },
     )
+
+pub returns-in-rename : goal.returns-in-rename
+returns-in-rename c =
+    let same : c.args.verb.now ≡ codes "rename" = text_from_reads c.args.verb.now (codes "rename") (omega arith) (omega arith) in (
+      (refl, λ _. tt, omega arith),
+      record {
+        keeps_room = tt;
+        meaning = rw same c.rename.ensures.meaning;
+      },
+    )

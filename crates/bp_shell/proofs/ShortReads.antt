@@ -48,7 +48,9 @@ short_path verb path =
     (short_either (bytes_eq verb (codes "list")) (file_call (list path)) _ tt (short_either (bytes_eq verb (codes "stat")) (file_call (stat path)) bad_syntax tt tt)))))
 
 short_pair : (verb first second : List ℕ) → IsShort (pair_command verb first second)
-short_pair verb first second = short_either (bytes_eq verb (codes "truncate")) (truncate_command first (number_of second)) bad_syntax (short_truncate first (number_of second)) tt
+short_pair verb first second =
+    short_either (bytes_eq verb (codes "truncate")) (truncate_command first (number_of second)) _ (short_truncate first (number_of second))
+    (short_either (bytes_eq verb (codes "rename")) (file_call (rename first second)) bad_syntax tt tt)
 
 short_long : (verb first second third : List ℕ) → IsShort (long_command verb first second third)
 short_long verb first second third =

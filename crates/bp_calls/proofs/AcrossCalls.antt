@@ -26,7 +26,8 @@ use Rattle.bp_calls.specs.Space.{LacksSpace}
 use Rattle.bp_calls.specs.TouchedAcross.{TouchesAcross, WritesAcross}
 use Rattle.bp_calls.specs.WritesFile.{WritesFile}
 use Rattle.bp_calls.proofs.AcrossDone.{across_exact, across_performs}
-use Rattle.bp_calls.proofs.AcrossMiddle.{across_can, middle_count, middle_formed, sizes_with}
+use Rattle.bp_calls.proofs.AcrossMiddle.{across_can, middle_count, middle_formed}
+use Rattle.bp_calls.proofs.SizesWith.{sizes_with}
 use Rattle.bp_calls.proofs.AcrossTouched.{across_apart, across_copies, across_inside, across_made, across_needs, across_shape, across_words}
 use Rattle.bp_calls.proofs.FreeCounts.{free_members}
 use Rattle.bp_calls.proofs.TakenBlocks.{unused_members, usable_members}

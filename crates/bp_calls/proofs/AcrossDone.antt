@@ -33,7 +33,8 @@ use Rattle.bp_limits.specs.Limits.{block_words, max_height}
 use Rattle.pm_region.specs.Memory.{Memory, current_words}
 use Rattle.bp_calls.specs.TouchedAcross.{WritesAcross}
 use Rattle.bp_calls.specs.WritesFile.{WritesFile}
-use Rattle.bp_calls.proofs.AcrossMiddle.{across_can, across_file, bound_here, bound_other, left_free, middle_count, middle_cover, middle_formed, middle_live, middle_sets, run_there, size_fronts, sizes_with}
+use Rattle.bp_calls.proofs.AcrossMiddle.{across_can, across_file, bound_here, bound_other, left_free, middle_count, middle_cover, middle_formed, middle_live, middle_sets, run_there, size_fronts}
+use Rattle.bp_calls.proofs.SizesWith.{sizes_with}
 use Rattle.bp_calls.proofs.AcrossTouched.{across_copies, across_cover, across_end, across_needs, across_shape, across_words}
 use Rattle.bp_calls.proofs.RunCommits.{commit_exact, commit_writes_file, laid_past}
 use Rattle.bp_calls.proofs.WriteBehind.{given_inside}

@@ -1,32 +1,27 @@
 -- Behind the preparation of a write across the size of a file, what is touched can be committed: the sizes that count are those that the trees have, and for the file the end of the bytes.
-use Rattle.std.proofs.Common.{◌≡◌, ◌≢◌, ◌⊎◌, ℕ, suc, ◌+◌, ◌-◌, ◌*◌, ◌/◌, ◌<◌, ◌≤◌, List, [], ◌∷◌, ◌==◌, length, drop, if◌then◌else◌, Some, slice_index, refl, sym, ◌∙◌, ap, subst, suc-ne-zero, arith, true}
-use Rattle.std.proofs.lemmas.Bool.{eq-eqb, ne_eqb}
+use Rattle.std.proofs.Common.{◌≡◌, ◌≢◌, ◌⊎◌, ℕ, suc, ◌+◌, ◌-◌, ◌*◌, ◌<◌, ◌≤◌, List, [], ◌∷◌, length, drop, Some, slice_index, refl, sym, ◌∙◌, ap, subst, suc-ne-zero, arith, true}
 use Rattle.bp_free.specs.Set.{Set, has, members}
 use Rattle.bp_layout.specs.Free.{AreUnheld}
 use Rattle.bp_layout.specs.Inode.{root_of, size_of, inode_count}
 use Rattle.bp_layout.specs.Members.{Has}
-use Rattle.bp_layout.specs.Need.{number_of}
 use Rattle.bp_layout.specs.Reached.{IsReached, IsLiveBlock, IsFreeBlock}
 use Rattle.bp_layout.specs.Reached.IsReached.{inode_file}
-use Rattle.bp_layout.specs.Tree.{IsSound}
 use Rattle.bp_layout.specs.WellFormed.{IsWellFormed}
 use Rattle.bp_layout.specs.WordPaths.{WordPath, inode_path}
 use Rattle.bp_layout.specs.Words.{Image, word, height_of}
 use Rattle.bp_layout.proofs.Reached.{reached-in_file}
-use Rattle.bp_layout.proofs.TreeLaws.{live_content}
 use Rattle.bp_changes.proofs.ReachedOn.{reached_on}
 use Rattle.bp_changes.proofs.SameMeaning as meaning
 use Rattle.bp_append.specs.Prepared.{PreparesWith}
 use Rattle.bp_tree.proofs.Digits.{length-digits}
-use Rattle.bp_tree.proofs.ExistingPaths.{number-digits}
 use Rattle.bp_shapes.specs.Forest.{tree_trail, IsForest, IsTreePointer}
 use Rattle.bp_shapes.specs.Sets.{AreExactFor}
 use Rattle.bp_shapes.specs.Trail.{Trail, trail_of}
-use Rattle.bp_shapes.proofs.FreeSets.{content_fronts, content_no_pointer, wf_forest}
+use Rattle.bp_shapes.proofs.FreeSets.{content_fronts, content_no_pointer}
 use Rattle.bp_shapes.proofs.PathTrails.{length-trail_of}
 use Rattle.bp_cow.specs.CanCommit.{CanCommit, HasRunIn}
 use Rattle.bp_cow.specs.Cover.{commit_cover, copied_count}
-use Rattle.bp_cow.specs.Touched.{path_of, run_path, word_paths, word_values}
+use Rattle.bp_cow.specs.Touched.{path_of, run_path, word_paths}
 use Rattle.bp_cow.specs.declared.touched.Run.{Run}
 use Rattle.bp_cow.specs.declared.touched.Touched.{Touched}
 use Rattle.bp_cow.proofs.LeafCover.{IsSizedRun, leaf_cover, leaf_count, leaf_path}
@@ -35,11 +30,8 @@ use Rattle.bp_cow.proofs.RunWrites.{IsFileRun, digits_trail, root_path_trail}
 use Rattle.pm_region.specs.Memory.{Memory, current_words}
 use Rattle.bp_calls.specs.TouchedAcross.{WritesAcross}
 use Rattle.bp_calls.proofs.AcrossTouched.{across_end, across_run, across_shape, across_some, across_words}
+use Rattle.bp_calls.proofs.SizesWith.{size_with_here, size_with_other, sizes_with}
 use Rattle.bp_calls.proofs.PreparedSets.{live_before, prepared_exact, prepared_forest, prepared_sets, sizes_low, still_free}
-
--- the sizes that count: that of the touched word for its inode, and else those of the image
-abbrev pub sizes_with : Image → Touched → ℕ → ℕ
-sizes_with image touched t = if t == number_of (path_of (word_paths touched) 0) / 8 then slice_index (word_values touched) 0 else size_of image t
 
 module _ (old middle : Memory) (blocks inodes after : Set) (n off : ℕ) (bytes : List ℕ) (touched : Touched) (across : WritesAcross old blocks inodes (suc n) off bytes touched)
     (prepared : PreparesWith old middle (members blocks) (members after) (suc n) (size_of (current_words old) (suc n)) (off + length bytes) (drop (size_of (current_words old) (suc n) - off) bytes)) where
@@ -84,18 +76,11 @@ module _ (old middle : Memory) (blocks inodes after : Set) (n off : ℕ) (bytes 
   size_low : 8 * (8 * suc n + 2) < size_of mid 0
   size_low = omega (arith, in_file)
 
-  inode_is : number_of (path_of (word_paths touched) 0) / 8 ≡ suc n
-  inode_is =
-      let inodes_sound : IsSound mid (root_of mid 0) (size_of mid 0) = (middle_formed).sound 0 inode_file in
-      let number : number_of (inode_path (height_of (root_of mid 0)) (suc n) 2) ≡ 8 * suc n + 2 =
-      number-digits (root_of mid 0) (size_of mid 0) (suc (height_of (root_of mid 0))) (8 * suc n + 2) inodes_sound.fits (live_content (root_of mid 0) (size_of mid 0) (8 * suc n + 2) size_low) in
-      ap (λ p. number_of p / 8) path_is ∙ omega (arith, number)
-
   pub bound_here : sizes_with (current_words middle) touched (suc n) ≡ off + length bytes
-  bound_here = rw (eq-eqb (suc n) (number_of (path_of (word_paths touched) 0) / 8) (sym inode_is)) (ap (λ vs. slice_index vs 0) across.touches.value)
+  bound_here = size_with_here mid middle_formed (suc n) in_file touched path_is ∙ ap (λ vs. slice_index vs 0) across.touches.value
 
   pub bound_other : (t : ℕ) → (t ≡ suc n → ⊥) → sizes_with (current_words middle) touched t ≡ size_of (current_words middle) t
-  bound_other t other = rw (ne_eqb t (number_of (path_of (word_paths touched) 0) / 8) (λ e. other (e ∙ inode_is))) refl
+  bound_other = size_with_other mid middle_formed (suc n) in_file touched path_is
 
   past : size_of (current_words old) (suc n) ≤ off + length bytes
   past = omega (arith, across.past)

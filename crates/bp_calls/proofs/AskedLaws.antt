@@ -1,5 +1,5 @@
 -- What is read of a file, and the names of a directory once they are sorted.
-use Rattle.std.proofs.Common.{◌≡◌, ℕ, ◌-◌, ◌+◌, ◌<◌, ◌≤◌, List, [], ◌∷◌, length, map, take, drop, min, Bool, true, false, refl, sym, ◌∙◌, ap, ap₂, arith, get_or, IsPermutation, IsSortedBy}
+use Rattle.std.proofs.Common.{◌≡◌, ℕ, ◌-◌, ◌+◌, ◌<◌, List, [], ◌∷◌, length, map, take, drop, min, Bool, true, false, refl, sym, ◌∙◌, ap, ap₂, arith, IsSortedBy}
 use Rattle.std.specs.Prelude.{nat_le}
 use Rattle.std.proofs.lemmas.Bool.{leb-true, leb-false}
 use Rattle.std.proofs.lemmas.List.{get_or-map, length-drop, length-map, take_min}

@@ -26,6 +26,7 @@ pub mod TakenBlocks
 pub mod WriteBehind
 pub mod AcrossTouched
 pub mod PreparedSets
+pub mod SizesWith
 pub mod AcrossMiddle
 pub mod AcrossDone
 pub mod AcrossCalls

@@ -1,5 +1,5 @@
 -- Behind the preparation of a tree the sizes that count are those that the trees have, and for this one the end for which it is prepared: under them the trees are apart, and the sets are exact.
-use Rattle.std.proofs.Common.{◌≡◌, ◌≢◌, ◌⊎◌, ℕ, ◌<◌, ◌≤◌, List, ◌++◌, length, true, sym, ◌∙◌, subst, inl, inr, arith, lt_of_lt_of_le}
+use Rattle.std.proofs.Common.{◌≡◌, ◌≢◌, ◌⊎◌, ℕ, ◌≤◌, List, length, true, sym, ◌∙◌, subst, inl, inr, arith, lt_of_lt_of_le}
 use Rattle.std.proofs.lemmas.Bool.{cases_eq}
 use Rattle.bp_free.specs.Set.{Set, has, members}
 use Rattle.bp_layout.specs.Free.{AreUnheld}

@@ -1,18 +1,16 @@
 -- A write behind the size of a file: what it asks of a preparation, and that it is performed.
-use Rattle.std.proofs.Common.{◌≡◌, ◌≢◌, ◌⊎◌, ℕ, zero, suc, ◌+◌, ◌-◌, ◌*◌, ◌<◌, ◌≤◌, max, List, [], ◌∷◌, ◌++◌, length, map, Bool, true, false, ◌&&◌, nat_le, nat_lt, if◌then◌else◌, slice_index, refl, sym, ◌∙◌, ap, subst, inl, inr, arith, lt-ltb, le-ltb, le-leb}
+use Rattle.std.proofs.Common.{◌≡◌, ◌⊎◌, ℕ, zero, suc, ◌+◌, ◌-◌, ◌*◌, ◌<◌, ◌≤◌, max, List, length, Bool, ◌&&◌, if◌then◌else◌, slice_index, refl, sym, ◌∙◌, ap, subst, inl, inr, arith, lt-ltb, le-ltb, le-leb}
 use Rattle.std.proofs.lemmas.Bool.{cases_lt, lt-leb}
 use Rattle.std.proofs.lemmas.List.{append-nil}
 use Rattle.bp_free.specs.Set.{Set, members}
 use Rattle.bp_layout.specs.Free.{HasFree}
 use Rattle.bp_layout.specs.Same.{Same}
-use Rattle.bp_layout.specs.Inode.{kind_of, root_of, size_of, ContentStandsAt}
-use Rattle.bp_layout.specs.Need.{Beyond}
+use Rattle.bp_layout.specs.Inode.{root_of, size_of, ContentStandsAt}
 use Rattle.bp_layout.specs.Need.Change.{writes}
 use Rattle.bp_layout.specs.Nodes.{nodes_for}
 use Rattle.bp_layout.specs.Tree.{byte}
-use Rattle.bp_layout.specs.WordPaths.{WordPath, digits, inode_path, tree_path}
-use Rattle.bp_layout.specs.Words.{Image, word, block_count, height_of}
-use Rattle.bp_changes.specs.SameContent.{IsReadByWords}
+use Rattle.bp_layout.specs.WordPaths.{WordPath, inode_path}
+use Rattle.bp_layout.specs.Words.{Image, height_of}
 use Rattle.pm_epochs.specs.Crash.{commit}
 use Rattle.pm_region.specs.Memory.{Memory, current_words, room_in, Adds}
 use Rattle.pm_region.proofs.MemoryLaws.{base-adds, length-current_words}

@@ -1,6 +1,6 @@
 -- A name moves behind the last entry of another directory: an entry is prepared there, and then one commit takes it in by the directory's size, and empties the old one.
 use Rattle.std.proofs.Common.{◌≡◌, ◌≢◌, ◌⊎◌, ℕ, zero, suc, ◌+◌, ◌*◌, ◌/◌, ◌%◌, ◌<◌, ◌≤◌, [], ◌∷◌, ◌++◌, length, true, None, slice_index, unwrap_or, refl, sym, ◌∙◌, ap, ap₂, subst, subst₂, arith, inl, inr}
-use Rattle.std.proofs.lemmas.Bool.{cases_eq, eq-eqb, ne_eqb}
+use Rattle.std.proofs.lemmas.Bool.{cases_eq}
 use Rattle.std.proofs.lemmas.List.{length-append}
 use Rattle.pm_region.specs.Memory.{Memory, current_words, room_in}
 use Rattle.pm_region.proofs.MemoryLaws.{room_in-piece}
@@ -11,16 +11,15 @@ use Rattle.bp_free.specs.Set.{Set, has, members}
 use Rattle.bp_layout.specs.Directory.{EntryNames, IsName, empty_slot, entry_count, entry_word, inumber_at, name_at, slot_named}
 use Rattle.bp_layout.specs.Free.{AreUnheld}
 use Rattle.bp_layout.specs.Inode.{inode_count, kind_of, root_of, size_of}
-use Rattle.bp_layout.specs.Need.{common_all, cover, need, number_of}
+use Rattle.bp_layout.specs.Need.{common_all, cover, need}
 use Rattle.bp_layout.specs.Need.Change.{moves}
 use Rattle.bp_layout.specs.Reached.{IsReached}
 use Rattle.bp_layout.specs.Reached.IsReached.{inode_file}
-use Rattle.bp_layout.specs.Tree.{IsFull, IsSound}
+use Rattle.bp_layout.specs.Tree.{IsFull}
 use Rattle.bp_layout.specs.WellFormed.{IsWellFormed}
 use Rattle.bp_layout.specs.WordPaths.{inode_path, tree_path}
 use Rattle.bp_layout.specs.Words.{Image, block_count, height_of, word}
 use Rattle.bp_layout.proofs.Reached.{reached-in_file}
-use Rattle.bp_layout.proofs.TreeLaws.{live_content}
 use Rattle.bp_limits.specs.Limits.{block_words, call_room, max_height}
 use Rattle.bp_changes.specs.Commits.{CommitsOnly}
 use Rattle.bp_changes.specs.Effects.{CarriesEntry}
@@ -33,7 +32,6 @@ use Rattle.bp_shapes.specs.Forest.{tree_trail, IsForest}
 use Rattle.bp_shapes.specs.Sets.{AreExact, AreExactFor}
 use Rattle.bp_shapes.proofs.FreeSets.{wf_forest}
 use Rattle.bp_shapes.proofs.MovedSets.{carried_exact}
-use Rattle.bp_tree.proofs.ExistingPaths.{number-digits}
 use Rattle.bp_tree.specs.Performs.{IsOpen, Performs, most_stores}
 use Rattle.bp_cow.specs.CanCommit.{CanCommit}
 use Rattle.bp_cow.specs.Commit.{CommitsTouched, HasRoom, commit_stores, cover_word}
@@ -47,11 +45,11 @@ use Rattle.bp_cow.proofs.CopiesNeed.{has-word}
 use Rattle.bp_calls.proofs.ReadingLaws.{few_inode}
 use Rattle.bp_calls.specs.Entries.{PutsBehind}
 use Rattle.bp_calls.specs.Steps.{CanPutBehind, entering_room}
-use Rattle.bp_calls.proofs.AcrossMiddle.{sizes_with}
 use Rattle.bp_calls.proofs.AfterLaws.{slot_named_over}
 use Rattle.bp_calls.proofs.EnteredLaws.{name_same, not_named}
 use Rattle.bp_calls.proofs.PreparedSets.{live_before, prepared_exact, prepared_forest, prepared_sets, sizes_low, still_free}
 use Rattle.bp_calls.proofs.PutsLaws.{few_behind}
+use Rattle.bp_calls.proofs.SizesWith.{size_with_here, size_with_other, sizes_with}
 use Rattle.bp_rename.specs.CanRename.{CanRename, moved_inode}
 use Rattle.bp_rename.specs.RenamesEntry.{RenamesEntry, new_slot}
 use Rattle.bp_rename.specs.RenamesEntry.RenamesEntry.{across}
@@ -155,22 +153,17 @@ module _ (old middle : Memory) (move : Move) (blocks inodes after : Set) (can : 
 
   -- ---- the sizes that count
 
-  size_low : 8 * (8 * j + 2) < size_of mid 0
-  size_low = let inside : j < inode_count mid = reached-in_file mid behind_formed j target in omega (arith, inside)
+  in_file : j < inode_count mid
+  in_file = reached-in_file mid behind_formed j target
 
-  -- the inode is that of the touched size
-  inode_is : number_of (path_of (word_paths touched) 0) / 8 ≡ j
-  inode_is =
-      let sound : IsSound mid (root_of mid 0) (size_of mid 0) = behind_formed.sound 0 inode_file in
-      let number : number_of (inode_path (height_of (root_of mid 0)) j 2) ≡ 8 * j + 2 =
-      number-digits (root_of mid 0) (size_of mid 0) (suc (height_of (root_of mid 0))) (8 * j + 2) sound.fits (live_content (root_of mid 0) (size_of mid 0) (8 * j + 2) size_low) in
-      ap (λ ps. number_of (path_of ps 0) / 8) is_mid.paths ∙ omega (arith, number)
+  path_is : path_of (word_paths touched) 0 ≡ size_path mid j
+  path_is = ap (λ ps. path_of ps 0) is_mid.paths
 
   bound_here : sizes_with (current_words middle) touched j ≡ size_of image j + 256
-  bound_here = rw (eq-eqb j (number_of (path_of (word_paths touched) 0) / 8) (sym inode_is)) (ap (λ vs. slice_index vs 0) is_mid.values)
+  bound_here = size_with_here mid behind_formed j in_file touched path_is ∙ ap (λ vs. slice_index vs 0) is_mid.values
 
   bound_other : (t : ℕ) → (t ≡ j → ⊥) → sizes_with (current_words middle) touched t ≡ size_of mid t
-  bound_other t apart = rw (ne_eqb t (number_of (path_of (word_paths touched) 0) / 8) (λ e. apart (e ∙ inode_is))) refl
+  bound_other = size_with_other mid behind_formed j in_file touched path_is
 
   past : size_of image j ≤ size_of image j + 256
   past = omega arith

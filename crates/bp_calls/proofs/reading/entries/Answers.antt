@@ -6,7 +6,7 @@ use Rattle.bp_layout.specs.Listing.{listed}
 use Rattle.bp_layout.specs.Words.{Image}
 use Rattle.pm_region.specs.Memory.{current_words}
 use Rattle.bp_calls.specs.Asked.{kind_seen}
-use Rattle.bp_calls.proofs.ReadingLaws.{IsInode, inode_file_sound, inode_here, name_least, name_most, kind_from_word, entries_seen-empty, entries_seen-one}
+use Rattle.bp_calls.proofs.ReadingLaws.{inode_file_sound, inode_here, name_least, name_most, kind_from_word, entries_seen-empty, entries_seen-one}
 use Rattle.bp_calls.proofs.reading.entries.Goals as goal
 use Rattle.bp_calls.proofs.reading.entries.Goals.{in-Some+in_ok-push, in_default}
 

@@ -1,8 +1,8 @@
-use Rattle.std.proofs.Common.{rules, sym, ◌∙◌, ap, subst}
+use Rattle.std.proofs.Common.{rules}
 use Rattle.std.proofs.lemmas.Cmp.{nat_list_cmp_total}
 use Rattle.std.proofs.lemmas.Fn.{always_returns_same}
 use Rattle.std.proofs.lemmas.List.Sorted.{IsPermutation-map, ranks_by}
-use Rattle.bp_calls.specs.Asked.{ListsNames, comes_before}
+use Rattle.bp_calls.specs.Asked.{comes_before}
 use Rattle.bp_calls.proofs.AskedLaws.{sorted-map}
 use Rattle.bp_calls.proofs.reading.list.Goals as goal
 

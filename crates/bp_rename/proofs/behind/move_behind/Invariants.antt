@@ -1,5 +1,5 @@
 use Rattle.pm_region.specs.Memory.{current_words}
-use Rattle.bp_calls.proofs.AcrossMiddle.{sizes_with}
+use Rattle.bp_calls.proofs.SizesWith.{sizes_with}
 use Rattle.bp_rename.proofs.behind.move_behind.Given as goal
 
 abbrev pub ghost-commit : goal.ghost-commit

@@ -1,5 +1,5 @@
 use Rattle.pm_region.specs.Memory.{current_words}
-use Rattle.bp_calls.proofs.AcrossMiddle.{sizes_with}
+use Rattle.bp_calls.proofs.SizesWith.{sizes_with}
 use Rattle.bp_calls.proofs.writing.across.write_across.Given as goal
 
 abbrev pub ghost-commit : goal.ghost-commit

@@ -1,5 +1,5 @@
 -- A name moves behind the last entry of another directory: an entry is prepared there, and then one commit takes it in by the directory's size, and empties the old one.
-use Rattle.std.proofs.Common.{◌≡◌, ◌≢◌, ◌⊎◌, ℕ, zero, suc, ◌+◌, ◌*◌, ◌/◌, ◌%◌, ◌<◌, ◌≤◌, [], ◌∷◌, ◌++◌, length, true, None, slice_index, unwrap_or, refl, sym, ◌∙◌, ap, ap₂, subst, subst₂, arith, inl, inr}
+use Rattle.std.proofs.Common.{◌≡◌, ◌≢◌, ◌⊎◌, ℕ, zero, suc, ◌+◌, ◌*◌, ◌/◌, ◌<◌, ◌≤◌, [], ◌∷◌, length, None, slice_index, unwrap_or, refl, sym, ◌∙◌, ap, ap₂, subst, subst₂, arith, inl, inr}
 use Rattle.std.proofs.lemmas.Bool.{cases_eq}
 use Rattle.std.proofs.lemmas.List.{length-append}
 use Rattle.pm_region.specs.Memory.{Memory, current_words, room_in}
@@ -11,7 +11,7 @@ use Rattle.bp_free.specs.Set.{Set, has, members}
 use Rattle.bp_layout.specs.Directory.{EntryNames, IsName, empty_slot, entry_count, entry_word, inumber_at, name_at, slot_named}
 use Rattle.bp_layout.specs.Free.{AreUnheld}
 use Rattle.bp_layout.specs.Inode.{inode_count, kind_of, root_of, size_of}
-use Rattle.bp_layout.specs.Need.{common_all, cover, need}
+use Rattle.bp_layout.specs.Need.{common_all, need}
 use Rattle.bp_layout.specs.Need.Change.{moves}
 use Rattle.bp_layout.specs.Reached.{IsReached}
 use Rattle.bp_layout.specs.Reached.IsReached.{inode_file}
@@ -38,13 +38,13 @@ use Rattle.bp_cow.specs.Commit.{CommitsTouched, HasRoom, commit_stores, cover_wo
 use Rattle.bp_cow.specs.Committed.{after_commit, changes_of}
 use Rattle.bp_cow.specs.Cover.{commit_cover, copied_count}
 use Rattle.bp_cow.specs.Job.{IsTurned}
-use Rattle.bp_cow.specs.Touched.{job_of, path_of, word_paths, word_values}
+use Rattle.bp_cow.specs.Touched.{job_of, path_of, word_paths}
 use Rattle.bp_cow.specs.declared.touched.Touched.{Touched}
 use Rattle.bp_cow.proofs.CommitTaking.{commit_performs_after, cover_open}
 use Rattle.bp_cow.proofs.CopiesNeed.{has-word}
 use Rattle.bp_calls.proofs.ReadingLaws.{few_inode}
 use Rattle.bp_calls.specs.Entries.{PutsBehind}
-use Rattle.bp_calls.specs.Steps.{CanPutBehind, entering_room}
+use Rattle.bp_calls.specs.Steps.{CanPutBehind}
 use Rattle.bp_calls.proofs.AfterLaws.{slot_named_over}
 use Rattle.bp_calls.proofs.EnteredLaws.{name_same, not_named}
 use Rattle.bp_calls.proofs.PreparedSets.{live_before, prepared_exact, prepared_forest, prepared_sets, sizes_low, still_free}
@@ -55,10 +55,10 @@ use Rattle.bp_rename.specs.RenamesEntry.{RenamesEntry, new_slot}
 use Rattle.bp_rename.specs.RenamesEntry.RenamesEntry.{across}
 use Rattle.bp_rename.specs.TouchesTwo.{TouchesTwo, inumber_path, size_path}
 use Rattle.bp_rename.specs.declared.moving.Move.{Move}
-use Rattle.bp_rename.proofs.BehindTouched.{behind_are, behind_cover, behind_few, behind_needs, behind_shape, behind_whole_cover, not_inodes, touched_needs, touched_paths}
+use Rattle.bp_rename.proofs.BehindTouched.{behind_are, behind_cover, behind_few, behind_needs, behind_whole_cover, not_inodes, touched_needs, touched_paths}
 use Rattle.bp_rename.proofs.ContentWords.{AreContent, size_given, size_kept, words_can, words_fronts, words_kept, words_only, words_value}
 use Rattle.bp_rename.proofs.Outside.{below_before}
-use Rattle.bp_rename.proofs.TwoWords.{first_value, no_leaves, pick, second_value, two_count}
+use Rattle.bp_rename.proofs.TwoWords.{first_value, pick, second_value, two_count}
 
 -- the inode that moves is a number of 32 bits
 pub moved_few : (image : Image) (move : Move) → CanRename image move → moved_inode image move < 1048576

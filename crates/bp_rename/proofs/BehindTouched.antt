@@ -1,5 +1,5 @@
 -- A name moves behind the last entry of another directory: what is touched, and what that needs.
-use Rattle.std.proofs.Common.{◌≡◌, ◌≢◌, ℕ, zero, suc, ◌+◌, ◌*◌, ◌%◌, ◌<◌, ◌≤◌, List, [], ◌∷◌, ◌++◌, ◌==◌, if◌then◌else◌, length, flat_map, None, refl, sym, ◌∙◌, ap, ap₂, subst, arith, inl, inr}
+use Rattle.std.proofs.Common.{◌≡◌, ◌≢◌, ℕ, suc, ◌+◌, ◌*◌, ◌<◌, ◌≤◌, List, [], ◌∷◌, ◌++◌, ◌==◌, if◌then◌else◌, length, flat_map, None, refl, sym, ◌∙◌, ap, ap₂, subst, arith, inl, inr}
 use Rattle.std.specs.List.{fold}
 use Rattle.std.proofs.lemmas.Bool.{ne_eqb}
 use Rattle.std.proofs.lemmas.List.{append-nil, length-map}
@@ -17,7 +17,6 @@ use Rattle.bp_layout.specs.WellFormed.{IsWellFormed}
 use Rattle.bp_layout.specs.WordPaths.{WordPath, inode_path, is_pointed, tree_path}
 use Rattle.bp_layout.specs.Words.{Image, height_of}
 use Rattle.bp_layout.proofs.Reached.{reached-in_file}
-use Rattle.bp_shapes.specs.Forest.{IsForest}
 use Rattle.bp_shapes.proofs.FreeSets.{wf_forest}
 use Rattle.bp_tree.proofs.ExistingPaths.{AllThere, content_path-there}
 use Rattle.bp_cow.specs.Cover.{LeadsInside, commit_cover, copied_count, copied_paths}

@@ -1,5 +1,5 @@
 -- Content words that are committed, each in a tree: what they ask, and what the commit makes of an image.
-use Rattle.std.proofs.Common.{◌≡◌, ◌≢◌, ◌⊎◌, ℕ, zero, suc, ◌+◌, ◌-◌, ◌*◌, ◌/◌, ◌%◌, ◌<◌, ◌≤◌, max, List, [], ◌∷◌, ◌++◌, length, Bool, None, Some, slice_index, refl, sym, ◌∙◌, ap, subst, subst₂, arith, inl, inr, lt_of_lt_of_le}
+use Rattle.std.proofs.Common.{◌≡◌, ◌≢◌, ℕ, zero, suc, ◌+◌, ◌-◌, ◌*◌, ◌/◌, ◌%◌, ◌<◌, ◌≤◌, List, [], ◌++◌, length, Bool, None, Some, refl, sym, ◌∙◌, ap, subst, subst₂, arith, lt_of_lt_of_le}
 use Rattle.std.specs.List.{All}
 use Rattle.std.proofs.lemmas.List.{length-append, length-take}
 use Rattle.std.proofs.lemmas.List.Elements.{All-append, All-get_or}
@@ -14,7 +14,7 @@ use Rattle.bp_layout.specs.WellFormed.{IsWellFormed}
 use Rattle.bp_layout.specs.WordPaths.{WordPath, digits, inode_path, tree_path}
 use Rattle.bp_layout.specs.Words.{Image, word, height_of}
 use Rattle.bp_layout.proofs.TreeLaws.{live_above, live_content}
-use Rattle.bp_changes.specs.Commits.{Commits, CommitsOnly, word_after}
+use Rattle.bp_changes.specs.Commits.{CommitsOnly}
 use Rattle.bp_shapes.specs.Forest.{along, root_trail, tree_trail, IsForest, IsTreePointer}
 use Rattle.bp_shapes.specs.Trail.{Trail, trail_of}
 use Rattle.bp_shapes.proofs.ForestLaws.{same_along, same_trail, short, skeleton, word-tree}
@@ -24,7 +24,7 @@ use Rattle.bp_tree.proofs.PathLaws.{small_digits}
 use Rattle.bp_cow.specs.CanCommit.{CanCommit, HasRunIn}
 use Rattle.bp_cow.specs.Committed.{IsCommitted, after_commit, changes_of}
 use Rattle.bp_cow.specs.Cover.{LeadsInside, end_path, end_path_of}
-use Rattle.bp_cow.specs.Touched.{HasRun, IsTouched, NoneBegins, all_paths, job_of, leaves_of, path_of, touched_trail, word_paths}
+use Rattle.bp_cow.specs.Touched.{HasRun, IsTouched, NoneBegins, all_paths, job_of, path_of, touched_trail, word_paths}
 use Rattle.bp_cow.specs.declared.touched.Run.{Run}
 use Rattle.bp_cow.specs.declared.touched.Touched.{Touched}
 use Rattle.bp_cow.proofs.CommitLaws.{committed_commits, size_after}

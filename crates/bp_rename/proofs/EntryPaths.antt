@@ -1,7 +1,7 @@
 -- The path of an entry's word is short.
-use Rattle.std.proofs.Common.{◌≡◌, ◌≢◌, ℕ, zero, suc, ◌+◌, ◌*◌, ◌/◌, ◌<◌, ◌≤◌, refl, subst, arith}
+use Rattle.std.proofs.Common.{◌≡◌, ℕ, zero, suc, ◌+◌, ◌*◌, ◌<◌, ◌≤◌, arith}
 use Rattle.bp_layout.specs.Directory.{entry_count}
-use Rattle.bp_layout.specs.Inode.{kind_of, root_of, size_of}
+use Rattle.bp_layout.specs.Inode.{kind_of, root_of}
 use Rattle.bp_layout.specs.Reached.{IsReached}
 use Rattle.bp_layout.specs.Reached.IsReached.{inode_file}
 use Rattle.bp_layout.specs.WellFormed.{IsWellFormed}

@@ -1,5 +1,5 @@
 -- What stands at the slot that has a name.
-use Rattle.std.proofs.Common.{◌≡◌, ◌≢◌, ℕ, ◌<◌, bytes_eq, true, Some, refl, sym, arith}
+use Rattle.std.proofs.Common.{◌≡◌, ◌≢◌, ℕ, bytes_eq, true, Some, refl, sym, arith}
 use Rattle.std.specs.Cmp.Lexicographic.{same_text}
 use Rattle.bp_layout.specs.Directory.{EntryNames, Name, entry_count, inumber_at, is_named, name_at, slot_named}
 use Rattle.bp_layout.specs.Inode.{kind_of}

@@ -1,7 +1,6 @@
 -- A name has moved into an empty entry of another directory: that it is performed, and that the sets are exact.
-use Rattle.std.proofs.Common.{◌≡◌, ◌≢◌, ◌⊎◌, ℕ, zero, suc, ◌+◌, ◌*◌, ◌/◌, ◌%◌, ◌<◌, ◌≤◌, List, [], ◌∷◌, ◌++◌, ◌==◌, if◌then◌else◌, length, flat_map, None, Some, unwrap_or, refl, sym, ◌∙◌, ap, ap₂, subst, arith, inl, inr}
-use Rattle.bp_free.specs.Set.{Set, has, members}
-use Rattle.bp_layout.specs.Directory.{Name, empty_slot, entry_count, inumber_at, name_at}
+use Rattle.std.proofs.Common.{◌≡◌, ◌≢◌, ℕ, suc, ◌+◌, ◌*◌, ◌%◌, ◌<◌, List, [], ◌∷◌, ◌++◌, ◌==◌, if◌then◌else◌, length, flat_map, Some, refl, sym, ◌∙◌, ap, ap₂, subst, arith, inl}
+use Rattle.bp_layout.specs.Directory.{empty_slot}
 use Rattle.bp_layout.specs.Inode.{kind_of, root_of, size_of}
 use Rattle.bp_layout.specs.Members.{Has}
 use Rattle.bp_layout.specs.Need.{Beyond, Change, beyond, common_all, content_path, copied, cover, height_after, is_there_after, need, new_entry, new_inodes, preparation, prepared_for}
@@ -9,23 +8,12 @@ use Rattle.bp_layout.specs.Need.Change.{moves}
 use Rattle.bp_layout.specs.Need as layout
 use Rattle.std.specs.List.{fold}
 use Rattle.bp_layout.specs.Nodes.{height_with}
-use Rattle.bp_layout.specs.Reached.{IsReached}
-use Rattle.bp_layout.specs.WellFormed.{IsWellFormed}
 use Rattle.bp_layout.specs.WordPaths.{WordPath, is_pointed, tree_path}
-use Rattle.bp_layout.specs.Words.{Image, height_of, word}
-use Rattle.bp_layout.proofs.Reached.{reached-in_file}
-use Rattle.bp_limits.specs.Limits.{call_room}
-use Rattle.bp_shapes.specs.Forest.{tree_trail}
-use Rattle.bp_shapes.specs.Sets.{AreExact}
+use Rattle.bp_layout.specs.Words.{Image, height_of}
 use Rattle.bp_shapes.proofs.FreeSets.{wf_forest}
-use Rattle.bp_tree.specs.Performs.{AddsTaking, Performs}
 use Rattle.bp_tree.proofs.ExistingPaths.{AllThere, content_path-there}
-use Rattle.bp_cow.specs.CanCommit.{CanCommit}
-use Rattle.bp_cow.specs.Commit.{CommitsTouched, HasRoom}
-use Rattle.bp_cow.specs.Committed.{after_commit, changes_of}
 use Rattle.bp_cow.specs.Cover.{LeadsInside, commit_cover, copied_count, copied_paths}
-use Rattle.bp_cow.specs.Job.{IsTurned}
-use Rattle.bp_cow.specs.Touched.{IsTouched, NoneBegins, all_paths, job_of}
+use Rattle.bp_cow.specs.Touched.{IsTouched, NoneBegins, all_paths}
 use Rattle.bp_cow.specs.declared.touched.Touched.{Touched}
 use Rattle.bp_rename.specs.CanRename.{CanRename, moved_inode}
 use Rattle.bp_rename.specs.TouchesTwo.{TouchesTwo, inumber_path}

@@ -1,13 +1,12 @@
 -- A name moves into an empty entry of another directory: the name is written there first, where nobody sees it.
-use Rattle.std.proofs.Common.{◌≡◌, ◌≢◌, ◌⊎◌, ℕ, zero, suc, ◌+◌, ◌-◌, ◌*◌, ◌/◌, ◌%◌, ◌<◌, ◌≤◌, List, [], ◌∷◌, ◌++◌, length, None, Some, unwrap_or, refl, sym, ◌∙◌, ap, ap₂, subst, subst₂, arith, inl, inr}
-use Rattle.pm_epochs.specs.declared.event.Event.{Event}
+use Rattle.std.proofs.Common.{◌≡◌, ◌≢◌, ℕ, suc, ◌+◌, ◌-◌, ◌*◌, ◌<◌, ◌≤◌, [], ◌∷◌, ◌++◌, None, Some, refl, sym, ◌∙◌, ap₂, subst₂, arith}
 use Rattle.pm_epochs.specs.declared.event.Event.TheVariants.{Barrier}
-use Rattle.pm_epochs.specs.May.{AnyAt, EachMay, StoresMay}
+use Rattle.pm_epochs.specs.May.{AnyAt, EachMay}
 use Rattle.pm_epochs.proofs.CrashLaws.{IsClosed-barrier, quiet-barrier}
 use Rattle.pm_epochs.proofs.MayLaws.{StoresMay-append, StoresMay-weaker, quiet_may}
 use Rattle.pm_epochs.proofs.PieceLaws.{IsPiece-append, IsPiece-barrier}
-use Rattle.pm_region.specs.Memory.{Adds, Memory, current_words, room_in}
-use Rattle.pm_region.specs.Safe.{AddsMay, AddsQuiet}
+use Rattle.pm_region.specs.Memory.{Adds, Memory, current_words}
+use Rattle.pm_region.specs.Safe.{AddsMay}
 use Rattle.pm_region.proofs.MayLaws.{each_after, may_weaker}
 use Rattle.pm_region.proofs.MemoryLaws.{adds_both, current_words-adds}
 use Rattle.bp_dirs.specs.Written.{HasNameAt}
@@ -15,7 +14,7 @@ use Rattle.bp_tree.specs.Within.{IsWithin}
 use Rattle.bp_tree.specs.Performs.{AddsTaking, IsOpen}
 use Rattle.pm_epochs.specs.Crash.{IsPartialEquivalence}
 use Rattle.bp_layout.proofs.SameLaws.{same_symmetric, same_transitive}
-use Rattle.bp_layout.specs.Directory.{EntryNames, Name, empty_slot, entry_count, inumber_at, name_at}
+use Rattle.bp_layout.specs.Directory.{EntryNames, empty_slot, entry_count, inumber_at, name_at}
 use Rattle.bp_layout.specs.Inode.{ContentStandsAt, kind_of, root_of, size_of}
 use Rattle.bp_layout.specs.Reached.{IsReached}
 use Rattle.bp_layout.specs.Reached.IsReached.{inode_file}
@@ -26,7 +25,7 @@ use Rattle.bp_layout.specs.Words.{Image, height_of}
 use Rattle.bp_cow.specs.declared.touched.Touched.{Touched}
 use Rattle.bp_changes.specs.Effects.{CanMoveEntry, IsAtOrBelow}
 use Rattle.bp_calls.specs.Spare.{IsSpare}
-use Rattle.bp_calls.proofs.AfterLaws.{kind_after, names_after, prepared_same, prepared_well_formed, reached_after, reached_before, size_after, slot_named_after}
+use Rattle.bp_calls.proofs.AfterLaws.{kind_after, names_after, prepared_same, prepared_well_formed, reached_after, size_after, slot_named_after}
 use Rattle.bp_calls.proofs.EnteredLaws.{not_named}
 use Rattle.bp_calls.proofs.OpenPlaces.{content_open, each_weaker}
 use Rattle.bp_calls.proofs.ReadBack.{name_read}

@@ -1,5 +1,5 @@
 -- A name has moved into an empty entry of another directory: that it is performed, and that the sets are exact.
-use Rattle.std.proofs.Common.{◌≡◌, ◌≢◌, ◌⊎◌, ℕ, zero, suc, ◌+◌, ◌*◌, ◌/◌, ◌%◌, ◌<◌, ◌≤◌, [], ◌∷◌, length, None, Some, unwrap_or, refl, sym, ◌∙◌, ap, subst, arith, inl, inr}
+use Rattle.std.proofs.Common.{◌≡◌, ◌≢◌, ◌⊎◌, ℕ, zero, suc, ◌+◌, ◌*◌, ◌%◌, ◌<◌, ◌≤◌, [], ◌∷◌, length, None, Some, unwrap_or, refl, sym, ◌∙◌, ap, subst, arith, inl, inr}
 use Rattle.pm_epochs.specs.declared.event.Event.TheVariants.{Barrier}
 use Rattle.pm_epochs.specs.May.{AnyAt}
 use Rattle.pm_region.specs.Memory.{Adds, Memory, current_words, room_in}
@@ -8,7 +8,7 @@ use Rattle.pm_region.proofs.SafeLaws.{room_after_quiet}
 use Rattle.bp_dirs.specs.Written.{HasNameAt}
 use Rattle.bp_tree.specs.Within.{IsWithin}
 use Rattle.bp_tree.specs.Performs.{Performs}
-use Rattle.bp_free.specs.Set.{Set, has, members}
+use Rattle.bp_free.specs.Set.{Set, has}
 use Rattle.bp_layout.specs.Directory.{empty_slot, entry_count, name_at}
 use Rattle.bp_layout.specs.Inode.{ContentStandsAt, kind_of, root_of, size_of}
 use Rattle.bp_layout.specs.Need.{common_all, cover, need}
@@ -17,7 +17,7 @@ use Rattle.bp_layout.specs.Reached.{IsReached}
 use Rattle.bp_layout.specs.Same.{Same}
 use Rattle.bp_layout.specs.WellFormed.{IsWellFormed}
 use Rattle.bp_layout.specs.WordPaths.{is_pointed}
-use Rattle.bp_layout.specs.Words.{Image, block_count, height_of, word}
+use Rattle.bp_layout.specs.Words.{block_count, height_of, word}
 use Rattle.bp_limits.specs.Limits.{call_room}
 use Rattle.bp_changes.specs.Commits.{CommitsOnly}
 use Rattle.bp_changes.specs.Effects.{CanMoveEntry, CarriesEntry, MovesEntry}

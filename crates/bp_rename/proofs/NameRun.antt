@@ -1,6 +1,5 @@
 -- Bytes of a directory that are committed alone: what that asks, and what it makes of an image.
-use Rattle.std.proofs.Common.{◌≡◌, ◌≢◌, ◌⊎◌, ℕ, zero, suc, ◌+◌, ◌-◌, ◌*◌, ◌/◌, ◌%◌, ◌<◌, ◌≤◌, max, List, [], ◌∷◌, ◌++◌, length, take, map, Bool, None, Some, slice_index, refl, sym, ◌∙◌, ap, subst, arith, inl, inr}
-use Rattle.std.specs.List.{range_with_len}
+use Rattle.std.proofs.Common.{◌≡◌, ℕ, zero, suc, ◌+◌, ◌-◌, ◌*◌, ◌/◌, ◌%◌, ◌<◌, ◌≤◌, List, ◌∷◌, length, Bool, Some, slice_index, sym, ◌∙◌, ap, subst, arith, inr}
 use Rattle.std.proofs.lemmas.List.{length-take}
 use Rattle.bp_layout.specs.Free.{AreFreeBlocks}
 use Rattle.bp_layout.specs.Inode.{kind_of, root_of, size_of}
@@ -9,16 +8,15 @@ use Rattle.bp_layout.specs.Reached.{IsReached}
 use Rattle.bp_layout.specs.Reached.IsReached.{inode_file}
 use Rattle.bp_layout.specs.Tree.{byte, content_word}
 use Rattle.bp_layout.specs.WellFormed.{IsWellFormed}
-use Rattle.bp_layout.specs.WordPaths.{inode_path, tree_path}
 use Rattle.bp_layout.specs.Words.{Image, block_count, byte_of, word, height_of}
-use Rattle.bp_changes.specs.Commits.{Commits, CommitsOnly, word_after}
-use Rattle.bp_shapes.specs.Forest.{along, root_trail, tree_trail, IsForest, IsTreePointer}
+use Rattle.bp_changes.specs.Commits.{Commits, CommitsOnly}
+use Rattle.bp_shapes.specs.Forest.{along, root_trail, tree_trail, IsTreePointer}
 use Rattle.bp_shapes.specs.Trail.{Trail, block_on, trail_of, word_on}
 use Rattle.bp_shapes.proofs.ForestLaws.{skeleton, word-tree}
 use Rattle.bp_shapes.proofs.FreeSets.{wf_forest}
 use Rattle.bp_cow.specs.CanCommit.{CanCommit}
 use Rattle.bp_cow.specs.Committed.{IsCommitted, after_commit, changes_of}
-use Rattle.bp_cow.specs.Cover.{BeginAlike, LeadsInside, end_path, end_path_of}
+use Rattle.bp_cow.specs.Cover.{LeadsInside, end_path, end_path_of}
 use Rattle.bp_cow.specs.Touched.{HasRun, IsTouched, NoneBegins, all_paths, job_of, leaves_of, run_byte, run_end, run_leaves, run_path, run_way, run_word, word_paths}
 use Rattle.bp_cow.specs.declared.touched.Run.{Run}
 use Rattle.bp_cow.specs.declared.touched.Touched.{Touched}

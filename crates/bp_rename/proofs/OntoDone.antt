@@ -1,19 +1,18 @@
 -- A name has moved onto another one: that it is performed, and that the sets are exact once what had the name comes back.
-use Rattle.std.proofs.Common.{◌≡◌, ◌≢◌, ◌⊎◌, ℕ, zero, suc, ◌+◌, ◌*◌, ◌/◌, ◌%◌, ◌<◌, ◌≤◌, length, Bool, true, false, Some, refl, sym, ◌∙◌, ap, subst, arith, inl, inr}
+use Rattle.std.proofs.Common.{◌≡◌, ◌≢◌, ◌⊎◌, ℕ, zero, suc, ◌+◌, ◌*◌, ◌/◌, ◌<◌, ◌≤◌, length, true, false, Some, refl, ◌∙◌, subst, arith, inl, inr}
 use Rattle.std.proofs.lemmas.Bool.{cases_Bool}
 use Rattle.std.proofs.lemmas.List.{length-set}
-use Rattle.bp_free.specs.Set.{Set, has, members, with}
+use Rattle.bp_free.specs.Set.{Set, has, with}
 use Rattle.bp_free.proofs.Members.{has_with_other, has_with_same}
 use Rattle.bp_inodes.proofs.FewInodes.{few_inodes}
-use Rattle.bp_layout.specs.Directory.{EntryNames, inumber_at}
+use Rattle.bp_layout.specs.Directory.{inumber_at}
 use Rattle.bp_layout.specs.Inode.{inode_count, kind_of, root_of, size_of}
-use Rattle.bp_layout.specs.Need.{need}
 use Rattle.bp_layout.specs.Need.Change.{replaces}
 use Rattle.bp_layout.specs.Reached.{HoldsBlock, IsReached}
 use Rattle.bp_layout.specs.Reached.IsReached.{inode_file}
-use Rattle.bp_layout.specs.Tree.{HasBlock, IsSound}
+use Rattle.bp_layout.specs.Tree.{HasBlock}
 use Rattle.bp_layout.specs.WellFormed.{IsWellFormed}
-use Rattle.bp_layout.specs.Words.{Image, block_count, height_of, word}
+use Rattle.bp_layout.specs.Words.{block_count, height_of, word}
 use Rattle.bp_layout.proofs.Reached.{reached-in_file}
 use Rattle.bp_limits.specs.Limits.{call_room}
 use Rattle.bp_changes.specs.Commits.{CommitsOnly}
@@ -25,11 +24,11 @@ use Rattle.bp_shapes.specs.Forest.{tree_trail}
 use Rattle.bp_shapes.specs.Freed.{IsCutOff}
 use Rattle.bp_shapes.specs.Sets.{AreExact}
 use Rattle.bp_shapes.proofs.FreeSets.{wf_forest}
-use Rattle.bp_tree.specs.Performs.{IsOpen, Performs, most_stores}
+use Rattle.bp_tree.specs.Performs.{Performs}
 use Rattle.bp_cow.specs.CanCommit.{CanCommit}
-use Rattle.bp_cow.specs.Commit.{CommitsTouched, HasRoom, commit_stores, cover_word}
+use Rattle.bp_cow.specs.Commit.{CommitsTouched, HasRoom}
 use Rattle.bp_cow.specs.Committed.{after_commit, changes_of}
-use Rattle.bp_cow.specs.Cover.{commit_cover, copied_count}
+use Rattle.bp_cow.specs.Cover.{commit_cover}
 use Rattle.bp_cow.specs.Job.{IsTurned}
 use Rattle.bp_cow.specs.Touched.{job_of, path_of, word_paths}
 use Rattle.bp_cow.specs.declared.touched.Touched.{Touched}
@@ -42,8 +41,8 @@ use Rattle.bp_calls.proofs.Shorter.{CanGiveBack}
 use Rattle.bp_rename.specs.CanRename.{CanRename, moved_inode}
 use Rattle.bp_rename.specs.TouchesTwo.{TouchesTwo, inumber_path}
 use Rattle.bp_rename.specs.declared.moving.Move.{Move}
-use Rattle.bp_rename.proofs.ContentWords.{size_kept, words_only, words_shape, words_value}
-use Rattle.bp_rename.proofs.OntoLaws.{are, onto_can, onto_commit, onto_cover, onto_need, replaced, replaced_reached, replaced_some}
+use Rattle.bp_rename.proofs.ContentWords.{size_kept, words_only, words_value}
+use Rattle.bp_rename.proofs.OntoLaws.{are, onto_can, onto_commit, onto_cover, onto_need, replaced_reached, replaced_some}
 use Rattle.bp_rename.proofs.TwoWords.{first_value, no_leaves, pick, second_value, two_count}
 
 module _ (memory : Memory) (move : Move) (r : ℕ) (can : CanRename (current_words memory) move) (onto : move.to_slot ≡ Some r) (touched : Touched)

@@ -1,46 +1,30 @@
 -- A name moves onto another one: what the commit asks, that it is performed, and what comes back.
-use Rattle.std.proofs.Common.{◌≡◌, ◌≢◌, ◌⊎◌, ℕ, zero, suc, ◌+◌, ◌*◌, ◌/◌, ◌%◌, ◌<◌, ◌≤◌, List, [], ◌∷◌, length, set, Bool, true, false, None, Some, refl, sym, ◌∙◌, ap, subst, subst₂, arith, inl, inr}
-use Rattle.bp_layout.specs.Directory.{EntryNames, entry_count, inumber_at, name_at}
-use Rattle.bp_layout.specs.Free.{AreUnheld, IsFreeInode}
-use Rattle.bp_layout.specs.Inode.{inode_count, kind_of, root_of, size_of}
-use Rattle.bp_layout.specs.Members.{Has}
+use Rattle.std.proofs.Common.{◌≡◌, ◌≢◌, ℕ, ◌+◌, ◌*◌, ◌%◌, ◌<◌, List, [], ◌∷◌, length, Bool, Some, refl, sym, ◌∙◌, ap, subst, arith, inl}
+use Rattle.bp_layout.specs.Directory.{EntryNames, inumber_at, name_at}
+use Rattle.bp_layout.specs.Free.{AreUnheld}
+use Rattle.bp_layout.specs.Inode.{kind_of, size_of}
 use Rattle.bp_layout.specs.Need.{Change, cover, copied, need, is_there_after, common_all}
 use Rattle.bp_layout.specs.Need.Change.{replaces}
 use Rattle.bp_layout.specs.Need as layout
-use Rattle.bp_layout.specs.Reached.{HoldsBlock, IsFreeBlock, IsLiveBlock, IsReached, IsUnheld}
-use Rattle.bp_layout.specs.Reached.IsReached.{inode_file, named}
-use Rattle.bp_layout.specs.Tree.{HasBlock, IsSound}
+use Rattle.bp_layout.specs.Reached.{IsReached}
+use Rattle.bp_layout.specs.Reached.IsReached.{named}
 use Rattle.bp_layout.specs.WellFormed.{IsWellFormed}
-use Rattle.bp_layout.specs.WordPaths.{WordPath, is_pointed, tree_path}
-use Rattle.bp_layout.specs.Words.{Image, word, block_count, height_of}
-use Rattle.bp_limits.specs.Limits.{call_room}
-use Rattle.bp_changes.specs.Commits.{CommitsOnly, word_after}
-use Rattle.bp_changes.specs.Effects.{CanMoveEntry, MovesEntry}
-use Rattle.bp_changes.proofs.Move.{moved_well_formed, reached_back}
-use Rattle.bp_changes.proofs.MoveReach.{moved_on, replaced_not_reached}
-use Rattle.bp_shapes.specs.Forest.{IsTreePointer}
-use Rattle.bp_shapes.specs.Sets.{AreExact}
-use Rattle.bp_shapes.specs.Trail.{trail_of}
+use Rattle.bp_layout.specs.WordPaths.{WordPath, is_pointed}
+use Rattle.bp_layout.specs.Words.{Image}
+use Rattle.bp_changes.specs.Effects.{CanMoveEntry}
 use Rattle.bp_shapes.proofs.FreeSets.{wf_forest}
-use Rattle.bp_tree.specs.Performs.{IsOpen, Performs}
 use Rattle.bp_tree.proofs.ExistingPaths.{AllThere, content_path-there}
 use Rattle.bp_cow.specs.CanCommit.{CanCommit}
-use Rattle.bp_cow.specs.Commit.{CommitsTouched, HasBlocks, HasRoom, commit_stores, cover_word}
-use Rattle.bp_cow.specs.Committed.{after_commit, changes_of}
 use Rattle.bp_cow.specs.Cover.{LeadsInside, commit_cover, copied_count, copied_paths}
-use Rattle.bp_cow.specs.Job.{IsTurned}
-use Rattle.bp_cow.specs.Touched.{IsTouched, NoneBegins, all_paths, job_of, path_of, word_paths}
+use Rattle.bp_cow.specs.Touched.{IsTouched, NoneBegins, all_paths}
 use Rattle.bp_cow.specs.declared.touched.Touched.{Touched}
-use Rattle.bp_cow.proofs.CommitTaking.{commit_performs, copied_few, cover_open, stores_few}
-use Rattle.bp_cow.proofs.CopiesNeed.{has-word}
 use Rattle.bp_calls.proofs.ReadingLaws.{few_inode}
-use Rattle.pm_region.specs.Memory.{Memory, current_words, room_in}
 use Rattle.bp_rename.specs.CanRename.{CanRename, moved_inode}
 use Rattle.bp_rename.specs.TouchesTwo.{TouchesTwo, inumber_path}
 use Rattle.bp_rename.specs.declared.moving.Move.{Move}
 use Rattle.bp_rename.proofs.ContentWords.{AreContent, words_apart, words_can, words_inside, words_shape}
 use Rattle.bp_rename.proofs.FoundNames.{found_entry, found_name}
-use Rattle.bp_rename.proofs.TwoWords.{has_first, no_leaves, pick, first_value, second_value, two_are, two_count, two_paths}
+use Rattle.bp_rename.proofs.TwoWords.{has_first, pick, two_are, two_paths}
 use Rattle.bp_rename.proofs.WholePaths.{cover-whole, pointed-directory}
 
 module _ (image : Image) (move : Move) (r : ℕ) (can : CanRename image move) (onto : move.to_slot ≡ Some r) where

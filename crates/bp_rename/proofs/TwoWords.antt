@@ -1,13 +1,12 @@
 -- Two content words that are committed together.
-use Rattle.std.proofs.Common.{◌≡◌, ◌≢◌, ◌⊎◌, ℕ, zero, suc, ◌+◌, ◌*◌, ◌%◌, ◌<◌, ◌≤◌, List, [], ◌∷◌, ◌++◌, length, max, Bool, true, false, None, Some, slice_index, refl, sym, ◌∙◌, ap, subst, arith, inl, inr}
+use Rattle.std.proofs.Common.{◌≡◌, ◌≢◌, ℕ, zero, suc, ◌*◌, ◌%◌, ◌<◌, ◌≤◌, List, [], ◌∷◌, ◌++◌, length, Bool, true, false, slice_index, refl, sym, ◌∙◌, ap, subst, arith, inl, inr}
 use Rattle.std.specs.Prelude.{nat_le}
 use Rattle.std.proofs.lemmas.List.{length-map}
-use Rattle.bp_layout.specs.Inode.{root_of, size_of}
+use Rattle.bp_layout.specs.Inode.{root_of}
 use Rattle.bp_layout.specs.Members.{Has}
 use Rattle.bp_layout.specs.Reached.{IsReached}
 use Rattle.bp_layout.specs.WordPaths.{WordPath, tree_path}
-use Rattle.bp_layout.specs.Words.{Image, word, height_of}
-use Rattle.bp_cow.specs.Commit.{HasRoom, commit_stores}
+use Rattle.bp_layout.specs.Words.{Image, height_of}
 use Rattle.bp_cow.specs.Cover.{commit_cover, copied_count}
 use Rattle.bp_cow.specs.Job.{copied, turned_for, turned_upto, ways}
 use Rattle.bp_cow.specs.Touched.{IsTouched, NoneBegins, all_paths, job_of, leaves_of, path_of, run_paths, word_paths}

@@ -1,10 +1,9 @@
 -- Where the whole path of one of the touched words exists, the cover is all with which they begin.
-use Rattle.std.proofs.Common.{◌≡◌, ◌⊎◌, ℕ, zero, suc, ◌*◌, ◌<◌, ◌≤◌, [], ◌∷◌, ◌++◌, List, length, take, Bool, true, refl, sym, ◌∙◌, ap, subst, arith, append_assoc, inl, inr}
-use Rattle.std.proofs.lemmas.Bool.{cases_eq}
+use Rattle.std.proofs.Common.{◌≡◌, ℕ, zero, suc, ◌*◌, ◌<◌, ◌≤◌, [], ◌∷◌, ◌++◌, List, length, take, Bool, true, refl, sym, ◌∙◌, ap, arith, append_assoc}
 use Rattle.std.proofs.lemmas.List.{append-nil}
 use Rattle.bp_layout.specs.Inode.{kind_of, root_of, size_of}
 use Rattle.bp_layout.specs.Members.{Has}
-use Rattle.bp_layout.specs.Need.{Change, common_all, cover_of, is_there_after}
+use Rattle.bp_layout.specs.Need.{common_all, cover_of, is_there_after}
 use Rattle.bp_layout.specs.Need.Change.{leaves}
 use Rattle.bp_layout.specs.Reached.{IsReached}
 use Rattle.bp_layout.specs.Tree.{IsFull}

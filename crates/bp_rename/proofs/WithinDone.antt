@@ -1,15 +1,12 @@
 -- A name has been spelled anew: that it is performed, and that the sets are exact.
-use Rattle.std.proofs.Common.{◌≡◌, ◌≢◌, ◌⊎◌, ℕ, zero, suc, ◌+◌, ◌-◌, ◌*◌, ◌/◌, ◌%◌, ◌^◌, ◌<◌, ◌≤◌, List, length, get_or, slice_index, refl, sym, ◌∙◌, ap, subst, arith, le-ltb, lt-ltb}
+use Rattle.std.proofs.Common.{◌≡◌, ◌≢◌, ℕ, zero, suc, ◌+◌, ◌-◌, ◌*◌, ◌/◌, ◌<◌, ◌≤◌, length, get_or, slice_index, refl, sym, ◌∙◌, ap, arith, le-ltb, lt-ltb}
 use Rattle.pm_words.proofs.Bytes.{word_of_bytes}
-use Rattle.pm_words.specs.Bytes.{word_bytes, word_of}
+use Rattle.pm_words.specs.Bytes.{word_bytes}
 use Rattle.bp_free.specs.Set.{Set, has}
 use Rattle.bp_layout.specs.Directory.{EntryNames, Name, entry_word, name_at}
 use Rattle.bp_layout.specs.Inode.{root_of, size_of}
-use Rattle.bp_layout.specs.Need.{need}
 use Rattle.bp_layout.specs.Need.Change.{respells}
-use Rattle.bp_layout.specs.Reached.{IsReached}
 use Rattle.bp_layout.specs.Tree.{byte, content_word}
-use Rattle.bp_layout.specs.WellFormed.{IsWellFormed}
 use Rattle.bp_layout.specs.Words.{Image, byte_of}
 use Rattle.bp_layout.proofs.NameBytes.{map-tells}
 use Rattle.bp_limits.specs.Limits.{call_room}
@@ -24,7 +21,7 @@ use Rattle.bp_cow.specs.Commit.{CommitsTouched, HasRoom}
 use Rattle.bp_cow.specs.Committed.{changes_of}
 use Rattle.bp_cow.specs.Cover.{commit_cover}
 use Rattle.bp_cow.specs.Job.{IsTurned}
-use Rattle.bp_cow.specs.Touched.{job_of, leaves_of, run_end, run_leaves, run_word}
+use Rattle.bp_cow.specs.Touched.{job_of, leaves_of, run_end, run_leaves}
 use Rattle.bp_cow.specs.declared.touched.Touched.{Touched}
 use Rattle.bp_cow.proofs.CommitTaking.{commit_performs, stores_few}
 use Rattle.bp_cow.proofs.FewCopies.{few_copies}
@@ -32,7 +29,7 @@ use Rattle.bp_cow.proofs.RunLaws.{run_word-inside}
 use Rattle.pm_region.specs.Memory.{Memory, current_words, room_in}
 use Rattle.bp_calls.proofs.EnteredLaws.{not_named}
 use Rattle.bp_calls.proofs.RunCommits.{few_leaves, run_open}
-use Rattle.bp_rename.specs.Respelled.{TouchesName, respelled_byte, respelled_length}
+use Rattle.bp_rename.specs.Respelled.{TouchesName, respelled_byte}
 use Rattle.bp_rename.proofs.NameRun.{run_commit, run_given, run_only, run_words}
 use Rattle.bp_rename.proofs.WithinLaws.{CanRespell, few_words, name_end, name_run, no_words, within_cover, within_need, within_shape}
 

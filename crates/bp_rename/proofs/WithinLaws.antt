@@ -1,9 +1,9 @@
 -- A name is spelled anew: what is touched, and what that needs.
-use Rattle.std.proofs.Common.{◌≡◌, ◌≢◌, ◌⊎◌, ℕ, zero, suc, ◌+◌, ◌-◌, ◌*◌, ◌/◌, ◌%◌, ◌<◌, ◌≤◌, List, [], ◌∷◌, ◌++◌, length, map, None, Some, refl, sym, ◌∙◌, ap, ap₂, subst, arith, inl, inr}
+use Rattle.std.proofs.Common.{◌≡◌, ℕ, zero, suc, ◌+◌, ◌-◌, ◌*◌, ◌/◌, ◌<◌, ◌≤◌, List, [], ◌∷◌, ◌++◌, length, map, None, Some, refl, sym, ◌∙◌, ap, ap₂, arith, inl}
 use Rattle.std.specs.List.{range_with_len}
 use Rattle.std.proofs.lemmas.List.{append-nil}
 use Rattle.bp_layout.specs.Directory.{EntryNames, IsName, Name, slot_named}
-use Rattle.bp_layout.specs.Inode.{kind_of, root_of, size_of}
+use Rattle.bp_layout.specs.Inode.{root_of, size_of}
 use Rattle.bp_layout.specs.Members.{Has}
 use Rattle.bp_layout.specs.Need.{Change, common_all, copied, cover, entry_path, is_there_after, need}
 use Rattle.bp_layout.specs.Need.Change.{respells}
@@ -15,11 +15,10 @@ use Rattle.bp_layout.specs.Words.{Image, height_of}
 use Rattle.bp_tree.proofs.ExistingPaths.{AllThere, content_path-there}
 use Rattle.bp_cow.specs.Cover.{LeadsInside, commit_cover, copied_count, copied_paths}
 use Rattle.bp_cow.specs.Touched.{IsTouched, NoneBegins, all_paths, run_end, run_path, run_paths, word_paths}
-use Rattle.bp_cow.specs.declared.touched.Run.{Run}
 use Rattle.bp_cow.specs.declared.touched.Touched.{Touched}
 use Rattle.bp_calls.proofs.RunCommits.{IsRunOf}
 use Rattle.bp_rename.specs.CanRename.{CanRename, moved_inode}
-use Rattle.bp_rename.specs.Respelled.{TouchesName, respelled_length}
+use Rattle.bp_rename.specs.Respelled.{TouchesName}
 use Rattle.bp_rename.specs.declared.moving.Move.{Move}
 use Rattle.bp_rename.proofs.NameRun.{run_apart, run_inside, run_shape}
 use Rattle.bp_rename.proofs.WholePaths.{cover-whole, pointed-directory}

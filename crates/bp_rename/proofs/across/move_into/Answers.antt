@@ -1,4 +1,4 @@
-use Rattle.std.proofs.Common.{◌≡◌, ◌+◌, ◌*◌, ◌<◌, ◌∙◌, ap, arith}
+use Rattle.std.proofs.Common.{◌+◌, ◌*◌, arith}
 use Rattle.pm_epochs.specs.May.{AnyAt}
 use Rattle.pm_region.specs.Memory.{Memory, current_words}
 use Rattle.bp_tree.specs.Within.{IsWithin}

@@ -1,4 +1,4 @@
-use Rattle.std.proofs.Common.{sym, ◌∙◌, ap, ap₂, ◌+◌, arith}
+use Rattle.std.proofs.Common.{sym, ◌∙◌, ap₂, ◌+◌, arith}
 use Rattle.pm_region.specs.Memory.{current_words}
 use Rattle.bp_calls.proofs.NewNames.{entry_need_is}
 use Rattle.bp_calls.proofs.PutsLaws.{few_behind, small_directory}

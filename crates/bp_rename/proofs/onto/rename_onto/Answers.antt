@@ -1,4 +1,4 @@
-use Rattle.std.proofs.Common.{◌≡◌, ◌∙◌, sym, ap, arith}
+use Rattle.std.proofs.Common.{◌≡◌, ◌∙◌, ap, arith}
 use Rattle.bp_layout.specs.Directory.{inumber_at, inumber_in}
 use Rattle.pm_region.specs.Memory.{Memory, current_words}
 use Rattle.bp_rename.proofs.OntoDone.{has_room, inode_in_room, inode_taken, inode_there, kind_some, onto_exact, onto_gives, onto_performs, onto_well_formed, ready}

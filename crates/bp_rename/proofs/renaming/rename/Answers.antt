@@ -1,4 +1,3 @@
-use Rattle.pm_region.specs.Memory.{Memory}
 use Rattle.bp_rename.proofs.Renames.{across_renames, onto_renames}
 use Rattle.bp_rename.proofs.renaming.rename.Goals as goal
 

@@ -1,4 +1,4 @@
-use Rattle.std.proofs.Common.{◌≡◌, suc, ◌+◌, ◌*◌, ◌<◌, ◌≤◌, ℕ, ◌/◌, Bool, true, false, List, length, ◌∙◌, ap, arith}
+use Rattle.std.proofs.Common.{◌≡◌, suc, ◌+◌, ◌*◌, ℕ, ◌/◌, Bool, true, false, List, length, ◌∙◌, ap, arith}
 use Rattle.bp_layout.specs.Inode.{root_of}
 use Rattle.bp_layout.specs.Words.{height_of}
 use Rattle.bp_tree.proofs.Digits.{length-digits}

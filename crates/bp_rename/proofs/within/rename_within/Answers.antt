@@ -1,4 +1,4 @@
-use Rattle.std.proofs.Common.{◌∙◌, arith}
+use Rattle.std.proofs.Common.{arith}
 use Rattle.pm_region.specs.Memory.{Memory, current_words}
 use Rattle.bp_rename.specs.CanRename.{moved_inode}
 use Rattle.bp_rename.specs.RenamesEntry.{RenamesEntry}

@@ -1,4 +1,4 @@
-use Rattle.std.proofs.Common.{◌≡◌, ◌+◌, ◌*◌, ◌/◌, length, take, refl, ◌∙◌, ap, arith}
+use Rattle.std.proofs.Common.{◌≡◌, ◌+◌, ◌*◌, take, refl, ◌∙◌, ap, arith}
 use Rattle.std.proofs.lemmas.Nat.{and_mask}
 use Rattle.bp_layout.specs.Words.{height_of}
 use Rattle.pm_region.specs.Memory.{current_words}

@@ -1,3 +1,4 @@
+pub mod BelowLaws
 pub mod PartsLaws
 pub mod WalkLaws
 pub mod Walking

@@ -9,4 +9,4 @@ pub mod steps;
 mod tests;
 
 pub use path::{BadPath, Path, parse};
-pub use steps::{Place, WalkFault, walk, walk_parent};
+pub use steps::{Place, WalkFault, step, walk, walk_parent};

@@ -1,7 +1,8 @@
 //! The names in the text of a path.
 
-ghost use Rattle.std.specs.Prelude.{◌≡◌, ◌≢◌, ◌+◌, ◌-◌, ◌==◌, ◌&&◌, ◌<◌, ◌≤◌, ◌++◌, ◌∷◌, [], true, length, drop, take, slice_index, not, position};
+ghost use Rattle.std.specs.Prelude.{◌≡◌, ◌≢◌, ◌+◌, ◌-◌, ◌==◌, ◌&&◌, ◌<◌, ◌≤◌, ◌++◌, ◌∷◌, [], true, length, drop, take, slice_index, is_some, not, position};
 ghost use Rattle.std.specs.List.{list_all};
+ghost use Rattle.bp_layout.specs.Below.{rest_below, same_path};
 ghost use Rattle.bp_layout.specs.PathText.{is_name, parts};
 ghost use Rattle.bp_path.specs.Names.{names_in};
 
@@ -90,4 +91,28 @@ pub(crate) fn split_last(text: &[u8]) -> (&[u8], &[u8])
 {
     let start = last_start(text);
     (&text[..start.saturating_sub(1)], &text[start..])
+}
+
+/// Whether the names of a text begin with all those of another one, and go on behind them.
+pub(crate) fn is_below(text: &[u8], above: &[u8]) -> bool
+    requires names { list_all is_name (names_in text.now) ≡ true }
+    requires above { list_all is_name (names_in above.now) ≡ true }
+    ensures { result ≡ (not (same_path (names_in above.now) (names_in text.now))
+        && is_some (rest_below (names_in above.now) (names_in text.now))) }
+{
+    let mut text = text;
+    let mut above = above;
+    while !above.is_empty() {
+        if text.is_empty() {
+            return false;
+        }
+        let (name, behind) = split_first(text);
+        let (first, others) = split_first(above);
+        if first != name {
+            return false;
+        }
+        text = behind;
+        above = others;
+    }
+    !text.is_empty()
 }

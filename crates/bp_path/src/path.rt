@@ -1,11 +1,12 @@
 //! Paths that were read from text.
 
-ghost use Rattle.std.specs.Prelude.{◌≡◌, ◌≢◌, ◌++◌, ◌∷◌, ◌↔◌, [], true, List, ℕ, None, Some, IsTrue, IfOk, OnErr};
+ghost use Rattle.std.specs.Prelude.{◌≡◌, ◌≢◌, ◌&&◌, ◌++◌, ◌∷◌, ◌↔◌, [], true, List, ℕ, None, Some, IsTrue, IfOk, OnErr, is_some, not};
 ghost use Rattle.std.specs.List.{list_all};
+ghost use Rattle.bp_layout.specs.Below.{rest_below, same_path};
 ghost use Rattle.bp_layout.specs.PathText.{is_name, parse};
 ghost use Rattle.bp_path.specs.Names.{names_in};
 
-use crate::names::{are_names, split_last};
+use crate::names::{are_names, is_below, split_last};
 use bp_limits::MAX_PATH;
 use std::marker::Model;
 
@@ -80,5 +81,12 @@ impl<'a> Path<'a> {
         ensures name { IsTrue (is_name result.now) }
     {
         split_last(self.text()).1
+    }
+
+    /// Whether it begins with all names of another path, and goes on behind them.
+    pub fn is_below(&self, above: &Path<'_>) -> bool
+        ensures { result ≡ (not (same_path above.now self.now) && is_some (rest_below above.now self.now)) }
+    {
+        is_below(self.text(), above.text())
     }
 }

@@ -46,7 +46,11 @@ pub enum WalkFault {
 }
 
 /// The inode that a name stands for in a directory.
-fn step<R: Region>(region: &R, dir: u32, name: &[u8]) -> Result<Place, WalkFault>
+///
+/// # Errors
+///
+/// `NotDir` where the name is sought in a file, `NotFound` where the directory lacks it.
+pub fn step<R: Region>(region: &R, dir: u32, name: &[u8]) -> Result<Place, WalkFault>
     requires well { IsWellFormed (current_words (R.memory region.now)) }
     requires reached { IsReached (current_words (R.memory region.now)) dir }
     requires some { 1 ≤ dir }

@@ -53,13 +53,13 @@ module _ (image : Image) (path : Path) (below : path ≢ []) (i : ℕ) (parent :
   path_is = by_parent path below ∙ ap (λ n. parent_of path ++ n ∷ []) last
 
   module _ (tree : FileTree) (stands : Stands image tree) where
-    get-name : get tree path ≡ option_map (node_of image) (option_map (inumber_at image i) (slot_named image i name))
+    pub get-name : get tree path ≡ option_map (node_of image) (option_map (inumber_at image i) (slot_named image i name))
     get-name =
         ap (get tree) path_is
         ∙ get-next image tree stands (parent_of path) i name parent
         ∙ ap (λ k. option_map (node_of image) (if k then option_map (inumber_at image i) (slot_named image i name) else None)) (ap (λ k. k == 2) directory)
 
-    parent_goes : walk_parent tree path ≡ None
+    pub parent_goes : walk_parent tree path ≡ None
     parent_goes =
         ap (λ o. first (o ∷ when (not (is_dir_at tree (parent_of path))) not_dir ∷ [])) (walk-found image tree stands (parent_of path) i parent)
         ∙ ap (λ b. first (when (not b) not_dir ∷ [])) (dir_at image tree stands (parent_of path) i parent ∙ ap (λ k. k == 2) directory)
@@ -88,7 +88,7 @@ module _ (image : Image) (text : List ℕ) (i : ℕ) (name : Name) (names : Name
       ∙ create_goes image names.path names.new.below i names.new.parent names.new.directory name names.new.last tree stands names.new.missing
 
   -- the text spells no other path, so its parent is no other directory
-  same_directory : (k : ℕ) (other : Name) → NamesNew image text k other → k ≡ i
+  pub same_directory : (k : ℕ) (other : Name) → NamesNew image text k other → k ≡ i
   same_directory k other new =
       let same : Some new.path ≡ Some names.path = sym new.parsed ∙ names.parsed in
       let paths : new.path ≡ names.path = cc in

@@ -37,7 +37,7 @@ filter_few p (x ∷ xs) = go (p x) refl (filter_few p xs)
     go false at rest = rw at (omega (arith, rest))
 
 -- a path copies as many blocks as it has slots, at most
-one_few : (shortest : ℕ) (earlier : List WordPath) (path : WordPath) → length (filter (λ prefix. not (list_any (is_prefix prefix) earlier)) (prefixes_from shortest path)) ≤ length path
+pub one_few : (shortest : ℕ) (earlier : List WordPath) (path : WordPath) → length (filter (λ prefix. not (list_any (is_prefix prefix) earlier)) (prefixes_from shortest path)) ≤ length path
 one_few shortest earlier path =
     let few = filter_few (λ prefix. not (list_any (is_prefix prefix) earlier)) (prefixes_from shortest path) in
     let many : length (prefixes_from shortest path) ≡ length path - shortest = length-map-range_with_len (λ n. take n path) shortest (length path - shortest) in
@@ -109,7 +109,7 @@ module _ (base : WordPath) (height : ℕ) (low : height ≤ max_height) (shortes
         omega (arith, behind, here, both)
 
     -- a run of paths copies few blocks besides those of the first
-    run_few : (n k : ℕ) → length (prefixes_of shortest [] (map path (range_with_len k n) ++ rest)) ≤ length (path k) + 3 * ((k + n) / 512 - k / 512) + most
+    pub run_few : (n k : ℕ) → length (prefixes_of shortest [] (map path (range_with_len k n) ++ rest)) ≤ length (path k) + 3 * ((k + n) / 512 - k / 512) + most
     run_few zero k = omega (arith, few [])
     run_few (suc n) k =
         let behind = run_behind n k [] in
@@ -118,7 +118,7 @@ module _ (base : WordPath) (height : ℕ) (low : height ≤ max_height) (shortes
         omega (arith, behind, here, both)
 
 -- a path by itself
-alone_few : (shortest : ℕ) (earlier : List WordPath) (path : WordPath) → length (prefixes_of shortest earlier (path ∷ [])) ≤ length path
+pub alone_few : (shortest : ℕ) (earlier : List WordPath) (path : WordPath) → length (prefixes_of shortest earlier (path ∷ [])) ≤ length path
 alone_few shortest earlier path =
     let few = one_few shortest earlier path in
     let end = length-append (filter (λ prefix. not (list_any (is_prefix prefix) earlier)) (prefixes_from shortest path)) [] in
@@ -153,10 +153,10 @@ module _ (image : Image) where
         let low : height_of (root_of image 0) ≤ max_height = (wf.sound 0 inode_file).low (omega (arith, wf.some_inodes)) in
         heights_low 0 (wf.sound 0 inode_file).low (beyond image change ++ new_inodes image change) (height_of (root_of image 0)) low
 
-    height_low : (i : ℕ) → IsReached image i → 0 < size_of image i → height_after image change i ≤ max_height
+    pub height_low : (i : ℕ) → IsReached image i → 0 < size_of image i → height_after image change i ≤ max_height
     height_low i reached some = heights_low i (wf.sound i reached).low (beyond image change ++ new_inodes image change) (height_of (root_of image i)) ((wf.sound i reached).low some)
 
-    inode_slots : (i f : ℕ) → length (inode_word_path image change i f) ≤ 4
+    pub inode_slots : (i f : ℕ) → length (inode_word_path image change i f) ≤ 4
     inode_slots i f = omega (arith, length-digits (suc (height_after image change 0)) (8 * i + f), top_low)
 
     -- the size word, where it is touched
@@ -219,7 +219,7 @@ few_writes image wf zero low reached off len short = absurd (omega (arith, low))
 few_writes image wf (suc n) low reached off len short = few_written image wf n reached off len short
 
 -- a path of a content word
-content_slots : (image : Image) (wf : IsWellFormed image) (change : Change) (i index : ℕ) → IsReached image i → 0 < size_of image i → length (content_path image change i index) ≤ 8
+pub content_slots : (image : Image) (wf : IsWellFormed image) (change : Change) (i index : ℕ) → IsReached image i → 0 < size_of image i → length (content_path image change i index) ≤ 8
 content_slots image wf change zero index reached some = omega (arith, length-digits (suc (height_after image change 0)) index, top_low image wf change)
 content_slots image wf change (suc n) index reached some =
     omega (arith, length-append (inode_word_path image change (suc n) 1) (digits (suc (height_after image change (suc n))) index), inode_slots image wf change (suc n) 1, length-digits (suc (height_after image change (suc n))) index, height_low image wf change (suc n) reached some)
@@ -229,6 +229,11 @@ pub few_left : (image : Image) → IsWellFormed image → (i s : ℕ) → IsReac
 few_left image wf i s reached some =
     omega (arith, alone_few (length (cover_of (is_there_after image (leaves i s)) (touched image (leaves i s)))) [] (entry_path image (leaves i s) i s 0), content_slots image wf (leaves i s) i (32 * s + 0) reached some)
 
+-- an entry behind the last one, where none is empty
+pub new_entry_few : (image : Image) → IsWellFormed image → (i : ℕ) → IsReached image i → (slot : Option ℕ) → length (flat_map (prepared_for image) (new_entry image i slot)) ≤ 27
+new_entry_few image wf i reached None = prepared_few image (record { tree = i; from = size_of image i; to = size_of image i + entry_size }) (omega arith) (omega arith) (wf.sound i reached).low true
+new_entry_few image wf i reached (Some slot) = omega arith
+
 -- one name more
 module _ (image : Image) (wf : IsWellFormed image) (i : ℕ) (reached : IsReached image i) (free : Bool) where
   enters_alone : (slot : Option ℕ) → empty_slot image i ≡ slot → (shortest : ℕ) → length (prefixes_of shortest [] (entered image (enters i free) i slot ∷ [])) ≤ 8
@@ -237,17 +242,13 @@ module _ (image : Image) (wf : IsWellFormed image) (i : ℕ) (reached : IsReache
       let found : Finds (λ s. inumber_at image i s == 0) 0 (entry_count image i) slot = find-passes (λ s. inumber_at image i s == 0) 0 (entry_count image i) slot at in
       omega (arith, alone_few shortest [] (entry_path image (enters i free) i slot 0), content_slots image wf (enters i free) i (32 * slot + 0) reached (omega (arith, found.high)))
 
-  entry_few : (slot : Option ℕ) → length (flat_map (prepared_for image) (new_entry image i slot)) ≤ 27
-  entry_few None = prepared_few image (record { tree = i; from = size_of image i; to = size_of image i + entry_size }) (omega arith) (omega arith) (wf.sound i reached).low true
-  entry_few (Some slot) = omega arith
-
   inodes_few : (some : Bool) → length (flat_map (prepared_for image) (new_inodes image (enters i some))) ≤ 27
   inodes_few true = omega arith
   inodes_few false = prepared_few image (record { tree = 0; from = size_of image 0; to = size_of image 0 + block_size }) (omega arith) (omega arith) (wf.sound 0 inode_file).low true
 
   pub few_entered : IsFew (need image (enters i free))
   few_entered =
-      omega (arith, entry_few (empty_slot image i), inodes_few free, enters_alone (empty_slot image i) refl (length (cover_of (is_there_after image (enters i free)) (touched image (enters i free)))))
+      omega (arith, new_entry_few image wf i reached (empty_slot image i), inodes_few free, enters_alone (empty_slot image i) refl (length (cover_of (is_there_after image (enters i free)) (touched image (enters i free)))))
 
 -- few blocks leave room
 pub performs_room : (old new : Memory) (change : Change) (Effect : Image → Image → Type 0) → Performs old new change Effect → IsFew (need (current_words old) change) → call_room ≤ room_in old → 0 < room_in new

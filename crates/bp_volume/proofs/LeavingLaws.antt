@@ -55,10 +55,10 @@ module _ (image : Image) (text : List ℕ) (i s j : ℕ) (at : FindsEntry image 
   by_last : at.path ≡ parent_of at.path ++ last_of at.path ∷ []
   by_last = by_parent at.path at.entry.below
 
-  is_found : IsFoundAt image (parent_of at.path) (last_of at.path) i s j
+  pub is_found : IsFoundAt image (parent_of at.path) (last_of at.path) i s j
   is_found = record { directory = at.entry.parent; slot = at.entry.slot; inode = ap (lookup image) (sym by_last) ∙ at.entry.inode }
 
-  stands_in : StandsIn image text i s
+  pub stands_in : StandsIn image text i s
   stands_in = record { path = at.path; parsed = at.parsed; parent = at.entry.parent; slot = at.entry.slot }
 
   -- it may leave, as the entry of the inode that it names
@@ -72,7 +72,7 @@ module _ (image : Image) (text : List ℕ) (i s j : ℕ) (at : FindsEntry image 
   directory_leaves none = leave (directory_may_leave image (parent_of at.path) (last_of at.path) i s j is_found none)
 
   -- the text spells no other path
-  same_entry : (k r : ℕ) → StandsIn image text k r → (k ≡ i) × (r ≡ s)
+  pub same_entry : (k r : ℕ) → StandsIn image text k r → (k ≡ i) × (r ≡ s)
   same_entry k r other =
       let paths : ◌≡◌ {A = Option Path} (Some other.path) (Some at.path) = sym other.parsed ∙ at.parsed in
       let same : other.path ≡ at.path = cc in

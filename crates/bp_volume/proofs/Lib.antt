@@ -9,9 +9,13 @@ pub mod ChangeLaws
 pub mod FewBlocks
 pub mod FileLaws
 pub mod LeavingLaws
+pub mod RenameLaws
+pub mod FewMoved
+pub mod MovingLaws
 pub mod CarriedLaws
 pub mod LaidLaws
 pub mod WalkingLaws
+pub mod TargetLaws
 pub mod SpaceLaws
 pub mod ReplyLaws
 pub mod HalfFormat

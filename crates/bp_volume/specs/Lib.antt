@@ -5,3 +5,4 @@ pub mod Told
 pub mod Laid
 pub mod Seen
 pub mod Carried
+pub mod Renaming

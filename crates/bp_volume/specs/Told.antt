@@ -6,7 +6,7 @@ use Rattle.bp_layout.specs.Lookup.{Path}
 use Rattle.bp_plain.specs.PlainTree.{FileTree}
 use Rattle.bp_plain.specs.Stands.{Stands}
 use Rattle.bp_plain.specs.Calls.{Call, Answer, Refusal}
-use Rattle.bp_plain.specs.Plain.{on_path, refusal, walk, walk_parent, first, when, is_dir_at, is_root_path}
+use Rattle.bp_plain.specs.Plain.{on_path, refusal, walk, walk_parent, first, when, is_dir_at, is_root_path, move_refusal}
 use Rattle.bp_plain.specs.Calls.Refusal.{not_found, not_dir, is_dir, exists}
 use Rattle.bp_path.specs.Walk.{Walked}
 use Rattle.bp_path.specs.Walk.Walked.{found, missing, in_file}
@@ -73,3 +73,11 @@ StopsAtEntry image text root why = (tree : FileTree) → Stands image tree →
 -- a new file at the path is refused so
 abbrev pub RefusesNew : Image → Path → Refusal → Type 0
 RefusesNew image path why = (tree : FileTree) → Stands image tree → refusal_of_new tree path ≡ Some why
+
+-- the walk to the path's parent ends so
+abbrev pub RefusesParent : Image → Path → Refusal → Type 0
+RefusesParent image path why = (tree : FileTree) → Stands image tree → walk_parent tree path ≡ Some why
+
+-- a rename of the first path to the second is refused so
+abbrev pub RefusesRename : Image → Path → Path → Refusal → Type 0
+RefusesRename image p q why = (tree : FileTree) → Stands image tree → move_refusal tree p q ≡ Some why

@@ -6,6 +6,7 @@ mod creating;
 mod laying;
 mod refusing;
 mod removing;
+mod renaming;
 mod replying;
 mod resizing;
 mod sets;

@@ -7,7 +7,7 @@ ghost use Rattle.bp_layout.specs.Words.{block_count};
 ghost use Rattle.bp_limits.specs.Limits.{call_room, max_blocks, min_blocks};
 ghost use Rattle.pm_region.specs.Memory.{current_words, drained, room_in, with_room};
 ghost use Rattle.bp_limits.specs.Limits.{max_read};
-ghost use Rattle.bp_plain.specs.Calls.Call.{create, list, mkdir, read, rmdir, stat, truncate, unlink, write};
+ghost use Rattle.bp_plain.specs.Calls.Call.{create, list, mkdir, read, rename, rmdir, stat, truncate, unlink, write};
 ghost use Rattle.bp_plain.specs.PlainTree.{empty_tree};
 ghost use Rattle.bp_plain.specs.Seen.{call_of};
 ghost use Rattle.bp_plain.specs.Stands.{Stands};
@@ -21,6 +21,7 @@ use crate::asking::{list_at, read_at, stat_at};
 use crate::creating::create_at;
 use crate::laying::lay_out;
 use crate::removing::{rmdir_at, unlink_at};
+use crate::renaming::rename_at;
 use crate::replying::{tell_done, tell_list, tell_read, tell_stat};
 use crate::resizing::truncate_at;
 use crate::sets::Sets;
@@ -196,6 +197,25 @@ impl<R: Region> Volume<R> {
         made
     }
 
+    /// Moves what stands at a path to another one, with all below it. What stands there is replaced: by a file, a file;
+    /// and by a directory, a directory that has no names. Onto itself nothing moves.
+    ///
+    /// # Errors
+    ///
+    /// `BadPath` where a text is no path; `IsRoot` where one is the root directory; `NotFound` or `NotDir` at the first
+    /// name on the way to the first path that is missing, or is sought in a file, and then on the way to the directory
+    /// of the second; `IntoSelf` where the second path is below the first; `IsDir` where a file would replace a
+    /// directory, and `NotDir` where a directory would replace a file; `NotEmpty` where a directory would replace one
+    /// that has a name; and last `NoSpace` where fewer blocks are free than the move needs. Nothing has changed then.
+    pub fn rename(&mut self, from: &[u8], to: &[u8]) -> Result<(), FsError>
+        ensures { FileCall self.old (rename from.now to.now) (unit_answer result) self.new }
+    {
+        self.make_room();
+        let made = rename_at(&mut self.parts, from, to);
+        self.parts.region.mark();
+        made
+    }
+
     /// Writes bytes into the file at a path, from byte `off` on. Between its end and `off` it gets zeros. With no
     /// bytes the file stays as it is, whatever `off` is.
     ///
@@ -294,6 +314,7 @@ impl<R: Region> Volume<R> {
             Call::Read { path, off, len } => self.apply_read(path, *off, *len, reply),
             Call::Write { path, off, bytes } => tell_done(reply, self.write(path, *off, bytes)),
             Call::Truncate { path, size } => tell_done(reply, self.truncate(path, *size)),
+            Call::Rename { from, to } => tell_done(reply, self.rename(from, to)),
         }
     }
 

@@ -10,15 +10,16 @@ ghost use Rattle.bp_layout.specs.WellFormed.{IsWellFormed};
 ghost use Rattle.bp_path.specs.Places.{fault_of};
 ghost use Rattle.bp_plain.specs.Calls.{Refusal};
 ghost use Rattle.bp_plain.specs.Seen.{refusal_of};
+ghost use Rattle.bp_volume.specs.Renaming.{IsTarget};
 ghost use Rattle.bp_volume.specs.Step.{FindsEntry, IsEntryOn, IsNewIn, NamesNew, PathFinds};
-ghost use Rattle.bp_volume.specs.Told.{RefusesEntry, RefusesFile, RefusesNew, RefusesWalk, refusal_of_walk};
+ghost use Rattle.bp_volume.specs.Told.{RefusesEntry, RefusesFile, RefusesNew, RefusesParent, RefusesWalk, refusal_of_walk};
 ghost use Rattle.bp_volume.specs.Told.{StopsAtEntry, StopsAtFile, StopsAtNew, StopsWalk};
 ghost use Rattle.pm_region.specs.Memory.{current_words};
 
 use bp_dirs::find;
 use bp_inodes::get;
 use bp_layout::Kind;
-use bp_path::{Path, Place, WalkFault, parse, walk, walk_parent};
+use bp_path::{Path, Place, WalkFault, parse, step, walk, walk_parent};
 use bp_plain::FsError;
 use bp_tree::Tree;
 use pm_region::Region;
@@ -30,6 +31,17 @@ pub(crate) struct NewName<'a> {
     pub dir: u32,
     /// The name.
     pub name: &'a [u8],
+}
+
+/// A name in a directory, whether it is there or not.
+#[derive(Clone, Copy)]
+pub(crate) struct Target<'a> {
+    /// The directory's inode.
+    pub dir: u32,
+    /// The name.
+    pub name: &'a [u8],
+    /// What has that name there, None where nothing has it.
+    pub there: Option<Place>,
 }
 
 /// A file that a path finds.
@@ -119,7 +131,7 @@ pub(crate) fn file_at<R: Region>(region: &R, text: &[u8]) -> Result<FoundFile, F
 }
 
 /// The entry at a path below the root directory.
-fn entry_on<R: Region>(region: &R, path: &Path<'_>) -> Result<Place, FsError>
+pub(crate) fn entry_on<R: Region>(region: &R, path: &Path<'_>) -> Result<Place, FsError>
     requires well_formed { IsWellFormed (current_words (R.memory region.now)) }
     requires below { path.now ≢ [] }
     ensures found { IfOk result
@@ -185,6 +197,33 @@ fn last_name<'a, R: Region>(region: &R, path: &Path<'a>) -> Result<NewName<'a>, 
                 Err(FsError::Exists)
             } else {
                 Ok(NewName { dir, name })
+            }
+        }
+        Err(fault) => Err(refused(fault)),
+    }
+}
+
+/// The last name of a path below the root directory, with what has it in its directory.
+pub(crate) fn target_on<'a, R: Region>(region: &R, path: &Path<'a>) -> Result<Target<'a>, FsError>
+    requires well_formed { IsWellFormed (current_words (R.memory region.now)) }
+    requires below { path.now ≢ [] }
+    ensures found { IfOk result (λ target. IsTarget (current_words (R.memory region.now)) path.now target) }
+    ensures refused { IfErr result (λ e. RefusesParent (current_words (R.memory region.now)) path.now (refusal_of e)) }
+{
+    match walk_parent(region, path) {
+        Ok(dir) => {
+            let name = path.last();
+            match step(region, dir, name) {
+                Ok(place) => Ok(Target {
+                    dir,
+                    name,
+                    there: Some(place),
+                }),
+                Err(_) => Ok(Target {
+                    dir,
+                    name,
+                    there: None,
+                }),
             }
         }
         Err(fault) => Err(refused(fault)),

@@ -1,0 +1,223 @@
+-- What a rename makes, where it may.
+use Rattle.std.proofs.Common.{◌≡◌, ◌≢◌, ◌⊎◌, ◌&&◌, ℕ, ◌<◌, ◌≤◌, ◌==◌, List, [], ◌∷◌, ◌++◌, length, false, inl, inr, refl, sym, ◌∙◌, ap, ap₂, subst, Option, None, Some, not, arith, append_assoc, true≢false}
+use Rattle.std.specs.Prelude.{if◌then◌else◌, is_some}
+use Rattle.std.specs.Option.{option_map}
+use Rattle.std.proofs.lemmas.Bool.{cases_eq, eq-eqb, ne_eqb}
+use Rattle.bp_calls.specs.Removed.{IsFoundAt}
+use Rattle.bp_calls.proofs.MayLeave.{found_spelled}
+use Rattle.bp_changes.specs.Effects.{CanUnlink}
+use Rattle.bp_layout.specs.Below.{rest_below, same_path}
+use Rattle.bp_layout.specs.Directory.{Name, inumber_at, name_at, slot_named}
+use Rattle.bp_layout.specs.Inode.{kind_of, size_of}
+use Rattle.bp_layout.specs.Lookup.{Path, lookup}
+use Rattle.bp_layout.specs.Need.{Change, need}
+use Rattle.bp_layout.specs.Need.Change.{moves, respells}
+use Rattle.bp_layout.specs.PathText.{parse}
+use Rattle.bp_layout.specs.WellFormed.{IsWellFormed}
+use Rattle.bp_layout.specs.Words.{Image}
+use Rattle.bp_layout.proofs.Below.{rest_below-append, rest_below-is}
+use Rattle.bp_path.specs.declared.steps.Place.{Place}
+use Rattle.bp_plain.specs.Calls.Call.{rename}
+use Rattle.bp_plain.specs.Plain.{moved, moves_below, parent_of, path_of, tree_after}
+use Rattle.bp_plain.specs.PlainTree.{FileTree}
+use Rattle.bp_plain.specs.Stands.{Stands}
+use Rattle.bp_rename.specs.CanRename.{CanRename, change_of, change_to}
+use Rattle.bp_rename.specs.MovesPath.{IsFoundTarget, MovesPath}
+use Rattle.bp_rename.specs.declared.moving.Move.{Move}
+use Rattle.bp_rename.proofs.RenamedStands.{found_can_rename}
+use Rattle.bp_volume.specs.Renaming.{FindsEnds, IsMoveOf, MayMove}
+use Rattle.bp_volume.specs.Step.{FindsEntry, IsChange, NamesNew, StandsIn, last_of}
+use Rattle.bp_volume.specs.Step.IsChange.{onto, across, within}
+use Rattle.bp_volume.specs.declared.renaming.Ends.{Ends}
+use Rattle.bp_volume.proofs.ChangeLaws.{Makes}
+use Rattle.bp_volume.proofs.CreateLaws.{by_parent}
+use Rattle.bp_volume.proofs.FewBlocks.{IsFew}
+use Rattle.bp_volume.proofs.FewMoved.{few_moved}
+use Rattle.bp_volume.proofs.LeavingLaws.{is_found, same_entry, stands_in}
+use Rattle.bp_volume.proofs.RenameLaws.{changes_then, other_ends, other_path, source_is, target_is}
+use Rattle.bp_volume.proofs.WalkLaws.{some_inode}
+
+-- a path that does not lie at or below another one, whose parent does not
+parent_outside : (p q : Path) → q ≢ [] → p ≢ q → moves_below p q ≡ false → rest_below p (parent_of q) ≡ None
+parent_outside p q below other outside = go (rest_below p (parent_of q)) refl
+  where
+    no_rest : is_some (rest_below p q) ≡ false
+    no_rest = sym (ap (λ b. not b && is_some (rest_below p q)) (other_path p q other)) ∙ outside
+
+    go : (o : Option Path) → rest_below p (parent_of q) ≡ o → o ≡ None
+    go None at = refl
+    go (Some rest) at =
+        let front : parent_of q ≡ p ++ rest = rest_below-is p (parent_of q) rest at in
+        let whole : q ≡ p ++ (rest ++ last_of q ∷ []) = by_parent q below ∙ ap (λ r. r ++ last_of q ∷ []) front ∙ append_assoc p rest (last_of q ∷ []) in
+        let inside : rest_below p q ≡ Some (rest ++ last_of q ∷ []) = ap (rest_below p) whole ∙ rest_below-append p (rest ++ last_of q ∷ []) in
+        absurd (true≢false (sym (ap is_some inside) ∙ no_rest))
+
+module _ (image : Image) (from to : List ℕ) (ends : Ends) (may : MayMove image from to ends) where
+  abbrev found : FindsEnds image from to ends
+  found = may.found
+
+  abbrev p : Path
+  p = found.source_path
+
+  abbrev q : Path
+  q = found.target_path
+
+  abbrev i : ℕ
+  i = ends.source.dir
+
+  abbrev s : ℕ
+  s = ends.source.slot
+
+  abbrev j : ℕ
+  j = ends.target.dir
+
+  abbrev name : Name
+  name = ends.target.name.now
+
+  abbrev source_entry : FindsEntry image from i s ends.source.inumber
+  source_entry = record { path = p; parsed = found.source_parsed; entry = found.are.source }
+
+  other : p ≢ q
+  other = other_ends image p q ends found.are may.other
+
+  new_name : slot_named image j name ≡ None → NamesNew image to j name
+  new_name missing = record {
+    path = q;
+    parsed = found.target_parsed;
+    new = record { below = found.are.target.below; parent = found.are.target.parent; last = found.are.target.last; directory = found.are.target.directory; form = found.are.target.form; missing = missing };
+  }
+
+  old_name : (r : ℕ) → slot_named image j name ≡ Some r → StandsIn image to j r
+  old_name r has = record { path = q; parsed = found.target_parsed; parent = found.are.target.parent; slot = ap (slot_named image j) found.are.target.last ∙ has }
+
+  -- the texts spell no other paths
+  one_target : (k : ℕ) (path : Path) → parse to ≡ Some path → lookup image (parent_of path) ≡ Some k → (path ≡ q) × (k ≡ j)
+  one_target k path parsed parent =
+      let paths : ◌≡◌ {A = Option Path} (Some path) (Some q) = sym parsed ∙ found.target_parsed in
+      let same : path ≡ q = cc in
+      let directories : ◌≡◌ {A = Option ℕ} (Some k) (Some j) = sym parent ∙ ap (λ r. lookup image (parent_of r)) same ∙ found.are.target.parent in
+      let directory : k ≡ j = cc in
+      (same, directory)
+
+  there_slot : (k r : ℕ) → StandsIn image to k r → (k ≡ j) × (slot_named image j name ≡ Some r)
+  there_slot k r stands =
+      let one = one_target k stands.path stands.parsed stands.parent in
+      (one.1, sym (ap₂ (λ d path. slot_named image d (last_of path)) one.1 one.0 ∙ ap (slot_named image j) found.are.target.last) ∙ stands.slot)
+
+  new_there : (k : ℕ) (now : Name) → NamesNew image to k now → (k ≡ j) × (now ≡ name) × (slot_named image j name ≡ None)
+  new_there k now new =
+      let one = one_target k new.path new.parsed new.new.parent in
+      let same : now ≡ name = sym new.new.last ∙ ap last_of one.0 ∙ found.are.target.last in
+      (one.1, same, sym (ap₂ (slot_named image) one.1 same) ∙ new.new.missing)
+
+  abbrev change : Change
+  change = change_to i s j (length name) (slot_named image j name)
+
+  change_is : (made : Change) → IsChange image (rename from to) made → made ≡ change
+  change_is _ (onto {i = k} {s = t} {j = l} {r = r} source target) =
+      let one = same_entry image from i s ends.source.inumber source_entry k t source in
+      let two = there_slot l r target in
+      rw (two.1, one.0, one.1, two.0) refl
+  change_is _ (across {i = k} {s = t} {j = l} {name = n} source new apart) =
+      let one = same_entry image from i s ends.source.inumber source_entry k t source in
+      let two = new_there l n new in
+      let apart_here : i ≢ j = λ e. apart (one.0 ∙ e ∙ sym two.0) in
+      rw (two.2, ne_eqb i j apart_here, one.0, one.1, two.0) refl
+  change_is _ (within {i = k} {s = t} {name = n} source new) =
+      let one = same_entry image from i s ends.source.inumber source_entry k t source in
+      let two = new_there k n new in
+      rw (two.2, eq-eqb i j (sym one.0 ∙ two.0), one.0, one.1, two.1) refl
+
+  is_change : (slot : Option ℕ) → slot_named image j name ≡ slot → IsChange image (rename from to) (change_to i s j (length name) slot)
+  is_change (Some r) at = onto (stands_in image from i s ends.source.inumber source_entry) (old_name r at)
+  is_change None at = go (cases_eq i j)
+    where
+      source : StandsIn image from i s
+      source = stands_in image from i s ends.source.inumber source_entry
+
+      go : (i ≡ j) ⊎ (i ≡ j → ⊥) → IsChange image (rename from to) (if i == j then respells i s (length name) else moves i s j)
+      go (inl same) = rw (eq-eqb i j same) (within source (subst (λ k. NamesNew image to k name) (sym same) (new_name at)))
+      go (inr apart) = rw (ne_eqb i j apart) (across source (new_name at) apart)
+
+  rename_makes : Makes image (rename from to) change
+  rename_makes = record {
+    is = is_change (slot_named image j name) refl;
+    alike = λ made is. ap (need image) (change_is made is);
+    allowed = may.allowed;
+    changing = λ tree stands. changes_then image from to ends found may.other tree;
+    says = λ tree. refl;
+  }
+
+  -- ---- the move
+
+  module _ (wf : IsWellFormed image) (move : Move) (is : IsMoveOf ends move) where
+    slot_is : (there : Option Place) → ends.target.there ≡ there → slot_named image j name ≡ option_map (λ place. place.slot) there
+    slot_is None at = found.are.target.new at
+    slot_is (Some place) at = ap (slot_named image j) (sym found.are.target.last) ∙ (found.are.target.there place at).slot
+
+    slot : slot_named image j name ≡ move.to_slot
+    slot = slot_is ends.target.there refl ∙ sym is.to_slot
+
+    change_same : change_of move ≡ change
+    change_same = rw (is.from_dir, is.from_slot, is.to_dir, is.name, slot) refl
+
+    pub moving_makes : Makes image (rename from to) (change_of move)
+    moving_makes = subst (Makes image (rename from to)) (sym change_same) rename_makes
+
+    source_found : IsFoundAt image (parent_of p) (last_of p) move.from_dir move.from_slot ends.source.inumber
+    source_found = rw (is.from_dir, is.from_slot) (is_found image from i s ends.source.inumber source_entry)
+
+    whole_source : parent_of p ++ last_of p ∷ [] ≡ p
+    whole_source = sym (by_parent p found.are.source.below)
+
+    whole_target : parent_of q ++ name ∷ [] ≡ q
+    whole_target = ap (λ n. parent_of q ++ n ∷ []) (sym found.are.target.last) ∙ sym (by_parent q found.are.target.below)
+
+    target_found : IsFoundTarget image (parent_of p ++ last_of p ∷ []) (parent_of q) move
+    target_found = record {
+      found = found.are.target.parent ∙ ap Some (sym is.to_dir);
+      directory = ap (kind_of image) is.to_dir ∙ found.are.target.directory;
+      outside = ap (λ a. rest_below a (parent_of q)) whole_source ∙ (parent_outside p q found.are.target.below other found.are.outside);
+      name = rw is.name found.are.target.form;
+      slot = ap₂ (slot_named image) is.to_dir is.name ∙ slot;
+      other = λ e. other (sym whole_source ∙ sym e ∙ ap (λ n. parent_of q ++ n ∷ []) is.name ∙ whole_target);
+      leaves = λ r has. subst (λ d. CanUnlink image d r (inumber_at image d r)) (sym is.to_dir) (may_leave r (sym is.to_slot ∙ has) ends.target.there refl);
+    }
+      where
+        may_leave : (r : ℕ) → option_map (λ place. place.slot) ends.target.there ≡ Some r → (there : Option Place) → ends.target.there ≡ there → CanUnlink image j r (inumber_at image j r)
+        may_leave r has None at = let none : ◌≡◌ {A = Option ℕ} None (Some r) = rw at at has in absurd (cc)
+        may_leave r has (Some place) at =
+            let slots : ◌≡◌ {A = Option ℕ} (Some place.slot) (Some r) = rw at at has in
+            let slot : place.slot ≡ r = cc in
+            subst (λ t. CanUnlink image j t (inumber_at image j t)) slot (may.leaves place at)
+
+    pub may_rename : CanRename image move
+    may_rename = found_can_rename image wf move (parent_of p) (parent_of q) (last_of p) ends.source.inumber source_found target_found
+
+    pub moving_becomes : (after : Image) → MovesPath move image after → (tree : FileTree) → Stands image tree → Stands after (tree_after tree (rename from to))
+    moving_becomes after renames tree stands =
+        subst (λ a. Stands after (moved (path_of from) a tree)) (sym (target_is image from to ends found))
+        (subst (λ a. Stands after (moved a q tree)) (sym (source_is image from to ends found))
+        (subst (λ a. Stands after (moved p a tree)) whole (subst (λ a. Stands after (moved a (parent_of q ++ move.name.now ∷ []) tree)) named
+        (renames tree (parent_of p) (parent_of q) stands (found.are.source.parent ∙ ap Some (sym is.from_dir)) (found.are.target.parent ∙ ap Some (sym is.to_dir))
+        (ap (λ a. rest_below a (parent_of q)) named ∙ parent_outside p q found.are.target.below other found.are.outside)))))
+      where
+        named : parent_of p ++ name_at image move.from_dir move.from_slot ∷ [] ≡ p
+        named = ap (λ n. parent_of p ++ n ∷ []) (found_spelled image (parent_of p) (last_of p) move.from_dir move.from_slot ends.source.inumber source_found) ∙ whole_source
+
+        whole : parent_of q ++ move.name.now ∷ [] ≡ q
+        whole = ap (λ n. parent_of q ++ n ∷ []) is.name ∙ whole_target
+
+    pub moving_few : IsFew (need image (change_of move))
+    moving_few =
+        few_moved image wf move.from_dir move.from_slot move.to_dir (length move.name.now) low may_rename.source (omega (arith, may_rename.entry.in_size)) may_rename.target may_rename.name.short
+        move.to_slot (there move.to_slot refl)
+      where
+        low : 1 ≤ move.from_dir
+        low =
+            let some : move.from_dir ≢ 0 = λ none. some_inode image wf (parent_of p) i found.are.source.parent (sym is.from_dir ∙ none) in
+            omega (arith, some)
+
+        there : (slot : Option ℕ) → move.to_slot ≡ slot → slot ≢ None → 0 < size_of image move.to_dir
+        there None at some = absurd (some refl)
+        there (Some r) at some = omega (arith, (target_found.leaves r at).entry.in_size)

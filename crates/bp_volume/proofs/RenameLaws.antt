@@ -1,0 +1,255 @@
+-- Why a rename is refused.
+use Rattle.std.proofs.Common.{◌≡◌, ◌≢◌, ◌==◌, ◌&&◌, List, [], ◌∷◌, Bool, true, false, ℕ, not, refl, sym, ◌∙◌, ap, ap₂, Option, None, Some, true≢false}
+use Rattle.std.specs.Prelude.{is_some, unwrap_or}
+use Rattle.std.specs.FinMap.{get}
+use Rattle.std.specs.Option.{option_map}
+use Rattle.std.proofs.lemmas.Bool.{eq-eqb, ne_eqb, eqb-true, eqb-false}
+use Rattle.bp_calls.proofs.ReadingLaws.{length-seen}
+use Rattle.bp_dirs.specs.Names.{name_count}
+use Rattle.bp_layout.specs.Below.{rest_below, same_path}
+use Rattle.bp_layout.specs.Directory.{inumber_at, slot_named}
+use Rattle.bp_layout.specs.Inode.{kind_of, root_of, size_of}
+use Rattle.bp_layout.specs.Lookup.{Path, lookup, node_of}
+use Rattle.bp_layout.specs.PathText.{parse}
+use Rattle.bp_layout.specs.WellFormed.{IsWellFormed}
+use Rattle.bp_layout.specs.Words.{Image}
+use Rattle.bp_layout.proofs.Below.{same_path-is, same_path-self}
+use Rattle.bp_layout.proofs.Paths.{path_once}
+use Rattle.bp_path.specs.declared.steps.Place.{Place}
+use Rattle.bp_plain.specs.Calls.{Refusal}
+use Rattle.bp_plain.specs.Calls.Answer.{done}
+use Rattle.bp_plain.specs.Calls.Call.{rename}
+use Rattle.bp_plain.specs.Calls.Refusal.{bad_path, into_self, is_dir, is_root, not_dir, not_empty}
+use Rattle.bp_plain.specs.Plain.{changes, first, is_a_dir, is_dir_at, is_empty_dir, is_root_path, move_refusal, moves_below, moves_dir_onto_file, moves_file_onto_dir, moves_onto_names, on_parsed, on_path, parent_of, path_of, refusal, walk, walk_parent, when}
+use Rattle.bp_plain.specs.PlainTree.{FileTree}
+use Rattle.bp_plain.specs.Stands.{Stands}
+use Rattle.bp_volume.specs.Renaming.{Allows, AreEnds, FindsEnds, IsTarget, MayMove, are_same, is_inode}
+use Rattle.bp_volume.specs.Step.{FindsEntry, IsEntryOn, last_of}
+use Rattle.bp_volume.specs.Told.{Refuses, RefusesEntry, RefusesParent, RefusesRename, Tells}
+use Rattle.bp_volume.specs.declared.renaming.Ends.{Ends}
+use Rattle.bp_volume.specs.declared.walking.Target.{Target}
+use Rattle.bp_volume.proofs.CreateLaws.{get-name, not_root, parent_goes}
+use Rattle.bp_volume.proofs.EntryLaws.{length-entries}
+use Rattle.bp_volume.proofs.StepLaws.{answer_steps}
+use Rattle.bp_volume.proofs.WalkLaws.{dir_at, first_one, node_at, walk-found}
+
+pub other_path : (p q : Path) → p ≢ q → same_path p q ≡ false
+other_path p q other = go (same_path p q) refl
+  where
+    go : (b : Bool) → same_path p q ≡ b → b ≡ false
+    go true e = absurd (other (same_path-is p q e))
+    go false e = refl
+
+-- ---- the kinds of both ends: whether the source and the target are directories, whether the target is there, is the source itself, and is empty
+
+abbrev by_kinds : Bool → Bool → Bool → Bool → Bool → Option Refusal
+by_kinds source target there same empty =
+    first (when (not source && target) is_dir ∷ when (source && there && not target) not_dir ∷ when (not same && source && target && not empty) not_empty ∷ [])
+
+kinds-new : (source same empty : Bool) → by_kinds source false false same empty ≡ None
+kinds-new true true empty = refl
+kinds-new true false empty = refl
+kinds-new false true empty = refl
+kinds-new false false empty = refl
+
+kinds-files : (same empty : Bool) → by_kinds false false true same empty ≡ None
+kinds-files true empty = refl
+kinds-files false empty = refl
+
+kinds-empty : (same : Bool) → by_kinds true true true same true ≡ None
+kinds-empty true = refl
+kinds-empty false = refl
+
+kinds-same : (source empty : Bool) → by_kinds source source true true empty ≡ None
+kinds-same true empty = refl
+kinds-same false empty = refl
+
+-- ---- refusals in their order
+
+either_root : (b : Bool) (rest : List (Option Refusal)) → first (when b is_root ∷ Some is_root ∷ rest) ≡ Some is_root
+either_root true rest = refl
+either_root false rest = refl
+
+module _ (image : Image) (p q : Path) where
+  abbrev at_kinds : FileTree → List (Option Refusal)
+  at_kinds tree =
+      when (moves_file_onto_dir tree p q) is_dir ∷ when (moves_dir_onto_file tree p q) not_dir ∷ when (moves_onto_names tree p q) not_empty ∷ []
+
+  abbrev behind : FileTree → List (Option Refusal)
+  behind tree = when (moves_below p q) into_self ∷ at_kinds tree
+
+  pub root_source : p ≡ [] → RefusesRename image p q is_root
+  root_source e tree stands = ap (λ b. first (when b is_root ∷ when (is_root_path q) is_root ∷ walk tree p ∷ walk_parent tree q ∷ behind tree)) (ap is_root_path e)
+
+  pub root_target : q ≡ [] → RefusesRename image p q is_root
+  root_target e tree stands =
+      ap (λ b. first (when (is_root_path p) is_root ∷ when b is_root ∷ walk tree p ∷ walk_parent tree q ∷ behind tree)) (ap is_root_path e)
+      ∙ either_root (is_root_path p) (walk tree p ∷ walk_parent tree q ∷ behind tree)
+
+  module _ (below : p ≢ []) (target_below : q ≢ []) where
+    past_roots : (tree : FileTree) → move_refusal tree p q ≡ first (walk tree p ∷ walk_parent tree q ∷ behind tree)
+    past_roots tree = ap₂ (λ a b. first (when a is_root ∷ when b is_root ∷ walk tree p ∷ walk_parent tree q ∷ behind tree)) (not_root p below) (not_root q target_below)
+
+    pub source_stops : (why : Refusal) → RefusesEntry image p is_root why → RefusesRename image p q why
+    source_stops why stops tree stands =
+        let walked : walk tree p ≡ Some why = sym (first_one (walk tree p)) ∙ sym (ap (λ b. first (when b is_root ∷ walk tree p ∷ [])) (not_root p below)) ∙ stops tree stands in
+        past_roots tree ∙ ap (λ o. first (o ∷ walk_parent tree q ∷ behind tree)) walked
+
+    module _ (i s x : ℕ) (source : IsEntryOn image p i s x) where
+      pub target_stops : (why : Refusal) → RefusesParent image q why → RefusesRename image p q why
+      target_stops why stops tree stands =
+          past_roots tree ∙ ap₂ (λ a b. first (a ∷ b ∷ behind tree)) (walk-found image tree stands p x source.inode) (stops tree stands)
+
+      module _ (target : Target) (is : IsTarget image q target) where
+        pub past_walks : (tree : FileTree) → Stands image tree → move_refusal tree p q ≡ first (behind tree)
+        past_walks tree stands =
+            past_roots tree
+            ∙ ap₂ (λ a b. first (a ∷ b ∷ behind tree)) (walk-found image tree stands p x source.inode)
+            (parent_goes image q target_below target.dir is.parent is.directory target.name.now is.last tree stands)
+
+        pub into_itself : true ≡ moves_below p q → RefusesRename image p q into_self
+        into_itself inside tree stands = past_walks tree stands ∙ ap (λ b. first (when b into_self ∷ at_kinds tree)) (sym inside)
+
+-- ---- ends that are found
+
+module _ (image : Image) (p q : Path) (ends : Ends) (are : AreEnds image p q ends) where
+  past_all : (tree : FileTree) → Stands image tree → move_refusal tree p q ≡ by_kinds (is_dir_at tree p) (is_dir_at tree q) (is_some (get tree q)) (same_path p q) (is_empty_dir tree q)
+  past_all tree stands =
+      past_walks image p q are.source.below are.target.below ends.source.dir ends.source.slot ends.source.inumber are.source ends.target are.target tree stands
+      ∙ ap (λ b. first (when b into_self ∷ at_kinds image p q tree)) are.outside
+
+  source_kind : (tree : FileTree) → Stands image tree → (kind : ℕ) → kind_of image ends.source.inumber ≡ kind → is_dir_at tree p ≡ (kind == 2)
+  source_kind tree stands kind is = dir_at image tree stands p ends.source.inumber are.source.inode ∙ ap (λ k. k == 2) is
+
+  -- nothing has the new name
+  pub new_goes : ends.target.there ≡ None → (tree : FileTree) → Stands image tree → move_refusal tree p q ≡ None
+  new_goes none tree stands =
+      let missing : get tree q ≡ None =
+      get-name image q are.target.below ends.target.dir are.target.parent are.target.directory ends.target.name.now are.target.last tree stands
+      ∙ ap (λ o. option_map (node_of image) (option_map (inumber_at image ends.target.dir) o)) (are.target.new none) in
+      past_all tree stands
+      ∙ ap (λ o. by_kinds (is_dir_at tree p) (is_a_dir o) (is_some o) (same_path p q) (is_empty_dir tree q)) missing
+      ∙ kinds-new (is_dir_at tree p) (same_path p q) (is_empty_dir tree q)
+
+  module _ (there : Place) (at : ends.target.there ≡ Some there) where
+    has : IsEntryOn image q ends.target.dir there.slot there.inumber
+    has = are.target.there there at
+
+    target_kind : (tree : FileTree) → Stands image tree → (kind : ℕ) → kind_of image there.inumber ≡ kind → is_dir_at tree q ≡ (kind == 2)
+    target_kind tree stands kind is = dir_at image tree stands q there.inumber has.inode ∙ ap (λ k. k == 2) is
+
+    by_both : (tree : FileTree) → Stands image tree → (kind target_is : ℕ) → kind_of image ends.source.inumber ≡ kind → kind_of image there.inumber ≡ target_is →
+        move_refusal tree p q ≡ by_kinds (kind == 2) (target_is == 2) true (same_path p q) (is_empty_dir tree q)
+    by_both tree stands kind target_is is target_has =
+        past_all tree stands
+        ∙ ap₂ (λ a b. by_kinds a b (is_some (get tree q)) (same_path p q) (is_empty_dir tree q)) (source_kind tree stands kind is) (target_kind tree stands target_is target_has)
+        ∙ ap (λ o. by_kinds (kind == 2) (target_is == 2) (is_some o) (same_path p q) (is_empty_dir tree q)) (node_at image tree stands q there.inumber has.inode)
+
+    pub files_go : kind_of image ends.source.inumber ≡ 1 → kind_of image there.inumber ≡ 1 → (tree : FileTree) → Stands image tree → move_refusal tree p q ≡ None
+    files_go is target_is tree stands = by_both tree stands 1 1 is target_is ∙ kinds-files (same_path p q) (is_empty_dir tree q)
+
+    pub onto_file : kind_of image ends.source.inumber ≡ 2 → kind_of image there.inumber ≡ 1 → RefusesRename image p q not_dir
+    onto_file is target_is tree stands = by_both tree stands 2 1 is target_is
+
+    pub onto_directory : kind_of image ends.source.inumber ≡ 1 → kind_of image there.inumber ≡ 2 → RefusesRename image p q is_dir
+    onto_directory is target_is tree stands = by_both tree stands 1 2 is target_is
+
+    counts : kind_of image there.inumber ≡ 2 → (tree : FileTree) → Stands image tree → is_empty_dir tree q ≡ (name_count image (root_of image there.inumber) (size_of image there.inumber) == 0)
+    counts target_is tree stands = ap (λ n. n == 0) (length-entries image tree stands q there.inumber has.inode target_is ∙ length-seen image there.inumber)
+
+    pub empty_goes : kind_of image ends.source.inumber ≡ 2 → kind_of image there.inumber ≡ 2 → name_count image (root_of image there.inumber) (size_of image there.inumber) ≡ 0 →
+        (tree : FileTree) → Stands image tree → move_refusal tree p q ≡ None
+    empty_goes is target_is none tree stands =
+        by_both tree stands 2 2 is target_is
+        ∙ ap (by_kinds true true true (same_path p q)) (counts target_is tree stands ∙ eq-eqb (name_count image (root_of image there.inumber) (size_of image there.inumber)) 0 none)
+        ∙ kinds-empty (same_path p q)
+
+    pub not_empty_stops : p ≢ q → kind_of image ends.source.inumber ≡ 2 → kind_of image there.inumber ≡ 2 → name_count image (root_of image there.inumber) (size_of image there.inumber) ≢ 0 → RefusesRename image p q not_empty
+    not_empty_stops other is target_is some tree stands =
+        by_both tree stands 2 2 is target_is
+        ∙ ap₂ (by_kinds true true true) (other_path p q other) (counts target_is tree stands ∙ ne_eqb (name_count image (root_of image there.inumber) (size_of image there.inumber)) 0 some)
+
+  -- a path onto itself
+  pub same_goes : p ≡ q → (tree : FileTree) → Stands image tree → move_refusal tree p q ≡ None
+  same_goes same tree stands =
+      past_all tree stands
+      ∙ ap (λ r. by_kinds (is_dir_at tree p) (is_dir_at tree r) (is_some (get tree r)) (same_path p r) (is_empty_dir tree r)) (sym same)
+      ∙ ap₂ (λ o b. by_kinds (is_dir_at tree p) (is_dir_at tree p) (is_some o) b (is_empty_dir tree p)) (node_at image tree stands p ends.source.inumber are.source.inode) (same_path-self p)
+      ∙ kinds-same (is_dir_at tree p) (is_empty_dir tree p)
+
+  -- an inode has one path
+  pub same_ends : IsWellFormed image → are_same ends ≡ true → p ≡ q
+  same_ends wf same = go ends.target.there refl same
+    where
+      go : (o : Option Place) → ends.target.there ≡ o → is_inode ends.source.inumber o ≡ true → p ≡ q
+      go None at e = absurd (true≢false (sym e))
+      go (Some there) at e = path_once image wf p q ends.source.inumber are.source.inode ((are.target.there there at).inode ∙ ap Some (eqb-true there.inumber ends.source.inumber e))
+
+  pub other_ends : are_same ends ≡ false → p ≢ q
+  other_ends other same = go ends.target.there refl other
+    where
+      go : (o : Option Place) → ends.target.there ≡ o → is_inode ends.source.inumber o ≡ false → ⊥
+      go None at e =
+          let last : last_of p ≡ ends.target.name.now = ap last_of same ∙ are.target.last in
+          let found : ◌≡◌ {A = Option ℕ} (Some ends.source.dir) (Some ends.target.dir) = sym are.source.parent ∙ ap (λ r. lookup image (parent_of r)) same ∙ are.target.parent in
+          let directory : ends.source.dir ≡ ends.target.dir = cc in
+          let clash : ◌≡◌ {A = Option ℕ} (Some ends.source.slot) None = sym are.source.slot ∙ ap₂ (slot_named image) directory last ∙ are.target.new at in
+          absurd (cc)
+      go (Some there) at e =
+          let found : ◌≡◌ {A = Option ℕ} (Some there.inumber) (Some ends.source.inumber) = sym (are.target.there there at).inode ∙ ap (lookup image) (sym same) ∙ are.source.inode in
+          let one : there.inumber ≡ ends.source.inumber = cc in
+          eqb-false there.inumber ends.source.inumber e one
+
+-- ---- paths that texts spell
+
+module _ (image : Image) (from to : List ℕ) where
+  pub no_source : parse from ≡ None → Refuses image (rename from to) bad_path
+  no_source none tree stands = ap (λ o. on_parsed o (λ p. on_path to (move_refusal tree p))) none
+
+  module _ (p : Path) (parsed : parse from ≡ Some p) where
+    pub no_target : parse to ≡ None → Refuses image (rename from to) bad_path
+    no_target none tree stands = ap₂ (λ o u. on_parsed o (λ p. on_parsed u (move_refusal tree p))) parsed none
+
+    module _ (q : Path) (target_parsed : parse to ≡ Some q) where
+      pub spelled : (tree : FileTree) → refusal tree (rename from to) ≡ move_refusal tree p q
+      spelled tree = ap₂ (λ o u. on_parsed o (λ p. on_parsed u (move_refusal tree p))) parsed target_parsed
+
+      pub rename_stops : (why : Refusal) → RefusesRename image p q why → Refuses image (rename from to) why
+      rename_stops why stops tree stands = spelled tree ∙ stops tree stands
+
+module _ (image : Image) (from to : List ℕ) (ends : Ends) (found : FindsEnds image from to ends) where
+  pub found_stops : (why : Refusal) → RefusesRename image found.source_path found.target_path why → Refuses image (rename from to) why
+  found_stops = rename_stops image from to found.source_path found.source_parsed found.target_path found.target_parsed
+
+  pub found_goes : ((tree : FileTree) → Stands image tree → move_refusal tree found.source_path found.target_path ≡ None) → Allows image (rename from to)
+  found_goes goes tree stands = spelled image from to found.source_path found.source_parsed found.target_path found.target_parsed tree ∙ goes tree stands
+
+  pub source_is : path_of from ≡ found.source_path
+  source_is = ap (λ (o : Option Path). unwrap_or o []) found.source_parsed
+
+  pub target_is : path_of to ≡ found.target_path
+  target_is = ap (λ (o : Option Path). unwrap_or o []) found.target_parsed
+
+  -- a name that is to move onto itself
+  pub same_stays : IsWellFormed image → are_same ends ≡ true → Tells image (rename from to) done
+  same_stays wf same tree stands =
+      let one : found.source_path ≡ found.target_path = same_ends image found.source_path found.target_path ends found.are wf same in
+      answer_steps image tree (rename from to) done (found_goes (same_goes image found.source_path found.target_path ends found.are one) tree stands)
+      (ap₂ (λ a b. not (same_path a b)) source_is (target_is ∙ sym one) ∙ ap not (same_path-self found.source_path)) refl
+
+  -- two entries have two paths
+  pub changes_then : are_same ends ≡ false → (tree : FileTree) → changes tree (rename from to) ≡ true
+  changes_then other tree = ap₂ (λ a b. not (same_path a b)) source_is target_is ∙ ap not (other_path found.source_path found.target_path (other_ends image found.source_path found.target_path ends found.are other))
+
+  -- the entry that has the new name
+  pub target_entry : (place : Place) → ends.target.there ≡ Some place → FindsEntry image to ends.target.dir place.slot place.inumber
+  target_entry place at = record { path = found.target_path; parsed = found.target_parsed; entry = found.are.target.there place at }
+
+  -- a new name has nothing in its way
+  pub new_may : are_same ends ≡ false → ends.target.there ≡ None → MayMove image from to ends
+  new_may other none = record {
+    found = found;
+    other = other;
+    leaves = λ place at. let clash : ◌≡◌ {A = Option Place} None (Some place) = sym none ∙ at in absurd (cc);
+    allowed = found_goes (new_goes image found.source_path found.target_path ends found.are none);
+  }

@@ -1,0 +1,71 @@
+-- What the two paths of a rename find.
+use Rattle.std.specs.Prelude.{◌≡◌, ◌≢◌, ◌==◌, ℕ, List, [], Bool, false, Option, None, Some, option_map}
+use Rattle.bp_changes.specs.Effects.{CanUnlink}
+use Rattle.bp_layout.specs.Directory.{IsName, inumber_at, slot_named}
+use Rattle.bp_layout.specs.Inode.{kind_of}
+use Rattle.bp_layout.specs.Lookup.{Path, lookup}
+use Rattle.bp_layout.specs.PathText.{parse}
+use Rattle.bp_layout.specs.Words.{Image}
+use Rattle.bp_path.specs.declared.steps.Place.{Place}
+use Rattle.bp_plain.specs.Calls.{Call}
+use Rattle.bp_plain.specs.Calls.Call.{rename}
+use Rattle.bp_plain.specs.Plain.{moves_below, parent_of, refusal}
+use Rattle.bp_plain.specs.PlainTree.{FileTree}
+use Rattle.bp_plain.specs.Stands.{Stands}
+use Rattle.bp_rename.specs.declared.moving.Move.{Move}
+use Rattle.bp_volume.specs.Step.{IsEntryOn, last_of}
+use Rattle.bp_volume.specs.declared.renaming.Ends.{Ends}
+use Rattle.bp_volume.specs.declared.walking.Target.{Target}
+
+-- the path is this name in this directory, and `there` is what has it there
+pub record IsTarget (image : Image) (path : Path) (target : Target) : Type 0 where
+  pub below : path ≢ []
+  pub parent : lookup image (parent_of path) ≡ Some target.dir
+  pub directory : kind_of image target.dir ≡ 2
+  pub last : last_of path ≡ target.name.now
+  pub form : IsName target.name.now
+  pub new : target.there ≡ None → slot_named image target.dir target.name.now ≡ None
+  pub there : (place : Place) → target.there ≡ Some place → IsEntryOn image path target.dir place.slot place.inumber
+
+-- The first path finds an entry. The second is a name in a directory, and not below the first.
+pub record AreEnds (image : Image) (p q : Path) (ends : Ends) : Type 0 where
+  pub source : IsEntryOn image p ends.source.dir ends.source.slot ends.source.inumber
+  pub target : IsTarget image q ends.target
+  pub outside : moves_below p q ≡ false
+
+-- the texts spell such paths
+pub record FindsEnds (image : Image) (from to : List ℕ) (ends : Ends) : Type 0 where
+  pub source_path : Path
+  pub source_parsed : parse from ≡ Some source_path
+  pub target_path : Path
+  pub target_parsed : parse to ≡ Some target_path
+  pub are : AreEnds image source_path target_path ends
+
+-- there is something, and it is this inode
+abbrev pub is_inode : ℕ → Option Place → Bool
+is_inode i None = false
+is_inode i (Some place) = place.inumber == i
+
+-- both ends are one entry
+abbrev pub are_same : Ends → Bool
+are_same ends = is_inode ends.source.inumber ends.target.there
+
+-- no tree for which the image stands refuses the call
+abbrev pub Allows : Image → Call → Type 0
+Allows image call = (tree : FileTree) → Stands image tree → refusal tree call ≡ None
+
+-- The ends are two entries, or the second is new. What has the new name may leave, and nothing refuses the rename.
+pub record MayMove (image : Image) (from to : List ℕ) (ends : Ends) : Type 0 where
+  pub found : FindsEnds image from to ends
+  pub other : are_same ends ≡ false
+  pub leaves : (place : Place) → ends.target.there ≡ Some place →
+      CanUnlink image ends.target.dir place.slot (inumber_at image ends.target.dir place.slot)
+  pub allowed : Allows image (rename from to)
+
+-- the move from end to end
+pub record IsMoveOf (ends : Ends) (move : Move) : Type 0 where
+  pub from_dir : move.from_dir ≡ ends.source.dir
+  pub from_slot : move.from_slot ≡ ends.source.slot
+  pub to_dir : move.to_dir ≡ ends.target.dir
+  pub to_slot : move.to_slot ≡ option_map (λ place. place.slot) ends.target.there
+  pub name : move.name.now ≡ ends.target.name.now

@@ -1,0 +1,254 @@
+//! Names that move.
+
+ghost use Rattle.std.specs.Prelude.{◌≡◌, ◌≢◌, ◌≤◌, IfErr, IfOk, OnOk, Some, [], false, option_map};
+ghost use Rattle.bp_changes.specs.Effects.{CanUnlink};
+ghost use Rattle.bp_layout.specs.Directory.{inumber_at};
+ghost use Rattle.bp_layout.specs.WellFormed.{IsWellFormed};
+ghost use Rattle.bp_limits.specs.Limits.{call_room};
+ghost use Rattle.bp_plain.specs.Calls.Call.{rename};
+ghost use Rattle.bp_plain.specs.Seen.{refusal_of};
+ghost use Rattle.bp_shapes.specs.Sets.{AreExact};
+ghost use Rattle.bp_volume.specs.Carried.{CarriesOut};
+ghost use Rattle.bp_volume.specs.Renaming.{Allows, AreEnds, FindsEnds, IsMoveOf, MayMove, are_same};
+ghost use Rattle.bp_volume.specs.Seen.{unit_answer};
+ghost use Rattle.bp_volume.specs.Step.{IsEntryOn};
+ghost use Rattle.bp_volume.specs.Told.{Refuses, RefusesRename};
+ghost use Rattle.pm_region.specs.Memory.{current_words, room_in};
+
+use crate::refusing::no_space;
+use crate::walking::{Target, entry_on, target_on};
+use bp_dirs::is_empty;
+use bp_free::Parts;
+use bp_inodes::get;
+use bp_layout::Kind;
+use bp_path::{Path, Place, parse};
+use bp_plain::FsError;
+use bp_rename::Move;
+use bp_tree::Tree;
+use pm_region::Region;
+
+/// The ends of a rename: the entry that moves, and its new directory and name.
+#[derive(Clone, Copy)]
+pub(crate) struct Ends<'a> {
+    /// The entry.
+    pub source: Place,
+    /// The new name, and what has it.
+    pub target: Target<'a>,
+}
+
+/// The ends of a rename, where its entry is found. The path of the new name is not to lie below that of the entry.
+fn ends_from<'a, R: Region>(
+    region: &R,
+    from: &Path<'_>,
+    source: Place,
+    to: &Path<'a>,
+) -> Result<Ends<'a>, FsError>
+    requires well_formed { IsWellFormed (current_words (R.memory region.now)) }
+    requires source { IsEntryOn (current_words (R.memory region.now)) from.now source.dir source.slot source.inumber }
+    requires below { to.now ≢ [] }
+    ensures found { IfOk result (λ ends. AreEnds (current_words (R.memory region.now)) from.now to.now ends) }
+    ensures refused { IfErr result
+        (λ e. RefusesRename (current_words (R.memory region.now)) from.now to.now (refusal_of e)) }
+{
+    match target_on(region, to) {
+        Ok(target) => {
+            if to.is_below(from) {
+                Err(FsError::IntoSelf)
+            } else {
+                Ok(Ends { source, target })
+            }
+        }
+        Err(error) => Err(error),
+    }
+}
+
+/// The ends of a rename of one path to another one.
+fn ends_on<'a, R: Region>(region: &R, from: &Path<'_>, to: &Path<'a>) -> Result<Ends<'a>, FsError>
+    requires well_formed { IsWellFormed (current_words (R.memory region.now)) }
+    ensures found { IfOk result (λ ends. AreEnds (current_words (R.memory region.now)) from.now to.now ends) }
+    ensures refused { IfErr result
+        (λ e. RefusesRename (current_words (R.memory region.now)) from.now to.now (refusal_of e)) }
+{
+    if from.is_root() {
+        return Err(FsError::IsRoot);
+    }
+    if to.is_root() {
+        return Err(FsError::IsRoot);
+    }
+    match entry_on(region, from) {
+        Ok(source) => ends_from(region, from, source, to),
+        Err(error) => Err(error),
+    }
+}
+
+/// The ends of a rename of one path text to another one.
+fn ends_at<'a, R: Region>(region: &R, from: &[u8], to: &'a [u8]) -> Result<Ends<'a>, FsError>
+    requires { IsWellFormed (current_words (R.memory region.now)) }
+    ensures found { IfOk result (λ ends. FindsEnds (current_words (R.memory region.now)) from.now to.now ends) }
+    ensures refused { IfErr result
+        (λ e. Refuses (current_words (R.memory region.now)) (rename from.now to.now) (refusal_of e)) }
+{
+    match parse(from) {
+        Ok(source) => match parse(to) {
+            Ok(target) => ends_on(region, &source, &target),
+            Err(_) => Err(FsError::BadPath),
+        },
+        Err(_) => Err(FsError::BadPath),
+    }
+}
+
+/// Refuses a rename onto what may not be replaced so: only a file moves onto a file, and only a directory onto a
+/// directory, which has no names.
+fn may_replace<R: Region>(
+    region: &R,
+    from: &[u8],
+    to: &[u8],
+    ends: &Ends<'_>,
+    there: Place,
+) -> Result<(), FsError>
+    requires well_formed { IsWellFormed (current_words (R.memory region.now)) }
+    requires found { FindsEnds (current_words (R.memory region.now)) from.now to.now ends.now }
+    requires there { ends.now.target.there ≡ Some there }
+    requires other { are_same ends.now ≡ false }
+    ensures leaves { let words = current_words (R.memory region.now) in
+        OnOk result (CanUnlink words ends.now.target.dir there.slot (inumber_at words ends.now.target.dir there.slot)) }
+    ensures allowed { OnOk result (Allows (current_words (R.memory region.now)) (rename from.now to.now)) }
+    ensures refused { IfErr result
+        (λ e. Refuses (current_words (R.memory region.now)) (rename from.now to.now) (refusal_of e)) }
+{
+    let source = get(region, ends.source.inumber);
+    let target = get(region, there.inumber);
+    match target.kind {
+        Kind::File => match source.kind {
+            Kind::File => Ok(()),
+            Kind::Dir => Err(FsError::NotDir),
+        },
+        Kind::Dir => match source.kind {
+            Kind::File => Err(FsError::IsDir),
+            Kind::Dir => {
+                let tree = Tree {
+                    root: target.root,
+                    size: target.size,
+                };
+                if is_empty(region, tree) {
+                    Ok(())
+                } else {
+                    Err(FsError::NotEmpty)
+                }
+            }
+        },
+    }
+}
+
+/// Refuses a rename whose new name is taken by what may not be replaced.
+fn may_move<R: Region>(region: &R, from: &[u8], to: &[u8], ends: &Ends<'_>) -> Result<(), FsError>
+    requires well_formed { IsWellFormed (current_words (R.memory region.now)) }
+    requires found { FindsEnds (current_words (R.memory region.now)) from.now to.now ends.now }
+    requires other { are_same ends.now ≡ false }
+    ensures may { OnOk result (MayMove (current_words (R.memory region.now)) from.now to.now ends.now) }
+    ensures refused { IfErr result
+        (λ e. Refuses (current_words (R.memory region.now)) (rename from.now to.now) (refusal_of e)) }
+{
+    match ends.target.there {
+        Some(there) => may_replace(region, from, to, ends, there),
+        None => Ok(()),
+    }
+}
+
+/// Whether both ends are one entry. An inode has one name.
+fn are_same(ends: &Ends<'_>) -> bool
+    ensures { result ≡ are_same ends.now }
+{
+    match ends.target.there {
+        Some(there) => there.inumber == ends.source.inumber,
+        None => false,
+    }
+}
+
+/// The slot of an entry.
+fn slot_of(place: Option<Place>) -> Option<u64>
+    ensures { result ≡ option_map (λ there. there.slot) place }
+{
+    match place {
+        Some(place) => Some(place.slot),
+        None => None,
+    }
+}
+
+/// The move from end to end.
+fn move_of<'a>(ends: &Ends<'a>) -> Move<'a>
+    ensures { IsMoveOf ends.now result }
+{
+    Move {
+        from_dir: ends.source.dir,
+        from_slot: ends.source.slot,
+        to_dir: ends.target.dir,
+        to_slot: slot_of(ends.target.there),
+        name: ends.target.name,
+    }
+}
+
+/// Moves a name that may move.
+fn move_name<R: Region>(
+    parts: &mut Parts<R>,
+    from: &[u8],
+    to: &[u8],
+    ends: &Ends<'_>,
+) -> Result<(), FsError>
+    requires well_formed { IsWellFormed (current_words (R.memory parts.old.region)) }
+    requires exact { AreExact (current_words (R.memory parts.old.region)) parts.old.blocks parts.old.inodes }
+    requires may { MayMove (current_words (R.memory parts.old.region)) from.now to.now ends.now }
+    requires room { call_room ≤ room_in (R.memory parts.old.region) }
+    ensures called { CarriesOut (R.memory parts.old.region) (rename from.now to.now) (unit_answer result)
+        (R.memory parts.new.region) }
+    ensures exact { AreExact (current_words (R.memory parts.new.region)) parts.new.blocks parts.new.inodes }
+{
+    let to_move = move_of(ends);
+    match bp_rename::rename(parts, &to_move) {
+        Ok(()) => Ok(()),
+        Err(lacks) => Err(no_space(lacks)),
+    }
+}
+
+/// Moves a name between the ends that were found. A name that is to move onto itself stays.
+fn rename_found<R: Region>(
+    parts: &mut Parts<R>,
+    from: &[u8],
+    to: &[u8],
+    ends: &Ends<'_>,
+) -> Result<(), FsError>
+    requires well_formed { IsWellFormed (current_words (R.memory parts.old.region)) }
+    requires exact { AreExact (current_words (R.memory parts.old.region)) parts.old.blocks parts.old.inodes }
+    requires found { FindsEnds (current_words (R.memory parts.old.region)) from.now to.now ends.now }
+    requires room { call_room ≤ room_in (R.memory parts.old.region) }
+    ensures called { CarriesOut (R.memory parts.old.region) (rename from.now to.now) (unit_answer result)
+        (R.memory parts.new.region) }
+    ensures exact { AreExact (current_words (R.memory parts.new.region)) parts.new.blocks parts.new.inodes }
+{
+    if are_same(ends) {
+        return Ok(());
+    }
+    match may_move(&parts.region, from, to, ends) {
+        Ok(()) => move_name(parts, from, to, ends),
+        Err(error) => Err(error),
+    }
+}
+
+/// What `rename` does before its mark.
+pub(crate) fn rename_at<R: Region>(
+    parts: &mut Parts<R>,
+    from: &[u8],
+    to: &[u8],
+) -> Result<(), FsError>
+    requires well_formed { IsWellFormed (current_words (R.memory parts.old.region)) }
+    requires exact { AreExact (current_words (R.memory parts.old.region)) parts.old.blocks parts.old.inodes }
+    requires room { call_room ≤ room_in (R.memory parts.old.region) }
+    ensures called { CarriesOut (R.memory parts.old.region) (rename from.now to.now) (unit_answer result)
+        (R.memory parts.new.region) }
+    ensures exact { AreExact (current_words (R.memory parts.new.region)) parts.new.blocks parts.new.inodes }
+{
+    match ends_at(&parts.region, from, to) {
+        Ok(ends) => rename_found(parts, from, to, &ends),
+        Err(error) => Err(error),
+    }
+}

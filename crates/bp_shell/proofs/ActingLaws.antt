@@ -14,7 +14,7 @@ use Rattle.bp_volume.specs.FileCall.{FileCall}
 use Rattle.std.proofs.lemmas.Bool.{le-ltb, lt-ltb}
 use Rattle.bp_script.specs.Commands.{Command, command_of, in_grammar}
 use Rattle.bp_script.specs.Commands.Command.{file_call, sync, space, bad_syntax, too_long}
-use Rattle.bp_script.specs.Texts.LineReply.{answered, synced, space_of, syntax, long}
+use Rattle.bp_script.specs.Texts.LineReply.{synced}
 use Rattle.bp_shell.specs.Files.{Holds, HoldsBytes}
 use Rattle.bp_shell.specs.Acting.{Does, reply_of, state, to_save}
 use Rattle.bp_shell.specs.Serving.{Acts, SyncFails}

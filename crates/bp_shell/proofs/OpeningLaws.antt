@@ -14,7 +14,7 @@ use Rattle.bp_scan.specs.declared.fault.MountFault.{MountFault}
 use Rattle.bp_scan.specs.declared.fault.MountFault.TheVariants as f
 use Rattle.bp_script.specs.declared.notices.Notice.{Notice}
 use Rattle.bp_script.specs.declared.notices.Notice.TheVariants.{NotFormatted, BadSize, Damaged}
-use Rattle.bp_shell.specs.Files.{HasBytes, HasLength, HasImage}
+use Rattle.bp_shell.specs.Files.{HasBytes, HasLength}
 use Rattle.bp_shell.specs.Opening.{HasSized, RefusesFile}
 use Rattle.bp_shell.specs.Opening.RefusesFile.{by_length, not_formatted, by_count, damaged}
 use Rattle.bp_shell.specs.Stops.{stop_by}

@@ -1,6 +1,6 @@
 -- Outcomes of the programs, from those of their parts.
-use Rattle.std.proofs.Common.{refl, sym, ◌∙◌, ap, arith, ◌≡◌, ◌<◌, ◌≤◌, ℕ, List, [], ◌∷◌, ◌++◌, length, take, inl, inr, true}
-use Rattle.std.specs.Prelude.{Option, Some, ◌⊎◌}
+use Rattle.std.proofs.Common.{refl, sym, ◌∙◌, arith, ◌≡◌, ◌<◌, ℕ, List, length, take, inl, inr, true}
+use Rattle.std.specs.Prelude.{◌⊎◌}
 use Rattle.std.specs.Io.KnownBytes.{Appends}
 use Rattle.pm_region.specs.Memory.{Memory, current_words, drained}
 use Rattle.bp_io.specs.Causes.{Rose}
@@ -14,7 +14,7 @@ use Rattle.bp_shell.specs.Checking.{CheckOutcome, Checks}
 use Rattle.bp_shell.specs.Files.{HasBlocksOf, HasBytes, Holds, HoldsPartly, IsAbsent}
 use Rattle.bp_shell.specs.Formatting.{HasPartly, new_image}
 use Rattle.bp_shell.specs.Opening.{HoldsFileSystem, RefusesFile, start}
-use Rattle.bp_shell.specs.Outside.{Faults, IsFirstFault, IsIdle, IsQuiet, IsUntouched, Outside, Prints, TellsLine, counts, outside}
+use Rattle.bp_shell.specs.Outside.{Faults, IsFirstFault, IsIdle, IsQuiet, IsUntouched, Outside, TellsLine, counts, outside}
 use Rattle.bp_shell.specs.Running.{FormatOutcome, RunOutcome, Runs, RunsCut, RunsLong, RunsPart, RunsStopped, RunsUnsaved, format_text}
 use Rattle.bp_shell.specs.Serving.{Input, Moment, ServeOutcome}
 use Rattle.bp_shell.proofs.OutcomeLaws.{files_fault, first_then, no_device_fault, no_fault, sink_fault}

@@ -9,7 +9,6 @@ use Rattle.bp_layout.specs.Words.{Image}
 use Rattle.bp_layout.specs.Bytes.{image_bytes}
 use Rattle.bp_plain.proofs.Existence.{stands_for, tree_of}
 use Rattle.bp_script.specs.Commands.{Command}
-use Rattle.bp_script.specs.Commands.Command.{sync}
 use Rattle.bp_script.specs.Texts.{LineReply}
 use Rattle.bp_script.specs.declared.notices.Notice.{Notice}
 use Rattle.bp_layout.specs.WellFormed.{IsWellFormed}
@@ -24,7 +23,7 @@ use Rattle.bp_shell.specs.PlainSession.{FollowsTree}
 use Rattle.bp_shell.specs.Running.{Begins, CutsPlainly, IsComplete, Runs, RunsCut, RunsLong, RunsPart, RunsStopped, RunsUnsaved, Saves, SavesPartly, StopsPlainly}
 use Rattle.bp_shell.specs.Outside.{Outside, SourceFailed, SinkFailed, FilesFailed}
 use Rattle.bp_shell.specs.Checking.{IsCheckComplete}
-use Rattle.bp_shell.specs.Serving.{Cuts, SyncFails, OfLines, Serves, ServesAll, Stops, Told}
+use Rattle.bp_shell.specs.Serving.{Cuts, OfLines, Serves, ServesAll, Stops, Told}
 use Rattle.bp_shell.specs.Session.{Session, State}
 use Rattle.bp_shell.proofs.BlockLaws.{length-image_bytes}
 use Rattle.bp_shell.proofs.PlainLaws.{follows_tree}

@@ -1,6 +1,6 @@
 -- What a line came to.
 use Rattle.std.specs.Prelude.{◌≡◌, length}
-use Rattle.pm_region.specs.Memory.{Memory, current_words, drained}
+use Rattle.pm_region.specs.Memory.{Memory, current_words}
 use Rattle.bp_layout.specs.Words.{Image}
 use Rattle.bp_plain.specs.Calls.{Answer}
 use Rattle.bp_script.specs.Commands.{Command}

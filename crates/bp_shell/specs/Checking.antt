@@ -1,5 +1,5 @@
 -- What `check FILE` answers, and when.
-use Rattle.std.specs.Prelude.{Some, ◌≡◌, ◌⊎◌, ◌<◌, ℕ, length, take}
+use Rattle.std.specs.Prelude.{Some, ◌≡◌, ◌⊎◌, ℕ}
 use Rattle.std.specs.Io.KnownBytes.{Appends}
 use Rattle.bp_io.specs.Files.{Known}
 use Rattle.bp_layout.specs.Bytes.{image_bytes}

@@ -1,5 +1,5 @@
 -- What a program answers, and when.
-use Rattle.std.specs.Prelude.{Some, true, ◌≡◌, ◌⊎◌, ◌≤◌, ◌<◌, ℕ, ◌-◌, List, [], ◌∷◌, ◌++◌, Option, length, take}
+use Rattle.std.specs.Prelude.{Some, true, ◌≡◌, ◌⊎◌, ◌≤◌, ℕ, ◌-◌, List, [], ◌∷◌, ◌++◌, length}
 use Rattle.std.specs.Io.KnownBytes.{Appends, Consumes, IsAtEnd}
 use Rattle.pm_region.specs.Memory.{Memory, current_words}
 use Rattle.bp_limits.specs.Limits.{max_input}

@@ -1,7 +1,7 @@
 use Rattle.std.proofs.Common.{arith, ap, ◌∙◌}
 use Rattle.bp_script.specs.Commands.{in_grammar}
-use Rattle.bp_script.specs.Commands.Command.{bad_syntax, space, sync}
-use Rattle.bp_shell.proofs.ActingLaws.{command_long, command_short, does_call, does_long, does_space, does_sync, does_syntax}
+use Rattle.bp_script.specs.Commands.Command.{space, sync}
+use Rattle.bp_shell.proofs.ActingLaws.{command_long, command_short, does_call, does_long, does_space, does_sync}
 use Rattle.bp_shell.proofs.acting.act.Goals as goal
 
 pub returns-then-len-gt-MAX_LINE-clause-does : goal.returns-then-len-gt-MAX_LINE-clause-does

@@ -1,4 +1,4 @@
-use Rattle.std.proofs.Common.{refl, rules, ◌∙◌, ap}
+use Rattle.std.proofs.Common.{refl, rules}
 use Rattle.bp_layout.specs.Bytes.{image_bytes}
 use Rattle.bp_shell.proofs.ActingLaws.{holds_bytes, size-drained}
 use Rattle.bp_shell.proofs.OpeningLaws.{if_memory, if_missing, if_refused}

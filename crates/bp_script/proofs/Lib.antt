@@ -1,3 +1,5 @@
+pub mod DigitPairs
+pub mod EachByte
 pub mod Joining
 pub mod NameText
 pub mod Numbers

@@ -1,30 +1,16 @@
 -- The text of a name, and how long it is.
-use Rattle.std.proofs.Common.{◌≡◌, ◌⊎◌, ℕ, zero, suc, ◌*◌, ◌+◌, ◌<◌, ◌≤◌, List, [], ◌∷◌, ◌++◌, length, Bool, true, false, not, if◌then◌else◌, refl, sym, ◌∙◌, ap, arith, inl, inr, length-append, true≢false, nat_lt}
+use Rattle.std.proofs.Common.{◌≡◌, ℕ, ◌*◌, ◌+◌, ◌≤◌, List, [], ◌∷◌, ◌++◌, length, Bool, true, false, not, if◌then◌else◌, refl, sym, ◌∙◌, ap, arith, length-append, true≢false, nat_lt}
 use Rattle.std.proofs.lemmas.Bool.Decides.{nat_tests}
 use borrow.Author.Tests.{ltb-true, ltb-false}
-use Rattle.std.proofs.lemmas.Bool.{cases_eq}
 use Rattle.percent_encoding.specs.declared.ascii_set.AsciiSet.{AsciiSet}
 use Rattle.percent_encoding.specs.AsciiSet.{should_percent_encode}
 use Rattle.percent_encoding.specs.Percent.{percent_encode, percent_encode_byte}
 use Rattle.percent_encoding.proofs.PercentLemmas.{percent_encode-nil, percent_encode_escaped, percent_encode_kept}
 use Rattle.bp_script.specs.declared.replies.TheConstants.{ESCAPED}
 use Rattle.bp_script.specs.Texts.{is_escaped, name_text}
+use Rattle.bp_script.proofs.EachByte.{all_below, from_all_below}
 
 -- ---- the set holds the bytes that are to be escaped
-
-all_below : (ℕ → Bool) → ℕ → Bool
-all_below p zero = true
-all_below p (suc n) = if p n then all_below p n else false
-
-from_all_below : (p : ℕ → Bool) (n k : ℕ) → all_below p n ≡ true → k < n → p k ≡ true
-unfolding all_below
-from_all_below p zero k all low = absurd (omega (arith, low))
-from_all_below p (suc n) k all low = go (p n) refl (cases_eq k n) (λ e. from_all_below p n k e)
-  where
-    go : (b : Bool) → p n ≡ b → (k ≡ n) ⊎ (k ≡ n → ⊥) → (all_below p n ≡ true → k < n → p k ≡ true) → p k ≡ true
-    go true at (inl here) rest = ap p here ∙ at
-    go true at (inr other) rest = rest (rw at at all) (omega (arith, low, other))
-    go false at which rest = absurd (true≢false (sym (rw at at all)))
 
 same_bit : Bool → Bool → Bool
 same_bit a b = if a then b else not b

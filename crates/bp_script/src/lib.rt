@@ -1,6 +1,7 @@
 //! The lines of scripts and the texts of replies.
 #![tactic(auto)]
 
+mod digits;
 mod lines;
 mod notices;
 mod pieces;

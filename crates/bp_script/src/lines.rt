@@ -14,6 +14,7 @@ ghost use Rattle.std.specs.Prelude.{◌/◌, if◌then◌else◌, None, Ok, Some
 ghost use Rattle.std.specs.Char.{is_ascii_digit};
 ghost use mathlib.Core.Option.{none};
 
+use crate::digits::decode_digits;
 use arrayvec::ArrayVec;
 use bp_limits::MAX_READ;
 use bp_plain::Call;
@@ -260,9 +261,10 @@ fn decode_into(digits: &[u8], into: &mut [u8]) -> Result<(), Syntax>
     requires { length into.old ≡ length digits.now / 2 }
     ensures { result_ok (decode_of digits.now) ≡ (if is_ok result then Some into.new else None) }
 {
-    match hex::decode_to_slice(digits, into) {
-        Ok(()) => Ok(()),
-        Err(_) => Err(Syntax),
+    if digits.len() % 2 == 0 && decode_digits(digits, into) {
+        Ok(())
+    } else {
+        Err(Syntax)
     }
 }
 

@@ -2,9 +2,9 @@
 //!
 //! A loop over bytes has no branch and no table in it: so a compiler can do many bytes at a time.
 
-ghost use Rattle.hex.specs.Hex.{decode_of, hex_digit_value};
+ghost use Rattle.hex.specs.Hex.{decode_of, encode_lower, hex_digit_value, lower_digits};
 ghost use Rattle.std.specs.Option.{unwrap_or};
-ghost use Rattle.std.specs.Prelude.{if◌then◌else◌, None, Some, length, max, ◌*◌, ◌≡◌};
+ghost use Rattle.std.specs.Prelude.{if◌then◌else◌, None, Some, length, max, slice_index, ◌*◌, ◌<◌, ◌≡◌};
 ghost use Rattle.std.specs.Result.{result_ok};
 
 /// What stands for a byte that is no digit: more than the value of any digit.
@@ -48,5 +48,29 @@ fn value_of(digit: u8) -> u8
         letter + 10
     } else {
         NO_DIGIT
+    }
+}
+
+/// Writes each byte as two digits of lower case.
+pub(crate) fn encode_digits(content: &[u8], into: &mut [u8])
+    requires { length into.old ≡ 2 * length content.now }
+    ensures { into.new ≡ encode_lower content.now }
+{
+    for i in 0..content.len() {
+        let byte = content[i];
+        into[2 * i] = digit_of(byte / 16);
+        into[2 * i + 1] = digit_of(byte % 16);
+    }
+}
+
+/// The digit of a value, in lower case.
+fn digit_of(value: u8) -> u8
+    requires { value < 16 }
+    ensures { result ≡ slice_index lower_digits value }
+{
+    if value < 10 {
+        b'0' + value
+    } else {
+        b'a' - 10 + value
     }
 }

@@ -3,6 +3,8 @@
 ghost use Rattle.hex.specs.Hex.{encode_lower};
 ghost use Rattle.std.specs.Prelude.{drop, flat_map, length, take, ◌*◌, ◌+◌, ◌++◌, ◌≡◌, ◌≤◌};
 
+use crate::digits::encode_digits;
+
 /// Writes pieces one after the other to the front of a buffer, and tells how many bytes they are.
 pub(crate) fn write_pieces(into: &mut [u8], pieces: &[&[u8]]) -> usize
     requires { length (flat_map (λ piece. piece.now) pieces.now) ≤ length into.old }
@@ -34,9 +36,6 @@ pub(crate) fn put_digits(into: &mut [u8], at: usize, content: &[u8]) -> usize
     ensures end { result ≡ at + 2 * length content.now }
 {
     let end = at + 2 * content.len();
-    match hex::encode_to_slice(content, &mut into[at..end]) {
-        Ok(()) => {}
-        Err(_) => unreachable!(),
-    }
+    encode_digits(content, &mut into[at..end]);
     end
 }

@@ -274,6 +274,31 @@ fn decode(word: &[u8], into: &mut Vec<u8>)
     ensures path { into.new.items ≡ path_bytes word.now }
     ensures room { vec_capacity into.old ≤ vec_capacity into.new }
 {
+    match memchr(b'%', word) {
+        Some(_) => decode_parts(word, into),
+        None => copy(word, into),
+    }
+}
+
+/// Copies bytes, in room that is there.
+fn copy(bytes: &[u8], into: &mut Vec<u8>)
+    requires { length bytes.now ≤ vec_capacity into.old }
+    ensures items { into.new.items ≡ bytes.now }
+    ensures room { vec_capacity into.old ≤ vec_capacity into.new }
+{
+    into.clear();
+    match into.extend_from_slice(bytes) {
+        Ok(()) => {}
+        Err(_) => unreachable!(),
+    }
+}
+
+/// Decodes the parts of a word one by one, in room that is there.
+fn decode_parts(word: &[u8], into: &mut Vec<u8>)
+    requires { length word.now ≤ vec_capacity into.old }
+    ensures path { into.new.items ≡ path_bytes word.now }
+    ensures room { vec_capacity into.old ≤ vec_capacity into.new }
+{
     into.clear();
     let (first, mut left) = split_once(word, b'/');
     add_part(first, into);

@@ -2,7 +2,7 @@ use Rattle.std.proofs.Common.{[], ◌∷◌, ◌+◌, ◌++◌, ◌==◌, ◌≡
 use Rattle.std.specs.List.{slice_split}
 use Rattle.std.specs.Option.{option_map_or}
 use Rattle.bp_script.specs.Commands.{part_bytes, path_bytes}
-use Rattle.bp_script.proofs.lines.decode.Given as goal
+use Rattle.bp_script.proofs.lines.decode_parts.Given as goal
 
 abbrev pub invariant-loop-left : goal.invariant-loop-left
 invariant-loop-left l = record {

@@ -1,11 +1,10 @@
 -- The bytes of an image, word by word.
-use Rattle.std.proofs.Common.{zero, suc, refl, sym, ◌∙◌, ap, arith, ◌≡◌, ℕ, ◌+◌, ◌*◌, ◌^◌, ◌-◌, ◌<◌, ◌≤◌, List, [], ◌∷◌, ◌++◌, min, length, take, drop, get_or, lit<, get_or-drop, length-drop, length-take}
+use Rattle.std.proofs.Common.{zero, suc, refl, sym, ◌∙◌, ap, arith, ◌≡◌, ℕ, ◌+◌, ◌*◌, ◌-◌, ◌<◌, ◌≤◌, List, [], ◌∷◌, ◌++◌, min, length, take, drop, get_or, lit<, get_or-drop, length-drop, length-take}
 use Rattle.std.proofs.lemmas.List.{append_assoc}
 use Rattle.std.proofs.Math.Seq.{take-suc, take-add}
 use Rattle.bp_io.specs.Files.{block_of}
 use Rattle.bp_layout.specs.Words.{Image}
 use Rattle.bp_layout.specs.Bytes.{image_bytes}
-use Rattle.bp_shell.specs.Files.{AreWordsOf64Bits}
 use Rattle.pm_words.specs.Bytes.{word_bytes, word_of}
 use Rattle.pm_words.proofs.Bytes.{bytes_word_of}
 
@@ -74,12 +73,6 @@ decode_more before block bytes k low are small =
     let size : length bytes ≡ 8 = ap length are ∙ omega (arith, length-take 8 (drop (8 * k) block), length-drop (8 * k) block) in
     let next : 8 * (k + 1) ≡ 8 * k + 8 = omega arith in
     append_assoc before (take (8 * k) block) (word_bytes (word_of bytes)) ∙ ap (λ l. before ++ l) (rw (next, bytes_word_of bytes size (rw are (small_front 8 (drop (8 * k) block) (small_rest (8 * k) block small))), are) (sym (take-add (8 * k) 8 block)))
-
-pub words_more : (words : Image) (word : ℕ) → AreWordsOf64Bits words → word < 2 ^ 64 → AreWordsOf64Bits (words ++ word ∷ [])
-words_more [] word are low zero = low
-words_more [] word are low (suc place) = lit< tt
-words_more (first ∷ words) word are low zero = are 0
-words_more (first ∷ words) word are low (suc place) = words_more words word (λ k. are (suc k)) low place
 
 -- ---- fronts
 

@@ -22,6 +22,17 @@ pub fn read_block<R: Region>(region: &R, i: u32, into: &mut [u8; 4096])
     }
 }
 
+// The words that the bytes of a block spell.
+fn spelled(block: &[u8; 4096], into: &mut [u64; 512])
+    ensures { image_bytes into.new ≡ block.now }
+{
+    let mut bytes = [0u8; 8];
+    for k in 0..512usize {
+        bytes.copy_from_slice(&block[8 * k..8 * k + 8]);
+        into[k] = read_word(&bytes);
+    }
+}
+
 /// Puts the 512 words of a block behind others, for which there is room.
 pub fn decode(block: &[u8; 4096], words: &mut Vec<u64>)
     requires { vec_len words.old + 512 ≤ vec_capacity words.old }
@@ -30,12 +41,11 @@ pub fn decode(block: &[u8; 4096], words: &mut Vec<u64>)
     ensures len { vec_len words.new ≡ vec_len words.old + 512 }
     ensures room { vec_capacity words.old ≤ vec_capacity words.new }
 {
-    let mut bytes = [0u8; 8];
-    for k in 0..512usize {
-        bytes.copy_from_slice(&block[8 * k..8 * k + 8]);
-        match words.push(read_word(&bytes)) {
-            Ok(()) => {}
-            Err(_) => unreachable!(),
-        }
+    let mut part = [0u64; 512];
+    spelled(block, &mut part);
+    // All at once: the vector takes them as one copy.
+    match words.extend_from_slice(&part) {
+        Ok(()) => {}
+        Err(_) => unreachable!(),
     }
 }

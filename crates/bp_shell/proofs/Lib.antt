@@ -12,3 +12,4 @@ pub mod RunningLaws
 mod OutcomeLaws
 mod ProgramLaws
 mod Runs
+mod StillLaws

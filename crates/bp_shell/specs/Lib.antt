@@ -13,3 +13,4 @@ pub mod Formatting
 pub mod Outside
 pub mod Checking
 pub mod Running
+pub mod Still

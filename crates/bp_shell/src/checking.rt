@@ -16,13 +16,13 @@ ghost use Rattle.std.specs.Prelude.{◌*◌, ◌≡◌, ◌≤◌, ◌⊎◌, �
 
 use crate::opening::{load_file, stop_of};
 use crate::printing::{print, tell_notice};
+use crate::still::StillRegion;
 use crate::stop::Stop;
 use bp_free::{Blocks, Inodes};
 use bp_io::{Access, Failed, Files, Sink};
 use bp_limits::{BLOCK_WORDS, MAX_BLOCKS, MIN_BLOCKS};
 use bp_scan::{Pending, scan};
 use bp_script::Notice;
-use pm_region::ListRegion;
 use std::alloc::{AllocError, Global};
 
 // Memory for the scan of an image of so many blocks.
@@ -58,10 +58,7 @@ fn survey(alloc: Global, words: Vec<u64>) -> Result<Notice, Stop>
         Ok(room) => room,
         Err(_) => return Err(Stop::Memory),
     };
-    let region = match ListRegion::new(alloc, words, 0) {
-        Ok(region) => region,
-        Err(_) => return Err(Stop::Memory),
-    };
+    let region = StillRegion::new(words);
     match scan(&region, &mut blocks, &mut inodes, &mut pending) {
         Ok(totals) => Ok(Notice::Clean {
             files: totals.files,

@@ -13,6 +13,7 @@ mod running;
 pub mod saving;
 pub mod sending;
 mod serving;
+mod still;
 mod stop;
 mod telling;
 #[cfg(test)]

@@ -78,12 +78,11 @@ pub child_live : (root size d k s level : ℕ) → 1 ≤ level → d + level ≡
 child_live root size d k s zero least height low = absurd (omega (arith, least))
 child_live root size d k s (suc level) least height low = record { level = level; height = omega (arith, height); live = low }
 
-pub not_live : (root size d k s r level : ℕ) → d + level ≡ height_of root → size ≤ (512 * k + s) * covered level → s ≤ r → IsLivePointer root size (suc d) (512 * k + r) → ⊥
-not_live root size d k s r level height past order live =
+-- the first byte of a live child is below the size
+pub child_below : (root size d k r level : ℕ) → d + level ≡ height_of root → IsLivePointer root size (suc d) (512 * k + r) → (512 * k + r) * covered level < size
+child_below root size d k r level height live =
     let same : suc live.level ≡ level = omega (arith, height, live.height) in
-    let low : (512 * k + r) * covered level < size = subst (λ (x : ℕ). (512 * k + r) * covered x < size) same live.live in
-    let more : (512 * k + s) * covered level ≤ (512 * k + r) * covered level = mul-le-mul_right (covered level) (omega (arith, order)) in
-    omega (arith, low, more, past)
+    subst (λ (x : ℕ). (512 * k + r) * covered x < size) same live.live
 
 pub child_followed : (image : Image) (root size d k s : ℕ) → s < 512 → size ≤ covered (suc (height_of root)) → IsFollowed image root size d k → Passes image root d k → node image root d k ≢ 0 →
     IsFollowed image root size (suc d) (512 * k + s)
@@ -126,11 +125,12 @@ module _ (image : Image) (at root size : ℕ) (holes : Bool) where
       none s low = omega (arith, low)
 
   -- the slots from one on are not live
-  pub rest : (d k s : ℕ) (old new : Set) → s ≤ 512 → ((r : ℕ) → s ≤ r → IsLivePointer root size (suc d) (512 * k + r) → ⊥) → WalksBelow image at root size holes d k s old new →
+  pub rest : (d k s : ℕ) (old new : Set) → s ≤ 512 →
+      ((r : ℕ) → s ≤ r → r < 512 → IsLivePointer root size (suc d) (512 * k + r) → ⊥) → WalksBelow image at root size holes d k s old new →
       WalksBelow image at root size holes d k 512 old new
   rest d k s old new order dead walks = record {
     takes = take_same image (IsBelow image at root size d k s) (IsBelow image at root size d k 512) old new there back walks.takes;
-    passing = λ slot e l low u live followed. go slot e l u live followed (cases_lt slot s);
+    passing = λ slot e l low u live followed. go slot e l low u live followed (cases_lt slot s);
   }
     where
       there : (p : ℕ) → IsBelow image at root size d k s p → IsBelow image at root size d k 512 p
@@ -139,16 +139,17 @@ module _ (image : Image) (at root size : ℕ) (holes : Bool) where
       back : (p : ℕ) → IsBelow image at root size d k 512 p → IsBelow image at root size d k s p
       back p i = record {
         slot = i.slot;
-        low = ⊎_elim (λ low. low) (λ high. absurd (dead i.slot high (live_up root size (suc d) (512 * k + i.slot) i.depth i.index i.under i.is.live))) (cases_lt i.slot s);
+        low = ⊎_elim (λ low. low) (λ high. absurd (dead i.slot high i.low (live_up root size (suc d) (512 * k + i.slot) i.depth i.index i.under i.is.live))) (cases_lt i.slot s);
         depth = i.depth;
         index = i.index;
         under = i.under;
         is = i.is;
       }
 
-      go : (slot e l : ℕ) → IsUnder (suc d) (512 * k + slot) e l → IsLivePointer root size e l → IsFollowed image root size e l → (slot < s) ⊎ (s ≤ slot) → Passes image root e l × (holes ≡ false → node image root e l ≢ 0)
-      go slot e l u live followed (inl low) = walks.passing slot e l low u live followed
-      go slot e l u live followed (inr high) = absurd (dead slot high (live_up root size (suc d) (512 * k + slot) e l u live))
+      go : (slot e l : ℕ) → slot < 512 → IsUnder (suc d) (512 * k + slot) e l → IsLivePointer root size e l → IsFollowed image root size e l → (slot < s) ⊎ (s ≤ slot) →
+          Passes image root e l × (holes ≡ false → node image root e l ≢ 0)
+      go slot e l within u live followed (inl low) = walks.passing slot e l low u live followed
+      go slot e l within u live followed (inr high) = absurd (dead slot high within (live_up root size (suc d) (512 * k + slot) e l u live))
 
   module _ (d k b s : ℕ) (old now : Set) (named : node image root d k ≡ b) (low : s < 512) (out : has old b ≡ false)
       (child : IsPlace image at root size (suc d) (512 * k + s) (512 * b + s)) (walks : WalksBelow image at root size holes d k s old now) where
@@ -282,12 +283,11 @@ module _ (image : Image) (at root size : ℕ) (holes : Bool) where
           go (inl same) = twice is child (fresh_child p there) present (same ∙ sym child_named)
           go (inr other) = repeats e l p is present in_range (sym (has_other now c (node image root (suc e) l) other) ∙ gone) (λ q at_q. fresh_deep p q there at_q) (inr (before (p / 512) there))
 
--- the numbers of a walk fit
-pub small_number : (index s step height size : ℕ) → s < 512 → index * (512 * step) < size → size ≤ 549755813888 → step ≤ 1073741824 → (512 * index + s) * step < 18446744073709551616
-small_number index s step height size low live most small =
-    let less : s * step ≤ 512 * step = mul-le-mul_right step (omega (arith, low)) in
-    let whole : (512 * index + s) * step ≡ index * (512 * step) + s * step = omega arith in
-    omega (arith, less, whole, live, most, small)
+-- the number of a live pointer fits
+pub small_number : (number step size : ℕ) → 0 < step → number * step < size → number < size
+small_number number step size some live =
+    let more : 1 * number ≤ step * number = mul-le-mul_right number (omega (arith, some)) in
+    omega (arith, more, live)
 
 pub covered_most : (rank : ℕ) → rank ≤ 4 → covered rank ≤ 549755813888
 covered_most zero low = omega arith
@@ -297,21 +297,14 @@ covered_most (suc (suc (suc zero))) low = omega arith
 covered_most (suc (suc (suc (suc zero)))) low = omega arith
 covered_most (suc (suc (suc (suc (suc n))))) low = absurd (omega (arith, low))
 
-pub covered_small : (rank : ℕ) → rank ≤ 3 → covered rank ≤ 1073741824
-covered_small zero low = omega arith
-covered_small (suc zero) low = omega arith
-covered_small (suc (suc zero)) low = omega arith
-covered_small (suc (suc (suc zero))) low = omega arith
-covered_small (suc (suc (suc (suc n)))) low = absurd (omega (arith, low))
-
 pub child_word : (image : Image) (at root size d k p : ℕ) → IsPlace image at root size (suc d) k p → word image p ≡ word_at image root (suc d) k
 child_word image at root size d k p is = ap (word image) (sym is.stands) ∙ word_below image at root d k is.followed.3
 
 -- the pointer in a slot, as the code finds it
-pub child_of : (image : Image) (root size d k s b level step : ℕ) → s < 512 → 1 ≤ level → d + level ≡ height_of root → step ≡ covered level → (512 * k + s) * step < size →
+pub child_of : (image : Image) (root size d k s b level : ℕ) → s < 512 → 1 ≤ level → d + level ≡ height_of root → (512 * k + s) * covered level < size →
     size ≤ covered (suc (height_of root)) → IsFollowed image root size d k → Passes image root d k → node image root d k ≡ b → b ≢ 0 →
     IsPlace image 0 root size (suc d) (512 * k + s) (512 * b + s)
-child_of image root size d k s b level step low least height width below fits followed passes named present =
+child_of image root size d k s b level low least height below fits followed passes named present =
     child_place image 0 root size d k s b low named
-    (child_live root size d k s level least height (subst (λ (x : ℕ). (512 * k + s) * x < size) width below))
+    (child_live root size d k s level least height below)
     (child_followed image root size d k s low fits followed passes (λ null. present (sym named ∙ null)))

@@ -1,3 +1,4 @@
+pub mod LiveSlots
 pub mod Places
 pub mod TakenLaws
 pub mod Below

@@ -1,5 +1,5 @@
 -- A walk over one more pointer: it names a block that leaves the set, or it is null.
-use Rattle.std.proofs.Common.{◌≡◌, ◌≢◌, ◌⊎◌, ℕ, zero, suc, ◌+◌, ◌*◌, ◌%◌, ◌<◌, ◌≤◌, Bool, false, length, sym, ◌∙◌, ap, subst, arith, inl, inr, Result, Ok, Err}
+use Rattle.std.proofs.Common.{◌≡◌, ◌≢◌, ◌⊎◌, ℕ, zero, suc, ◌+◌, ◌*◌, ◌%◌, ◌<◌, ◌≤◌, Bool, true, false, length, refl, sym, ◌∙◌, ap, subst, arith, inl, inr, Result, Ok, Err}
 use Rattle.std.proofs.lemmas.Bool.{cases_eq}
 use Rattle.std.specs.Result.{OnOk, IfErr}
 use Rattle.bp_free.specs.Set.{Set, has, without}
@@ -13,7 +13,7 @@ use Rattle.bp_walk.specs.Walk.{IsPlace, WalksBelow, FailsBelow, FailsTree}
 use Rattle.bp_walk.specs.Walk.FailsBelow.{range, hole}
 use Rattle.bp_walk.specs.Walk.FailsTree.{root_range, root_hole, root_taken, below}
 use Rattle.bp_walk.proofs.TakenLaws.{clash, take_one, take_null, length_without, has_without, has_less}
-use Rattle.bp_walk.proofs.Below.{child_word, step, repeats_here, fails_below}
+use Rattle.bp_walk.proofs.Below.{child_word, leaf, null, step, repeats_here, fails_below}
 
 module _ (pointer : ℕ) (holes : Bool) (old new : Set) (block : ℕ) (claims : ClaimsPointed pointer holes old new block) where
   pub claimed_takes : (image : Image) (at : ℕ) → word image at ≡ pointer → Takes image (λ p. p ≡ at) old new
@@ -85,10 +85,25 @@ module _ (image : Image) (root size : ℕ) (holes : Bool) (d k b s : ℕ) (old n
         step image 0 root size holes d k b s old now named low out child walks mid new (claimed_takes pointer holes now mid block claims image (512 * b + s) (sym stands)) (claimed_passes bits)
         (λ closed none. claimed_full pointer holes now mid block claims closed (sym claimed_node ∙ none)) under
 
+    -- a leaf has nothing below
+    pub claimed_leaf : height_of root ≤ suc d → pointer % 4096 ≡ 0 → WalksBelow image 0 root size holes d k (s + 1) old mid
+    claimed_leaf bottom bits = claimed_step mid bits (leaf image 0 root size holes (suc d) (512 * k + s) mid bottom)
+
+    pub claimed_present : pointer % 4096 ≡ 0 → (pointer ≡ 0 → holes ≡ false) → block ≢ 0
+    claimed_present bits full none = clash (claims.null none).0 (full (omega (arith, bits, claims.named, none)))
+
     pub claimed_fails : (check p : ℕ) → block ≢ 0 → FailsBelow image 0 root size holes block mid check p → FailsBelow image 0 root size holes b old check p
     claimed_fails check p some fails =
         fails_below image 0 root size holes d k b s old now named low out child walks block claimed_node claims.in_range (claims.present some).0 check p
         (subst (λ set. FailsBelow image 0 root size holes block set check p) (claims.present some).1 fails)
+
+  -- a null that may be is passed over
+  pub null_step : b < block_count image → holes ≡ true → pointer ≡ 0 → WalksBelow image 0 root size holes d k (s + 1) old now
+  null_step some may none =
+      let nothing : block_of pointer ≡ 0 = ap block_of none in
+      let claims : ClaimsPointed pointer holes now now 0 =
+      record { named = nothing; in_range = omega (arith, some, room_now); null = λ is. (may, refl); present = λ is. absurd (is refl) } in
+      claimed_step now 0 claims now (ap (λ x. x % 4096) none) (null image 0 root size holes (suc d) (512 * k + s) now (sym pointed ∙ nothing))
 
 -- the root word is refused
 pub refused_root : (image : Image) (at root size : ℕ) (holes : Bool) (old : Set) (check : ℕ) → length old ≡ block_count image → 0 < size → size ≤ covered (suc (height_of root)) →
@@ -114,6 +129,6 @@ pub on_ok_then : {T E : Type 0} {A B : Type 0} (r : Result T E) → (A → B) �
 on_ok_then (Ok v) f a = f a
 on_ok_then (Err e) f a = a
 
-pub if_err_then : {T E : Type 0} {P Q R : E → Type 0} (r : Result T E) → ((e : E) → P e → Q e → R e) → IfErr r P → IfErr r Q → IfErr r R
-if_err_then (Ok v) f a b = a
-if_err_then (Err e) f a b = f e a b
+pub if_err_then : {T E : Type 0} {P Q : E → Type 0} (r : Result T E) → ((e : E) → P e → Q e) → IfErr r P → IfErr r Q
+if_err_then (Ok v) f a = a
+if_err_then (Err e) f a = f e a

@@ -1,5 +1,5 @@
 -- A walk over a whole tree.
-use Rattle.std.proofs.Common.{◌≡◌, ◌≢◌, ◌⊎◌, ℕ, zero, suc, ◌+◌, ◌*◌, ◌/◌, ◌%◌, ◌<◌, ◌≤◌, Bool, false, sym, ◌∙◌, ap, subst, arith, inl, inr}
+use Rattle.std.proofs.Common.{◌≡◌, ◌≢◌, ◌⊎◌, ℕ, zero, suc, ◌+◌, ◌*◌, ◌/◌, ◌%◌, ◌<◌, ◌≤◌, Bool, false, length, sym, ◌∙◌, ap, subst, arith, inl, inr}
 use Rattle.bp_free.specs.Set.{Set}
 use Rattle.bp_layout.specs.Words.{Image, word, block_count, block_of, height_of}
 use Rattle.bp_layout.specs.Tree.{word_at, node, place_of, covered, IsLivePointer}
@@ -10,7 +10,9 @@ use Rattle.bp_walk.specs.Taken.{Takes}
 use Rattle.bp_walk.specs.Walk.{IsUnder, IsPlace, IsBelow, WalksBelow, IsTreePlace, TakesTree}
 use Rattle.bp_walk.specs.Walk.IsUnder.{here, under}
 use Rattle.bp_walk.proofs.TakenLaws.{take_none, take_same, take_both}
+use Rattle.bp_walk.specs.Pointed.{ClaimsPointed}
 use Rattle.bp_walk.proofs.Below.{Strict, split}
+use Rattle.bp_walk.proofs.Pointers.{claimed_takes, claimed_full}
 
 all_under : (root size d k : ℕ) → size ≤ covered (suc (height_of root)) → IsLivePointer root size d k → IsUnder 0 0 d k
 all_under root size zero k fits live = subst (λ (x : ℕ). IsUnder 0 0 0 x) (sym (index_zero root size k live fits)) here
@@ -67,3 +69,12 @@ whole_tree image at root size holes old mid new rooted fits some passes full one
         subst (λ (x : ℕ). Passes image root x k × (holes ≡ false → node image root x k ≢ 0)) same.0
         (subst (λ (x : ℕ). Passes image root 0 x × (holes ≡ false → node image root 0 x ≢ 0)) same.1 (passes, full))
     go d k live followed (inr s) = walks.passing s.slot d k s.low s.below live followed
+
+-- the same where the root word was claimed as any pointer is
+pub claimed_tree : (image : Image) (at root size : ℕ) (holes : Bool) (old mid new : Set) (block : ℕ) → word image at ≡ root → size ≤ covered (suc (height_of root)) → 0 < size →
+    height_of root ≤ 3 → root / 8 % 512 ≡ 0 → length old ≡ block_count image → ClaimsPointed root holes old mid block → WalksBelow image 0 root size holes 0 0 512 mid new →
+    TakesTree image at root size holes old new
+claimed_tree image at root size holes old mid new block rooted fits some low bits room claims walks =
+    let named : block_of root ≡ block = claims.named in
+    whole_tree image at root size holes old mid new rooted fits some (root_passes image root low bits (omega (arith, named, room, claims.in_range)))
+    (λ closed none. claimed_full root holes old mid block claims closed (sym named ∙ none)) (claimed_takes root holes old mid block claims image at rooted) walks

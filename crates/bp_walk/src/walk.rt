@@ -1,6 +1,6 @@
 //! The pointers of a tree, from the root word down.
 
-ghost use Rattle.std.specs.Prelude.{◌≡◌, ◌≢◌, suc, ◌+◌, ◌*◌, ◌<◌, ◌≤◌, ◌^◌, false, length, OnOk, IfOk, IfErr};
+ghost use Rattle.std.specs.Prelude.{◌≡◌, ◌≢◌, ℕ, suc, ◌+◌, ◌*◌, ◌<◌, ◌≤◌, ◌^◌, false, length, OnOk, IfOk, IfErr};
 ghost use Rattle.bp_free.specs.Set.{has};
 ghost use Rattle.bp_layout.specs.Words.{word, block_count, height_of};
 ghost use Rattle.bp_limits.specs.Limits.{max_blocks, max_height};
@@ -78,7 +78,20 @@ struct Node {
     block: u32,
 }
 
-/// Takes out the blocks below a node, whose own block has left the set.
+/// How many pointers of a node's block are live: those of its first slots.
+fn live_slots(size: u64, top: Node) -> u32
+    requires least { 1 ≤ top.level }
+    requires most { top.level ≤ max_height }
+    requires live { top.index * covered (suc top.level) < size }
+    ensures most { result ≤ 512 }
+    ensures live { (slot : ℕ) → slot < result → (512 * top.index + slot) * covered top.level < size }
+    ensures all { (slot : ℕ) → slot < 512 → (512 * top.index + slot) * covered top.level < size → slot < result }
+{
+    let rest = size - top.index * span(top.level + 1);
+    ((rest - 1) / span(top.level) + 1).min(512) as u32
+}
+
+/// Takes out the blocks below a node above the leaves, whose own block has left the set.
 fn take_below<R: Region>(
     region: &R,
     tree: Tree,
@@ -93,29 +106,27 @@ fn take_below<R: Region>(
     requires height { top.depth + top.level ≡ height_of tree.root }
     requires low { height_of tree.root ≤ max_height }
     requires fits { tree.size ≤ covered (suc (height_of tree.root)) }
+    requires above { 1 ≤ top.level }
     requires live { IsLivePointer tree.root tree.size top.depth top.index }
     requires followed { IsFollowed (current_words (R.memory region.now)) tree.root tree.size top.depth top.index }
     requires passes { Passes (current_words (R.memory region.now)) tree.root top.depth top.index }
     requires block { node (current_words (R.memory region.now)) tree.root top.depth top.index ≡ top.block }
+    requires present { top.block ≢ 0 }
     requires taken { has blocks.old top.block ≡ false }
     ensures ok { let words = current_words (R.memory region.now) in
         OnOk result (WalksBelow words 0 tree.root tree.size holes top.depth top.index 512 blocks.old blocks.new) }
     ensures err { let words = current_words (R.memory region.now) in
         IfErr result (λ f. FailsBelow words 0 tree.root tree.size holes top.block blocks.old f.check f.place) }
-    ensures present { IfErr result (λ f. top.block ≢ 0) }
     ensures room { length blocks.new ≡ length blocks.old }
 {
-    if top.level == 0 || top.block == 0 {
-        return Ok(());
-    }
-    let step = span(top.level);
-    for slot in 0..512u32 {
-        let index = 512 * top.index + slot as u64;
-        if index * step >= tree.size {
-            return Ok(());
-        }
-        let place = 512 * top.block + slot;
+    let first = 512 * top.block;
+    for slot in 0..live_slots(tree.size, top) {
+        let place = first + slot;
         let pointer = region.load(place);
+        // Where there may be nulls there may be very many.
+        if pointer == 0 && holes {
+            continue;
+        }
         if pointer & 4095 != 0 {
             return Err(CheckFault { check: 2, place });
         }
@@ -123,10 +134,13 @@ fn take_below<R: Region>(
             Ok(block) => block,
             Err(fault) => return Err(fault),
         };
+        if top.level == 1 {
+            continue;
+        }
         let child = Node {
             depth: top.depth + 1,
             level: top.level - 1,
-            index,
+            index: 512 * top.index + slot as u64,
             block,
         };
         if let Err(fault) = take_below(region, tree, holes, child, blocks) {
@@ -187,6 +201,9 @@ pub fn take_tree<R: Region>(
         Ok(block) => block,
         Err(fault) => return Err(fault),
     };
+    if height == 0 || block == 0 {
+        return Ok(());
+    }
     let top = Node {
         depth: 0,
         level: height,

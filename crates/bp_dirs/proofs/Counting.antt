@@ -3,22 +3,26 @@ use Rattle.std.proofs.Common.{◌≡◌, ℕ, zero, suc, ◌+◌, ◌-◌, ◌<�
 use Rattle.std.specs.List.{range_with_len}
 use Rattle.std.proofs.lemmas.Bool.{eqb-true, eqb-false}
 
-one_more : (p : ℕ → Bool) (slot end : ℕ) → slot < end → range_with_len slot (end - slot) ≡ range_with_len slot (suc (end - (slot + 1)))
-one_more p slot end inside = let n : end - slot ≡ suc (end - (slot + 1)) = omega arith in ap (range_with_len slot) n
+one_more : (p : ℕ → Bool) (first index end : ℕ) → index < end →
+    range_with_len (first + index) (end - index) ≡ range_with_len (first + index) (suc (end - (index + 1)))
+one_more p first index end inside = let n : end - index ≡ suc (end - (index + 1)) = omega arith in ap (range_with_len (first + index)) n
 
-counted : (p : ℕ → Bool) (slot end : ℕ) → slot < end → p slot ≡ true →
-    length (filter p (range_with_len slot (end - slot))) ≡ suc (length (filter p (range_with_len (slot + 1) (end - (slot + 1)))))
-counted p slot end inside passes = rw (one_more p slot end inside, passes) refl
+further : (p : ℕ → Bool) (first index n : ℕ) → length (filter p (range_with_len (first + index + 1) n)) ≡ length (filter p (range_with_len (first + (index + 1)) n))
+further p first index n = let same : first + index + 1 ≡ first + (index + 1) = omega arith in ap (λ a. length (filter p (range_with_len a n))) same
 
-passed_over : (p : ℕ → Bool) (slot end : ℕ) → slot < end → p slot ≡ false →
-    length (filter p (range_with_len slot (end - slot))) ≡ length (filter p (range_with_len (slot + 1) (end - (slot + 1))))
-passed_over p slot end inside fails = rw (one_more p slot end inside, fails) refl
+counted : (p : ℕ → Bool) (first index end : ℕ) → index < end → p (first + index) ≡ true →
+    length (filter p (range_with_len (first + index) (end - index))) ≡ suc (length (filter p (range_with_len (first + (index + 1)) (end - (index + 1)))))
+counted p first index end inside passes = rw (one_more p first index end inside, passes) (ap suc (further p first index (end - (index + 1))))
+
+passed_over : (p : ℕ → Bool) (first index end : ℕ) → index < end → p (first + index) ≡ false →
+    length (filter p (range_with_len (first + index) (end - index))) ≡ length (filter p (range_with_len (first + (index + 1)) (end - (index + 1))))
+passed_over p first index end inside fails = rw (one_more p first index end inside, fails) (further p first index (end - (index + 1)))
 
 -- one number further, counted or not
-pub count_on : (p : ℕ → Bool) (names now slot end total : ℕ) → slot < end → names + length (filter p (range_with_len slot (end - slot))) ≡ total →
-    ((p slot ≡ true) × (now ≡ names + 1)) ⊎ ((p slot ≡ false) × (now ≡ names)) → now + length (filter p (range_with_len (slot + 1) (end - (slot + 1)))) ≡ total
-count_on p names now slot end total inside sum (inl one) = omega (arith, sum, counted p slot end inside one.0, one.1)
-count_on p names now slot end total inside sum (inr none) = omega (arith, sum, passed_over p slot end inside none.0, none.1)
+pub count_on : (p : ℕ → Bool) (names now first index end total : ℕ) → index < end → names + length (filter p (range_with_len (first + index) (end - index))) ≡ total →
+    ((p (first + index) ≡ true) × (now ≡ names + 1)) ⊎ ((p (first + index) ≡ false) × (now ≡ names)) → now + length (filter p (range_with_len (first + (index + 1)) (end - (index + 1)))) ≡ total
+count_on p names now first index end total inside sum (inl one) = omega (arith, sum, counted p first index end inside one.0, one.1)
+count_on p names now first index end total inside sum (inr none) = omega (arith, sum, passed_over p first index end inside none.0, none.1)
 
 pub none_counted : (p : ℕ → Bool) (a n : ℕ) → ((k : ℕ) → a ≤ k → k < a + n → p k ≡ false) → length (filter p (range_with_len a n)) ≡ 0
 none_counted p a zero none = refl

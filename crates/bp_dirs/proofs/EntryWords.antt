@@ -1,10 +1,12 @@
 -- Where the words and bytes of an entry stand.
-use Rattle.std.proofs.Common.{◌≡◌, ℕ, ◌+◌, ◌-◌, ◌*◌, ◌/◌, ◌%◌, ◌<◌, ◌≤◌, List, slice_index, sym, ◌∙◌, ap, ap₂, arith}
+use Rattle.std.proofs.Common.{◌≡◌, ℕ, ◌+◌, ◌*◌, ◌/◌, ◌%◌, ◌<◌, ◌≤◌, List, slice_index, sym, ◌∙◌, ap, ap₂, arith}
 use Rattle.bp_layout.specs.Words.{Image, block_count, height_of, slot_word, byte_of}
 use Rattle.bp_layout.specs.Tree.{node, byte, content_word, IsSound, IsLivePointer}
 use Rattle.bp_layout.specs.Directory.{word_in, name_in}
 use Rattle.bp_layout.specs.Fields.{name_byte, name_of}
 use Rattle.bp_layout.proofs.Finding.{map-same}
+use Rattle.bp_dirs.specs.EntryAt.{IsLeaf}
+use Rattle.bp_dirs.specs.declared.leaf.Leaf.{Leaf}
 use Rattle.bp_layout.proofs.TreeLaws.{word_at-suc}
 
 pub word_in-at : (image : Image) (root slot f : ℕ) → f < 32 →
@@ -28,16 +30,6 @@ leaf_pointer root size slot live = record { level = 0; height = omega arith; liv
 pub leaf_in_range : (image : Image) (root size slot : ℕ) → IsSound image root size → slot < size / 256 → node image root (height_of root) (slot / 16) < block_count image
 leaf_in_range image root size slot sound live = sound.in_range _ _ (leaf_pointer root size slot live)
 
-pub same_leaf : (image : Image) (root slot before : ℕ) → 0 < slot % 16 → (0 < slot → before ≡ node image root (height_of root) ((slot - 1) / 16)) →
-    before ≡ node image root (height_of root) (slot / 16)
-same_leaf image root slot before inside is =
-    let same : (slot - 1) / 16 ≡ slot / 16 = omega arith in
-    is (omega arith) ∙ ap (node image root (height_of root)) same
-
--- the leaf of a slot, as the slot after it has it
-pub same_block : (image : Image) (root slot : ℕ) → node image root (height_of root) (slot / 16) ≡ node image root (height_of root) ((slot + 1 - 1) / 16)
-same_block image root slot = let back : slot ≡ slot + 1 - 1 = omega arith in ap (λ s. node image root (height_of root) (s / 16)) back
-
 -- the name that an entry's words hold
 pub name_in-words : (image : Image) (root slot : ℕ) (words : List ℕ) → word_in image root slot 1 ≤ 240 →
     ((field : ℕ) → field < 32 → slice_index words field ≡ word_in image root slot field) → name_of words ≡ name_in image root slot
@@ -47,3 +39,10 @@ name_in-words image root slot words short same =
     let whole : 8 * (o / 8) + o % 8 ≡ o = omega arith in
     let field : 2 + o / 8 < 32 = omega (arith, high, short) in
     ap (λ w. byte_of w (o % 8)) (same (2 + o / 8) field) ∙ sym (byte-at image root slot (o / 8) (o % 8) (omega arith)) ∙ ap (λ k. byte image root (256 * slot + 16 + k)) whole))
+
+-- each entry of a null leaf is empty
+pub null_leaf : (image : Image) (leaf : Leaf) (slot : ℕ) → IsLeaf image leaf → leaf.block ≡ 0 → leaf.first ≤ slot → slot < leaf.first + leaf.count → word_in image leaf.tree.root slot 0 ≡ 0
+null_leaf image leaf slot is none low high =
+    let same : slot / 16 ≡ leaf.first / 16 = omega (arith, is.starts, is.few) in
+    word_in-at image leaf.tree.root slot 0 (omega arith)
+    ∙ ap (λ b. slot_word image b (32 * (slot % 16) + 0)) (ap (node image leaf.tree.root (height_of leaf.tree.root)) same ∙ sym is.block ∙ none)

@@ -23,7 +23,7 @@ byte_in image root slot o = byte image root (256 * slot + 16 + o)
 abbrev pub SameBelow : Image → ℕ → ℕ → List ℕ → ℕ → Type 0
 SameBelow image root slot name bound = (o : ℕ) → o < bound → o < length name → byte_in image root slot o ≡ slice_index name o
 
-module _ (image : Image) (root slot part : ℕ) (name : List ℕ) (some : 8 * part < length name) where
+module _ (image : Image) (root slot part : ℕ) (name : List ℕ) where
   length-chunk : length (take 8 (drop (8 * part) name)) ≡ min 8 (length name - 8 * part)
   length-chunk = length-take 8 (drop (8 * part) name) ∙ ap (min 8) (length-drop (8 * part) name)
 
@@ -85,6 +85,18 @@ module _ (image : Image) (root slot : ℕ) (name : List ℕ) where
   pub is_named-empty : word_in image root slot 0 ≡ 0 → false ≡ is_named_in image root name slot
   is_named-empty none = rw none refl
 
+  -- an entry whose bytes differ has another name
+  pub is_named-unlike : (SameBelow image root slot name (length name) → ⊥) → false ≡ is_named_in image root name slot
+  is_named-unlike other = go (is_named_in image root name slot) refl
+    where
+      go : (b : Bool) → is_named_in image root name slot ≡ b → false ≡ b
+      go false at = refl
+      go true at =
+          let parts : (inumber_in image root slot ≢ 0) × (bytes_eq (name_in image root slot) name ≡ true) = named_true _ _ at in
+          let same : name_in image root slot ≡ name = (bytes_eq-Decides (name_in image root slot) name).0 parts.1 in
+          let long : word_in image root slot 1 ≡ length name = sym (length-map-range_with_len (byte_in image root slot) 0 (word_in image root slot 1)) ∙ ap length same in
+          absurd (other (spelled_back (ap (λ n. map (byte_in image root slot) (range_with_len 0 n)) (sym long) ∙ same)))
+
   pub is_named-other : word_in image root slot 1 ≢ length name → false ≡ is_named_in image root name slot
   is_named-other other = go (is_named_in image root name slot) refl
     where
@@ -94,3 +106,7 @@ module _ (image : Image) (root slot : ℕ) (name : List ℕ) where
           let parts : (inumber_in image root slot ≢ 0) × (bytes_eq (name_in image root slot) name ≡ true) = named_true _ _ at in
           let same : name_in image root slot ≡ name = (bytes_eq-Decides (name_in image root slot) name).0 parts.1 in
           absurd (other (sym (length-map-range_with_len (byte_in image root slot) 0 (word_in image root slot 1)) ∙ ap length same))
+
+-- all of a word
+pub whole_of : (w n : ℕ) → w < 2 ^ 64 → 8 ≤ n → w % 256 ^ min 8 n ≡ w
+whole_of w n low all = let eight : min 8 n ≡ 8 = omega arith in let big : 256 ^ 8 ≡ 18446744073709551616 = refl in rw (eight, big) (omega (arith, low))

@@ -1,9 +1,11 @@
 -- Entries whose leaf has been found, and names as words.
-use Rattle.std.specs.Prelude.{◌≡◌, ℕ, ◌*◌, ◌/◌, ◌<◌, List, length, slice_index, take, drop}
+use Rattle.std.specs.Prelude.{◌≡◌, ℕ, ◌+◌, ◌-◌, ◌*◌, ◌/◌, ◌%◌, ◌<◌, ◌≤◌, length, take, drop}
 use Rattle.bp_layout.specs.Words.{Image, height_of}
 use Rattle.bp_layout.specs.Tree.{node, IsSound}
+use Rattle.bp_layout.specs.Directory.{Name}
 use Rattle.pm_words.specs.Bytes.{word_of}
 use Rattle.bp_dirs.specs.declared.entry_at.EntryAt.{EntryAt}
+use Rattle.bp_dirs.specs.declared.leaf.Leaf.{Leaf}
 
 -- the slot lies below the size, and the block is the one with its entry
 pub record IsEntryAt (image : Image) (at : EntryAt) : Type 0 where
@@ -11,6 +13,19 @@ pub record IsEntryAt (image : Image) (at : EntryAt) : Type 0 where
   pub live : at.slot < at.tree.size / 256
   pub block : at.block ≡ node image at.tree.root (height_of at.tree.root) (at.slot / 16)
 
--- each eight bytes of the name stand in a word
-abbrev pub HoldsWords : List ℕ → List ℕ → Type 0
-HoldsWords words name = (k : ℕ) → 8 * k < length name → slice_index words k ≡ word_of (take 8 (drop (8 * k) name))
+-- slots in a row, from the first of a leaf on, and the block with their entries
+pub record IsLeaf (image : Image) (leaf : Leaf) : Type 0 where
+  pub sound : IsSound image leaf.tree.root leaf.tree.size
+  pub starts : leaf.first % 16 ≡ 0
+  pub some : 0 < leaf.count
+  pub few : leaf.count ≤ 16
+  pub live : leaf.first + leaf.count ≤ leaf.tree.size / 256
+  pub block : leaf.block ≡ node image leaf.tree.root (height_of leaf.tree.root) (leaf.first / 16)
+
+-- the eight bytes of a name that stand in a word, fewer in the last
+abbrev pub part_word : Name → ℕ → ℕ
+part_word name part = word_of (take 8 (drop (8 * part) name))
+
+-- how many whole words stand before the last
+abbrev pub last_part : Name → ℕ
+last_part name = (length name - 1) / 8

@@ -1,3 +1,4 @@
 pub mod EntryAt
 pub mod Names
+pub mod Spots
 pub mod Written

@@ -7,9 +7,12 @@ ghost use Rattle.bp_layout.specs.Directory.{word_in, inumber_in, name_in, empty_
 ghost use Rattle.bp_limits.specs.Limits.{max_name};
 ghost use Rattle.pm_region.specs.Memory.{current_words};
 ghost use Rattle.bp_dirs.specs.Names.{HasNameLength, name_count};
+ghost use Rattle.bp_dirs.specs.Spots.{FreeIs, named_slot};
 
-use crate::entry_at::{EntryAt, block_with};
-use crate::name_words::name_words;
+use crate::entry_at::EntryAt;
+use crate::leaf::{leaf_count, leaf_from};
+use crate::name_words::last_word;
+use crate::spot::Spot;
 use bp_layout::Entry;
 use bp_tree::{Tree, content_place, content_word, leaf_block};
 use pm_region::Region;
@@ -29,12 +32,10 @@ pub fn find<R: Region>(region: &R, tree: Tree, name: &[u8]) -> Option<u64>
     requires short { length name.now ≤ max_name }
     ensures { result ≡ slot_named_in (current_words (R.memory region.now)) tree.root tree.size name.now }
 {
-    let words = name_words(name);
-    let mut block = 0;
-    for slot in 0..tree.size / 256 {
-        block = block_with(region, tree, slot, block);
-        let at = EntryAt { tree, slot, block };
-        if at.is_named(region, name, &words) {
+    let last = last_word(name);
+    for number in 0..leaf_count(tree) {
+        let leaf = leaf_from(region, tree, 16 * number);
+        if let Some(slot) = leaf.find(region, name, last) {
             return Some(slot);
         }
     }
@@ -46,15 +47,33 @@ pub fn free_slot<R: Region>(region: &R, tree: Tree) -> Option<u64>
     requires { IsSound (current_words (R.memory region.now)) tree.root tree.size }
     ensures { result ≡ empty_slot_in (current_words (R.memory region.now)) tree.root tree.size }
 {
-    let mut block = 0;
-    for slot in 0..tree.size / 256 {
-        block = block_with(region, tree, slot, block);
-        let at = EntryAt { tree, slot, block };
-        if at.word(region, 0) == 0 {
+    for number in 0..leaf_count(tree) {
+        let leaf = leaf_from(region, tree, 16 * number);
+        if let Some(slot) = leaf.first_empty(region) {
             return Some(slot);
         }
     }
     None
+}
+
+/// What [`find`] and [`free_slot`] tell, by one scan: the slot that has a name, or else the least empty slot.
+pub fn find_or_free<R: Region>(region: &R, tree: Tree, name: &[u8]) -> Spot
+    requires sound { IsSound (current_words (R.memory region.now)) tree.root tree.size }
+    requires short { length name.now ≤ max_name }
+    ensures named { named_slot result ≡
+        slot_named_in (current_words (R.memory region.now)) tree.root tree.size name.now }
+    ensures free { FreeIs result (empty_slot_in (current_words (R.memory region.now)) tree.root tree.size) }
+{
+    let last = last_word(name);
+    let mut empty = None;
+    for number in 0..leaf_count(tree) {
+        let leaf = leaf_from(region, tree, 16 * number);
+        if let Some(slot) = leaf.find(region, name, last) {
+            return Spot::Named(slot);
+        }
+        empty = leaf.first_empty_after(region, empty);
+    }
+    Spot::Free(empty)
 }
 
 /// How many entries name an inode.
@@ -63,13 +82,8 @@ pub fn count<R: Region>(region: &R, tree: Tree) -> u64
     ensures { result ≡ name_count (current_words (R.memory region.now)) tree.root tree.size }
 {
     let mut names = 0;
-    let mut block = 0;
-    for slot in 0..tree.size / 256 {
-        block = block_with(region, tree, slot, block);
-        let at = EntryAt { tree, slot, block };
-        if at.word(region, 0) != 0 {
-            names += 1;
-        }
+    for number in 0..leaf_count(tree) {
+        names += leaf_from(region, tree, 16 * number).count_names(region);
     }
     names
 }
@@ -79,11 +93,8 @@ pub fn is_empty<R: Region>(region: &R, tree: Tree) -> bool
     requires { IsSound (current_words (R.memory region.now)) tree.root tree.size }
     ensures { IsTrue result ↔ (name_count (current_words (R.memory region.now)) tree.root tree.size ≡ 0) }
 {
-    let mut block = 0;
-    for slot in 0..tree.size / 256 {
-        block = block_with(region, tree, slot, block);
-        let at = EntryAt { tree, slot, block };
-        if at.word(region, 0) != 0 {
+    for number in 0..leaf_count(tree) {
+        if leaf_from(region, tree, 16 * number).count_names(region) != 0 {
             return false;
         }
     }

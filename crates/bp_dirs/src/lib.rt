@@ -6,10 +6,13 @@
 
 mod directory;
 mod entry_at;
+mod leaf;
 mod name_words;
+mod spot;
 mod writing;
 
 pub use directory::{
-    count, entry, entry_place, entry_unless_empty, find, free_slot, inumber, is_empty,
+    count, entry, entry_place, entry_unless_empty, find, find_or_free, free_slot, inumber, is_empty,
 };
+pub use spot::Spot;
 pub use writing::{put_entry, put_name};

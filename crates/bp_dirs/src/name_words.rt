@@ -1,9 +1,9 @@
-//! Names as words, eight bytes a word, the first byte lowest.
+//! Names as words, eight bytes a word, the first byte lowest. The last word of a name has its last bytes, one to eight, with
+//! zeros above them.
 
-ghost use Rattle.std.specs.Prelude.{◌≡◌, ◌≤◌, length};
+ghost use Rattle.std.specs.Prelude.{◌≡◌, ◌+◌, ◌-◌, ◌*◌, ◌/◌, ◌≤◌, length};
+ghost use Rattle.bp_dirs.specs.EntryAt.{part_word, last_part};
 ghost use Rattle.pm_words.specs.Bytes.{word_of};
-ghost use Rattle.bp_dirs.specs.EntryAt.{HoldsWords};
-ghost use Rattle.bp_limits.specs.Limits.{max_name};
 
 use pm_words::read_word;
 
@@ -17,15 +17,26 @@ fn packed(bytes: &[u8]) -> u64
     read_word(&whole)
 }
 
-/// The words of a name.
-pub(crate) fn name_words(name: &[u8]) -> [u64; 30]
-    requires { length name.now ≤ max_name }
-    ensures { HoldsWords result name.now }
+/// The number of a name's last word, which is how many whole words stand before it.
+pub(crate) fn last_part(name: &[u8]) -> usize
+    ensures { result ≡ last_part name.now }
 {
-    let mut words = [0; 30];
-    for part in 0..name.len().div_ceil(8) {
-        let end = name.len().min(8 * part + 8);
-        words[part] = packed(&name[8 * part..end]);
-    }
-    words
+    name.len().saturating_sub(1) / 8
+}
+
+/// The last word of a name.
+pub(crate) fn last_word(name: &[u8]) -> u64
+    ensures { result ≡ part_word name.now (last_part name.now) }
+{
+    packed(&name[8 * last_part(name)..])
+}
+
+/// A word of a name with eight bytes of it.
+pub(crate) fn whole_word(name: &[u8], part: usize) -> u64
+    requires { 8 * part + 8 ≤ length name.now }
+    ensures { result ≡ part_word name.now part }
+{
+    let mut whole = [0; 8];
+    whole.copy_from_slice(&name[8 * part..8 * part + 8]);
+    read_word(&whole)
 }

@@ -1,4 +1,4 @@
-use Rattle.std.proofs.Common.{◌≡◌, ◌∙◌, sym}
+use Rattle.std.proofs.Common.{◌∙◌}
 use Rattle.pm_region.specs.Memory.{current_words}
 use Rattle.bp_dirs.proofs.EntryWords.{name_in-words}
 use Rattle.bp_dirs.proofs.directory.entry_unless_empty.Goals as goal

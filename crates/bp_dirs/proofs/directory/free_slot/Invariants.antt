@@ -1,12 +1,10 @@
-use Rattle.std.proofs.Common.{◌≡◌, ℕ, ◌-◌, ◌/◌, ◌<◌, ◌==◌, false}
-use Rattle.bp_layout.specs.Words.{height_of}
-use Rattle.bp_layout.specs.Tree.{node}
-use Rattle.bp_layout.specs.Directory.{inumber_in}
+use Rattle.std.proofs.Common.{◌≡◌, ◌*◌, ◌-◌, ◌/◌, ◌==◌, find}
+use Rattle.std.specs.List.{range_with_len}
+use Rattle.bp_layout.specs.Directory.{inumber_in, empty_slot_in}
 use Rattle.pm_region.specs.Memory.{current_words}
 use Rattle.bp_dirs.proofs.directory.free_slot.Given as goal
 
-abbrev pub invariant-loop-slot : goal.invariant-loop-slot
-invariant-loop-slot g l = record {
-  none : (k : ℕ) → k < l.slot → (inumber_in (current_words (g.R.Region.memory l.region)) l.tree.root k == 0) ≡ false;
-  before : 0 < l.slot → l.block ≡ node (current_words (g.R.Region.memory l.region)) l.tree.root (height_of l.tree.root) ((l.slot - 1) / 16);
-}
+abbrev pub invariant-loop-number : goal.invariant-loop-number
+invariant-loop-number g l =
+    empty_slot_in (current_words (g.R.Region.memory l.region)) l.tree.root l.tree.size ≡
+    find (λ slot. inumber_in (current_words (g.R.Region.memory l.region)) l.tree.root slot == 0) (range_with_len (16 * l.number) (l.tree.size / 256 - 16 * l.number))

@@ -1,19 +1,32 @@
-use Rattle.std.proofs.Common.{◌==◌, ◌/◌, ◌<◌, not, length, filter, refl, ◌∙◌, arith}
+use Rattle.std.proofs.Common.{◌≡◌, ◌-◌, ◌*◌, ◌/◌, ◌<◌, ◌==◌, not, min, length, filter, ◌∙◌, arith}
 use Rattle.std.specs.List.{range_with_len}
 use Rattle.bp_layout.specs.Directory.{inumber_in}
 use Rattle.pm_region.specs.Memory.{current_words}
-use Rattle.bp_dirs.proofs.Counting.{is_some, is_none, some_counted, none_counted}
+use Rattle.bp_dirs.proofs.Leaves.{in_leaf, leaf-count}
 use Rattle.bp_dirs.proofs.directory.is_empty.Goals as goal
 
-pub returns-then-word-ne0 : goal.returns-then-word-ne0
-returns-then-word-ne0 g c =
+pub returns-then-count_names-ne0 : goal.returns-then-count_names-ne0
+returns-then-count_names-ne0 g c =
     let image = current_words (g.R.Region.memory c.args.region.now) in
-    let more : 0 < length (filter (λ slot. not (inumber_in image c.args.tree.root slot == 0)) (range_with_len 0 (c.args.tree.size / 256))) =
-    some_counted (λ slot. not (inumber_in image c.args.tree.root slot == 0)) 0 (c.args.tree.size / 256) c.loop-slot.slot (omega arith) (omega (arith, c.loop-slot-test.true))
-    (is_some _ (λ none. c.if-word-ne0.true (c.word.ensures ∙ none))) in
-    (λ never. absurd (cc), λ none. absurd (omega (arith, more, none)))
+    let tree = c.args.tree in
+    let number = c.loop-number.number in
+    let inside : 16 * number < tree.size / 256 = c.leaf_count-number-end.ensures.most number c.loop-number-test.true in
+    let leaf = c.leaf_from.ensures in
+    let here : c.count_names.result ≡ length (filter (λ slot. not (inumber_in image tree.root slot == 0)) (range_with_len (16 * number) (min 16 (tree.size / 256 - 16 * number)))) =
+    c.count_names.ensures.count
+    ∙ in_leaf (λ root first count. length (filter (λ slot. not (inumber_in image root slot == 0)) (range_with_len first count))) tree c.leaf_from.result number leaf.tree leaf.first leaf.count in
+    let parts = leaf-count (λ slot. not (inumber_in image tree.root slot == 0)) number (tree.size / 256) inside in
+    (λ never. absurd (cc), λ none. absurd (c.if-count_names-ne0.true (omega (arith, here, parts, c.loop-number.invariant, none))))
 
-pub returns : goal.returns
-returns g c =
+pub loop-number-preserved : goal.loop-number-preserved
+loop-number-preserved g c =
     let image = current_words (g.R.Region.memory c.args.region.now) in
-    (λ yes. none_counted (λ slot. not (inumber_in image c.args.tree.root slot == 0)) 0 (c.args.tree.size / 256) (λ k low high. is_none _ (c.loop-slot.invariant.none k (omega (arith, high, c.loop-slot-test.false)))), λ none. refl)
+    let tree = c.args.tree in
+    let number = c.loop-number.number in
+    let inside : 16 * number < tree.size / 256 = c.leaf_count-number-end.ensures.most number c.loop-number-test.true in
+    let leaf = c.leaf_from.ensures in
+    let here : c.count_names.result ≡ length (filter (λ slot. not (inumber_in image tree.root slot == 0)) (range_with_len (16 * number) (min 16 (tree.size / 256 - 16 * number)))) =
+    c.count_names.ensures.count
+    ∙ in_leaf (λ root first count. length (filter (λ slot. not (inumber_in image root slot == 0)) (range_with_len first count))) tree c.leaf_from.result number leaf.tree leaf.first leaf.count in
+    let parts = leaf-count (λ slot. not (inumber_in image tree.root slot == 0)) number (tree.size / 256) inside in
+    omega (arith, here, parts, c.loop-number.invariant, c.if-count_names-ne0.false)

@@ -1,0 +1,14 @@
+-- What a scan for a name tells.
+use Rattle.std.specs.Prelude.{◌≡◌, ℕ, ⊤, Option, Some, None}
+use Rattle.bp_dirs.specs.declared.spot.Spot.{Spot}
+use Rattle.bp_dirs.specs.declared.spot.Spot.TheVariants.{Named, Free}
+
+-- the slot that has the name
+abbrev pub named_slot : Spot → Option ℕ
+named_slot (Named slot) = Some slot
+named_slot (Free empty) = None
+
+-- where no slot has the name, this is the empty one
+abbrev pub FreeIs : Spot → Option ℕ → Type 0
+FreeIs (Named slot) expected = ⊤
+FreeIs (Free empty) expected = empty ≡ expected

@@ -1,0 +1,132 @@
+//! The entries of one leaf of a directory.
+
+ghost use Rattle.std.specs.Prelude.{◌≡◌, ℕ, ◌-◌, ◌*◌, ◌/◌, ◌%◌, ◌<◌, ◌≤◌, ◌==◌, not, min, length, find, filter, Option, IfSome, IfNone};
+ghost use Rattle.std.specs.List.{range_with_len};
+ghost use Rattle.bp_layout.specs.Tree.{IsSound};
+ghost use Rattle.bp_layout.specs.Directory.{inumber_in, is_named_in};
+ghost use Rattle.pm_region.specs.Memory.{current_words};
+ghost use Rattle.bp_dirs.specs.EntryAt.{IsLeaf, last_part, part_word};
+ghost use Rattle.bp_limits.specs.Limits.{max_name};
+
+use crate::entry_at::EntryAt;
+use bp_tree::{Tree, leaf_block};
+use pm_region::Region;
+
+/// Slots in a row whose entries share a block.
+#[derive(Clone, Copy)]
+pub(crate) struct Leaf {
+    pub tree: Tree,
+    /// The first slot.
+    pub first: u64,
+    /// How many there are: sixteen, and fewer where the directory ends.
+    pub count: u64,
+    /// The block with their entries, 0 where they are all empty.
+    pub block: u64,
+}
+
+/// How many leaves have the slots of a directory.
+pub(crate) fn leaf_count(tree: Tree) -> u64
+    ensures most { (leaf : ℕ) → leaf < result → 16 * leaf < tree.size / 256 }
+    ensures all { tree.size / 256 ≤ 16 * result }
+{
+    (tree.size / 256).div_ceil(16)
+}
+
+/// The leaf that begins with a slot.
+pub(crate) fn leaf_from<R: Region>(region: &R, tree: Tree, first: u64) -> Leaf
+    requires sound { IsSound (current_words (R.memory region.now)) tree.root tree.size }
+    requires starts { first % 16 ≡ 0 }
+    requires live { first < tree.size / 256 }
+    ensures leaf { IsLeaf (current_words (R.memory region.now)) result }
+    ensures tree { result.tree ≡ tree }
+    ensures first { result.first ≡ first }
+    ensures count { result.count ≡ min 16 (tree.size / 256 - first) }
+{
+    Leaf {
+        tree,
+        first,
+        count: (tree.size / 256 - first).min(16),
+        block: leaf_block(region, tree, first / 16),
+    }
+}
+
+impl Leaf {
+    /// The first of the slots whose entry names an inode by this name, whose last word is `last`.
+    pub fn find<R: Region>(&self, region: &R, name: &[u8], last: u64) -> Option<u64>
+        requires leaf { IsLeaf (current_words (R.memory region.now)) self.now }
+        requires short { length name.now ≤ max_name }
+        requires last { last ≡ part_word name.now (last_part name.now) }
+        ensures { result ≡ find (is_named_in (current_words (R.memory region.now)) self.now.tree.root name.now)
+            (range_with_len self.now.first self.now.count) }
+    {
+        if self.block == 0 {
+            return None;
+        }
+        for index in 0..self.count {
+            let at = EntryAt {
+                tree: self.tree,
+                slot: self.first + index,
+                block: self.block,
+            };
+            if at.is_named(region, name, last) {
+                return Some(self.first + index);
+            }
+        }
+        None
+    }
+
+    /// The first of the slots whose entry is empty.
+    pub fn first_empty<R: Region>(&self, region: &R) -> Option<u64>
+        requires { IsLeaf (current_words (R.memory region.now)) self.now }
+        ensures { result ≡ find (λ slot. inumber_in (current_words (R.memory region.now)) self.now.tree.root slot == 0)
+            (range_with_len self.now.first self.now.count) }
+    {
+        for index in 0..self.count {
+            let at = EntryAt {
+                tree: self.tree,
+                slot: self.first + index,
+                block: self.block,
+            };
+            if at.word(region, 0) == 0 {
+                return Some(self.first + index);
+            }
+        }
+        None
+    }
+
+    /// The first empty slot known so far, else the first of these that is empty.
+    pub fn first_empty_after<R: Region>(&self, region: &R, before: Option<u64>) -> Option<u64>
+        requires { IsLeaf (current_words (R.memory region.now)) self.now }
+        ensures some { IfSome before (λ slot. result ≡ before) }
+        ensures none { IfNone before (result ≡ find
+            (λ slot. inumber_in (current_words (R.memory region.now)) self.now.tree.root slot == 0)
+            (range_with_len self.now.first self.now.count)) }
+    {
+        match before {
+            Some(_) => before,
+            None => self.first_empty(region),
+        }
+    }
+
+    /// How many of the entries name an inode.
+    pub fn count_names<R: Region>(&self, region: &R) -> u64
+        requires { IsLeaf (current_words (R.memory region.now)) self.now }
+        ensures count { result ≡ length (filter
+            (λ slot. not (inumber_in (current_words (R.memory region.now)) self.now.tree.root slot == 0))
+            (range_with_len self.now.first self.now.count)) }
+        ensures few { result ≤ self.now.count }
+    {
+        let mut names = 0;
+        for index in 0..self.count {
+            let at = EntryAt {
+                tree: self.tree,
+                slot: self.first + index,
+                block: self.block,
+            };
+            if at.word(region, 0) != 0 {
+                names += 1;
+            }
+        }
+        names
+    }
+}

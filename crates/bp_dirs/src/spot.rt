@@ -1,0 +1,10 @@
+//! Where a name is, or may be put.
+
+/// What a scan of a directory for a name tells.
+#[derive(Clone, Copy, Debug, PartialEq, Eq)]
+pub enum Spot {
+    /// The least slot whose entry names an inode by it.
+    Named(u64),
+    /// No entry does. The least slot whose entry is empty, None where none is.
+    Free(Option<u64>),
+}

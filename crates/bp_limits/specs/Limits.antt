@@ -89,3 +89,11 @@ max_input = 1073741824
 -- the events that the log of a program's region can take
 abbrev pub log_events : ℕ
 log_events = 131072
+
+-- the most places of the mask that a script's line spells
+abbrev pub max_mask : ℕ
+max_mask = 560000
+
+-- the most turns of a play
+abbrev pub max_turns : ℕ
+max_turns = 1000000

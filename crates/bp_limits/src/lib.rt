@@ -78,3 +78,9 @@ pub const MAX_INPUT: u64 = 1_073_741_824;
 
 /// The events that the log of a program's region can take.
 pub const LOG_EVENTS: usize = 131_072;
+
+/// The most places of the mask that a script's line spells: eight for two digits of the longest line.
+pub const MAX_MASK: usize = 560_000;
+
+/// The most turns of a play.
+pub const MAX_TURNS: u32 = 1_000_000;

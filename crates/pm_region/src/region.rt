@@ -1,8 +1,8 @@
 ghost use Rattle.std.specs.Prelude.{◌≡◌, ℕ, ◌+◌, ◌<◌, ◌≤◌, ◌↔◌, [], ◌∷◌, ◌++◌, length, slice_get, slice_index, slice_index_or, slice_set, Some, IsOk, IfOk, OnOk, OnErr};
 ghost use Rattle.pm_epochs.specs.declared.event.Event.TheVariants.{Store, Barrier, Mark};
 ghost use Rattle.pm_epochs.specs.Log.{marks};
-ghost use Rattle.pm_epochs.specs.Replay.{IsRight, replay, kept_calls};
-ghost use Rattle.pm_region.specs.Memory.{Memory, current_words, room_in, drained, stores_from, Adds};
+ghost use Rattle.pm_epochs.specs.Replay.{IsRight, kept_calls};
+ghost use Rattle.pm_region.specs.Memory.{Memory, crashed, current_words, room_in, drained, stores_from, Adds};
 
 use pm_epochs::{BadChoice, Choice, Event, Kept};
 
@@ -76,10 +76,7 @@ pub trait Region {
     /// right for the log, and then nothing changes.
     fn crash_to(&mut self, choice: &Choice) -> Result<Kept, BadChoice>
         ensures right { IsOk result ↔ IsRight (memory self.old).events choice.now.cut }
-        ensures left { OnOk result (memory self.new ≡ record (memory self.old) {
-          base = replay (memory self.old).base (memory self.old).events choice.now.cut;
-          events = [];
-        }) }
+        ensures left { OnOk result (memory self.new ≡ crashed (memory self.old) choice.now.cut) }
         ensures kept { IfOk result (λ kept. kept.c ≡ kept_calls (memory self.old).events choice.now.cut) }
         ensures of { IfOk result (λ kept. kept.n ≡ marks (memory self.old).events) }
         ensures err { OnErr result (memory self.new ≡ memory self.old) };

@@ -3,14 +3,15 @@
 #![tactic(auto)]
 
 ghost use Rattle.bp_io.specs.Memory.{fair_view};
-ghost use Rattle.bp_shell.specs.Files.{IsReady};
+ghost use Rattle.bp_session.specs.Files.{IsReady};
 
 mod report;
 mod stage;
 
 use bp_io::{FairFiles, FairSource, NullSink};
 use bp_limits::MAX_LINE;
-use bp_shell::{Work, open, run};
+use bp_session::Work;
+use bp_shell::{open, run};
 use bp_volume::Volume;
 use pm_region::ListRegion;
 use stage::{serve_bytes, serve_script};

@@ -1,11 +1,11 @@
 //! A volume over a file, and the memory to serve it.
 
 ghost use Rattle.bp_io.specs.Memory.{fair_view};
-ghost use Rattle.bp_shell.specs.Files.{IsReady};
+ghost use Rattle.bp_session.specs.Files.{IsReady};
 
 use crate::report::tell;
 use bp_io::{FairFiles, FairSource, MemSink};
-use bp_shell::{Work, serve, serve_line};
+use bp_session::{Work, serve, serve_line};
 use bp_volume::Volume;
 use pm_region::ListRegion;
 use std::alloc::{AllocError, Global};

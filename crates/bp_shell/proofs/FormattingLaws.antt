@@ -8,9 +8,9 @@ use Rattle.pm_region.specs.Memory.{Memory, current_words}
 use Rattle.bp_layout.specs.Words.{Image}
 use Rattle.bp_io.specs.Causes.{HasCause}
 use Rattle.bp_io.specs.Files.{Known, Stays, StaysOrIsMade, Becomes, Attaches, block_of, resized}
-use Rattle.bp_shell.specs.Files.{HasBytes, HasBlocksOf}
+use Rattle.bp_session.specs.Files.{HasBytes, HasBlocksOf}
 use Rattle.bp_shell.specs.Formatting.{IsPartly, HasPartly, bytes_of}
-use Rattle.bp_shell.specs.Outside.{Prints}
+use Rattle.bp_session.specs.Outside.{Prints}
 
 pub prints : {T E : Type 0} (r : Result T E) (text : List ℕ) (t u : Option (List ℕ)) (m n : ℕ) → OnOk r (Appends t u text) → OnErr r ((count : ℕ) × (count < length text) × Appends t u (take count text)) → HasCause m n r → Prints text t u m n
 prints (Ok x) text t u m n ok err cause = record { some = (length text, rw (take-length text) ok); all = λ _. ok }

@@ -3,7 +3,7 @@ use Rattle.std.proofs.Common.{refl, sym, ◌∙◌, ap, arith, ◌≡◌, ◌≢
 use Rattle.std.specs.Prelude.{Some, None, ◌⊎◌}
 use Rattle.std.proofs.Math.Seq.{take-add, take-length}
 use Rattle.bp_io.specs.Files.{Known, Stays, Tells, Answers, Attaches, Reads, View, block_of}
-use Rattle.bp_shell.proofs.SavingLaws.{stays_attached, still_attached}
+use Rattle.bp_session.proofs.SavingLaws.{stays_attached, still_attached}
 use Rattle.bp_layout.specs.Bytes.{image_bytes}
 use Rattle.bp_free.specs.Set.{Set, has, members}
 use Rattle.bp_layout.specs.Free.{AreFreeBlocks, HasFree, numbers_below}
@@ -14,7 +14,7 @@ use Rattle.bp_scan.specs.declared.fault.MountFault.{MountFault}
 use Rattle.bp_scan.specs.declared.fault.MountFault.TheVariants as f
 use Rattle.bp_script.specs.declared.notices.Notice.{Notice}
 use Rattle.bp_script.specs.declared.notices.Notice.TheVariants.{NotFormatted, BadSize, Damaged}
-use Rattle.bp_shell.specs.Files.{HasBytes, HasLength, HasImage}
+use Rattle.bp_session.specs.Files.{HasBytes, HasLength, HasImage}
 use Rattle.bp_shell.specs.Opening.{HasSized, RefusesFile}
 use Rattle.bp_shell.specs.Opening.RefusesFile.{by_length, not_formatted, by_count, damaged}
 use Rattle.bp_shell.specs.Stops.{stop_by}

@@ -11,13 +11,13 @@ use Rattle.bp_script.specs.Sayings.{notice_text}
 use Rattle.bp_script.specs.declared.notices.Notice.{Notice}
 use Rattle.bp_script.specs.declared.notices.Notice.TheVariants.{NoFile}
 use Rattle.bp_shell.specs.Checking.{CheckOutcome, Checks}
-use Rattle.bp_shell.specs.Files.{HasBlocksOf, HasBytes, Holds, HoldsPartly, IsAbsent}
+use Rattle.bp_session.specs.Files.{HasBlocksOf, HasBytes, Holds, HoldsPartly, IsAbsent}
 use Rattle.bp_shell.specs.Formatting.{HasPartly, new_image}
 use Rattle.bp_shell.specs.Opening.{HoldsFileSystem, RefusesFile, start}
-use Rattle.bp_shell.specs.Outside.{Faults, IsFirstFault, IsIdle, IsQuiet, IsUntouched, Outside, Prints, TellsLine, counts, outside}
+use Rattle.bp_session.specs.Outside.{Faults, IsFirstFault, IsIdle, IsQuiet, IsUntouched, Outside, Prints, TellsLine, counts, outside}
 use Rattle.bp_shell.specs.Running.{FormatOutcome, RunOutcome, Runs, RunsCut, RunsLong, RunsPart, RunsStopped, RunsUnsaved, format_text}
-use Rattle.bp_shell.specs.Serving.{Input, Moment, ServeOutcome}
-use Rattle.bp_shell.proofs.OutcomeLaws.{files_fault, first_then, no_device_fault, no_fault, sink_fault}
+use Rattle.bp_session.specs.Serving.{Input, Moment, ServeOutcome}
+use Rattle.bp_session.proofs.OutcomeLaws.{files_fault, first_then, no_device_fault, no_fault, sink_fault}
 use Rattle.bp_shell.proofs.RunningLaws.{check_complete, complete, runs_cut, runs_long, runs_part, runs_stopped, runs_unsaved, runs_whole}
 
 -- ---- faults

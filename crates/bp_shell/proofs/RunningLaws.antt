@@ -3,8 +3,6 @@ use Rattle.std.proofs.Common.{suc, refl, sym, ◌∙◌, ap, arith, ◌≡◌, �
 use Rattle.std.specs.Prelude.{Option, Some, ◌⊎◌}
 use Rattle.std.specs.Io.KnownBytes.{Consumes, IsAtEnd}
 use Rattle.pm_region.specs.Memory.{Memory, current_words, drained}
-use Rattle.pm_words.specs.Bytes.{word_bytes, word_of}
-use Rattle.pm_words.proofs.Bytes.{word_of_bytes}
 use Rattle.bp_layout.specs.Words.{Image}
 use Rattle.bp_layout.specs.Bytes.{image_bytes}
 use Rattle.bp_plain.proofs.Existence.{stands_for, tree_of}
@@ -15,20 +13,20 @@ use Rattle.bp_script.specs.declared.notices.Notice.{Notice}
 use Rattle.bp_layout.specs.WellFormed.{IsWellFormed}
 use Rattle.bp_layout.proofs.ChecksLaws.{none_fails}
 use Rattle.bp_scan.specs.Length.{wanted_length}
-use Rattle.bp_shell.specs.Acting.{state}
-use Rattle.bp_shell.specs.Files.{AreWordsOf64Bits, IsAbsent}
-use Rattle.bp_shell.specs.Lines.{commands_from}
+use Rattle.bp_session.specs.Acting.{state}
+use Rattle.bp_session.specs.Files.{AreWordsOf64Bits, IsAbsent}
+use Rattle.bp_session.specs.Lines.{commands_from}
 use Rattle.bp_shell.specs.Opening.{HoldsFileSystem, RefusesFile, start}
 use Rattle.bp_shell.specs.Opening.RefusesFile.{by_length, not_formatted, by_count, damaged}
-use Rattle.bp_shell.specs.PlainSession.{FollowsTree}
+use Rattle.bp_session.specs.PlainSession.{FollowsTree}
 use Rattle.bp_shell.specs.Running.{Begins, CutsPlainly, IsComplete, Runs, RunsCut, RunsLong, RunsPart, RunsStopped, RunsUnsaved, Saves, SavesPartly, StopsPlainly}
-use Rattle.bp_shell.specs.Outside.{Outside, SourceFailed, SinkFailed, FilesFailed}
+use Rattle.bp_session.specs.Outside.{Outside, SourceFailed, SinkFailed, FilesFailed}
 use Rattle.bp_shell.specs.Checking.{IsCheckComplete}
-use Rattle.bp_shell.specs.Serving.{Cuts, SyncFails, OfLines, Serves, ServesAll, Stops, Told}
-use Rattle.bp_shell.specs.Session.{Session, State}
-use Rattle.bp_shell.proofs.BlockLaws.{length-image_bytes}
-use Rattle.bp_shell.proofs.PlainLaws.{follows_tree}
-use Rattle.bp_shell.proofs.ServingLaws.{not_long, session_append}
+use Rattle.bp_session.specs.Serving.{Cuts, SyncFails, OfLines, Serves, ServesAll, Stops, Told}
+use Rattle.bp_session.specs.Session.{Session, State}
+use Rattle.bp_session.proofs.BlockLaws.{image_once, length-image_bytes}
+use Rattle.bp_session.proofs.PlainLaws.{follows_tree}
+use Rattle.bp_session.proofs.ServingLaws.{not_long, session_append}
 
 -- ---- what is held of a file, told of it
 
@@ -167,20 +165,6 @@ module _ (before after : Outside) (image : Image) (memory new : Memory) (found :
         fails = record { is = refl; drained = done; file = file };
         plainly = plainly _ _ _ told.session;
       }
-
--- ---- an image and its bytes
-
-pub image_once : (first second : Image) → AreWordsOf64Bits first → AreWordsOf64Bits second → image_bytes first ≡ image_bytes second → first ≡ second
-unfolding image_bytes
-image_once [] [] low high same = refl
-image_once [] (w ∷ second) low high same = absurd (cc)
-image_once (v ∷ first) [] low high same = absurd (cc)
-image_once (v ∷ first) (w ∷ second) low high same =
-    let here : word_bytes v ≡ word_bytes w = cc in
-    let rest : image_bytes first ≡ image_bytes second = cc in
-    let one : v ≡ w = sym (word_of_bytes v (low 0)) ∙ ap word_of here ∙ word_of_bytes w (high 0) in
-    let more = image_once first second (λ k. low (suc k)) (λ k. high (suc k)) rest in
-    rw (one, more) refl
 
 wanted_whole : (n : ℕ) → 8 ≤ n → n ≤ 16384 → wanted_length (4096 * n) ≡ 4096 * n
 wanted_whole n least most = omega arith

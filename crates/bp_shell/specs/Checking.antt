@@ -11,10 +11,10 @@ use Rattle.bp_scan.specs.declared.totals.Totals.{Totals}
 use Rattle.bp_script.specs.Sayings.{notice_text}
 use Rattle.bp_script.specs.declared.notices.Notice.{Notice}
 use Rattle.bp_script.specs.declared.notices.Notice.TheVariants.{Clean, NoFile}
-use Rattle.bp_shell.specs.Files.{AreWordsOf64Bits, IsAbsent}
-use Rattle.bp_shell.specs.Taking.{TakesPart}
+use Rattle.bp_session.specs.Files.{AreWordsOf64Bits, IsAbsent}
+use Rattle.bp_session.specs.Taking.{TakesPart}
 use Rattle.bp_shell.specs.Opening.{HoldsFileSystem, RefusesFile}
-use Rattle.bp_shell.specs.Outside.{Outside, SinkFailed, FilesFailed, IsFirstFault, IsUntouched, TellsLine}
+use Rattle.bp_session.specs.Outside.{Outside, SinkFailed, FilesFailed, IsFirstFault, IsUntouched, TellsLine}
 
 -- The line tells what this image holds in all, and how many of its blocks are free.
 pub record IsClean (image : Image) (notice : Notice) : Type 0 where

@@ -1,16 +1,6 @@
-pub mod Taking
-pub mod Pieces
-pub mod Lines
-pub mod Session
-pub mod PlainSession
-pub mod Files
-pub mod Serving
-pub mod Work
-pub mod Acting
 pub mod Opening
 pub mod Stops
 pub mod Formatting
-pub mod Outside
 pub mod Checking
 pub mod Running
 pub mod Still

@@ -8,8 +8,8 @@ use Rattle.bp_layout.specs.WellFormed.{IsWellFormed}
 use Rattle.bp_scan.specs.Length.{wanted_length}
 use Rattle.bp_script.specs.declared.notices.Notice.{Notice}
 use Rattle.bp_script.specs.declared.notices.Notice.TheVariants.{NotFormatted, BadSize, Damaged}
-use Rattle.bp_shell.specs.Files.{HasLength, HasImage}
-use Rattle.bp_shell.specs.Session.{State}
+use Rattle.bp_session.specs.Files.{HasLength, HasImage}
+use Rattle.bp_session.specs.Session.{State}
 
 -- The file holds this image, which is a file system.
 pub record HoldsFileSystem (known : Known) (image : Image) : Type 0 where

@@ -15,18 +15,18 @@ use Rattle.bp_script.specs.Commands.Command.{sync}
 use Rattle.bp_script.specs.declared.notices.Notice.{Notice}
 use Rattle.bp_script.specs.declared.notices.Notice.TheVariants.{Formatted, NoFile}
 use Rattle.bp_script.specs.Sayings.{notice_text}
-use Rattle.bp_shell.specs.Acting.{state}
-use Rattle.bp_shell.specs.Lines.{commands_from}
-use Rattle.bp_shell.specs.Files.{AreWordsOf64Bits, HasBytes, HasBlocksOf, IsAbsent}
-use Rattle.bp_shell.specs.Serving.{Cuts, SyncFails, OfLines, Serves, Stops, Told}
-use Rattle.bp_shell.specs.PlainSession.{FollowsTree}
-use Rattle.bp_shell.specs.Session.{State}
+use Rattle.bp_session.specs.Acting.{state}
+use Rattle.bp_session.specs.Lines.{commands_from}
+use Rattle.bp_session.specs.Files.{AreWordsOf64Bits, HasBytes, HasBlocksOf, IsAbsent}
+use Rattle.bp_session.specs.Serving.{Cuts, SyncFails, OfLines, Serves, Stops, Told}
+use Rattle.bp_session.specs.PlainSession.{FollowsTree}
+use Rattle.bp_session.specs.Session.{State}
 use Rattle.bp_shell.specs.Opening.{HoldsFileSystem, RefusesFile, start}
 use Rattle.bp_shell.specs.Formatting.{new_image, HasPartly}
-use Rattle.bp_shell.specs.Outside.{Outside, SourceFailed, SinkFailed, FilesFailed, IsFirstFault, IsIdle, IsUntouched, TellsLine}
+use Rattle.bp_session.specs.Outside.{Outside, SourceFailed, SinkFailed, FilesFailed, IsFirstFault, IsIdle, IsUntouched, TellsLine}
 use Rattle.bp_shell.specs.Checking.{CheckOutcome}
-use Rattle.bp_shell.specs.Pieces.{piece_size}
-use Rattle.bp_shell.specs.Taking.{TakesPart}
+use Rattle.bp_session.specs.Pieces.{piece_size}
+use Rattle.bp_session.specs.Taking.{TakesPart}
 
 -- ---- `run FILE`
 

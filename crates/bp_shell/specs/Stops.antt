@@ -6,7 +6,7 @@ use Rattle.bp_scan.specs.declared.fault.MountFault.{MountFault}
 use Rattle.bp_scan.specs.declared.fault.MountFault.TheVariants as fault
 use Rattle.bp_script.specs.declared.notices.Notice.{Notice}
 use Rattle.bp_script.specs.declared.notices.Notice.TheVariants.{NotFormatted, BadSize, Damaged}
-use Rattle.bp_shell.specs.Files.{IsAbsent}
+use Rattle.bp_session.specs.Files.{IsAbsent}
 use Rattle.bp_shell.specs.Opening.{RefusesFile}
 use Rattle.bp_shell.specs.declared.stop.Stop.{Stop}
 use Rattle.bp_shell.specs.declared.stop.Stop.TheVariants.{Missing, Outside, Refused, Memory}

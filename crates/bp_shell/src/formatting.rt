@@ -3,18 +3,18 @@
 ghost use Rattle.bp_io.specs.Causes.{HasCause};
 ghost use Rattle.bp_layout.specs.Bytes.{image_bytes};
 ghost use Rattle.bp_limits.specs.Limits.{block_words};
-ghost use Rattle.bp_shell.specs.Files.{HasBytes};
+ghost use Rattle.bp_session.specs.Files.{HasBytes};
 ghost use Rattle.bp_shell.specs.Formatting.{HasPartly, new_image};
-ghost use Rattle.bp_shell.specs.Outside.{outside};
+ghost use Rattle.bp_session.specs.Outside.{outside};
 ghost use Rattle.bp_shell.specs.Running.{FormatOutcome};
 ghost use Rattle.pm_region.specs.Memory.{current_words};
 ghost use Rattle.std.specs.Prelude.{◌*◌, ◌≡◌, ◌≤◌, [], true, ℕ, IfSome, List, OnErr, OnOk, Option, length};
 
 use crate::printing::print;
-use crate::saving::save;
 use bp_io::{Access, Failed, Files, Sink};
 use bp_limits::{BLOCK_WORDS, CALL_ROOM, MAX_BLOCKS, MIN_BLOCKS};
 use bp_script::Notice;
+use bp_session::saving::save;
 use bp_volume::Volume;
 use pm_region::{ListRegion, Region};
 use std::alloc::Global;

@@ -4,7 +4,7 @@ ghost use Rattle.bp_command.specs.Commands.{IsTaken};
 ghost use Rattle.bp_command.specs.Programs.{Asks, IsInRange, Program as Asked, program_of};
 ghost use Rattle.bp_script.specs.Sayings.{notice_text};
 ghost use Rattle.bp_script.specs.declared.notices.Notice.TheVariants.{Usage};
-ghost use Rattle.bp_shell.specs.Outside.{Prints, outside};
+ghost use Rattle.bp_session.specs.Outside.{Prints, outside};
 ghost use Rattle.bp_shell.specs.Running.{Does, ProgramOutcome, RunOutcome, file_name};
 ghost use Rattle.std.specs.Prelude.{◌≡◌, ◌⊎◌, map};
 
@@ -12,14 +12,13 @@ use crate::checking::check_file;
 use crate::formatting::format_file;
 use crate::opening::open;
 use crate::printing::tell_notice;
-use crate::saving::save;
-use crate::serving::serve;
 use crate::stop::Stop;
-use crate::work::Work;
 use bp_command::laws::plain_words_are_taken;
 use bp_command::{Program, WordsFault, read_words};
 use bp_io::{Failed, Files, Sink, Source};
 use bp_script::Notice;
+use bp_session::saving::save;
+use bp_session::{Work, serve};
 use std::alloc::Global;
 
 // Serves the script of a source over the file of a name.

@@ -1,6 +1,6 @@
 use Rattle.std.proofs.Common.{refl, arith, inl, inr}
 use Rattle.bp_shell.proofs.OpeningLaws.{if_memory, if_missing, if_refused}
-use Rattle.bp_shell.proofs.OutcomeLaws.{files_fault, no_fault, sink_fault}
+use Rattle.bp_session.proofs.OutcomeLaws.{files_fault, no_fault, sink_fault}
 use Rattle.bp_shell.proofs.ProgramLaws.{check_outcome, told_fault}
 use Rattle.bp_shell.proofs.checking.check_file.Goals as goal
 

@@ -1,10 +1,10 @@
 use Rattle.std.proofs.Common.{arith, ◌∙◌, ◌≡◌, ◌*◌, length, inl, inr}
 use Rattle.pm_region.specs.Memory.{current_words}
 use Rattle.bp_layout.specs.Bytes.{image_bytes}
-use Rattle.bp_shell.specs.Files.{HoldsBytes}
-use Rattle.bp_shell.proofs.BlockLaws.{length-image_bytes}
+use Rattle.bp_session.specs.Files.{HoldsBytes}
+use Rattle.bp_session.proofs.BlockLaws.{length-image_bytes}
 use Rattle.bp_shell.proofs.FormattingLaws.{partly_attached, partly_sized, is_sized, partly_mixed}
-use Rattle.bp_shell.proofs.SavingLaws.{size-current}
+use Rattle.bp_session.proofs.SavingLaws.{size-current}
 use Rattle.bp_shell.proofs.formatting.write_image.Goals as goal
 
 pub returns-in-Err-clause-partly : goal.returns-in-Err-clause-partly

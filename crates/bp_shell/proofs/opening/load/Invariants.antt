@@ -1,6 +1,6 @@
 use Rattle.std.proofs.Common.{◌≡◌, ◌≤◌, ◌*◌, vec_len, vec_capacity}
 use Rattle.bp_io.specs.Files.{Reads}
-use Rattle.bp_shell.specs.Files.{AreWordsOf64Bits, HoldsFront}
+use Rattle.bp_session.specs.Files.{AreWordsOf64Bits, HoldsFront}
 use Rattle.bp_shell.proofs.opening.load.Given as goal
 
 -- the words of the first blocks are there

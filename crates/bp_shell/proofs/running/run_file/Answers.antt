@@ -1,9 +1,9 @@
 use Rattle.std.proofs.Common.{refl, rules, ◌∙◌, ap}
 use Rattle.bp_layout.specs.Bytes.{image_bytes}
-use Rattle.bp_shell.proofs.ActingLaws.{holds_bytes, size-drained}
+use Rattle.bp_session.proofs.ActingLaws.{holds_bytes, size-drained}
 use Rattle.bp_shell.proofs.OpeningLaws.{if_memory, if_missing, if_refused}
 use Rattle.bp_shell.proofs.ProgramLaws.{run_faulty, run_memory, run_missing, run_refused, run_served, run_unsaved, run_whole}
-use Rattle.bp_shell.proofs.SavingLaws.{still_attached, still_ready}
+use Rattle.bp_session.proofs.SavingLaws.{still_attached, still_ready}
 use Rattle.bp_shell.proofs.running.run_file.Goals as goal
 
 pub returns-in-Err-Missing-clause-outcome : goal.returns-in-Err-Missing-clause-outcome

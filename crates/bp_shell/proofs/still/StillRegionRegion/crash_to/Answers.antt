@@ -1,5 +1,5 @@
 use Rattle.std.proofs.Common.{refl}
-use Rattle.bp_shell.proofs.SavingLaws.{on_ok}
+use Rattle.bp_session.proofs.SavingLaws.{on_ok}
 use Rattle.bp_shell.proofs.StillLaws.{still_after}
 use Rattle.bp_shell.proofs.still.StillRegionRegion.crash_to.Goals as goal
 

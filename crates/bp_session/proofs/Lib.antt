@@ -1,0 +1,10 @@
+pub mod PlainLaws
+pub mod ServingLaws
+pub mod ActingLaws
+pub mod Pieces
+pub mod SavingLaws
+pub mod BlockLaws
+pub mod TellingLaws
+pub mod ShortReads
+pub mod OutcomeLaws
+pub mod Runs

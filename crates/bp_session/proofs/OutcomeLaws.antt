@@ -1,0 +1,320 @@
+-- Outcomes of serving, from line to line and piece to piece.
+use Rattle.std.proofs.Common.{refl, sym, ◌∙◌, subst, arith, ◌≡◌, ◌≤◌, ℕ, List, [], ◌∷◌, ◌++◌, length, inl, inr, true}
+use Rattle.std.proofs.lemmas.List.{append_assoc, append-nil}
+use Rattle.std.specs.Prelude.{Option, Some, ◌⊎◌}
+use Rattle.std.specs.Io.KnownBytes.{Consumes, IsAtEnd}
+use Rattle.bp_io.specs.Causes.{Rose}
+use Rattle.bp_io.specs.Files.{StaysAttached}
+use Rattle.bp_script.specs.Commands.{Command, command_of}
+use Rattle.bp_session.specs.Lines.{commands_from}
+use Rattle.bp_session.specs.Outside.{Faults, IsFirstFault, IsQuiet, counts}
+use Rattle.bp_session.specs.Pieces.{piece_size}
+use Rattle.bp_session.specs.Serving.{DoesAll, DoesCut, DoesPart, DoesStop, Input, Keeps, LineOutcome, Moment, OfLines, PieceOutcome, ServeOutcome}
+use Rattle.bp_session.proofs.SavingLaws.{stays_attached, still_attached}
+use Rattle.bp_session.proofs.ServingLaws.{commands_at_newline, commands_of_nothing, cuts_behind, cuts_in, not_long, serves_newline, serves_nothing, serves_quietly, serves_then, serves_to_end, stops_behind, stops_in, told_none}
+
+-- ---- faults
+
+pub no_fault : (status : ℕ) (a b : Faults) → ¬ (status ≡ 3) → ¬ (status ≡ 4) → ¬ (status ≡ 5) → b.source ≡ a.source → b.sink ≡ a.sink → b.files ≡ a.files → IsFirstFault status a b
+no_fault status a b three four five source sink files = record {
+  source = λ e. absurd (three e);
+  sink = λ e. absurd (four e);
+  files = λ e. absurd (five e);
+  no_source = λ _. source;
+  no_sink = λ _. sink;
+  no_files = λ _. files;
+}
+
+pub source_fault : (a b : Faults) → Rose a.source b.source → b.sink ≡ a.sink → b.files ≡ a.files → IsFirstFault 3 a b
+source_fault a b rose sink files = record {
+  source = λ _. rose;
+  sink = λ e. absurd (omega (arith, e));
+  files = λ e. absurd (omega (arith, e));
+  no_source = λ other. absurd (other refl);
+  no_sink = λ _. sink;
+  no_files = λ _. files;
+}
+
+pub sink_fault : (a b : Faults) → b.source ≡ a.source → Rose a.sink b.sink → b.files ≡ a.files → IsFirstFault 4 a b
+sink_fault a b source rose files = record {
+  source = λ e. absurd (omega (arith, e));
+  sink = λ _. rose;
+  files = λ e. absurd (omega (arith, e));
+  no_source = λ _. source;
+  no_sink = λ quiet. absurd (never quiet);
+  no_files = λ _. files;
+}
+  where
+    never : IsQuiet 4 → ⊥
+    never (inl e) = omega (arith, e)
+    never (inr (inl e)) = omega (arith, e)
+    never (inr (inr (inl e))) = omega (arith, e)
+    never (inr (inr (inr (inl e)))) = omega (arith, e)
+    never (inr (inr (inr (inr e)))) = omega (arith, e)
+
+pub files_fault : (a b : Faults) → b.source ≡ a.source → b.sink ≡ a.sink → Rose a.files b.files → IsFirstFault 5 a b
+files_fault a b source sink rose = record {
+  source = λ e. absurd (omega (arith, e));
+  sink = λ e. absurd (omega (arith, e));
+  files = λ _. rose;
+  no_source = λ _. source;
+  no_sink = λ _. sink;
+  no_files = λ other. absurd (other refl);
+}
+
+-- a status of a line told before the end, whose sink may have failed
+pub no_device_fault : (status : ℕ) (a b : Faults) → ¬ (status ≡ 3) → ¬ (status ≡ 4) → ¬ (status ≡ 5) → ¬ IsQuiet status → b.source ≡ a.source → b.files ≡ a.files → IsFirstFault status a b
+no_device_fault status a b three four five loud source files = record {
+  source = λ e. absurd (three e);
+  sink = λ e. absurd (four e);
+  files = λ e. absurd (five e);
+  no_source = λ _. source;
+  no_sink = λ quiet. absurd (loud quiet);
+  no_files = λ _. files;
+}
+
+from_same : (a b c : ℕ) → b ≡ a → Rose b c → Rose a c
+from_same a b c e rose = subst (λ (n : ℕ). Rose n c) e rose
+
+pub first_then : (status : ℕ) (a b c : Faults) → b.source ≡ a.source → b.sink ≡ a.sink → b.files ≡ a.files → IsFirstFault status b c → IsFirstFault status a c
+first_then status a b c source sink files next = record {
+  source = λ e. from_same a.source b.source c.source source (next.source e);
+  sink = λ e. from_same a.sink b.sink c.sink sink (next.sink e);
+  files = λ e. from_same a.files b.files c.files files (next.files e);
+  no_source = λ other. next.no_source other ∙ source;
+  no_sink = λ quiet. next.no_sink quiet ∙ sink;
+  no_files = λ other. next.no_files other ∙ files;
+}
+
+-- what follows a status of 0
+pub first_after : (status : ℕ) (a b c : Faults) → IsFirstFault 0 a b → IsFirstFault status b c → IsFirstFault status a c
+first_after status a b c one next = first_then status a b c (one.no_source (λ e. omega (arith, e))) (one.no_sink (inl refl)) (one.no_files (λ e. omega (arith, e))) next
+
+-- a source that didn't fail
+pub first_with_source : (status s t : ℕ) (a b : Faults) → ¬ (status ≡ 3) → t ≡ s → IsFirstFault status a b →
+    IsFirstFault status (record { source = s; sink = a.sink; files = a.files }) (record { source = t; sink = b.sink; files = b.files })
+first_with_source status s t a b other same first = record {
+  source = λ e. absurd (other e);
+  sink = first.sink;
+  files = first.files;
+  no_source = λ _. same;
+  no_sink = first.no_sink;
+  no_files = first.no_files;
+}
+
+-- ---- what is kept
+
+pub keeps_all : (a : Moment) → Keeps 0 a a
+keeps_all a = record { size = refl; attached = still_attached a.files; flushed = λ _ e. e }
+
+pub keeps_then : (status : ℕ) (a b c : Moment) → Keeps 0 a b → Keeps status b c → Keeps status a c
+keeps_then status a b c one two = record {
+  size = two.size ∙ one.size;
+  attached = stays_attached _ _ _ one.attached two.attached;
+  flushed = λ other e. two.flushed other (one.flushed (λ z. omega (arith, z)) e);
+}
+
+-- ---- a line
+
+pub line_whole : (commands : List Command) (a b : Moment) → DoesAll a b commands → Keeps 0 a b → b.faults ≡ a.faults → b.files.faults ≡ a.files.faults → LineOutcome 0 commands a b
+line_whole commands a b all keeps sink files = record {
+  whole = λ _. all;
+  cut = λ e. absurd (omega (arith, e));
+  stopped = λ e. absurd (omega (arith, e));
+  keeps = keeps;
+  first = no_fault 0 _ _ (λ e. omega (arith, e)) (λ e. omega (arith, e)) (λ e. omega (arith, e)) refl sink files;
+  one_of = inl refl;
+}
+
+pub line_cut : (commands : List Command) (a b : Moment) → DoesCut a b commands → Keeps 4 a b → Rose a.faults b.faults → b.files.faults ≡ a.files.faults → LineOutcome 4 commands a b
+line_cut commands a b cut keeps rose files = record {
+  whole = λ e. absurd (omega (arith, e));
+  cut = λ _. cut;
+  stopped = λ e. absurd (omega (arith, e));
+  keeps = keeps;
+  first = sink_fault _ _ refl rose files;
+  one_of = inr (inl refl);
+}
+
+pub line_stopped : (commands : List Command) (a b : Moment) → DoesStop a b commands → Keeps 5 a b → b.faults ≡ a.faults → Rose a.files.faults b.files.faults → LineOutcome 5 commands a b
+line_stopped commands a b stop keeps sink rose = record {
+  whole = λ e. absurd (omega (arith, e));
+  cut = λ e. absurd (omega (arith, e));
+  stopped = λ _. stop;
+  keeps = keeps;
+  first = files_fault _ _ refl sink rose;
+  one_of = inr (inr refl);
+}
+
+pub line_nothing : (a : Moment) → LineOutcome 0 (commands_from [] []) a a
+line_nothing a = rw commands_of_nothing (line_whole [] a a (λ name saved file. record { after = saved; file = file; told = told_none _ _ }) (keeps_all a) refl refl)
+
+-- ---- a piece
+
+pub piece_quiet : (a : Moment) (held i keeps : List ℕ) → ((rest : List ℕ) → commands_from held (i ++ rest) ≡ commands_from keeps rest) → PieceOutcome 0 held i keeps a a
+piece_quiet a held i keeps same = record {
+  whole = λ _ name saved file. serves_quietly _ _ saved _ _ _ _ file same;
+  cut = λ e. absurd (omega (arith, e));
+  stopped = λ e. absurd (omega (arith, e));
+  keeps_files = keeps_all a;
+  first = no_fault 0 _ _ (λ e. omega (arith, e)) (λ e. omega (arith, e)) (λ e. omega (arith, e)) refl refl refl;
+  one_of = inl refl;
+}
+
+pub piece_nothing : (a : Moment) (held : List ℕ) → PieceOutcome 0 held [] held a a
+piece_nothing a held = piece_quiet a held [] held (λ rest. refl)
+
+pub piece_newline : (status : ℕ) (held : List ℕ) (a b : Moment) → LineOutcome status (command_of held ∷ []) a b → PieceOutcome status held (10 ∷ []) [] a b
+piece_newline status held a b line = record {
+  whole = λ e name saved file. serves_newline _ _ _ _ _ _ (line.whole e name saved file);
+  cut = λ e rest name saved file. rw (commands_at_newline held rest) (cuts_behind _ _ _ _ (commands_from [] rest) _ _ (line.cut e name saved file));
+  stopped = λ e rest name saved file. rw (commands_at_newline held rest) (stops_behind _ _ _ _ (commands_from [] rest) _ _ (line.stopped e name saved file));
+  keeps_files = line.keeps;
+  first = line.first;
+  one_of = line.one_of;
+}
+
+pub piece_then : (status : ℕ) (held i middle j keeps : List ℕ) (a b c : Moment) → PieceOutcome 0 held i middle a b → PieceOutcome status middle j keeps b c → PieceOutcome status held (i ++ j) keeps a c
+piece_then status held i middle j keeps a b c one two = record {
+  whole = λ e name saved file.
+      let first = one.whole refl name saved file in
+      serves_then _ _ _ _ _ _ _ _ _ _ _ _ _ first (two.whole e name first.after first.file);
+  cut = λ e rest name saved file.
+      let first = one.whole refl name saved file in
+      rw (append_assoc i j rest) (cuts_in _ _ _ _ _ _ _ _ _ first _ _ (j ++ rest) (two.cut e rest name first.after first.file));
+  stopped = λ e rest name saved file.
+      let first = one.whole refl name saved file in
+      rw (append_assoc i j rest) (stops_in _ _ _ _ _ _ _ _ _ first _ _ (j ++ rest) (two.stopped e rest name first.after first.file));
+  keeps_files = keeps_then status a b c one.keeps_files two.keeps_files;
+  first = first_after status _ _ _ one.first two.first;
+  one_of = two.one_of;
+}
+
+-- what comes behind a fault doesn't matter
+pub piece_stops : (status : ℕ) (held i j keeps more : List ℕ) (a b : Moment) → ¬ (status ≡ 0) → PieceOutcome status held i keeps a b → PieceOutcome status held (i ++ j) more a b
+piece_stops status held i j keeps more a b other one = record {
+  whole = λ e. absurd (other e);
+  cut = λ e rest name saved file. rw (append_assoc i j rest) (one.cut e (j ++ rest) name saved file);
+  stopped = λ e rest name saved file. rw (append_assoc i j rest) (one.stopped e (j ++ rest) name saved file);
+  keeps_files = one.keeps_files;
+  first = one.first;
+  one_of = one.one_of;
+}
+
+-- ---- a source
+
+module _ (before after : Input) (a b : Moment) where
+  -- the source failed
+  pub serve_part : (input keeps : List ℕ) → Consumes before.left after.left input → PieceOutcome 0 [] input keeps a b → Rose before.faults after.faults → ServeOutcome 3 before after a b
+  serve_part input keeps read part rose = record {
+    whole = λ e. absurd (omega (arith, e));
+    part = λ _. (input, keeps, read, part.whole refl);
+    long = λ e. absurd (omega (arith, e));
+    cut = λ e. absurd (omega (arith, e));
+    stopped = λ e. absurd (omega (arith, e));
+    keeps = record { size = part.keeps_files.size; attached = part.keeps_files.attached; flushed = λ _. part.keeps_files.flushed (λ e. omega (arith, e)) };
+    first = source_fault _ _ rose (part.first.no_sink (inl refl)) (part.first.no_files (λ e. omega (arith, e)));
+    complete = λ all told few calm quiet still. absurd (calm rose);
+    one_of = inr (inl refl);
+  }
+
+  -- there was more than the most bytes
+  pub serve_long : (input more keeps : List ℕ) → Consumes before.left after.left (input ++ more) → length input ≡ 1073741824 → 1 ≤ length more → length more ≤ 65536
+      → PieceOutcome 0 [] input keeps a b → after.faults ≡ before.faults → ServeOutcome 6 before after a b
+  serve_long input more keeps read most some few part same = record {
+    whole = λ e. absurd (omega (arith, e));
+    part = λ e. absurd (omega (arith, e));
+    long = λ _. (input, more, keeps, read, most, some, few, part.whole refl);
+    cut = λ e. absurd (omega (arith, e));
+    stopped = λ e. absurd (omega (arith, e));
+    keeps = record { size = part.keeps_files.size; attached = part.keeps_files.attached; flushed = λ _. part.keeps_files.flushed (λ e. omega (arith, e)) };
+    first = no_fault 6 _ _ (λ e. omega (arith, e)) (λ e. omega (arith, e)) (λ e. omega (arith, e)) same (part.first.no_sink (inl refl)) (part.first.no_files (λ e. omega (arith, e)));
+    complete = λ all told small calm quiet still. absurd (not_long before.left after.left all input more told small read most some);
+    one_of = inr (inr (inr (inr refl)));
+  }
+
+  -- a line that was read whole ended it
+  pub serve_ended : (status : ℕ) (input keeps : List ℕ) → ¬ (status ≡ 0) → Consumes before.left after.left input → PieceOutcome status [] input keeps a b → after.faults ≡ before.faults → ServeOutcome status before after a b
+  serve_ended status input keeps other read part same = go part.one_of
+    where
+      go : (status ≡ 0) ⊎ (status ≡ 4) ⊎ (status ≡ 5) → ServeOutcome status before after a b
+      go (inl e) = absurd (other e)
+      go (inr (inl e)) = record {
+        whole = λ z. absurd (other z);
+        part = λ z. absurd (omega (arith, z, e));
+        long = λ z. absurd (omega (arith, z, e));
+        cut = λ z. (input, read, inl (part.cut z));
+        stopped = λ z. absurd (omega (arith, z, e));
+        keeps = part.keeps_files;
+        first = first_with_source status before.faults after.faults (counts 0 a.faults a.files) (counts 0 b.faults b.files) (λ z. omega (arith, z, e)) same part.first;
+        complete = λ all told few calm quiet still. absurd (quiet (part.first.sink e));
+        one_of = inr (inr (inl e));
+      }
+      go (inr (inr e)) = record {
+        whole = λ z. absurd (other z);
+        part = λ z. absurd (omega (arith, z, e));
+        long = λ z. absurd (omega (arith, z, e));
+        cut = λ z. absurd (omega (arith, z, e));
+        stopped = λ z. (input, read, inl (part.stopped z));
+        keeps = part.keeps_files;
+        first = first_with_source status before.faults after.faults (counts 0 a.faults a.files) (counts 0 b.faults b.files) (λ z. omega (arith, z, e)) same part.first;
+        complete = λ all told few calm quiet still. absurd (still (part.first.files e));
+        one_of = inr (inr (inr (inl e)));
+      }
+
+  -- the source is at its end
+  pub serve_end : (status : ℕ) (input keeps : List ℕ) (middle : Moment) → Consumes before.left after.left input → IsAtEnd after.left → length input ≤ 1073741824
+      → PieceOutcome 0 [] input keeps a middle → LineOutcome status (commands_from keeps []) middle b → after.faults ≡ before.faults → ServeOutcome status before after a b
+  serve_end status input keeps middle read end few part last same = record {
+    whole = λ e. (
+      input,
+      read,
+      end,
+      few,
+      λ name saved file.
+          let one = part.whole refl name saved file in
+          rw (← append-nil input) (serves_to_end _ _ _ _ _ _ _ _ _ one _ _ [] (last.whole e name one.after one.file)),
+    );
+    part = λ z. absurd (none 3 (λ e. omega (arith, e)) (λ e. omega (arith, e)) (λ e. omega (arith, e)) z last.one_of);
+    long = λ z. absurd (none 6 (λ e. omega (arith, e)) (λ e. omega (arith, e)) (λ e. omega (arith, e)) z last.one_of);
+    cut = λ e. (
+      input,
+      read,
+      inr (
+        end,
+        λ name saved file.
+            let one = part.whole refl name saved file in
+            rw (← append-nil input) (cuts_in _ _ _ _ _ _ _ _ _ one _ _ [] (last.cut e name one.after one.file)),
+      ),
+    );
+    stopped = λ e. (
+      input,
+      read,
+      inr (
+        end,
+        λ name saved file.
+            let one = part.whole refl name saved file in
+            rw (← append-nil input) (stops_in _ _ _ _ _ _ _ _ _ one _ _ [] (last.stopped e name one.after one.file)),
+      ),
+    );
+    keeps = keeps_then status a middle b part.keeps_files last.keeps;
+    first = first_with_source status before.faults after.faults (counts 0 a.faults a.files) (counts 0 b.faults b.files) (λ z. none 3 (λ e. omega (arith, e)) (λ e. omega (arith, e)) (λ e. omega (arith, e)) z last.one_of) same first;
+    complete = λ all told small calm quiet still. elim last.one_of [
+      | inl e ↦ e
+      | inr (inl e) ↦ absurd (quiet (first.sink e))
+      | inr (inr e) ↦ absurd (still (first.files e))
+    ];
+    one_of = elim last.one_of [
+      | inl e ↦ inl e
+      | inr (inl e) ↦ inr (inr (inl e))
+      | inr (inr e) ↦ inr (inr (inr (inl e)))
+    ];
+  }
+    where
+      first : IsFirstFault status (counts 0 a.faults a.files) (counts 0 b.faults b.files)
+      first = first_after status (counts 0 a.faults a.files) (counts 0 middle.faults middle.files) (counts 0 b.faults b.files) part.first last.first
+
+      none : (n : ℕ) → ¬ (n ≡ 0) → ¬ (n ≡ 4) → ¬ (n ≡ 5) → status ≡ n → (status ≡ 0) ⊎ (status ≡ 4) ⊎ (status ≡ 5) → ⊥
+      none n zero four five z (inl e) = zero (sym z ∙ e)
+      none n zero four five z (inr (inl e)) = four (sym z ∙ e)
+      none n zero four five z (inr (inr e)) = five (sym z ∙ e)

@@ -1,0 +1,221 @@
+-- A session is one of a plain file tree.
+use Rattle.std.proofs.Common.{zero, suc, refl, sym, ◌∙◌, ap, arith, ◌≡◌, ℕ, ◌≤◌, ◌<◌, List, [], ◌∷◌, ◌++◌, length, take, Bool, true, false, inl, inr}
+use Rattle.std.proofs.lemmas.List.{length-append}
+use Rattle.pm_epochs.specs.declared.event.Event.{Event}
+use Rattle.pm_epochs.specs.declared.event.Event.TheVariants.{Store, Barrier, Mark}
+use Rattle.pm_epochs.specs.Log.{marks, up_to_mark}
+use Rattle.pm_epochs.specs.Crash.{CrashRight}
+use Rattle.pm_epochs.specs.Replay.{kept_calls, after_calls}
+use Rattle.pm_epochs.proofs.CrashLaws.{up_to_mark-append, marks-append}
+use Rattle.pm_region.specs.Memory.{Memory, current_words, with_room, drained, room_in, Adds}
+use Rattle.bp_plain.specs.PlainTree.{FileTree}
+use Rattle.bp_layout.specs.Same.{Same}
+use Rattle.bp_plain.specs.Stands.{Stands}
+use Rattle.bp_layout.specs.Words.{Image}
+use Rattle.bp_plain.specs.Calls.{Call, Answer}
+use Rattle.bp_volume.specs.Step.{Steps}
+use Rattle.bp_volume.specs.Step.Steps.{no_room, no_listing, unchanged, changed}
+use Rattle.bp_plain.specs.Plain.{plain, is_changing, refusal, changes}
+use Rattle.bp_session.specs.Session.{State, Line, Session}
+use Rattle.bp_script.specs.Commands.{Command}
+use Rattle.bp_script.specs.Commands.Command.{file_call, sync, space, bad_syntax, too_long}
+use Rattle.bp_script.specs.Texts.{LineReply}
+use Rattle.bp_limits.specs.Limits.{call_room}
+use Rattle.pm_epochs.proofs.CrashLaws.{crash_right_none}
+use Rattle.bp_plain.specs.Calls.{Refusal}
+use Rattle.std.specs.Prelude.{Option, Some, None, is_none, ◌&&◌, ◌⊎◌, nat_le, nat_lt, if◌then◌else◌}
+use Rattle.std.proofs.lemmas.Bool.{leb-true, leb-false}
+use Rattle.bp_session.specs.PlainSession.{PlainSession, PlainLine, Plain, PlainCall, latest, tree_at, tree_now, after_crash, with_call, fresh, Follows, FollowsTree, IsPlainly}
+use Rattle.bp_session.proofs.ServingLaws.{session_split}
+use Rattle.bp_session.specs.PlainSession.PlainCall.{plainly, no_room as finds_no_room, no_listing as finds_no_memory}
+
+-- ---- trees
+
+-- a call that doesn't change the tree leaves it
+pub plain-unchanged : (tree : FileTree) (call : Call) → is_changing tree call ≡ false → (plain tree call).1 ≡ tree
+plain-unchanged tree call same = go (refusal tree call) refl
+  where
+    go : (why : Option Refusal) → refusal tree call ≡ why → (plain tree call).1 ≡ tree
+    go (Some why) e = rw e refl
+    go None e = rw e (let still : changes tree call ≡ false = ap (λ o. is_none o && changes tree call) (sym e) ∙ same in rw still refl)
+
+-- a step of images is one of the plain tree
+pub record PlainStep (tree : FileTree) (call : Call) (answer : Answer) (new : Image) : Type 0 where
+  pub after : FileTree
+  pub does : PlainCall tree call answer after
+  pub stands : Stands new after
+
+pub plain_step : (old : Image) (tree : FileTree) (call : Call) (answer : Answer) (new : Image) → Stands old tree → Steps old tree call answer new → PlainStep tree call answer new
+plain_step old tree call answer new stands (no_room change need few) = record { after = tree; does = finds_no_room change; stands = stands }
+plain_step old tree call answer new stands (no_listing none) = record { after = tree; does = finds_no_memory none; stands = stands }
+plain_step old tree call answer new stands (unchanged same) = record { after = (plain tree call).1; does = plainly; stands = rw (plain-unchanged tree call same) stands }
+plain_step old tree call answer new stands (changed change fits shown) = record { after = (plain tree call).1; does = plainly; stands = shown }
+
+pub stands_by_same : (first second : Image) (tree : FileTree) → Same first second → Stands second tree → Stands first tree
+stands_by_same first second tree same stands = record { well_formed = same.old_well_formed; shows = λ path. stands.shows path ∙ same.shows path }
+
+-- ---- logs and trees after so many calls
+
+-- a log that ends with a mark, of more marks than it has but for that one
+up_to_mark_whole : (first added : List Event) (count : ℕ) → marks added ≡ 0 → marks first < count → up_to_mark count (first ++ (added ++ Mark ∷ [])) ≡ first ++ (added ++ Mark ∷ [])
+up_to_mark_whole [] [] zero none more = absurd (omega arith)
+up_to_mark_whole [] [] (suc zero) none more = refl
+up_to_mark_whole [] [] (suc (suc count)) none more = refl
+up_to_mark_whole [] (Store word value ∷ added) zero none more = absurd (omega arith)
+up_to_mark_whole [] (Store word value ∷ added) (suc count) none more = ap (λ es. Store word value ∷ es) (up_to_mark_whole [] added (suc count) none more)
+up_to_mark_whole [] (Barrier ∷ added) zero none more = absurd (omega arith)
+up_to_mark_whole [] (Barrier ∷ added) (suc count) none more = ap (λ es. Barrier ∷ es) (up_to_mark_whole [] added (suc count) none more)
+up_to_mark_whole [] (Mark ∷ added) count none more = absurd (omega arith)
+up_to_mark_whole (Store word value ∷ first) added zero none more = absurd (omega arith)
+up_to_mark_whole (Store word value ∷ first) added (suc count) none more = ap (λ es. Store word value ∷ es) (up_to_mark_whole first added (suc count) none more)
+up_to_mark_whole (Barrier ∷ first) added zero none more = absurd (omega arith)
+up_to_mark_whole (Barrier ∷ first) added (suc count) none more = ap (λ es. Barrier ∷ es) (up_to_mark_whole first added (suc count) none more)
+up_to_mark_whole (Mark ∷ first) added zero none more = absurd (omega arith)
+up_to_mark_whole (Mark ∷ first) added (suc count) none more = ap (λ es. Mark ∷ es) (up_to_mark_whole first added count none (omega arith))
+
+latest-append : (certain tree : FileTree) (since : List FileTree) → latest certain (since ++ tree ∷ []) ≡ tree
+latest-append certain tree [] = refl
+latest-append certain tree (first ∷ since) = latest-append first tree since
+
+tree_at-few : (certain tree : FileTree) (since : List FileTree) (count : ℕ) → count ≤ length since → tree_at certain (since ++ tree ∷ []) count ≡ tree_at certain since count
+tree_at-few certain tree since zero few = refl
+tree_at-few certain tree [] (suc count) few = absurd (omega arith)
+tree_at-few certain tree (first ∷ since) (suc count) few = tree_at-few first tree since count (omega arith)
+
+tree_at-all : (certain tree : FileTree) (since : List FileTree) (count : ℕ) → length since < count → tree_at certain (since ++ tree ∷ []) count ≡ tree
+tree_at-all certain tree since zero more = absurd (omega arith)
+tree_at-all certain tree [] (suc count) more = nothing_left count
+  where
+    nothing_left : (count : ℕ) → latest tree (take count []) ≡ tree
+    nothing_left zero = refl
+    nothing_left (suc count) = refl
+tree_at-all certain tree (first ∷ since) (suc count) more = tree_at-all first tree since count (omega arith)
+
+nothing_since : (certain : FileTree) (count : ℕ) → tree_at certain [] count ≡ certain
+nothing_since certain zero = refl
+nothing_since certain (suc count) = refl
+
+nothing_logged : (base : List ℕ) (count : ℕ) → after_calls base [] count ≡ base
+nothing_logged base zero = refl
+nothing_logged base (suc count) = refl
+
+-- ---- what follows
+
+follows : (memory : Memory) (p : Plain) → Stands (current_words memory) (tree_now p) → marks memory.events ≡ length p.since
+    → ((count : ℕ) → Stands (after_calls memory.base memory.events count) (after_crash p count)) → CrashRight Same memory.base memory.events → Follows memory p
+follows memory p now calls after right = record {
+  now = now;
+  calls = calls;
+  after = after;
+  crash = λ cut is_right. stands_by_same _ _ _ (right.each cut is_right) (after (kept_calls memory.events cut));
+}
+
+same_by_stands : (image : Image) (tree : FileTree) → Stands image tree → Same image image
+same_by_stands image tree stands = record { old_well_formed = stands.well_formed; new_well_formed = stands.well_formed; shows = λ path. refl }
+
+-- with an empty log
+pub follows_fresh : (memory : Memory) (tree : FileTree) → memory.events ≡ [] → Stands memory.base tree → Follows memory (fresh tree)
+follows_fresh memory tree empty stands = follows memory (fresh tree)
+    (rw empty stands)
+    (rw empty refl)
+    (λ count. rw (empty, nothing_logged memory.base count, nothing_since tree count) stands)
+    (rw empty (crash_right_none Same memory.base (same_by_stands memory.base tree stands)))
+
+-- one more call
+follows_more : (old new : Memory) (p : Plain) (added : List Event) (tree : FileTree) → Follows old p → marks added ≡ 0 → Adds old new (added ++ Mark ∷ []) → CrashRight Same new.base new.events
+    → Stands (current_words new) tree → Follows new (with_call p tree)
+follows_more old new p added tree before none adds right stands =
+    let base : new.base ≡ old.base = ap (λ (m : Memory). m.base) adds in
+    let events : new.events ≡ old.events ++ (added ++ Mark ∷ []) = ap (λ (m : Memory). m.events) adds in
+    let calls : marks new.events ≡ length (p.since ++ tree ∷ []) = ap marks events ∙ omega (arith, marks-append old.events (added ++ Mark ∷ []), marks-append added (Mark ∷ []), none, before.calls, length-append p.since (tree ∷ [])) in
+    let go : (count : ℕ) → (few : Bool) → nat_le count (length p.since) ≡ few → Stands (after_calls new.base new.events count) (after_crash (with_call p tree) count) = λ count few. elim few as (λ few. nat_le count (length p.since) ≡ few → Stands (after_calls new.base new.events count) (after_crash (with_call p tree) count)) [
+      | true ↦ λ e. let low : count ≤ length p.since = leb-true count (length p.since) e in
+          rw (base, events, up_to_mark-append old.events (added ++ Mark ∷ []) count (omega (arith, before.calls, low)), tree_at-few p.certain tree p.since count low) (before.after count)
+      | false ↦ λ e. let high : length p.since < count = leb-false count (length p.since) e in
+          rw (base, events, up_to_mark_whole old.events added count none (omega (arith, before.calls, high)), tree_at-all p.certain tree p.since count high) (rw (base, events) at stands)
+    ] in
+    follows new (with_call p tree) (rw (latest-append p.certain tree p.since) stands) calls (λ count. go count (nat_le count (length p.since)) refl) right
+
+-- ---- lines
+
+pub record SettlesTo (old : Plain) (memory : Memory) : Type 0 where
+  pub plain : Plain
+  pub follows : Follows memory plain
+  pub is : (plain ≡ old) ⊎ (plain ≡ fresh (tree_now old))
+
+pub settles : (wanted : ℕ) (memory : Memory) (p : Plain) → Follows memory p → SettlesTo p (with_room wanted memory)
+settles wanted memory p before = elim (nat_lt (room_in memory) wanted) as (λ full. SettlesTo p (if full then drained memory else memory)) [
+  | true ↦ record { plain = fresh (tree_now p); follows = follows_fresh (drained memory) (tree_now p) refl before.now; is = inr refl }
+  | false ↦ record { plain = p; follows = before; is = inl refl }
+]
+
+pub record Follower (old : State) (p : Plain) (command : Command) (reply : LineReply) (new : State) : Type 0 where
+  pub plain : Plain
+  pub line : PlainLine p command reply plain
+  pub follows : Follows new.memory plain
+
+pub plain_line : (old : State) (p : Plain) (command : Command) (reply : LineReply) (new : State) → Follows old.memory p → Line old command reply new → Follower old p command reply new
+plain_line old p (file_call call) reply new before line =
+    let first = settles call_room old.memory p before in
+    let step = plain_step (current_words old.memory) (tree_now p) call line.answer (current_words new.memory) before.now (line.does.step (tree_now p) before.now) in
+    record {
+      plain = with_call first.plain step.after;
+      line = record {
+        answer = line.answer;
+        tree = step.after;
+        told = line.told;
+        does = step.does;
+        goes_on = elim first.is [ inl e ↦ inl (ap (λ q. with_call q step.after) e) | inr e ↦ inr (ap (λ q. with_call q step.after) e) ];
+      };
+      follows = follows_more (with_room call_room old.memory) new.memory first.plain line.does.added step.after first.follows line.does.unmarked line.does.adds line.does.right step.stands;
+    }
+plain_line old p sync reply new before line = record {
+  plain = fresh (tree_now p);
+  line = (line.told, refl);
+  follows = rw line.done (follows_fresh (drained old.memory) (tree_now p) refl before.now);
+}
+plain_line old p space reply new before line = record {
+  plain = p;
+  line = record { free = line.free; live = line.live; told = line.told; same = refl };
+  follows = rw line.same before;
+}
+plain_line old p bad_syntax reply new before line = record { plain = p; line = record { told = line.told; same = refl }; follows = rw line.same before }
+plain_line old p too_long reply new before line = record { plain = p; line = record { told = line.told; same = refl }; follows = rw line.same before }
+
+-- ---- sessions
+
+pub record PlainRun (p : Plain) (commands : List Command) (replies : List LineReply) (new : State) : Type 0 where
+  pub plain : Plain
+  pub session : PlainSession p commands replies plain
+  pub follows : Follows new.memory plain
+
+pub plain_session : (old : State) (p : Plain) (commands : List Command) (replies : List LineReply) (new : State) → Follows old.memory p → Session old commands replies new → PlainRun p commands replies new
+plain_session old p [] [] new before same = record { plain = p; session = refl; follows = rw same before }
+plain_session old p [] (reply ∷ replies) new before never = absurd never
+plain_session old p (command ∷ commands) [] new before never = absurd never
+plain_session old p (command ∷ commands) (reply ∷ replies) new before (middle, line, rest) =
+    let first = plain_line old p command reply middle before line in
+    let later = plain_session middle first.plain commands replies new first.follows rest in
+    record { plain = later.plain; session = (first.plain, first.line, later.session); follows = later.follows }
+
+-- a session is the plain tree's, at its end and behind each of its lines
+pub is_plainly : (old : State) (tree : FileTree) (commands : List Command) (replies : List LineReply) (new : State) → old.memory.events ≡ [] → Stands old.memory.base tree → Session old commands replies new → IsPlainly tree commands replies new.memory
+is_plainly old tree commands replies new empty stands session =
+    let run = plain_session old (fresh tree) commands replies new (follows_fresh old.memory tree empty stands) session in
+    record { plain = run.plain; session = run.session; follows = run.follows }
+
+pub follows_tree : (old : State) (tree : FileTree) (commands : List Command) (replies : List LineReply) (new : State) → old.memory.events ≡ [] → Stands old.memory.base tree → Session old commands replies new → FollowsTree tree old commands replies new
+follows_tree old tree commands replies new empty stands session = record {
+  whole = is_plainly old tree commands replies new empty stands session;
+  fronts = λ first rest are.
+      let parts = session_split old new first rest replies (rw are at session) in
+      record {
+        middle = parts.0;
+        front = parts.1;
+        behind = parts.2;
+        are = parts.3;
+        session = parts.4;
+        later = parts.5;
+        plainly = is_plainly old tree first parts.1 parts.0 empty stands parts.4;
+      };
+}

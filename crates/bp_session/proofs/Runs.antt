@@ -1,0 +1,77 @@
+-- Parts of a piece with no newline in them.
+use Rattle.std.proofs.Common.{refl, sym, subst, ◌∙◌, ap, arith, ◌≡◌, ℕ, ◌+◌, ◌-◌, ◌<◌, ◌≤◌, List, [], ◌∷◌, ◌++◌, Bool, true, false, length, take, drop, get_or, nat_eq, length-take, length-drop, get_or-drop}
+use Rattle.std.proofs.lemmas.List.{get_or-take}
+use Rattle.std.proofs.Math.Seq.{take-add}
+use Rattle.std.specs.Prelude.{Some, None}
+use Rattle.memchr.specs.Find.{IsFirst, IsFirstByte, Nowhere, Passes, is_byte}
+use Rattle.bp_session.specs.Lines.{commands_from}
+use Rattle.bp_session.specs.Serving.{Moment, PieceOutcome}
+use Rattle.bp_session.proofs.OutcomeLaws.{piece_quiet, piece_stops, piece_then}
+use Rattle.bp_session.proofs.ServingLaws.{commands_at_run, commands_kept, take_more, take_next}
+
+module _ (xs : List ℕ) (from to : ℕ) where
+  -- a byte of a part
+  at_part : (k : ℕ) → k < to - from → get_or (take (to - from) (drop from xs)) k 0 ≡ get_or xs (from + k) 0
+  at_part k low = get_or-take (to - from) (drop from xs) k 0 low ∙ get_or-drop from xs k 0
+
+  module _ (order : from ≤ to) where
+    pub take_part : take from xs ++ take (to - from) (drop from xs) ≡ take to xs
+    take_part = let all : from + (to - from) ≡ to = omega (arith, order) in sym (take-add from (to - from) xs) ∙ ap (λ n. take n xs) all
+
+  module _ (inside : to ≤ length xs) where
+    size : length (take (to - from) (drop from xs)) ≡ to - from
+    size = omega (arith, inside, length-take (to - from) (drop from xs), length-drop from xs)
+
+    module _ (test : ℕ → Bool) where
+      passes_not : (k : ℕ) → from ≤ k → k < to → ¬ Passes test (take (to - from) (drop from xs)) (k - from) → ¬ Passes test xs k
+      passes_not k low high fails holds =
+          let place : from + (k - from) ≡ k = omega (arith, low) in
+          fails (ap test (at_part (k - from) (omega (arith, low, high)) ∙ ap (λ n. get_or xs n 0) place) ∙ holds)
+
+      pub none_in : IsFirstByte test (take (to - from) (drop from xs)) None → IsFirst (Passes test xs) from to None
+      none_in nowhere k low high = passes_not k low high (nowhere (k - from) (omega arith) (omega (arith, size, low, high)))
+
+      pub found_in : (i : ℕ) → IsFirstByte test (take (to - from) (drop from xs)) (Some i) → IsFirst (Passes test xs) from to (Some (from + i))
+      found_in i found = (
+        record {
+          low = omega arith;
+          high = omega (arith, size, found.0.high);
+          before = λ k low high. passes_not k low (omega (arith, size, found.0.high, high)) (found.0.before (k - from) (omega arith) (omega (arith, low, high)));
+        },
+        ap test (sym (at_part i (omega (arith, size, found.0.high)))) ∙ found.1,
+      )
+
+    -- what a part with no newline adds to a line
+    pub commands_of_part : (held rest : List ℕ) → Nowhere (Passes (is_byte 10) xs) from to
+        → commands_from held (take (to - from) (drop from xs) ++ rest) ≡ commands_from (take 140001 (held ++ take (to - from) (drop from xs))) rest
+    commands_of_part held rest nowhere = commands_at_run held (take (to - from) (drop from xs)) rest quiet ∙ commands_kept (held ++ take (to - from) (drop from xs)) rest
+      where
+        quiet : (k : ℕ) → k < length (take (to - from) (drop from xs)) → nat_eq (get_or (take (to - from) (drop from xs)) k 0) 10 ≡ false
+        quiet k low = go (nat_eq (get_or (take (to - from) (drop from xs)) k 0) 10) refl
+          where
+            inner : k < to - from
+            inner = omega (arith, size, low)
+
+            go : (b : Bool) → nat_eq (get_or (take (to - from) (drop from xs)) k 0) 10 ≡ b → nat_eq (get_or (take (to - from) (drop from xs)) k 0) 10 ≡ false
+            go true e = absurd (nowhere (from + k) (omega arith) (omega (arith, inner)) (ap (λ b. nat_eq b 10) (sym (at_part k inner)) ∙ e))
+            go false e = e
+
+-- ---- a piece, run by run
+
+module _ (xs held middle kept : List ℕ) (at end : ℕ) (a b : Moment) (order : at ≤ end) (one : PieceOutcome 0 held (take at xs) middle a b)
+    (same : (rest : List ℕ) → commands_from middle (take (end - at) (drop at xs) ++ rest) ≡ commands_from kept rest) where
+  pub run_served : PieceOutcome 0 held (take end xs) kept a b
+  run_served =
+      subst (λ (l : List ℕ). PieceOutcome 0 held l kept a b) (take_part xs at end order)
+      (piece_then 0 held (take at xs) middle (take (end - at) (drop at xs)) kept a b b one (piece_quiet b middle (take (end - at) (drop at xs)) kept same))
+
+  pub line_served : (status : ℕ) (keeps : List ℕ) (c : Moment) → end < length xs → get_or xs end 0 ≡ 10 → PieceOutcome status kept (10 ∷ []) keeps b c → PieceOutcome status held (take (end + 1) xs) keeps a c
+  line_served status keeps c low newline two =
+      subst (λ (l : List ℕ). PieceOutcome status held l keeps a c) (sym (take_next xs end 10 low (sym newline)))
+      (piece_then status held (take end xs) kept (10 ∷ []) keeps a b c run_served two)
+
+-- a line that a fault ends
+pub line_stops : (status : ℕ) (xs held keeps : List ℕ) (next count : ℕ) (a b : Moment) → ¬ (status ≡ 0) → next ≤ count → PieceOutcome status held (take next xs) keeps a b → PieceOutcome status held (take count xs) keeps a b
+line_stops status xs held keeps next count a b other low one =
+    subst (λ (l : List ℕ). PieceOutcome status held l keeps a b) (take_more xs next count low)
+    (piece_stops status held (take next xs) (drop next (take count xs)) keeps keeps a b other one)

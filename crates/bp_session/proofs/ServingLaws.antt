@@ -1,0 +1,287 @@
+-- Serving goes on from piece to piece.
+use Rattle.std.proofs.Common.{refl, sym, ◌∙◌, ap, arith, ◌≡◌, ℕ, ◌<◌, List, [], ◌∷◌, ◌++◌, length, take, map, true, false, nat_eq, Bool, cond, length-append, nat_lt, get_or, drop, zero, suc, ◌≤◌, ◌+◌}
+use Rattle.std.proofs.lemmas.List.{append_assoc, append-nil, take_all}
+use Rattle.std.proofs.lemmas.Bool.{lt-ltb, ltb-true, ltb-false}
+use Rattle.std.proofs.Math.Seq.{take-suc}
+use Rattle.std.proofs.KnownBytes.{Appends-trans}
+use Rattle.std.specs.Prelude.{Option, Some, None}
+use Rattle.std.specs.Io.KnownBytes.{Appends, Consumes, Keeps}
+use Rattle.pm_region.specs.Memory.{Memory}
+use Rattle.bp_layout.specs.Words.{Image}
+use Rattle.bp_script.specs.Commands.{Command, command_of}
+use Rattle.bp_session.specs.Lines.{commands_from, lines_from}
+use Rattle.bp_script.specs.Texts.{LineReply, reply_text}
+use Rattle.bp_session.specs.Lines.{text_of}
+use Rattle.bp_session.specs.Session.{State, Line, Session}
+use Rattle.bp_session.specs.Acting.{state}
+use Rattle.bp_session.specs.Serving.{Acts, SyncFails, Told, Serves, ServesAll, Cuts, Stops}
+
+-- ---- sessions
+
+pub session_append : (old middle new : State) (xs ys : List Command) (ps qs : List LineReply) → Session old xs ps middle → Session middle ys qs new → Session old (xs ++ ys) (ps ++ qs) new
+session_append old middle new [] ys [] qs first rest = rw (← first) rest
+session_append old middle new [] ys (p ∷ ps) qs first rest = absurd first
+session_append old middle new (x ∷ xs) ys [] qs first rest = absurd first
+session_append old middle new (x ∷ xs) ys (p ∷ ps) qs (next, line, later) rest = (next, line, session_append next middle new xs ys ps qs later rest)
+
+pub text_append : (ps qs : List LineReply) → text_of (ps ++ qs) ≡ text_of ps ++ text_of qs
+unfolding text_of
+text_append [] qs = refl
+text_append (p ∷ ps) qs = ap (λ t. reply_text p ++ t) (text_append ps qs) ∙ sym (append_assoc (reply_text p) (text_of ps) (text_of qs))
+
+pub text_one : (p : LineReply) → text_of (p ∷ []) ≡ reply_text p
+unfolding text_of
+text_one p = append-nil (reply_text p)
+
+pub text_none : text_of [] ≡ []
+unfolding text_of
+text_none = refl
+
+pub appends_none : (a : Option (List ℕ)) → Appends a a []
+appends_none None = tt
+appends_none (Some xs) = sym (append-nil xs)
+
+pub told_none : (s : State) (t : Option (List ℕ)) → Told s s [] t t
+told_none s t = record { replies = []; session = refl; taken = rw text_none (appends_none t) }
+
+pub told_then : (a b c : State) (xs ys : List Command) (t u v : Option (List ℕ)) → Told a b xs t u → Told b c ys u v → Told a c (xs ++ ys) t v
+told_then a b c xs ys t u v first rest = record {
+  replies = first.replies ++ rest.replies;
+  session = session_append a b c xs ys first.replies rest.replies first.session rest.session;
+  taken = rw (text_append first.replies rest.replies) (Appends-trans t u v _ _ first.taken rest.taken);
+}
+
+pub told_one : (a b : State) (x : Command) (p : LineReply) (t u : Option (List ℕ)) → Line a x p b → Appends t u (reply_text p) → Told a b (x ∷ []) t u
+told_one a b x p t u line taken = record { replies = p ∷ []; session = (b, line, refl); taken = rw (text_one p) taken }
+
+-- ---- lines
+
+pub commands_at_newline : (held rest : List ℕ) → commands_from held (10 ∷ rest) ≡ command_of held ∷ commands_from [] rest
+unfolding commands_from
+commands_at_newline held rest = refl
+
+pub commands_at_byte : (held rest : List ℕ) (b : ℕ) → nat_eq b 10 ≡ false → commands_from held (b ∷ rest) ≡ commands_from (held ++ b ∷ []) rest
+unfolding commands_from
+commands_at_byte held rest b e = rw e refl
+
+long_command : (a : List ℕ) → 140000 < length a → nat_lt 140000 (length a) ≡ true
+long_command a p = lt-ltb 140000 (length a) p
+
+-- of a line that is too long, no byte matters
+pub commands_too_long : (a b rest : List ℕ) → 140000 < length a → 140000 < length b → commands_from a rest ≡ commands_from b rest
+unfolding commands_from
+commands_too_long [] b rest p q = absurd (omega arith)
+commands_too_long (x ∷ a) [] rest p q = absurd (omega arith)
+commands_too_long (x ∷ a) (y ∷ b) [] p q = rw (long_command (x ∷ a) p, long_command (y ∷ b) q) refl
+commands_too_long (x ∷ a) (y ∷ b) (c ∷ rest) p q =
+    elim (nat_eq c 10) as (λ v. map command_of (cond v ((x ∷ a) ∷ lines_from [] rest) (lines_from ((x ∷ a) ++ c ∷ []) rest)) ≡ map command_of (cond v ((y ∷ b) ∷ lines_from [] rest) (lines_from ((y ∷ b) ++ c ∷ []) rest))) [
+      | true ↦ rw (long_command (x ∷ a) p, long_command (y ∷ b) q) refl
+      | false ↦ commands_too_long ((x ∷ a) ++ c ∷ []) ((y ∷ b) ++ c ∷ []) rest (omega (arith, length-append a (c ∷ []))) (omega (arith, length-append b (c ∷ [])))
+    ]
+
+pub length_taken : (xs : List ℕ) (n : ℕ) → n ≤ length xs → length (take n xs) ≡ n
+length_taken [] zero low = refl
+length_taken [] (suc n) low = absurd (omega arith)
+length_taken (x ∷ xs) zero low = refl
+length_taken (x ∷ xs) (suc n) low = ap suc (length_taken xs n (omega arith))
+
+-- bytes with no newline go to the line
+pub commands_at_run : (held run rest : List ℕ) → ((k : ℕ) → k < length run → nat_eq (get_or run k 0) 10 ≡ false) → commands_from held (run ++ rest) ≡ commands_from (held ++ run) rest
+commands_at_run held [] rest quiet = rw (append-nil held) refl
+commands_at_run held (b ∷ run) rest quiet =
+    commands_at_byte held (run ++ rest) b (quiet 0 (omega arith)) ∙ commands_at_run (held ++ b ∷ []) run rest (λ k low. quiet (suc k) (omega (arith, low))) ∙ ap (λ l. commands_from l rest) (append_assoc held (b ∷ []) run)
+
+-- .. of which the line keeps only its first bytes
+pub commands_kept : (line rest : List ℕ) → commands_from line rest ≡ commands_from (take 140001 line) rest
+commands_kept line rest = go (nat_lt 140000 (length line)) refl
+  where
+    go : (long : Bool) → nat_lt 140000 (length line) ≡ long → commands_from line rest ≡ commands_from (take 140001 line) rest
+    go true e = let low = ltb-true 140000 (length line) e in commands_too_long line (take 140001 line) rest low (omega (arith, low, length_taken line 140001 (omega (arith, low))))
+    go false e = let high = ltb-false 140000 (length line) e in ap (λ l. commands_from l rest) (sym (take_all 140001 line (omega (arith, high))))
+
+pub commands_at_end : (x : ℕ) (held : List ℕ) → commands_from (x ∷ held) [] ≡ command_of (x ∷ held) ∷ []
+unfolding commands_from
+commands_at_end x held = refl
+
+pub commands_of_nothing : commands_from [] [] ≡ []
+unfolding commands_from
+commands_of_nothing = refl
+
+-- ---- serving
+
+module _ (holds : Image → Type 0) where
+  pub serves_nothing : (memory : Memory) (saved : Image) (held : List ℕ) (t : Option (List ℕ)) → holds saved → Serves (state memory saved) memory holds held [] held t t
+  serves_nothing memory saved held t file = record { commands = []; lines = λ rest. refl; after = saved; file = file; told = told_none (state memory saved) t }
+
+  -- input that ends no line
+  pub serves_quietly : (memory : Memory) (saved : Image) (held input keeps : List ℕ) (t : Option (List ℕ)) → holds saved → ((rest : List ℕ) → commands_from held (input ++ rest) ≡ commands_from keeps rest) → Serves (state memory saved) memory holds held input keeps t t
+  serves_quietly memory saved held input keeps t file same = record { commands = []; lines = same; after = saved; file = file; told = told_none (state memory saved) t }
+
+  pub cuts_line : (old : State) (memory : Memory) (command : Command) (more : List Command) (reply : LineReply) (count : ℕ) (t u : Option (List ℕ)) → Acts old memory holds command reply → count < length (reply_text reply) → Appends t u (take count (reply_text reply)) → Cuts old memory holds (command ∷ more) t u
+  cuts_line old memory command more reply count t u acts low taken = record {
+    front = [];
+    last = command;
+    more = more;
+    are = refl;
+    middle = old;
+    replies = [];
+    session = refl;
+    reply = reply;
+    after = acts.after;
+    line = acts.line;
+    file = acts.file;
+    count = count;
+    proper = low;
+    taken = rw text_none taken;
+  }
+
+-- one piece after another
+pub serves_then : (old : State) (middle new : Memory) (first second : Image → Type 0) (a i b j c : List ℕ) (t u v : Option (List ℕ)) → (one : Serves old middle first a i b t u)
+    → Serves (state middle one.after) new second b j c u v → Serves old new second a (i ++ j) c t v
+serves_then old middle new first second a i b j c t u v one two = record {
+  commands = one.commands ++ two.commands;
+  lines = λ rest. rw (append_assoc i j rest) (one.lines (j ++ rest) ∙ ap (λ cs. one.commands ++ cs) (two.lines rest) ∙ sym (append_assoc one.commands two.commands (commands_from c rest)));
+  after = two.after;
+  file = two.file;
+  told = told_then old (state middle one.after) (state new two.after) one.commands two.commands t u v one.told two.told;
+}
+
+pub cuts_then : (old middle : State) (new : Memory) (holds : Image → Type 0) (xs ys : List Command) (t u v : Option (List ℕ)) → Told old middle xs t u → Cuts middle new holds ys u v → Cuts old new holds (xs ++ ys) t v
+cuts_then old middle new holds xs ys t u v first cut = record {
+  front = xs ++ cut.front;
+  last = cut.last;
+  more = cut.more;
+  are = ap (λ cs. xs ++ cs) cut.are ∙ sym (append_assoc xs cut.front (cut.last ∷ cut.more));
+  middle = cut.middle;
+  replies = first.replies ++ cut.replies;
+  session = session_append old middle cut.middle xs cut.front first.replies cut.replies first.session cut.session;
+  reply = cut.reply;
+  after = cut.after;
+  line = cut.line;
+  file = cut.file;
+  count = cut.count;
+  proper = cut.proper;
+  taken = rw (text_append first.replies cut.replies, append_assoc (text_of first.replies) (text_of cut.replies) (take cut.count (reply_text cut.reply))) (Appends-trans t u v _ _ first.taken cut.taken);
+}
+
+pub stops_then : (old middle : State) (new : Memory) (partly : Image → Image → Type 0) (xs ys : List Command) (t u v : Option (List ℕ)) → Told old middle xs t u → Stops middle new partly ys u v → Stops old new partly (xs ++ ys) t v
+stops_then old middle new partly xs ys t u v first stop = record {
+  front = xs ++ stop.front;
+  last = stop.last;
+  more = stop.more;
+  are = ap (λ cs. xs ++ cs) stop.are ∙ sym (append_assoc xs stop.front (stop.last ∷ stop.more));
+  middle = stop.middle;
+  told = told_then old middle stop.middle xs stop.front t u v first stop.told;
+  fails = stop.fails;
+}
+
+pub stops_line : (old : State) (memory : Memory) (partly : Image → Image → Type 0) (command : Command) (more : List Command) (t : Option (List ℕ)) → SyncFails old memory partly command → Stops old memory partly (command ∷ more) t t
+stops_line old memory partly command more t fails = record { front = []; last = command; more = more; are = refl; middle = old; told = told_none old t; fails = fails }
+
+-- ---- what a line's end adds
+
+pub serves_one : (old : State) (memory : Memory) (holds : Image → Type 0) (command : Command) (reply : LineReply) (t u : Option (List ℕ)) → Acts old memory holds command reply → Appends t u (reply_text reply) → ServesAll old memory holds (command ∷ []) t u
+serves_one old memory holds command reply t u acts taken = record {
+  after = acts.after;
+  file = acts.file;
+  told = told_one old (state memory acts.after) command reply t u acts.line taken;
+}
+
+pub serves_newline : (old : State) (memory : Memory) (holds : Image → Type 0) (held : List ℕ) (t u : Option (List ℕ)) → ServesAll old memory holds (command_of held ∷ []) t u → Serves old memory holds held (10 ∷ []) [] t u
+serves_newline old memory holds held t u all = record {
+  commands = command_of held ∷ [];
+  lines = λ rest. commands_at_newline held rest;
+  after = all.after;
+  file = all.file;
+  told = all.told;
+}
+
+pub cuts_behind : (old : State) (memory : Memory) (holds : Image → Type 0) (xs behind : List Command) (t u : Option (List ℕ)) → Cuts old memory holds xs t u → Cuts old memory holds (xs ++ behind) t u
+cuts_behind old memory holds xs behind t u cut = record {
+  front = cut.front;
+  last = cut.last;
+  more = cut.more ++ behind;
+  are = ap (λ cs. cs ++ behind) cut.are ∙ append_assoc cut.front (cut.last ∷ cut.more) behind;
+  middle = cut.middle;
+  replies = cut.replies;
+  session = cut.session;
+  reply = cut.reply;
+  after = cut.after;
+  line = cut.line;
+  file = cut.file;
+  count = cut.count;
+  proper = cut.proper;
+  taken = cut.taken;
+}
+
+pub stops_behind : (old : State) (memory : Memory) (partly : Image → Image → Type 0) (xs behind : List Command) (t u : Option (List ℕ)) → Stops old memory partly xs t u → Stops old memory partly (xs ++ behind) t u
+stops_behind old memory partly xs behind t u stop = record {
+  front = stop.front;
+  last = stop.last;
+  more = stop.more ++ behind;
+  are = ap (λ cs. cs ++ behind) stop.are ∙ append_assoc stop.front (stop.last ∷ stop.more) behind;
+  middle = stop.middle;
+  told = stop.told;
+  fails = stop.fails;
+}
+
+-- ---- what is behind a piece that was served
+
+module _ (old : State) (middle : Memory) (first : Image → Type 0) (a i b : List ℕ) (t u v : Option (List ℕ)) (one : Serves old middle first a i b t u) where
+  pub cuts_in : (new : Memory) (holds : Image → Type 0) (j : List ℕ) → Cuts (state middle one.after) new holds (commands_from b j) u v → Cuts old new holds (commands_from a (i ++ j)) t v
+  cuts_in new holds j cut = rw (one.lines j) (cuts_then old (state middle one.after) new holds one.commands (commands_from b j) t u v one.told cut)
+
+  pub stops_in : (new : Memory) (partly : Image → Image → Type 0) (j : List ℕ) → Stops (state middle one.after) new partly (commands_from b j) u v → Stops old new partly (commands_from a (i ++ j)) t v
+  stops_in new partly j stop = rw (one.lines j) (stops_then old (state middle one.after) new partly one.commands (commands_from b j) t u v one.told stop)
+
+  pub serves_to_end : (new : Memory) (holds : Image → Type 0) (j : List ℕ) → ServesAll (state middle one.after) new holds (commands_from b j) u v → ServesAll old new holds (commands_from a (i ++ j)) t v
+  serves_to_end new holds j all = rw (one.lines j) (record {
+    after = all.after;
+    file = all.file;
+    told = told_then old (state middle one.after) (state new all.after) one.commands (commands_from b j) t u v one.told all.told;
+  })
+
+-- ---- bytes of a piece
+
+pub split_at : (xs rest : List ℕ) (i b : ℕ) → i < length xs → b ≡ get_or xs i 0 → xs ++ rest ≡ take i xs ++ (b ∷ (drop (i + 1) xs ++ rest))
+split_at [] rest i b low is = absurd (omega arith)
+split_at (x ∷ xs) rest zero b low is = rw is refl
+split_at (x ∷ xs) rest (suc i) b low is = let next : suc i + 1 ≡ suc (i + 1) = omega arith in rw next (ap (λ l. x ∷ l) (split_at xs rest i b (omega arith) is))
+
+pub take_next : (xs : List ℕ) (i b : ℕ) → i < length xs → b ≡ get_or xs i 0 → take (i + 1) xs ≡ take i xs ++ b ∷ []
+take_next xs i b low e = ap (λ n. take n xs) (let n : i + 1 ≡ suc i = omega arith in n) ∙ take-suc xs i 0 low ∙ ap (λ x. take i xs ++ x ∷ []) (sym e)
+
+pub consumes_nothing : (a : Option (List ℕ)) → Consumes a a []
+consumes_nothing None = tt
+consumes_nothing (Some xs) = refl
+
+-- a read that failed consumed nothing
+pub consumes_kept : (a b c : Option (List ℕ)) (xs : List ℕ) → Consumes a b xs → Keeps b c → Consumes a c xs
+consumes_kept None b c xs read kept = tt
+consumes_kept (Some us) None c xs read kept = absurd read
+consumes_kept (Some us) (Some vs) None xs read kept = absurd kept
+consumes_kept (Some us) (Some vs) (Some ws) xs read kept = rw kept read
+
+pub take_more : (xs : List ℕ) (n m : ℕ) → n ≤ m → take n xs ++ drop n (take m xs) ≡ take m xs
+take_more [] zero zero low = refl
+take_more [] zero (suc m) low = refl
+take_more [] (suc n) zero low = absurd (omega arith)
+take_more [] (suc n) (suc m) low = refl
+take_more (x ∷ xs) zero m low = refl
+take_more (x ∷ xs) (suc n) zero low = absurd (omega arith)
+take_more (x ∷ xs) (suc n) (suc m) low = ap (λ l. x ∷ l) (take_more xs n m (omega arith))
+
+pub session_split : (old new : State) (first rest : List Command) (replies : List LineReply) → Session old (first ++ rest) replies new →
+    (middle : State) × (front : List LineReply) × (behind : List LineReply) × (replies ≡ front ++ behind) × Session old first front middle × Session middle rest behind new
+session_split old new [] rest replies session = (old, [], replies, refl, refl, session)
+session_split old new (x ∷ first) rest [] session = absurd session
+session_split old new (x ∷ first) rest (p ∷ replies) (next, line, later) =
+    let more = session_split next new first rest replies later in
+    (more.0, p ∷ more.1, more.2, ap (λ ps. p ∷ ps) more.3, (next, line, more.4), more.5)
+
+pub not_long : (left after : Option (List ℕ)) (input first more : List ℕ) → left ≡ Some input → length input ≤ 1073741824 → Consumes left after (first ++ more) → length first ≡ 1073741824 → 1 ≤ length more → ⊥
+not_long left after input first more is few read most some = go after (rw is at read)
+  where
+    go : (after : Option (List ℕ)) → Consumes (Some input) after (first ++ more) → ⊥
+    go None never = never
+    go (Some rest) split = omega (arith, ap length split, length-append (first ++ more) rest, length-append first more, few, most, some)

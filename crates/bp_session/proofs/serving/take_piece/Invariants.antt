@@ -1,0 +1,17 @@
+use Rattle.std.proofs.Common.{◌≡◌, ◌≤◌, ◌-◌, take}
+use Rattle.bp_session.specs.Serving.{PieceOutcome, moment}
+use Rattle.bp_session.proofs.serving.take_piece.Given as goal
+
+-- the front of the piece was served
+abbrev pub invariant-loop-end : goal.invariant-loop-end
+invariant-loop-end g l =
+    record {
+      inside : l.at ≤ l.count;
+      piece : l.work.piece.items ≡ l.fn.work.piece.items;
+      served : PieceOutcome 0 l.fn.work.buffers.line.items (take l.at l.fn.work.piece.items) l.work.buffers.line.items
+          (moment l.fn.volume (g.F.Files.view l.fn.files) (g.K.Sink.taken l.fn.out) (g.K.Sink.faults l.fn.out))
+          (moment l.volume (g.F.Files.view l.files) (g.K.Sink.taken l.out) (g.K.Sink.faults l.out));
+    }
+
+abbrev pub decreases-loop-end : goal.decreases-loop-end
+decreases-loop-end g l = l.count - l.at

@@ -1,0 +1,40 @@
+-- What a line came to.
+use Rattle.std.specs.Prelude.{◌≡◌, length}
+use Rattle.pm_region.specs.Memory.{Memory, current_words, drained}
+use Rattle.bp_layout.specs.Words.{Image}
+use Rattle.bp_plain.specs.Calls.{Answer}
+use Rattle.bp_script.specs.Commands.{Command}
+use Rattle.bp_script.specs.Commands.Command.{file_call, sync, space, bad_syntax, too_long}
+use Rattle.bp_script.specs.Texts.{LineReply}
+use Rattle.bp_script.specs.Texts.LineReply.{answered, synced, space_of, syntax, long}
+use Rattle.bp_session.specs.Session.{Line, State}
+use Rattle.bp_session.specs.declared.outcome.Outcome.{Outcome}
+use Rattle.bp_session.specs.declared.outcome.Outcome.TheVariants.{Answered, Synced, Counted, BadSyntax, TooLong}
+
+-- as a reply
+abbrev pub reply_of : Outcome → Answer → LineReply
+reply_of Answered answer = answered answer
+reply_of Synced answer = synced
+reply_of (Counted free live) answer = space_of free live
+reply_of BadSyntax answer = syntax
+reply_of TooLong answer = long
+
+-- the region, and what the attached file holds
+abbrev pub state : Memory → Image → State
+state memory saved = record { memory = memory; saved = saved }
+
+-- what the file is to hold after a command: a sync saves the words
+abbrev pub to_save : Command → Memory → Image → Image
+to_save (file_call call) memory saved = saved
+to_save sync memory saved = current_words memory
+to_save space memory saved = saved
+to_save bad_syntax memory saved = saved
+to_save too_long memory saved = saved
+
+-- A command was done and replied to, but for the file, which is to be saved where the outcome is a sync.
+pub record Does (old : Memory) (command : Command) (outcome : Outcome) (answer : Answer) (new : Memory) : Type 0 where
+  pub line : (saved : Image) → Line (state old saved) command (reply_of outcome answer) (state new (to_save command old saved))
+  pub size : length new.base ≡ length old.base
+  pub is_sync : outcome ≡ Synced → command ≡ sync
+  pub synced : command ≡ sync → outcome ≡ Synced
+  pub others : ¬ (outcome ≡ Synced) → (saved : Image) → to_save command old saved ≡ saved

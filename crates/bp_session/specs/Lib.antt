@@ -1,0 +1,10 @@
+pub mod Taking
+pub mod Pieces
+pub mod Lines
+pub mod Session
+pub mod PlainSession
+pub mod Files
+pub mod Serving
+pub mod Work
+pub mod Acting
+pub mod Outside

@@ -1,0 +1,115 @@
+-- What a script does to a plain file tree of which each call is kept until it is certain.
+use Rattle.std.specs.Prelude.{◌≡◌, ℕ, ◌⊎◌, List, [], ◌∷◌, ◌++◌, length, take, true, None}
+use Rattle.bp_plain.specs.PlainTree.{FileTree}
+use Rattle.bp_plain.specs.Stands.{Stands}
+use Rattle.bp_plain.specs.Calls.{Call, Answer}
+use Rattle.bp_plain.specs.Calls.Call.{list}
+use Rattle.bp_plain.specs.Calls.Answer.{refused}
+use Rattle.bp_plain.specs.Calls.Refusal.{no_space, no_memory}
+use Rattle.bp_plain.specs.Plain.{plain, is_changing, refusal}
+use Rattle.pm_epochs.specs.Log.{marks}
+use Rattle.pm_epochs.specs.Replay.{Cut, IsRight, replay, kept_calls, after_calls}
+use Rattle.pm_region.specs.Memory.{Memory, current_words}
+use Rattle.bp_session.specs.Session.{Session, State}
+use Rattle.bp_script.specs.Commands.{Command}
+use Rattle.bp_script.specs.Commands.Command.{file_call, sync, space, bad_syntax, too_long}
+use Rattle.bp_script.specs.Texts.{LineReply}
+use Rattle.bp_script.specs.Texts.LineReply.{answered, synced, space_of, syntax, long}
+
+-- A call on a plain tree. Besides the tree's own answer there are two: a call that changes the tree may find no room, and a listing
+-- may find no memory; neither does anything.
+pub data PlainCall (tree : FileTree) : Call → Answer → FileTree → Type 0 where
+  plainly : {call : Call} → PlainCall tree call (plain tree call).0 (plain tree call).1
+  no_room : {call : Call} {needed free : ℕ} → is_changing tree call ≡ true → PlainCall tree call (refused (no_space needed free)) tree
+  no_listing : {text : List ℕ} → refusal tree (list text) ≡ None → PlainCall tree (list text) (refused no_memory) tree
+
+-- The tree that is certain, and the trees after each call since, the last one last.
+pub record Plain : Type 0 where
+  pub certain : FileTree
+  pub since : List FileTree
+
+-- the tree now
+abbrev pub latest : FileTree → List FileTree → FileTree
+latest certain [] = certain
+latest certain (tree ∷ since) = latest tree since
+
+-- the tree after so many of the calls
+abbrev pub tree_at : FileTree → List FileTree → ℕ → FileTree
+tree_at certain since count = latest certain (take count since)
+
+abbrev pub fresh : FileTree → Plain
+fresh tree = record { certain = tree; since = [] }
+
+abbrev pub tree_now : Plain → FileTree
+tree_now p = latest p.certain p.since
+
+-- the tree that a crash leaves which keeps so many calls
+abbrev pub after_crash : Plain → ℕ → FileTree
+after_crash p count = tree_at p.certain p.since count
+
+abbrev pub with_call : Plain → FileTree → Plain
+with_call p tree = record { certain = p.certain; since = p.since ++ tree ∷ [] }
+
+-- ---- one line
+
+-- A call may first make all earlier calls certain.
+pub record PlainCalls (old : Plain) (call : Call) (reply : LineReply) (new : Plain) : Type 0 where
+  pub answer : Answer
+  pub tree : FileTree
+  pub told : reply ≡ answered answer
+  pub does : PlainCall (tree_now old) call answer tree
+  pub goes_on : (new ≡ with_call old tree) ⊎ (new ≡ with_call (fresh (tree_now old)) tree)
+
+pub record PlainTells (old : Plain) (wanted reply : LineReply) (new : Plain) : Type 0 where
+  pub told : reply ≡ wanted
+  pub same : new ≡ old
+
+-- two numbers of blocks are told, of which a plain tree knows nothing
+pub record PlainSpace (old : Plain) (reply : LineReply) (new : Plain) : Type 0 where
+  pub free : ℕ
+  pub live : ℕ
+  pub told : reply ≡ space_of free live
+  pub same : new ≡ old
+
+abbrev pub PlainLine : Plain → Command → LineReply → Plain → Type 0
+PlainLine old (file_call call) reply new = PlainCalls old call reply new
+PlainLine old sync reply new = (reply ≡ synced) × (new ≡ fresh (tree_now old))
+PlainLine old space reply new = PlainSpace old reply new
+PlainLine old bad_syntax reply new = PlainTells old syntax reply new
+PlainLine old too_long reply new = PlainTells old long reply new
+
+abbrev pub PlainSession : Plain → List Command → List LineReply → Plain → Type 0
+PlainSession old [] [] new = new ≡ old
+PlainSession old [] (reply ∷ replies) new = ⊥
+PlainSession old (command ∷ commands) [] new = ⊥
+PlainSession old (command ∷ commands) (reply ∷ replies) new = (middle : Plain) × PlainLine old command reply middle × PlainSession middle commands replies new
+
+-- The words now stand for the tree now, and after a crash at any moment they stand for the tree after the calls that it keeps.
+pub record Follows (memory : Memory) (p : Plain) : Type 0 where
+  pub now : Stands (current_words memory) (tree_now p)
+  pub calls : marks memory.events ≡ length p.since
+  pub after : (count : ℕ) → Stands (after_calls memory.base memory.events count) (after_crash p count)
+  pub crash : (cut : Cut) → IsRight memory.events cut → Stands (replay memory.base memory.events cut) (after_crash p (kept_calls memory.events cut))
+
+-- ---- a session
+
+-- These are a plain tree's replies to these commands, and the words then follow it.
+pub record IsPlainly (tree : FileTree) (commands : List Command) (replies : List LineReply) (memory : Memory) : Type 0 where
+  pub plain : Plain
+  pub session : PlainSession (fresh tree) commands replies plain
+  pub follows : Follows memory plain
+
+-- The first of a session's commands lead to a state of its own, which the rest goes on from, and are a plain tree's too.
+pub record IsFront (tree : FileTree) (old : State) (first rest : List Command) (replies : List LineReply) (new : State) : Type 0 where
+  pub middle : State
+  pub front : List LineReply
+  pub behind : List LineReply
+  pub are : replies ≡ front ++ behind
+  pub session : Session old first front middle
+  pub later : Session middle rest behind new
+  pub plainly : IsPlainly tree first front middle.memory
+
+-- A session is a plain tree's, at its end and behind each of its lines.
+pub record FollowsTree (tree : FileTree) (old : State) (commands : List Command) (replies : List LineReply) (new : State) : Type 0 where
+  pub whole : IsPlainly tree commands replies new.memory
+  pub fronts : (first rest : List Command) → commands ≡ first ++ rest → IsFront tree old first rest replies new

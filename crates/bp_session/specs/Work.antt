@@ -1,0 +1,26 @@
+-- What the memory of a run holds of a line and its answer, and of what was read.
+use Rattle.std.specs.Prelude.{ℕ, List, length, nat_lt, Option, Some, None, if◌then◌else◌}
+use Rattle.bp_limits.specs.Limits.{max_line}
+use Rattle.bp_plain.specs.Calls.{Answer}
+use Rattle.bp_session.specs.declared.work.LineBuffers.{LineBuffers}
+use Rattle.bp_session.specs.declared.work.Work.{Work}
+
+-- the line, or the first 140,001 bytes of one that is longer
+abbrev pub line_in : LineBuffers → List ℕ
+line_in buffers = buffers.line.items
+
+-- the answer of the last call
+abbrev pub answer_in : LineBuffers → Answer
+answer_in buffers = buffers.reply.answer
+
+-- the line of a run
+abbrev pub held_line : Work → List ℕ
+held_line work = line_in work.buffers
+
+-- the bytes that were read last, in a buffer of 65,536
+abbrev pub read_piece : Work → List ℕ
+read_piece work = work.piece.items
+
+-- a line that is not too long
+abbrev pub line_of : List ℕ → Option (List ℕ)
+line_of held = if nat_lt max_line (length held) then None else Some held

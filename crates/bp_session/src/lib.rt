@@ -1,0 +1,17 @@
+//! Sessions: a script's lines, served over a volume, each with its reply to a sink.
+#![tactic(auto)]
+
+mod acting;
+pub mod blocks;
+pub mod laws;
+mod outcome;
+pub mod saving;
+pub mod sending;
+mod serving;
+mod telling;
+mod work;
+
+pub use acting::act;
+pub use outcome::Outcome;
+pub use serving::{serve, serve_line};
+pub use work::{LineBuffers, Work};

@@ -1,0 +1,63 @@
+//! A file takes the words of a region.
+
+ghost use Rattle.std.specs.Prelude.{◌≡◌, List, ℕ, OnOk, OnErr, true};
+ghost use Rattle.bp_io.specs.Causes.{HasCause};
+ghost use Rattle.bp_io.specs.Files.{KeepsFiles, StaysAttached};
+ghost use Rattle.bp_layout.specs.Bytes.{image_bytes};
+ghost use Rattle.bp_session.specs.Files.{HoldsBytes, HasBlocksOf, IsReady, StaysTold};
+ghost use Rattle.pm_region.specs.Memory.{current_words};
+
+use crate::blocks::read_block;
+use bp_io::{Failed, Files};
+use bp_limits::BLOCK_WORDS;
+use pm_region::Region;
+
+// Writes each block of the words to the attached file, in order.
+fn write_blocks<R: Region, F: Files>(region: &R, files: &mut F) -> Result<(), Failed>
+    requires { IsReady (R.memory region.now).base (F.view files.old) }
+    ensures saved { OnOk result ((name was : List ℕ) → HoldsBytes (F.view files.old) name was →
+        HoldsBytes (F.view files.new) name (image_bytes (current_words (R.memory region.now)))) }
+    ensures partly { OnErr result ((name was : List ℕ) → HoldsBytes (F.view files.old) name was →
+        HasBlocksOf ((F.view files.new).contents name) was (image_bytes (current_words (R.memory region.now)))) }
+    ensures told { StaysTold (F.view files.old) (F.view files.new) }
+    ensures attached { StaysAttached (F.view files.old) (F.view files.new) }
+    ensures cause { HasCause (F.view files.old).faults (F.view files.new).faults result }
+{
+    let count = region.words() / BLOCK_WORDS;
+    let mut block = [0u8; 4096];
+    for i in 0..count {
+        read_block(region, i, &mut block);
+        files.write_block(i, &block)?;
+    }
+    Ok(())
+}
+
+// Flushes the attached file.
+fn flush<F: Files>(files: &mut F) -> Result<(), Failed>
+    requires attached { (name : List ℕ) × ((F.view files.old).is_attached name ≡ true) }
+    requires may_write { (F.view files.old).may_write ≡ true }
+    ensures contents { KeepsFiles (F.view files.old) (F.view files.new) }
+    ensures attached { StaysAttached (F.view files.old) (F.view files.new) }
+    ensures flushed { OnOk result ((F.view files.new).is_flushed ≡ true) }
+    ensures cause { HasCause (F.view files.old).faults (F.view files.new).faults result }
+{
+    files.flush()
+}
+
+/// Writes each block of the words to the attached file, in order, and flushes it.
+pub fn save<R: Region, F: Files>(region: &R, files: &mut F) -> Result<(), Failed>
+    requires { IsReady (R.memory region.now).base (F.view files.old) }
+    ensures saved { OnOk result ((name was : List ℕ) → HoldsBytes (F.view files.old) name was →
+        HoldsBytes (F.view files.new) name (image_bytes (current_words (R.memory region.now)))) }
+    ensures partly { OnErr result ((name was : List ℕ) → HoldsBytes (F.view files.old) name was →
+        HasBlocksOf ((F.view files.new).contents name) was (image_bytes (current_words (R.memory region.now)))) }
+    ensures flushed { OnOk result ((F.view files.new).is_flushed ≡ true) }
+    ensures told { StaysTold (F.view files.old) (F.view files.new) }
+    ensures attached { StaysAttached (F.view files.old) (F.view files.new) }
+    ensures cause { HasCause (F.view files.old).faults (F.view files.new).faults result }
+{
+    match write_blocks(region, files) {
+        Ok(()) => flush(files),
+        Err(Failed) => Err(Failed),
+    }
+}

@@ -1,0 +1,191 @@
+//! Lines of a source in any pieces, each with its reply to a sink.
+
+ghost use Rattle.memchr.specs.Find.{IsFirst, Nowhere, Passes, is_byte};
+ghost use Rattle.std.specs.Prelude.{◌≡◌, ◌≤◌, ◌∷◌, ◌++◌, List, ℕ, [], length, slice_range, take, true, vec_len};
+ghost use Rattle.std.specs.Io.{ReadsAtMost};
+ghost use Rattle.std.specs.Io.KnownBytes.{ReadConsumes};
+ghost use Rattle.bp_io.specs.Causes.{HasCause};
+ghost use Rattle.bp_script.specs.Commands.Command.{sync};
+ghost use Rattle.bp_script.specs.Commands.{command_of};
+ghost use Rattle.bp_session.specs.Files.{IsReady};
+ghost use Rattle.bp_session.specs.Lines.{commands_from};
+ghost use Rattle.bp_session.specs.Pieces.{piece_size};
+ghost use Rattle.bp_session.specs.Serving.{LineOutcome, PieceOutcome, ServeOutcome, moment, told};
+ghost use Rattle.bp_session.specs.Work.{held_line, read_piece};
+
+use crate::acting::act_and_save;
+use crate::telling::tell;
+use crate::work::Work;
+use bp_io::{Failed, Files, Sink, Source};
+use bp_limits::MAX_INPUT;
+use bp_volume::Volume;
+use memchr::memchr;
+use pm_region::Region;
+use std::alloc::Global;
+
+/// Serves the line that the work holds, and answers the status: 0 where its reply was taken whole, 4 where the sink failed, 5
+/// where a sync could not save. A file is to be attached that has the volume's blocks and may be written.
+pub fn serve_line<R: Region, K: Sink, F: Files>(
+    alloc: Global,
+    volume: &mut Volume<R>,
+    work: &mut Work,
+    out: &mut K,
+    files: &mut F,
+) -> u8
+    requires { IsReady volume.old.base (F.view files.old) }
+    ensures outcome { LineOutcome result (command_of (held_line work.old) ∷ [])
+        (moment volume.old (F.view files.old) (K.taken out.old) (K.faults out.old))
+        (moment volume.new (F.view files.new) (K.taken out.new) (K.faults out.new)) }
+    ensures synced { ¬ (result ≡ 5) → command_of (held_line work.old) ≡ sync → (F.view files.new).is_flushed ≡ true }
+    ensures ready { IsReady volume.new.base (F.view files.new) }
+    ensures line { held_line work.new ≡ held_line work.old }
+    ensures piece { read_piece work.new ≡ read_piece work.old }
+{
+    let buffers = &mut work.buffers;
+    match act_and_save(alloc, volume, buffers, files) {
+        Ok(outcome) => match tell(outcome, &buffers.reply, &mut buffers.text, out) {
+            Ok(()) => 0,
+            Err(Failed) => 4,
+        },
+        Err(Failed) => 5,
+    }
+}
+
+// Serves the line that a newline ends, and begins the next.
+fn end_line<R: Region, K: Sink, F: Files>(
+    alloc: Global,
+    volume: &mut Volume<R>,
+    work: &mut Work,
+    out: &mut K,
+    files: &mut F,
+) -> u8
+    requires { IsReady volume.old.base (F.view files.old) }
+    ensures outcome { PieceOutcome result (held_line work.old) (10 ∷ []) (held_line work.new)
+        (moment volume.old (F.view files.old) (K.taken out.old) (K.faults out.old))
+        (moment volume.new (F.view files.new) (K.taken out.new) (K.faults out.new)) }
+    ensures piece { read_piece work.new ≡ read_piece work.old }
+{
+    let status = serve_line(alloc, volume, work, out, files);
+    work.buffers.line.clear();
+    status
+}
+
+// Goes on by bytes of the piece that have no newline.
+fn take_run(work: &mut Work, from: usize, to: usize)
+    requires order { from ≤ to }
+    requires inside { to ≤ piece_size }
+    requires quiet { Nowhere (Passes (is_byte 10) (read_piece work.old)) from to }
+    ensures same { (rest : List ℕ) → commands_from (held_line work.old) (slice_range (read_piece work.old) from to ++ rest)
+        ≡ commands_from (held_line work.new) rest }
+    ensures piece { read_piece work.new ≡ read_piece work.old }
+{
+    let Work { buffers, piece } = work;
+    buffers.add(&piece[from..to]);
+}
+
+// Where the first newline stands from one place of the bytes up to another.
+fn newline_in(bytes: &[u8], from: usize, to: usize) -> Option<usize>
+    requires order { from ≤ to }
+    requires inside { to ≤ length bytes.now }
+    ensures { IsFirst (Passes (is_byte 10) bytes.now) from to result }
+{
+    match memchr(b'\n', &bytes[from..to]) {
+        Some(i) => Some(from + i),
+        None => None,
+    }
+}
+
+// Goes on by the first bytes of the piece that was read.
+fn take_piece<R: Region, K: Sink, F: Files>(
+    alloc: Global,
+    volume: &mut Volume<R>,
+    work: &mut Work,
+    count: usize,
+    out: &mut K,
+    files: &mut F,
+) -> u8
+    requires ready { IsReady volume.old.base (F.view files.old) }
+    requires inside { count ≤ piece_size }
+    ensures { PieceOutcome result (held_line work.old) (take count (read_piece work.old)) (held_line work.new)
+        (moment volume.old (F.view files.old) (K.taken out.old) (K.faults out.old))
+        (moment volume.new (F.view files.new) (K.taken out.new) (K.faults out.new)) }
+{
+    let mut at: usize = 0;
+    while let Some(end) = newline_in(&work.piece, at, count) {
+        take_run(work, at, end);
+        let status = end_line(alloc, volume, work, out, files);
+        if status != 0 {
+            return status;
+        }
+        at = end + 1;
+    }
+    take_run(work, at, count);
+    0
+}
+
+// Serves a line that ends the input.
+fn finish<R: Region, K: Sink, F: Files>(
+    alloc: Global,
+    volume: &mut Volume<R>,
+    work: &mut Work,
+    out: &mut K,
+    files: &mut F,
+) -> u8
+    requires { IsReady volume.old.base (F.view files.old) }
+    ensures { LineOutcome result (commands_from (held_line work.old) [])
+        (moment volume.old (F.view files.old) (K.taken out.old) (K.faults out.old))
+        (moment volume.new (F.view files.new) (K.taken out.new) (K.faults out.new)) }
+{
+    if work.buffers.line.is_empty() {
+        return 0;
+    }
+    serve_line(alloc, volume, work, out, files)
+}
+
+// Reads a piece of the input.
+fn fill<S: Source>(src: &mut S, piece: &mut Vec<u8>) -> Result<usize, Failed>
+    ensures len { vec_len piece.new ≡ vec_len piece.old }
+    ensures bound { ReadsAtMost result piece.new.items }
+    ensures bytes { ReadConsumes (S.left src.old) (S.left src.new) result piece.new.items }
+    ensures cause { HasCause (S.faults src.old) (S.faults src.new) result }
+{
+    src.read(piece)
+}
+
+/// Answers each line of a source, in whatever pieces it comes. No line that the work held before is served.
+pub fn serve<R: Region, S: Source, K: Sink, F: Files>(
+    alloc: Global,
+    volume: &mut Volume<R>,
+    work: &mut Work,
+    src: &mut S,
+    out: &mut K,
+    files: &mut F,
+) -> u8
+    requires { IsReady volume.old.base (F.view files.old) }
+    ensures outcome { ServeOutcome result (told (S.left src.old) (S.faults src.old)) (told (S.left src.new) (S.faults src.new))
+        (moment volume.old (F.view files.old) (K.taken out.old) (K.faults out.old))
+        (moment volume.new (F.view files.new) (K.taken out.new) (K.faults out.new)) }
+    ensures ready { IsReady volume.new.base (F.view files.new) }
+{
+    work.buffers.line.clear();
+    let mut taken: usize = 0;
+    loop {
+        let count = match fill(src, &mut work.piece) {
+            Ok(count) => count,
+            Err(Failed) => return 3,
+        };
+        if count == 0 {
+            break;
+        }
+        let served = count.min(MAX_INPUT as usize - taken);
+        let status = take_piece(alloc, volume, work, served, out, files);
+        if status != 0 {
+            return status;
+        }
+        if served < count {
+            return 6;
+        }
+        taken += count;
+    }
+    finish(alloc, volume, work, out, files)
+}

@@ -1,0 +1,119 @@
+//! The memory of a run, made once.
+
+ghost use Rattle.bp_script.specs.Lines.{decoded_room};
+ghost use Rattle.std.specs.Prelude.{◌+◌, ◌≡◌, ◌≤◌, IfOk, [], vec_capacity, vec_len};
+ghost use Rattle.bp_limits.specs.Limits.{max_line, max_text};
+ghost use Rattle.bp_session.specs.Pieces.{piece_size};
+
+use bp_limits::{MAX_LINE, MAX_TEXT};
+use bp_plain::Reply;
+use bp_script::Decoded;
+use std::alloc::{AllocError, Global};
+
+// The bytes of a read.
+const PIECE: usize = 65_536;
+
+/// A line, of which one byte more than the longest is kept, and what it takes to answer it.
+#[derive(Drop)]
+pub struct LineBuffers {
+    pub(crate) line: Vec<u8>,
+    pub(crate) decoded: Decoded,
+    pub(crate) reply: Reply,
+    pub(crate) text: Vec<u8>,
+    ghost room: { max_line + 1 ≤ vec_capacity line },
+    ghost fits: { vec_len line ≤ max_line + 1 },
+    ghost decodes: { max_line ≤ decoded_room decoded },
+    ghost spelled: { vec_len text ≡ max_text },
+}
+
+impl LineBuffers {
+    ghost use Rattle.bp_session.specs.Work.{answer_in, line_in, line_of};
+    ghost use Rattle.std.specs.Prelude.{◌++◌, take, option_map};
+
+    /// Room for lines of 140,000 bytes, with the empty line in it. It fails for want of memory alone.
+    pub fn new(alloc: Global) -> Result<Self, AllocError>
+        ensures { IfOk result (λ buffers. line_in buffers ≡ []) }
+    {
+        Ok(LineBuffers {
+            line: Vec::with_capacity(alloc, MAX_LINE + 1)?,
+            decoded: Decoded::new(alloc, MAX_LINE)?,
+            reply: Reply::new(alloc)?,
+            text: vec![in alloc; 0; MAX_TEXT]?,
+        })
+    }
+
+    /// Sets the line. Of one above the limit only that it is too long is kept.
+    pub fn set_line(&mut self, bytes: &[u8])
+        ensures { line_in self.new ≡ take (max_line + 1) bytes.now }
+    {
+        self.line.clear();
+        self.add(bytes);
+    }
+
+    /// Adds bytes to the line. Of one above the limit only that it is too long is kept.
+    pub(crate) fn add(&mut self, bytes: &[u8])
+        ensures { line_in self.new ≡ take (max_line + 1) (line_in self.old ++ bytes.now) }
+    {
+        let kept = bytes.len().min(MAX_LINE + 1 - self.line.len());
+        match self.line.extend_from_slice(&bytes[..kept]) {
+            Ok(()) => {}
+            Err(_) => unreachable!(),
+        }
+    }
+
+    /// The line, where it is not too long.
+    pub fn line(&self) -> Option<&[u8]>
+        ensures { option_map (λ bytes. bytes.now) result ≡ line_of (line_in self.now) }
+    {
+        if self.line.len() <= MAX_LINE {
+            Some(&self.line)
+        } else {
+            None
+        }
+    }
+
+    /// The answer of the last call.
+    pub fn reply(&self) -> &Reply
+        ensures { result.now.answer ≡ answer_in self.now }
+    {
+        &self.reply
+    }
+}
+
+/// A line as far as it was read, a piece of the source, and what it takes to answer a line. Serving takes no other memory, but
+/// for listings.
+#[derive(Drop)]
+pub struct Work {
+    pub(crate) buffers: LineBuffers,
+    pub(crate) piece: Vec<u8>,
+    ghost whole: { vec_len piece ≡ piece_size },
+}
+
+impl Work {
+    ghost use Rattle.bp_session.specs.Work.{held_line, line_of};
+    ghost use Rattle.std.specs.Prelude.{take, option_map};
+
+    /// Room for lines of 140,000 bytes, with the empty line in it. It fails for want of memory alone.
+    pub fn new(alloc: Global) -> Result<Self, AllocError>
+        ensures { IfOk result (λ work. held_line work ≡ []) }
+    {
+        Ok(Work {
+            buffers: LineBuffers::new(alloc)?,
+            piece: vec![in alloc; 0; PIECE]?,
+        })
+    }
+
+    /// Sets the line. Of one above the limit only that it is too long is kept.
+    pub fn set_line(&mut self, bytes: &[u8])
+        ensures { held_line self.new ≡ take (max_line + 1) bytes.now }
+    {
+        self.buffers.set_line(bytes);
+    }
+
+    /// The line, where it is not too long.
+    pub fn line(&self) -> Option<&[u8]>
+        ensures { option_map (λ bytes. bytes.now) result ≡ line_of (held_line self.now) }
+    {
+        self.buffers.line()
+    }
+}

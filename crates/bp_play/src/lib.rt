@@ -1,0 +1,2 @@
+//! Plays: scripts of any length, made from one number.
+#![tactic(auto)]

@@ -1,0 +1,45 @@
+-- What a script asks a crash to keep, and the cut of a log that it means.
+use Rattle.std.specs.Prelude.{ℕ, ◌/◌, ◌%◌, ◌==◌, List, [], ◌∷◌, ◌++◌, Bool, true, false, length, replicate, flat_map}
+use Rattle.pm_epochs.specs.declared.event.Event.{Event}
+use Rattle.pm_epochs.specs.Log.{barriers, epoch_stores}
+use Rattle.pm_epochs.specs.Replay.{Cut}
+use Rattle.bp_replay.specs.declared.cut.Cut.{Cut as Asked}
+use Rattle.bp_replay.specs.declared.cut.Cut.TheVariants.{All, Nothing, At}
+
+-- each store, none, or those of a moment, an epoch and the bytes of its mask
+pub data Wanted : Type 0 where
+  all : Wanted
+  nothing : Wanted
+  at : ℕ → ℕ → List ℕ → Wanted
+
+-- as code holds it
+abbrev pub wanted_by : Asked → Wanted
+wanted_by All = all
+wanted_by Nothing = nothing
+wanted_by (At moment epoch mask) = at moment epoch mask.now
+
+abbrev pub bit : ℕ → ℕ → Bool
+bit byte place = byte / place % 2 == 1
+
+-- the bits of bytes, the lowest of the first byte first
+abbrev pub bits : List ℕ → List Bool
+bits bytes = flat_map (λ byte. bit byte 1 ∷ bit byte 2 ∷ bit byte 4 ∷ bit byte 8 ∷ bit byte 16 ∷ bit byte 32 ∷ bit byte 64 ∷ bit byte 128 ∷ []) bytes
+
+-- without the places behind the last true one
+abbrev pub behind_true : Bool → List Bool → List Bool
+behind_true false [] = []
+behind_true place rest = place ∷ rest
+
+abbrev pub trimmed : List Bool → List Bool
+trimmed [] = []
+trimmed (place ∷ mask) = behind_true place (trimmed mask)
+
+-- the cut that is wanted of a log
+abbrev pub cut_for : List Event → Wanted → Cut
+cut_for events all = record {
+  moment = length events;
+  epoch = barriers events;
+  mask = replicate (epoch_stores (barriers events) events) true;
+}
+cut_for events nothing = record { moment = length events; epoch = 0; mask = [] }
+cut_for events (at moment epoch mask) = record { moment = moment; epoch = epoch; mask = trimmed (bits mask) }

@@ -1,0 +1,2 @@
+//! A region over raw memory.
+#![tactic(auto)]

@@ -1,14 +1,14 @@
 -- Memories to whose logs events are added, and memories that are drained.
-use Rattle.std.proofs.Common.{◌≡◌, ℕ, zero, suc, ◌+◌, ◌-◌, ◌<◌, ◌≤◌, true, false, Bool, List, [], ◌∷◌, ◌++◌, length, take, drop, get_or, refl, sym, ◌∙◌, ap, arith, add-one}
+use Rattle.std.proofs.Common.{◌≡◌, ℕ, zero, suc, ◌+◌, ◌-◌, ◌<◌, ◌≤◌, true, false, Bool, List, [], ◌∷◌, ◌++◌, length, take, drop, get_or, set, refl, sym, ◌∙◌, ap, arith, add-one}
 use Rattle.std.specs.Prelude.{nat_lt, if◌then◌else◌}
 use Rattle.std.proofs.lemmas.Bool.{ltb-false}
-use Rattle.std.proofs.lemmas.List.{append_assoc, append-nil, length-append}
+use Rattle.std.proofs.lemmas.List.{append_assoc, append-nil, length-append, length-take-le, length-drop, take-append-drop, drop_more, set-append_right}
 use Rattle.pm_epochs.specs.declared.event.Event.{Event}
 use Rattle.pm_epochs.specs.declared.event.Event.TheVariants.{Store}
 use Rattle.pm_epochs.specs.Log.{words_after, IsPiece}
 use Rattle.pm_epochs.proofs.CrashLaws.{words_after-append, length-words_after}
 use Rattle.pm_epochs.proofs.PieceLaws.{length-piece}
-use Rattle.pm_region.specs.Memory.{Memory, current_words, room_in, Adds, events_between, drained, with_room, stores_from}
+use Rattle.pm_region.specs.Memory.{Memory, current_words, room_in, Adds, events_between, drained, with_room, stores_from, with_values}
 
 pub adds_none : (memory : Memory) → Adds memory memory []
 adds_none memory = ap (λ es. record memory { events = es }) (sym (append-nil memory.events))
@@ -81,3 +81,39 @@ stores_from-more word values i low = rw add-one (more word values i low)
     more word (value ∷ values) (suc i) low =
         let there : (word + 1) + i ≡ word + suc i = omega arith in
         ap (λ es. Store word value ∷ es) (more (word + 1) values i (omega arith) ∙ ap (λ w. stores_from (word + 1) (take i values) ++ Store w (get_or values i 0) ∷ []) there)
+
+-- ## Words that are set in a row
+
+module _ (words : List ℕ) (first : ℕ) where
+  pub with_values-none : with_values words first [] ≡ words
+  with_values-none =
+      let here : first + 0 ≡ first = omega arith in
+      rw here (take-append-drop first words)
+
+  pub length-with_values : (values : List ℕ) → first + length values ≤ length words → length (with_values words first values) ≡ length words
+  length-with_values values fits =
+      let behind = drop (first + length values) words in
+      omega (
+        arith,
+        length-append (take first words) (values ++ behind),
+        length-append values behind,
+        length-take-le first words (omega arith),
+        length-drop (first + length values) words,
+      )
+
+  -- one more value
+  pub with_values-more : (values : List ℕ) (value : ℕ) → first + length values < length words → set (with_values words first values) (first + length values) value ≡ with_values words first (values ++ value ∷ [])
+  with_values-more values value low =
+      let front = take first words in
+      let place = first + length values in
+      let before = front ++ values in
+      let long : length before ≡ place = omega (arith, length-append front values, length-take-le first words (omega arith)) in
+      let none : place - place ≡ 0 = omega arith in
+      let next : first + length (values ++ value ∷ []) ≡ place + 1 = omega (arith, length-append values (value ∷ [])) in
+      ap (λ ws. set ws place value) (sym (append_assoc front values (drop place words)))
+      ∙ set-append_right before (drop place words) place place value long (omega arith)
+      ∙ ap (λ k. before ++ set (drop place words) k value) none
+      ∙ ap (λ ws. before ++ set ws 0 value) (drop_more words place 0 low)
+      ∙ append_assoc front values (value ∷ drop (place + 1) words)
+      ∙ ap (λ ws. front ++ ws) (sym (append_assoc values (value ∷ []) (drop (place + 1) words)))
+      ∙ ap (λ k. front ++ ((values ++ value ∷ []) ++ drop k words)) (sym next)

@@ -1,5 +1,6 @@
 -- What a region of persistent memory is: the words at the last drain, and what was done since.
 use Rattle.std.specs.Prelude.{◌≡◌, ℕ, ◌+◌, ◌-◌, ◌^◌, min, nat_lt, if◌then◌else◌, List, [], ◌∷◌, ◌++◌, length, drop}
+use Rattle.std.specs.List.{splice}
 use Rattle.pm_epochs.specs.declared.event.Event.{Event}
 use Rattle.pm_epochs.specs.declared.event.Event.TheVariants.{Store}
 use Rattle.pm_epochs.specs.Log.{words_after}
@@ -44,3 +45,7 @@ with_room wanted memory = if nat_lt (room_in memory) wanted then drained memory 
 abbrev pub stores_from : ℕ → List ℕ → List Event
 stores_from word [] = []
 stores_from word (value ∷ values) = Store word value ∷ stores_from (word + 1) values
+
+-- the words with these values in place of those from this one on
+abbrev pub with_values : List ℕ → ℕ → List ℕ → List ℕ
+with_values words first values = splice words first (first + length values) values

@@ -2,7 +2,7 @@ ghost use Rattle.std.specs.Prelude.{◌≡◌, ℕ, ◌+◌, ◌<◌, ◌≤◌,
 ghost use Rattle.pm_epochs.specs.declared.event.Event.TheVariants.{Store, Barrier, Mark};
 ghost use Rattle.pm_epochs.specs.Log.{marks};
 ghost use Rattle.pm_epochs.specs.Replay.{IsRight, kept_calls};
-ghost use Rattle.pm_region.specs.Memory.{Memory, crashed, current_words, room_in, drained, stores_from, Adds};
+ghost use Rattle.pm_region.specs.Memory.{Memory, crashed, current_words, room_in, drained, stores_from, with_values, Adds};
 
 use pm_epochs::{BadChoice, Choice, Event, Kept};
 
@@ -86,4 +86,16 @@ pub trait Region {
         requires in_range { word < length (memory self.old).base }
         requires drained { (memory self.old).events ≡ [] }
         ensures { memory self.new ≡ record (memory self.old) { base = slice_set (memory self.old).base word value } };
+
+    /// Sets the words from `first` on to these values, in a region whose log is empty, as words that were there at the last drain.
+    fn adopt_words(&mut self, first: u32, values: &[u64])
+        requires in_range { first + length values.now ≤ length (memory self.old).base }
+        requires drained { (memory self.old).events ≡ [] }
+        ensures { memory self.new ≡ record (memory self.old) { base = with_values (memory self.old).base first values.now } }
+    {
+        let _words = self.words();
+        for i in 0..values.len() {
+            self.adopt_word(first + i as u32, values[i]);
+        }
+    }
 }

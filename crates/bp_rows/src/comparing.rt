@@ -103,7 +103,8 @@ impl<'a> Comparison<'a> {
         put_short(report, first_line(expected).0)
     }
 
-    /// Does a line, and writes its reply. False is the answer for a line that asks for blocks, of which a plain tree knows nothing.
+    /// Does a line, and writes its reply. False is the answer for a line that asks for blocks, a log or a crash, of which a plain
+    /// tree knows nothing.
     fn answer(&mut self, alloc: Global, line: &str, told: &mut String) -> Result<bool, AllocError> {
         if line.len() > MAX_LINE {
             put_said(alloc, &Said::LongLine, told)?;
@@ -115,7 +116,7 @@ impl<'a> Comparison<'a> {
                 put_answer(alloc, &self.reply, told)?;
             }
             Ok(Line::Sync) => put_said(alloc, &Said::Synced, told)?,
-            Ok(Line::Space) => return Ok(false),
+            Ok(Line::Space | Line::Log | Line::Crash(_) | Line::Storm(_)) => return Ok(false),
             // A read of more bytes than one call reads is no line of a script either.
             Ok(Line::Call(_)) | Err(Syntax) => put_said(alloc, &Said::Syntax, told)?,
         }

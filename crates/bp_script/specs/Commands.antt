@@ -9,12 +9,19 @@ use Rattle.percent_encoding.specs.Percent.{percent_decode}
 use Rattle.bp_limits.specs.Limits.{max_line, max_read}
 use Rattle.bp_plain.specs.Calls.{Call}
 use Rattle.bp_plain.specs.Calls.Call.{create, mkdir, unlink, rmdir, list, stat, read, write, truncate, rename}
+use Rattle.bp_replay.specs.Wanted.{Wanted}
 
 pub data Command : Type 0 where
   file_call : Call → Command
   sync : Command
   -- asks how many blocks are free and live
   space : Command
+  -- a crash that keeps what is wanted
+  crash : Wanted → Command
+  -- a crash that keeps what is drawn from a seed
+  storm : ℕ → Command
+  -- asks how many events, barriers and calls the log has
+  log : Command
   -- a line outside the table of commands
   bad_syntax : Command
   -- a line with too many bytes

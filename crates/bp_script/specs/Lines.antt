@@ -4,12 +4,13 @@ use Rattle.std.specs.Borrow.{Bor}
 use Rattle.std.specs.List.{AllByRecursion}
 use Rattle.std.specs.Vec.{vec_capacity}
 use Rattle.bp_plain.specs.Seen.{call_of}
+use Rattle.bp_replay.specs.Wanted.{wanted_by}
 use Rattle.bp_script.specs.declared.lines.Decoded.{Decoded}
 use Rattle.bp_script.specs.declared.lines.Line.{Line}
 use Rattle.bp_script.specs.declared.lines.Line.TheVariants as asks
 use Rattle.bp_script.specs.declared.lines.Syntax.{Syntax}
 use Rattle.bp_script.specs.Commands.{Command}
-use Rattle.bp_script.specs.Commands.Command.{file_call, sync, space, bad_syntax}
+use Rattle.bp_script.specs.Commands.Command.{file_call, sync, space, crash, storm, log, bad_syntax}
 
 -- the bytes of the longest line that can be decoded
 abbrev pub decoded_room : Decoded → ℕ
@@ -26,6 +27,9 @@ abbrev pub line_asks : Result Line Syntax → Command
 line_asks (Ok (asks.Call call)) = file_call (call_of call)
 line_asks (Ok asks.Sync) = sync
 line_asks (Ok asks.Space) = space
+line_asks (Ok (asks.Crash cut)) = crash (wanted_by cut)
+line_asks (Ok (asks.Storm seed)) = storm seed
+line_asks (Ok asks.Log) = log
 line_asks (Err fault) = bad_syntax
 
 -- no word is longer than the room

@@ -8,7 +8,7 @@ use Rattle.bp_script.specs.declared.replies.Said.{Said}
 use Rattle.bp_script.specs.declared.replies.Said.TheVariants as said
 use Rattle.bp_script.specs.declared.notices.Notice.{Notice}
 use Rattle.bp_script.specs.declared.notices.Notice.TheVariants as notice
-use Rattle.bp_script.specs.Texts.{answer_text, done_text, entry_text, end_text, space_text, syntax_text, long_line_text}
+use Rattle.bp_script.specs.Texts.{answer_text, done_text, entry_text, end_text, space_text, kept_text, log_text, syntax_text, long_line_text, choice_text}
 
 abbrev pub said_text : Said → List ℕ
 said_text (said.Answer given) = answer_text (answer_seen given)
@@ -16,8 +16,11 @@ said_text (said.Name kind name) = entry_text (kind, name.now)
 said_text said.End = end_text
 said_text said.Synced = done_text
 said_text (said.Space free live) = space_text free live
+said_text (said.Kept c n) = kept_text c n
+said_text (said.Log events barriers calls) = log_text events barriers calls
 said_text said.Syntax = syntax_text
 said_text said.LongLine = long_line_text
+said_text said.BadChoice = choice_text
 
 -- an answer of one line, with no more bytes than one call reads
 abbrev pub IsLine : Answer → Type 0
@@ -44,4 +47,4 @@ notice_text (notice.BadSize found wanted) = codes "err 31 badsize " ++ decimal f
 notice_text (notice.Damaged check place) = codes "err 32 damaged " ++ decimal check ++ codes " " ++ decimal place ++ codes "\n"
 notice_text (notice.Clean files dirs bytes live free) = clean_text files dirs bytes live free
 notice_text notice.NoFile = codes "err 34 nofile\n"
-notice_text notice.Usage = codes "usage: bpfs format FILE --blocks N / run FILE / check FILE\n"
+notice_text notice.Usage = codes "usage: bpfs format FILE --blocks N / run FILE / check FILE / play FILE --seed S --count C\n"

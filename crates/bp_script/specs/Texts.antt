@@ -53,6 +53,14 @@ dir_text count = codes "dir " ++ decimal count ++ codes "\n"
 abbrev pub space_text : ℕ → ℕ → List ℕ
 space_text free live = codes "space " ++ decimal free ++ codes " " ++ decimal live ++ codes "\n"
 
+-- how many calls a crash kept, of how many
+abbrev pub kept_text : ℕ → ℕ → List ℕ
+kept_text count total = codes "kept " ++ decimal count ++ codes " of " ++ decimal total ++ codes "\n"
+
+-- how many events, barriers and calls the log has
+abbrev pub log_text : ℕ → ℕ → ℕ → List ℕ
+log_text events barriers calls = codes "log " ++ decimal events ++ codes " " ++ decimal barriers ++ codes " " ++ decimal calls ++ codes "\n"
+
 -- the numbers that stand behind a refusal's word
 abbrev pub details : Refusal → List ℕ
 details (no_space need free) = codes " " ++ decimal need ++ codes " " ++ decimal free
@@ -67,6 +75,9 @@ syntax_text = codes "err 20 syntax\n"
 abbrev pub long_line_text : List ℕ
 long_line_text = codes "err 21 line\n"
 
+abbrev pub choice_text : List ℕ
+choice_text = codes "err 23 choice\n"
+
 -- ---- replies
 
 pub data LineReply : Type 0 where
@@ -74,8 +85,14 @@ pub data LineReply : Type 0 where
   synced : LineReply
   -- the free blocks, and the live ones
   space_of : ℕ → ℕ → LineReply
+  -- how many calls a crash kept, and how many there were
+  kept_of : ℕ → ℕ → LineReply
+  -- the events of the log, its barriers and its calls
+  log_of : ℕ → ℕ → ℕ → LineReply
   syntax : LineReply
   long : LineReply
+  -- the log allows no such crash
+  bad_choice : LineReply
 
 abbrev pub listing_text : List (Kind × Name) → List ℕ
 listing_text entries = flat_map entry_text entries ++ end_text
@@ -92,5 +109,8 @@ abbrev pub reply_text : LineReply → List ℕ
 reply_text (answered answer) = answer_text answer
 reply_text synced = done_text
 reply_text (space_of free live) = space_text free live
+reply_text (kept_of count total) = kept_text count total
+reply_text (log_of events barriers calls) = log_text events barriers calls
 reply_text syntax = syntax_text
 reply_text long = long_line_text
+reply_text bad_choice = choice_text

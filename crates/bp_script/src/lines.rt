@@ -18,6 +18,7 @@ use crate::digits::decode_digits;
 use arrayvec::ArrayVec;
 use bp_limits::MAX_READ;
 use bp_plain::Call;
+use bp_replay::Cut;
 use memchr::memchr;
 use percent_encoding::percent_decode;
 use std::alloc::{AllocError, Global};
@@ -38,6 +39,12 @@ pub enum Line<'a> {
     Sync,
     /// How many blocks are free, and how many are live.
     Space,
+    /// A crash that keeps what this says.
+    Crash(Cut<'a>),
+    /// A crash that keeps what is drawn from this seed.
+    Storm(u64),
+    /// How many events, barriers and calls the log has.
+    Log,
 }
 
 /// The line is none of a script.

@@ -115,7 +115,9 @@ pub fn announce(notice: &Notice, into: &mut [u8]) -> usize
         Notice::NoFile => write_pieces(into, &[b"err 34 nofile\n"]),
         Notice::Usage => write_pieces(
             into,
-            &[b"usage: bpfs format FILE --blocks N / run FILE / check FILE\n"],
+            &[
+                b"usage: bpfs format FILE --blocks N / run FILE / check FILE / play FILE --seed S --count C\n",
+            ],
         ),
     }
 }

@@ -4,7 +4,7 @@ ghost use Rattle.bp_limits.specs.Limits.{max_name, max_read, max_text};
 ghost use Rattle.bp_plain.specs.Seen.{refusal_of};
 ghost use Rattle.bp_plain.specs.SeenAnswers.{answer_seen};
 ghost use Rattle.bp_script.specs.Sayings.{FitsReply, IsLine, said_text};
-ghost use Rattle.bp_script.specs.Texts.{answer_text, data_text, entry_text, kind_letter, name_text, refusal_text};
+ghost use Rattle.bp_script.specs.Texts.{answer_text, data_text, entry_text, kept_text, kind_letter, log_text, name_text, refusal_text, space_text};
 ghost use Rattle.std.specs.Prelude.{drop, length, take, ◌*◌, ◌++◌, ◌≡◌, ◌≤◌};
 
 use crate::pieces::{put, put_digits, write_pieces};
@@ -39,10 +39,28 @@ pub enum Said<'a> {
         /// The blocks that are in use, the first of the file not among them.
         live: u32,
     },
+    /// A crash kept some of the calls that were not certain.
+    Kept {
+        /// How many it kept.
+        c: usize,
+        /// How many there were.
+        n: usize,
+    },
+    /// How long the log is.
+    Log {
+        /// Its events.
+        events: usize,
+        /// The barriers among them.
+        barriers: usize,
+        /// The calls that are not certain.
+        calls: usize,
+    },
     /// The line was none of a script.
     Syntax,
     /// The line had too many bytes.
     LongLine,
+    /// The log allows no such crash.
+    BadChoice,
 }
 
 /// Writes a line of a reply with its newline to the front of `into`, and tells how many bytes it is.
@@ -59,23 +77,80 @@ pub fn say(said: &Said<'_>, into: &mut [u8]) -> usize
         Said::Name { kind, name } => say_name(kind, name, into),
         Said::End => write_pieces(into, &[b"end\n"]),
         Said::Synced => write_pieces(into, &[b"ok\n"]),
-        Said::Space { free, live } => {
-            let mut left = itoa::Buffer::new();
-            let mut used = itoa::Buffer::new();
-            write_pieces(
-                into,
-                &[
-                    b"space ",
-                    left.format(free).as_bytes(),
-                    b" ",
-                    used.format(live).as_bytes(),
-                    b"\n",
-                ],
-            )
-        }
+        Said::Space { free, live } => say_space(free, live, into),
+        Said::Kept { c, n } => say_kept(c, n, into),
+        Said::Log {
+            events,
+            barriers,
+            calls,
+        } => say_log(events, barriers, calls, into),
         Said::Syntax => write_pieces(into, &[b"err 20 syntax\n"]),
         Said::LongLine => write_pieces(into, &[b"err 21 line\n"]),
+        Said::BadChoice => write_pieces(into, &[b"err 23 choice\n"]),
     }
+}
+
+/// Writes the line of how full a volume is.
+fn say_space(free: u32, live: u32, into: &mut [u8]) -> usize
+    requires { max_text ≤ length into.old }
+    ensures whole { into.new ≡ space_text free live ++ drop result into.old }
+    ensures len { result ≡ length (space_text free live) }
+{
+    let mut left = itoa::Buffer::new();
+    let mut used = itoa::Buffer::new();
+    write_pieces(
+        into,
+        &[
+            b"space ",
+            left.format(free).as_bytes(),
+            b" ",
+            used.format(live).as_bytes(),
+            b"\n",
+        ],
+    )
+}
+
+/// Writes the line of a crash.
+fn say_kept(count: usize, total: usize, into: &mut [u8]) -> usize
+    requires { max_text ≤ length into.old }
+    ensures whole { into.new ≡ kept_text count total ++ drop result into.old }
+    ensures len { result ≡ length (kept_text count total) }
+{
+    let mut kept = itoa::Buffer::new();
+    let mut all = itoa::Buffer::new();
+    write_pieces(
+        into,
+        &[
+            b"kept ",
+            kept.format(count).as_bytes(),
+            b" of ",
+            all.format(total).as_bytes(),
+            b"\n",
+        ],
+    )
+}
+
+/// Writes the line of how long the log is.
+fn say_log(events: usize, barriers: usize, calls: usize, into: &mut [u8]) -> usize
+    requires { max_text ≤ length into.old }
+    ensures whole { into.new ≡ log_text events barriers calls ++ drop result into.old }
+    ensures len { result ≡ length (log_text events barriers calls) }
+{
+    let mut event_digits = itoa::Buffer::new();
+    let mut barrier_digits = itoa::Buffer::new();
+    let mut call_digits = itoa::Buffer::new();
+    write_pieces(
+        into,
+        &[
+            b"log ",
+            event_digits.format(events).as_bytes(),
+            b" ",
+            barrier_digits.format(barriers).as_bytes(),
+            b" ",
+            call_digits.format(calls).as_bytes(),
+            b"\n",
+        ],
+    )
 }
 
 /// Writes the line of an answer.

@@ -1,11 +1,14 @@
 //! A set of numbers as bits.
 
-ghost use Rattle.std.specs.Prelude.{◌≡◌, ℕ, ◌*◌, ◌<◌, ◌^◌, false, length, IfOk, MatchOption};
+ghost use Rattle.std.specs.Prelude.{◌≡◌, ℕ, ◌+◌, ◌*◌, ◌<◌, ◌^◌, false, length, IfOk, MatchOption};
+ghost use Rattle.bp_free.specs.Looks.{bit_looks};
 ghost use Rattle.bp_free.specs.Set.{Set, has, with, without, empty, IsLeast};
 ghost use Rattle.bp_free.specs.Words.{IsLowestBit, IsLeastInWord, IsEmptyWord};
 
+use crate::steps::Steps;
 use std::alloc::{AllocError, Global};
 use std::marker::Model;
+use std::sync::ledger::Ledger;
 
 /// How many numbers a word tells.
 pub(crate) const WORD: usize = 64;
@@ -87,12 +90,23 @@ impl Bits {
         Some(WORD * word + bit)
     }
 
+    /// What [`Bits::first_in_word`] tells, as a step of a search.
+    pub fn look<L: Ledger>(&self, word: usize, steps: &mut Steps<L>) -> Option<usize>
+        requires { WORD * word < length self.now }
+        ensures least { MatchOption result (IsEmptyWord self.now word) (IsLeastInWord self.now word) }
+        ensures step { steps.new ≡ steps.old + 1 }
+    {
+        steps.tick();
+        self.first_in_word(word)
+    }
+
     /// The least number that is in, `None` where the set is empty.
-    pub fn first(&self) -> Option<usize>
-        ensures { MatchOption result ((i : ℕ) → has self.now i ≡ false) (IsLeast self.now) }
+    pub fn first<L: Ledger>(&self, steps: &mut Steps<L>) -> Option<usize>
+        ensures least { MatchOption result ((i : ℕ) → has self.now i ≡ false) (IsLeast self.now) }
+        ensures steps { steps.new ≡ steps.old + bit_looks (length self.now) result }
     {
         for word in 0..self.words.len() {
-            if let Some(i) = self.first_in_word(word) {
+            if let Some(i) = self.look(word, steps) {
                 return Some(i);
             }
         }

@@ -8,8 +8,10 @@ mod bits;
 pub mod laws;
 mod numbers;
 mod parts;
+mod steps;
 #[cfg(test)]
 mod tests;
 
 pub use numbers::{BlockNumbers, Blocks, InodeNumbers, Inodes, Numbers};
 pub use parts::{NoSpace, Parts};
+pub use steps::Steps;

@@ -1,11 +1,15 @@
 //! Free numbers, and how many there are.
 
-ghost use Rattle.std.specs.Prelude.{◌≡◌, ℕ, ◌<◌, ◌≤◌, ◌^◌, [], false, true, length, IfOk, MatchOption};
+ghost use Rattle.std.specs.Prelude.{◌≡◌, ℕ, ◌+◌, ◌<◌, ◌≤◌, ◌^◌, [], false, true, length, IfOk, MatchOption};
+ghost use Rattle.std.specs.Int.{div_ceil};
+ghost use Rattle.bp_free.specs.Looks.{looks};
 ghost use Rattle.bp_free.specs.Set.{Set, has, members, with, without, empty, IsLeast, Fills};
 
 use crate::bits::{Bits, WORD};
+use crate::steps::Steps;
 use std::alloc::{AllocError, Global};
-use std::marker::{Model, PhantomData};
+use std::marker::{Brand, Model, PhantomData};
+use std::sync::ledger::{Blank, Ledger};
 
 /// What free blocks are numbers of.
 #[derive(Clone, Copy)]
@@ -110,12 +114,13 @@ impl<Kind> Numbers<Kind> {
     }
 
     /// The least free number, `None` where none is free.
-    fn first(&self) -> Option<u32>
-        ensures { MatchOption result (members self.now ≡ []) (IsLeast self.now) }
+    fn first<L: Ledger>(&self, steps: &mut Steps<L>) -> Option<u32>
+        ensures least { MatchOption result (members self.now ≡ []) (IsLeast self.now) }
+        ensures steps { steps.new ≡ steps.old + looks (length self.now) result }
     {
-        let word = self.words_in_use.first()?;
+        let word = self.words_in_use.first(steps)?;
         // A word in use has a number.
-        let i = self.free.first_in_word(word)?;
+        let i = self.free.look(word, steps)?;
         Some(i as u32)
     }
 
@@ -124,7 +129,30 @@ impl<Kind> Numbers<Kind> {
         ensures { MatchOption result ((members self.old ≡ []) × (self.new ≡ self.old))
             (λ i. IsLeast self.old i × (self.new ≡ without self.old i)) }
     {
-        let i = self.first()?;
+        self.take_uncounted::<Brand>(Blank::new(1))
+    }
+
+    /// What [`Numbers::take`] does, with a ledger that nobody reads.
+    fn take_uncounted<L: Ledger>(&mut self, blank: Blank) -> Option<u32>
+        requires name { blank.name ≡ L.name }
+        requires parts { blank.parts ≡ L.parts }
+        requires some { 0 < L.parts }
+        ensures { MatchOption result ((members self.old ≡ []) × (self.new ≡ self.old))
+            (λ i. IsLeast self.old i × (self.new ≡ without self.old i)) }
+    {
+        let mut steps = Steps::<L>::new(blank);
+        self.take_counted(&mut steps)
+    }
+
+    /// What [`Numbers::take`] does, and how many steps the search takes: a step is a look at a word of 64 numbers, or at a
+    /// word of the bits that tell which of those words are not empty.
+    pub fn take_counted<L: Ledger>(&mut self, steps: &mut Steps<L>) -> Option<u32>
+        ensures least { MatchOption result ((members self.old ≡ []) × (self.new ≡ self.old))
+            (λ i. IsLeast self.old i × (self.new ≡ without self.old i)) }
+        ensures looks { steps.new ≡ steps.old + looks (length self.old) result }
+        ensures most { steps.new ≤ steps.old + div_ceil (length self.old) 4096 + 1 }
+    {
+        let i = self.first(steps)?;
         self.claim(i);
         Some(i)
     }

@@ -1,6 +1,6 @@
-use Rattle.std.proofs.Common.{◌≡◌, ℕ, ◌/◌, ◌<◌, false}
+use Rattle.std.proofs.Common.{◌≡◌, ℕ, ◌+◌, ◌/◌, ◌<◌, false}
 use Rattle.bp_free.specs.Set.{has}
 use Rattle.bp_free.proofs.bits.Bits.first.Given as goal
 
 abbrev pub invariant-loop-word : goal.invariant-loop-word
-invariant-loop-word l = (k : ℕ) → k / 64 < l.word → has l.self k ≡ false
+invariant-loop-word g l = ((k : ℕ) → k / 64 < l.word → has l.self k ≡ false) × (l.steps ≡ l.fn.steps + l.word)

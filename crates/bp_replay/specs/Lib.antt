@@ -1,1 +1,3 @@
 pub mod Wanted
+pub mod Generator
+pub mod Storm

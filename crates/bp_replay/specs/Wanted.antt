@@ -1,5 +1,5 @@
 -- What a script asks a crash to keep, and the cut of a log that it means.
-use Rattle.std.specs.Prelude.{ℕ, ◌/◌, ◌%◌, ◌==◌, List, [], ◌∷◌, ◌++◌, Bool, true, false, length, replicate, flat_map}
+use Rattle.std.specs.Prelude.{ℕ, ◌*◌, ◌/◌, ◌%◌, ◌==◌, List, [], ◌∷◌, ◌++◌, Bool, true, false, length, replicate, flat_map}
 use Rattle.pm_epochs.specs.declared.event.Event.{Event}
 use Rattle.pm_epochs.specs.Log.{barriers, epoch_stores}
 use Rattle.pm_epochs.specs.Replay.{Cut}
@@ -17,6 +17,12 @@ abbrev pub wanted_by : Asked → Wanted
 wanted_by All = all
 wanted_by Nothing = nothing
 wanted_by (At moment epoch mask) = at moment epoch mask.now
+
+-- how many places the bytes of its mask have, a bit each
+abbrev pub mask_places : Asked → ℕ
+mask_places All = 0
+mask_places Nothing = 0
+mask_places (At moment epoch mask) = 8 * length mask.now
 
 abbrev pub bit : ℕ → ℕ → Bool
 bit byte place = byte / place % 2 == 1

@@ -1,0 +1,44 @@
+-- A storm: what a crash finds at a moment, in an epoch and with stores written back that are drawn by lot.
+use Rattle.std.specs.Prelude.{ℕ, ◌+◌, ◌%◌, ◌==◌, if◌then◌else◌, Bool, true, false, not, ◌&&◌, List, [], ◌∷◌, ◌++◌, length, take, replicate}
+use Rattle.std.specs.List.{list_any}
+use Rattle.std.proofs.Common.{zero, suc}
+use Rattle.pm_epochs.specs.declared.event.Event.{Event}
+use Rattle.pm_epochs.specs.declared.event.Event.TheVariants.{Store, Barrier, Mark}
+use Rattle.pm_epochs.specs.Log.{barriers}
+use Rattle.pm_epochs.specs.Replay.{Cut}
+use Rattle.pm_steps.specs.Machine.{cut_of}
+use Rattle.bp_replay.specs.Generator.{next_state, drawn}
+
+-- whether a store to the word goes back: its draw is odd, and no earlier store to the word waits
+abbrev pub goes_back : ℕ → List ℕ → ℕ → Bool
+goes_back state waiting word = drawn state % 2 == 1 && not (list_any (λ other. other == word) waiting)
+
+-- Which of the taken events are stores that are back. All stores of the epochs before the storm's are; in its own, whose
+-- waiting stores went to these words so far, each store is drawn for; of later ones none is.
+abbrev pub storm_flags : ℕ → ℕ → List ℕ → List Event → List Bool
+storm_flags state epoch waiting [] = []
+storm_flags state zero waiting (Store word value ∷ events) =
+    goes_back state waiting word
+    ∷ storm_flags (next_state state) zero (if goes_back state waiting word then waiting else waiting ++ word ∷ []) events
+storm_flags state zero waiting (Barrier ∷ events) = false ∷ replicate (length events) false
+storm_flags state (suc epoch) waiting (Store word value ∷ events) = true ∷ storm_flags state (suc epoch) waiting events
+storm_flags state (suc epoch) waiting (Barrier ∷ events) = false ∷ storm_flags state epoch waiting events
+storm_flags state epoch waiting (Mark ∷ events) = false ∷ storm_flags state epoch waiting events
+
+-- how many events a storm takes, and its epoch of those
+abbrev pub storm_moment : List Event → ℕ → ℕ
+storm_moment events seed = drawn seed % (length events + 1)
+
+abbrev pub storm_epoch : List Event → ℕ → ℕ
+storm_epoch taken seed = drawn (next_state seed) % (barriers taken + 1)
+
+-- the flags of a storm whose generator begins with this seed
+abbrev pub flags_from : List Event → ℕ → List Bool
+flags_from taken seed = storm_flags (next_state (next_state seed)) (storm_epoch taken seed) [] taken
+
+abbrev pub flags_of_storm : List Event → ℕ → List Bool
+flags_of_storm events seed = flags_from (take (storm_moment events seed) events) seed
+
+-- what the crash keeps
+abbrev pub storm_cut : List Event → ℕ → Cut
+storm_cut events seed = cut_of events (flags_of_storm events seed)

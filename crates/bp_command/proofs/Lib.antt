@@ -1,5 +1,6 @@
 pub mod Commands
 pub mod Rows
-pub mod Blocks
+pub mod Numbers
+pub mod PlayWords
 pub mod Plain
 pub mod Taken

@@ -1,19 +1,18 @@
 -- Words that are taken name a program, and give it its values.
 use Rattle.std.proofs.Common.{◌≡◌, ◌⊎◌, ◌∙◌, ◌<◌, ◌&&◌, ◌||◌, ℕ, zero, suc, Bool, true, false, not, cond, refl, sym, ap, subst, arith, List, [], ◌∷◌, ◌++◌, length, inl, inr, true≢false, length-append}
-use Rattle.std.specs.Prelude.{Option, Some, None, codes, find, fold, is_some, option_map, option_and_then, slice_get, nat_lt}
+use Rattle.std.specs.Prelude.{Option, Some, None, codes, find, fold, is_some, option_map, slice_get, nat_lt}
 use Rattle.std.specs.List.{list_any}
 use Rattle.std.specs.Option.{option_map_or}
 use Rattle.std.specs.Str.{bytes_eq, chars}
 use Rattle.std.proofs.lemmas.Bool.{lt-ltb}
 use Rattle.std.proofs.lemmas.Slice.Eq.{bytes_eq-Decides}
 use Rattle.clap.specs.Facts.{explicit_source, parser_of_value, unwrap_or_range}
-use Rattle.clap.specs.Faults.{action_fault, bundle_fault, bundle_step_fault, built_fault, check_fault, entered_fault, flag_word_fault, flags_fault, level_fault, long_fault, option_fault, other_fault, positional_fault, react_fault, set_fault, settle_fault, short_fault, step_fault, stray_fault, turn_fault, use_fault, values_fault, walk_fault, word_fault}
-use Rattle.clap.specs.Kinds.{Kinds, check_kinds, or_else, range_kinds, value_kinds, values_kinds}
-use Rattle.clap.specs.Simple.{App, Shape, argument_words, built, built_leaf, entered, filled, inherited, label_of, marked_built, names_of, rows_at, with_index, with_leaf_noted}
+use Rattle.clap.specs.Faults.{action_fault, bundle_fault, bundle_step_fault, check_fault, entered_fault, flag_word_fault, flags_fault, level_fault, long_fault, option_fault, other_fault, positional_fault, react_fault, set_fault, settle_fault, short_fault, step_fault, stray_fault, turn_fault, use_fault, values_fault, walk_fault, word_fault}
+use Rattle.clap.specs.Kinds.{Kinds, check_kinds, or_else, range_kinds, value_kinds}
+use Rattle.clap.specs.Simple.{Shape, argument_words, built, built_leaf, entered, filled, inherited, label_of, marked_built, names_of, rows_at, with_index, with_leaf_noted}
 use Rattle.clap.specs.Takes.{is_given}
 use Rattle.clap.specs.Values.{read_as}
-use Rattle.clap.specs.ValueTests.{accepts}
-use Rattle.clap.specs.Walk.{Held, Names, Outcome, Row, Rule, Step, Text, Waiting, Walk, action_of, after_flag, after_step, answers_to, arg_by_id, arg_by_index, arg_by_long, arg_by_short, at_row, attached_value, bundle, bundle_met, bundle_step, finished, first_of, flag_met, has_row, is_pending, long_met, long_or_other, long_word, more_values, most_values, nothing_held, one_of, option_met, option_word, plain_word, positional_held, pushed, reacted, reading_by, row_text, rows_after, settled, settled_rows, short_met, short_or_plain, short_word, stop_after, subcommand_met, subcommand_or_other, takes_several, takes_values, to_positional, used, used_as, used_by_id, values_or_missing, walk, walk_from, walked, walked_from, with_default, with_values, without, word_met}
+use Rattle.clap.specs.Walk.{Held, Names, Outcome, Row, Rule, Step, Text, Waiting, Walk, action_of, after_flag, after_step, answers_to, arg_by_id, arg_by_index, arg_by_long, arg_by_short, at_row, attached_value, bundle, bundle_met, bundle_step, first_of, flag_met, has_row, is_pending, long_met, long_or_other, more_values, most_values, nothing_held, one_of, option_met, option_word, plain_word, pushed, reacted, reading_by, rows_after, settled, settled_rows, short_met, short_or_plain, subcommand_met, subcommand_or_other, takes_several, takes_values, to_positional, used, used_as, used_by_id, values_or_missing, walk, walk_from, walked, walked_from, with_default, with_values, without, word_met}
 use Rattle.clap.specs.Walk.Outcome.{done, waits, plain, refused}
 use Rattle.clap.specs.Walk.Step.{next, trailing, subcommand, value}
 use Rattle.clap.specs.Walk.Waiting.{idle, option, positional}
@@ -21,10 +20,9 @@ use Rattle.clap.specs.Lexer.{long_of, short_of}
 use Rattle.clap.specs.declared.builder.action.ArgAction.TheVariants.{Set, Help}
 use Rattle.clap.specs.declared.error.kind.ErrorKind.{ErrorKind}
 use Rattle.clap.specs.declared.error.kind.ErrorKind.TheVariants as kind
-use Rattle.clap.specs.declared.builder.value_parser.ValueParser.TheVariants as vp
 use Rattle.clap.specs.declared.parser.matches.ValueSource.TheVariants.{CommandLine}
-use Rattle.bp_command.specs.Commands.{IsTaken, blocks_rule, bpfs_app, check_app, file_rule, format_app, met, run_app}
-use Rattle.bp_command.specs.Programs.{HasNumber, HasValues, IsNamed}
+use Rattle.bp_command.specs.Commands.{IsTaken, blocks_rule, bpfs_app, check_app, count_rule, file_rule, format_app, met, play_app, run_app, seed_rule}
+use Rattle.bp_command.specs.Programs.{HasValues, IsNamed}
 
 -- ---- chains of faults, and tests
 
@@ -32,7 +30,7 @@ both_empty : (a b : Kinds) → or_else a b ≡ [] → (a ≡ []) × (b ≡ [])
 both_empty [] b e = (refl, e)
 both_empty (k ∷ ks) b e = absurd (cc)
 
-joined : (a b : Kinds) → a ≡ [] → b ≡ [] → or_else a b ≡ []
+pub joined : (a b : Kinds) → a ≡ [] → b ≡ [] → or_else a b ≡ []
 joined a b first second = rw first second
 
 neither : (a b : Bool) → (a || b) ≡ false → (a ≡ false) × (b ≡ false)
@@ -397,14 +395,20 @@ module _ (s : Shape) (names : Names) (able : s.disable_help_subcommand ≡ false
 
 -- ---- the programs
 
-abbrev built_of : Shape → Shape
+abbrev pub built_of : Shape → Shape
 built_of s = built_leaf (inherited (with_leaf_noted (marked_built bpfs_app.top)) s)
 
-abbrev file_arg : Rule
+abbrev pub file_arg : Rule
 file_arg = with_index 1 (filled file_rule)
 
 abbrev blocks_arg : Rule
 blocks_arg = with_index 2 (filled blocks_rule)
+
+abbrev pub seed_arg : Rule
+seed_arg = with_index 2 (filled seed_rule)
+
+abbrev pub count_arg : Rule
+count_arg = with_index 3 (filled count_rule)
 
 usable_format : Each (IsUsable (built_of format_app.top)) (built_of format_app.top).rules
 usable_format = (
@@ -417,6 +421,15 @@ usable_run = (record { own = refl; serves = inl (refl, omega arith); defaults = 
 
 usable_check : Each (IsUsable (built_of check_app.top)) (built_of check_app.top).rules
 usable_check = (record { own = refl; serves = inl (refl, omega arith); defaults = refl }, (record { own = refl; serves = inr refl; defaults = refl }, tt))
+
+usable_play : Each (IsUsable (built_of play_app.top)) (built_of play_app.top).rules
+usable_play = (
+  record { own = refl; serves = inl (refl, omega arith); defaults = refl },
+  (
+    record { own = refl; serves = inl (refl, omega arith); defaults = refl },
+    (record { own = refl; serves = inl (refl, omega arith); defaults = refl }, (record { own = refl; serves = inr refl; defaults = refl }, tt)),
+  ),
+)
 
 accepted : (b : Bool) (k : ErrorKind) → cond b [] (k ∷ []) ≡ [] → b ≡ true
 accepted true k e = refl
@@ -432,17 +445,49 @@ format_values rows fit check =
       name = name.text;
       named = name.first;
       blocks = λ _. record { digits = number.text; given = number.one; passes = accepted _ _ number.pass };
+      seed = λ e. absurd (let no : codes "format" ≡ codes "play" = e in cc);
+      count = λ e. absurd (let no : codes "format" ≡ codes "play" = e in cc);
     }
 
 run_values : (rows : List Row) → AllFit (built_of run_app.top) rows → check_fault (built_of run_app.top) rows false ≡ [] → HasValues (codes "run") rows
 run_values rows fit check =
     let name = has_value (built_of run_app.top) (codes "FILE") file_arg rows refl fit (first_given (codes "FILE") rows false (last_checks (built_of run_app.top) rows false check).1).0 in
-    record { program = inr (inl refl); name = name.text; named = name.first; blocks = λ e. absurd (let no : codes "run" ≡ codes "format" = e in cc) }
+    record {
+      program = inr (inl refl);
+      name = name.text;
+      named = name.first;
+      blocks = λ e. absurd (let no : codes "run" ≡ codes "format" = e in cc);
+      seed = λ e. absurd (let no : codes "run" ≡ codes "play" = e in cc);
+      count = λ e. absurd (let no : codes "run" ≡ codes "play" = e in cc);
+    }
 
 check_values : (rows : List Row) → AllFit (built_of check_app.top) rows → check_fault (built_of check_app.top) rows false ≡ [] → HasValues (codes "check") rows
 check_values rows fit check =
     let name = has_value (built_of check_app.top) (codes "FILE") file_arg rows refl fit (first_given (codes "FILE") rows false (last_checks (built_of check_app.top) rows false check).1).0 in
-    record { program = inr (inr refl); name = name.text; named = name.first; blocks = λ e. absurd (let no : codes "check" ≡ codes "format" = e in cc) }
+    record {
+      program = inr (inr (inl refl));
+      name = name.text;
+      named = name.first;
+      blocks = λ e. absurd (let no : codes "check" ≡ codes "format" = e in cc);
+      seed = λ e. absurd (let no : codes "check" ≡ codes "play" = e in cc);
+      count = λ e. absurd (let no : codes "check" ≡ codes "play" = e in cc);
+    }
+
+play_values : (rows : List Row) → AllFit (built_of play_app.top) rows → check_fault (built_of play_app.top) rows false ≡ [] → HasValues (codes "play") rows
+play_values rows fit check =
+    let first = first_given (codes "FILE") rows (not (is_given (codes "seed") rows) || (not (is_given (codes "count") rows) || false)) (last_checks (built_of play_app.top) rows false check).1 in
+    let second = first_given (codes "seed") rows (not (is_given (codes "count") rows) || false) first.1 in
+    let name = has_value (built_of play_app.top) (codes "FILE") file_arg rows refl fit first.0 in
+    let seed = has_value (built_of play_app.top) (codes "seed") seed_arg rows refl fit second.0 in
+    let count = has_value (built_of play_app.top) (codes "count") count_arg rows refl fit (first_given (codes "count") rows false second.1).0 in
+    record {
+      program = inr (inr (inr refl));
+      name = name.text;
+      named = name.first;
+      blocks = λ e. absurd (let no : codes "play" ≡ codes "format" = e in cc);
+      seed = λ _. record { digits = seed.text; given = seed.one; passes = accepted _ _ seed.pass };
+      count = λ _. record { digits = count.text; given = count.one; passes = accepted _ _ count.pass };
+    }
 
 -- what a subcommand that a word named has
 abbrev Serves : Text × List Text → Shape → Type 0
@@ -455,7 +500,10 @@ each_serves p other = (
     λ _ fault. run_values _ (fit-level (built_of run_app.top) usable_run [] p.1 false [] fault) (level_checks (built_of run_app.top) [] p.1 false [] fault).1,
     (
       λ _ fault. check_values _ (fit-level (built_of check_app.top) usable_check [] p.1 false [] fault) (level_checks (built_of check_app.top) [] p.1 false [] fault).1,
-      (λ answers fault. absurd (true≢false (sym ((bytes_eq-Decides p.0 (codes "help")).1 (helps answers)) ∙ other)), tt),
+      (
+        λ _ fault. play_values _ (fit-level (built_of play_app.top) usable_play [] p.1 false [] fault) (level_checks (built_of play_app.top) [] p.1 false [] fault).1,
+        (λ answers fault. absurd (true≢false (sym ((bytes_eq-Decides p.0 (codes "help")).1 (helps answers)) ∙ other)), tt),
+      ),
     ),
   ),
 )

@@ -1,30 +1,38 @@
 -- The programs, and the words that ask for them.
-use Rattle.std.specs.Prelude.{◌≡◌, ◌≢◌, ◌⊎◌, ℕ, ◌<◌, ◌≤◌, List, [], ◌∷◌, Some, true, false, length, slice_index, unwrap_or, codes, decimal}
+use Rattle.std.specs.Prelude.{◌≡◌, ◌≢◌, ◌⊎◌, ℕ, ◌<◌, ◌≤◌, List, [], ◌∷◌, Some, true, false, length, slice_index, codes, decimal}
 use Rattle.std.specs.Str.Parse.{digits_value, without_leading_plus}
 use Rattle.clap.specs.Words.{Row, Text, first_of, one_of}
 use Rattle.clap.specs.ValueTests.{accepts}
 use Rattle.clap.specs.declared.builder.value_parser.ValueParser.TheVariants as vp
-use Rattle.bp_limits.specs.Limits.{max_blocks, min_blocks}
+use Rattle.bp_limits.specs.Limits.{max_blocks, max_turns, min_blocks}
 use Rattle.bp_command.specs.Commands.{IsTaken, met}
 use Rattle.bp_command.specs.declared.reading.Program.{Program as Asked}
-use Rattle.bp_command.specs.declared.reading.Program.TheVariants.{Format, Run, Check}
+use Rattle.bp_command.specs.declared.reading.Program.TheVariants.{Format, Run, Check, Play}
 
 pub data Program : Type 0 where
   -- a file's name, and its number of blocks
   formats : List ℕ → ℕ → Program
   runs : List ℕ → Program
   checks : List ℕ → Program
+  -- a file's name, the number that the turns are made from, and how many there are
+  plays : List ℕ → ℕ → ℕ → Program
 
 abbrev pub program_of : Asked → Program
 program_of (Format name blocks) = formats name.now blocks
 program_of (Run name) = runs name.now
 program_of (Check name) = checks name.now
+program_of (Play name seed count) = plays name.now seed count
 
--- a format is asked for of a number of blocks that an image may have
+-- the greatest seed: each number of 64 bits is one
+abbrev pub max_seed : ℕ
+max_seed = 18446744073709551615
+
+-- a format is asked for of a number of blocks that an image may have, a play of a seed and a count that it may have
 abbrev pub IsInRange : Program → Type 0
 IsInRange (formats name blocks) = (min_blocks ≤ blocks) × (blocks ≤ max_blocks)
 IsInRange (runs name) = Unit {0}
 IsInRange (checks name) = Unit {0}
+IsInRange (plays name seed count) = (seed ≤ max_seed) × (count ≤ max_turns)
 
 -- ---- plain words
 
@@ -38,11 +46,13 @@ abbrev pub words_of : Program → List (List ℕ)
 words_of (formats name blocks) = codes "format" ∷ name ∷ codes "--blocks" ∷ decimal blocks ∷ []
 words_of (runs name) = codes "run" ∷ name ∷ []
 words_of (checks name) = codes "check" ∷ name ∷ []
+words_of (plays name seed count) = codes "play" ∷ name ∷ codes "--seed" ∷ decimal seed ∷ codes "--count" ∷ decimal count ∷ []
 
 abbrev pub IsProper : Program → Type 0
 IsProper (formats name blocks) = IsFileName name × (min_blocks ≤ blocks) × (blocks ≤ max_blocks)
 IsProper (runs name) = IsFileName name
 IsProper (checks name) = IsFileName name
+IsProper (plays name seed count) = IsFileName name × (seed ≤ max_seed) × (count ≤ max_turns)
 
 -- The words ask for the program in the plain way.
 pub record Asks (words : List (List ℕ)) (program : Program) : Type 0 where
@@ -52,18 +62,20 @@ pub record Asks (words : List (List ℕ)) (program : Program) : Type 0 where
 
 -- ---- words that the command takes
 
--- the values of a number of blocks that is in range, as digits
-pub record HasNumber (rows : List Row) : Type 0 where
+-- the values give an option a number that is in range, as digits
+pub record HasNumber (option : Text) (least most : ℕ) (rows : List Row) : Type 0 where
   pub digits : Text
-  pub given : one_of (codes "blocks") rows ≡ Some digits
-  pub passes : accepts false (vp.Unsigned min_blocks max_blocks) digits ≡ true
+  pub given : one_of option rows ≡ Some digits
+  pub passes : accepts false (vp.Unsigned least most) digits ≡ true
 
--- what the values of a program's subcommand are: a file's name, and for a format a number of blocks
+-- what the values of a program's subcommand are: a file's name, for a format a number of blocks, for a play a seed and a count
 pub record HasValues (verb : Text) (rows : List Row) : Type 0 where
-  pub program : (verb ≡ codes "format") ⊎ (verb ≡ codes "run") ⊎ (verb ≡ codes "check")
+  pub program : (verb ≡ codes "format") ⊎ (verb ≡ codes "run") ⊎ (verb ≡ codes "check") ⊎ (verb ≡ codes "play")
   pub name : Text
   pub named : first_of (codes "FILE") rows ≡ Some name
-  pub blocks : verb ≡ codes "format" → HasNumber rows
+  pub blocks : verb ≡ codes "format" → HasNumber (codes "blocks") min_blocks max_blocks rows
+  pub seed : verb ≡ codes "play" → HasNumber (codes "seed") 0 max_seed rows
+  pub count : verb ≡ codes "play" → HasNumber (codes "count") 0 max_turns rows
 
 -- The words name a program's subcommand, and give it its values.
 pub record IsNamed (words : List Text) : Type 0 where
@@ -72,19 +84,30 @@ pub record IsNamed (words : List Text) : Type 0 where
   pub is : met words ≡ Some (verb, rows)
   pub has : HasValues verb rows
 
--- the number of blocks that the values give, which is in range
-pub record HasBlocks (rows : List Row) (blocks : ℕ) : Type 0 where
+-- the number that the values give an option, which is in range
+pub record GivesNumber (option : Text) (least most : ℕ) (rows : List Row) (number : ℕ) : Type 0 where
   pub digits : Text
-  pub given : one_of (codes "blocks") rows ≡ Some digits
-  pub value : digits_value 10 (without_leading_plus digits) ≡ blocks
-  pub least : min_blocks ≤ blocks
-  pub most : blocks ≤ max_blocks
+  pub given : one_of option rows ≡ Some digits
+  pub value : digits_value 10 (without_leading_plus digits) ≡ number
+  pub at_least : least ≤ number
+  pub at_most : number ≤ most
+
+-- the number of blocks of a format, and the seed and the count of a play
+abbrev pub HasBlocks : List Row → ℕ → Type 0
+HasBlocks rows blocks = GivesNumber (codes "blocks") min_blocks max_blocks rows blocks
+
+abbrev pub HasSeed : List Row → ℕ → Type 0
+HasSeed rows seed = GivesNumber (codes "seed") 0 max_seed rows seed
+
+abbrev pub HasCount : List Row → ℕ → Type 0
+HasCount rows count = GivesNumber (codes "count") 0 max_turns rows count
 
 -- a subcommand with these values asks for the program
 abbrev pub Names : Text → List Row → Program → Type 0
 Names verb rows (formats name blocks) = (verb ≡ codes "format") × (first_of (codes "FILE") rows ≡ Some name) × HasBlocks rows blocks
 Names verb rows (runs name) = (verb ≡ codes "run") × (first_of (codes "FILE") rows ≡ Some name)
 Names verb rows (checks name) = (verb ≡ codes "check") × (first_of (codes "FILE") rows ≡ Some name)
+Names verb rows (plays name seed count) = (verb ≡ codes "play") × (first_of (codes "FILE") rows ≡ Some name) × HasSeed rows seed × HasCount rows count
 
 -- The command takes the words, and the subcommand that they name asks with its values for the program.
 pub record Requests (words : List Text) (program : Program) : Type 0 where

@@ -1,9 +1,9 @@
 //! The command `bpfs` with its subcommands.
 
 ghost use Rattle.std.specs.Prelude.{IfOk};
-ghost use Rattle.bp_command.specs.Commands.{IsArgument, IsCommand, bare_app, blocks_rule, bpfs_app, check_app, file_rule, format_app, run_app};
+ghost use Rattle.bp_command.specs.Commands.{IsArgument, IsCommand, bare_app, blocks_rule, bpfs_app, check_app, count_rule, file_rule, format_app, play_app, run_app, seed_rule};
 
-use bp_limits::{MAX_BLOCKS, MIN_BLOCKS};
+use bp_limits::{MAX_BLOCKS, MAX_TURNS, MIN_BLOCKS};
 use clap::{Arg, Command, value_parser};
 use std::alloc::{AllocError, Global};
 
@@ -22,6 +22,26 @@ fn blocks<'a>(alloc: Global) -> Arg<'a>
         .long("blocks")
         .required(true)
         .value_parser(value_parser!(u64).range(i64::from(MIN_BLOCKS)..=i64::from(MAX_BLOCKS)))
+}
+
+/// The number that the turns of a play are made from: any of 64 bits.
+fn seed<'a>(alloc: Global) -> Arg<'a>
+    ensures { IsArgument seed_rule result }
+{
+    Arg::new(alloc, "seed")
+        .long("seed")
+        .required(true)
+        .value_parser(value_parser!(u64))
+}
+
+/// The number of turns of a play.
+fn count<'a>(alloc: Global) -> Arg<'a>
+    ensures { IsArgument count_rule result }
+{
+    Arg::new(alloc, "count")
+        .long("count")
+        .required(true)
+        .value_parser(value_parser!(u64).range(0..=i64::from(MAX_TURNS)))
 }
 
 fn format_command<'a>(alloc: Global) -> Result<Command<'a>, AllocError>
@@ -44,6 +64,15 @@ fn check_command<'a>(alloc: Global) -> Result<Command<'a>, AllocError>
     Command::new(alloc, "check").arg(file(alloc))
 }
 
+fn play_command<'a>(alloc: Global) -> Result<Command<'a>, AllocError>
+    ensures { IfOk result (IsCommand play_app) }
+{
+    Command::new(alloc, "play")
+        .arg(file(alloc))?
+        .arg(seed(alloc))?
+        .arg(count(alloc))
+}
+
 fn bare<'a>(alloc: Global) -> Command<'a>
     ensures { IsCommand bare_app result }
 {
@@ -57,5 +86,6 @@ pub(crate) fn command<'a>(alloc: Global) -> Result<Command<'a>, AllocError>
     bare(alloc)
         .subcommand(format_command(alloc)?)?
         .subcommand(run_command(alloc)?)?
-        .subcommand(check_command(alloc)?)
+        .subcommand(check_command(alloc)?)?
+        .subcommand(play_command(alloc)?)
 }

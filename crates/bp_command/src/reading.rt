@@ -1,8 +1,8 @@
 //! What the words ask for.
 
-ghost use Rattle.std.specs.Prelude.{◌≡◌, IfOk, IsErrOf, IsSome, OnOk, codes, map};
+ghost use Rattle.std.specs.Prelude.{◌≡◌, ◌≤◌, IfOk, IsErrOf, IsSome, OnOk, codes, map, ℕ};
 ghost use Rattle.bp_command.specs.Commands.{HasMet, IsTaken};
-ghost use Rattle.bp_command.specs.Programs.{HasBlocks, HasNumber, HasValues, IsInRange, Names, Requests, program_of};
+ghost use Rattle.bp_command.specs.Programs.{GivesNumber, HasNumber, HasValues, IsInRange, Names, Requests, program_of};
 ghost use Rattle.clap.specs.Words.{first_of, found_of, rows_of};
 
 use crate::building::command;
@@ -30,6 +30,15 @@ pub enum Program<'a> {
     Check {
         /// The file's name.
         name: &'a str,
+    },
+    /// Makes calls and crashes of a file system in memory, and tells what came of them.
+    Play {
+        /// The file's name.
+        name: &'a str,
+        /// The number that the turns are made from.
+        seed: u64,
+        /// The number of turns, at most 1,000,000.
+        count: u32,
     },
 }
 
@@ -72,13 +81,14 @@ fn name_of<'a>(values: &ArgMatches<'a>) -> &'a str
     }
 }
 
-/// The number of blocks, which `clap` lets through in its range alone.
-fn blocks_of(values: &ArgMatches<'_>) -> u32
-    requires { HasNumber (rows_of (found_of values.now)) }
-    ensures { HasBlocks (rows_of (found_of values.now)) result }
+/// The number that an option is given, which `clap` lets through in its range alone.
+fn number_of(values: &ArgMatches<'_>, option: &str) -> u64
+    requires { (least : ℕ) × (most : ℕ) × HasNumber option.now least most (rows_of (found_of values.now)) }
+    ensures { (least most : ℕ) → HasNumber option.now least most (rows_of (found_of values.now)) →
+        GivesNumber option.now least most (rows_of (found_of values.now)) result }
 {
-    match values.get_one::<u64>("blocks") {
-        Some(blocks) => blocks as u32,
+    match values.get_one::<u64>(option) {
+        Some(number) => number,
         None => unreachable!(),
     }
 }
@@ -93,10 +103,15 @@ fn program_named<'a>(verb: &str, values: &ArgMatches<'a>) -> Program<'a>
     match verb {
         "format" => Program::Format {
             name,
-            blocks: blocks_of(values),
+            blocks: number_of(values, "blocks") as u32,
         },
         "run" => Program::Run { name },
         "check" => Program::Check { name },
+        "play" => Program::Play {
+            name,
+            seed: number_of(values, "seed"),
+            count: number_of(values, "count") as u32,
+        },
         _ => unreachable!(),
     }
 }

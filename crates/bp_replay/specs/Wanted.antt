@@ -1,5 +1,5 @@
 -- What a script asks a crash to keep, and the cut of a log that it means.
-use Rattle.std.specs.Prelude.{ℕ, ◌*◌, ◌/◌, ◌%◌, ◌==◌, List, [], ◌∷◌, ◌++◌, Bool, true, false, length, replicate, flat_map}
+use Rattle.std.specs.Prelude.{ℕ, ◌*◌, ◌/◌, ◌%◌, ◌==◌, List, [], ◌∷◌, Bool, true, false, length, replicate, flat_map}
 use Rattle.pm_epochs.specs.declared.event.Event.{Event}
 use Rattle.pm_epochs.specs.Log.{barriers, epoch_stores}
 use Rattle.pm_epochs.specs.Replay.{Cut}

@@ -1,0 +1,81 @@
+-- The places of a mask, and those up to the last true one.
+use Rattle.std.proofs.Common.{◌≡◌, ℕ, zero, suc, ◌+◌, ◌*◌, ◌/◌, ◌%◌, ◌^◌, ◌<◌, Bool, true, false, cond, Some, List, [], ◌∷◌, ◌++◌, length, take, get_or, refl, sym, ◌∙◌, ap, arith, add-one}
+use Rattle.std.specs.List.{slice_get}
+use Rattle.std.proofs.lemmas.List.{length-take, take_all}
+use Rattle.bp_replay.specs.Wanted.{bit, bits, behind_true, trimmed}
+
+pub length-bits : (bytes : List ℕ) → length (bits bytes) ≡ 8 * length bytes
+length-bits [] = omega arith
+length-bits (byte ∷ bytes) = let more = length-bits bytes in omega arith
+
+-- the bit of a place: of its byte, the one with its value
+pub bit_at : (bytes : List ℕ) (place : ℕ) → place < 8 * length bytes → slice_get (bits bytes) place ≡ Some (bit (get_or bytes (place / 8) 0) (2 ^ (place % 8)))
+bit_at [] place low = absurd (omega arith)
+bit_at (byte ∷ bytes) zero low = refl
+bit_at (byte ∷ bytes) (suc zero) low = refl
+bit_at (byte ∷ bytes) (suc (suc zero)) low = refl
+bit_at (byte ∷ bytes) (suc (suc (suc zero))) low = refl
+bit_at (byte ∷ bytes) (suc (suc (suc (suc zero)))) low = refl
+bit_at (byte ∷ bytes) (suc (suc (suc (suc (suc zero))))) low = refl
+bit_at (byte ∷ bytes) (suc (suc (suc (suc (suc (suc zero)))))) low = refl
+bit_at (byte ∷ bytes) (suc (suc (suc (suc (suc (suc (suc zero))))))) low = refl
+bit_at (byte ∷ bytes) (suc (suc (suc (suc (suc (suc (suc (suc place)))))))) low =
+    let whole : suc (suc (suc (suc (suc (suc (suc (suc place))))))) / 8 ≡ suc (place / 8) = omega arith in
+    let rest : suc (suc (suc (suc (suc (suc (suc (suc place))))))) % 8 ≡ place % 8 = omega arith in
+    rw (whole, rest) (bit_at bytes place (omega arith))
+
+-- what is left of a front
+trimmed_is_front : (places : List Bool) → trimmed places ≡ take (length (trimmed places)) places
+trimmed_is_front [] = refl
+trimmed_is_front (false ∷ places) = go (trimmed places) (trimmed_is_front places)
+  where
+    go : (rest : List Bool) → rest ≡ take (length rest) places → behind_true false rest ≡ take (length (behind_true false rest)) (false ∷ places)
+    go [] is = refl
+    go (place ∷ rest) is = ap (λ ps. false ∷ ps) is
+trimmed_is_front (true ∷ places) = ap (λ ps. true ∷ ps) (trimmed_is_front places)
+
+pub trimmed_from : (places : List Bool) (count : ℕ) → count ≡ length (trimmed places) → take count places ≡ trimmed places
+trimmed_from places count is = rw is (sym (trimmed_is_front places))
+
+-- one more place
+trimmed-false : (places : List Bool) → trimmed (places ++ false ∷ []) ≡ trimmed places
+trimmed-false [] = refl
+trimmed-false (place ∷ places) = ap (behind_true place) (trimmed-false places)
+
+length-behind_true : (place : Bool) (rest : List Bool) → 0 < length rest → length (behind_true place rest) ≡ suc (length rest)
+length-behind_true true rest some = refl
+length-behind_true false [] some = absurd (omega arith)
+length-behind_true false (next ∷ rest) some = refl
+
+length-trimmed-true : (places : List Bool) → length (trimmed (places ++ true ∷ [])) ≡ length places + 1
+length-trimmed-true [] = omega arith
+length-trimmed-true (place ∷ places) =
+    let more = length-trimmed-true places in
+    length-behind_true place (trimmed (places ++ true ∷ [])) (omega (arith, more)) ∙ omega (arith, more)
+
+pub length-trimmed-more : (places : List Bool) (last : Bool) → length (trimmed (places ++ last ∷ [])) ≡ cond last (length places + 1) (length (trimmed places))
+length-trimmed-more places true = length-trimmed-true places
+length-trimmed-more places false = ap length (trimmed-false places)
+
+-- the places below an index, and that one
+take_suc : (places : List Bool) (i : ℕ) (place : Bool) → slice_get places i ≡ Some place → take (suc i) places ≡ take i places ++ place ∷ []
+take_suc [] i place is = cc
+take_suc (first ∷ places) zero place is = let same : first ≡ place = cc in ap (λ p. p ∷ []) same
+take_suc (first ∷ places) (suc i) place is = ap (λ ps. first ∷ ps) (take_suc places i place is)
+
+pub take_next : (places : List Bool) (i : ℕ) (place : Bool) → slice_get places i ≡ Some place → take (i + 1) places ≡ take i places ++ place ∷ []
+take_next places i place is = rw add-one (take_suc places i place is)
+
+index_low : (places : List Bool) (i : ℕ) (place : Bool) → slice_get places i ≡ Some place → i < length places
+index_low [] i place is = cc
+index_low (first ∷ places) zero place is = omega arith
+index_low (first ∷ places) (suc i) place is = omega (arith, index_low places i place is)
+
+pub length-trimmed-next : (places : List Bool) (i : ℕ) (place : Bool) → slice_get places i ≡ Some place → length (trimmed (take (i + 1) places)) ≡ cond place (i + 1) (length (trimmed (take i places)))
+length-trimmed-next places i place is =
+    let low = index_low places i place is in
+    let count : length (take i places) ≡ i = omega (arith, length-take i places) in
+    ap (λ ps. length (trimmed ps)) (take_next places i place is) ∙ length-trimmed-more (take i places) place ∙ ap (λ n. cond place (n + 1) (length (trimmed (take i places)))) count
+
+pub places_of_bytes : (bytes : List ℕ) → take (8 * length bytes) (bits bytes) ≡ bits bytes
+places_of_bytes bytes = take_all (8 * length bytes) (bits bytes) (omega (arith, length-bits bytes))

@@ -167,7 +167,7 @@ plain_line old p (file_call call) reply new before line =
         does = step.does;
         goes_on = elim first.is [ inl e ↦ inl (ap (λ q. with_call q step.after) e) | inr e ↦ inr (ap (λ q. with_call q step.after) e) ];
       };
-      follows = follows_more (with_room call_room old.memory) new.memory first.plain line.does.added step.after first.follows line.does.unmarked line.does.adds line.does.right step.stands;
+      follows = follows_more (with_room call_room old.memory) new.memory first.plain line.does.added step.after first.follows line.does.unmarked line.does.adds line.does.safe.right step.stands;
     }
 plain_line old p sync reply new before line = record {
   plain = fresh (tree_now p);

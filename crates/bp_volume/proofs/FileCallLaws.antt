@@ -56,7 +56,7 @@ file_call_unchanged old middle new call answer room safe adds tells =
       step = λ tree stands. rw words (told tree stands).1;
       silent = λ tree stands none. refl;
       short = λ tree stands changed. absurd (let both : true ≡ false = sym changed ∙ (told tree stands).0 in cc);
-      right = (safe_mark Same same-equivalence middle new safe adds).right;
+      safe = safe_mark Same same-equivalence middle new safe adds;
     }
 
 -- a call that changes the tree: a preparation, one store alone in its epoch, and its mark
@@ -77,5 +77,5 @@ file_call_changed old middle committed new call answer room safe does ends =
       step = λ tree stands. rw words (told tree stands).1;
       silent = λ tree stands none. absurd (let both : true ≡ false = sym (told tree stands).0 ∙ none in cc);
       short = λ tree stands changed. record { change = does.change; is = change; short = rw words short };
-      right = (performs_safe middle committed does.change (Changes call answer) does.performs new safe ends).right;
+      safe = performs_safe middle committed does.change (Changes call answer) does.performs new safe ends;
     }

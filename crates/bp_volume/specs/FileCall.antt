@@ -1,10 +1,10 @@
 -- What a call on a file does to a region, and what it answers.
-use Rattle.std.specs.Prelude.{◌≡◌, ℕ, List, [], ◌∷◌, ◌++◌, Bool, true, false, ◌&&◌, not}
+use Rattle.std.specs.Prelude.{◌≡◌, List, [], ◌∷◌, ◌++◌, Bool, true, false, ◌&&◌, not}
 use Rattle.pm_epochs.specs.declared.event.Event.{Event}
 use Rattle.pm_epochs.specs.declared.event.Event.TheVariants.{Mark}
 use Rattle.pm_epochs.specs.Log.{marks}
-use Rattle.pm_epochs.specs.Crash.{CrashRight}
 use Rattle.pm_region.specs.Memory.{Memory, current_words, with_room, Adds}
+use Rattle.pm_region.specs.Safe.{IsSafe}
 use Rattle.bp_layout.specs.Same.{Same}
 use Rattle.bp_limits.specs.Limits.{call_room}
 use Rattle.bp_plain.specs.PlainTree.{FileTree}
@@ -32,8 +32,8 @@ pub record IsShortCall (image : Image) (call : Call) (new : Image) (events : Lis
   pub short : IsShort image new change events
 
 -- A call on a file: the answer and the new image are a step, the log got the call's events and then its mark, a call
--- that changes nothing has no events, one that changes the tree costs no more than it must, and a crash at any moment
--- leaves what some calls left.
+-- that changes nothing has no events, one that changes the tree costs no more than it must, and the new words are a
+-- file system, of which a crash at any moment leaves what some calls left.
 pub record FileCall (old : Memory) (call : Call) (answer : Answer) (new : Memory) : Type 0 where
   pub added : List Event
   pub unmarked : marks added ≡ 0
@@ -42,4 +42,4 @@ pub record FileCall (old : Memory) (call : Call) (answer : Answer) (new : Memory
   pub silent : (tree : FileTree) → Stands (current_words old) tree → has_changed tree call answer ≡ false → added ≡ []
   pub short : (tree : FileTree) → Stands (current_words old) tree → has_changed tree call answer ≡ true →
       IsShortCall (current_words old) call (current_words new) added
-  pub right : CrashRight Same new.base new.events
+  pub safe : IsSafe Same new

@@ -2,10 +2,12 @@
 
 ghost use Rattle.std.specs.Prelude.{[], ◌*◌, ◌∷◌, ◌≡◌, ◌⊎◌, ◌≤◌, ◌↔◌, IfErr, IfOk, IsOk, OnErr, OnOk, drop, length};
 ghost use Rattle.bp_layout.specs.Free.{HasFree};
+ghost use Rattle.bp_layout.specs.Same.{Same};
 ghost use Rattle.bp_layout.specs.WellFormed.{IsWellFormed};
 ghost use Rattle.bp_layout.specs.Words.{block_count};
 ghost use Rattle.bp_limits.specs.Limits.{call_room, max_blocks, min_blocks};
 ghost use Rattle.pm_region.specs.Memory.{current_words, drained, room_in, with_room};
+ghost use Rattle.pm_region.specs.Safe.{IsSafe};
 ghost use Rattle.bp_limits.specs.Limits.{max_read};
 ghost use Rattle.bp_plain.specs.Calls.Call.{create, list, mkdir, read, rename, rmdir, stat, truncate, unlink, write};
 ghost use Rattle.bp_plain.specs.PlainTree.{empty_tree};
@@ -68,6 +70,7 @@ impl<R: Region> Volume<R> {
         requires roomy { call_room ≤ (R.memory region).capacity }
         ensures made { IfOk result (λ volume. volume ≡ formatted_memory (R.memory region)) }
         ensures empty { IfOk result (λ volume. Stands (current_words volume) empty_tree) }
+        ensures safe { IfOk result (IsSafe Same) }
         ensures handed_back { IfErr result (λ e. e.0 ≡ region) }
         ensures memory { IfErr result (λ e. e.1 ≡ MountFault.Memory) }
     {
@@ -99,6 +102,7 @@ impl<R: Region> Volume<R> {
         requires roomy { call_room ≤ (R.memory region).capacity }
         ensures same { IfOk result (λ volume. volume ≡ R.memory region) }
         ensures well_formed { OnOk result (IsWellFormed (R.memory region).base) }
+        ensures safe { IfOk result (IsSafe Same) }
         ensures handed_back { IfErr result (λ e. e.0 ≡ region) }
         ensures fault { IfErr result (λ e. (e.1 ≡ MountFault.Memory) ⊎ IsFault (R.memory region).base e.1) }
         ensures exact { IsWellFormed (R.memory region).base → IfErr result (λ e. e.1 ≡ MountFault.Memory) }
@@ -109,16 +113,18 @@ impl<R: Region> Volume<R> {
         }
     }
 
-    /// The region under the volume.
+    /// The region under the volume. Its words are a file system, and a crash at any moment leaves what some calls left.
     pub fn region(&self) -> &R
-        ensures { R.memory result.now ≡ self.now }
+        ensures memory { R.memory result.now ≡ self.now }
+        ensures safe { IsSafe Same self.now }
     {
         &self.parts.region
     }
 
     /// Waits until all that the calls so far have done is written back, and empties the log.
     pub fn sync(&mut self)
-        ensures { self.new ≡ drained self.old }
+        ensures drained { self.new ≡ drained self.old }
+        ensures safe { IsSafe Same self.new }
     {
         self.parts.region.drain();
     }

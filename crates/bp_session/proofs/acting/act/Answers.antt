@@ -15,7 +15,7 @@ returns-in-Ok-Call-clause-does g c =
 pub returns-in-Ok-Sync-clause-does : goal.returns-in-Ok-Sync-clause-does
 returns-in-Ok-Sync-clause-does g c =
     let asked = command_short c.args.buffers.now.line.items sync (omega arith) (let meant = rw c.in-Ok-Sync.field-0-is at c.in-Ok-Sync.ensures.meaning in meant ∙ ap in_grammar c.deref.ensures.value) in
-    rw (← asked) (does_sync c.args.volume.now _ _ c.sync.ensures)
+    rw (← asked) (does_sync c.args.volume.now _ _ c.sync.ensures.drained)
 
 pub returns-in-Ok-Space-clause-does : goal.returns-in-Ok-Space-clause-does
 returns-in-Ok-Space-clause-does g c =

@@ -7,13 +7,13 @@ use Rattle.bp_session.proofs.SavingLaws.{still_attached, still_ready}
 use Rattle.bp_session.proofs.acting.act_and_save.Goals as goal
 
 pub save-requires : goal.save-requires
-save-requires g c = rw c.region.ensures (still_ready _ _ _ _ c.requires c.act.ensures.does.size (still_attached _))
+save-requires g c = rw c.region.ensures.memory (still_ready _ _ _ _ c.requires c.act.ensures.does.size (still_attached _))
 
 pub returns-in-Ok-clause-does : goal.returns-in-Ok-clause-does
 returns-in-Ok-clause-does g c = λ name saved file.
     let does = c.in-Synced.ensures.does in
     let held = c.in-Ok.ensures.saved name (image_bytes saved) (holds_bytes _ name saved file) in
-    acts_synced _ _ _ _ saved _ does (holds_image _ name (current_words c.args.volume.now) (rw (c.region.ensures, synced_memory _ _ _ _ does) at held))
+    acts_synced _ _ _ _ saved _ does (holds_image _ name (current_words c.args.volume.now) (rw (c.region.ensures.memory, synced_memory _ _ _ _ does) at held))
 
 pub returns-in-Err-clause-fails : goal.returns-in-Err-clause-fails
 returns-in-Err-clause-fails g c = λ name saved file.
@@ -21,7 +21,7 @@ returns-in-Err-clause-fails g c = λ name saved file.
     let partly = c.in-Err.ensures.partly name (image_bytes saved) (holds_bytes _ name saved file) in
     fails_synced _ _ _ _ saved (HoldsPartly _ name) does (record {
       attached = c.save.ensures.attached.attached name ∙ file.attached;
-      bytes = rw (c.region.ensures, synced_memory _ _ _ _ does) at partly;
+      bytes = rw (c.region.ensures.memory, synced_memory _ _ _ _ does) at partly;
     })
 
 pub returns-in_default : goal.returns-in_default

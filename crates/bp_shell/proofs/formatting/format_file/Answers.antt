@@ -9,14 +9,14 @@ returns-in-None g c = λ left reads. format_memory _ _ _ refl refl refl refl ref
 
 pub returns-in-Err : goal.returns-in-Err
 returns-in-Err g c = λ left reads.
-    format_failed _ _ _ refl refl (rw (c.region.ensures, new_words c.in-Some.volume (new_image c.args.blocks) c.in-Some.ensures.image c.in-Some.ensures.drained) at c.in-Err.ensures.partly) refl refl c.in-Err.ensures.cause.failed
+    format_failed _ _ _ refl refl (rw (c.region.ensures.memory, new_words c.in-Some.volume (new_image c.args.blocks) c.in-Some.ensures.image c.in-Some.ensures.drained) at c.in-Err.ensures.partly) refl refl c.in-Err.ensures.cause.failed
 
 pub returns-in-Ok-print : goal.returns-in-Ok-print
 returns-in-Ok-print g c = λ left reads.
-    format_done _ _ _ refl refl (rw (c.region.ensures, new_words c.in-Some.volume (new_image c.args.blocks) c.in-Some.ensures.image c.in-Some.ensures.drained) at c.in-Ok.ensures.written) c.in-Ok-print.ensures.all c.in-Ok.ensures.flushed
+    format_done _ _ _ refl refl (rw (c.region.ensures.memory, new_words c.in-Some.volume (new_image c.args.blocks) c.in-Some.ensures.image c.in-Some.ensures.drained) at c.in-Ok.ensures.written) c.in-Ok-print.ensures.all c.in-Ok.ensures.flushed
     c.in-Ok-print.ensures.cause.same c.in-Ok.ensures.cause.same
 
 pub returns : goal.returns
 returns g c = λ left reads.
-    format_cut _ _ _ refl refl (rw (c.region.ensures, new_words c.in-Some.volume (new_image c.args.blocks) c.in-Some.ensures.image c.in-Some.ensures.drained) at c.in-Ok.ensures.written) c.in-Err-print.ensures.some c.in-Ok.ensures.flushed
+    format_cut _ _ _ refl refl (rw (c.region.ensures.memory, new_words c.in-Some.volume (new_image c.args.blocks) c.in-Some.ensures.image c.in-Some.ensures.drained) at c.in-Ok.ensures.written) c.in-Err-print.ensures.some c.in-Ok.ensures.flushed
     c.in-Err-print.ensures.cause.failed c.in-Ok.ensures.cause.same

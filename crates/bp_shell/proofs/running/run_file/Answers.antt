@@ -40,14 +40,14 @@ returns-in-Ok-save-clause-outcome g c =
     let told = (served.whole refl).4 c.args.name.now opened.0 opened.3 in
     let saved = c.in-Ok-save.ensures.saved c.args.name.now (image_bytes told.after) (holds_bytes _ _ told.after told.file) in
     run_whole _ _ (g.F.Files.view c.args.files.now) _ _ c.args.name.now opened.0 opened.1 opened.2 opened.3 c.open.ensures.flushed c.in-Ok.ensures.cause.same (g.F.Files.view c.save.new.files) served
-    (rw (c.region.ensures, c.sync.ensures) at saved.has) c.in-Ok-save.ensures.flushed c.in-Ok-save.ensures.cause.same
+    (rw (c.region.ensures.memory, c.sync.ensures.drained) at saved.has) c.in-Ok-save.ensures.flushed c.in-Ok-save.ensures.cause.same
 
 pub returns-clause-outcome : goal.returns-clause-outcome
 returns-clause-outcome g c =
     let opened = c.in-Ok.ensures.opened in
     let served = rw c.if-status-ne0.false at c.serve-status.ensures.outcome in
-    run_unsaved _ _ (g.F.Files.view c.args.files.now) _ _ c.args.name.now opened.0 opened.1 opened.2 opened.3 c.open.ensures.flushed c.in-Ok.ensures.cause.same (g.F.Files.view c.save.new.files) served _ c.sync.ensures
-    (λ was file. rw (c.region.ensures, c.sync.ensures) at (c.in-Err-save.ensures.partly c.args.name.now (image_bytes was) (holds_bytes _ _ was file))) c.in-Err-save.ensures.cause.failed
+    run_unsaved _ _ (g.F.Files.view c.args.files.now) _ _ c.args.name.now opened.0 opened.1 opened.2 opened.3 c.open.ensures.flushed c.in-Ok.ensures.cause.same (g.F.Files.view c.save.new.files) served _ c.sync.ensures.drained
+    (λ was file. rw (c.region.ensures.memory, c.sync.ensures.drained) at (c.in-Err-save.ensures.partly c.args.name.now (image_bytes was) (holds_bytes _ _ was file))) c.in-Err-save.ensures.cause.failed
 
 pub save-requires : goal.save-requires
-save-requires g c = rw (c.region.ensures, c.sync.ensures) (still_ready _ _ _ _ c.serve-status.ensures.ready (size-drained c.serve-status.new.volume) (still_attached _))
+save-requires g c = rw (c.region.ensures.memory, c.sync.ensures.drained) (still_ready _ _ _ _ c.serve-status.ensures.ready (size-drained c.serve-status.new.volume) (still_attached _))

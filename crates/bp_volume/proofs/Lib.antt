@@ -19,3 +19,4 @@ pub mod TargetLaws
 pub mod SpaceLaws
 pub mod ReplyLaws
 pub mod HalfFormat
+pub mod CrashedLaws

@@ -8,6 +8,7 @@ mod refusing;
 mod removing;
 mod renaming;
 mod replying;
+mod rescanning;
 mod resizing;
 mod sets;
 mod space;
@@ -17,7 +18,7 @@ mod volume;
 mod walking;
 mod writing;
 
-pub use bp_scan::MountFault;
+pub use bp_scan::{MountFault, Totals};
 pub use laying::lay_out;
 pub use sets::Sets;
 pub use space::Space;

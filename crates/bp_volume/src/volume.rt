@@ -6,7 +6,9 @@ ghost use Rattle.bp_layout.specs.Same.{Same};
 ghost use Rattle.bp_layout.specs.WellFormed.{IsWellFormed};
 ghost use Rattle.bp_layout.specs.Words.{block_count};
 ghost use Rattle.bp_limits.specs.Limits.{call_room, max_blocks, min_blocks};
-ghost use Rattle.pm_region.specs.Memory.{current_words, drained, room_in, with_room};
+ghost use Rattle.pm_epochs.specs.Log.{marks};
+ghost use Rattle.pm_epochs.specs.Replay.{IsRight, after_calls, kept_calls};
+ghost use Rattle.pm_region.specs.Memory.{crashed, current_words, drained, room_in, with_room};
 ghost use Rattle.pm_region.specs.Safe.{IsSafe};
 ghost use Rattle.bp_limits.specs.Limits.{max_read};
 ghost use Rattle.bp_plain.specs.Calls.Call.{create, list, mkdir, read, rename, rmdir, stat, truncate, unlink, write};
@@ -14,7 +16,7 @@ ghost use Rattle.bp_plain.specs.PlainTree.{empty_tree};
 ghost use Rattle.bp_plain.specs.Seen.{call_of};
 ghost use Rattle.bp_plain.specs.Stands.{Stands};
 ghost use Rattle.bp_scan.specs.Faults.{IsFault};
-ghost use Rattle.bp_scan.specs.Totals.{HasLive};
+ghost use Rattle.bp_scan.specs.Totals.{HasLive, HasTotals};
 ghost use Rattle.bp_volume.specs.FileCall.{FileCall};
 ghost use Rattle.bp_volume.specs.Laid.{formatted_memory};
 ghost use Rattle.bp_volume.specs.Seen.{IsShortCall, list_answer_of, read_answer, stat_answer_of, unit_answer};
@@ -25,6 +27,7 @@ use crate::laying::lay_out;
 use crate::removing::{rmdir_at, unlink_at};
 use crate::renaming::rename_at;
 use crate::replying::{tell_done, tell_list, tell_read, tell_stat};
+use crate::rescanning::rescan;
 use crate::resizing::truncate_at;
 use crate::sets::Sets;
 use crate::space::Space;
@@ -33,7 +36,8 @@ use bp_free::Parts;
 use bp_layout::{Kind, Listing, Stat};
 use bp_limits::CALL_ROOM;
 use bp_plain::{Call, FsError, Reply};
-use bp_scan::{MountFault, Pending, scan};
+use bp_scan::{MountFault, Pending, Totals, scan};
+use pm_epochs::{BadChoice, Choice, Kept};
 use pm_region::Region;
 use std::alloc::Global;
 use std::marker::Model;
@@ -127,6 +131,36 @@ impl<R: Region> Volume<R> {
         ensures safe { IsSafe Same self.new }
     {
         self.parts.region.drain();
+    }
+
+    /// Crashes, and goes on with the words that the choice leaves, with an empty log. They are a file system that shows what
+    /// the calls that are kept had made. It takes no memory: the volume's own is used for a scan of them.
+    ///
+    /// # Errors
+    ///
+    /// `BadChoice` exactly where the choice is not right for the log. Nothing has changed then.
+    pub fn crash(&mut self, choice: &Choice) -> Result<Kept, BadChoice>
+        ensures right { IsOk result ↔ IsRight self.old.events choice.now.cut }
+        ensures left { OnOk result (self.new ≡ crashed self.old choice.now.cut) }
+        ensures kept { IfOk result (λ kept. kept.c ≡ kept_calls self.old.events choice.now.cut) }
+        ensures of { IfOk result (λ kept. kept.n ≡ marks self.old.events) }
+        ensures shows { IfOk result
+            (λ kept. Same (current_words self.new) (after_calls self.old.base self.old.events kept.c)) }
+        ensures safe { IsSafe Same self.new }
+        ensures err { OnErr result (self.new ≡ self.old) }
+    {
+        let kept = self.parts.region.crash_to(choice)?;
+        rescan(&mut self.parts, &mut self.pending);
+        Ok(kept)
+    }
+
+    /// What the volume holds in all: its files, directories, bytes and live blocks. It takes time for the whole image, as a
+    /// mount does, and no memory.
+    pub fn totals(&mut self) -> Totals
+        ensures totals { HasTotals (current_words self.old) result }
+        ensures same { self.new ≡ self.old }
+    {
+        rescan(&mut self.parts, &mut self.pending)
     }
 
     /// How many blocks are free, and how many are live.

@@ -1,0 +1,31 @@
+//! A scan of what a volume has.
+
+ghost use Rattle.std.specs.Prelude.{◌*◌, ◌≡◌, length};
+ghost use Rattle.bp_layout.specs.WellFormed.{IsWellFormed};
+ghost use Rattle.bp_layout.specs.Words.{block_count};
+ghost use Rattle.bp_scan.specs.Totals.{HasTotals};
+ghost use Rattle.bp_shapes.specs.Sets.{AreExact};
+ghost use Rattle.pm_region.specs.Memory.{current_words};
+
+use bp_free::Parts;
+use bp_scan::{Pending, Totals, scan};
+use pm_region::Region;
+
+/// Makes the sets those of the words, which are a file system, whatever they had, and tells what it holds. It takes no
+/// memory but that of the sets and of `pending`.
+pub(crate) fn rescan<R: Region>(parts: &mut Parts<R>, pending: &mut Pending) -> Totals
+    requires well_formed { IsWellFormed (current_words (R.memory parts.old.region)) }
+    requires blocks { length parts.old.blocks ≡ block_count (current_words (R.memory parts.old.region)) }
+    requires inodes { length parts.old.inodes ≡ 64 * block_count (current_words (R.memory parts.old.region)) }
+    requires pending { pending.old ≡ 64 * block_count (current_words (R.memory parts.old.region)) }
+    ensures region { parts.new.region ≡ parts.old.region }
+    ensures exact { AreExact (current_words (R.memory parts.new.region)) parts.new.blocks parts.new.inodes }
+    ensures totals { HasTotals (current_words (R.memory parts.old.region)) result }
+    ensures pending { pending.new ≡ pending.old }
+{
+    match scan(&parts.region, &mut parts.blocks, &mut parts.inodes, pending) {
+        Ok(totals) => totals,
+        // No check fails in a file system.
+        Err(_) => unreachable!(),
+    }
+}

@@ -3,6 +3,7 @@
 
 mod asking;
 mod creating;
+pub mod laws;
 mod laying;
 mod refusing;
 mod removing;

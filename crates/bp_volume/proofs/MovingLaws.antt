@@ -6,7 +6,7 @@ use Rattle.std.proofs.lemmas.Bool.{cases_eq, eq-eqb, ne_eqb}
 use Rattle.bp_calls.specs.Removed.{IsFoundAt}
 use Rattle.bp_calls.proofs.MayLeave.{found_spelled}
 use Rattle.bp_changes.specs.Effects.{CanUnlink}
-use Rattle.bp_layout.specs.Below.{rest_below, same_path}
+use Rattle.bp_layout.specs.Below.{rest_below}
 use Rattle.bp_layout.specs.Directory.{Name, inumber_at, name_at, slot_named}
 use Rattle.bp_layout.specs.Inode.{kind_of, size_of}
 use Rattle.bp_layout.specs.Lookup.{Path, lookup}

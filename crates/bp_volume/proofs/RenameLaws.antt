@@ -6,7 +6,7 @@ use Rattle.std.specs.Option.{option_map}
 use Rattle.std.proofs.lemmas.Bool.{eq-eqb, ne_eqb, eqb-true, eqb-false}
 use Rattle.bp_calls.proofs.ReadingLaws.{length-seen}
 use Rattle.bp_dirs.specs.Names.{name_count}
-use Rattle.bp_layout.specs.Below.{rest_below, same_path}
+use Rattle.bp_layout.specs.Below.{same_path}
 use Rattle.bp_layout.specs.Directory.{inumber_at, slot_named}
 use Rattle.bp_layout.specs.Inode.{kind_of, root_of, size_of}
 use Rattle.bp_layout.specs.Lookup.{Path, lookup, node_of}

@@ -20,11 +20,11 @@ runs_on events old [] middle rest new runs more = rw runs more
 runs_on events old (step ∷ first) middle rest new runs more = (runs.0, runs_on events (state_after events old step) first middle rest new runs.1 more)
 
 -- some steps, and the state that they lead to
-record Reaches (events : List Event) (old : State) (back : List Bool) : Type 0 where
-  steps : List Step
-  new : State
-  runs : Runs events old steps new
-  back_is : new.back ≡ back
+pub record Reaches (events : List Event) (old : State) (back : List Bool) : Type 0 where
+  pub steps : List Step
+  pub new : State
+  pub runs : Runs events old steps new
+  pub back_is : new.back ≡ back
 
 -- ## The processor does its events
 
@@ -92,7 +92,7 @@ written_back events front (true ∷ rest) old order back_is =
     }
 
 -- any flags in order are reached
-flags_reached : (base : List ℕ) (events : List Event) (back : List Bool) → IsInOrder events back → Reaches events (start base) back
+pub flags_reached : (base : List ℕ) (events : List Event) (back : List Bool) → IsInOrder events back → Reaches events (start base) back
 flags_reached base events back order =
     let before = taken base events (length back) order.few in
     let after = written_back events [] back before.new order before.back_is in
@@ -198,7 +198,7 @@ wanted_kept word other mask (Mark ∷ events) (suc i) is store = wanted_kept wor
 -- ## They are in order
 
 -- what comes first behind an event
-ComesFirst-tail : (event : Event) (events : List Event) (earlier later : ℕ) → ComesFirst (event ∷ events) (suc earlier) (suc later) → ComesFirst events earlier later
+pub ComesFirst-tail : (event : Event) (events : List Event) (earlier later : ℕ) → ComesFirst (event ∷ events) (suc earlier) (suc later) → ComesFirst events earlier later
 ComesFirst-tail event events earlier later comes = record {
   before = omega (arith, comes.before);
   first_word = comes.first_word;

@@ -77,10 +77,12 @@ pub record IsFirstTo (events : List Event) (back : List Bool) (word from to firs
   pub waits : slice_get back first ≡ Some false
   pub before : AllToBack events back word from first
 
--- flags that code holds, and how many it has room for, both counted in events
+-- Flags that code holds, and how many it has room for, both counted in events. Beside them it notes words whose stores wait,
+-- where that is asked of it.
 pub record Flags : Type 0 where
   pub back : List Bool
   pub room : ℕ
+  pub waiting : List ℕ
 
 -- a store that was executed and is not back, while all that must come first is
 pub record IsReady (events : List Event) (back : List Bool) (which : ℕ) : Type 0 where

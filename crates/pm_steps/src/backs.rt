@@ -1,34 +1,46 @@
 ghost use Rattle.std.specs.Prelude.{◌≡◌, ◌<◌, [], ◌∷◌, ◌++◌, IfOk, length, slice_get, slice_index_or, slice_set, Some, true, false};
+ghost use Rattle.pm_steps.specs.WordSet.{is_noted};
 
+use super::word_set::WordSet;
 use std::alloc::{AllocError, Global};
 use std::marker::Model;
 
-/// Which of the events that were executed are stores that are written back: one flag an event, in the log's order. It takes
-/// its memory once, so that a log is gone through without an allocation.
+/// Which of the events that were executed are stores that are written back: one flag an event, in the log's order. Beside them
+/// it can note words whose stores wait. It takes its memory once, so that a log is gone through without an allocation.
 #[derive(Drop)]
 pub struct Backs {
     flags: Vec<bool>,
     room: usize,
+    waiting: WordSet,
 }
 
 impl Model for Backs {
-    ghost use Rattle.std.specs.Prelude.{◌≤◌, vec_capacity};
+    ghost use Rattle.std.specs.Prelude.{◌≡◌, ◌≤◌, vec_capacity};
     ghost use Rattle.pm_steps.specs.Machine.{Flags};
 
     ghost Value = { Flags };
 
-    ghost view = { λ backs. record { back = backs.flags.items; room = backs.room } };
+    ghost view = { λ backs. record {
+      back = backs.flags.items;
+      room = backs.room;
+      waiting = backs.waiting.words;
+    } };
 
-    ghost invariant = { λ backs. backs.room ≤ vec_capacity backs.flags };
+    ghost invariant = { λ backs. (backs.room ≤ vec_capacity backs.flags) × (backs.waiting.room ≡ backs.room) };
 }
 
 impl Backs {
     /// For no event yet, with room for so many. `AllocError` is the answer for want of memory; no other call takes any.
     pub fn new(alloc: Global, room: usize) -> Result<Backs, AllocError>
-        ensures { IfOk result (λ backs. backs ≡ record { back = []; room = room }) }
+        ensures { IfOk result (λ backs. backs ≡ record { back = []; room = room; waiting = [] }) }
     {
         let flags = Vec::with_capacity(alloc, room)?;
-        Ok(Backs { flags, room })
+        let waiting = WordSet::new(alloc, room)?;
+        Ok(Backs {
+            flags,
+            room,
+            waiting,
+        })
     }
 
     /// How many events it has room for.
@@ -54,26 +66,50 @@ impl Backs {
         self.flags[which]
     }
 
-    /// Begins anew, with no event. The room stays.
+    /// Begins anew, with no event and no word. The room stays.
     pub fn clear(&mut self)
-        ensures { self.new ≡ record { back = []; room = self.old.room } }
+        ensures { self.new ≡ record { back = []; room = self.old.room; waiting = [] } }
     {
         self.flags.clear();
+        self.waiting.clear();
     }
 
     /// One more event is executed. A store among them is not back yet.
     pub fn push(&mut self)
         requires { length self.old.back < self.old.room }
-        ensures { self.new ≡ record { back = self.old.back ++ false ∷ []; room = self.old.room } }
+        ensures { self.new ≡ record self.old { back = self.old.back ++ false ∷ [] } }
     {
-        let _ = self.flags.push(false);
+        self.push_flag(false);
+    }
+
+    /// One more event is executed, of which it is said at once whether it is a store that is written back.
+    pub fn push_flag(&mut self, is_back: bool)
+        requires { length self.old.back < self.old.room }
+        ensures { self.new ≡ record self.old { back = self.old.back ++ is_back ∷ [] } }
+    {
+        let _ = self.flags.push(is_back);
     }
 
     /// A store is written back. `which` is its place in the log, from 0.
     pub fn set_back(&mut self, which: usize)
         requires { which < length self.old.back }
-        ensures { self.new ≡ record { back = slice_set self.old.back which true; room = self.old.room } }
+        ensures { self.new ≡ record self.old { back = slice_set self.old.back which true } }
     {
         self.flags[which] = true;
+    }
+
+    /// Whether a word was noted.
+    pub fn waits(&self, word: u32) -> bool
+        ensures { result ≡ is_noted self.now.waiting word }
+    {
+        self.waiting.has(word)
+    }
+
+    /// Notes a word whose store waits.
+    pub fn wait_for(&mut self, word: u32)
+        requires { length self.old.waiting < self.old.room }
+        ensures { self.new ≡ record self.old { waiting = self.old.waiting ++ word ∷ [] } }
+    {
+        self.waiting.note(word);
     }
 }

@@ -7,6 +7,9 @@ pub mod backs;
 pub mod laws;
 /// The processor and the engine that writes back, over a region's log.
 pub mod machine;
+/// Sets of words.
+pub mod word_set;
 
 pub use backs::Backs;
 pub use machine::{Machine, NotYet};
+pub use word_set::WordSet;

@@ -36,9 +36,24 @@ impl<'a, R: Region> Machine<'a, R> {
         requires { length (R.memory region.now).events ≤ backs.old.room }
         ensures same_region { result.region.now ≡ region.now }
         ensures same_backs { result.backs.ghost_name ≡ backs.entry.ghost_name }
-        ensures none { result.backs.now ≡ record { back = []; room = backs.old.room } }
+        ensures none { result.backs.now ≡ record { back = []; room = backs.old.room; waiting = [] } }
     {
         backs.clear();
+        Machine {
+            region,
+            backs,
+            low: 0,
+        }
+    }
+
+    /// A machine that stands where these backs say.
+    pub fn resume(region: &'a R, backs: &'a mut Backs) -> Machine<'a, R>
+        requires fits { length (R.memory region.now).events ≤ backs.old.room }
+        requires in_order { IsInOrder (R.memory region.now).events backs.old.back }
+        ensures same_region { result.region.now ≡ region.now }
+        ensures same_backs { result.backs.ghost_name ≡ backs.entry.ghost_name }
+        ensures stands { result.backs.now ≡ backs.old }
+    {
         Machine {
             region,
             backs,
@@ -58,10 +73,7 @@ impl<'a, R: Region> Machine<'a, R> {
         requires { length self.old.backs.now.back < length (R.memory self.old.region.now).events }
         ensures same_region { self.new.region.now ≡ self.old.region.now }
         ensures same_backs { self.new.backs.ghost_name ≡ self.old.backs.ghost_name }
-        ensures executed { self.new.backs.now ≡ record {
-          back = self.old.backs.now.back ++ false ∷ [];
-          room = self.old.backs.now.room;
-        } }
+        ensures executed { self.new.backs.now ≡ record self.old.backs.now { back = self.old.backs.now.back ++ false ∷ [] } }
     {
         self.backs.push();
     }
@@ -83,10 +95,8 @@ impl<'a, R: Region> Machine<'a, R> {
         ensures same_region { self.new.region.now ≡ self.old.region.now }
         ensures same_backs { self.new.backs.ghost_name ≡ self.old.backs.ghost_name }
         ensures allowed { IsOk result ↔ IsReady (R.memory self.old.region.now).events self.old.backs.now.back which }
-        ensures written { OnOk result (self.new.backs.now ≡ record {
-          back = slice_set self.old.backs.now.back which true;
-          room = self.old.backs.now.room;
-        }) }
+        ensures written { OnOk result
+            (self.new.backs.now ≡ record self.old.backs.now { back = slice_set self.old.backs.now.back which true }) }
         ensures missing { IfErr result (λ not_yet.
             IsFirstMissing (R.memory self.old.region.now).events self.old.backs.now.back which not_yet.needs) }
         ensures err { OnErr result (self.new.backs.now ≡ self.old.backs.now) }

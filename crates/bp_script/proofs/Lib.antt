@@ -1,6 +1,7 @@
 pub mod DigitPairs
 pub mod EachByte
 pub mod Joining
+pub mod Masks
 pub mod NameText
 pub mod Numbers
 pub mod PlainPath

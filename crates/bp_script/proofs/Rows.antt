@@ -1,10 +1,10 @@
 -- The rows of the table of commands.
-use Rattle.std.proofs.Common.{◌≡◌, ℕ, ◌≤◌, List, [], ◌∷◌, ◌++◌, ◌==◌, length, map, codes, Bool, true, false, Option, None, Some, if◌then◌else◌, refl, ◌∙◌, ap, arith, Bor}
+use Rattle.std.proofs.Common.{◌≡◌, ℕ, ◌<◌, ◌≤◌, List, [], ◌∷◌, ◌++◌, ◌==◌, length, map, codes, Bool, true, false, Option, None, Some, if◌then◌else◌, refl, ◌∙◌, ap, arith, Bor}
 use Rattle.std.proofs.lemmas.List.{length-map}
 use Rattle.std.specs.List.{list_any, slice_split, AllByRecursion}
 use Rattle.std.specs.Prelude.{bytes_eq}
 use Rattle.bp_plain.specs.Calls.Call.{create, mkdir, unlink, rmdir, list, stat}
-use Rattle.bp_script.specs.Commands.{Command, asked_by, decoded, is_empty_word, path_bytes, path_command, truncate_command, words_of, written_command}
+use Rattle.bp_script.specs.Commands.{Command, asked_by, command_by_words, decoded, is_empty_word, path_bytes, path_command, truncate_command, words_of, written_command}
 use Rattle.bp_script.specs.Commands.Command.{bad_syntax, file_call}
 use Rattle.bp_script.specs.Lines.{AllFit}
 
@@ -21,13 +21,22 @@ pub written_command-many : (line : List ℕ) (words : List (Bor (List ℕ))) (wo
 written_command-many line words word more four whole =
     asked_by-many (map (λ w. w.now) words) word more (length-map words (λ w. w.now) ∙ four) ∙ ap asked_by whole
 
+-- nor are words of which there is no first or a fifth
+pub no_words : (words : List (Bor (List ℕ))) → length words < 1 → bad_syntax ≡ decoded (command_by_words (map (λ word. word.now) words))
+no_words [] few = refl
+no_words (word ∷ words) few = absurd (omega (arith, few))
+
+pub many_words : (words : List (Bor (List ℕ))) → 5 ≤ length words → bad_syntax ≡ decoded (command_by_words (map (λ word. word.now) words))
+many_words (a ∷ b ∷ c ∷ d ∷ e ∷ words) many = refl
+many_words words many = absurd (omega (arith, many))
+
 -- ---- no word of a line is longer than the line
 
 AllByRecursion-more : (m n : ℕ) (words : List (List ℕ)) → m ≤ n → AllByRecursion (λ word. length word ≤ m) words → AllByRecursion (λ word. length word ≤ n) words
 AllByRecursion-more m n [] low all = tt
 AllByRecursion-more m n (word ∷ words) low all = (omega (arith, low, all.0), AllByRecursion-more m n words low all.1)
 
-parts_within : (p : ℕ → Bool) (text : List ℕ) → AllByRecursion (λ part. length part ≤ length text) (slice_split p text)
+pub parts_within : (p : ℕ → Bool) (text : List ℕ) → AllByRecursion (λ part. length part ≤ length text) (slice_split p text)
 parts_within p [] = (omega arith, tt)
 parts_within p (x ∷ xs) = go (p x) refl (slice_split p xs) refl (parts_within p xs)
   where
@@ -52,8 +61,8 @@ fit_more m n (word ∷ words) low all = (omega (arith, low, all.0), fit_more m n
 -- ---- rows with their paths decoded
 
 -- a row of a word and a path, by which word it is
-abbrev row : (a b c d e f : Bool) → List ℕ → Command
-row a b c d e f path =
+abbrev pub path_row : (a b c d e f : Bool) → List ℕ → Command
+path_row a b c d e f path =
     if a then file_call (create path)
     else if b then file_call (mkdir path)
     else if c then file_call (unlink path)
@@ -66,7 +75,7 @@ pub decoded-path : (verb path : List ℕ) → path_command verb (path_bytes path
 decoded-path verb path =
     go (bytes_eq verb (codes "create")) (bytes_eq verb (codes "mkdir")) (bytes_eq verb (codes "unlink")) (bytes_eq verb (codes "rmdir")) (bytes_eq verb (codes "list")) (bytes_eq verb (codes "stat"))
   where
-    go : (a b c d e f : Bool) → row a b c d e f (path_bytes path) ≡ decoded (row a b c d e f path)
+    go : (a b c d e f : Bool) → path_row a b c d e f (path_bytes path) ≡ decoded (path_row a b c d e f path)
     go true b c d e f = refl
     go false true c d e f = refl
     go false false true d e f = refl

@@ -10,6 +10,7 @@ use Rattle.bp_limits.specs.Limits.{max_line, max_read}
 use Rattle.bp_plain.specs.Calls.{Call}
 use Rattle.bp_plain.specs.Calls.Call.{create, mkdir, unlink, rmdir, list, stat, read, write, truncate, rename}
 use Rattle.bp_replay.specs.Wanted.{Wanted}
+use Rattle.bp_replay.specs.Wanted.Wanted.{all, nothing, at}
 
 pub data Command : Type 0 where
   file_call : Call → Command
@@ -73,11 +74,28 @@ abbrev pub truncate_command : List ℕ → Option ℕ → Command
 truncate_command path (Some size) = file_call (truncate path size)
 truncate_command path None = bad_syntax
 
+-- a crash that keeps all that can be kept, or no more than is certain
+abbrev pub whole_crash : List ℕ → Command
+whole_crash word =
+    if bytes_eq word (codes "all") then crash all
+    else if bytes_eq word (codes "none") then crash nothing
+    else bad_syntax
+
+-- a crash at a moment, with an epoch and a mask of it
+abbrev pub masked_crash : Option ℕ → Option ℕ → Option (List ℕ) → Command
+masked_crash (Some moment) (Some epoch) (Some mask) = crash (at moment epoch mask)
+masked_crash moment epoch mask = bad_syntax
+
+abbrev pub storm_command : Option ℕ → Command
+storm_command (Some seed) = storm seed
+storm_command None = bad_syntax
+
 -- lines of one word, of two, of three and of four
 abbrev pub bare_command : List ℕ → Command
 bare_command verb =
     if bytes_eq verb (codes "sync") then sync
     else if bytes_eq verb (codes "space") then space
+    else if bytes_eq verb (codes "log") then log
     else bad_syntax
 
 abbrev pub path_command : List ℕ → List ℕ → Command
@@ -90,6 +108,13 @@ path_command verb path =
     else if bytes_eq verb (codes "stat") then file_call (stat path)
     else bad_syntax
 
+-- a second word that is a path, but behind `crash` and `storm`
+abbrev pub word_command : List ℕ → List ℕ → Command
+word_command verb word =
+    if bytes_eq verb (codes "crash") then whole_crash word
+    else if bytes_eq verb (codes "storm") then storm_command (number_of word)
+    else path_command verb word
+
 abbrev pub pair_command : List ℕ → List ℕ → List ℕ → Command
 pair_command verb first second =
     if bytes_eq verb (codes "truncate") then truncate_command first (number_of second)
@@ -100,21 +125,28 @@ abbrev pub long_command : List ℕ → List ℕ → List ℕ → List ℕ → Co
 long_command verb first second third =
     if bytes_eq verb (codes "read") then read_command first (number_of second) (number_of third)
     else if bytes_eq verb (codes "write") then write_command first (number_of second) (bytes_of third)
+    else if bytes_eq verb (codes "crash") then masked_crash (number_of first) (number_of second) (bytes_of third)
     else bad_syntax
 
 -- The table of commands, by the words of a line.
---     sync      space
+--     sync      space      log
 --     create PATH      mkdir PATH      unlink PATH      rmdir PATH      list PATH      stat PATH
 --     read PATH OFF LEN      write PATH OFF HEX      truncate PATH SIZE
 --     rename PATH PATH
+--     crash all      crash none      crash MOMENT EPOCH MASK      storm SEED
 abbrev pub command_by_words : List (List ℕ) → Command
 command_by_words (verb ∷ []) = bare_command verb
-command_by_words (verb ∷ path ∷ []) = path_command verb path
+command_by_words (verb ∷ word ∷ []) = word_command verb word
 command_by_words (verb ∷ first ∷ second ∷ []) = pair_command verb first second
 command_by_words (verb ∷ first ∷ second ∷ third ∷ []) = long_command verb first second third
 command_by_words words = bad_syntax
 
 -- ---- what a line asks for
+
+-- the mask that a command gives
+abbrev pub mask_in : Command → List ℕ
+mask_in (crash (at moment epoch mask)) = mask
+mask_in command = []
 
 abbrev pub is_empty_word : List ℕ → Bool
 is_empty_word word = length word == 0

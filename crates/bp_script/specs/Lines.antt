@@ -1,6 +1,7 @@
 -- What a line that was read asks for.
 use Rattle.std.specs.Prelude.{ℕ, ◌≤◌, List, length, min, Result, Ok, Err}
-use Rattle.std.specs.Borrow.{Bor}
+use Rattle.std.specs.Borrow.{Bor, Fml, MutBor}
+use Rattle.std.specs.Io.BufRead.{Rests}
 use Rattle.std.specs.List.{AllByRecursion}
 use Rattle.std.specs.Vec.{vec_capacity}
 use Rattle.bp_plain.specs.Seen.{call_of}
@@ -9,12 +10,17 @@ use Rattle.bp_script.specs.declared.lines.Decoded.{Decoded}
 use Rattle.bp_script.specs.declared.lines.Line.{Line}
 use Rattle.bp_script.specs.declared.lines.Line.TheVariants as asks
 use Rattle.bp_script.specs.declared.lines.Syntax.{Syntax}
+use Rattle.bp_script.specs.contracts.lines.Decoded.{the_row}
 use Rattle.bp_script.specs.Commands.{Command}
 use Rattle.bp_script.specs.Commands.Command.{file_call, sync, space, crash, storm, log, bad_syntax}
 
 -- the bytes of the longest line that can be decoded
 abbrev pub decoded_room : Decoded → ℕ
 decoded_room decoded = min (vec_capacity decoded.first) (vec_capacity decoded.second)
+
+-- once what was borrowed of it is given back, it has no less room
+abbrev pub KeepsRoom : MutBor Decoded → Fml
+KeepsRoom decoded = Rests the_row decoded (λ after. decoded_room decoded.now ≤ decoded_room after)
 
 -- what its two memories hold
 abbrev pub first_held : Decoded → List ℕ

@@ -1,18 +1,17 @@
 //! The lines of a script.
 
 ghost use Rattle.bp_plain.specs.Calls.Call.{rename, write};
-ghost use Rattle.bp_script.specs.Commands.Command.{bad_syntax, file_call};
-ghost use Rattle.bp_script.specs.Commands.{bare_command, bytes_of, command_by_words, decoded, in_grammar, is_empty_word, long_command, number_of, pair_command, part_bytes, path_bytes, path_command, read_command, truncate_command, unslashed, words_of, write_command, written_command};
-ghost use Rattle.bp_script.specs.Lines.{AllFit, decoded_room, first_held, line_asks, second_held};
-ghost use Rattle.bp_script.specs.contracts.lines.Decoded.{the_row};
-ghost use Rattle.std.specs.Borrow.{follows_so, sem};
+ghost use Rattle.bp_replay.specs.Wanted.Wanted.{at};
+ghost use Rattle.bp_script.specs.Commands.Command.{bad_syntax, crash, file_call};
+ghost use Rattle.bp_script.specs.Commands.{bare_command, bytes_of, command_by_words, decoded, in_grammar, is_empty_word, long_command, mask_in, masked_crash, number_of, pair_command, part_bytes, path_bytes, path_command, read_command, storm_command, truncate_command, unslashed, whole_crash, word_command, words_of, write_command, written_command};
+ghost use Rattle.bp_script.specs.Lines.{AllFit, KeepsRoom, decoded_room, first_held, line_asks, second_held};
+ghost use Rattle.std.specs.Borrow.{sem};
 ghost use Rattle.std.specs.List.{list_all, list_any, slice_split};
 ghost use Rattle.std.specs.Option.{option_map_or};
 ghost use Rattle.hex.specs.Hex.{decode_of};
 ghost use Rattle.std.specs.Result.{is_ok, result_ok};
-ghost use Rattle.std.specs.Prelude.{◌/◌, if◌then◌else◌, None, Ok, Some, IfNone, IfOk, IfSome, false, length, map, position, vec_capacity, vec_len, [], ◌∷◌, ◌+◌, ◌++◌, ◌==◌, ◌<◌, ◌≡◌, ◌≤◌, ⊤};
+ghost use Rattle.std.specs.Prelude.{◌/◌, ◌*◌, if◌then◌else◌, None, Ok, Some, IfNone, IfOk, IfSome, false, length, map, position, vec_capacity, vec_len, [], ◌∷◌, ◌+◌, ◌++◌, ◌==◌, ◌<◌, ◌≡◌, ◌≤◌};
 ghost use Rattle.std.specs.Char.{is_ascii_digit};
-ghost use mathlib.Core.Option.{none};
 
 use crate::digits::decode_digits;
 use arrayvec::ArrayVec;
@@ -79,8 +78,9 @@ impl Decoded {
     /// What a line of a script asks for, where it is one.
     pub fn line(&mut self, bytes: &[u8]) -> Result<Line<'_>, Syntax>
         requires room { length bytes.now ≤ decoded_room self.old }
-        ensures* keeps_room { sem 𝓛 (follows_so the_row the_row self.entry.ghost_name none (λ _ _. ⊤) (λ after. decoded_room self.old ≤ decoded_room after)) }
+        ensures* keeps_room { sem 𝓛 (KeepsRoom self.entry) }
         ensures meaning { line_asks result ≡ in_grammar bytes.now }
+        ensures mask { 2 * length (mask_in (line_asks result)) ≤ length bytes.now }
     {
         match words_in(bytes) {
             Some(words) => self.by_words(words.as_slice()),
@@ -91,22 +91,37 @@ impl Decoded {
     /// What the words of a line ask for, none of which is empty.
     fn by_words(&mut self, words: &[&[u8]]) -> Result<Line<'_>, Syntax>
         requires { AllFit (decoded_room self.old) words.now }
-        ensures* keeps_room { sem 𝓛 (follows_so the_row the_row self.entry.ghost_name none (λ _ _. ⊤) (λ after. decoded_room self.old ≤ decoded_room after)) }
+        ensures* keeps_room { sem 𝓛 (KeepsRoom self.entry) }
         ensures meaning { line_asks result ≡ decoded (command_by_words (map (λ word. word.now) words.now)) }
     {
         match words {
             [verb] => bare(verb),
-            [verb, path] => self.on_path(verb, path),
+            [verb, word] => self.on_word(verb, word),
             [verb, path, last] => self.on_pair(verb, path, last),
             [verb, path, second, third] => self.long(verb, path, second, third),
             _ => Err(Syntax),
         }
     }
 
+    /// What a line of two words asks for.
+    fn on_word(&mut self, verb: &[u8], word: &[u8]) -> Result<Line<'_>, Syntax>
+        requires { length word.now ≤ decoded_room self.old }
+        ensures* keeps_room { sem 𝓛 (KeepsRoom self.entry) }
+        ensures meaning { line_asks result ≡ decoded (word_command verb.now word.now) }
+    {
+        if verb == b"crash".as_slice() {
+            whole_crash(word)
+        } else if verb == b"storm".as_slice() {
+            storm(number(word))
+        } else {
+            self.on_path(verb, word)
+        }
+    }
+
     /// What a line of a word and a path asks for.
     fn on_path(&mut self, verb: &[u8], path: &[u8]) -> Result<Line<'_>, Syntax>
         requires { length path.now ≤ decoded_room self.old }
-        ensures* keeps_room { sem 𝓛 (follows_so the_row the_row self.entry.ghost_name none (λ _ _. ⊤) (λ after. decoded_room self.old ≤ decoded_room after)) }
+        ensures* keeps_room { sem 𝓛 (KeepsRoom self.entry) }
         ensures meaning { line_asks result ≡ decoded (path_command verb.now path.now) }
     {
         path_line(verb, self.path_of(path))
@@ -116,7 +131,7 @@ impl Decoded {
     fn on_pair(&mut self, verb: &[u8], path: &[u8], last: &[u8]) -> Result<Line<'_>, Syntax>
         requires path { length path.now ≤ decoded_room self.old }
         requires last { length last.now ≤ decoded_room self.old }
-        ensures* keeps_room { sem 𝓛 (follows_so the_row the_row self.entry.ghost_name none (λ _ _. ⊤) (λ after. decoded_room self.old ≤ decoded_room after)) }
+        ensures* keeps_room { sem 𝓛 (KeepsRoom self.entry) }
         ensures meaning { line_asks result ≡ decoded (pair_command verb.now path.now last.now) }
     {
         match verb {
@@ -130,7 +145,7 @@ impl Decoded {
     fn rename(&mut self, from: &[u8], to: &[u8]) -> Line<'_>
         requires from { length from.now ≤ decoded_room self.old }
         requires to { length to.now ≤ decoded_room self.old }
-        ensures* keeps_room { sem 𝓛 (follows_so the_row the_row self.entry.ghost_name none (λ _ _. ⊤) (λ after. decoded_room self.old ≤ decoded_room after)) }
+        ensures* keeps_room { sem 𝓛 (KeepsRoom self.entry) }
         ensures meaning { line_asks (Ok result) ≡ file_call (rename (path_bytes from.now) (path_bytes to.now)) }
     {
         self.pair(from, to);
@@ -157,12 +172,13 @@ impl Decoded {
     ) -> Result<Line<'_>, Syntax>
         requires path { length path.now ≤ decoded_room self.old }
         requires third { length third.now ≤ decoded_room self.old }
-        ensures* keeps_room { sem 𝓛 (follows_so the_row the_row self.entry.ghost_name none (λ _ _. ⊤) (λ after. decoded_room self.old ≤ decoded_room after)) }
+        ensures* keeps_room { sem 𝓛 (KeepsRoom self.entry) }
         ensures meaning { line_asks result ≡ decoded (long_command verb.now path.now second.now third.now) }
     {
         match verb {
             b"read" => read(self.path_of(path), number(second), number(third)),
             b"write" => self.write(path, number(second), third),
+            b"crash" => self.crash(number(path), number(second), third),
             _ => Err(Syntax),
         }
     }
@@ -171,7 +187,7 @@ impl Decoded {
     fn write(&mut self, path: &[u8], off: Option<u64>, word: &[u8]) -> Result<Line<'_>, Syntax>
         requires path { length path.now ≤ decoded_room self.old }
         requires word { length word.now ≤ decoded_room self.old }
-        ensures* keeps_room { sem 𝓛 (follows_so the_row the_row self.entry.ghost_name none (λ _ _. ⊤) (λ after. decoded_room self.old ≤ decoded_room after)) }
+        ensures* keeps_room { sem 𝓛 (KeepsRoom self.entry) }
         ensures meaning { line_asks result ≡ decoded (write_command path.now off (bytes_of word.now)) }
     {
         match off {
@@ -194,10 +210,50 @@ impl Decoded {
         })
     }
 
+    /// The line of a crash at a moment.
+    fn crash(
+        &mut self,
+        moment: Option<u64>,
+        epoch: Option<u64>,
+        word: &[u8],
+    ) -> Result<Line<'_>, Syntax>
+        requires { length word.now ≤ decoded_room self.old }
+        ensures* keeps_room { sem 𝓛 (KeepsRoom self.entry) }
+        ensures meaning { line_asks result ≡ masked_crash moment epoch (bytes_of word.now) }
+    {
+        match (moment, epoch) {
+            (Some(moment), Some(epoch)) => match self.mask(digits_of(word)) {
+                Ok(()) => Ok(self.crash_held(moment, epoch)),
+                Err(error) => Err(error),
+            },
+            _ => Err(Syntax),
+        }
+    }
+
+    /// The line of a crash with the mask that is held.
+    fn crash_held(&self, moment: u64, epoch: u64) -> Line<'_>
+        ensures { line_asks (Ok result) ≡ crash (at moment epoch (second_held self.now)) }
+    {
+        Line::Crash(Cut::At {
+            moment,
+            epoch,
+            mask: self.second.as_slice(),
+        })
+    }
+
+    /// Decodes hexadecimal digits as the bytes of a mask, into the second memory.
+    fn mask(&mut self, digits: &[u8]) -> Result<(), Syntax>
+        requires { length digits.now ≤ decoded_room self.old }
+        ensures bytes { result_ok (decode_of digits.now) ≡ (if is_ok result then Some (second_held self.new) else None) }
+        ensures room { decoded_room self.old ≤ decoded_room self.new }
+    {
+        decode_bytes(digits, &mut self.second)
+    }
+
     /// The path of a word.
     fn path_of(&mut self, word: &[u8]) -> &[u8]
         requires { length word.now ≤ decoded_room self.old }
-        ensures* keeps_room { sem 𝓛 (follows_so the_row the_row self.entry.ghost_name none (λ _ _. ⊤) (λ after. decoded_room self.old ≤ decoded_room after)) }
+        ensures* keeps_room { sem 𝓛 (KeepsRoom self.entry) }
         ensures path { result.now ≡ path_bytes word.now }
     {
         decode(word, &mut self.first);
@@ -347,7 +403,29 @@ fn bare(verb: &[u8]) -> Result<Line<'static>, Syntax>
     match verb {
         b"sync" => Ok(Line::Sync),
         b"space" => Ok(Line::Space),
+        b"log" => Ok(Line::Log),
         _ => Err(Syntax),
+    }
+}
+
+/// The line of a crash that keeps all that can be kept, or no more than is certain.
+fn whole_crash(word: &[u8]) -> Result<Line<'static>, Syntax>
+    ensures { line_asks result ≡ whole_crash word.now }
+{
+    match word {
+        b"all" => Ok(Line::Crash(Cut::All)),
+        b"none" => Ok(Line::Crash(Cut::Nothing)),
+        _ => Err(Syntax),
+    }
+}
+
+/// The line of a storm.
+fn storm(seed: Option<u64>) -> Result<Line<'static>, Syntax>
+    ensures { line_asks result ≡ storm_command seed }
+{
+    match seed {
+        Some(seed) => Ok(Line::Storm(seed)),
+        None => Err(Syntax),
     }
 }
 

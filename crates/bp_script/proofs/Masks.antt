@@ -1,0 +1,144 @@
+-- A mask has half as many bytes as its line spells digits.
+use Rattle.std.proofs.Common.{◌≡◌, ℕ, ◌*◌, ◌≤◌, ◌==◌, List, [], ◌∷◌, length, codes, Bool, true, false, Option, None, Some, Ok, Err, Result, if◌then◌else◌, nat_le, refl, ap, arith}
+use Rattle.std.specs.Option.{unwrap_or}
+use Rattle.std.specs.List.{list_any, AllByRecursion}
+use Rattle.std.specs.Prelude.{bytes_eq}
+use Rattle.std.specs.Result.{result_ok}
+use Rattle.hex.specs.Hex.{decode_of}
+use Rattle.hex.specs.declared.error.FromHexError.{FromHexError}
+use Rattle.hex.proofs.HexLemmas.{decode_of-ok}
+use Rattle.bp_limits.specs.Limits.{max_read}
+use Rattle.bp_script.specs.Commands.{Command, asked_by, bare_command, bytes_of, command_by_words, decoded, in_grammar, is_empty_word, mask_in, masked_crash, number_of, pair_command, path_command, read_command, storm_command, truncate_command, whole_crash, word_command, words_of, write_command}
+use Rattle.bp_plain.specs.Calls.Call.{read, rename}
+use Rattle.bp_replay.specs.Wanted.Wanted.{all, nothing}
+use Rattle.bp_script.specs.Commands.Command.{file_call, sync, space, crash, log, bad_syntax}
+use Rattle.bp_script.proofs.Rows.{parts_within, path_row}
+
+-- ---- most commands have none
+
+bare_none : (verb : List ℕ) → mask_in (bare_command verb) ≡ []
+bare_none verb = go (bytes_eq verb (codes "sync")) (bytes_eq verb (codes "space")) (bytes_eq verb (codes "log"))
+  where
+    go : (a b c : Bool) → mask_in (if a then sync else if b then space else if c then log else bad_syntax) ≡ []
+    go true b c = refl
+    go false true c = refl
+    go false false true = refl
+    go false false false = refl
+
+path_none : (verb path : List ℕ) → mask_in (path_command verb path) ≡ []
+path_none verb path =
+    go (bytes_eq verb (codes "create")) (bytes_eq verb (codes "mkdir")) (bytes_eq verb (codes "unlink")) (bytes_eq verb (codes "rmdir")) (bytes_eq verb (codes "list")) (bytes_eq verb (codes "stat"))
+  where
+    go : (a b c d e f : Bool) → mask_in (path_row a b c d e f path) ≡ []
+    go true b c d e f = refl
+    go false true c d e f = refl
+    go false false true d e f = refl
+    go false false false true e f = refl
+    go false false false false true f = refl
+    go false false false false false true = refl
+    go false false false false false false = refl
+
+whole_none : (word : List ℕ) → mask_in (whole_crash word) ≡ []
+whole_none word = go (bytes_eq word (codes "all")) (bytes_eq word (codes "none"))
+  where
+    go : (a b : Bool) → mask_in (if a then crash all else if b then crash nothing else bad_syntax) ≡ []
+    go true b = refl
+    go false true = refl
+    go false false = refl
+
+storm_none : (seed : Option ℕ) → mask_in (storm_command seed) ≡ []
+storm_none None = refl
+storm_none (Some seed) = refl
+
+one_of : (a b : Bool) (x y z : Command) → mask_in x ≡ [] → mask_in y ≡ [] → mask_in z ≡ [] → mask_in (if a then x else if b then y else z) ≡ []
+one_of true b x y z p q r = p
+one_of false true x y z p q r = q
+one_of false false x y z p q r = r
+
+word_none : (verb word : List ℕ) → mask_in (word_command verb word) ≡ []
+word_none verb word =
+    one_of (bytes_eq verb (codes "crash")) (bytes_eq verb (codes "storm")) (whole_crash word) (storm_command (number_of word)) (path_command verb word)
+    (whole_none word) (storm_none (number_of word)) (path_none verb word)
+
+truncate_none : (path : List ℕ) (size : Option ℕ) → mask_in (truncate_command path size) ≡ []
+truncate_none path None = refl
+truncate_none path (Some size) = refl
+
+pair_none : (verb first second : List ℕ) → mask_in (pair_command verb first second) ≡ []
+pair_none verb first second =
+    one_of (bytes_eq verb (codes "truncate")) (bytes_eq verb (codes "rename")) (truncate_command first (number_of second)) (file_call (rename first second)) bad_syntax
+    (truncate_none first (number_of second)) refl refl
+
+read_none : (path : List ℕ) (off len : Option ℕ) → mask_in (read_command path off len) ≡ []
+read_none path None len = refl
+read_none path (Some off) None = refl
+read_none path (Some off) (Some len) = go (nat_le len max_read)
+  where
+    go : (a : Bool) → mask_in (if a then file_call (read path off len) else bad_syntax) ≡ []
+    go true = refl
+    go false = refl
+
+write_none : (path : List ℕ) (off : Option ℕ) (new : Option (List ℕ)) → mask_in (write_command path off new) ≡ []
+write_none path None new = refl
+write_none path (Some off) None = refl
+write_none path (Some off) (Some new) = refl
+
+-- ---- a mask that is spelled
+
+bytes_short : (word bytes : List ℕ) → bytes_of word ≡ Some bytes → 2 * length bytes ≤ length word
+bytes_short word bytes e = go (bytes_eq word (codes "-")) refl
+  where
+    spelled : (r : Result (List ℕ) FromHexError) → decode_of word ≡ r → result_ok r ≡ Some bytes → 2 * length bytes ≤ length word
+    spelled (Ok found) is same = omega (arith, (decode_of-ok word found is).2, ap (λ o. length (unwrap_or o [])) same)
+    spelled (Err fault) is same = absurd (cc)
+
+    go : (dash : Bool) → bytes_eq word (codes "-") ≡ dash → 2 * length bytes ≤ length word
+    go true at = let same : Some [] ≡ Some bytes = rw at at e in omega (arith, ap (λ o. length (unwrap_or o [])) same)
+    go false at = let same : result_ok (decode_of word) ≡ Some bytes = rw at at e in spelled (decode_of word) refl same
+
+masked_short : (digits : ℕ) (moment epoch : Option ℕ) (mask : Option (List ℕ)) → ((bytes : List ℕ) → mask ≡ Some bytes → 2 * length bytes ≤ digits)
+    → 2 * length (mask_in (masked_crash moment epoch mask)) ≤ digits
+masked_short digits None epoch mask fits = omega arith
+masked_short digits (Some moment) None mask fits = omega arith
+masked_short digits (Some moment) (Some epoch) None fits = omega arith
+masked_short digits (Some moment) (Some epoch) (Some bytes) fits = fits bytes refl
+
+-- ---- the mask of a line
+
+none_short : (digits : ℕ) (mask : List ℕ) → mask ≡ [] → 2 * length mask ≤ digits
+none_short digits mask e = omega (arith, ap length e)
+
+-- of a line of four words, by its verb
+long_short : (digits : ℕ) (a b c : Bool) (x y z : Command) → mask_in x ≡ [] → mask_in y ≡ [] → 2 * length (mask_in z) ≤ digits
+    → 2 * length (mask_in (if a then x else if b then y else if c then z else bad_syntax)) ≤ digits
+long_short digits true b c x y z p q r = none_short digits (mask_in x) p
+long_short digits false true c x y z p q r = none_short digits (mask_in y) q
+long_short digits false false true x y z p q r = r
+long_short digits false false false x y z p q r = omega arith
+
+row_short : (digits : ℕ) (words : List (List ℕ)) → AllByRecursion (λ word. length word ≤ digits) words → 2 * length (mask_in (command_by_words words)) ≤ digits
+row_short digits [] fit = omega arith
+row_short digits (verb ∷ []) fit = none_short digits (mask_in (bare_command verb)) (bare_none verb)
+row_short digits (verb ∷ word ∷ []) fit = none_short digits (mask_in (word_command verb word)) (word_none verb word)
+row_short digits (verb ∷ first ∷ second ∷ []) fit = none_short digits (mask_in (pair_command verb first second)) (pair_none verb first second)
+row_short digits (verb ∷ first ∷ second ∷ third ∷ []) fit =
+    long_short digits (bytes_eq verb (codes "read")) (bytes_eq verb (codes "write")) (bytes_eq verb (codes "crash"))
+    (read_command first (number_of second) (number_of third)) (write_command first (number_of second) (bytes_of third)) (masked_crash (number_of first) (number_of second) (bytes_of third))
+    (read_none first (number_of second) (number_of third)) (write_none first (number_of second) (bytes_of third))
+    (masked_short digits (number_of first) (number_of second) (bytes_of third) (λ bytes is. omega (arith, bytes_short third bytes is, fit.1.1.1.0)))
+row_short digits (a ∷ b ∷ c ∷ d ∷ e ∷ words) fit = omega arith
+
+asked_short : (digits : ℕ) (words : List (List ℕ)) → AllByRecursion (λ word. length word ≤ digits) words → 2 * length (mask_in (asked_by words)) ≤ digits
+asked_short digits words fit = go (list_any is_empty_word words)
+  where
+    go : (a : Bool) → 2 * length (mask_in (if a then bad_syntax else command_by_words words)) ≤ digits
+    go true = omega arith
+    go false = row_short digits words fit
+
+mask_decoded : (command : Command) → mask_in (decoded command) ≡ mask_in command
+mask_decoded (file_call call) = refl
+mask_decoded command = refl
+
+pub mask_short : (line : List ℕ) → 2 * length (mask_in (in_grammar line)) ≤ length line
+mask_short line =
+    omega (arith, ap length (mask_decoded (asked_by (words_of line))), asked_short (length line) (words_of line) (parts_within (λ b. b == 32) line))

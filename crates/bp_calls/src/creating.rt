@@ -96,6 +96,54 @@ fn grow_and_enter<R: Region>(
     enter(parts, dir, slot, name, kind);
 }
 
+/// What [`create`] does, for a caller that has found the directory's least empty slot, None where no entry is empty. No
+/// scan of the directory is left.
+///
+/// # Errors
+///
+/// As those of [`create`].
+pub fn create_in<R: Region>(
+    parts: &mut Parts<R>,
+    dir: u32,
+    slot: Option<u64>,
+    name: &[u8],
+    kind: Kind,
+) -> Result<(), NoSpace>
+    requires well_formed { IsWellFormed (current_words (R.memory parts.old.region)) }
+    requires exact { AreExact (current_words (R.memory parts.old.region)) parts.old.blocks parts.old.inodes }
+    requires reached { IsReached (current_words (R.memory parts.old.region)) dir }
+    requires directory { kind_of (current_words (R.memory parts.old.region)) dir ≡ 2 }
+    requires name { IsName name.now }
+    requires slot { slot ≡ empty_slot (current_words (R.memory parts.old.region)) dir }
+    requires new { slot_named (current_words (R.memory parts.old.region)) dir name.now ≡ None }
+    requires room { call_room ≤ room_in (R.memory parts.old.region) }
+    ensures performs { OnOk result ((free : Bool) → TellsFreeInode (current_words (R.memory parts.old.region)) free
+        → Performs (R.memory parts.old.region) (R.memory parts.new.region) (enters dir free)
+        (EntersName dir name.now kind)) }
+    ensures exact { AreExact (current_words (R.memory parts.new.region)) parts.new.blocks parts.new.inodes }
+    ensures refused { IfErr result (λ lacks. (free : Bool)
+        → TellsFreeInode (current_words (R.memory parts.old.region)) free
+        → LacksSpace (current_words (R.memory parts.old.region)) (enters dir free) lacks) }
+    ensures same { OnErr result (parts.new ≡ parts.old) }
+{
+    let tree = tree_of(&parts.region, dir);
+    let entry = entry_need(&parts.region, dir, tree, slot);
+    let free = parts.blocks.count();
+    if parts.inodes.count() == 0 {
+        let need = entry + grow_need(&parts.region);
+        if free < need {
+            return Err(NoSpace { need, free });
+        }
+        grow_and_enter(parts, dir, slot, name, kind);
+        return Ok(());
+    }
+    if free < entry {
+        return Err(NoSpace { need: entry, free });
+    }
+    enter(parts, dir, slot, name, kind);
+    Ok(())
+}
+
 /// Creates a file or a directory without bytes, under a name that directory `dir` doesn't have, by one store alone in
 /// its epoch.
 ///
@@ -125,21 +173,6 @@ pub fn create<R: Region>(
         → LacksSpace (current_words (R.memory parts.old.region)) (enters dir free) lacks) }
     ensures same { OnErr result (parts.new ≡ parts.old) }
 {
-    let tree = tree_of(&parts.region, dir);
-    let slot = free_slot(&parts.region, tree);
-    let entry = entry_need(&parts.region, dir, tree, slot);
-    let free = parts.blocks.count();
-    if parts.inodes.count() == 0 {
-        let need = entry + grow_need(&parts.region);
-        if free < need {
-            return Err(NoSpace { need, free });
-        }
-        grow_and_enter(parts, dir, slot, name, kind);
-        return Ok(());
-    }
-    if free < entry {
-        return Err(NoSpace { need: entry, free });
-    }
-    enter(parts, dir, slot, name, kind);
-    Ok(())
+    let slot = free_slot(&parts.region, tree_of(&parts.region, dir));
+    create_in(parts, dir, slot, name, kind)
 }

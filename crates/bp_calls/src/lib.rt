@@ -13,7 +13,7 @@ mod resizing;
 mod tests;
 mod writing;
 
-pub use creating::create;
+pub use creating::{create, create_in};
 pub use entering::{put_behind, tree_of};
 pub use giving::give_back;
 pub use reading::{list, read, stat};

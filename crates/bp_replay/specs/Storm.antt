@@ -1,17 +1,22 @@
 -- A storm: what a crash finds at a moment, in an epoch and with stores written back that are drawn by lot.
-use Rattle.std.specs.Prelude.{ℕ, ◌+◌, ◌%◌, ◌==◌, if◌then◌else◌, Bool, true, false, not, ◌&&◌, List, [], ◌∷◌, ◌++◌, length, take, replicate}
-use Rattle.std.specs.List.{list_any}
+use Rattle.std.specs.Prelude.{ℕ, ◌+◌, ◌%◌, ◌==◌, Bool, true, false, not, ◌&&◌, List, [], ◌∷◌, ◌++◌, length, take, replicate}
 use Rattle.std.proofs.Common.{zero, suc}
 use Rattle.pm_epochs.specs.declared.event.Event.{Event}
 use Rattle.pm_epochs.specs.declared.event.Event.TheVariants.{Store, Barrier, Mark}
 use Rattle.pm_epochs.specs.Log.{barriers}
 use Rattle.pm_epochs.specs.Replay.{Cut}
+use Rattle.pm_steps.specs.WordSet.{is_noted}
 use Rattle.pm_steps.specs.Machine.{cut_of}
 use Rattle.bp_replay.specs.Generator.{next_state, drawn}
 
 -- whether a store to the word goes back: its draw is odd, and no earlier store to the word waits
 abbrev pub goes_back : ℕ → List ℕ → ℕ → Bool
-goes_back state waiting word = drawn state % 2 == 1 && not (list_any (λ other. other == word) waiting)
+goes_back state waiting word = drawn state % 2 == 1 && not (is_noted waiting word)
+
+-- the words of the stores that wait, behind a store to this word that is back or not
+abbrev pub waiting_behind : Bool → List ℕ → ℕ → List ℕ
+waiting_behind true waiting word = waiting
+waiting_behind false waiting word = waiting ++ word ∷ []
 
 -- Which of the taken events are stores that are back. All stores of the epochs before the storm's are; in its own, whose
 -- waiting stores went to these words so far, each store is drawn for; of later ones none is.
@@ -19,7 +24,7 @@ abbrev pub storm_flags : ℕ → ℕ → List ℕ → List Event → List Bool
 storm_flags state epoch waiting [] = []
 storm_flags state zero waiting (Store word value ∷ events) =
     goes_back state waiting word
-    ∷ storm_flags (next_state state) zero (if goes_back state waiting word then waiting else waiting ++ word ∷ []) events
+    ∷ storm_flags (next_state state) zero (waiting_behind (goes_back state waiting word) waiting word) events
 storm_flags state zero waiting (Barrier ∷ events) = false ∷ replicate (length events) false
 storm_flags state (suc epoch) waiting (Store word value ∷ events) = true ∷ storm_flags state (suc epoch) waiting events
 storm_flags state (suc epoch) waiting (Barrier ∷ events) = false ∷ storm_flags state epoch waiting events

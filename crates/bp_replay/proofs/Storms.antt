@@ -1,0 +1,210 @@
+-- What a storm writes back may be written back: what must come first did.
+use Rattle.std.proofs.Common.{◌≡◌, ◌≢◌, ℕ, zero, suc, ◌+◌, ◌-◌, ◌<◌, ◌≤◌, ◌⊎◌, inl, inr, Bool, true, false, not, ◌&&◌, ◌||◌, Option, Some, None, List, [], ◌∷◌, ◌++◌, length, take, drop, replicate, refl, sym, ◌∙◌, ap, subst, arith, add-one, eq-eqb, length-append}
+use Rattle.std.specs.List.{slice_get}
+use Rattle.std.proofs.lemmas.List.{length-replicate, length-take, length-drop, take-append-drop, take-append-le}
+use Rattle.std.proofs.lemmas.List.Folds.{list_any-append}
+use Rattle.std.specs.Prelude.{◌==◌, ◌%◌}
+use Rattle.pm_epochs.specs.declared.event.Event.{Event}
+use Rattle.pm_epochs.specs.declared.event.Event.TheVariants.{Store, Barrier, Mark}
+use Rattle.pm_epochs.specs.Log.{barriers}
+use Rattle.pm_epochs.specs.Replay.{epoch_of}
+use Rattle.pm_steps.specs.WordSet.{is_noted}
+use Rattle.pm_steps.specs.Machine.{is_some_store, ComesFirst, IsInOrder}
+use Rattle.pm_steps.proofs.Order.{store_is}
+use Rattle.pm_steps.proofs.Reaching.{ComesFirst-tail}
+use Rattle.bp_replay.specs.Generator.{next_state, drawn}
+use Rattle.bp_replay.specs.Storm.{goes_back, waiting_behind, storm_flags}
+
+-- ## One event on
+
+drop_suc : (events : List Event) (moment i : ℕ) (event : Event) → i < moment → slice_get events i ≡ Some event → drop i (take moment events) ≡ event ∷ drop (suc i) (take moment events)
+drop_suc [] moment i event low is = cc
+drop_suc (first ∷ events) zero i event low is = absurd (omega arith)
+drop_suc (first ∷ events) (suc moment) zero event low is = let same : first ≡ event = cc in ap (λ e. e ∷ take moment events) same
+drop_suc (first ∷ events) (suc moment) (suc i) event low is = drop_suc events moment i event (omega arith) is
+
+pub drop_at : (events : List Event) (moment i : ℕ) (event : Event) → i < moment → slice_get events i ≡ Some event → drop i (take moment events) ≡ event ∷ drop (i + 1) (take moment events)
+drop_at events moment i event low is = rw add-one (drop_suc events moment i event low is)
+
+pub flags_at : (state : ℕ) (waiting : List ℕ) (events : List Event) (moment i : ℕ) (event : Event) → i < moment → slice_get events i ≡ Some event → storm_flags state 0 waiting (drop i (take moment events)) ≡ storm_flags state 0 waiting (event ∷ drop (i + 1) (take moment events))
+flags_at state waiting events moment i event low is = ap (storm_flags state 0 waiting) (drop_at events moment i event low is)
+
+-- behind the storm's epoch none is back
+pub flags_at_barrier : (state : ℕ) (waiting : List ℕ) (events : List Event) (moment i : ℕ) → i < moment → moment ≤ length events → slice_get events i ≡ Some Barrier → storm_flags state 0 waiting (drop i (take moment events)) ≡ replicate (moment - i) false
+flags_at_barrier state waiting events moment i low taken is =
+    let behind = drop (i + 1) (take moment events) in
+    let count : suc (length behind) ≡ moment - i = omega (arith, length-drop (i + 1) (take moment events), length-take moment events) in
+    flags_at state waiting events moment i Barrier low is ∙ ap (λ n. replicate n false) count
+
+pub length-waiting_behind : (flag : Bool) (waiting : List ℕ) (word : ℕ) → length (waiting_behind flag waiting word) ≤ length waiting + 1
+length-waiting_behind true waiting word = omega arith
+length-waiting_behind false [] word = omega arith
+length-waiting_behind false (other ∷ waiting) word = let more = length-waiting_behind false waiting word in omega arith
+
+-- ## The order
+
+length-storm_flags : (state epoch : ℕ) (waiting : List ℕ) (events : List Event) → length (storm_flags state epoch waiting events) ≡ length events
+length-storm_flags state epoch waiting [] = refl
+length-storm_flags state zero waiting (Store word value ∷ events) = ap suc (length-storm_flags (next_state state) zero (waiting_behind (goes_back state waiting word) waiting word) events)
+length-storm_flags state zero waiting (Barrier ∷ events) = ap suc (length-replicate (length events) false)
+length-storm_flags state (suc epoch) waiting (Store word value ∷ events) = ap suc (length-storm_flags state (suc epoch) waiting events)
+length-storm_flags state (suc epoch) waiting (Barrier ∷ events) = ap suc (length-storm_flags state epoch waiting events)
+length-storm_flags state epoch waiting (Mark ∷ events) = ap suc (length-storm_flags state epoch waiting events)
+
+none : {A : Type 0} → Some false ≡ Some true → A
+none is = absurd (let no : Some false ≢ Some true = λ e. cc in no is)
+
+nothing_there : {A : Type 0} (i : ℕ) → slice_get {X = Bool} [] i ≡ Some true → A
+nothing_there i is = absurd (let no : (slice_get {X = Bool} [] i ≡ Some true) → ⊥ = λ e. cc in no is)
+
+none_later : {A : Type 0} (count i : ℕ) → slice_get (replicate count false) i ≡ Some true → A
+none_later zero i is = nothing_there i is
+none_later (suc count) zero is = none is
+none_later (suc count) (suc i) is = none_later count i is
+
+storm_stores : (state epoch : ℕ) (waiting : List ℕ) (events : List Event) (i : ℕ) → slice_get (storm_flags state epoch waiting events) i ≡ Some true → is_some_store (slice_get events i) ≡ true
+storm_stores state epoch waiting [] i is = nothing_there i is
+storm_stores state zero waiting (Store word value ∷ events) zero is = refl
+storm_stores state zero waiting (Store word value ∷ events) (suc i) is = storm_stores (next_state state) zero (waiting_behind (goes_back state waiting word) waiting word) events i is
+storm_stores state zero waiting (Barrier ∷ events) zero is = none is
+storm_stores state zero waiting (Barrier ∷ events) (suc i) is = none_later (length events) i is
+storm_stores state (suc epoch) waiting (Store word value ∷ events) zero is = refl
+storm_stores state (suc epoch) waiting (Store word value ∷ events) (suc i) is = storm_stores state (suc epoch) waiting events i is
+storm_stores state (suc epoch) waiting (Barrier ∷ events) zero is = none is
+storm_stores state (suc epoch) waiting (Barrier ∷ events) (suc i) is = storm_stores state epoch waiting events i is
+storm_stores state epoch waiting (Mark ∷ events) zero is = none is
+storm_stores state epoch waiting (Mark ∷ events) (suc i) is = storm_stores state epoch waiting events i is
+
+-- in the first epoch what is back lies before the first barrier
+early : (state : ℕ) (waiting : List ℕ) (events : List Event) (i : ℕ) → slice_get (storm_flags state 0 waiting events) i ≡ Some true → epoch_of events i ≡ 0
+early state waiting [] i is = nothing_there i is
+early state waiting (Store word value ∷ events) zero is = refl
+early state waiting (Store word value ∷ events) (suc i) is = early (next_state state) (waiting_behind (goes_back state waiting word) waiting word) events i is
+early state waiting (Barrier ∷ events) zero is = refl
+early state waiting (Barrier ∷ events) (suc i) is = none_later (length events) i is
+early state waiting (Mark ∷ events) zero is = refl
+early state waiting (Mark ∷ events) (suc i) is = early state waiting events i is
+
+same_word : (place value word other : ℕ) → Some (Store place value) ≡ Some (Store word other) → place ≡ word
+same_word place value word other is = cc
+
+and_not : (a b : Bool) → (a && not b) ≡ true → b ≡ false
+and_not true true is = cc
+and_not true false is = refl
+and_not false b is = cc
+
+or_false : (a b : Bool) → (a || b) ≡ false → a ≡ false
+or_false true b is = cc
+or_false false b is = refl
+
+noted_front : (waiting : List ℕ) (place word : ℕ) → is_noted (waiting ++ place ∷ []) word ≡ false → is_noted waiting word ≡ false
+noted_front waiting place word is = or_false (is_noted waiting word) (is_noted (place ∷ []) word) (sym (list_any-append (λ other. other == word) waiting (place ∷ [])) ∙ is)
+
+noted_before : (flag : Bool) (waiting : List ℕ) (place word : ℕ) → is_noted (waiting_behind flag waiting place) word ≡ false → is_noted waiting word ≡ false
+noted_before true waiting place word is = is
+noted_before false waiting place word is = noted_front waiting place word is
+
+-- a store that is back goes to a word for which none waited
+not_waiting : (state : ℕ) (waiting : List ℕ) (events : List Event) (i word value : ℕ) → slice_get (storm_flags state 0 waiting events) i ≡ Some true → slice_get events i ≡ Some (Store word value) → is_noted waiting word ≡ false
+not_waiting state waiting [] i word value is store = nothing_there i is
+not_waiting state waiting (Store place other ∷ events) zero word value is store =
+    let flag : goes_back state waiting place ≡ true = cc in
+    subst (λ w. is_noted waiting w ≡ false) (same_word place other word value store) (and_not (drawn state % 2 == 1) (is_noted waiting place) flag)
+not_waiting state waiting (Store place other ∷ events) (suc i) word value is store =
+    noted_before (goes_back state waiting place) waiting place word (not_waiting (next_state state) (waiting_behind (goes_back state waiting place) waiting place) events i word value is store)
+not_waiting state waiting (Barrier ∷ events) zero word value is store = none is
+not_waiting state waiting (Barrier ∷ events) (suc i) word value is store = none_later (length events) i is
+not_waiting state waiting (Mark ∷ events) zero word value is store = none is
+not_waiting state waiting (Mark ∷ events) (suc i) word value is store = not_waiting state waiting events i word value is store
+
+noted_last : (waiting : List ℕ) (word : ℕ) → is_noted (waiting ++ word ∷ []) word ≡ true
+noted_last [] word = rw (eq-eqb word word refl)
+noted_last (other ∷ waiting) word = rw (noted_last waiting word) (or_true (other == word))
+  where
+    or_true : (a : Bool) → (a || true) ≡ true
+    or_true true = refl
+    or_true false = refl
+
+-- a store behind which one that must come later is back
+before_back : (flag : Bool) (state : ℕ) (waiting : List ℕ) (word value : ℕ) (events : List Event) (later : ℕ) → slice_get (storm_flags state 0 (waiting_behind flag waiting word) events) later ≡ Some true → ComesFirst (Store word value ∷ events) 0 (suc later) → flag ≡ true
+before_back true state waiting word value events later is comes = refl
+before_back false state waiting word value events later is comes =
+    elim comes.must [
+      | inl less ↦ absurd (omega (arith, less, early state (waiting ++ word ∷ []) events later is))
+      | inr same ↦
+          let word_is : word ≡ comes.word = same_word word value comes.first_word comes.first_value comes.first_is ∙ same in
+          let free : is_noted (waiting ++ word ∷ []) comes.word ≡ false = not_waiting state (waiting ++ word ∷ []) events later comes.word comes.value is comes.second_is in
+          let held : is_noted (waiting ++ word ∷ []) comes.word ≡ true = subst (λ w. is_noted (waiting ++ word ∷ []) w ≡ true) word_is (noted_last waiting word) in
+          let clash : true ≡ false = sym held ∙ free in
+          cc
+    ]
+
+not_a_store : {A : Type 0} (event : Event) (word value : ℕ) → ((word value : ℕ) → event ≢ Store word value) → Some event ≡ Some (Store word value) → A
+not_a_store event word value other is = absurd (other word value (let e : event ≡ Store word value = cc in e))
+
+storm_first : (state epoch : ℕ) (waiting : List ℕ) (events : List Event) (earlier later : ℕ) → slice_get (storm_flags state epoch waiting events) later ≡ Some true → ComesFirst events earlier later → slice_get (storm_flags state epoch waiting events) earlier ≡ Some true
+storm_first state epoch waiting events earlier zero is comes = absurd (omega (arith, comes.before))
+storm_first state epoch waiting [] earlier (suc later) is comes = nothing_there (suc later) is
+storm_first state zero waiting (Store word value ∷ events) zero (suc later) is comes =
+    ap Some (before_back (goes_back state waiting word) (next_state state) waiting word value events later is comes)
+storm_first state zero waiting (Store word value ∷ events) (suc earlier) (suc later) is comes =
+    storm_first (next_state state) zero (waiting_behind (goes_back state waiting word) waiting word) events earlier later is (ComesFirst-tail (Store word value) events earlier later comes)
+storm_first state zero waiting (Barrier ∷ events) earlier (suc later) is comes = none_later (length events) later is
+storm_first state (suc epoch) waiting (Store word value ∷ events) zero (suc later) is comes = refl
+storm_first state (suc epoch) waiting (Store word value ∷ events) (suc earlier) (suc later) is comes = storm_first state (suc epoch) waiting events earlier later is (ComesFirst-tail (Store word value) events earlier later comes)
+storm_first state (suc epoch) waiting (Barrier ∷ events) zero (suc later) is comes = not_a_store Barrier comes.first_word comes.first_value (λ w v e. cc) comes.first_is
+storm_first state (suc epoch) waiting (Barrier ∷ events) (suc earlier) (suc later) is comes = storm_first state epoch waiting events earlier later is (ComesFirst-tail Barrier events earlier later comes)
+storm_first state epoch waiting (Mark ∷ events) zero (suc later) is comes = not_a_store Mark comes.first_word comes.first_value (λ w v e. cc) comes.first_is
+storm_first state epoch waiting (Mark ∷ events) (suc earlier) (suc later) is comes = storm_first state epoch waiting events earlier later is (ComesFirst-tail Mark events earlier later comes)
+
+in_order_taken : (state epoch : ℕ) (events : List Event) → IsInOrder events (storm_flags state epoch [] events)
+in_order_taken state epoch events = record {
+  few = omega (arith, length-storm_flags state epoch [] events);
+  stores = storm_stores state epoch [] events;
+  first = storm_first state epoch [] events;
+}
+
+-- ## Over the whole log
+
+get_front : (front rest : List Event) (i : ℕ) → i < length front → slice_get (front ++ rest) i ≡ slice_get front i
+get_front [] rest i low = absurd (omega arith)
+get_front (event ∷ front) rest zero low = refl
+get_front (event ∷ front) rest (suc i) low = get_front front rest i (omega arith)
+
+index_low : (events : List Event) (i : ℕ) (event : Event) → slice_get events i ≡ Some event → i < length events
+index_low [] i event is = cc
+index_low (first ∷ events) zero event is = omega arith
+index_low (first ∷ events) (suc i) event is = omega (arith, index_low events i event is)
+
+epoch_of_front : (front rest : List Event) (i : ℕ) → i ≤ length front → epoch_of (front ++ rest) i ≡ epoch_of front i
+epoch_of_front front rest i low = ap barriers (take-append-le i front rest low)
+
+in_order_front : (front rest : List Event) (back : List Bool) → IsInOrder front back → IsInOrder (front ++ rest) back
+in_order_front front rest back order = record {
+  few = omega (arith, order.few, length-append front rest);
+  stores = λ i is.
+      let store = store_is (slice_get front i) (order.stores i is) in
+      rw (get_front front rest i (index_low front i (Store store.0 store.1) store.2)) (order.stores i is);
+  first = λ earlier later is comes.
+      let store = store_is (slice_get front later) (order.stores later is) in
+      let low : later < length front = index_low front later (Store store.0 store.1) store.2 in
+      let lower : earlier < length front = omega (arith, low, comes.before) in
+      order.first earlier later is (record {
+        before = comes.before;
+        first_word = comes.first_word;
+        first_value = comes.first_value;
+        word = comes.word;
+        value = comes.value;
+        first_is = sym (get_front front rest earlier lower) ∙ comes.first_is;
+        second_is = sym (get_front front rest later low) ∙ comes.second_is;
+        must = elim comes.must [
+          | inl less ↦ inl (omega (arith, less, epoch_of_front front rest earlier (omega (arith, lower)), epoch_of_front front rest later (omega (arith, low))))
+          | inr same ↦ inr same
+        ];
+      });
+}
+
+pub in_order_storm : (state epoch moment : ℕ) (events : List Event) → IsInOrder events (storm_flags state epoch [] (take moment events))
+in_order_storm state epoch moment events =
+    subst (λ es. IsInOrder es (storm_flags state epoch [] (take moment events))) (take-append-drop moment events)
+    (in_order_front (take moment events) (drop moment events) (storm_flags state epoch [] (take moment events)) (in_order_taken state epoch (take moment events)))

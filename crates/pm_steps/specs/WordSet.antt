@@ -1,5 +1,5 @@
 -- A set of words, by the list of those that were noted.
-use Rattle.std.specs.Prelude.{ℕ, ◌==◌, Bool, List}
+use Rattle.std.specs.Prelude.{◌≡◌, ℕ, ◌%◌, ◌<◌, ◌≤◌, ◌==◌, Bool, List, length, slice_index}
 use Rattle.std.specs.List.{list_any}
 
 -- words that were noted, the last one last, and for how many there is room
@@ -10,3 +10,19 @@ pub record Noted : Type 0 where
 -- whether a word is among these
 abbrev pub is_noted : List ℕ → ℕ → Bool
 is_noted words word = list_any (λ other. other == word) words
+
+-- the entry has the last word below a bound that leaves this remainder, if there is one
+abbrev pub IsLast : List ℕ → ℕ → ℕ → ℕ → ℕ → Type 0
+IsLast words divisor remainder bound entry =
+    (k : ℕ) → k < bound → slice_index words k % divisor ≡ remainder →
+    (k ≤ entry) × (entry < bound) × (slice_index words entry % divisor ≡ remainder)
+
+-- for each remainder the last entry that leaves it, and for each entry the one before it with the same remainder, as far as
+-- there are some
+pub record IsLinked (words before heads : List ℕ) : Type 0 where
+  pub few : length words ≤ length heads
+  pub each : length before ≡ length words
+  pub heads_last : (remainder : ℕ) → remainder < length heads →
+      IsLast words (length heads) remainder (length words) (slice_index heads remainder)
+  pub before_last : (i : ℕ) → i < length words →
+      IsLast words (length heads) (slice_index words i % length heads) i (slice_index before i)

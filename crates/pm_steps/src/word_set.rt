@@ -1,25 +1,34 @@
 ghost use Rattle.std.specs.Prelude.{◌≡◌, ◌<◌, [], ◌∷◌, ◌++◌, IfOk, length};
-ghost use Rattle.pm_steps.specs.WordSet.{is_noted};
+ghost use Rattle.pm_steps.specs.WordSet.{is_noted, IsLinked};
 
 use std::alloc::{AllocError, Global};
 use std::marker::Model;
 
-/// A set of words of a region. It takes its memory once.
+/// A set of words of a region. It takes its memory once. A word is taken in at once, and found by the words that leave its
+/// remainder, of which there are few unless it was meant otherwise.
 #[derive(Drop)]
 pub struct WordSet {
     words: Vec<u32>,
-    room: usize,
+    // Of each word, which was the last before it with its remainder. Any number where there was none.
+    before: Vec<usize>,
+    // Of each remainder by the room, which word is the last that leaves it. Any number where there is none, so that nothing
+    // has to be put back when the set begins anew.
+    heads: Vec<usize>,
 }
 
 impl Model for WordSet {
-    ghost use Rattle.std.specs.Prelude.{◌≤◌, vec_capacity};
-    ghost use Rattle.pm_steps.specs.WordSet.{Noted};
+    ghost use Rattle.std.specs.Prelude.{◌≤◌, vec_len, vec_capacity};
+    ghost use Rattle.pm_steps.specs.WordSet.{Noted, IsLinked};
 
     ghost Value = { Noted };
 
-    ghost view = { λ set. record { words = set.words.items; room = set.room } };
+    ghost view = { λ set. record { words = set.words.items; room = vec_len set.heads } };
 
-    ghost invariant = { λ set. set.room ≤ vec_capacity set.words };
+    ghost invariant = { λ set. record {
+      linked : IsLinked set.words.items set.before.items set.heads.items;
+      words_reserved : vec_len set.heads ≤ vec_capacity set.words;
+      before_reserved : vec_len set.heads ≤ vec_capacity set.before;
+    } };
 }
 
 impl WordSet {
@@ -28,7 +37,13 @@ impl WordSet {
         ensures { IfOk result (λ set. set ≡ record { words = []; room = room }) }
     {
         let words = Vec::with_capacity(alloc, room)?;
-        Ok(WordSet { words, room })
+        let before = Vec::with_capacity(alloc, room)?;
+        let heads = vec![in alloc; 0usize; room]?;
+        Ok(WordSet {
+            words,
+            before,
+            heads,
+        })
     }
 
     /// Begins anew, with no word. The room stays.
@@ -36,6 +51,7 @@ impl WordSet {
         ensures { self.new ≡ record { words = []; room = self.old.room } }
     {
         self.words.clear();
+        self.before.clear();
     }
 
     /// Takes a word in. One that is there already takes room again.
@@ -43,6 +59,10 @@ impl WordSet {
         requires { length self.old.words < self.old.room }
         ensures { self.new ≡ record { words = self.old.words ++ word ∷ []; room = self.old.room } }
     {
+        let remainder = word as usize % self.heads.len();
+        let last = self.heads[remainder];
+        self.heads[remainder] = self.words.len();
+        let _ = self.before.push(last);
         let _ = self.words.push(word);
     }
 
@@ -50,6 +70,27 @@ impl WordSet {
     pub fn has(&self, word: u32) -> bool
         ensures { result ≡ is_noted self.now.words word }
     {
-        self.words.iter().any(|other| *other == word)
+        is_among(&self.words, &self.before, &self.heads, word)
     }
+}
+
+/// Whether a word is among these, by the links between those of one remainder.
+fn is_among(words: &[u32], before: &[usize], heads: &[usize], word: u32) -> bool
+    requires { IsLinked words.now before.now heads.now }
+    ensures { result ≡ is_noted words.now word }
+{
+    if words.is_empty() {
+        return false;
+    }
+    let remainder = word as usize % heads.len();
+    let mut bound = words.len();
+    let mut entry = heads[remainder];
+    'entries: while entry < bound && words[entry] as usize % heads.len() == remainder {
+        if words[entry] == word {
+            return true;
+        }
+        bound = entry;
+        entry = before[entry];
+    }
+    false
 }

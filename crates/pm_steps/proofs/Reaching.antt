@@ -9,9 +9,10 @@ use Rattle.pm_epochs.specs.declared.event.Event.TheVariants.{Store, Barrier, Mar
 use Rattle.pm_epochs.specs.Log.{words_after}
 use Rattle.pm_epochs.specs.Replay.{Cut, IsRight, stores_of, replay, epoch_of}
 use Rattle.pm_epochs.proofs.Cuts.{kept_stores_right}
-use Rattle.pm_steps.specs.Machine.{State, start, Step, is_some_store, ComesFirst, IsInOrder, IsReady, written, state_after, Runs}
+use Rattle.pm_steps.specs.Machine.{State, start, Step, is_some_store, ComesFirst, IsInOrder, IsReady, written, state_after, Runs, write_backs, in_log_order, cut_of}
 use Rattle.pm_steps.specs.Machine.Step.{Execute, WriteBack}
 use Rattle.pm_steps.proofs.Order.{store_is, reached}
+use Rattle.pm_steps.proofs.Cuts.{run_replay}
 
 -- ## Runs in a row
 
@@ -102,6 +103,46 @@ flags_reached base events back order =
       runs = runs_on events (start base) before.steps before.new after.steps after.new before.runs after.runs;
       back_is = after.back_is;
     }
+
+-- the steps are those in the order of the log
+taken_steps : (base : List ℕ) (events : List Event) (n : ℕ) (low : n ≤ length events) → (taken base events n low).steps ≡ replicate n Execute
+unfolding taken
+taken_steps base events zero low = refl
+taken_steps base events (suc n) low =
+    let more : n + 1 ≡ suc n = omega arith in
+    ap (λ ss. ss ++ Execute ∷ []) (taken_steps base events n (omega arith)) ∙ replicate-append-replicate n 1 Execute ∙ ap (λ k. replicate k Execute) more
+
+length-one_more : (front : List Bool) (flag : Bool) → length (front ++ flag ∷ []) ≡ suc (length front)
+length-one_more [] flag = refl
+length-one_more (first ∷ front) flag = ap suc (length-one_more front flag)
+
+written_steps : (events : List Event) (front rest : List Bool) (old : State) (order : IsInOrder events (front ++ rest)) (back_is : old.back ≡ front ++ replicate (length rest) false) → (written_back events front rest old order back_is).steps ≡ write_backs (length front) rest
+unfolding written_back
+written_steps events front [] old order back_is = refl
+written_steps events front (false ∷ rest) old order back_is =
+    written_steps events (front ++ false ∷ []) rest old _ _ ∙ ap (λ n. write_backs n rest) (length-one_more front false)
+written_steps events front (true ∷ rest) old order back_is =
+    ap (λ ss. WriteBack (length front) ∷ ss) (written_steps events (front ++ true ∷ []) rest _ _ _ ∙ ap (λ n. write_backs n rest) (length-one_more front true))
+
+flags_steps : (base : List ℕ) (events : List Event) (back : List Bool) (order : IsInOrder events back) → (flags_reached base events back order).steps ≡ in_log_order back
+unfolding flags_reached
+flags_steps base events back order =
+    let before = taken base events (length back) order.few in
+    ap (λ ss. ss ++ (written_back events [] back before.new order before.back_is).steps) (taken_steps base events (length back) order.few)
+    ∙ ap (λ ss. replicate (length back) Execute ++ ss) (written_steps events [] back before.new order before.back_is)
+
+state_is : (state : State) (back : List Bool) (words : List ℕ) → state.back ≡ back → state.words ≡ words → state ≡ record { back = back; words = words }
+state_is state back words is_back is_words =
+    ap (λ (bs : List Bool). let s : State = record { back = bs; words = state.words } in s) is_back
+    ∙ ap (λ (ws : List ℕ). let s : State = record { back = back; words = ws } in s) is_words
+
+pub reached_in_log_order : (base : List ℕ) (events : List Event) (back : List Bool) → IsInOrder events back → Runs events (start base) (in_log_order back) (record { back = back; words = replay base events (cut_of events back) })
+reached_in_log_order base events back order =
+    let found = flags_reached base events back order in
+    let words : found.new.words ≡ replay base events (cut_of events back) =
+    run_replay base events found.new (reached base events found.steps found.new found.runs) ∙ ap (λ bs. replay base events (cut_of events bs)) found.back_is in
+    subst (λ ss. Runs events (start base) ss (record { back = back; words = replay base events (cut_of events back) })) (flags_steps base events back order)
+    (subst (λ st. Runs events (start base) found.steps st) (state_is found.new back (replay base events (cut_of events back)) found.back_is words) found.runs)
 
 -- ## What has to go back for a cut
 

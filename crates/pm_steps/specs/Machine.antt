@@ -1,6 +1,6 @@
 -- Write-back: the processor executes the events of a log in order, and an engine writes stores back to the memory. The
 -- steps of the two come in any order.
-use Rattle.std.specs.Prelude.{◌≡◌, ℕ, ◌<◌, ◌≤◌, ◌⊎◌, Bool, true, false, Option, Some, None, List, [], ◌∷◌, ◌++◌, length, drop, slice_get, slice_set}
+use Rattle.std.specs.Prelude.{◌≡◌, ℕ, ◌<◌, ◌≤◌, ◌⊎◌, Bool, true, false, Option, Some, None, List, [], ◌∷◌, ◌++◌, length, drop, replicate, slice_get, slice_set}
 use Rattle.std.proofs.Common.{zero, suc}
 use Rattle.pm_epochs.specs.declared.event.Event.{Event}
 use Rattle.pm_epochs.specs.declared.event.Event.TheVariants.{Store, Barrier, Mark}
@@ -116,6 +116,16 @@ state_after events state (WriteBack which) = written state which (slice_get even
 abbrev pub Runs : List Event → State → List Step → State → Type 0
 Runs events old [] new = old ≡ new
 Runs events old (step ∷ steps) new = Allowed events old.back step × Runs events (state_after events old step) steps new
+
+-- the stores that are back, written back in the order of the log; the first flag is that of the event at this index
+abbrev pub write_backs : ℕ → List Bool → List Step
+write_backs which [] = []
+write_backs which (true ∷ back) = WriteBack which ∷ write_backs (suc which) back
+write_backs which (false ∷ back) = write_backs (suc which) back
+
+-- the processor executes as many events as there are flags, and then the stores that are back are written back in order
+abbrev pub in_log_order : List Bool → List Step
+in_log_order back = replicate (length back) Execute ++ write_backs 0 back
 
 -- the epoch that is being written back: the barriers that were executed before the first store that is not back, or all
 -- that were executed

@@ -1,8 +1,8 @@
-ghost use Rattle.std.specs.Prelude.{◌≡◌, ℕ, List};
+ghost use Rattle.std.specs.Prelude.{◌≡◌, ℕ, Bool, List};
 ghost use Rattle.pm_epochs.specs.declared.event.Event.{Event};
 ghost use Rattle.pm_epochs.specs.Crash.{CrashRight};
 ghost use Rattle.pm_epochs.specs.Replay.{Cut, IsRight, replay, kept_calls, after_calls};
-ghost use Rattle.pm_steps.specs.Machine.{State, Step, start, Runs, cut_of};
+ghost use Rattle.pm_steps.specs.Machine.{State, Step, start, Runs, IsInOrder, in_log_order, cut_of};
 
 use pm_epochs::laws::Likeness;
 
@@ -20,6 +20,14 @@ pub fn each_replay_is_reached()
     ensures { (base : List ℕ) (events : List Event) (cut : Cut) → IsRight events cut →
         (steps : List Step) × (state : State) ×
         Runs events (start base) steps state × (state.words ≡ replay base events cut) }
+{}
+
+/// Stores that are in order are written back by steps that are allowed: the processor executes its events, and then the
+/// stores go back in the order of the log. The memory is then the replay of the cut at which the machine stands.
+pub fn stores_in_order_are_reached()
+    ensures { (base : List ℕ) (events : List Event) (back : List Bool) → IsInOrder events back →
+        Runs events (start base) (in_log_order back)
+        (record { back = back; words = replay base events (cut_of events back) }) }
 {}
 
 /// Over a log that a crash at any moment leaves right: whatever the order in which the processor and the engine take their

@@ -1,0 +1,5 @@
+pub mod Ownership
+pub mod Lends
+pub mod RawArray
+pub mod RawLends
+pub mod RawRegion

@@ -1,0 +1,112 @@
+//! Arrays of a fixed length over raw memory.
+ghost use Rattle.std.specs.Prelude.{◌≡◌, ◌<◌, List, [], length, replicate, slice_set, IfOk};
+ghost use Rattle.std.specs.Borrow.{sem};
+ghost use Rattle.std.specs.List.{refill};
+ghost use Rattle.std.specs.Vec.Ownership.{FitsInBlock};
+
+use super::cells::{Base, Cells, Deed, allocate, deallocate};
+use std::alloc::{AllocError, Global};
+use std::marker::Model;
+
+/// An array in a block of memory of its own, which is freed at the array's end. It is seen as the list of its items.
+pub struct RawArray<T: Copy> {
+    base: Base<T>,
+    len: usize,
+    cells: Cells<T>,
+    deed: Deed<T, Global>,
+    alloc: Global,
+}
+
+impl<T: Copy> Model for RawArray<T> {
+    ghost use Rattle.std.specs.Prelude.{List};
+    ghost use Rattle.std.specs.Coded.{coded_list};
+
+    ghost Value = { List T };
+
+    ghost coded = { coded_list T.code };
+
+    ghost use Rattle.pm_raw.specs.RawArray.{items_of, IsWhole};
+
+    ghost view = { items_of };
+
+    ghost invariant = { IsWhole };
+}
+
+impl<T: Copy> Drop for RawArray<T> {
+    fn drop(self) {
+        let RawArray {
+            base,
+            len,
+            cells,
+            deed,
+            alloc,
+        } = self;
+        deallocate(&alloc, base, len, cells, deed);
+    }
+}
+
+/// Puts the value into each place of an empty block.
+fn fill<T: Copy>(cells: &mut Cells<T>, base: Base<T>, len: usize, value: T)
+    requires at { base.address ≡ cells.old.at }
+    requires empty { cells.old.items ≡ [] }
+    requires count { cells.old.count ≡ len }
+    ensures at { cells.new.at ≡ cells.old.at }
+    ensures filled { cells.new.items ≡ replicate len value }
+    ensures count { cells.new.count ≡ cells.old.count }
+{
+    for i in 0..len {
+        cells.push(base, i, value);
+    }
+}
+
+impl<T: Copy> RawArray<T> {
+    ghost use Rattle.pm_raw.specs.RawLends.{lends_items};
+
+    /// An array of so many items, each this value. Fails only for want of memory; no other call takes any.
+    pub fn new(alloc: Global, len: usize, value: T) -> Result<RawArray<T>, AllocError>
+        requires { FitsInBlock T.row len }
+        ensures { IfOk result (λ array. array ≡ replicate len value) }
+    {
+        let (base, mut cells, deed) = allocate(&alloc, len)?;
+        fill(&mut cells, base, len, value);
+        Ok(RawArray {
+            base,
+            len,
+            cells,
+            deed,
+            alloc,
+        })
+    }
+
+    /// How many items there are.
+    pub fn len(&self) -> usize
+        ensures { result ≡ length self.now }
+    {
+        self.len
+    }
+
+    /// The items.
+    pub fn as_slice(&self) -> &[T]
+        ensures { result.now ≡ self.now }
+    {
+        self.cells.slice(self.base, self.len)
+    }
+
+    /// The items, to be changed.
+    pub fn as_mut_slice(&mut self) -> &mut [T]
+        ensures* writes_back { sem 𝓛 (lends_items T.row self.entry result) }
+        ensures value { result.now ≡ self.old }
+        ensures same_len { (items : List T) → length items ≡ length self.old → refill (length self.old) self.old items ≡ items }
+    {
+        let (base, len) = (self.base, self.len);
+        self.cells.slice_mut(base, len)
+    }
+
+    /// Sets an item.
+    pub fn set(&mut self, i: usize, value: T)
+        requires { i < length self.old }
+        ensures { self.new ≡ slice_set self.old i value }
+    {
+        self.as_mut_slice()[i] = value;
+    }
+}

@@ -1,0 +1,129 @@
+//! The raw memory behind an array: a block of places, of which the first ones hold an item each and the others are empty.
+//! All raw pointers of the project stand here.
+ghost use Rattle.std.specs.Prelude.{◌≡◌, ℕ, ◌<◌, List, [], ◌∷◌, ◌++◌, length, IfOk, ⊤};
+ghost use Rattle.std.specs.Borrow.{sem};
+ghost use Rattle.std.specs.Vec.Ownership.{FitsInBlock};
+ghost use base.Fml.{ftrue};
+ghost use denote.RawPtr.{Ptr};
+ghost use Rattle.pm_raw.specs.Ownership.{places_own, places_lend, deed_owns};
+
+use std::alloc::{AllocError, Allocator};
+use std::marker::{Model, PhantomData};
+use std::mem::{align_of, size_of};
+use std::slice;
+
+/// Where a block begins. It owns nothing, so it is copied freely.
+pub struct Base<T> {
+    address: *mut T,
+}
+
+impl<T> Clone for Base<T> {
+    ghost is_clone = { λ x y. y ≡ x };
+
+    ghost is_infallible = { λ _. ⊤ };
+
+    fn clone(&self) -> Result<Base<T>, AllocError> {
+        Ok(*self)
+    }
+}
+
+impl<T> Copy for Base<T> {}
+
+/// The owner of a block's `count` places, of which the first hold `items`. It has no bytes.
+pub struct Cells<T> {
+    of: PhantomData<*const T>,
+    ghost at: { Ptr },
+    ghost items: { List T },
+    ghost count: { ℕ },
+}
+
+impl<T> Model for Cells<T> {
+    ghost also_owns = { λ cells. places_own T.row cells.at cells.items cells.count };
+
+    ghost also_shares = { λ cells _ κ. places_lend T.row cells.at cells.items cells.count κ };
+}
+
+/// The right to give a block of `count` places back to the allocator that it came from. It has no bytes.
+pub struct Deed<T, A: Allocator> {
+    of: PhantomData<*const (T, A)>,
+    ghost at: { Ptr },
+    ghost count: { ℕ },
+    ghost alloc: { A },
+}
+
+impl<T, A: Allocator> Model for Deed<T, A> {
+    ghost also_owns = { λ deed. deed_owns T.row (A.dealloc_token deed.alloc) deed.at deed.count };
+
+    ghost also_shares = { λ _ _ _. ftrue };
+}
+
+/// A block of so many places, all empty. Fails only for want of memory.
+pub(crate) fn allocate<T, A: Allocator>(
+    alloc: &A,
+    count: usize,
+) -> Result<(Base<T>, Cells<T>, Deed<T, A>), AllocError>
+    requires { FitsInBlock T.row count }
+    ensures { IfOk result (λ block. (block.1.at ≡ block.0.address) × (block.1.items ≡ []) × (block.1.count ≡ count) × (block.2.at ≡ block.0.address) × (block.2.count ≡ count) × (block.2.alloc ≡ alloc.now)) }
+{
+    match alloc.allocate(count * size_of::<T>(), align_of::<T>()) {
+        Ok(block) => {
+            let base = Base {
+                address: block as *mut T,
+            };
+            let cells = Cells { of: PhantomData };
+            let deed = Deed { of: PhantomData };
+            Ok((base, cells, deed))
+        }
+        Err(error) => Err(error),
+    }
+}
+
+/// Gives a block back whose places all hold an item. The items are forgotten, so their type is to be `Copy`.
+pub(crate) fn deallocate<T, A: Allocator>(
+    alloc: &A,
+    base: Base<T>,
+    count: usize,
+    cells: Cells<T>,
+    deed: Deed<T, A>,
+)
+    requires { (cells.at ≡ base.address) × (length cells.items ≡ count) × (cells.count ≡ count) × (deed.at ≡ base.address) × (deed.count ≡ count) × (deed.alloc ≡ alloc.now) }
+{
+    let Cells { of: _ } = cells;
+    let Deed { of: _ } = deed;
+    unsafe {
+        alloc.deallocate(
+            base.address as *mut u8,
+            count * size_of::<T>(),
+            align_of::<T>(),
+        );
+    }
+}
+
+impl<T> Cells<T> {
+    ghost use Rattle.pm_raw.specs.Lends.{lends_items};
+
+    /// Puts an item into the first empty place.
+    pub(crate) fn push(&mut self, base: Base<T>, index: usize, item: T)
+        requires { (base.address ≡ self.old.at) × (index ≡ length self.old.items) × (index < self.old.count) }
+        ensures { (self.new.at ≡ self.old.at) × (self.new.items ≡ self.old.items ++ item ∷ []) × (self.new.count ≡ self.old.count) }
+    {
+        unsafe { base.address.add(index).write(item) }
+    }
+
+    /// The items of a block whose places all hold one.
+    pub(crate) fn slice(&self, base: Base<T>, len: usize) -> &[T]
+        requires { (base.address ≡ self.now.at) × (length self.now.items ≡ len) × (self.now.count ≡ len) }
+        ensures { result.now ≡ self.now.items }
+    {
+        unsafe { slice::from_raw_parts(base.address, len) }
+    }
+
+    /// The same, to be changed.
+    pub(crate) fn slice_mut(&mut self, base: Base<T>, len: usize) -> &mut [T]
+        requires { (base.address ≡ self.old.at) × (length self.old.items ≡ len) × (self.old.count ≡ len) }
+        ensures* writes_back { sem 𝓛 (lends_items T.row self.entry result) }
+        ensures value { result.now ≡ self.old.items }
+    {
+        unsafe { slice::from_raw_parts_mut(base.address, len) }
+    }
+}

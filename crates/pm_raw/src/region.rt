@@ -1,0 +1,289 @@
+ghost use Rattle.std.specs.Prelude.{◌≡◌, ℕ, ◌+◌, ◌^◌, ◌<◌, ◌≤◌, [], ◌∷◌, ◌++◌, IfOk, length, take, replicate};
+ghost use Rattle.pm_region.specs.Memory.{stores_from};
+
+use super::array::RawArray;
+use pm_epochs::{BadChoice, Choice, Event, Kept, kept_calls};
+use pm_region::Region;
+use pm_region::words::{apply, apply_event, apply_kept, put_back, set_words};
+use std::alloc::{AllocError, Global};
+use std::marker::Model;
+use std::mem::size_of;
+
+/// A region in raw memory: the words at the last drain, the words now, and the events since, which stand at the front of an
+/// array that has a place for each event that the log can take. Each call but a drain and a crash takes constant time; those
+/// two take time for the events of the log, and none for words that no event stores to.
+#[derive(Drop)]
+pub struct RawRegion {
+    base: RawArray<u64>,
+    current: RawArray<u64>,
+    events: RawArray<Event>,
+    count: usize,
+    drains: u64,
+}
+
+impl Model for RawRegion {
+    ghost use Rattle.pm_region.specs.Memory.{Memory};
+
+    ghost Value = { Memory };
+
+    ghost use Rattle.pm_raw.specs.RawRegion.{memory_of, IsInStep};
+
+    ghost view = { memory_of };
+
+    ghost invariant = { IsInStep };
+}
+
+/// Writes stores of these values behind the first `count` events of a log.
+fn write_stores(log: &mut [Event], count: usize, first: u32, values: &[u64])
+    requires room { count + length values.now ≤ length log.old }
+    requires in_range { first + length values.now < 2 ^ 32 }
+    ensures stores { take (count + length values.now) log.new ≡ take count log.old ++ stores_from first values.now }
+    ensures size { length log.new ≡ length log.old }
+{
+    for i in 0..values.len() {
+        log[count + i] = Event::Store {
+            word: first + i as u32,
+            value: values[i],
+        };
+    }
+}
+
+impl RawRegion {
+    ghost use Rattle.pm_region.specs.Memory.{Memory};
+
+    /// A region of so many words, each 0, with an empty log that can take `capacity` events. Fails only for want of memory; no
+    /// other call takes any.
+    pub fn new(alloc: Global, words: u32, capacity: usize) -> Result<RawRegion, AllocError>
+        ensures { IfOk result (λ region. region ≡ record {
+          base = replicate words 0;
+          events = [];
+          capacity = capacity;
+          drains = 0;
+        }) }
+    {
+        if capacity > isize::MAX as usize / size_of::<Event>() {
+            return Err(AllocError);
+        }
+        let base = RawArray::new(alloc, words as usize, 0)?;
+        let current = RawArray::new(alloc, words as usize, 0)?;
+        let events = RawArray::new(alloc, capacity, Event::Mark)?;
+        Ok(RawRegion {
+            base,
+            current,
+            events,
+            count: 0,
+            drains: 0,
+        })
+    }
+
+    /// The events since the last drain.
+    fn log(&self) -> &[Event]
+        ensures { result.now ≡ self.now.events }
+    {
+        &self.events.as_slice()[..self.count]
+    }
+
+    fn push(&mut self, event: Event)
+        requires { length self.old.events < self.old.capacity }
+        ensures { self.new ≡ record self.old { events = self.old.events ++ event ∷ [] } }
+    {
+        apply_event(self.current.as_mut_slice(), event);
+        self.events.set(self.count, event);
+        self.count += 1;
+    }
+}
+
+impl Region for RawRegion {
+    ghost memory = { λ region. region };
+
+    fn words(&self) -> u32 {
+        self.base.len() as u32
+    }
+
+    fn load(&self, word: u32) -> u64 {
+        self.current.as_slice()[word as usize]
+    }
+
+    fn store(&mut self, word: u32, value: u64) {
+        self.push(Event::Store { word, value });
+    }
+
+    fn store_words(&mut self, first: u32, values: &[u64]) {
+        set_words(self.current.as_mut_slice(), first, values);
+        write_stores(self.events.as_mut_slice(), self.count, first, values);
+        self.count += values.len();
+    }
+
+    fn barrier(&mut self) {
+        self.push(Event::Barrier);
+    }
+
+    fn mark(&mut self) {
+        self.push(Event::Mark);
+    }
+
+    fn drain(&mut self) {
+        let log = &self.events.as_slice()[..self.count];
+        apply(self.base.as_mut_slice(), log);
+        self.count = 0;
+        self.drains = self.drains.saturating_add(1);
+    }
+
+    fn room(&self) -> usize {
+        self.events.len() - self.count
+    }
+
+    fn event_count(&self) -> usize {
+        self.count
+    }
+
+    fn event(&self, i: usize) -> Event {
+        self.log()[i]
+    }
+
+    fn base_word(&self, word: u32) -> u64 {
+        self.base.as_slice()[word as usize]
+    }
+
+    fn crash_to(&mut self, choice: &Choice) -> Result<Kept, BadChoice> {
+        let kept = kept_calls(self.log(), choice)?;
+        let log = &self.events.as_slice()[..self.count];
+        apply_kept(
+            self.base.as_mut_slice(),
+            &log[..choice.moment()],
+            choice.epoch(),
+            choice.mask(),
+        );
+        put_back(self.current.as_mut_slice(), self.base.as_slice(), log);
+        self.count = 0;
+        Ok(kept)
+    }
+
+    fn adopt_word(&mut self, word: u32, value: u64) {
+        self.base.set(word as usize, value);
+        self.current.set(word as usize, value);
+    }
+}
+
+#[cfg(test)]
+mod tests {
+    use super::*;
+    use pm_region::ListRegion;
+    use std::process::Abort;
+    use std::test::Fail;
+
+    fn raw(alloc: Global, words: u32, capacity: usize) -> Result<RawRegion, AllocError> {
+        RawRegion::new(alloc, words, capacity)
+    }
+
+    fn list(alloc: Global, words: u32, capacity: usize) -> Result<ListRegion, AllocError> {
+        ListRegion::new(alloc, vec![in alloc; 0u64; words as usize]?, capacity)
+    }
+
+    // A store and a barrier fill the log of two places, and a drain brings the store to the words at the last drain.
+    fn reaches_the_base_at_a_drain<R: Region, A: Abort>(rt: &A, region: &mut R) {
+        assert_eq!(rt; region.words(), 4);
+        assert_eq!(rt; region.room(), 2);
+        for word in 0..region.words().min(4) {
+            if word < region.words() {
+                assert_eq!(rt; region.load(word), 0);
+                assert_eq!(rt; region.base_word(word), 0);
+            }
+        }
+        if region.words() == 4 && region.room() == 2 {
+            region.store(1, 5);
+            region.barrier();
+        }
+        assert_eq!(rt; region.room(), 0);
+        assert_eq!(rt; region.event_count(), 2);
+        if region.words() == 4 {
+            assert_eq!(rt; region.load(1), 5);
+            assert_eq!(rt; region.base_word(1), 0);
+        }
+        region.drain();
+        assert_eq!(rt; region.room(), 2);
+        if region.words() == 4 {
+            assert_eq!(rt; region.base_word(1), 5);
+        }
+        if region.words() == 4 && region.event_count() == 0 {
+            region.adopt_words(2, &[8, 9]);
+        }
+        if region.words() == 4 {
+            assert_eq!(rt; region.load(1), 5);
+            assert_eq!(rt; region.load(2), 8);
+            assert_eq!(rt; region.base_word(3), 9);
+        }
+    }
+
+    fn chosen(
+        alloc: Global,
+        moment: usize,
+        epoch: usize,
+        mask: &[bool],
+    ) -> Result<Choice, AllocError> {
+        let mut choice = Choice::new(alloc, 8)?;
+        choice.start(moment, epoch);
+        for keep in mask {
+            if choice.mask().len() < choice.room() {
+                choice.push(*keep);
+            }
+        }
+        Ok(choice)
+    }
+
+    // A log of two epochs over three words, and what a crash leaves of it.
+    fn crash_leaves<R: Region, A: Abort>(
+        rt: &A,
+        region: &mut R,
+        choice: &Choice,
+        kept: Option<[u64; 3]>,
+    ) {
+        if region.words() == 3 && region.room() >= 5 {
+            region.store(0, 1);
+            region.store(1, 2);
+            region.store(0, 3);
+            region.barrier();
+            region.store(2, 4);
+        }
+        assert_eq!(rt; region.event_count(), 5);
+        let answer = region.crash_to(choice);
+        match kept {
+            Some(words) => {
+                assert_eq!(rt; answer, Ok(Kept { c: 0, n: 0 }));
+                assert_eq!(rt; region.event_count(), 0);
+                for word in 0..3u32 {
+                    if word < region.words() {
+                        assert_eq!(rt; region.load(word), words[word as usize]);
+                        assert_eq!(rt; region.base_word(word), words[word as usize]);
+                    }
+                }
+            }
+            None => {
+                assert_eq!(rt; answer, Err(BadChoice));
+                assert_eq!(rt; region.event_count(), 5);
+            }
+        }
+    }
+
+    #[test]
+    fn both_regions_give_the_same_answers(rt: HostRuntime) -> Result<(), Fail> {
+        let cases: [(usize, usize, &[bool], Option<[u64; 3]>); 7] = [
+            (5, 0, &[false, false, true], Some([3, 0, 0])),
+            (5, 0, &[false, true, false], Some([0, 2, 0])),
+            (5, 1, &[], Some([3, 2, 0])),
+            (5, 1, &[true], Some([3, 2, 4])),
+            (2, 1, &[], None),
+            (5, 1, &[true, true], None),
+            (6, 0, &[], None),
+        ];
+        for (moment, epoch, mask, kept) in &cases {
+            let choice = chosen(rt.alloc(), *moment, *epoch, *mask)?;
+            crash_leaves(&rt, &mut raw(rt.alloc(), 3, 8)?, &choice, *kept);
+            crash_leaves(&rt, &mut list(rt.alloc(), 3, 8)?, &choice, *kept);
+        }
+        reaches_the_base_at_a_drain(&rt, &mut raw(rt.alloc(), 4, 2)?);
+        reaches_the_base_at_a_drain(&rt, &mut list(rt.alloc(), 4, 2)?);
+        assert!(rt; raw(rt.alloc(), 1, usize::MAX).is_err());
+        Ok(())
+    }
+}

@@ -3,6 +3,7 @@ pub mod BuildingLaws
 pub mod BuildFacts
 pub mod NeedLaws
 pub mod LayLaws
+pub mod SlotLaws
 pub mod StepLaws
 pub mod CopyLaws
 pub mod StartLaws

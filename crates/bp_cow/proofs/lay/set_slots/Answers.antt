@@ -1,0 +1,28 @@
+use Rattle.std.proofs.Common.{◌≡◌, ℕ, ◌+◌, ◌-◌, ◌*◌, ◌<◌, ◌≤◌, length, get_or, ◌∙◌, ap, refl, arith, inl, inr}
+use Rattle.std.proofs.lemmas.List.{length-set}
+use Rattle.bp_cow.specs.Touched.{run_word, run_end}
+use Rattle.bp_cow.proofs.RunLaws.{run_end-few, run_word-inside}
+use Rattle.bp_cow.proofs.SlotLaws.{lays_none, lays_one_more, lays_empty, part_at}
+use Rattle.bp_cow.proofs.lay.set_slots.Goals as goal
+
+pub returns-then-to-from : goal.returns-then-to-from
+returns-then-to-from c = lays_empty c.args.run.now c.args.first c.args.from c.args.to c.args.words.now c.if-to-from.true
+
+pub loop-slot-init : goal.loop-slot-init
+loop-slot-init c = record { size = omega arith; begun = omega arith; laid = lays_none c.args.run.now c.args.first c.args.from c.args.words.now }
+
+pub loop-slot-preserved : goal.loop-slot-preserved
+loop-slot-preserved c =
+    let before = c.loop-slot.invariant in
+    let at = c.loop-slot.slot in
+    let begun = c.requires.begun (omega arith) in
+    let behind = c.requires.not_ended (omega arith) in
+    let place : ℕ = 8 * (c.args.first + c.args.from) - c.args.run.now.off + 8 * (c.loop-slot.slot - c.args.from) in
+    let there : 8 * (c.args.first + c.args.from) - c.args.run.now.off + 8 * (c.loop-slot.slot - c.args.from) ≡ 8 * (c.args.first + c.loop-slot.slot) - c.args.run.now.off = omega (arith, begun, before.begun) in
+    record {
+      size = length-set c.loop-slot.words at c.read_word.result ∙ before.size;
+      begun = omega (arith, before.begun);
+      laid = lays_one_more c.args.run.now c.args.first c.args.from at c.read_word.result c.args.words.now c.loop-slot.words (omega (arith, before.size, c.loop-slot-test.true, c.requires.to)) before.begun
+          (c.read_word.ensures ∙ run_word-inside c.args.run.now (c.args.first + at) (get_or c.args.words.now at 0) c.copy_from_slice.new.self
+          (omega (arith, begun, before.begun)) (omega (arith, behind, c.loop-slot-test.true)) (omega arith) (λ i few. part_at c.args.run.now.bytes.now c.copy_from_slice.new.self place 8 i few c.copy_from_slice.ensures.after ∙ ap (λ p. get_or c.args.run.now.bytes.now (p + i) 0) there)) before.laid;
+    }

@@ -1,5 +1,5 @@
 ghost use Rattle.std.specs.Prelude.{◌≡◌, ℕ, ◌+◌, ◌^◌, ◌<◌, ◌≤◌, [], ◌∷◌, ◌++◌, IfOk, length, take, replicate};
-ghost use Rattle.pm_region.specs.Memory.{stores_from};
+ghost use Rattle.pm_region.specs.Memory.{stores_from, with_values};
 
 use super::array::RawArray;
 use pm_epochs::{BadChoice, Choice, Event, Kept, kept_calls};
@@ -31,6 +31,14 @@ impl Model for RawRegion {
     ghost view = { memory_of };
 
     ghost invariant = { IsInStep };
+}
+
+/// Puts these values in place of the words from `first` on.
+fn overwrite(words: &mut [u64], first: usize, values: &[u64])
+    requires { first + length values.now ≤ length words.old }
+    ensures { words.new ≡ with_values words.old first values.now }
+{
+    words[first..first + values.len()].copy_from_slice(values);
 }
 
 /// Writes stores of these values behind the first `count` events of a log.
@@ -162,6 +170,11 @@ impl Region for RawRegion {
     fn adopt_word(&mut self, word: u32, value: u64) {
         self.base.set(word as usize, value);
         self.current.set(word as usize, value);
+    }
+
+    fn adopt_words(&mut self, first: u32, values: &[u64]) {
+        overwrite(self.base.as_mut_slice(), first as usize, values);
+        overwrite(self.current.as_mut_slice(), first as usize, values);
     }
 }
 

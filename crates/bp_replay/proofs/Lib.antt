@@ -1,3 +1,4 @@
 pub mod Ends
 pub mod Bits
 pub mod Storms
+pub mod Rule

@@ -1,5 +1,5 @@
 -- What a storm writes back may be written back: what must come first did.
-use Rattle.std.proofs.Common.{◌≡◌, ◌≢◌, ℕ, zero, suc, ◌+◌, ◌-◌, ◌<◌, ◌≤◌, ◌⊎◌, inl, inr, Bool, true, false, not, ◌&&◌, ◌||◌, Option, Some, None, List, [], ◌∷◌, ◌++◌, length, take, drop, replicate, refl, sym, ◌∙◌, ap, subst, arith, add-one, eq-eqb, length-append}
+use Rattle.std.proofs.Common.{◌≡◌, ◌≢◌, ℕ, zero, suc, ◌+◌, ◌-◌, ◌<◌, ◌≤◌, inl, inr, Bool, true, false, not, ◌&&◌, ◌||◌, Some, List, [], ◌∷◌, ◌++◌, length, take, drop, replicate, refl, sym, ◌∙◌, ap, subst, arith, add-one, eq-eqb, length-append}
 use Rattle.std.specs.List.{slice_get}
 use Rattle.std.proofs.lemmas.List.{length-replicate, length-take, length-drop, take-append-drop, take-append-le}
 use Rattle.std.proofs.lemmas.List.Folds.{list_any-append}
@@ -51,13 +51,13 @@ length-storm_flags state (suc epoch) waiting (Store word value ∷ events) = ap 
 length-storm_flags state (suc epoch) waiting (Barrier ∷ events) = ap suc (length-storm_flags state epoch waiting events)
 length-storm_flags state epoch waiting (Mark ∷ events) = ap suc (length-storm_flags state epoch waiting events)
 
-none : {A : Type 0} → Some false ≡ Some true → A
+pub none : {A : Type 0} → Some false ≡ Some true → A
 none is = absurd (let no : Some false ≢ Some true = λ e. cc in no is)
 
-nothing_there : {A : Type 0} (i : ℕ) → slice_get {X = Bool} [] i ≡ Some true → A
+pub nothing_there : {A : Type 0} (i : ℕ) → slice_get {X = Bool} [] i ≡ Some true → A
 nothing_there i is = absurd (let no : (slice_get {X = Bool} [] i ≡ Some true) → ⊥ = λ e. cc in no is)
 
-none_later : {A : Type 0} (count i : ℕ) → slice_get (replicate count false) i ≡ Some true → A
+pub none_later : {A : Type 0} (count i : ℕ) → slice_get (replicate count false) i ≡ Some true → A
 none_later zero i is = nothing_there i is
 none_later (suc count) zero is = none is
 none_later (suc count) (suc i) is = none_later count i is
@@ -85,7 +85,7 @@ early state waiting (Barrier ∷ events) (suc i) is = none_later (length events)
 early state waiting (Mark ∷ events) zero is = refl
 early state waiting (Mark ∷ events) (suc i) is = early state waiting events i is
 
-same_word : (place value word other : ℕ) → Some (Store place value) ≡ Some (Store word other) → place ≡ word
+pub same_word : (place value word other : ℕ) → Some (Store place value) ≡ Some (Store word other) → place ≡ word
 same_word place value word other is = cc
 
 and_not : (a b : Bool) → (a && not b) ≡ true → b ≡ false
@@ -105,7 +105,7 @@ noted_before true waiting place word is = is
 noted_before false waiting place word is = noted_front waiting place word is
 
 -- a store that is back goes to a word for which none waited
-not_waiting : (state : ℕ) (waiting : List ℕ) (events : List Event) (i word value : ℕ) → slice_get (storm_flags state 0 waiting events) i ≡ Some true → slice_get events i ≡ Some (Store word value) → is_noted waiting word ≡ false
+pub not_waiting : (state : ℕ) (waiting : List ℕ) (events : List Event) (i word value : ℕ) → slice_get (storm_flags state 0 waiting events) i ≡ Some true → slice_get events i ≡ Some (Store word value) → is_noted waiting word ≡ false
 not_waiting state waiting [] i word value is store = nothing_there i is
 not_waiting state waiting (Store place other ∷ events) zero word value is store =
     let flag : goes_back state waiting place ≡ true = cc in
@@ -142,7 +142,7 @@ before_back false state waiting word value events later is comes =
 not_a_store : {A : Type 0} (event : Event) (word value : ℕ) → ((word value : ℕ) → event ≢ Store word value) → Some event ≡ Some (Store word value) → A
 not_a_store event word value other is = absurd (other word value (let e : event ≡ Store word value = cc in e))
 
-storm_first : (state epoch : ℕ) (waiting : List ℕ) (events : List Event) (earlier later : ℕ) → slice_get (storm_flags state epoch waiting events) later ≡ Some true → ComesFirst events earlier later → slice_get (storm_flags state epoch waiting events) earlier ≡ Some true
+pub storm_first : (state epoch : ℕ) (waiting : List ℕ) (events : List Event) (earlier later : ℕ) → slice_get (storm_flags state epoch waiting events) later ≡ Some true → ComesFirst events earlier later → slice_get (storm_flags state epoch waiting events) earlier ≡ Some true
 storm_first state epoch waiting events earlier zero is comes = absurd (omega (arith, comes.before))
 storm_first state epoch waiting [] earlier (suc later) is comes = nothing_there (suc later) is
 storm_first state zero waiting (Store word value ∷ events) zero (suc later) is comes =
@@ -157,7 +157,7 @@ storm_first state (suc epoch) waiting (Barrier ∷ events) (suc earlier) (suc la
 storm_first state epoch waiting (Mark ∷ events) zero (suc later) is comes = not_a_store Mark comes.first_word comes.first_value (λ w v e. cc) comes.first_is
 storm_first state epoch waiting (Mark ∷ events) (suc earlier) (suc later) is comes = storm_first state epoch waiting events earlier later is (ComesFirst-tail Mark events earlier later comes)
 
-in_order_taken : (state epoch : ℕ) (events : List Event) → IsInOrder events (storm_flags state epoch [] events)
+pub in_order_taken : (state epoch : ℕ) (events : List Event) → IsInOrder events (storm_flags state epoch [] events)
 in_order_taken state epoch events = record {
   few = omega (arith, length-storm_flags state epoch [] events);
   stores = storm_stores state epoch [] events;

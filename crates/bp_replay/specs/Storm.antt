@@ -1,12 +1,12 @@
 -- A storm: what a crash finds at a moment, in an epoch and with stores written back that are drawn by lot.
-use Rattle.std.specs.Prelude.{ℕ, ◌+◌, ◌%◌, ◌==◌, Bool, true, false, not, ◌&&◌, List, [], ◌∷◌, ◌++◌, length, take, replicate}
+use Rattle.std.specs.Prelude.{◌≡◌, ℕ, ◌+◌, ◌%◌, ◌==◌, Bool, true, false, not, ◌&&◌, List, [], ◌∷◌, ◌++◌, length, take, replicate, Some, slice_get}
 use Rattle.std.proofs.Common.{zero, suc}
 use Rattle.pm_epochs.specs.declared.event.Event.{Event}
 use Rattle.pm_epochs.specs.declared.event.Event.TheVariants.{Store, Barrier, Mark}
 use Rattle.pm_epochs.specs.Log.{barriers}
 use Rattle.pm_epochs.specs.Replay.{Cut}
 use Rattle.pm_steps.specs.WordSet.{is_noted}
-use Rattle.pm_steps.specs.Machine.{cut_of}
+use Rattle.pm_steps.specs.Machine.{is_some_store, ComesFirst, cut_of}
 use Rattle.bp_replay.specs.Generator.{next_state, drawn}
 
 -- whether a store to the word goes back: its draw is odd, and no earlier store to the word waits
@@ -47,3 +47,21 @@ flags_of_storm events seed = flags_from (take (storm_moment events seed) events)
 -- what the crash keeps
 abbrev pub storm_cut : List Event → ℕ → Cut
 storm_cut events seed = cut_of events (flags_of_storm events seed)
+
+-- ## The rule by which stores are written back
+
+-- the number that is drawn behind so many others
+abbrev pub draw_at : ℕ → ℕ → ℕ
+draw_at state zero = drawn state
+draw_at state (suc count) = draw_at (next_state state) count
+
+abbrev pub IsOdd : ℕ → Type 0
+IsOdd number = number % 2 ≡ 1
+
+-- the event at this index is a store
+abbrev pub IsStoreAt : List Event → ℕ → Type 0
+IsStoreAt events which = is_some_store (slice_get events which) ≡ true
+
+-- each store that must go before this one went
+abbrev pub MayGo : List Event → List Bool → ℕ → Type 0
+MayGo events back which = (earlier : ℕ) → ComesFirst events earlier which → slice_get back earlier ≡ Some true

@@ -1,8 +1,10 @@
-ghost use Rattle.std.specs.Prelude.{◌≡◌, ℕ, List};
+ghost use Rattle.std.specs.Prelude.{◌≡◌, ◌<◌, ◌↔◌, ℕ, List, [], Some, true, false, slice_get};
 ghost use Rattle.pm_epochs.specs.declared.event.Event.{Event};
 ghost use Rattle.pm_epochs.specs.Log.{words_after, marks};
-ghost use Rattle.pm_epochs.specs.Replay.{IsRight, replay, kept_calls};
+ghost use Rattle.pm_epochs.specs.Replay.{IsRight, replay, kept_calls, epoch_of, place_of};
+ghost use Rattle.pm_steps.specs.Machine.{start, Runs, in_log_order};
 ghost use Rattle.bp_replay.specs.Generator.{next_state, drawn};
+ghost use Rattle.bp_replay.specs.Storm.{storm_flags, flags_of_storm, storm_cut, draw_at, IsOdd, IsStoreAt, MayGo};
 ghost use Rattle.bp_replay.specs.Wanted.{all, nothing, cut_for};
 
 /// A crash that is to keep all keeps each call, and leaves the words as the processor sees them.
@@ -22,4 +24,29 @@ pub fn nothing_leaves_the_base()
 pub fn first_draw()
     ensures state { next_state 0 ≡ 1442695040888963407 }
     ensures drawn { drawn 0 ≡ 335903614 }
+{}
+
+/// What a storm keeps, the write-back machine leaves by steps that are allowed: the processor executes the events before the
+/// moment, and then the stores go back in the order of the log, so those of earlier epochs first. The cut is right, and the
+/// memory is its replay.
+pub fn a_storm_is_a_run()
+    ensures right { (events : List Event) (seed : ℕ) → IsRight events (storm_cut events seed) }
+    ensures runs { (base : List ℕ) (events : List Event) (seed : ℕ) →
+        Runs events (start base) (in_log_order (flags_of_storm events seed))
+        (record { back = flags_of_storm events seed; words = replay base events (storm_cut events seed) }) }
+{}
+
+/// Which stores a storm writes back, by the machine's own rule. Of earlier epochs than its own all are, of later ones none.
+/// Of its own each whose draw is odd and that may go: all stores that must go before it went. The draws are those for the
+/// epoch's stores, one after the other.
+pub fn a_storm_writes_back_what_may_go()
+    ensures earlier { (state epoch : ℕ) (events : List Event) (which : ℕ) → IsStoreAt events which →
+        epoch_of events which < epoch → slice_get (storm_flags state epoch [] events) which ≡ Some true }
+    ensures later { (state epoch : ℕ) (events : List Event) (which : ℕ) → IsStoreAt events which →
+        epoch < epoch_of events which → slice_get (storm_flags state epoch [] events) which ≡ Some false }
+    ensures own { (state epoch : ℕ) (events : List Event) (which : ℕ) → IsStoreAt events which →
+        epoch_of events which ≡ epoch →
+        (slice_get (storm_flags state epoch [] events) which ≡ Some true) ↔
+        (IsOdd (draw_at state (place_of events which)) ×
+        MayGo events (storm_flags state epoch [] events) which) }
 {}

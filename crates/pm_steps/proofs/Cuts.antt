@@ -17,7 +17,7 @@ barriers_behind (Store word value) events earlier later less = less
 barriers_behind Barrier events earlier later less = omega arith
 barriers_behind Mark events earlier later less = less
 
-ComesFirst-behind : (event : Event) (events : List Event) (earlier later : ℕ) → ComesFirst events earlier later → ComesFirst (event ∷ events) (suc earlier) (suc later)
+pub ComesFirst-behind : (event : Event) (events : List Event) (earlier later : ℕ) → ComesFirst events earlier later → ComesFirst (event ∷ events) (suc earlier) (suc later)
 ComesFirst-behind event events earlier later comes = record {
   before = omega (arith, comes.before);
   first_word = comes.first_word;

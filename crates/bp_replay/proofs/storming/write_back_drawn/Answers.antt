@@ -1,4 +1,4 @@
-use Rattle.std.proofs.Common.{◌≡◌, ◌∙◌, ◌++◌, ap, sym, arith, Some}
+use Rattle.std.proofs.Common.{◌∙◌, ◌++◌, ap, sym, arith, Some}
 use Rattle.std.proofs.lemmas.Grind.{common_steps}
 use Rattle.bp_replay.proofs.Storms.{flags_at, flags_at_barrier, length-waiting_behind}
 use Rattle.bp_replay.proofs.storming.write_back_drawn.Goals as goal

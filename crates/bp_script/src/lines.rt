@@ -75,7 +75,12 @@ impl Decoded {
         self.first.capacity().min(self.second.capacity())
     }
 
-    /// What a line of a script asks for, where it is one.
+    /// What a line of a script asks for. Its paths, its bytes and its mask are decoded, and lie in this memory. A mask has at most
+    /// half as many bytes as the line.
+    ///
+    /// # Errors
+    ///
+    /// `Syntax` exactly where the line is none of the table of commands.
     pub fn line(&mut self, bytes: &[u8]) -> Result<Line<'_>, Syntax>
         requires room { length bytes.now ≤ decoded_room self.old }
         ensures* keeps_room { sem 𝓛 (KeepsRoom self.entry) }
@@ -98,7 +103,7 @@ impl Decoded {
             [verb] => bare(verb),
             [verb, word] => self.on_word(verb, word),
             [verb, path, last] => self.on_pair(verb, path, last),
-            [verb, path, second, third] => self.long(verb, path, second, third),
+            [verb, first, second, third] => self.long(verb, first, second, third),
             _ => Err(Syntax),
         }
     }
@@ -166,19 +171,19 @@ impl Decoded {
     fn long(
         &mut self,
         verb: &[u8],
-        path: &[u8],
+        first: &[u8],
         second: &[u8],
         third: &[u8],
     ) -> Result<Line<'_>, Syntax>
-        requires path { length path.now ≤ decoded_room self.old }
+        requires first { length first.now ≤ decoded_room self.old }
         requires third { length third.now ≤ decoded_room self.old }
         ensures* keeps_room { sem 𝓛 (KeepsRoom self.entry) }
-        ensures meaning { line_asks result ≡ decoded (long_command verb.now path.now second.now third.now) }
+        ensures meaning { line_asks result ≡ decoded (long_command verb.now first.now second.now third.now) }
     {
         match verb {
-            b"read" => read(self.path_of(path), number(second), number(third)),
-            b"write" => self.write(path, number(second), third),
-            b"crash" => self.crash(number(path), number(second), third),
+            b"read" => read(self.path_of(first), number(second), number(third)),
+            b"write" => self.write(first, number(second), third),
+            b"crash" => self.crash(number(first), number(second), third),
             _ => Err(Syntax),
         }
     }
@@ -244,7 +249,8 @@ impl Decoded {
     /// Decodes hexadecimal digits as the bytes of a mask, into the second memory.
     fn mask(&mut self, digits: &[u8]) -> Result<(), Syntax>
         requires { length digits.now ≤ decoded_room self.old }
-        ensures bytes { result_ok (decode_of digits.now) ≡ (if is_ok result then Some (second_held self.new) else None) }
+        ensures bytes { result_ok (decode_of digits.now) ≡
+            (if is_ok result then Some (second_held self.new) else None) }
         ensures room { decoded_room self.old ≤ decoded_room self.new }
     {
         decode_bytes(digits, &mut self.second)
@@ -296,7 +302,8 @@ impl Decoded {
         requires path { length path.now ≤ decoded_room self.old }
         requires digits { length digits.now ≤ decoded_room self.old }
         ensures first { first_held self.new ≡ path_bytes path.now }
-        ensures second { result_ok (decode_of digits.now) ≡ (if is_ok result then Some (second_held self.new) else None) }
+        ensures second { result_ok (decode_of digits.now) ≡
+            (if is_ok result then Some (second_held self.new) else None) }
         ensures room { decoded_room self.old ≤ decoded_room self.new }
     {
         let Decoded { first, second } = self;
@@ -510,7 +517,8 @@ fn is_digits(word: &[u8]) -> bool
 
 /// The text before the first byte of this kind, and what stands after it.
 fn split_once(text: &[u8], at: u8) -> (&[u8], Option<&[u8]>)
-    ensures split { slice_split (λ b. b == at) text.now ≡ result.0.now ∷ option_map_or (λ rest. slice_split (λ b. b == at) rest.now) result.1 [] }
+    ensures split { slice_split (λ b. b == at) text.now ≡
+        result.0.now ∷ option_map_or (λ rest. slice_split (λ b. b == at) rest.now) result.1 [] }
     ensures len { length result.0.now + option_map_or (λ rest. length rest.now + 1) result.1 0 ≡ length text.now }
 {
     match find(text, at) {

@@ -159,7 +159,8 @@ fn write_clean(
     live: &[u8],
     free: &[u8],
 ) -> usize
-    requires { length files.now + length dirs.now + length bytes.now + length live.now + length free.now + 11 ≤ length into.old }
+    requires { length files.now + length dirs.now + length bytes.now + length live.now + length free.now + 11
+        ≤ length into.old }
     ensures whole { into.new ≡ clean_line files.now dirs.now bytes.now live.now free.now ++ drop result into.old }
     ensures len { result ≡ length (clean_line files.now dirs.now bytes.now live.now free.now) }
 {

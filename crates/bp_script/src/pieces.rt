@@ -32,7 +32,8 @@ pub(crate) fn put(into: &mut [u8], at: usize, piece: &[u8]) -> usize
 /// Writes the hexadecimal digits of bytes at a place of a buffer, and tells where they end.
 pub(crate) fn put_digits(into: &mut [u8], at: usize, content: &[u8]) -> usize
     requires { at + 2 * length content.now ≤ length into.old }
-    ensures text { into.new ≡ take at into.old ++ encode_lower content.now ++ drop (at + 2 * length content.now) into.old }
+    ensures text { into.new ≡
+        take at into.old ++ encode_lower content.now ++ drop (at + 2 * length content.now) into.old }
     ensures end { result ≡ at + 2 * length content.now }
 {
     let end = at + 2 * content.len();

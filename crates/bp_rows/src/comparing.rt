@@ -17,7 +17,7 @@ const OWN_REPLIES: [&str; 2] = ["err 11 ", "err 12 "];
 
 /// A plain tree, what it takes to ask it, and the replies that were not compared yet.
 #[derive(Drop)]
-struct Comparison<'a> {
+pub struct Comparison<'a> {
     tree: Plain,
     decoded: Decoded,
     reply: Reply,
@@ -49,7 +49,8 @@ fn first_line(text: &str) -> (&str, &str) {
 }
 
 impl<'a> Comparison<'a> {
-    fn new(alloc: Global, replies: &'a str) -> Result<Comparison<'a>, AllocError> {
+    /// An empty tree, beside these replies.
+    pub fn new(alloc: Global, replies: &'a str) -> Result<Comparison<'a>, AllocError> {
         Ok(Comparison {
             tree: Plain::new(alloc)?,
             decoded: Decoded::new(alloc, MAX_LINE)?,

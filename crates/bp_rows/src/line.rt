@@ -63,6 +63,10 @@ pub enum Line<'a> {
     Go,
     /// Run it over a format of so many blocks, and compare its replies with those of the plain, slow program.
     Plain(&'a str),
+    /// A line that is asked behind each cut.
+    Ask(&'a str),
+    /// Run it over a format of so many blocks again and again, each time with another cut of the power behind it.
+    Cuts(&'a str),
     /// Run it again and again, each time with another call of a device failing, from 0 up to a number of calls.
     Sweep(Device, u64),
 }
@@ -106,6 +110,8 @@ pub fn read(line: &str) -> Option<Line<'_>> {
         ">|" => Line::Part(rest),
         "go" => Line::Go,
         "plain" => Line::Plain(rest),
+        "?" => Line::Ask(rest),
+        "cuts" => Line::Cuts(rest),
         "sweep" => {
             let (device, count) = rest.split_once(' ')?;
             Line::Sweep(Device::named(device)?, number(count)?)

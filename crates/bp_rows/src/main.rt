@@ -3,6 +3,7 @@
 #![tactic(auto)]
 
 mod comparing;
+mod cutting;
 mod image;
 mod line;
 mod playing;

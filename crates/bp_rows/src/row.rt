@@ -49,6 +49,8 @@ pub struct Row {
     pub file: Option<Vec<u8>>,
     pub words: String,
     pub script: String,
+    /// What is asked behind each cut of the power.
+    pub asks: String,
     /// The most bytes of a piece of the source.
     pub piece: usize,
     pub failing: Failing,
@@ -61,6 +63,7 @@ impl Row {
             file: None,
             words: String::from_str(alloc, "bpfs run f")?,
             script: String::new(alloc),
+            asks: String::new(alloc),
             piece: PIECE,
             failing: Failing::none(alloc),
         })
@@ -93,6 +96,10 @@ impl Row {
                 return Ok(is_whole);
             }
             Line::Part(text) => return expand(text, &mut self.script),
+            Line::Ask(text) => {
+                self.asks.push_str(text)?;
+                self.asks.push_str("\n")?;
+            }
             _ => {}
         }
         Ok(true)

@@ -1,6 +1,7 @@
 //! Rows, one line after another, and the report on their runs.
 
 use crate::comparing::compare;
+use crate::cutting::cut_all_over;
 use crate::line::{Device, Line, read};
 use crate::playing::{formatted, play};
 use crate::row::{Failing, Row};
@@ -56,6 +57,7 @@ impl Rows {
             }
             Line::Go => self.go(),
             Line::Plain(blocks) => self.plain(text, blocks),
+            Line::Cuts(blocks) => self.cut(text, blocks),
             Line::Sweep(device, count) => self.sweep(device, count),
             _ => {
                 if self.row.set(self.alloc, line)? {
@@ -91,6 +93,20 @@ impl Rows {
         let told = str::from_utf8(&ran.told).unwrap_or("");
         compare(self.alloc, self.row.script.as_str(), told, &mut self.report)?;
         self.row.go_on(self.alloc, ran.file)
+    }
+
+    fn cut(&mut self, text: &str, blocks: &str) -> Result<(), AllocError> {
+        let Some(image) = formatted(self.alloc, blocks)? else {
+            return self.refuse(text);
+        };
+        let script = self.row.script.as_str();
+        cut_all_over(
+            self.alloc,
+            &image,
+            script,
+            self.row.asks.as_str(),
+            &mut self.report,
+        )
     }
 
     fn sweep(&mut self, device: Device, count: u64) -> Result<(), AllocError> {

@@ -1,0 +1,267 @@
+//! Power cuts all over a script: what each leaves is mounted, and asked beside the plain, slow program.
+
+use crate::comparing::Comparison;
+use crate::showing::put_short;
+use bp_io::{FairSource, MemFiles, MemSink, NullSink};
+use bp_limits::LOG_EVENTS;
+use bp_session::{Work, serve};
+use bp_shell::open;
+use pm_epochs::{Choice, Event};
+use pm_region::Region;
+use std::alloc::{AllocError, Global};
+
+/// Each moment that is a multiple is tried, besides those beside barriers and marks.
+const STRIDE: usize = 64;
+
+/// The room for replies, in bytes.
+const ROOM: usize = 65_536;
+
+/// Which stores of its epoch a cut keeps.
+#[derive(Clone, Copy)]
+enum Mask {
+    Empty,
+    Whole,
+    Odd,
+    Even,
+}
+
+const MASKS: [Mask; 4] = [Mask::Empty, Mask::Whole, Mask::Odd, Mask::Even];
+
+impl Mask {
+    /// Whether it has the store at a place.
+    fn has(self, place: usize) -> bool {
+        match self {
+            Mask::Empty => false,
+            Mask::Whole => true,
+            Mask::Odd => place % 2 == 1,
+            Mask::Even => place % 2 == 0,
+        }
+    }
+}
+
+/// A script, what is asked behind each cut, and what came of the cuts so far.
+#[derive(Drop)]
+struct Cuts<'a> {
+    alloc: Global,
+    image: &'a [u8],
+    script: &'a str,
+    asks: &'a str,
+    work: Work,
+    choice: Choice,
+    events: Vec<Event>,
+    /// A bit for each number of calls that some cut kept.
+    kept: u64,
+}
+
+/// Cuts the power of a run of the script over FILE's image: at each moment beside a barrier or a mark and at every 64th, with each epoch,
+/// and none, all, the odd and the even stores of it. Writes which numbers of calls were kept, or else the first cut whose
+/// answers are not those of the plain tree after the calls that it keeps.
+pub fn cut_all_over(
+    alloc: Global,
+    image: &[u8],
+    script: &str,
+    asks: &str,
+    report: &mut String,
+) -> Result<(), AllocError> {
+    let mut cuts = Cuts {
+        alloc,
+        image,
+        script,
+        asks,
+        work: Work::new(alloc)?,
+        choice: Choice::new(alloc, LOG_EVENTS)?,
+        events: Vec::new(alloc),
+        kept: 0,
+    };
+    if !cuts.read_log()? {
+        return report.push_str("  the script can't be run\n");
+    }
+    for moment in 0..cuts.events.len() + 1 {
+        if is_tried(&cuts.events, moment) && !cuts.cut_at(moment, report)? {
+            return Ok(());
+        }
+    }
+    cuts.finish(report)
+}
+
+/// Whether cuts at a moment are tried.
+fn is_tried(events: &[Event], moment: usize) -> bool {
+    let before = moment.checked_sub(1).and_then(|i| events.get(i));
+    moment % STRIDE == 0 || is_border(before) || is_border(events.get(moment))
+}
+
+/// Whether an event is a barrier or a mark, or none is there.
+fn is_border(event: Option<&Event>) -> bool {
+    match event {
+        Some(Event::Store { .. }) => false,
+        Some(Event::Barrier) => true,
+        Some(Event::Mark) => true,
+        None => true,
+    }
+}
+
+/// How many stores an epoch has.
+fn stores_of(events: &[Event], epoch: usize) -> usize {
+    let mut barriers: usize = 0;
+    let mut stores: usize = 0;
+    for event in events {
+        match event {
+            Event::Store { .. } => {
+                if barriers == epoch {
+                    stores = stores.saturating_add(1);
+                }
+            }
+            Event::Barrier => barriers = barriers.saturating_add(1),
+            Event::Mark => {}
+        }
+    }
+    stores
+}
+
+fn barriers_of(events: &[Event]) -> usize {
+    events
+        .iter()
+        .filter(|event| matches!(event, Event::Barrier))
+        .count()
+}
+
+impl Cuts<'_> {
+    /// Reads the log of a run of the script.
+    fn read_log(&mut self) -> Result<bool, AllocError> {
+        let mut files = MemFiles::new(self.alloc, Some(self.image), &[])?;
+        let Ok(mut volume) = open(self.alloc, "f", &mut files) else {
+            return Ok(false);
+        };
+        let mut source = FairSource::new(self.script.as_bytes());
+        let mut sink = NullSink::new();
+        serve(
+            self.alloc,
+            &mut volume,
+            &mut self.work,
+            &mut source,
+            &mut sink,
+            &mut files,
+        );
+        let region = volume.region();
+        for i in 0..region.event_count() {
+            self.events.push(region.event(i))?;
+        }
+        Ok(true)
+    }
+
+    /// Tries the cuts at a moment. False is the answer where one is wrong.
+    fn cut_at(&mut self, moment: usize, report: &mut String) -> Result<bool, AllocError> {
+        let barriers = barriers_of(self.events.get(..moment).unwrap_or(&[]));
+        for epoch in 0..barriers + 1 {
+            for mask in MASKS {
+                self.choose(moment, epoch, mask);
+                if !self.cut(report)? {
+                    return Ok(false);
+                }
+            }
+        }
+        Ok(true)
+    }
+
+    /// Chooses what a cut keeps.
+    fn choose(&mut self, moment: usize, epoch: usize, mask: Mask) {
+        let stores = stores_of(self.events.get(..moment).unwrap_or(&[]), epoch);
+        self.choice.start(moment, epoch);
+        for place in 0..stores {
+            if self.choice.mask().len() < self.choice.room() {
+                self.choice.push(mask.has(place));
+            }
+        }
+    }
+
+    /// Cuts the power as was chosen. False is the answer where what is left is not the plain tree after the calls that are kept.
+    fn cut(&mut self, report: &mut String) -> Result<bool, AllocError> {
+        let mut files = MemFiles::new(self.alloc, Some(self.image), &[])?;
+        let Ok(mut volume) = open(self.alloc, "f", &mut files) else {
+            return self.differ("the script can't be run", report);
+        };
+        let mut source = FairSource::new(self.script.as_bytes());
+        let mut sink = NullSink::new();
+        serve(
+            self.alloc,
+            &mut volume,
+            &mut self.work,
+            &mut source,
+            &mut sink,
+            &mut files,
+        );
+        let Ok(kept) = volume.crash(&self.choice) else {
+            return self.differ("the choice is refused", report);
+        };
+        let left = bytes_of(self.alloc, volume.region())?;
+        let told = self.asked(&left)?;
+        let expected = self.expected(kept.c)?;
+        if told.as_slice() != expected.as_bytes() {
+            return self.differ("another tree", report);
+        }
+        self.kept |= 1 << (kept.c % 64);
+        Ok(true)
+    }
+
+    /// What is answered over the bytes that were left.
+    fn asked(&mut self, left: &[u8]) -> Result<Vec<u8>, AllocError> {
+        let mut files = MemFiles::new(self.alloc, Some(left), &[])?;
+        let Ok(mut volume) = open(self.alloc, "f", &mut files) else {
+            return Vec::from_slice(self.alloc, b"not mounted");
+        };
+        let mut source = FairSource::new(self.asks.as_bytes());
+        let mut sink = MemSink::new(self.alloc, ROOM, &[])?;
+        serve(
+            self.alloc,
+            &mut volume,
+            &mut self.work,
+            &mut source,
+            &mut sink,
+            &mut files,
+        );
+        Vec::from_slice(self.alloc, sink.bytes())
+    }
+
+    /// What the plain tree answers after the first calls of the script.
+    fn expected(&self, calls: usize) -> Result<String, AllocError> {
+        let mut tree = Comparison::new(self.alloc, "")?;
+        let mut unused = String::new(self.alloc);
+        for line in self.script.lines().take(calls) {
+            tree.answer(self.alloc, line, &mut unused)?;
+        }
+        let mut told = String::new(self.alloc);
+        for line in self.asks.lines() {
+            tree.answer(self.alloc, line, &mut told)?;
+        }
+        Ok(told)
+    }
+
+    /// Writes what is wrong with a cut.
+    fn differ(&self, what: &str, report: &mut String) -> Result<bool, AllocError> {
+        let moment = self.choice.moment();
+        let epoch = self.choice.epoch();
+        writeln!(report, "  {what} at moment {moment}, epoch {epoch}")?;
+        put_short(report, self.script)?;
+        Ok(false)
+    }
+
+    /// Writes which numbers of calls were kept.
+    fn finish(&self, report: &mut String) -> Result<(), AllocError> {
+        report.push_str("  each cut as the plain tree after the calls that it keeps:")?;
+        for count in 0..64u32 {
+            if self.kept >> count & 1 == 1 {
+                write!(report, " {count}")?;
+            }
+        }
+        report.push_str("\n")
+    }
+}
+
+/// The bytes of a region's words.
+fn bytes_of<R: Region>(alloc: Global, region: &R) -> Result<Vec<u8>, AllocError> {
+    let mut bytes = Vec::new(alloc);
+    for word in 0..region.words() {
+        bytes.extend_from_slice(&region.load(word).to_le_bytes())?;
+    }
+    Ok(bytes)
+}

@@ -1,6 +1,7 @@
 //! New files and directories.
 
-ghost use Rattle.std.specs.Prelude.{◌≤◌};
+ghost use Rattle.std.specs.Prelude.{◌≡◌, ◌≤◌};
+ghost use Rattle.bp_layout.specs.Directory.{empty_slot};
 ghost use Rattle.bp_layout.specs.WellFormed.{IsWellFormed};
 ghost use Rattle.bp_limits.specs.Limits.{call_room};
 ghost use Rattle.bp_shapes.specs.Sets.{AreExact};
@@ -11,6 +12,7 @@ ghost use Rattle.pm_region.specs.Memory.{current_words, room_in};
 
 use crate::refusing::no_space;
 use crate::walking::{NewName, new_name};
+use bp_calls::create_in;
 use bp_free::Parts;
 use bp_layout::Kind;
 use bp_plain::FsError;
@@ -26,12 +28,13 @@ fn create_new<R: Region>(
     requires well_formed { IsWellFormed (current_words (R.memory parts.old.region)) }
     requires exact { AreExact (current_words (R.memory parts.old.region)) parts.old.blocks parts.old.inodes }
     requires new { NamesNew (current_words (R.memory parts.old.region)) text.now new.dir new.name.now }
+    requires slot { new.slot ≡ empty_slot (current_words (R.memory parts.old.region)) new.dir }
     requires room { call_room ≤ room_in (R.memory parts.old.region) }
     ensures called { CarriesOut (R.memory parts.old.region) (making kind text.now) (unit_answer result)
         (R.memory parts.new.region) }
     ensures exact { AreExact (current_words (R.memory parts.new.region)) parts.new.blocks parts.new.inodes }
 {
-    match bp_calls::create(parts, new.dir, new.name, kind) {
+    match create_in(parts, new.dir, new.slot, new.name, kind) {
         Ok(()) => Ok(()),
         Err(lacks) => Err(no_space(lacks)),
     }

@@ -1,7 +1,8 @@
 //! Where the path of a call leads.
 
-ghost use Rattle.std.specs.Prelude.{◌≡◌, ◌≢◌, ◌≤◌, IfErr, IfOk, Some, [], is_some, length};
-ghost use Rattle.bp_layout.specs.Directory.{slot_named};
+ghost use Rattle.std.specs.Prelude.{◌≡◌, ◌≢◌, ◌≤◌, IfErr, IfOk, Some, [], length};
+ghost use Rattle.bp_dirs.specs.Spots.{FreeIs, named_slot};
+ghost use Rattle.bp_layout.specs.Directory.{empty_slot, slot_named};
 ghost use Rattle.bp_layout.specs.Inode.{kind_of, size_of};
 ghost use Rattle.bp_layout.specs.Lookup.{lookup};
 ghost use Rattle.bp_limits.specs.Limits.{max_name};
@@ -16,12 +17,12 @@ ghost use Rattle.bp_volume.specs.Told.{RefusesEntry, RefusesFile, RefusesNew, Re
 ghost use Rattle.bp_volume.specs.Told.{StopsAtEntry, StopsAtFile, StopsAtNew, StopsWalk};
 ghost use Rattle.pm_region.specs.Memory.{current_words};
 
-use bp_dirs::find;
+use bp_calls::tree_of;
+use bp_dirs::{Spot, find_or_free};
 use bp_inodes::get;
 use bp_layout::Kind;
 use bp_path::{Path, Place, WalkFault, parse, step, walk, walk_parent};
 use bp_plain::FsError;
-use bp_tree::Tree;
 use pm_region::Region;
 
 /// A name that a directory doesn't have.
@@ -31,6 +32,8 @@ pub(crate) struct NewName<'a> {
     pub dir: u32,
     /// The name.
     pub name: &'a [u8],
+    /// The least slot of the directory whose entry is empty, None where no entry is.
+    pub slot: Option<u64>,
 }
 
 /// A name in a directory, whether it is there or not.
@@ -167,20 +170,16 @@ pub(crate) fn entry_at<R: Region>(region: &R, text: &[u8], root: FsError) -> Res
     }
 }
 
-/// Whether a directory has a name.
-fn has_name<R: Region>(region: &R, dir: u32, name: &[u8]) -> bool
+/// Where a directory has a name, or where it has room for it.
+fn spot_of<R: Region>(region: &R, dir: u32, name: &[u8]) -> Spot
     requires well_formed { IsWellFormed (current_words (R.memory region.now)) }
     requires reached { IsReached (current_words (R.memory region.now)) dir }
     requires inode { 1 ≤ dir }
     requires short { length name.now ≤ max_name }
-    ensures { result ≡ is_some (slot_named (current_words (R.memory region.now)) dir name.now) }
+    ensures named { named_slot result ≡ slot_named (current_words (R.memory region.now)) dir name.now }
+    ensures free { FreeIs result (empty_slot (current_words (R.memory region.now)) dir) }
 {
-    let inode = get(region, dir);
-    let tree = Tree {
-        root: inode.root,
-        size: inode.size,
-    };
-    find(region, tree, name).is_some()
+    find_or_free(region, tree_of(region, dir), name)
 }
 
 /// The last name of a path below the root directory, which its directory doesn't have yet.
@@ -188,15 +187,15 @@ fn last_name<'a, R: Region>(region: &R, path: &Path<'a>) -> Result<NewName<'a>, 
     requires well_formed { IsWellFormed (current_words (R.memory region.now)) }
     requires below { path.now ≢ [] }
     ensures found { IfOk result (λ new. IsNewIn (current_words (R.memory region.now)) path.now new.dir new.name.now) }
+    ensures slot { IfOk result (λ new. new.slot ≡ empty_slot (current_words (R.memory region.now)) new.dir) }
     ensures refused { IfErr result (λ e. RefusesNew (current_words (R.memory region.now)) path.now (refusal_of e)) }
 {
     match walk_parent(region, path) {
         Ok(dir) => {
             let name = path.last();
-            if has_name(region, dir, name) {
-                Err(FsError::Exists)
-            } else {
-                Ok(NewName { dir, name })
+            match spot_of(region, dir, name) {
+                Spot::Named(_) => Err(FsError::Exists),
+                Spot::Free(slot) => Ok(NewName { dir, name, slot }),
             }
         }
         Err(fault) => Err(refused(fault)),
@@ -234,6 +233,7 @@ pub(crate) fn target_on<'a, R: Region>(region: &R, path: &Path<'a>) -> Result<Ta
 pub(crate) fn new_name<'a, R: Region>(region: &R, text: &'a [u8]) -> Result<NewName<'a>, FsError>
     requires { IsWellFormed (current_words (R.memory region.now)) }
     ensures found { IfOk result (λ new. NamesNew (current_words (R.memory region.now)) text.now new.dir new.name.now) }
+    ensures slot { IfOk result (λ new. new.slot ≡ empty_slot (current_words (R.memory region.now)) new.dir) }
     ensures refused { IfErr result (λ e. StopsAtNew (current_words (R.memory region.now)) text.now (refusal_of e)) }
 {
     match parse(text) {

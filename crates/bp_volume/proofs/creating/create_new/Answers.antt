@@ -9,8 +9,8 @@ use Rattle.bp_volume.proofs.FewBlocks.{few_entered, performs_room}
 use Rattle.bp_volume.proofs.WalkLaws.{reached_at}
 use Rattle.bp_volume.proofs.creating.create_new.Goals as goal
 
-pub create-requires-clause-reached : goal.create-requires-clause-reached
-create-requires-clause-reached g c = reached_at _ c.requires.well_formed _ c.args.new.dir c.requires.new.new.parent
+pub create_in-requires-clause-reached : goal.create_in-requires-clause-reached
+create_in-requires-clause-reached g c = reached_at _ c.requires.well_formed _ c.args.new.dir c.requires.new.new.parent
 
 pub returns-in-Ok-clause-called : goal.returns-in-Ok-clause-called
 returns-in-Ok-clause-called g c =

@@ -1,19 +1,21 @@
-use Rattle.std.proofs.Common.{sym, ◌∙◌}
+use Rattle.std.proofs.Common.{sym, ◌∙◌, ap}
+use Rattle.std.specs.Option.{is_some}
+use Rattle.bp_dirs.specs.Spots.{named_slot}
 use Rattle.bp_plain.specs.Plain.{parent_of}
 use Rattle.bp_volume.specs.Step.{last_of}
 use Rattle.bp_volume.proofs.CreateLaws.{by_parent}
 use Rattle.bp_volume.proofs.WalkingLaws.{parent_stops, name_is_new, name_is_there}
 use Rattle.bp_volume.proofs.walking.last_name.Goals as goal
 
-pub returns-then-has_name-clause-refused : goal.returns-then-has_name-clause-refused
-returns-then-has_name-clause-refused g c =
+pub returns-in-Named-clause-refused : goal.returns-in-Named-clause-refused
+returns-in-Named-clause-refused g c =
     name_is_there _ c.args.path.now c.requires.below c.in-Ok.dir (c.in-Ok.ensures.lookup (parent_of c.args.path.now) (last_of c.args.path.now) (by_parent c.args.path.now c.requires.below)) c.in-Ok.ensures.kind
-    c.last-name.result.now (c.last-name.ensures.last (parent_of c.args.path.now) (last_of c.args.path.now) (by_parent c.args.path.now c.requires.below)) (sym c.has_name.ensures ∙ c.if-has_name.true)
+    c.last-name.result.now (c.last-name.ensures.last (parent_of c.args.path.now) (last_of c.args.path.now) (by_parent c.args.path.now c.requires.below)) (ap is_some (sym c.spot_of.ensures.named) ∙ ap (λ spot. is_some (named_slot spot)) c.in-Named.is)
 
-pub returns-else-has_name-clause-found : goal.returns-else-has_name-clause-found
-returns-else-has_name-clause-found g c =
+pub returns-in-Free-clause-found : goal.returns-in-Free-clause-found
+returns-in-Free-clause-found g c =
     name_is_new _ c.args.path.now c.requires.below c.in-Ok.dir (c.in-Ok.ensures.lookup (parent_of c.args.path.now) (last_of c.args.path.now) (by_parent c.args.path.now c.requires.below)) c.in-Ok.ensures.kind
-    c.last-name.result.now (c.last-name.ensures.last (parent_of c.args.path.now) (last_of c.args.path.now) (by_parent c.args.path.now c.requires.below)) c.last-name.ensures.name (sym c.has_name.ensures ∙ c.if-has_name.false)
+    c.last-name.result.now (c.last-name.ensures.last (parent_of c.args.path.now) (last_of c.args.path.now) (by_parent c.args.path.now c.requires.below)) c.last-name.ensures.name (ap is_some (sym c.spot_of.ensures.named) ∙ ap (λ spot. is_some (named_slot spot)) c.in-Free.is)
 
 pub returns-in-Err-clause-refused : goal.returns-in-Err-clause-refused
 returns-in-Err-clause-refused g c =

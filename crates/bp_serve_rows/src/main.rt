@@ -3,7 +3,9 @@
 #![tactic(auto)]
 
 ghost use Rattle.bp_io.specs.Memory.{fair_view};
+ghost use Rattle.bp_limits.specs.Limits.{log_events};
 ghost use Rattle.bp_session.specs.Files.{IsReady};
+ghost use Rattle.std.specs.Prelude.{◌≤◌};
 
 mod report;
 mod stage;
@@ -46,7 +48,8 @@ fn serve_scripts(
     files: &mut FairFiles,
     report: &mut String,
 ) -> Result<(), AllocError>
-    requires { IsReady volume.old.base (fair_view files.old) }
+    requires ready { IsReady volume.old.base (fair_view files.old) }
+    requires roomy { volume.old.capacity ≤ log_events }
 {
     let mut work = Work::new(alloc)?;
     serve_script(alloc, volume, &mut work, files, "create /a\nstat /", report)?;

@@ -1,7 +1,9 @@
 //! A volume over a file, and the memory to serve it.
 
 ghost use Rattle.bp_io.specs.Memory.{fair_view};
+ghost use Rattle.bp_limits.specs.Limits.{log_events};
 ghost use Rattle.bp_session.specs.Files.{IsReady};
+ghost use Rattle.std.specs.Prelude.{◌≡◌, ◌≤◌};
 
 use crate::report::tell;
 use bp_io::{FairFiles, FairSource, MemSink};
@@ -22,8 +24,10 @@ pub fn serve_script(
     script: &str,
     report: &mut String,
 ) -> Result<(), AllocError>
-    requires { IsReady volume.old.base (fair_view files.old) }
-    ensures { IsReady volume.new.base (fair_view files.new) }
+    requires ready { IsReady volume.old.base (fair_view files.old) }
+    requires roomy { volume.old.capacity ≤ log_events }
+    ensures ready { IsReady volume.new.base (fair_view files.new) }
+    ensures capacity { volume.new.capacity ≡ volume.old.capacity }
 {
     let mut source = FairSource::new(script.as_bytes());
     let mut sink = match MemSink::new(alloc, ROOM, &[]) {
@@ -43,8 +47,10 @@ pub fn serve_bytes(
     line: &[u8],
     report: &mut String,
 ) -> Result<(), AllocError>
-    requires { IsReady volume.old.base (fair_view files.old) }
-    ensures { IsReady volume.new.base (fair_view files.new) }
+    requires ready { IsReady volume.old.base (fair_view files.old) }
+    requires roomy { volume.old.capacity ≤ log_events }
+    ensures ready { IsReady volume.new.base (fair_view files.new) }
+    ensures capacity { volume.new.capacity ≡ volume.old.capacity }
 {
     work.set_line(line);
     match tell_line(work, report) {

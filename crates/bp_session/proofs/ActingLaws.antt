@@ -1,26 +1,33 @@
 -- One line, by its case.
-use Rattle.std.proofs.Common.{refl, ◌∙◌, ap, arith, ◌≡◌, ◌≤◌, ◌<◌, ℕ, List, length, true, false}
-use Rattle.std.specs.Prelude.{nat_lt, if◌then◌else◌}
-use Rattle.pm_epochs.proofs.CrashLaws.{length-words_after}
-use Rattle.pm_region.specs.Memory.{Memory, current_words, drained, with_room, room_in}
+use Rattle.std.proofs.Common.{zero, suc, refl, sym, ◌∙◌, ap, arith, ◌≡◌, ◌≤◌, ◌<◌, ◌+◌, ◌*◌, ℕ, List, [], ◌∷◌, ◌++◌, length, take, true, false, inl, inr}
+use Rattle.std.specs.Prelude.{None, Some, nat_lt, slice_get, if◌then◌else◌}
+use Rattle.pm_epochs.proofs.CrashLaws.{barriers-append, length-words_after, marks-append}
+use Rattle.pm_epochs.specs.declared.event.Event.{Event}
+use Rattle.pm_epochs.specs.Log.{barriers, marks}
+use Rattle.pm_epochs.specs.Replay.{Cut, IsRight, kept_calls, kept_stores}
+use Rattle.pm_region.specs.Memory.{Memory, crashed, current_words, drained, with_room, room_in}
 use Rattle.bp_layout.specs.Words.{Image}
 use Rattle.bp_layout.specs.Bytes.{image_bytes}
 use Rattle.bp_layout.specs.Free.{HasFree}
 use Rattle.bp_scan.specs.Totals.{HasLive}
 use Rattle.bp_io.specs.Files.{View}
 use Rattle.bp_plain.specs.Calls.{Call, Answer}
-use Rattle.bp_limits.specs.Limits.{call_room}
+use Rattle.bp_limits.specs.Limits.{call_room, max_line, max_mask}
 use Rattle.bp_volume.specs.FileCall.{FileCall}
 use Rattle.std.proofs.lemmas.Bool.{le-ltb, lt-ltb}
-use Rattle.bp_script.specs.Commands.{Command, command_of, in_grammar}
-use Rattle.bp_script.specs.Commands.Command.{file_call, sync, space, bad_syntax, too_long}
-use Rattle.bp_script.specs.Texts.LineReply.{answered, synced, space_of, syntax, long}
+use Rattle.bp_replay.specs.Wanted.{Wanted, cut_for, mask_places, wanted_by}
+use Rattle.bp_replay.specs.declared.cut.Cut.{Cut as Asked}
+use Rattle.bp_replay.specs.declared.cut.Cut.TheVariants.{All, Nothing, At}
+use Rattle.bp_replay.specs.Storm.{storm_cut}
+use Rattle.bp_script.specs.Commands.{Command, command_of, in_grammar, mask_in}
+use Rattle.bp_script.specs.Commands.Command.{file_call, sync, space, crash, storm, log, bad_syntax, too_long}
+use Rattle.bp_script.specs.Texts.LineReply.{answered, synced, space_of, kept_of, syntax, long}
 use Rattle.bp_session.specs.Files.{Holds, HoldsBytes}
-use Rattle.bp_session.specs.Acting.{Does, reply_of, state, to_save}
+use Rattle.bp_session.specs.Acting.{CrashesTo, Does, HasCrashed, HasRefused, reply_of, state, to_save}
 use Rattle.bp_session.specs.Serving.{Acts, SyncFails}
-use Rattle.bp_session.specs.Session.{State}
+use Rattle.bp_session.specs.Session.{Crashes, Line, State}
 use Rattle.bp_session.specs.declared.outcome.Outcome.{Outcome}
-use Rattle.bp_session.specs.declared.outcome.Outcome.TheVariants.{Answered, Synced, Counted, BadSyntax, TooLong}
+use Rattle.bp_session.specs.declared.outcome.Outcome.TheVariants.{Answered, Synced, Counted, Kept, Logged, BadChoice, BadSyntax, TooLong}
 use Rattle.bp_session.proofs.BlockLaws.{length-image_bytes}
 
 -- ---- sizes
@@ -34,6 +41,15 @@ size-with_room wanted memory = elim (nat_lt (room_in memory) wanted) as (λ full
   | false ↦ refl
 ]
 
+pub size-crashed : (memory : Memory) (cut : Cut) → length (crashed memory cut).base ≡ length memory.base
+size-crashed memory cut = length-words_after memory.base (kept_stores memory.events cut)
+
+capacity-with_room : (wanted : ℕ) (memory : Memory) → (with_room wanted memory).capacity ≡ memory.capacity
+capacity-with_room wanted memory = elim (nat_lt (room_in memory) wanted) as (λ full. (if full then drained memory else memory).capacity ≡ memory.capacity) [ true ↦ refl | false ↦ refl ]
+
+capacity-file_call : (old : Memory) (call : Call) (answer : Answer) (new : Memory) → FileCall old call answer new → new.capacity ≡ old.capacity
+capacity-file_call old call answer new done = ap (λ (m : Memory). m.capacity) done.adds ∙ capacity-with_room call_room old
+
 pub size-file_call : (old : Memory) (call : Call) (answer : Answer) (new : Memory) → FileCall old call answer new → length new.base ≡ length old.base
 size-file_call old call answer new done = ap (λ (m : Memory). length m.base) done.adds ∙ size-with_room call_room old
 
@@ -43,6 +59,7 @@ pub does_call : (old new : Memory) (call : Call) (answer : Answer) → FileCall 
 does_call old new call answer done = record {
   line = λ saved. record { answer = answer; told = refl; does = done; saved = refl };
   size = size-file_call old call answer new done;
+  capacity = capacity-file_call old call answer new done;
   is_sync = λ e. absurd (let no : ◌≡◌ {A = Outcome} Answered Synced = e in cc);
   synced = λ e. absurd (let no : file_call call ≡ sync = e in cc);
   others = λ _ saved. refl;
@@ -52,6 +69,7 @@ pub does_sync : (old new : Memory) (answer : Answer) → new ≡ drained old →
 does_sync old new answer done = record {
   line = λ saved. record { told = refl; done = ap (λ m. state m (current_words old)) done };
   size = ap (λ (m : Memory). length m.base) done ∙ size-drained old;
+  capacity = ap (λ (m : Memory). m.capacity) done;
   is_sync = λ _. refl;
   synced = λ _. refl;
   others = λ other. absurd (other refl);
@@ -61,15 +79,86 @@ pub does_space : (memory : Memory) (free live : ℕ) (answer : Answer) → HasFr
 does_space memory free live answer has_free has_live = record {
   line = λ saved. record { free = free; live = live; told = refl; has_free = has_free; has_live = has_live; same = refl };
   size = refl;
+  capacity = refl;
   is_sync = λ e. absurd (let no : ◌≡◌ {A = Outcome} (Counted free live) Synced = e in cc);
   synced = λ e. absurd (let no : space ≡ sync = e in cc);
   others = λ _ saved. refl;
 }
 
+-- a crash to a cut, by whatever command
+module _ (old new : Memory) (cut : Cut) (outcome : Outcome) (answer : Answer) where
+  does_crashed : (command : Command) → HasCrashed old cut outcome new → ((saved : Image) → Crashes (state old saved) cut (reply_of outcome answer) (state new saved) → Line (state old saved) command (reply_of outcome answer) (state new (to_save command old saved)))
+      → ¬ (command ≡ sync) → ((saved : Image) → to_save command old saved ≡ saved) → Does old command outcome answer new
+  does_crashed command does line other same = record {
+    line = λ saved. line saved (record {
+      right = does.right;
+      told = ap (λ o. reply_of o answer) does.told;
+      done = ap (λ m. state m saved) does.left;
+    });
+    size = ap (λ (m : Memory). length m.base) does.left ∙ size-crashed old cut;
+    capacity = ap (λ (m : Memory). m.capacity) does.left;
+    is_sync = λ e. absurd (let no : ◌≡◌ {A = Outcome} (Kept (kept_calls old.events cut) (marks old.events)) Synced = sym does.told ∙ e in cc);
+    synced = λ e. absurd (other e);
+    others = λ _ saved. same saved;
+  }
+
+pub does_crash : (old new : Memory) (wanted : Wanted) (outcome : Outcome) (answer : Answer) → CrashesTo old (cut_for old.events wanted) outcome new → Does old (crash wanted) outcome answer new
+does_crash old new wanted outcome answer (inl does) =
+    does_crashed old new (cut_for old.events wanted) outcome answer (crash wanted) does (λ saved line. inl line) (λ e. let no : crash wanted ≡ sync = e in cc) (λ saved. refl)
+does_crash old new wanted outcome answer (inr does) = record {
+  line = λ saved. inr (record { wrong = does.wrong; told = ap (λ o. reply_of o answer) does.told; same = ap (λ m. state m saved) does.same });
+  size = ap (λ (m : Memory). length m.base) does.same;
+  capacity = ap (λ (m : Memory). m.capacity) does.same;
+  is_sync = λ e. absurd (let no : ◌≡◌ {A = Outcome} BadChoice Synced = sym does.told ∙ e in cc);
+  synced = λ e. absurd (let no : crash wanted ≡ sync = e in cc);
+  others = λ _ saved. refl;
+}
+
+-- a mask has a place for each bit of its bytes, of two digits each
+pub mask_fits : (asked : Asked) (most : ℕ) → most ≤ max_line → 2 * length (mask_in (crash (wanted_by asked))) ≤ most → mask_places asked ≤ max_mask
+mask_fits All most low fits = omega arith
+mask_fits Nothing most low fits = omega arith
+mask_fits (At moment epoch mask) most low fits = omega (arith, low, fits)
+
+pub does_storm : (old new : Memory) (seed : ℕ) (outcome : Outcome) (answer : Answer) → HasCrashed old (storm_cut old.events seed) outcome new → Does old (storm seed) outcome answer new
+does_storm old new seed outcome answer does =
+    does_crashed old new (storm_cut old.events seed) outcome answer (storm seed) does (λ saved line. line) (λ e. let no : storm seed ≡ sync = e in cc) (λ saved. refl)
+
+pub does_log : (memory : Memory) (outcome : Outcome) (answer : Answer) → outcome ≡ Logged (length memory.events) (barriers memory.events) (marks memory.events) → Does memory log outcome answer memory
+does_log memory outcome answer is = record {
+  line = λ saved. record { told = ap (λ o. reply_of o answer) is; same = refl };
+  size = refl;
+  capacity = refl;
+  is_sync = λ e. absurd (let no : ◌≡◌ {A = Outcome} (Logged (length memory.events) (barriers memory.events) (marks memory.events)) Synced = sym is ∙ e in cc);
+  synced = λ e. absurd (let no : log ≡ sync = e in cc);
+  others = λ _ saved. refl;
+}
+
+-- a cut that the log allows is crashed to
+pub has_crashed : (old new : Memory) (cut : Cut) (outcome : Outcome) → IsRight old.events cut → CrashesTo old cut outcome new → HasCrashed old cut outcome new
+has_crashed old new cut outcome right (inl does) = does
+has_crashed old new cut outcome right (inr does) = absurd (does.wrong right)
+
+-- ---- the counts of a log
+
+pub one_more_event : (events : List Event) (i : ℕ) (event : Event) → slice_get events i ≡ Some event → take (i + 1) events ≡ take i events ++ event ∷ []
+one_more_event [] i event at = absurd (let no : None ≡ Some event = at in cc)
+one_more_event (first ∷ events) zero event at = let same : first ≡ event = cc in rw same refl
+one_more_event (first ∷ events) (suc i) event at = let next : suc i + 1 ≡ suc (i + 1) = omega arith in rw next (ap (λ l. first ∷ l) (one_more_event events i event at))
+
+pub one_more_barrier : (events : List Event) (i : ℕ) (event : Event) → slice_get events i ≡ Some event → barriers (take (i + 1) events) ≡ barriers (take i events) + barriers (event ∷ [])
+one_more_barrier events i event at = ap barriers (one_more_event events i event at) ∙ barriers-append (take i events) (event ∷ [])
+
+pub one_more_mark : (events : List Event) (i : ℕ) (event : Event) → slice_get events i ≡ Some event → marks (take (i + 1) events) ≡ marks (take i events) + marks (event ∷ [])
+one_more_mark events i event at = ap marks (one_more_event events i event at) ∙ marks-append (take i events) (event ∷ [])
+
+-- ---- more of what a line did
+
 pub does_syntax : (memory : Memory) (answer : Answer) → Does memory bad_syntax BadSyntax answer memory
 does_syntax memory answer = record {
   line = λ saved. record { told = refl; same = refl };
   size = refl;
+  capacity = refl;
   is_sync = λ e. absurd (let no : ◌≡◌ {A = Outcome} BadSyntax Synced = e in cc);
   synced = λ e. absurd (let no : bad_syntax ≡ sync = e in cc);
   others = λ _ saved. refl;
@@ -79,6 +168,7 @@ pub does_long : (memory : Memory) (answer : Answer) → Does memory too_long Too
 does_long memory answer = record {
   line = λ saved. record { told = refl; same = refl };
   size = refl;
+  capacity = refl;
   is_sync = λ e. absurd (let no : ◌≡◌ {A = Outcome} TooLong Synced = e in cc);
   synced = λ e. absurd (let no : too_long ≡ sync = e in cc);
   others = λ _ saved. refl;

@@ -105,11 +105,12 @@ first_with_source status s t a b other same first = record {
 -- ---- what is kept
 
 pub keeps_all : (a : Moment) → Keeps 0 a a
-keeps_all a = record { size = refl; attached = still_attached a.files; flushed = λ _ e. e }
+keeps_all a = record { size = refl; capacity = refl; attached = still_attached a.files; flushed = λ _ e. e }
 
 pub keeps_then : (status : ℕ) (a b c : Moment) → Keeps 0 a b → Keeps status b c → Keeps status a c
 keeps_then status a b c one two = record {
   size = two.size ∙ one.size;
+  capacity = two.capacity ∙ one.capacity;
   attached = stays_attached _ _ _ one.attached two.attached;
   flushed = λ other e. two.flushed other (one.flushed (λ z. omega (arith, z)) e);
 }
@@ -212,7 +213,7 @@ module _ (before after : Input) (a b : Moment) where
     long = λ e. absurd (omega (arith, e));
     cut = λ e. absurd (omega (arith, e));
     stopped = λ e. absurd (omega (arith, e));
-    keeps = record { size = part.keeps_files.size; attached = part.keeps_files.attached; flushed = λ _. part.keeps_files.flushed (λ e. omega (arith, e)) };
+    keeps = record { size = part.keeps_files.size; capacity = part.keeps_files.capacity; attached = part.keeps_files.attached; flushed = λ _. part.keeps_files.flushed (λ e. omega (arith, e)) };
     first = source_fault _ _ rose (part.first.no_sink (inl refl)) (part.first.no_files (λ e. omega (arith, e)));
     complete = λ all told few calm quiet still. absurd (calm rose);
     one_of = inr (inl refl);
@@ -227,7 +228,7 @@ module _ (before after : Input) (a b : Moment) where
     long = λ _. (input, more, keeps, read, most, some, few, part.whole refl);
     cut = λ e. absurd (omega (arith, e));
     stopped = λ e. absurd (omega (arith, e));
-    keeps = record { size = part.keeps_files.size; attached = part.keeps_files.attached; flushed = λ _. part.keeps_files.flushed (λ e. omega (arith, e)) };
+    keeps = record { size = part.keeps_files.size; capacity = part.keeps_files.capacity; attached = part.keeps_files.attached; flushed = λ _. part.keeps_files.flushed (λ e. omega (arith, e)) };
     first = no_fault 6 _ _ (λ e. omega (arith, e)) (λ e. omega (arith, e)) (λ e. omega (arith, e)) same (part.first.no_sink (inl refl)) (part.first.no_files (λ e. omega (arith, e)));
     complete = λ all told small calm quiet still. absurd (not_long before.left after.left all input more told small read most some);
     one_of = inr (inr (inr (inr refl)));

@@ -3,29 +3,37 @@ use Rattle.std.proofs.Common.{zero, suc, refl, sym, ◌∙◌, ap, arith, ◌≡
 use Rattle.std.proofs.lemmas.List.{length-append}
 use Rattle.pm_epochs.specs.declared.event.Event.{Event}
 use Rattle.pm_epochs.specs.declared.event.Event.TheVariants.{Store, Barrier, Mark}
-use Rattle.pm_epochs.specs.Log.{marks, up_to_mark}
+use Rattle.pm_epochs.specs.Log.{barriers, marks, up_to_mark}
 use Rattle.pm_epochs.specs.Crash.{CrashRight}
-use Rattle.pm_epochs.specs.Replay.{kept_calls, after_calls}
+use Rattle.pm_epochs.specs.Replay.{Cut, IsRight, kept_calls, marks_of, after_calls}
+use Rattle.pm_epochs.specs.Log.{words_after}
+use Rattle.pm_epochs.proofs.Deciding.{kept_calls-le}
 use Rattle.pm_epochs.proofs.CrashLaws.{up_to_mark-append, marks-append}
-use Rattle.pm_region.specs.Memory.{Memory, current_words, with_room, drained, room_in, Adds}
+use Rattle.pm_region.specs.Memory.{Memory, crashed, current_words, with_room, drained, room_in, Adds}
 use Rattle.bp_plain.specs.PlainTree.{FileTree}
 use Rattle.bp_layout.specs.Same.{Same}
 use Rattle.bp_plain.specs.Stands.{Stands}
+use Rattle.bp_plain.proofs.Uniqueness.{stands_once}
+use Rattle.bp_replay.specs.Wanted.{Wanted, cut_for}
+use Rattle.bp_replay.specs.Wanted.Wanted.{all, nothing, at}
+use Rattle.bp_replay.proofs.Ends.{kept_calls_all, right_all}
+use Rattle.bp_replay.specs.Storm.{storm_cut}
 use Rattle.bp_layout.specs.Words.{Image}
 use Rattle.bp_plain.specs.Calls.{Call, Answer}
 use Rattle.bp_volume.specs.Step.{Steps}
 use Rattle.bp_volume.specs.Step.Steps.{no_room, no_listing, unchanged, changed}
 use Rattle.bp_plain.specs.Plain.{plain, is_changing, refusal, changes}
-use Rattle.bp_session.specs.Session.{State, Line, Session}
+use Rattle.bp_session.specs.Session.{State, Crashes, Line, RefusesCut, Session}
 use Rattle.bp_script.specs.Commands.{Command}
-use Rattle.bp_script.specs.Commands.Command.{file_call, sync, space, bad_syntax, too_long}
+use Rattle.bp_script.specs.Commands.Command.{file_call, sync, space, crash, storm, log, bad_syntax, too_long}
 use Rattle.bp_script.specs.Texts.{LineReply}
+use Rattle.bp_script.specs.Texts.LineReply.{kept_of, log_of}
 use Rattle.bp_limits.specs.Limits.{call_room}
 use Rattle.pm_epochs.proofs.CrashLaws.{crash_right_none}
 use Rattle.bp_plain.specs.Calls.{Refusal}
 use Rattle.std.specs.Prelude.{Option, Some, None, is_none, ◌&&◌, ◌⊎◌, nat_le, nat_lt, if◌then◌else◌}
 use Rattle.std.proofs.lemmas.Bool.{leb-true, leb-false}
-use Rattle.bp_session.specs.PlainSession.{PlainSession, PlainLine, Plain, PlainCall, latest, tree_at, tree_now, after_crash, with_call, fresh, Follows, FollowsTree, IsPlainly}
+use Rattle.bp_session.specs.PlainSession.{PlainSession, PlainLine, Plain, PlainCall, latest, tree_at, tree_now, after_crash, with_call, fresh, Follows, FollowsTree, IsPlainly, PlainCrash, PlainCrashes}
 use Rattle.bp_session.proofs.ServingLaws.{session_split}
 use Rattle.bp_session.specs.PlainSession.PlainCall.{plainly, no_room as finds_no_room, no_listing as finds_no_memory}
 
@@ -99,6 +107,14 @@ nothing_logged : (base : List ℕ) (count : ℕ) → after_calls base [] count �
 nothing_logged base zero = refl
 nothing_logged base (suc count) = refl
 
+-- the calls before the first store did nothing to the words
+nothing_stored : (words : List ℕ) (events : List Event) (count : ℕ) → count ≤ marks_of 0 [] events → words_after words (up_to_mark count events) ≡ words
+nothing_stored words events zero low = refl
+nothing_stored words [] (suc count) low = absurd (omega arith)
+nothing_stored words (Store word value ∷ events) (suc count) low = absurd (omega arith)
+nothing_stored words (Barrier ∷ events) (suc count) low = nothing_stored words events (suc count) low
+nothing_stored words (Mark ∷ events) (suc count) low = nothing_stored words events count (omega arith)
+
 -- ---- what follows
 
 follows : (memory : Memory) (p : Plain) → Stands (current_words memory) (tree_now p) → marks memory.events ≡ length p.since
@@ -136,6 +152,10 @@ follows_more old new p added tree before none adds right stands =
     ] in
     follows new (with_call p tree) (rw (latest-append p.certain tree p.since) stands) calls (λ count. go count (nat_le count (length p.since)) refl) right
 
+-- a crash leaves the tree after the calls that it keeps
+follows_crash : (memory : Memory) (p : Plain) (cut : Cut) → Follows memory p → IsRight memory.events cut → Follows (crashed memory cut) (fresh (after_crash p (kept_calls memory.events cut)))
+follows_crash memory p cut before right = follows_fresh (crashed memory cut) (after_crash p (kept_calls memory.events cut)) refl (before.crash cut right)
+
 -- ---- lines
 
 pub record SettlesTo (old : Plain) (memory : Memory) : Type 0 where
@@ -153,6 +173,52 @@ pub record Follower (old : State) (p : Plain) (command : Command) (reply : LineR
   pub plain : Plain
   pub line : PlainLine p command reply plain
   pub follows : Follows new.memory plain
+
+-- a crash that keeps so many calls
+crash_follower : (old : State) (p : Plain) (command : Command) (cut : Cut) (count : ℕ) (reply : LineReply) (new : State) → Follows old.memory p → Crashes old cut reply new → kept_calls old.memory.events cut ≡ count
+    → ((plain : Plain) → PlainCrashes p count reply plain → PlainLine p command reply plain) → Follower old p command reply new
+crash_follower old p command cut count reply new before does is line = record {
+  plain = fresh (after_crash p count);
+  line = line _ (record {
+    few = omega (arith, kept_calls-le old.memory.events cut, is, before.calls);
+    told = does.told ∙ ap (λ n. kept_of n (marks old.memory.events)) is ∙ ap (λ n. kept_of count n) before.calls;
+    leaves = refl;
+  });
+  follows = rw (does.done, ← is) (follows_crash old.memory p cut before does.right);
+}
+
+-- the calls that changed nothing left the certain tree
+certain_tree : (memory : Memory) (p : Plain) → Follows memory p → (count : ℕ) → count ≤ kept_calls memory.events (cut_for memory.events nothing) → after_crash p count ≡ p.certain
+certain_tree memory p before count low =
+    let here : Stands memory.base (after_crash p count) = rw (nothing_stored memory.base memory.events count low) at (before.after count) in
+    stands_once memory.base (after_crash p count) p.certain here (before.after 0)
+
+nothing_right : (events : List Event) → IsRight events (cut_for events nothing)
+nothing_right events = record { moment = omega arith; epoch = omega arith; mask = omega arith }
+
+nothing_follower : (old : State) (p : Plain) (reply : LineReply) (new : State) → Follows old.memory p → Crashes old (cut_for old.memory.events nothing) reply new → Follower old p (crash nothing) reply new
+nothing_follower old p reply new before does =
+    let cut = cut_for old.memory.events nothing in
+    let unchanged = certain_tree old.memory p before in
+    let is : after_crash p (kept_calls old.memory.events cut) ≡ p.certain = unchanged (kept_calls old.memory.events cut) (omega arith) in
+    record {
+      plain = fresh p.certain;
+      line = record {
+        count = kept_calls old.memory.events cut;
+        few = omega (arith, kept_calls-le old.memory.events cut, before.calls);
+        unchanged = unchanged;
+        told = does.told ∙ ap (λ n. kept_of (kept_calls old.memory.events cut) n) before.calls;
+        leaves = refl;
+      };
+      follows = rw (does.done, ← is) (follows_crash old.memory p cut before does.right);
+    }
+
+refused_follower : (old : State) (p : Plain) (moment epoch : ℕ) (mask : List ℕ) (reply : LineReply) (new : State) → Follows old.memory p → RefusesCut old (cut_for old.memory.events (at moment epoch mask)) reply new → Follower old p (crash (at moment epoch mask)) reply new
+refused_follower old p moment epoch mask reply new before does = record {
+  plain = p;
+  line = inl (record { told = does.told; same = refl });
+  follows = rw does.same before;
+}
 
 pub plain_line : (old : State) (p : Plain) (command : Command) (reply : LineReply) (new : State) → Follows old.memory p → Line old command reply new → Follower old p command reply new
 plain_line old p (file_call call) reply new before line =
@@ -177,6 +243,18 @@ plain_line old p sync reply new before line = record {
 plain_line old p space reply new before line = record {
   plain = p;
   line = record { free = line.free; live = line.live; told = line.told; same = refl };
+  follows = rw line.same before;
+}
+plain_line old p (crash all) reply new before (inl does) = crash_follower old p (crash all) _ (length p.since) reply new before does (kept_calls_all old.memory.events ∙ before.calls) (λ plain line. line)
+plain_line old p (crash all) reply new before (inr does) = absurd (does.wrong (right_all old.memory.events))
+plain_line old p (crash nothing) reply new before (inl does) = nothing_follower old p reply new before does
+plain_line old p (crash nothing) reply new before (inr does) = absurd (does.wrong (nothing_right old.memory.events))
+plain_line old p (crash (at moment epoch mask)) reply new before (inl does) = crash_follower old p (crash (at moment epoch mask)) _ _ reply new before does refl (λ plain line. inr (record { count = _; crashes = line }))
+plain_line old p (crash (at moment epoch mask)) reply new before (inr does) = refused_follower old p moment epoch mask reply new before does
+plain_line old p (storm seed) reply new before does = crash_follower old p (storm seed) _ _ reply new before does refl (λ plain line. record { count = _; crashes = line })
+plain_line old p log reply new before line = record {
+  plain = p;
+  line = record { events = _; barriers = _; told = line.told ∙ ap (λ n. log_of (length old.memory.events) (barriers old.memory.events) n) before.calls; same = refl };
   follows = rw line.same before;
 }
 plain_line old p bad_syntax reply new before line = record { plain = p; line = record { told = line.told; same = refl }; follows = rw line.same before }

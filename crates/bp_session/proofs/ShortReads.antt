@@ -7,8 +7,9 @@ use Rattle.bp_limits.specs.Limits.{max_read}
 use Rattle.bp_plain.specs.Calls.{Call}
 use Rattle.bp_plain.specs.Calls.Call.{create, mkdir, unlink, rmdir, list, stat, read, write, truncate, rename}
 use Rattle.bp_volume.specs.Seen.{IsShortCall}
-use Rattle.bp_script.specs.Commands.{Command, in_grammar, words_of, command_by_words, path_command, pair_command, long_command, bare_command, read_command, write_command, truncate_command, number_of, bytes_of, decoded, is_empty_word}
-use Rattle.bp_script.specs.Commands.Command.{file_call, sync, space, bad_syntax, too_long}
+use Rattle.bp_replay.specs.Wanted.Wanted.{all, nothing}
+use Rattle.bp_script.specs.Commands.{Command, in_grammar, words_of, command_by_words, word_command, whole_crash, masked_crash, storm_command, path_command, pair_command, long_command, bare_command, read_command, write_command, truncate_command, number_of, bytes_of, decoded, is_empty_word}
+use Rattle.bp_script.specs.Commands.Command.{file_call, sync, space, crash, storm, log, bad_syntax, too_long}
 
 abbrev pub IsShort : Command → Type 0
 IsShort (file_call call) = IsShortCall call
@@ -37,7 +38,22 @@ short_truncate path (Some size) = tt
 short_truncate path None = tt
 
 short_bare : (verb : List ℕ) → IsShort (bare_command verb)
-short_bare verb = short_either (bytes_eq verb (codes "sync")) sync _ tt (short_either (bytes_eq verb (codes "space")) space bad_syntax tt tt)
+short_bare verb =
+    short_either (bytes_eq verb (codes "sync")) sync _ tt
+    (short_either (bytes_eq verb (codes "space")) space _ tt (short_either (bytes_eq verb (codes "log")) log bad_syntax tt tt))
+
+short_whole : (word : List ℕ) → IsShort (whole_crash word)
+short_whole word = short_either (bytes_eq word (codes "all")) (crash all) _ tt (short_either (bytes_eq word (codes "none")) (crash nothing) bad_syntax tt tt)
+
+short_masked : (moment epoch : Option ℕ) (mask : Option (List ℕ)) → IsShort (masked_crash moment epoch mask)
+short_masked (Some moment) (Some epoch) (Some mask) = tt
+short_masked None epoch mask = tt
+short_masked (Some moment) None mask = tt
+short_masked (Some moment) (Some epoch) None = tt
+
+short_storm : (seed : Option ℕ) → IsShort (storm_command seed)
+short_storm (Some seed) = tt
+short_storm None = tt
 
 short_path : (verb path : List ℕ) → IsShort (path_command verb path)
 short_path verb path =
@@ -47,6 +63,11 @@ short_path verb path =
     (short_either (bytes_eq verb (codes "rmdir")) (file_call (rmdir path)) _ tt
     (short_either (bytes_eq verb (codes "list")) (file_call (list path)) _ tt (short_either (bytes_eq verb (codes "stat")) (file_call (stat path)) bad_syntax tt tt)))))
 
+short_word : (verb word : List ℕ) → IsShort (word_command verb word)
+short_word verb word =
+    short_either (bytes_eq verb (codes "crash")) (whole_crash word) _ (short_whole word)
+    (short_either (bytes_eq verb (codes "storm")) (storm_command (number_of word)) _ (short_storm (number_of word)) (short_path verb word))
+
 short_pair : (verb first second : List ℕ) → IsShort (pair_command verb first second)
 short_pair verb first second =
     short_either (bytes_eq verb (codes "truncate")) (truncate_command first (number_of second)) _ (short_truncate first (number_of second))
@@ -55,12 +76,13 @@ short_pair verb first second =
 short_long : (verb first second third : List ℕ) → IsShort (long_command verb first second third)
 short_long verb first second third =
     short_either (bytes_eq verb (codes "read")) (read_command first (number_of second) (number_of third)) _ (short_read first (number_of second) (number_of third))
-    (short_either (bytes_eq verb (codes "write")) (write_command first (number_of second) (bytes_of third)) bad_syntax (short_write first (number_of second) (bytes_of third)) tt)
+    (short_either (bytes_eq verb (codes "write")) (write_command first (number_of second) (bytes_of third)) _ (short_write first (number_of second) (bytes_of third))
+    (short_either (bytes_eq verb (codes "crash")) (masked_crash (number_of first) (number_of second) (bytes_of third)) bad_syntax (short_masked (number_of first) (number_of second) (bytes_of third)) tt))
 
 short_words : (words : List (List ℕ)) → IsShort (command_by_words words)
 short_words [] = tt
 short_words (verb ∷ []) = short_bare verb
-short_words (verb ∷ path ∷ []) = short_path verb path
+short_words (verb ∷ word ∷ []) = short_word verb word
 short_words (verb ∷ first ∷ second ∷ []) = short_pair verb first second
 short_words (verb ∷ first ∷ second ∷ third ∷ []) = short_long verb first second third
 short_words (verb ∷ first ∷ second ∷ third ∷ fourth ∷ more) = tt
@@ -78,6 +100,9 @@ short_decoded (file_call (truncate path size)) short = tt
 short_decoded (file_call (rename from to)) short = tt
 short_decoded sync short = tt
 short_decoded space short = tt
+short_decoded (crash wanted) short = tt
+short_decoded (storm seed) short = tt
+short_decoded log short = tt
 short_decoded bad_syntax short = tt
 short_decoded too_long short = tt
 

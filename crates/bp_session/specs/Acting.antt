@@ -1,21 +1,26 @@
 -- What a line came to.
-use Rattle.std.specs.Prelude.{◌≡◌, length}
-use Rattle.pm_region.specs.Memory.{Memory, current_words, drained}
+use Rattle.std.specs.Prelude.{◌≡◌, ◌⊎◌, length}
+use Rattle.pm_epochs.specs.Log.{marks}
+use Rattle.pm_epochs.specs.Replay.{Cut, IsRight, kept_calls}
+use Rattle.pm_region.specs.Memory.{Memory, crashed, current_words}
 use Rattle.bp_layout.specs.Words.{Image}
 use Rattle.bp_plain.specs.Calls.{Answer}
 use Rattle.bp_script.specs.Commands.{Command}
-use Rattle.bp_script.specs.Commands.Command.{file_call, sync, space, bad_syntax, too_long}
+use Rattle.bp_script.specs.Commands.Command.{file_call, sync, space, crash, storm, log, bad_syntax, too_long}
 use Rattle.bp_script.specs.Texts.{LineReply}
-use Rattle.bp_script.specs.Texts.LineReply.{answered, synced, space_of, syntax, long}
+use Rattle.bp_script.specs.Texts.LineReply.{answered, synced, space_of, kept_of, log_of, bad_choice, syntax, long}
 use Rattle.bp_session.specs.Session.{Line, State}
 use Rattle.bp_session.specs.declared.outcome.Outcome.{Outcome}
-use Rattle.bp_session.specs.declared.outcome.Outcome.TheVariants.{Answered, Synced, Counted, BadSyntax, TooLong}
+use Rattle.bp_session.specs.declared.outcome.Outcome.TheVariants.{Answered, Synced, Counted, Kept, Logged, BadChoice, BadSyntax, TooLong}
 
 -- as a reply
 abbrev pub reply_of : Outcome → Answer → LineReply
 reply_of Answered answer = answered answer
 reply_of Synced answer = synced
 reply_of (Counted free live) answer = space_of free live
+reply_of (Kept c n) answer = kept_of c n
+reply_of (Logged events barriers calls) answer = log_of events barriers calls
+reply_of BadChoice answer = bad_choice
 reply_of BadSyntax answer = syntax
 reply_of TooLong answer = long
 
@@ -28,6 +33,9 @@ abbrev pub to_save : Command → Memory → Image → Image
 to_save (file_call call) memory saved = saved
 to_save sync memory saved = current_words memory
 to_save space memory saved = saved
+to_save (crash wanted) memory saved = saved
+to_save (storm seed) memory saved = saved
+to_save log memory saved = saved
 to_save bad_syntax memory saved = saved
 to_save too_long memory saved = saved
 
@@ -35,6 +43,23 @@ to_save too_long memory saved = saved
 pub record Does (old : Memory) (command : Command) (outcome : Outcome) (answer : Answer) (new : Memory) : Type 0 where
   pub line : (saved : Image) → Line (state old saved) command (reply_of outcome answer) (state new (to_save command old saved))
   pub size : length new.base ≡ length old.base
+  pub capacity : new.capacity ≡ old.capacity
   pub is_sync : outcome ≡ Synced → command ≡ sync
   pub synced : command ≡ sync → outcome ≡ Synced
   pub others : ¬ (outcome ≡ Synced) → (saved : Image) → to_save command old saved ≡ saved
+
+-- A crash to this cut: the calls that are kept are counted, and the memory is what it leaves.
+pub record HasCrashed (old : Memory) (cut : Cut) (outcome : Outcome) (new : Memory) : Type 0 where
+  pub right : IsRight old.events cut
+  pub told : outcome ≡ Kept (kept_calls old.events cut) (marks old.events)
+  pub left : new ≡ crashed old cut
+
+-- the log does not allow the cut, and nothing is done
+pub record HasRefused (old : Memory) (cut : Cut) (outcome : Outcome) (new : Memory) : Type 0 where
+  pub wrong : ¬ IsRight old.events cut
+  pub told : outcome ≡ BadChoice
+  pub same : new ≡ old
+
+-- what a crash to a cut comes to
+abbrev pub CrashesTo : Memory → Cut → Outcome → Memory → Type 0
+CrashesTo old cut outcome new = HasCrashed old cut outcome new ⊎ HasRefused old cut outcome new

@@ -1,5 +1,5 @@
 -- What a script does to a plain file tree of which each call is kept until it is certain.
-use Rattle.std.specs.Prelude.{◌≡◌, ℕ, ◌⊎◌, List, [], ◌∷◌, ◌++◌, length, take, true, None}
+use Rattle.std.specs.Prelude.{◌≡◌, ◌≤◌, ℕ, ◌⊎◌, List, [], ◌∷◌, ◌++◌, length, take, true, None}
 use Rattle.bp_plain.specs.PlainTree.{FileTree}
 use Rattle.bp_plain.specs.Stands.{Stands}
 use Rattle.bp_plain.specs.Calls.{Call, Answer}
@@ -10,11 +10,13 @@ use Rattle.bp_plain.specs.Plain.{plain, is_changing, refusal}
 use Rattle.pm_epochs.specs.Log.{marks}
 use Rattle.pm_epochs.specs.Replay.{Cut, IsRight, replay, kept_calls, after_calls}
 use Rattle.pm_region.specs.Memory.{Memory, current_words}
+use Rattle.bp_replay.specs.Wanted.{Wanted}
+use Rattle.bp_replay.specs.Wanted.Wanted.{all, nothing, at}
 use Rattle.bp_session.specs.Session.{Session, State}
 use Rattle.bp_script.specs.Commands.{Command}
-use Rattle.bp_script.specs.Commands.Command.{file_call, sync, space, bad_syntax, too_long}
+use Rattle.bp_script.specs.Commands.Command.{file_call, sync, space, crash, storm, log, bad_syntax, too_long}
 use Rattle.bp_script.specs.Texts.{LineReply}
-use Rattle.bp_script.specs.Texts.LineReply.{answered, synced, space_of, syntax, long}
+use Rattle.bp_script.specs.Texts.LineReply.{answered, synced, space_of, kept_of, log_of, bad_choice, syntax, long}
 
 -- A call on a plain tree. Besides the tree's own answer there are two: a call that changes the tree may find no room, and a listing
 -- may find no memory; neither does anything.
@@ -71,10 +73,45 @@ pub record PlainSpace (old : Plain) (reply : LineReply) (new : Plain) : Type 0 w
   pub told : reply ≡ space_of free live
   pub same : new ≡ old
 
+-- A crash keeps the first calls since, so many, and all that it keeps is certain. It tells how many of how many.
+pub record PlainCrashes (old : Plain) (count : ℕ) (reply : LineReply) (new : Plain) : Type 0 where
+  pub few : count ≤ length old.since
+  pub told : reply ≡ kept_of count (length old.since)
+  pub leaves : new ≡ fresh (after_crash old count)
+
+-- Only the certain tree is left: the calls that are counted as kept, the first ones, changed nothing.
+pub record PlainCrashesToNothing (old : Plain) (reply : LineReply) (new : Plain) : Type 0 where
+  pub count : ℕ
+  pub few : count ≤ length old.since
+  pub unchanged : (earlier : ℕ) → earlier ≤ count → after_crash old earlier ≡ old.certain
+  pub told : reply ≡ kept_of count (length old.since)
+  pub leaves : new ≡ fresh old.certain
+
+-- some of the calls are kept, the first ones; a plain tree doesn't know how many
+pub record PlainCrashesSomewhere (old : Plain) (reply : LineReply) (new : Plain) : Type 0 where
+  pub count : ℕ
+  pub crashes : PlainCrashes old count reply new
+
+-- Three numbers of a log are told. A plain tree knows the last: how many calls are not certain.
+pub record PlainLog (old : Plain) (reply : LineReply) (new : Plain) : Type 0 where
+  pub events : ℕ
+  pub barriers : ℕ
+  pub told : reply ≡ log_of events barriers (length old.since)
+  pub same : new ≡ old
+
+-- what each crash that a line spells does: that of a moment may be refused
+abbrev pub PlainCrash : Plain → Wanted → LineReply → Plain → Type 0
+PlainCrash old all reply new = PlainCrashes old (length old.since) reply new
+PlainCrash old nothing reply new = PlainCrashesToNothing old reply new
+PlainCrash old (at moment epoch mask) reply new = PlainTells old bad_choice reply new ⊎ PlainCrashesSomewhere old reply new
+
 abbrev pub PlainLine : Plain → Command → LineReply → Plain → Type 0
 PlainLine old (file_call call) reply new = PlainCalls old call reply new
 PlainLine old sync reply new = (reply ≡ synced) × (new ≡ fresh (tree_now old))
 PlainLine old space reply new = PlainSpace old reply new
+PlainLine old (crash wanted) reply new = PlainCrash old wanted reply new
+PlainLine old (storm seed) reply new = PlainCrashesSomewhere old reply new
+PlainLine old log reply new = PlainLog old reply new
 PlainLine old bad_syntax reply new = PlainTells old syntax reply new
 PlainLine old too_long reply new = PlainTells old long reply new
 

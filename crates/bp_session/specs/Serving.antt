@@ -125,9 +125,10 @@ abbrev pub DoesStop : Moment → Moment → List Command → Type 0
 DoesStop old new commands = (name : List ℕ) (saved : Image) → Holds old.files name saved →
     Stops (state old.memory saved) new.memory (HoldsPartly new.files name) commands old.taken new.taken
 
--- The region keeps its size, the same file is attached, and what was flushed before is flushed where no sync failed.
+-- The region keeps its size and the room of its log, the same file is attached, and what was flushed before is flushed where no sync failed.
 pub record Keeps (status : ℕ) (old new : Moment) : Type 0 where
   pub size : length new.memory.base ≡ length old.memory.base
+  pub capacity : new.memory.capacity ≡ old.memory.capacity
   pub attached : StaysAttached old.files new.files
   pub flushed : ¬ (status ≡ 5) → old.files.is_flushed ≡ true → new.files.is_flushed ≡ true
 

@@ -1,15 +1,19 @@
 -- What a run of a script does, and what it answers.
-use Rattle.std.specs.Prelude.{◌≡◌, ℕ, List, [], ◌∷◌}
-use Rattle.pm_region.specs.Memory.{Memory, current_words, drained}
+use Rattle.std.specs.Prelude.{◌≡◌, ◌⊎◌, ℕ, List, [], ◌∷◌, length}
+use Rattle.pm_epochs.specs.Log.{barriers, marks}
+use Rattle.pm_epochs.specs.Replay.{Cut, IsRight, kept_calls}
+use Rattle.pm_region.specs.Memory.{Memory, crashed, current_words, drained}
+use Rattle.bp_replay.specs.Wanted.{Wanted, cut_for}
+use Rattle.bp_replay.specs.Storm.{storm_cut}
 use Rattle.bp_layout.specs.Words.{Image}
 use Rattle.bp_layout.specs.Free.{HasFree}
 use Rattle.bp_scan.specs.Totals.{HasLive}
 use Rattle.bp_plain.specs.Calls.{Call, Answer}
 use Rattle.bp_volume.specs.FileCall.{FileCall}
 use Rattle.bp_script.specs.Commands.{Command}
-use Rattle.bp_script.specs.Commands.Command.{file_call, sync, space, bad_syntax, too_long}
+use Rattle.bp_script.specs.Commands.Command.{file_call, sync, space, crash, storm, log, bad_syntax, too_long}
 use Rattle.bp_script.specs.Texts.{LineReply}
-use Rattle.bp_script.specs.Texts.LineReply.{answered, synced, space_of, syntax, long}
+use Rattle.bp_script.specs.Texts.LineReply.{answered, synced, space_of, kept_of, log_of, bad_choice, syntax, long}
 
 -- the region, and the words that the file holds
 pub record State : Type 0 where
@@ -19,6 +23,10 @@ pub record State : Type 0 where
 -- all is written back, and the file holds it
 abbrev pub synced_state : State → State
 synced_state s = record { memory = drained s.memory; saved = current_words s.memory }
+
+-- the words are those that the cut leaves, with an empty log, and the file is as before
+abbrev pub crashed_state : State → Cut → State
+crashed_state s cut = record { memory = crashed s.memory cut; saved = s.saved }
 
 -- ---- one line
 
@@ -46,10 +54,29 @@ pub record TellsSpace (old : State) (reply : LineReply) (new : State) : Type 0 w
   pub has_live : HasLive (current_words old.memory) live
   pub same : new ≡ old
 
+-- A crash: the calls that the cut keeps are told, and how many the log had.
+pub record Crashes (old : State) (cut : Cut) (reply : LineReply) (new : State) : Type 0 where
+  pub right : IsRight old.memory.events cut
+  pub told : reply ≡ kept_of (kept_calls old.memory.events cut) (marks old.memory.events)
+  pub done : new ≡ crashed_state old cut
+
+-- the log does not allow the cut, and nothing is done
+pub record RefusesCut (old : State) (cut : Cut) (reply : LineReply) (new : State) : Type 0 where
+  pub wrong : ¬ IsRight old.memory.events cut
+  pub told : reply ≡ bad_choice
+  pub same : new ≡ old
+
+-- how many events, barriers and calls the log has
+abbrev pub log_reply : State → LineReply
+log_reply s = log_of (length s.memory.events) (barriers s.memory.events) (marks s.memory.events)
+
 abbrev pub Line : State → Command → LineReply → State → Type 0
 Line old (file_call call) reply new = AnswersCall old call reply new
 Line old sync reply new = Syncs old reply new
 Line old space reply new = TellsSpace old reply new
+Line old (crash wanted) reply new = let cut = cut_for old.memory.events wanted in Crashes old cut reply new ⊎ RefusesCut old cut reply new
+Line old (storm seed) reply new = Crashes old (storm_cut old.memory.events seed) reply new
+Line old log reply new = Tells old (log_reply old) reply new
 Line old bad_syntax reply new = Tells old syntax reply new
 Line old too_long reply new = Tells old long reply new
 

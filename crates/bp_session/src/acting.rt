@@ -1,13 +1,18 @@
 //! What one line does.
 
-ghost use Rattle.std.specs.Prelude.{◌≡◌, IfOk, OnErr, OnOk, length, true};
+ghost use Rattle.std.specs.Prelude.{◌≡◌, ◌≤◌, IfOk, OnErr, OnOk, length, true};
+ghost use Rattle.pm_epochs.specs.Log.{barriers, marks};
 ghost use Rattle.bp_io.specs.Causes.{HasCause};
 ghost use Rattle.bp_io.specs.Files.{StaysAttached};
+ghost use Rattle.bp_limits.specs.Limits.{log_events, max_mask};
+ghost use Rattle.bp_replay.specs.Storm.{storm_cut};
+ghost use Rattle.bp_replay.specs.Wanted.{cut_for, mask_places, wanted_by};
 ghost use Rattle.bp_script.specs.Commands.Command.{sync};
 ghost use Rattle.bp_script.specs.Commands.{command_of};
-ghost use Rattle.bp_session.specs.Acting.{Does, reply_of};
+ghost use Rattle.bp_session.specs.Acting.{CrashesTo, Does, HasCrashed, reply_of};
 ghost use Rattle.bp_session.specs.Files.{IsReady};
 ghost use Rattle.bp_session.specs.Serving.{DoesLine, FailsLine};
+ghost use Rattle.bp_session.specs.declared.outcome.Outcome.TheVariants.{Logged};
 ghost use Rattle.bp_session.specs.Work.{answer_in, line_in};
 
 use crate::outcome::Outcome;
@@ -15,14 +20,90 @@ use crate::saving::save;
 use crate::work::LineBuffers;
 use bp_io::{Failed, Files};
 use bp_limits::MAX_LINE;
+use bp_replay::{Cut, choice_of, storm};
 use bp_script::{Line, Syntax};
 use bp_volume::Volume;
+use pm_epochs::{BadChoice, Choice, Event};
 use pm_region::Region;
+use pm_steps::Backs;
 use std::alloc::Global;
 
+// Crashes a volume to a choice.
+fn crash_to<R: Region>(volume: &mut Volume<R>, choice: &Choice) -> Outcome
+    ensures { CrashesTo volume.old choice.now.cut result volume.new }
+{
+    match volume.crash(choice) {
+        Ok(kept) => Outcome::Kept {
+            c: kept.c,
+            n: kept.n,
+        },
+        Err(BadChoice) => Outcome::BadChoice,
+    }
+}
+
+// Crashes a volume to what a line asks to keep.
+fn crash<R: Region>(volume: &mut Volume<R>, asked: &Cut<'_>, choice: &mut Choice) -> Outcome
+    requires roomy { volume.old.capacity ≤ log_events }
+    requires mask { mask_places asked.now ≤ max_mask }
+    requires room { choice.old.room ≡ max_mask }
+    ensures crashes { CrashesTo volume.old (cut_for volume.old.events (wanted_by asked.now)) result volume.new }
+    ensures room { choice.new.room ≡ choice.old.room }
+{
+    // The log is no longer than its room.
+    let _events = volume.region().event_count();
+    match choice_of(volume.region(), asked, choice) {
+        Ok(()) => crash_to(volume, choice),
+        Err(BadChoice) => Outcome::BadChoice,
+    }
+}
+
+// Crashes a volume to what a storm leaves.
+fn crash_by_storm<R: Region>(
+    volume: &mut Volume<R>,
+    seed: u64,
+    backs: &mut Backs,
+    choice: &mut Choice,
+) -> Outcome
+    requires roomy { volume.old.capacity ≤ log_events }
+    requires flags { backs.old.room ≡ log_events }
+    requires room { choice.old.room ≡ max_mask }
+    ensures crashes { HasCrashed volume.old (storm_cut volume.old.events seed) result volume.new }
+    ensures flags { backs.new.room ≡ backs.old.room }
+    ensures room { choice.new.room ≡ choice.old.room }
+{
+    // The log is no longer than its room.
+    let _events = volume.region().event_count();
+    storm(volume.region(), seed, backs, choice);
+    crash_to(volume, choice)
+}
+
+// Counts what the log of a region has.
+fn count_log<R: Region>(region: &R) -> Outcome
+    ensures { result ≡ Logged (length (R.memory region.now).events) (barriers (R.memory region.now).events)
+        (marks (R.memory region.now).events) }
+{
+    let events = region.event_count();
+    let mut barriers: usize = 0;
+    let mut calls: usize = 0;
+    for i in 0..events {
+        match region.event(i) {
+            Event::Store { .. } => {}
+            Event::Barrier => barriers += 1,
+            Event::Mark => calls += 1,
+        }
+    }
+    Outcome::Logged {
+        events,
+        barriers,
+        calls,
+    }
+}
+
 /// Does what the line of the buffers asks for, over a volume alone. The answer of a call stands in the buffers' reply. At
-/// `Outcome::Synced` all is written back, and a file that is to hold it is to be saved.
+/// `Outcome::Synced` all is written back, and a file that is to hold it is to be saved. The volume's log is to have no more
+/// room than the memory of the buffers.
 pub fn act<R: Region>(alloc: Global, volume: &mut Volume<R>, buffers: &mut LineBuffers) -> Outcome
+    requires { volume.old.capacity ≤ log_events }
     ensures does { Does volume.old (command_of (line_in buffers.old)) result (answer_in buffers.new) volume.new }
     ensures line { line_in buffers.new ≡ line_in buffers.old }
 {
@@ -45,6 +126,11 @@ pub fn act<R: Region>(alloc: Global, volume: &mut Volume<R>, buffers: &mut LineB
                 live: space.live,
             }
         }
+        Ok(Line::Crash(asked)) => crash(volume, &asked, &mut buffers.choice),
+        Ok(Line::Storm(seed)) => {
+            crash_by_storm(volume, seed, &mut buffers.backs, &mut buffers.choice)
+        }
+        Ok(Line::Log) => count_log(volume.region()),
         Err(Syntax) => Outcome::BadSyntax,
     }
 }
@@ -56,7 +142,8 @@ pub(crate) fn act_and_save<R: Region, F: Files>(
     buffers: &mut LineBuffers,
     files: &mut F,
 ) -> Result<Outcome, Failed>
-    requires { IsReady volume.old.base (F.view files.old) }
+    requires ready { IsReady volume.old.base (F.view files.old) }
+    requires roomy { volume.old.capacity ≤ log_events }
     ensures does { IfOk result (λ outcome. DoesLine volume.old (F.view files.old) (command_of (line_in buffers.old))
         (reply_of outcome (answer_in buffers.new)) volume.new (F.view files.new)) }
     ensures fails { OnErr result (FailsLine volume.old (F.view files.old) (command_of (line_in buffers.old))
@@ -64,6 +151,7 @@ pub(crate) fn act_and_save<R: Region, F: Files>(
     ensures synced { OnOk result (command_of (line_in buffers.old) ≡ sync → (F.view files.new).is_flushed ≡ true) }
     ensures flushed { OnOk result ((F.view files.old).is_flushed ≡ true → (F.view files.new).is_flushed ≡ true) }
     ensures size { length volume.new.base ≡ length volume.old.base }
+    ensures capacity { volume.new.capacity ≡ volume.old.capacity }
     ensures attached { StaysAttached (F.view files.old) (F.view files.new) }
     ensures line { line_in buffers.new ≡ line_in buffers.old }
     ensures cause { HasCause (F.view files.old).faults (F.view files.new).faults result }

@@ -14,6 +14,24 @@ pub enum Outcome {
         /// The number of live blocks.
         live: u32,
     },
+    /// The region crashed, and goes on with what was kept.
+    Kept {
+        /// The number of calls that were kept.
+        c: usize,
+        /// The number of calls that the log had.
+        n: usize,
+    },
+    /// The log was counted.
+    Logged {
+        /// The number of its events.
+        events: usize,
+        /// The number of its barriers.
+        barriers: usize,
+        /// The number of its calls.
+        calls: usize,
+    },
+    /// The log does not allow such a crash, and nothing was done.
+    BadChoice,
     /// The line is none of the grammar.
     BadSyntax,
     /// The line is too long.

@@ -5,6 +5,7 @@ ghost use Rattle.std.specs.Prelude.{◌≡◌, ◌≤◌, ◌∷◌, ◌++◌, L
 ghost use Rattle.std.specs.Io.{ReadsAtMost};
 ghost use Rattle.std.specs.Io.KnownBytes.{ReadConsumes};
 ghost use Rattle.bp_io.specs.Causes.{HasCause};
+ghost use Rattle.bp_limits.specs.Limits.{log_events};
 ghost use Rattle.bp_script.specs.Commands.Command.{sync};
 ghost use Rattle.bp_script.specs.Commands.{command_of};
 ghost use Rattle.bp_session.specs.Files.{IsReady};
@@ -32,12 +33,14 @@ pub fn serve_line<R: Region, K: Sink, F: Files>(
     out: &mut K,
     files: &mut F,
 ) -> u8
-    requires { IsReady volume.old.base (F.view files.old) }
+    requires ready { IsReady volume.old.base (F.view files.old) }
+    requires roomy { volume.old.capacity ≤ log_events }
     ensures outcome { LineOutcome result (command_of (held_line work.old) ∷ [])
         (moment volume.old (F.view files.old) (K.taken out.old) (K.faults out.old))
         (moment volume.new (F.view files.new) (K.taken out.new) (K.faults out.new)) }
     ensures synced { ¬ (result ≡ 5) → command_of (held_line work.old) ≡ sync → (F.view files.new).is_flushed ≡ true }
     ensures ready { IsReady volume.new.base (F.view files.new) }
+    ensures capacity { volume.new.capacity ≡ volume.old.capacity }
     ensures line { held_line work.new ≡ held_line work.old }
     ensures piece { read_piece work.new ≡ read_piece work.old }
 {
@@ -59,7 +62,8 @@ fn end_line<R: Region, K: Sink, F: Files>(
     out: &mut K,
     files: &mut F,
 ) -> u8
-    requires { IsReady volume.old.base (F.view files.old) }
+    requires ready { IsReady volume.old.base (F.view files.old) }
+    requires roomy { volume.old.capacity ≤ log_events }
     ensures outcome { PieceOutcome result (held_line work.old) (10 ∷ []) (held_line work.new)
         (moment volume.old (F.view files.old) (K.taken out.old) (K.faults out.old))
         (moment volume.new (F.view files.new) (K.taken out.new) (K.faults out.new)) }
@@ -105,6 +109,7 @@ fn take_piece<R: Region, K: Sink, F: Files>(
     files: &mut F,
 ) -> u8
     requires ready { IsReady volume.old.base (F.view files.old) }
+    requires roomy { volume.old.capacity ≤ log_events }
     requires inside { count ≤ piece_size }
     ensures { PieceOutcome result (held_line work.old) (take count (read_piece work.old)) (held_line work.new)
         (moment volume.old (F.view files.old) (K.taken out.old) (K.faults out.old))
@@ -131,7 +136,8 @@ fn finish<R: Region, K: Sink, F: Files>(
     out: &mut K,
     files: &mut F,
 ) -> u8
-    requires { IsReady volume.old.base (F.view files.old) }
+    requires ready { IsReady volume.old.base (F.view files.old) }
+    requires roomy { volume.old.capacity ≤ log_events }
     ensures { LineOutcome result (commands_from (held_line work.old) [])
         (moment volume.old (F.view files.old) (K.taken out.old) (K.faults out.old))
         (moment volume.new (F.view files.new) (K.taken out.new) (K.faults out.new)) }
@@ -161,11 +167,13 @@ pub fn serve<R: Region, S: Source, K: Sink, F: Files>(
     out: &mut K,
     files: &mut F,
 ) -> u8
-    requires { IsReady volume.old.base (F.view files.old) }
+    requires ready { IsReady volume.old.base (F.view files.old) }
+    requires roomy { volume.old.capacity ≤ log_events }
     ensures outcome { ServeOutcome result (told (S.left src.old) (S.faults src.old)) (told (S.left src.new) (S.faults src.new))
         (moment volume.old (F.view files.old) (K.taken out.old) (K.faults out.old))
         (moment volume.new (F.view files.new) (K.taken out.new) (K.faults out.new)) }
     ensures ready { IsReady volume.new.base (F.view files.new) }
+    ensures capacity { volume.new.capacity ≡ volume.old.capacity }
 {
     work.buffers.line.clear();
     let mut taken: usize = 0;

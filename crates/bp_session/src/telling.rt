@@ -80,6 +80,20 @@ pub(crate) fn tell<K: Sink>(
         Outcome::Answered => tell_answer(reply, text, out),
         Outcome::Synced => tell_line(&Said::Synced, text, out),
         Outcome::Counted { free, live } => tell_line(&Said::Space { free, live }, text, out),
+        Outcome::Kept { c, n } => tell_line(&Said::Kept { c, n }, text, out),
+        Outcome::Logged {
+            events,
+            barriers,
+            calls,
+        } => {
+            let said = Said::Log {
+                events,
+                barriers,
+                calls,
+            };
+            tell_line(&said, text, out)
+        }
+        Outcome::BadChoice => tell_line(&Said::BadChoice, text, out),
         Outcome::BadSyntax => tell_line(&Said::Syntax, text, out),
         Outcome::TooLong => tell_line(&Said::LongLine, text, out),
     }

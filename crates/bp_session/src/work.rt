@@ -2,12 +2,14 @@
 
 ghost use Rattle.bp_script.specs.Lines.{decoded_room};
 ghost use Rattle.std.specs.Prelude.{◌+◌, ◌≡◌, ◌≤◌, IfOk, [], vec_capacity, vec_len};
-ghost use Rattle.bp_limits.specs.Limits.{max_line, max_text};
+ghost use Rattle.bp_limits.specs.Limits.{log_events, max_line, max_mask, max_text};
 ghost use Rattle.bp_session.specs.Pieces.{piece_size};
 
-use bp_limits::{MAX_LINE, MAX_TEXT};
+use bp_limits::{LOG_EVENTS, MAX_LINE, MAX_MASK, MAX_TEXT};
 use bp_plain::Reply;
 use bp_script::Decoded;
+use pm_epochs::Choice;
+use pm_steps::Backs;
 use std::alloc::{AllocError, Global};
 
 // The bytes of a read.
@@ -20,10 +22,14 @@ pub struct LineBuffers {
     pub(crate) decoded: Decoded,
     pub(crate) reply: Reply,
     pub(crate) text: Vec<u8>,
+    pub(crate) choice: Choice,
+    pub(crate) backs: Backs,
     ghost room: { max_line + 1 ≤ vec_capacity line },
     ghost fits: { vec_len line ≤ max_line + 1 },
     ghost decodes: { max_line ≤ decoded_room decoded },
     ghost spelled: { vec_len text ≡ max_text },
+    ghost chooses: { choice.room ≡ max_mask },
+    ghost storms: { backs.room ≡ log_events },
 }
 
 impl LineBuffers {
@@ -39,6 +45,8 @@ impl LineBuffers {
             decoded: Decoded::new(alloc, MAX_LINE)?,
             reply: Reply::new(alloc)?,
             text: vec![in alloc; 0; MAX_TEXT]?,
+            choice: Choice::new(alloc, MAX_MASK)?,
+            backs: Backs::new(alloc, LOG_EVENTS)?,
         })
     }
 

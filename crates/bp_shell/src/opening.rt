@@ -4,7 +4,7 @@ ghost use Rattle.std.specs.Prelude.{◌≡◌, ◌≤◌, ◌*◌, List, ℕ, �
 ghost use Rattle.bp_io.specs.Files.{Known, Reads, makes, may_change};
 ghost use Rattle.bp_layout.specs.WellFormed.{IsWellFormed};
 ghost use Rattle.bp_layout.specs.Words.{Image, block_count};
-ghost use Rattle.bp_limits.specs.Limits.{block_words};
+ghost use Rattle.bp_limits.specs.Limits.{block_words, log_events};
 ghost use Rattle.bp_script.specs.declared.notices.Notice.{Notice};
 ghost use Rattle.bp_session.specs.Files.{AreWordsOf64Bits, HasImage, Holds, HoldsFront, IsReady};
 ghost use Rattle.bp_shell.specs.Opening.{HasSized, HoldsFileSystem, RefusesFile, start};
@@ -116,6 +116,7 @@ pub fn open<F: Files>(alloc: Global, name: &str, files: &mut F) -> Result<Volume
     ensures opened { IfOk result (λ volume. (image : Image) × HoldsFileSystem ((F.view files.old).contents name.now) image
         × (volume ≡ (start image).memory) × Holds (F.view files.new) name.now image) }
     ensures ready { IfOk result (λ volume. IsReady volume.base (F.view files.new)) }
+    ensures capacity { IfOk result (λ volume. volume.capacity ≡ log_events) }
     ensures reason { IfErr result (IsReason ((F.view files.old).contents name.now)) }
     ensures cause { HasStopCause (F.view files.old).faults (F.view files.new).faults result }
     ensures file { (F.view files.new).contents name.now ≡ (F.view files.old).contents name.now }

@@ -1,8 +1,12 @@
-use Rattle.std.proofs.Common.{arith, ap, ◌∙◌}
+use Rattle.std.proofs.Common.{arith, ap, ◌∙◌, length}
 use Rattle.bp_script.specs.Commands.{in_grammar}
-use Rattle.bp_script.specs.Commands.Command.{bad_syntax, space, sync}
-use Rattle.bp_session.proofs.ActingLaws.{command_long, command_short, does_call, does_long, does_space, does_sync, does_syntax}
+use Rattle.bp_script.specs.Commands.Command.{bad_syntax, crash, log, space, storm, sync}
+use Rattle.bp_session.proofs.ActingLaws.{command_long, command_short, does_call, does_crash, does_log, does_long, does_space, does_storm, does_sync, does_syntax, mask_fits}
+use Rattle.bp_session.proofs.ShortReads.{short_call}
 use Rattle.bp_session.proofs.acting.act.Goals as goal
+
+pub apply-requires : goal.apply-requires
+apply-requires g c = short_call c.deref.result.now _ (rw c.in-Ok-Call.field-0-is at c.in-Ok-Call.ensures.meaning)
 
 pub returns-then-len-gt-MAX_LINE-clause-does : goal.returns-then-len-gt-MAX_LINE-clause-does
 returns-then-len-gt-MAX_LINE-clause-does g c = rw (command_long c.args.buffers.now.line.items (omega arith)) (does_long c.args.volume.now _)
@@ -21,3 +25,22 @@ pub returns-in-Ok-Space-clause-does : goal.returns-in-Ok-Space-clause-does
 returns-in-Ok-Space-clause-does g c =
     let asked = command_short c.args.buffers.now.line.items space (omega arith) (let meant = rw c.in-Ok-Space.field-0-is at c.in-Ok-Space.ensures.meaning in meant ∙ ap in_grammar c.deref.ensures.value) in
     rw (← asked) (does_space c.args.volume.now _ _ _ c.space-space.ensures.free c.space-space.ensures.live)
+
+pub returns-in-Ok-Crash-clause-does : goal.returns-in-Ok-Crash-clause-does
+returns-in-Ok-Crash-clause-does g c =
+    let asked = command_short c.args.buffers.now.line.items _ (omega arith) (let meant = rw c.in-Ok-Crash.field-0-is at c.in-Ok-Crash.ensures.meaning in meant ∙ ap in_grammar c.deref.ensures.value) in
+    rw (← asked) (does_crash c.args.volume.now _ _ _ _ c.crash.ensures.crashes)
+
+pub returns-in-Ok-Storm-clause-does : goal.returns-in-Ok-Storm-clause-does
+returns-in-Ok-Storm-clause-does g c =
+    let asked = command_short c.args.buffers.now.line.items _ (omega arith) (let meant = rw c.in-Ok-Storm.field-0-is at c.in-Ok-Storm.ensures.meaning in meant ∙ ap in_grammar c.deref.ensures.value) in
+    rw (← asked) (does_storm c.args.volume.now _ _ _ _ c.crash_by_storm.ensures.crashes)
+
+pub returns-in-Ok-Log-clause-does : goal.returns-in-Ok-Log-clause-does
+returns-in-Ok-Log-clause-does g c =
+    let asked = command_short c.args.buffers.now.line.items log (omega arith) (let meant = rw c.in-Ok-Log.field-0-is at c.in-Ok-Log.ensures.meaning in meant ∙ ap in_grammar c.deref.ensures.value) in
+    rw (← asked) (does_log c.args.volume.now _ _ (rw c.region.ensures.memory at c.count_log.ensures))
+
+pub crash-requires-clause-mask : goal.crash-requires-clause-mask
+crash-requires-clause-mask g c =
+    mask_fits _ (length c.args.buffers.now.line.items) (omega arith) (rw c.deref.ensures.value at (rw c.in-Ok-Crash.field-0-is at c.in-Ok-Crash.ensures.mask))

@@ -7,7 +7,7 @@ use Rattle.bp_session.proofs.SavingLaws.{still_attached, still_ready}
 use Rattle.bp_session.proofs.acting.act_and_save.Goals as goal
 
 pub save-requires : goal.save-requires
-save-requires g c = rw c.region.ensures.memory (still_ready _ _ _ _ c.requires c.act.ensures.does.size (still_attached _))
+save-requires g c = rw c.region.ensures.memory (still_ready _ _ _ _ c.requires.ready c.act.ensures.does.size (still_attached _))
 
 pub returns-in-Ok-clause-does : goal.returns-in-Ok-clause-does
 returns-in-Ok-clause-does g c = λ name saved file.
@@ -31,6 +31,7 @@ returns-in_default g c = record {
   synced = λ e. absurd (c.in_default.not-Synced (c.act.ensures.does.synced e));
   flushed = λ e. e;
   size = c.act.ensures.does.size;
+  capacity = c.act.ensures.does.capacity;
   attached = still_attached _;
   line = c.act.ensures.line;
   cause = search rules;

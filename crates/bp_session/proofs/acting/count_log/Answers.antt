@@ -1,0 +1,25 @@
+use Rattle.std.proofs.Common.{arith, ◌≡◌, ◌+◌, take}
+use Rattle.pm_epochs.specs.Log.{barriers, marks}
+use Rattle.bp_session.proofs.ActingLaws.{one_more_barrier, one_more_mark}
+use Rattle.bp_session.proofs.acting.count_log.Goals as goal
+use Rattle.bp_session.proofs.acting.count_log.Goals.{in-Store, in-Barrier, in-Mark}
+
+pub loop-i-preserved : goal.loop-i-preserved
+loop-i-preserved g c =
+    let events = (g.R.Region.memory c.args.region.now).events in
+    let more_barriers = one_more_barrier events c.loop-i.i c.event.result c.event.ensures.get in
+    let more_marks = one_more_mark events c.loop-i.i c.event.result c.event.ensures.get in
+    elim c.match-event.branch [
+      | in-Store w ↦
+          let b = rw w.in-Store.is at more_barriers in
+          let m = rw w.in-Store.is at more_marks in
+          record { barriers = omega (arith, b, w.barriers-is); calls = omega (arith, m, w.calls-is); few_barriers = omega (arith, w.barriers-is); few_calls = omega (arith, w.calls-is) }
+      | in-Barrier w ↦
+          let b = rw w.in-Barrier.is at more_barriers in
+          let m = rw w.in-Barrier.is at more_marks in
+          record { barriers = omega (arith, b, w.barriers-is); calls = omega (arith, m, w.calls-is); few_barriers = omega (arith, w.barriers-is); few_calls = omega (arith, w.calls-is) }
+      | in-Mark w ↦
+          let b = rw w.in-Mark.is at more_barriers in
+          let m = rw w.in-Mark.is at more_marks in
+          record { barriers = omega (arith, b, w.barriers-is); calls = omega (arith, m, w.calls-is); few_barriers = omega (arith, w.barriers-is); few_calls = omega (arith, w.calls-is) }
+    ]

@@ -1,7 +1,7 @@
 -- What a rename is asked for, and which change it is.
-use Rattle.std.specs.Prelude.{◌≡◌, ℕ, ◌==◌, length, Option, None, Some, if◌then◌else◌}
+use Rattle.std.specs.Prelude.{◌≡◌, ◌≢◌, ℕ, ◌==◌, length, Option, None, Some, if◌then◌else◌}
 use Rattle.bp_changes.specs.Effects.{IsAtOrBelow}
-use Rattle.bp_layout.specs.Directory.{EntryNames, IsName, inumber_at, slot_named}
+use Rattle.bp_layout.specs.Directory.{EntryNames, IsName, empty_slot, inumber_at, slot_named}
 use Rattle.bp_layout.specs.Inode.{kind_of}
 use Rattle.bp_layout.specs.Need.{Change}
 use Rattle.bp_layout.specs.Need.Change.{moves, replaces, respells}
@@ -35,3 +35,8 @@ change_to i s j len None = if i == j then respells i s len else moves i s j
 
 abbrev pub change_of : Move → Change
 change_of move = change_to move.from_dir move.from_slot move.to_dir (length move.name.now) move.to_slot
+
+-- where the name moves to another directory and is new there, this is the least empty slot of that directory
+abbrev pub IsSlotAcross : Image → Move → Option ℕ → Type 0
+IsSlotAcross image move slot = move.to_slot ≡ None → move.from_dir ≢ move.to_dir →
+    slot ≡ empty_slot image move.to_dir

@@ -18,7 +18,7 @@ use crate::moving::Move;
 use crate::touching::{entry_path, two_words};
 use bp_calls::tree_of;
 use bp_cow::{Touched, commit, need_cover};
-use bp_dirs::{entry_place, free_slot, inumber, put_name};
+use bp_dirs::{entry_place, inumber, put_name};
 use bp_free::Parts;
 use pm_region::Region;
 
@@ -71,25 +71,28 @@ fn move_into<R: Region>(parts: &mut Parts<R>, to_move: &Move<'_>, slot: u64)
     commit(parts, &touched);
 }
 
-/// How many blocks a name needs that moves to another directory, in which it is new.
-pub(crate) fn need_across<R: Region>(region: &R, to_move: &Move<'_>) -> u32
+/// How many blocks a name needs that moves to another directory, in which it is new, given that directory's least empty
+/// slot.
+pub(crate) fn need_across<R: Region>(region: &R, to_move: &Move<'_>, slot: Option<u64>) -> u32
     requires can { CanRename (current_words (R.memory region.now)) to_move.now }
     requires new { to_move.now.to_slot ≡ None }
     requires other { to_move.now.from_dir ≢ to_move.now.to_dir }
+    requires slot { slot ≡ empty_slot (current_words (R.memory region.now)) to_move.now.to_dir }
     ensures { result ≡ need (current_words (R.memory region.now))
         (moves to_move.now.from_dir to_move.now.from_slot to_move.now.to_dir) }
 {
-    match free_slot(region, tree_of(region, to_move.to_dir)) {
+    match slot {
         Some(slot) => need_into(region, to_move, slot),
         None => need_behind(region, to_move),
     }
 }
 
-/// Moves a name to another directory, in which it is new.
-pub(crate) fn rename_across<R: Region>(parts: &mut Parts<R>, to_move: &Move<'_>)
+/// Moves a name to another directory, in which it is new, into its least empty slot or behind its last entry.
+pub(crate) fn rename_across<R: Region>(parts: &mut Parts<R>, to_move: &Move<'_>, slot: Option<u64>)
     requires can { CanRename (current_words (R.memory parts.old.region)) to_move.now }
     requires new { to_move.now.to_slot ≡ None }
     requires other { to_move.now.from_dir ≢ to_move.now.to_dir }
+    requires slot { slot ≡ empty_slot (current_words (R.memory parts.old.region)) to_move.now.to_dir }
     requires exact { AreExact (current_words (R.memory parts.old.region)) parts.old.blocks parts.old.inodes }
     requires enough { need (current_words (R.memory parts.old.region))
         (moves to_move.now.from_dir to_move.now.from_slot to_move.now.to_dir) ≤ length (members parts.old.blocks) }
@@ -98,7 +101,7 @@ pub(crate) fn rename_across<R: Region>(parts: &mut Parts<R>, to_move: &Move<'_>)
         (moves to_move.now.from_dir to_move.now.from_slot to_move.now.to_dir) (RenamesEntry to_move.now) }
     ensures exact { AreExact (current_words (R.memory parts.new.region)) parts.new.blocks parts.new.inodes }
 {
-    match free_slot(&parts.region, tree_of(&parts.region, to_move.to_dir)) {
+    match slot {
         Some(slot) => move_into(parts, to_move, slot),
         None => move_behind(parts, to_move),
     }

@@ -2,23 +2,46 @@
 
 ghost use Rattle.std.specs.Prelude.{◌≡◌};
 ghost use Rattle.bp_layout.specs.Need.{need};
-ghost use Rattle.bp_rename.specs.CanRename.{CanRename, change_of};
+ghost use Rattle.bp_rename.specs.CanRename.{CanRename, IsSlotAcross, change_of};
 ghost use Rattle.pm_region.specs.Memory.{current_words};
 
 use crate::across::need_across;
 use crate::moving::Move;
 use crate::onto::need_onto;
 use crate::within::need_within;
+use bp_calls::tree_of;
+use bp_dirs::free_slot;
 use pm_region::Region;
+
+/// The least empty slot of the new directory. It is sought only where the name moves across, and is new there.
+pub(crate) fn slot_across<R: Region>(region: &R, to_move: &Move<'_>) -> Option<u64>
+    requires { CanRename (current_words (R.memory region.now)) to_move.now }
+    ensures { IsSlotAcross (current_words (R.memory region.now)) to_move.now result }
+{
+    match to_move.to_slot {
+        Some(_) => None,
+        None if to_move.from_dir == to_move.to_dir => None,
+        None => free_slot(region, tree_of(region, to_move.to_dir)),
+    }
+}
+
+/// What [`need`] tells, given what [`slot_across`] does.
+pub(crate) fn need_with<R: Region>(region: &R, to_move: &Move<'_>, empty: Option<u64>) -> u32
+    requires can { CanRename (current_words (R.memory region.now)) to_move.now }
+    requires empty { IsSlotAcross (current_words (R.memory region.now)) to_move.now empty }
+    ensures { result ≡ need (current_words (R.memory region.now)) (change_of to_move.now) }
+{
+    match to_move.to_slot {
+        Some(slot) => need_onto(region, to_move, slot),
+        None if to_move.from_dir == to_move.to_dir => need_within(region, to_move),
+        None => need_across(region, to_move, empty),
+    }
+}
 
 /// How many blocks a rename needs. No block has to be free for it.
 pub fn need<R: Region>(region: &R, to_move: &Move<'_>) -> u32
     requires can { CanRename (current_words (R.memory region.now)) to_move.now }
     ensures { result ≡ need (current_words (R.memory region.now)) (change_of to_move.now) }
 {
-    match to_move.to_slot {
-        Some(slot) => need_onto(region, to_move, slot),
-        None if to_move.from_dir == to_move.to_dir => need_within(region, to_move),
-        None => need_across(region, to_move),
-    }
+    need_with(region, to_move, slot_across(region, to_move))
 }

@@ -11,7 +11,7 @@ ghost use Rattle.pm_region.specs.Memory.{current_words, room_in};
 
 use crate::across::rename_across;
 use crate::moving::Move;
-use crate::needing::need;
+use crate::needing::{need_with, slot_across};
 use crate::onto::rename_onto;
 use crate::within::rename_within;
 use bp_free::{NoSpace, Parts};
@@ -33,7 +33,8 @@ pub fn rename<R: Region>(parts: &mut Parts<R>, to_move: &Move<'_>) -> Result<(),
     ensures refused { IfErr result (LacksSpace (current_words (R.memory parts.old.region)) (change_of to_move.now)) }
     ensures same { OnErr result (parts.new ≡ parts.old) }
 {
-    let need = need(&parts.region, to_move);
+    let empty = slot_across(&parts.region, to_move);
+    let need = need_with(&parts.region, to_move, empty);
     let free = parts.blocks.count();
     if free < need {
         return Err(NoSpace { need, free });
@@ -41,7 +42,7 @@ pub fn rename<R: Region>(parts: &mut Parts<R>, to_move: &Move<'_>) -> Result<(),
     match to_move.to_slot {
         Some(slot) => rename_onto(parts, to_move, slot),
         None if to_move.from_dir == to_move.to_dir => rename_within(parts, to_move),
-        None => rename_across(parts, to_move),
+        None => rename_across(parts, to_move, empty),
     }
     Ok(())
 }

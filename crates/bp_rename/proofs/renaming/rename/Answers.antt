@@ -8,3 +8,6 @@ returns-in-Some-clause-performs g c =
 pub returns-in-None-2-clause-performs : goal.returns-in-None-2-clause-performs
 returns-in-None-2-clause-performs g c =
     across_renames (g.R.Region.memory c.args.parts.now.region) (g.R.Region.memory c.rename_across.new.parts.region) c.args.to_move.now c.in-None-2.is c.if-to_move.false c.rename_across.ensures.performs
+
+pub rename_across-requires-clause-slot : goal.rename_across-requires-clause-slot
+rename_across-requires-clause-slot g c = c.slot_across-empty.ensures c.in-None-2.is c.if-to_move.false

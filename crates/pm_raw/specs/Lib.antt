@@ -1,4 +1,5 @@
 pub mod Ownership
+pub mod Block
 pub mod Lends
 pub mod RawArray
 pub mod RawLends

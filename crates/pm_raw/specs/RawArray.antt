@@ -1,5 +1,6 @@
 -- What an array over raw memory is seen as, and what holds of its parts.
 use Rattle.std.specs.Prelude.{◌≡◌, List, length}
+use Rattle.pm_raw.specs.Block.{IsBlock}
 use Rattle.pm_raw.specs.declared.array.RawArray.TheInside.{Inside}
 
 module _ {T : Type 0} where
@@ -8,9 +9,5 @@ module _ {T : Type 0} where
 
   -- the parts are of one block, and each place holds an item
   pub record IsWhole (array : Inside T) : Type 0 where
-    pub cells_at : array.cells.at ≡ array.base.address
-    pub cells_count : array.cells.count ≡ array.len
+    pub block : IsBlock array.base array.cells array.deed array.len array.alloc
     pub filled : length array.cells.items ≡ array.len
-    pub deed_at : array.deed.at ≡ array.base.address
-    pub deed_count : array.deed.count ≡ array.len
-    pub deed_alloc : array.deed.alloc ≡ array.alloc

@@ -4,7 +4,7 @@ ghost use Rattle.std.specs.Borrow.{sem};
 ghost use Rattle.std.specs.List.{refill};
 ghost use Rattle.std.specs.Vec.Ownership.{FitsInBlock};
 
-use super::cells::{Base, Cells, Deed, allocate, deallocate};
+use super::cells::{Base, Cells, Deed};
 use std::alloc::{AllocError, Global};
 use std::marker::Model;
 
@@ -41,7 +41,7 @@ impl<T: Copy> Drop for RawArray<T> {
             deed,
             alloc,
         } = self;
-        deallocate(&alloc, base, len, cells, deed);
+        Base::deallocate(&alloc, base, len, cells, deed);
     }
 }
 
@@ -67,7 +67,7 @@ impl<T: Copy> RawArray<T> {
         requires { FitsInBlock T.row len }
         ensures { IfOk result (λ array. array ≡ replicate len value) }
     {
-        let (base, mut cells, deed) = allocate(&alloc, len)?;
+        let (base, mut cells, deed) = Base::allocate(&alloc, len)?;
         fill(&mut cells, base, len, value);
         Ok(RawArray {
             base,

@@ -57,45 +57,49 @@ impl<T, A: Allocator> Model for Deed<T, A> {
     ghost also_shares = { λ _ _ _. ftrue };
 }
 
-/// A block of so many places, all empty. Fails only for want of memory.
-pub(crate) fn allocate<T, A: Allocator>(
-    alloc: &A,
-    count: usize,
-) -> Result<(Base<T>, Cells<T>, Deed<T, A>), AllocError>
-    requires { FitsInBlock T.row count }
-    ensures { IfOk result (λ block. (block.1.at ≡ block.0.address) × (block.1.items ≡ []) × (block.1.count ≡ count) × (block.2.at ≡ block.0.address) × (block.2.count ≡ count) × (block.2.alloc ≡ alloc.now)) }
-{
-    match alloc.allocate(count * size_of::<T>(), align_of::<T>()) {
-        Ok(block) => {
-            let base = Base {
-                address: block as *mut T,
-            };
-            let cells = Cells { of: PhantomData };
-            let deed = Deed { of: PhantomData };
-            Ok((base, cells, deed))
-        }
-        Err(error) => Err(error),
-    }
-}
+impl<T> Base<T> {
+    ghost use Rattle.pm_raw.specs.Block.{IsBlock};
 
-/// Gives a block back whose places all hold an item. The items are forgotten, so their type is to be `Copy`.
-pub(crate) fn deallocate<T, A: Allocator>(
-    alloc: &A,
-    base: Base<T>,
-    count: usize,
-    cells: Cells<T>,
-    deed: Deed<T, A>,
-)
-    requires { (cells.at ≡ base.address) × (length cells.items ≡ count) × (cells.count ≡ count) × (deed.at ≡ base.address) × (deed.count ≡ count) × (deed.alloc ≡ alloc.now) }
-{
-    let Cells { of: _ } = cells;
-    let Deed { of: _ } = deed;
-    unsafe {
-        alloc.deallocate(
-            base.address as *mut u8,
-            count * size_of::<T>(),
-            align_of::<T>(),
-        );
+    /// A block of so many places, all empty. Fails only for want of memory.
+    pub(crate) fn allocate<A: Allocator>(
+        alloc: &A,
+        count: usize,
+    ) -> Result<(Base<T>, Cells<T>, Deed<T, A>), AllocError>
+        requires { FitsInBlock T.row count }
+        ensures { IfOk result (λ block. IsBlock block.0 block.1 block.2 count alloc.now × (block.1.items ≡ [])) }
+    {
+        match alloc.allocate(count * size_of::<T>(), align_of::<T>()) {
+            Ok(block) => {
+                let base = Base {
+                    address: block as *mut T,
+                };
+                let cells = Cells { of: PhantomData };
+                let deed = Deed { of: PhantomData };
+                Ok((base, cells, deed))
+            }
+            Err(error) => Err(error),
+        }
+    }
+
+    /// Gives a block back whose places all hold an item. The items are forgotten, so their type is to be `Copy`.
+    pub(crate) fn deallocate<A: Allocator>(
+        alloc: &A,
+        base: Base<T>,
+        count: usize,
+        cells: Cells<T>,
+        deed: Deed<T, A>,
+    )
+        requires { IsBlock base cells deed count alloc.now × (length cells.items ≡ count) }
+    {
+        let Cells { of: _ } = cells;
+        let Deed { of: _ } = deed;
+        unsafe {
+            alloc.deallocate(
+                base.address as *mut u8,
+                count * size_of::<T>(),
+                align_of::<T>(),
+            );
+        }
     }
 }
 
@@ -105,7 +109,7 @@ impl<T> Cells<T> {
     /// Puts an item into the first empty place.
     pub(crate) fn push(&mut self, base: Base<T>, index: usize, item: T)
         requires { (base.address ≡ self.old.at) × (index ≡ length self.old.items) × (index < self.old.count) }
-        ensures { (self.new.at ≡ self.old.at) × (self.new.items ≡ self.old.items ++ item ∷ []) × (self.new.count ≡ self.old.count) }
+        ensures { self.new ≡ record self.old { items = self.old.items ++ item ∷ [] } }
     {
         unsafe { base.address.add(index).write(item) }
     }

@@ -125,6 +125,6 @@ push_spec 𝓤 𝓛 𝓜 𝓡 wired T L =
     move ! (2 ∷ 3 ∷ []) $ join ! $ move ! (1 ∷ 2 ∷ []) $ feq_i ! (List Val) vss.0 (vptr rb ro ∷ []) self_is $ fjoin3 ! $
     nothing ! $ nothing ! $ fjoin ! $ nothing ! $ fjoin ! $ nothing ! $ fjoin ! $ move ! (1 ∷ 0 ∷ []) $ fjoin ! $
     feq_i ! (List Val) (vunit ∷ []) (vunit ∷ []) refl $
-    let Done = (new.at ≡ places.at) × (new.items ≡ items ++ item ∷ []) × (new.count ≡ places.count) in
-    use0 𝓛 (raw (fact 𝓤 Done)) (fact_i 𝓤 Done (emp 𝓤) (refl, refl, refl)) $
+    let Done = new ≡ record places { items = items ++ item ∷ [] } in
+    use0 𝓛 (raw (fact 𝓤 Done)) (fact_i 𝓤 Done (emp 𝓤) refl) $
     move ! (3 ∷ 2 ∷ 1 ∷ 0 ∷ []) $ by ! (leaves 𝓛 (called.ended T) stays clauses y vunit tt (new, (tt, (tt, (tt, tt)))) (tt, (tt, (tt, (tt, tt)))))))))))

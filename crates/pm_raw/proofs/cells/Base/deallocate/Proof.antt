@@ -43,18 +43,19 @@ use Rattle.core.proofs.ptr.Rows.{El, apart, elτ}
 use Rattle.core.proofs.slots.Leases.{block_align, block_size, uncapped}
 use Rattle.std_alloc.proofs.RawLayout.{as_raw}
 use Rattle.std_alloc.proofs.RcSteps.{word, word-Good}
+use Rattle.pm_raw.specs.Block.{IsBlock}
 use Rattle.pm_raw.specs.Ownership.{deed_owns, empty_places, places_own}
 use Rattle.pm_raw.specs.contracts.cells.Base as Base
 use Rattle.pm_raw.specs.contracts.cells.Cells as Cells
 use Rattle.pm_raw.specs.contracts.cells.Deed as Deed
-use Rattle.pm_raw.specs.contracts.cells.deallocate as called
-use Rattle.pm_raw.specs.contracts.cells.deallocate.Key as key
+use Rattle.pm_raw.specs.contracts.cells.Base.deallocate as called
+use Rattle.pm_raw.specs.contracts.cells.Base.deallocate.Key as key
 use Rattle.pm_raw.proofs.Blocks.{empty, emptied, nowhere}
 use Rattle.pm_raw.proofs.cells.Base.TheLaws as base_laws
 use Rattle.pm_raw.proofs.cells.Cells.TheLaws as cells_laws
 use Rattle.pm_raw.proofs.cells.Deed.TheLaws as deed_laws
-use Rattle.pm_raw.proofs.cells.deallocate.Statement.{statement}
-use Rattle.pm_raw.proofs.cells.deallocate.Code as code
+use Rattle.pm_raw.proofs.cells.Base.deallocate.Statement.{statement}
+use Rattle.pm_raw.proofs.cells.Base.deallocate.Code as code
 
 pub deallocate_spec : {M : Type 1} → statement M
 deallocate_spec 𝓤 𝓛 𝓜 𝓡 wired T A L LA g d dd met md =
@@ -101,7 +102,7 @@ deallocate_spec 𝓤 𝓛 𝓜 𝓡 wired T A L LA g d dd met md =
     let y : W.Ghost = ((κs, qs, bounds, a, (shr_vals alloc, (word base.address ∷ [], (vint w64 count ∷ [], (empty ∷ [], (empty ∷ [], tt)))))), ghost) in
     let Post : Val → SProp 𝓤 = W.post y in
     let Runs : Ptr → SProp 𝓤 = λ p. WpFn 𝓤 𝓛.H 𝓣.C 𝓣.Λ function (vptr alloc.ref_ptr.0 alloc.ref_ptr.1 ∷ word p ∷ vint w64 count ∷ empty ∷ empty ∷ []) Post in
-    let Asked = (cells.at ≡ base.address) × (many ≡ count) × (cells.count ≡ count) × (deed.at ≡ base.address) × (deed.count ≡ count) × (deed.alloc ≡ alloc.now) in
+    let Asked = IsBlock base cells deed count alloc.now × (many ≡ count) in
     let alive = ‵ (flft κ q) ⊛ ‵ (flft κs.1.0 qs.1.0) ⊛ ‵ (flft κs.1.1.0 qs.1.1.0) ⊛ ‵ ftrue in
     let own_alloc = ‵ ((ShrRef (named 0) κ Heap).own_val alloc (shr_vals alloc)) in
     let own_base = ‵ ((Base.the_row Item).own_val base (word base.address ∷ [])) in
@@ -118,12 +119,12 @@ deallocate_spec 𝓤 𝓛 𝓜 𝓡 wired T A L LA g d dd met md =
     use1 𝓛 (‵ (froom (ty_array (elτ E) many) b o)) (emptied E 𝓛 items b o) $
     rewrite ! 0 (λ (n : ℕ). ‵ (froom (ty_array (elτ E) n) b o)) asked.1 refl $ as_raw ! (ty_array (elτ E) count) b o $
     move ! (2 ∷ []) $ fsplit ! $ drop ! $
-    let one_block : base.address ≡ block_ptr b o = sym asked.0 ∙ at in
+    let one_block : base.address ≡ block_ptr b o = sym asked.0.cells_at ∙ at in
     rewrite ! 0 (λ (w : A.Denot × Ptr × ℕ). ‵ (deed_owns Item (token Z w.0) w.1 w.2)) {x = (alloc.now, block_ptr b o, count)}
-    (λ i. (asked.5 i, (asked.3 ∙ one_block) i, asked.4 i)) refl $
+    (λ i. (asked.0.deed_alloc i, (asked.0.deed_at ∙ one_block) i, asked.0.deed_count i)) refl $
     move ! (3 ∷ []) $ fsplit ! $ drop ! $ move ! (4 ∷ []) $ split ! $ move ! (4 ∷ 3 ∷ 2 ∷ 0 ∷ []) $ keep ! (0 ∷ 1 ∷ 2 ∷ 3 ∷ 4 ∷ []) $
     -- [the memory; the deed; the allocator; its lifetime's token; the other tokens]
-    let small : count * size < 2 ^ 63 = subst (λ (k : ℕ). k * size < 2 ^ 63) asked.2 room in
+    let small : count * size < 2 ^ 63 = subst (λ (k : ℕ). k * size < 2 ^ 63) asked.0.cells_count room in
     let bytes : count * size < 2 ^ 64 = omega arith in
     let aligned : ℕ = capped (align (elτ E)) in
     let gives = Gives Z 𝓛 𝓜.mem 𝓡.returns in

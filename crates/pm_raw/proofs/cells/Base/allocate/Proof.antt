@@ -54,15 +54,16 @@ use Rattle.core.proofs.ptr.Rows.{El, elτ, empty as no_items}
 use Rattle.core.proofs.slots.Leases.{block_align, block_size, uncapped}
 use Rattle.std_alloc.proofs.RcSteps.{Good, first_Good, word, word-Good}
 use Rattle.std_alloc.proofs.ResultValues.{err_of, ok_of}
+use Rattle.pm_raw.specs.Block.{IsBlock}
 use Rattle.pm_raw.specs.Ownership.{empty_places}
 use Rattle.pm_raw.specs.contracts.cells.Base as Base
 use Rattle.pm_raw.specs.contracts.cells.Cells as Cells
 use Rattle.pm_raw.specs.contracts.cells.Deed as Deed
-use Rattle.pm_raw.specs.contracts.cells.allocate as called
-use Rattle.pm_raw.specs.contracts.cells.allocate.Key as key
+use Rattle.pm_raw.specs.contracts.cells.Base.allocate as called
+use Rattle.pm_raw.specs.contracts.cells.Base.allocate.Key as key
 use Rattle.pm_raw.proofs.Blocks.{empty, made_base, made_empty, side_by_side}
-use Rattle.pm_raw.proofs.cells.allocate.Statement.{statement}
-use Rattle.pm_raw.proofs.cells.allocate.Code as code
+use Rattle.pm_raw.proofs.cells.Base.allocate.Statement.{statement}
+use Rattle.pm_raw.proofs.cells.Base.allocate.Code as code
 
 pub allocate_spec : {M : Type 1} → statement M
 allocate_spec 𝓤 𝓛 𝓜 𝓡 wired T A L LA g d dd met md =
@@ -147,8 +148,9 @@ allocate_spec 𝓤 𝓛 𝓜 𝓡 wired T A L LA g d dd met md =
     use1 𝓛 (‵ (Answer.own_val (Ok block) (live 0 (vcons made vnil) ∷ []))) (ok_of 𝓛 Block AllocError.the_row block made) $
     -- [the answer; the lifetime's token; the others]
     move ! (1 ∷ 2 ∷ []) $ join ! $ nothing ! $ nothing ! $ fjoin ! $ nothing ! $ fjoin ! $
-    let Made = (places.at ≡ start.address) × (places.items ≡ none) × (places.count ≡ count) × (deed.at ≡ start.address) × (deed.count ≡ count) × (deed.alloc ≡ alloc.now) in
-    use0 𝓛 (raw (fact 𝓤 Made)) (fact_i 𝓤 Made (emp 𝓤) (refl, refl, refl, refl, refl, refl)) $
+    let Made = IsBlock start places deed count alloc.now × (places.items ≡ none) in
+    let one_block : IsBlock start places deed count alloc.now = record { cells_at = refl; cells_count = refl; deed_at = refl; deed_count = refl; deed_alloc = refl } in
+    use0 𝓛 (raw (fact 𝓤 Made)) (fact_i 𝓤 Made (emp 𝓤) (one_block, refl)) $
     move ! (2 ∷ 1 ∷ 3 ∷ 0 ∷ []) $ by ! (leaves 𝓛 ended stays clauses y (live 0 (vcons made vnil)) (Ok block) (tt, (tt, tt)) (tt, (tt, tt))))
     (λ is_error.
     let Refusal : RattleType = Struct (Declared.shape AllocError.the_type) in

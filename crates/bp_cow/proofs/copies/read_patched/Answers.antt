@@ -29,7 +29,7 @@ returns-in-Some g c slot few =
     let low : c.args.i < job.leaves = subst (λ n. c.args.i < n) c.leaves-leaves.ensures c.if-i-leaves.true in
     let end : c.args.depth ≡ length (job.way c.args.i) = c.if-depth-end.true ∙ c.way_len-end.ensures in
     c.lay_run.ensures slot few
-    ∙ ap (run_word c.in-Some.run' (512 * (c.first_leaf.result + c.args.i) + slot)) (c.read_block-words.ensures slot few)
+    ∙ ap (run_word c.in-Some.run' (512 * (c.first_leaf.result + c.args.i) + slot)) (c.read_block.ensures slot few)
     ∙ ap (λ n. run_word c.in-Some.run' (512 * (n + c.args.i) + slot) old) c.first_leaf.ensures
     ∙ ap (λ r. patch_of r c.args.i slot old) (sym c.in-Some.is)
     ∙ sym (patch-leaf job c.args.i c.args.depth slot old low end)

@@ -1,6 +1,5 @@
-use Rattle.std.proofs.Common.{◌≡◌, ◌⊎◌, ℕ, ◌+◌, ◌-◌, ◌*◌, ◌/◌, ◌<◌, ◌≤◌, length, ◌∙◌, sym, ap, refl, arith, inl, inr}
+use Rattle.std.proofs.Common.{◌+◌, ◌∙◌, sym, arith, inl, inr}
 use Rattle.std.proofs.lemmas.Bool.{cases_lt}
-use Rattle.bp_cow.specs.Touched.{run_word}
 use Rattle.bp_cow.proofs.RunLaws.{run_end-few, run_word-outside}
 use Rattle.bp_cow.proofs.SlotLaws.{lays_then}
 use Rattle.bp_cow.proofs.lay.lay_run.Goals as goal

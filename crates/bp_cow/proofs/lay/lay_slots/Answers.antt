@@ -1,4 +1,4 @@
-use Rattle.std.proofs.Common.{◌+◌, ◌∙◌, ap, refl, arith, inr}
+use Rattle.std.proofs.Common.{◌+◌, ◌∙◌, ap, arith, inr}
 use Rattle.std.proofs.lemmas.List.{length-set}
 use Rattle.bp_cow.specs.Touched.{run_word}
 use Rattle.bp_cow.proofs.SlotLaws.{lays_none, lays_one_more}

@@ -1,7 +1,6 @@
-use Rattle.std.proofs.Common.{◌≡◌, ℕ, ◌+◌, ◌-◌, ◌*◌, ◌<◌, ◌≤◌, length, get_or, ◌∙◌, ap, refl, arith, inl, inr}
+use Rattle.std.proofs.Common.{◌≡◌, ℕ, ◌+◌, ◌-◌, ◌*◌, get_or, ◌∙◌, ap, arith}
 use Rattle.std.proofs.lemmas.List.{length-set}
-use Rattle.bp_cow.specs.Touched.{run_word, run_end}
-use Rattle.bp_cow.proofs.RunLaws.{run_end-few, run_word-inside}
+use Rattle.bp_cow.proofs.RunLaws.{run_word-inside}
 use Rattle.bp_cow.proofs.SlotLaws.{lays_none, lays_one_more, lays_empty, part_at}
 use Rattle.bp_cow.proofs.lay.set_slots.Goals as goal
 

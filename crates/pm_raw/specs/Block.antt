@@ -5,9 +5,10 @@ use Rattle.pm_raw.specs.declared.cells.Cells.{Cells}
 use Rattle.pm_raw.specs.declared.cells.Deed.{Deed}
 
 -- the address, the places and the deed are those of one block of so many places, from this allocator
-pub record IsBlock {T A : Type 0} (base : Base T) (cells : Cells T) (deed : Deed T A) (count : ℕ) (alloc : A) : Type 0 where
-  pub cells_at : cells.at ≡ base.address
-  pub cells_count : cells.count ≡ count
-  pub deed_at : deed.at ≡ base.address
-  pub deed_count : deed.count ≡ count
-  pub deed_alloc : deed.alloc ≡ alloc
+module _ {T A : Type 0} where
+  pub record IsBlock (base : Base T) (cells : Cells T) (deed : Deed T A) (count : ℕ) (alloc : A) : Type 0 where
+    pub cells_at : cells.at ≡ base.address
+    pub cells_count : cells.count ≡ count
+    pub deed_at : deed.at ≡ base.address
+    pub deed_count : deed.count ≡ count
+    pub deed_alloc : deed.alloc ≡ alloc

@@ -26,7 +26,8 @@ module _ (R : RattleType) where
 
   -- a `&` reaches the items
   abbrev pub places_lend : Ptr → List R.Denot → ℕ → Lft → Fml
-  places_lend at items count = beside (said (flt (count * type_size R) (2 ^ 63))) (lent_at (Array R (length items)) at items)
+  places_lend at items count =
+      beside (said (flt (count * type_size R) (2 ^ 63))) (lent_at (Array R (length items)) at items)
 
   -- the allocator's token for such a block
   abbrev pub deed_owns : (Ty → Ptr → Fml) → Ptr → ℕ → Fml

@@ -1,7 +1,6 @@
 //! Arrays of a fixed length over raw memory.
-ghost use Rattle.std.specs.Prelude.{◌≡◌, ◌<◌, List, [], length, replicate, slice_set, IfOk};
+ghost use Rattle.std.specs.Prelude.{◌≡◌, ◌<◌, [], length, replicate, slice_set, IfOk};
 ghost use Rattle.std.specs.Borrow.{sem};
-ghost use Rattle.std.specs.List.{refill};
 ghost use Rattle.std.specs.Vec.Ownership.{FitsInBlock};
 
 use super::cells::{Base, Cells, Deed};
@@ -60,7 +59,7 @@ fn fill<T: Copy>(cells: &mut Cells<T>, base: Base<T>, len: usize, value: T)
 }
 
 impl<T: Copy> RawArray<T> {
-    ghost use Rattle.pm_raw.specs.RawLends.{lends_items};
+    ghost use Rattle.pm_raw.specs.RawLends.{AreReplaced, lends_items};
 
     /// An array of so many items, each this value. Fails only for want of memory; no other call takes any.
     pub fn new(alloc: Global, len: usize, value: T) -> Result<RawArray<T>, AllocError>
@@ -96,7 +95,7 @@ impl<T: Copy> RawArray<T> {
     pub fn as_mut_slice(&mut self) -> &mut [T]
         ensures* writes_back { sem 𝓛 (lends_items T.row self.entry result) }
         ensures value { result.now ≡ self.old }
-        ensures same_len { (items : List T) → length items ≡ length self.old → refill (length self.old) self.old items ≡ items }
+        ensures same_len { AreReplaced self.old }
     {
         let (base, len) = (self.base, self.len);
         self.cells.slice_mut(base, len)

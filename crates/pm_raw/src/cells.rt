@@ -1,6 +1,6 @@
 //! The raw memory behind an array: a block of places, of which the first ones hold an item each and the others are empty.
 //! All raw pointers of the project stand here.
-ghost use Rattle.std.specs.Prelude.{◌≡◌, ℕ, ◌<◌, List, [], ◌∷◌, ◌++◌, length, IfOk, ⊤};
+ghost use Rattle.std.specs.Prelude.{◌≡◌, ℕ, ◌<◌, List, [], ◌∷◌, ◌++◌, length, IfOk};
 ghost use Rattle.std.specs.Borrow.{sem};
 ghost use Rattle.std.specs.Vec.Ownership.{FitsInBlock};
 ghost use base.Fml.{ftrue};
@@ -13,21 +13,10 @@ use std::mem::{align_of, size_of};
 use std::slice;
 
 /// Where a block begins. It owns nothing, so it is copied freely.
+#[derive(Clone, Copy)]
 pub struct Base<T> {
     address: *mut T,
 }
-
-impl<T> Clone for Base<T> {
-    ghost is_clone = { λ x y. y ≡ x };
-
-    ghost is_infallible = { λ _. ⊤ };
-
-    fn clone(&self) -> Result<Base<T>, AllocError> {
-        Ok(*self)
-    }
-}
-
-impl<T> Copy for Base<T> {}
 
 /// The owner of a block's `count` places, of which the first hold `items`. It has no bytes.
 pub struct Cells<T> {
@@ -106,7 +95,7 @@ impl<T> Base<T> {
 impl<T> Cells<T> {
     ghost use Rattle.pm_raw.specs.Lends.{lends_items};
 
-    /// Puts an item into the first empty place.
+    /// Puts an item into the first empty place, which is that of this index.
     pub(crate) fn push(&mut self, base: Base<T>, index: usize, item: T)
         requires { (base.address ≡ self.old.at) × (index ≡ length self.old.items) × (index < self.old.count) }
         ensures { self.new ≡ record self.old { items = self.old.items ++ item ∷ [] } }

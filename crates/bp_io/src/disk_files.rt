@@ -1,12 +1,13 @@
 // Files on the disk. They tell no bytes.
-ghost use Rattle.std.specs.Prelude.{◌≡◌, List, ℕ, None, true, false, is_some, if◌then◌else◌};
+ghost use Rattle.std.specs.Prelude.{◌≡◌, List, ℕ, IfOk, None, true, false, is_some, if◌then◌else◌};
 
 use crate::faults::SystemFaults;
+use crate::window::Window;
 use crate::{Access, Failed, files};
 use bp_limits::BLOCK_SIZE;
+use std::alloc::{AllocError, Global};
 use std::fs::{File, OpenOptions};
 use std::io::ErrorKind;
-use std::os::unix::fs::FileExt;
 use std::{fs, io, rt};
 
 /// The files that a runtime opens, by path. They tell no bytes: that blocks are read from and
@@ -15,6 +16,14 @@ use std::{fs, io, rt};
 /// Every error of the system is a fault; only a name that is not there, and is not to be made, is
 /// none. A name that is there but is no regular file, as a folder or a device, is a fault, and so is
 /// a read of a block that the file lost since it was attached.
+///
+/// Up to 64 blocks (256 KiB) stay in memory for a while. A read also takes the blocks behind the one
+/// that is asked for, and as long as blocks are only read, the file is not looked at again for them.
+/// Blocks that are written one behind another wait, at most 64 of them, and go to the file together
+/// before any other block is read or written, and before the file is flushed, resized or left for
+/// another one. So the fault of a write may come in such a later call; each block that waited is
+/// then as before, or the one that was to be written. Without a flush, the last ones may not come
+/// to the file at all.
 #[derive(Drop)]
 pub struct DiskFiles<R: rt::Files<File = File> + Drop> {
     runtime: R,
@@ -23,39 +32,45 @@ pub struct DiskFiles<R: rt::Files<File = File> + Drop> {
     may_write: bool,
     is_flushed: bool,
     faults: SystemFaults,
+    window: Window,
 }
 
 impl<R: rt::Files<File = File> + Drop> DiskFiles<R> {
     /// The files of this runtime, of which none is attached yet.
-    pub fn new(runtime: R) -> Self
-        ensures attached { (name : List ℕ) → (⟦<DiskFiles<R> as files::Files>⟧.view result).is_attached name ≡ false }
-        ensures blocks { (⟦<DiskFiles<R> as files::Files>⟧.view result).blocks ≡ 0 }
-        ensures flushed { (⟦<DiskFiles<R> as files::Files>⟧.view result).is_flushed ≡ true }
-        ensures faults { (⟦<DiskFiles<R> as files::Files>⟧.view result).faults ≡ 0 }
+    ///
+    /// # Errors
+    ///
+    /// `AllocError` only where there is no memory for 64 blocks.
+    pub fn new(alloc: Global, runtime: R) -> Result<Self, AllocError>
+        ensures attached { IfOk result (λ files. (name : List ℕ) → (⟦<DiskFiles<R> as files::Files>⟧.view files).is_attached name ≡ false) }
+        ensures blocks { IfOk result (λ files. (⟦<DiskFiles<R> as files::Files>⟧.view files).blocks ≡ 0) }
+        ensures flushed { IfOk result (λ files. (⟦<DiskFiles<R> as files::Files>⟧.view files).is_flushed ≡ true) }
+        ensures faults { IfOk result (λ files. (⟦<DiskFiles<R> as files::Files>⟧.view files).faults ≡ 0) }
     {
-        DiskFiles {
+        Ok(DiskFiles {
             runtime,
             file: None,
             blocks: 0,
             may_write: false,
             is_flushed: true,
             faults: SystemFaults::none(),
-        }
+            window: Window::new(alloc)?,
+        })
     }
 
     /// The last error of the system, where there was one.
     pub fn last_error(&self) -> Option<io::Error> {
         self.faults.last
     }
+}
 
-    // The attached file.
-    fn file(&self) -> &File
-        requires { is_some self.now.file ≡ true }
-    {
-        match &self.file {
-            Some(file) => file,
-            None => unreachable!(),
-        }
+// The file that is attached.
+fn attached(file: &Option<File>) -> &File
+    requires { is_some file.now ≡ true }
+{
+    match file {
+        Some(file) => file,
+        None => unreachable!(),
     }
 }
 
@@ -97,6 +112,10 @@ impl<R: rt::Files<File = File> + Drop> files::Files for DiskFiles<R> {
     } };
 
     fn attach(&mut self, name: &str, access: Access) -> Result<Option<u64>, Failed> {
+        if let Some(file) = &self.file {
+            let done = self.window.write_out(file);
+            self.faults.or_fault(done)?;
+        }
         match open(&self.runtime, name, access) {
             Ok((file, length)) => {
                 self.file = Some(file);
@@ -113,26 +132,33 @@ impl<R: rt::Files<File = File> + Drop> files::Files for DiskFiles<R> {
     }
 
     fn read_block(&mut self, i: u32, into: &mut [u8; 4096]) -> Result<(), Failed> {
-        let done = self.file().read_exact_at(into, BLOCK_SIZE * u64::from(i));
+        let file = attached(&self.file);
+        let done = self.window.read_block(file, i, self.blocks, into);
         self.faults.or_fault(done)
     }
 
     fn write_block(&mut self, i: u32, from: &[u8; 4096]) -> Result<(), Failed> {
         self.is_flushed = false;
-        let done = self.file().write_all_at(from, BLOCK_SIZE * u64::from(i));
+        let done = self.window.write_block(attached(&self.file), i, from);
         self.faults.or_fault(done)
     }
 
     fn set_blocks(&mut self, n: u32) -> Result<(), Failed> {
         self.is_flushed = false;
-        let done = self.file().set_len(BLOCK_SIZE * u64::from(n));
+        let file = attached(&self.file);
+        let written = self.window.write_out(file);
+        self.faults.or_fault(written)?;
+        let done = file.set_len(BLOCK_SIZE * u64::from(n));
         self.faults.or_fault(done)?;
         self.blocks = u64::from(n);
         Ok(())
     }
 
     fn flush(&mut self) -> Result<(), Failed> {
-        let done = self.file().sync_data();
+        let file = attached(&self.file);
+        let written = self.window.write_out(file);
+        self.faults.or_fault(written)?;
+        let done = file.sync_data();
         self.faults.or_fault(done)?;
         self.is_flushed = true;
         Ok(())

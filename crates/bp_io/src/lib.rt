@@ -12,6 +12,7 @@ mod mem_files;
 mod memory_streams;
 mod std_streams;
 mod streams;
+mod window;
 
 pub use access::Access;
 pub use disk_files::DiskFiles;

@@ -6,7 +6,7 @@ use std::{fs, io};
 
 #[test]
 fn disk_files_keep_blocks(rt: HostRuntime) -> Result<(), Fail> {
-    let mut files = DiskFiles::new(&rt);
+    let mut files = DiskFiles::new(rt.alloc(), &rt)?;
     assert_eq!(rt; files.attach("disk.img", Access::Write), Ok(None));
     assert_eq!(rt; files.attach("disk.img", Access::Make), Ok(Some(0)));
     assert_eq!(rt; files.set_blocks(8), Ok(()));
@@ -18,7 +18,7 @@ fn disk_files_keep_blocks(rt: HostRuntime) -> Result<(), Fail> {
     for (at, want) in [(12_287, 0), (12_288, 77), (16_383, 77), (16_384, 0)] {
         assert_eq!(rt; bytes.get(at).copied(), Some(want), "at {at}");
     }
-    let mut again = DiskFiles::new(&rt);
+    let mut again = DiskFiles::new(rt.alloc(), &rt)?;
     assert_eq!(rt; again.attach("disk.img", Access::Write), Ok(Some(32_768)));
     let mut read = [1u8; 4096];
     assert_eq!(rt; again.read_block(3, &mut read), Ok(()));
@@ -33,22 +33,60 @@ fn disk_files_keep_blocks(rt: HostRuntime) -> Result<(), Fail> {
 }
 
 #[test]
-fn disk_files_report_faults(rt: HostRuntime) {
+fn disk_files_keep_many_blocks(rt: HostRuntime) -> Result<(), Fail> {
+    let mut files = DiskFiles::new(rt.alloc(), &rt)?;
+    assert_eq!(rt; files.attach("long.img", Access::Make), Ok(Some(0)));
+    assert_eq!(rt; files.set_blocks(201), Ok(()));
+    for i in 0..131u8 {
+        assert_eq!(rt; files.write_block(u32::from(i), &[i; 4096]), Ok(()));
+    }
+    assert_eq!(rt; files.write_block(200, &[200; 4096]), Ok(()));
+    assert_eq!(rt; files.write_block(0, &[77; 4096]), Ok(()));
+    let mut read = [1u8; 4096];
+    assert_eq!(rt; files.read_block(0, &mut read), Ok(()));
+    assert!(rt; read == [77; 4096]);
+    assert_eq!(rt; files.write_block(2, &[78; 4096]), Ok(()));
+    assert_eq!(rt; files.write_block(4, &[79; 4096]), Ok(()));
+    assert_eq!(rt; files.flush(), Ok(()));
+    let bytes = fs::read(&rt, "long.img")?;
+    let mut again = DiskFiles::new(rt.alloc(), &rt)?;
+    assert_eq!(rt; again.attach("long.img", Access::Read), Ok(Some(823_296)));
+    for i in 0..201u8 {
+        let want = match i {
+            0 => 77,
+            2 => 78,
+            4 => 79,
+            131..200 => 0,
+            _ => i,
+        };
+        let at = 4096 * i as usize;
+        assert_eq!(rt; bytes.get(at).copied(), Some(want), "at {at}");
+        assert_eq!(rt; bytes.get(at + 4095).copied(), Some(want), "at {at}");
+        assert_eq!(rt; again.read_block(u32::from(i), &mut read), Ok(()));
+        assert!(rt; read == [want; 4096], "block {i}");
+    }
+    fs::remove_file(&rt, "long.img")?;
+    Ok(())
+}
+
+#[test]
+fn disk_files_report_faults(rt: HostRuntime) -> Result<(), Fail> {
     for (name, access) in [
         ("no/such/disk.img", Access::Make),
         (".", Access::Read),
         ("/dev/null", Access::Write),
         ("/dev/full", Access::Make),
     ] {
-        let mut files = DiskFiles::new(&rt);
+        let mut files = DiskFiles::new(rt.alloc(), &rt)?;
         assert_eq!(rt; files.attach(name, access), Err(Failed), "at {name}");
     }
+    Ok(())
 }
 
 #[test]
 fn disk_files_miss_a_lost_block(rt: HostRuntime) -> Result<(), Fail> {
     fs::write(&rt, "short.img", [5u8; 8192].as_slice())?;
-    let mut files = DiskFiles::new(&rt);
+    let mut files = DiskFiles::new(rt.alloc(), &rt)?;
     let length = files.attach("short.img", Access::Read);
     fs::write(&rt, "short.img", [5u8; 5000].as_slice())?;
     fs::remove_file(&rt, "short.img")?;

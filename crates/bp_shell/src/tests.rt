@@ -7,7 +7,7 @@ use std::test::Fail;
 #[test]
 fn real_files_are_served(rt: HostRuntime) -> Result<(), Fail> {
     let alloc = rt.alloc();
-    let mut files = DiskFiles::new(&rt);
+    let mut files = DiskFiles::new(alloc, &rt)?;
     fs::write(&rt, "script", "create /a\nlist /\n")?;
     let mut sink = StdSink::new(fs::create(&rt, "replies")?);
     let mut source = StdSource::new(fs::open(&rt, "script")?);
@@ -30,7 +30,7 @@ fn real_files_are_served(rt: HostRuntime) -> Result<(), Fail> {
 #[test]
 fn real_files_are_refused(rt: HostRuntime) -> Result<(), Fail> {
     let alloc = rt.alloc();
-    let mut files = DiskFiles::new(&rt);
+    let mut files = DiskFiles::new(alloc, &rt)?;
     let mut source = FairSource::new(b"");
     let mut sink = MemSink::new(alloc, 128, &[])?;
     let words = ["bpfs", "run", "missing.img"];

@@ -74,7 +74,13 @@ fn main(rt: HostRuntime) -> ExitCode {
     };
     let mut source = StdSource::new(rt.stdin());
     let mut sink = StdSink::new(rt.stdout());
-    let mut files = DiskFiles::new(&rt);
+    let mut files = match DiskFiles::new(alloc, &rt) {
+        Ok(files) => files,
+        Err(_) => {
+            tell_reason(&rt, Reason::Memory);
+            return ExitCode::from(NO_MEMORY);
+        }
+    };
     let status = run(alloc, &texts, &mut source, &mut sink, &mut files);
     match status {
         3 => tell_reason(&rt, Reason::Input(source.last_error())),

@@ -69,15 +69,14 @@ fn read_words<R: Region>(region: &R, word: u32, into: &mut [u8])
 {
     let _words = region.words();
     let end = into.len();
-    let mut next = word;
-    let mut done = 0;
-    while end - done >= 8 {
-        into[done..done + 8].copy_from_slice(&region.load(next).to_le_bytes());
-        next += 1;
-        done += 8;
+    let count = (end / 8) as u32;
+    for i in 0..count {
+        let at = 8 * i as usize;
+        into[at..at + 8].copy_from_slice(&region.load(word + i).to_le_bytes());
     }
+    let done = 8 * count as usize;
     if done < end {
-        read_part(region, next, 0, &mut into[done..end]);
+        read_part(region, word + count, 0, &mut into[done..end]);
     }
 }
 

@@ -1,0 +1,25 @@
+-- What a play does to a region, and what it tells.
+use Rattle.std.specs.Prelude.{ℕ, ◌≡◌, List}
+use Rattle.pm_region.specs.Memory.{Memory}
+use Rattle.bp_layout.specs.Words.{Image}
+use Rattle.bp_script.specs.Commands.{Command}
+use Rattle.bp_script.specs.Texts.{LineReply}
+use Rattle.bp_session.specs.Acting.{state}
+use Rattle.bp_session.specs.Session.{Line, Session}
+use Rattle.bp_play.specs.Counting.{IsCounted}
+use Rattle.bp_play.specs.Summaries.{sums}
+use Rattle.bp_play.specs.Turns.{turns}
+use Rattle.bp_play.specs.declared.summary.Summary.{Summary}
+
+-- The turns of a seed are served as a script's lines are, and the summary is the sums of the replies.
+pub record Plays (old new : Memory) (seed count : ℕ) (summary : Summary) : Type 0 where
+  pub replies : List LineReply
+  pub session : (saved : Image) → Session (state old saved) (turns seed count) replies (state new saved)
+  pub told : summary ≡ sums replies
+
+-- One command is served, and its reply is counted.
+pub record TakesTurn (old new : Memory) (command : Command) (before after : Summary) : Type 0 where
+  pub reply : LineReply
+  pub line : (saved : Image) → Line (state old saved) command reply (state new saved)
+  pub counted : IsCounted before reply after
+  pub capacity : new.capacity ≡ old.capacity

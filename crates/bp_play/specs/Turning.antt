@@ -1,0 +1,53 @@
+-- Turns as code holds them.
+use Rattle.std.specs.Prelude.{ℕ, ◌≡◌, ◌≤◌, List, [], replicate}
+use Rattle.bp_limits.specs.Limits.{max_read}
+use Rattle.bp_plain.specs.Calls.{Call}
+use Rattle.bp_plain.specs.Calls.Call.{create, mkdir, unlink, rmdir, read, write, truncate, rename}
+use Rattle.bp_script.specs.Commands.{Command}
+use Rattle.bp_script.specs.Commands.Command.{file_call, storm}
+use Rattle.bp_play.specs.Paths.{path_of}
+use Rattle.bp_play.specs.Turns.{Draw}
+use Rattle.bp_play.specs.declared.turning.PlayCall.{PlayCall}
+use Rattle.bp_play.specs.declared.turning.PlayCall.TheVariants as given
+use Rattle.bp_play.specs.declared.turning.Turn.{Turn}
+use Rattle.bp_play.specs.declared.turning.Turn.TheVariants as turn
+
+-- the most bytes that a turn writes
+abbrev pub most_bytes : ℕ
+most_bytes = 9000
+
+-- the bytes that the call writes
+abbrev pub bytes_by : PlayCall → List ℕ
+bytes_by (given.Write path off len byte) = replicate len byte
+bytes_by _ = []
+
+-- the call
+abbrev pub call_by : PlayCall → Call
+call_by (given.Create path) = create (path_of path)
+call_by (given.Mkdir path) = mkdir (path_of path)
+call_by (given.Unlink path) = unlink (path_of path)
+call_by (given.Rmdir path) = rmdir (path_of path)
+call_by (given.Read path off len) = read (path_of path) off len
+call_by (given.Write path off len byte) = write (path_of path) off (replicate len byte)
+call_by (given.Truncate path size) = truncate (path_of path) size
+call_by (given.Rename from to) = rename (path_of from) (path_of to)
+
+abbrev pub command_by : Turn → Command
+command_by (turn.Call call) = file_call (call_by call)
+command_by (turn.Storm seed) = storm seed
+
+-- it reads and writes no more bytes than there is memory for
+abbrev pub IsSmall : PlayCall → Type 0
+IsSmall (given.Read path off len) = len ≤ most_bytes
+IsSmall (given.Write path off len byte) = len ≤ most_bytes
+IsSmall _ = Unit {0}
+
+abbrev pub IsSmallTurn : Turn → Type 0
+IsSmallTurn (turn.Call call) = IsSmall call
+IsSmallTurn (turn.Storm seed) = Unit {0}
+
+-- The turn is the one that was drawn, and the generator stands behind it.
+pub record IsDrawn (draw : Draw) (turn : Turn) (state : ℕ) : Type 0 where
+  pub asks : command_by turn ≡ draw.command
+  pub goes_on : state ≡ draw.state
+  pub small : IsSmallTurn turn

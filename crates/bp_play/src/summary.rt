@@ -1,0 +1,66 @@
+//! What came of a play.
+
+ghost use Rattle.std.specs.Prelude.{◌≡◌, ◌∷◌, ◌++◌, ◌≤◌, ◌+◌, ◌*◌, ℕ, List, []};
+ghost use Rattle.bp_limits.specs.Limits.{log_events, max_turns};
+ghost use Rattle.bp_plain.specs.SeenAnswers.{answer_seen};
+ghost use Rattle.bp_script.specs.Texts.{LineReply};
+ghost use Rattle.bp_script.specs.Texts.LineReply.{answered, kept_of};
+
+use bp_plain::Answer;
+use pm_epochs::Kept;
+
+/// What came of a play.
+#[derive(Clone, Copy, Debug, PartialEq, Eq)]
+pub struct Summary {
+    /// The turns that were answered without a refusal, storms not among them.
+    pub ok: u64,
+    /// The turns that were refused, by the number of the refusal less 1.
+    pub refused: [u64; 12],
+    /// The storms.
+    pub crashes: u64,
+    /// The calls that the storms kept.
+    pub kept: u64,
+    /// The calls of which they kept them.
+    pub of: u64,
+}
+
+impl Summary {
+    ghost use Rattle.bp_play.specs.Summaries.{sums};
+    ghost use Rattle.bp_play.specs.Counting.{CanCount, IsCounted};
+
+    /// That of a play of no turn.
+    pub(crate) fn new() -> Summary
+        ensures { result ≡ sums [] }
+    {
+        Summary {
+            ok: 0,
+            refused: [0; 12],
+            crashes: 0,
+            kept: 0,
+            of: 0,
+        }
+    }
+
+    /// Counts the answer of a call.
+    pub(crate) fn count_answer(&mut self, answer: &Answer<'_>)
+        requires { CanCount self.old }
+        ensures { IsCounted self.old (answered (answer_seen answer.now)) self.new }
+    {
+        match answer {
+            Answer::Refused(error) => self.refused[(error.number() - 1) as usize] += 1,
+            _ => self.ok += 1,
+        }
+    }
+
+    /// Counts a storm that kept so many calls.
+    pub(crate) fn count_storm(&mut self, kept: Kept)
+        requires room { CanCount self.old }
+        requires kept { kept.c ≤ log_events }
+        requires of { kept.n ≤ log_events }
+        ensures { IsCounted self.old (kept_of kept.c kept.n) self.new }
+    {
+        self.crashes += 1;
+        self.kept += kept.c as u64;
+        self.of += kept.n as u64;
+    }
+}

@@ -8,7 +8,7 @@ use Rattle.bp_script.specs.declared.replies.Said.{Said}
 use Rattle.bp_script.specs.declared.replies.Said.TheVariants as said
 use Rattle.bp_script.specs.declared.notices.Notice.{Notice}
 use Rattle.bp_script.specs.declared.notices.Notice.TheVariants as notice
-use Rattle.bp_script.specs.Texts.{answer_text, done_text, entry_text, end_text, space_text, kept_text, log_text, syntax_text, long_line_text, choice_text}
+use Rattle.bp_script.specs.Texts.{answer_text, done_text, entry_text, end_text, space_text, kept_text, log_text, syntax_text, long_line_text, choice_text, pair_text}
 
 abbrev pub said_text : Said → List ℕ
 said_text (said.Answer given) = answer_text (answer_seen given)
@@ -41,10 +41,10 @@ abbrev pub clean_text : ℕ → ℕ → ℕ → ℕ → ℕ → List ℕ
 clean_text files dirs bytes live free = clean_line (decimal files) (decimal dirs) (decimal bytes) (decimal live) (decimal free)
 
 abbrev pub notice_text : Notice → List ℕ
-notice_text (notice.Formatted blocks free) = codes "formatted " ++ decimal blocks ++ codes " " ++ decimal free ++ codes "\n"
+notice_text (notice.Formatted blocks free) = pair_text (codes "formatted ") blocks free
 notice_text notice.NotFormatted = codes "err 30 notformatted\n"
-notice_text (notice.BadSize found wanted) = codes "err 31 badsize " ++ decimal found ++ codes " " ++ decimal wanted ++ codes "\n"
-notice_text (notice.Damaged check place) = codes "err 32 damaged " ++ decimal check ++ codes " " ++ decimal place ++ codes "\n"
+notice_text (notice.BadSize found wanted) = pair_text (codes "err 31 badsize ") found wanted
+notice_text (notice.Damaged check place) = pair_text (codes "err 32 damaged ") check place
 notice_text (notice.Clean files dirs bytes live free) = clean_text files dirs bytes live free
 notice_text notice.NoFile = codes "err 34 nofile\n"
 notice_text notice.Usage = codes "usage: bpfs format FILE --blocks N / run FILE / check FILE / play FILE --seed S --count C\n"

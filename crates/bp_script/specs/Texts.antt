@@ -49,9 +49,13 @@ file_text size = codes "file " ++ decimal size ++ codes "\n"
 abbrev pub dir_text : ℕ → List ℕ
 dir_text count = codes "dir " ++ decimal count ++ codes "\n"
 
+-- a line of two numbers
+abbrev pub pair_text : List ℕ → ℕ → ℕ → List ℕ
+pair_text front first second = front ++ decimal first ++ codes " " ++ decimal second ++ codes "\n"
+
 -- how many blocks are free, and how many are live
 abbrev pub space_text : ℕ → ℕ → List ℕ
-space_text free live = codes "space " ++ decimal free ++ codes " " ++ decimal live ++ codes "\n"
+space_text free live = pair_text (codes "space ") free live
 
 -- how many calls a crash kept, of how many
 abbrev pub kept_text : ℕ → ℕ → List ℕ

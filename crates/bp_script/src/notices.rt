@@ -3,7 +3,7 @@
 ghost use Rattle.bp_script.specs.Sayings.{clean_line, clean_text, notice_text};
 ghost use Rattle.std.specs.Prelude.{drop, length, take, ◌+◌, ◌++◌, ◌≡◌, ◌≤◌};
 
-use crate::pieces::write_pieces;
+use crate::pieces::{write_pair, write_pieces};
 
 /// The room in bytes that serves every notice: five lines, each below 256 bytes.
 pub const MAX_NOTICE: usize = 1_280;
@@ -63,47 +63,12 @@ pub fn announce(notice: &Notice, into: &mut [u8]) -> usize
 {
     match *notice {
         Notice::Formatted { blocks, free } => {
-            let mut all = itoa::Buffer::new();
-            let mut rest = itoa::Buffer::new();
-            write_pieces(
-                into,
-                &[
-                    b"formatted ",
-                    all.format(blocks).as_bytes(),
-                    b" ",
-                    rest.format(free).as_bytes(),
-                    b"\n",
-                ],
-            )
+            write_pair(into, b"formatted ", blocks as u64, free as u64)
         }
         Notice::NotFormatted => write_pieces(into, &[b"err 30 notformatted\n"]),
-        Notice::BadSize { found, wanted } => {
-            let mut size = itoa::Buffer::new();
-            let mut right = itoa::Buffer::new();
-            write_pieces(
-                into,
-                &[
-                    b"err 31 badsize ",
-                    size.format(found).as_bytes(),
-                    b" ",
-                    right.format(wanted).as_bytes(),
-                    b"\n",
-                ],
-            )
-        }
+        Notice::BadSize { found, wanted } => write_pair(into, b"err 31 badsize ", found, wanted),
         Notice::Damaged { check, place } => {
-            let mut number = itoa::Buffer::new();
-            let mut at = itoa::Buffer::new();
-            write_pieces(
-                into,
-                &[
-                    b"err 32 damaged ",
-                    number.format(check).as_bytes(),
-                    b" ",
-                    at.format(place).as_bytes(),
-                    b"\n",
-                ],
-            )
+            write_pair(into, b"err 32 damaged ", check as u64, place as u64)
         }
         Notice::Clean {
             files,

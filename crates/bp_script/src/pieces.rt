@@ -1,9 +1,13 @@
 //! Texts put together from pieces.
 
+ghost use Rattle.bp_script.specs.Texts.{pair_text};
 ghost use Rattle.hex.specs.Hex.{encode_lower};
 ghost use Rattle.std.specs.Prelude.{drop, flat_map, length, take, ◌*◌, ◌+◌, ◌++◌, ◌≡◌, ◌≤◌};
 
 use crate::digits::encode_digits;
+
+/// The room in bytes that serves two numbers with a space between them and a newline behind them.
+const PAIR_ROOM: usize = 82;
 
 /// Writes pieces one after the other to the front of a buffer, and tells how many bytes they are.
 pub(crate) fn write_pieces(into: &mut [u8], pieces: &[&[u8]]) -> usize
@@ -16,6 +20,26 @@ pub(crate) fn write_pieces(into: &mut [u8], pieces: &[&[u8]]) -> usize
         end = put(into, end, piece);
     }
     end
+}
+
+/// Writes a line of two numbers behind a front, and tells how many bytes it is.
+pub(crate) fn write_pair(into: &mut [u8], front: &[u8], first: u64, second: u64) -> usize
+    requires { length front.now + PAIR_ROOM ≤ length into.old }
+    ensures whole { into.new ≡ pair_text front.now first second ++ drop result into.old }
+    ensures len { result ≡ length (pair_text front.now first second) }
+{
+    let mut left = itoa::Buffer::new();
+    let mut right = itoa::Buffer::new();
+    write_pieces(
+        into,
+        &[
+            front,
+            left.format(first).as_bytes(),
+            b" ",
+            right.format(second).as_bytes(),
+            b"\n",
+        ],
+    )
 }
 
 /// Writes a piece at a place of a buffer, and tells where it ends.

@@ -4,10 +4,10 @@ ghost use Rattle.bp_limits.specs.Limits.{max_name, max_read, max_text};
 ghost use Rattle.bp_plain.specs.Seen.{refusal_of};
 ghost use Rattle.bp_plain.specs.SeenAnswers.{answer_seen};
 ghost use Rattle.bp_script.specs.Sayings.{FitsReply, IsLine, said_text};
-ghost use Rattle.bp_script.specs.Texts.{answer_text, data_text, entry_text, kept_text, kind_letter, log_text, name_text, refusal_text, space_text};
+ghost use Rattle.bp_script.specs.Texts.{answer_text, data_text, entry_text, kept_text, kind_letter, log_text, name_text, refusal_text};
 ghost use Rattle.std.specs.Prelude.{drop, length, take, ◌*◌, ◌++◌, ◌≡◌, ◌≤◌};
 
-use crate::pieces::{put, put_digits, write_pieces};
+use crate::pieces::{put, put_digits, write_pair, write_pieces};
 use arrayvec::ArrayVec;
 use bp_layout::Kind;
 use bp_plain::{Answer, FsError};
@@ -77,7 +77,7 @@ pub fn say(said: &Said<'_>, into: &mut [u8]) -> usize
         Said::Name { kind, name } => say_name(kind, name, into),
         Said::End => write_pieces(into, &[b"end\n"]),
         Said::Synced => write_pieces(into, &[b"ok\n"]),
-        Said::Space { free, live } => say_space(free, live, into),
+        Said::Space { free, live } => write_pair(into, b"space ", free as u64, live as u64),
         Said::Kept { c, n } => say_kept(c, n, into),
         Said::Log {
             events,
@@ -88,26 +88,6 @@ pub fn say(said: &Said<'_>, into: &mut [u8]) -> usize
         Said::LongLine => write_pieces(into, &[b"err 21 line\n"]),
         Said::BadChoice => write_pieces(into, &[b"err 23 choice\n"]),
     }
-}
-
-/// Writes the line of how full a volume is.
-fn say_space(free: u32, live: u32, into: &mut [u8]) -> usize
-    requires { max_text ≤ length into.old }
-    ensures whole { into.new ≡ space_text free live ++ drop result into.old }
-    ensures len { result ≡ length (space_text free live) }
-{
-    let mut left = itoa::Buffer::new();
-    let mut used = itoa::Buffer::new();
-    write_pieces(
-        into,
-        &[
-            b"space ",
-            left.format(free).as_bytes(),
-            b" ",
-            used.format(live).as_bytes(),
-            b"\n",
-        ],
-    )
 }
 
 /// Writes the line of a crash.

@@ -67,6 +67,8 @@ pub enum Line<'a> {
     Ask(&'a str),
     /// Run it over a format of so many blocks again and again, each time with another cut of the power behind it.
     Cuts(&'a str),
+    /// Serve lines and scripts by the parts of a session.
+    Parts,
     /// Run it again and again, each time with another call of a device failing, from 0 up to a number of calls.
     Sweep(Device, u64),
 }
@@ -112,6 +114,7 @@ pub fn read(line: &str) -> Option<Line<'_>> {
         "plain" => Line::Plain(rest),
         "?" => Line::Ask(rest),
         "cuts" => Line::Cuts(rest),
+        "parts" => Line::Parts,
         "sweep" => {
             let (device, count) = rest.split_once(' ')?;
             Line::Sweep(Device::named(device)?, number(count)?)

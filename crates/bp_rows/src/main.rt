@@ -6,11 +6,14 @@ mod comparing;
 mod cutting;
 mod image;
 mod line;
+mod parts;
 mod playing;
+mod report;
 mod row;
 mod rows;
 mod script;
 mod showing;
+mod stage;
 
 use rows::Rows;
 use std::io;

@@ -3,6 +3,7 @@
 use crate::comparing::compare;
 use crate::cutting::cut_all_over;
 use crate::line::{Device, Line, read};
+use crate::parts::serve_parts;
 use crate::playing::{formatted, play};
 use crate::row::{Failing, Row};
 use crate::showing::{show, show_short};
@@ -58,6 +59,7 @@ impl Rows {
             Line::Go => self.go(),
             Line::Plain(blocks) => self.plain(text, blocks),
             Line::Cuts(blocks) => self.cut(text, blocks),
+            Line::Parts => serve_parts(self.alloc, &mut self.report),
             Line::Sweep(device, count) => self.sweep(device, count),
             _ => {
                 if self.row.set(self.alloc, line)? {

@@ -1,24 +1,19 @@
-//! Runs what a caller of `bp_shell` has besides `run` over FILE in full: `run` over a file that never fails and a sink that only
-//! counts, `open`, `serve` more than once over the same memory, and `serve_line`. Writes what came of each to standard output.
-#![tactic(auto)]
+//! What a caller has besides `run` over FILE in full: `run` over a file that never fails and a sink that only counts, `open`,
+//! `serve` more than once over the same memory, and `serve_line`.
 
 ghost use Rattle.bp_io.specs.Memory.{fair_view};
 ghost use Rattle.bp_limits.specs.Limits.{log_events};
 ghost use Rattle.bp_session.specs.Files.{IsReady};
 ghost use Rattle.std.specs.Prelude.{◌≤◌};
 
-mod report;
-mod stage;
-
+use crate::stage::{serve_bytes, serve_script};
 use bp_io::{FairFiles, FairSource, NullSink};
 use bp_limits::MAX_LINE;
 use bp_session::Work;
 use bp_shell::{open, run};
 use bp_volume::Volume;
-use pm_region::ListRegion;
-use stage::{serve_bytes, serve_script};
+use pm_region::Region;
 use std::alloc::{AllocError, Global};
-use std::io;
 
 /// The length of a line that is too long.
 const LONG: usize = MAX_LINE + 1;
@@ -42,9 +37,9 @@ fn count(
 }
 
 /// Serves one script after another over the same memory. The last line of the first has no newline, and is none of the next.
-fn serve_scripts(
+fn serve_scripts<R: Region>(
     alloc: Global,
-    volume: &mut Volume<ListRegion>,
+    volume: &mut Volume<R>,
     files: &mut FairFiles,
     report: &mut String,
 ) -> Result<(), AllocError>
@@ -63,16 +58,14 @@ fn serve_scripts(
     serve_script(alloc, volume, &mut work, files, "space\n", report)
 }
 
-fn main(rt: HostRuntime) -> io::Result<()> {
-    let alloc = rt.alloc();
-    let mut report = String::new(alloc);
+/// Formats and checks a file, and between serves lines and scripts over it. Writes what came of each.
+pub fn serve_parts(alloc: Global, report: &mut String) -> Result<(), AllocError> {
     let mut files = FairFiles::new(alloc, &[])?;
     let words = ["bpfs", "format", "f", "--blocks", "8"];
-    count(alloc, &words, &mut files, &mut report)?;
+    count(alloc, &words, &mut files, report)?;
     match open(alloc, "f", &mut files) {
-        Ok(mut volume) => serve_scripts(alloc, &mut volume, &mut files, &mut report)?,
+        Ok(mut volume) => serve_scripts(alloc, &mut volume, &mut files, report)?,
         Err(_) => report.push_str("not opened\n")?,
     }
-    count(alloc, &["bpfs", "check", "f"], &mut files, &mut report)?;
-    print!(rt; "{report}")
+    count(alloc, &["bpfs", "check", "f"], &mut files, report)
 }

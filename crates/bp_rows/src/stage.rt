@@ -9,16 +9,16 @@ use crate::report::tell;
 use bp_io::{FairFiles, FairSource, MemSink};
 use bp_session::{Work, serve, serve_line};
 use bp_volume::Volume;
-use pm_region::ListRegion;
+use pm_region::Region;
 use std::alloc::{AllocError, Global};
 
 /// The room of a sink, in bytes.
 const ROOM: usize = 4096;
 
 /// Serves a script, and writes its replies and its status.
-pub fn serve_script(
+pub fn serve_script<R: Region>(
     alloc: Global,
-    volume: &mut Volume<ListRegion>,
+    volume: &mut Volume<R>,
     work: &mut Work,
     files: &mut FairFiles,
     script: &str,
@@ -39,9 +39,9 @@ pub fn serve_script(
 }
 
 /// Sets the line and serves it, and writes its length, its reply and its status.
-pub fn serve_bytes(
+pub fn serve_bytes<R: Region>(
     alloc: Global,
-    volume: &mut Volume<ListRegion>,
+    volume: &mut Volume<R>,
     work: &mut Work,
     files: &mut FairFiles,
     line: &[u8],

@@ -1,5 +1,6 @@
 use Rattle.std.proofs.Common.{◌≡◌, ◌-◌, ◌*◌, ◌/◌, ◌+◌, ◌<◌, ◌≤◌, suc, le_antisymm, arith, bit_and, ap, sym, ◌∙◌}
 use Rattle.std.proofs.lemmas.Nat.{and_mask}
+use Rattle.bp_layout.specs.Pieces.{child, piece}
 use Rattle.bp_layout.specs.Tree.{span}
 use Rattle.bp_layout.specs.Words.{block_of, height_of}
 use Rattle.bp_layout.proofs.TreeLaws.{span-is}
@@ -8,6 +9,7 @@ use Rattle.bp_tree.proofs.RegionWords.{length_now}
 use Rattle.bp_append.proofs.TallyLaws.{span-positive}
 use Rattle.bp_calls.proofs.CutLaws.{null_cut, gives_none, leaf_gives, top_in_range, top_block, slots_begin, slots_step, slots_end, not_yet, child_is_sound, child_is_lower, slot_live, slots_order}
 use Rattle.bp_calls.proofs.giving.+give_back.Goals as goal
+use Rattle.bp_calls.proofs.giving.+give_back.Goals.{in-Some, in-None}
 
 pub overflow_cast-top : goal.overflow_cast-top
 overflow_cast-top g t c =
@@ -61,15 +63,15 @@ give_back-requires g t c κs within =
     let high : height_of c.args.tree.root ≡ suc (height_of c.args.tree.root - 1) = omega (arith, mask, c.if-height-eq0.false) in
     let live : c.loop-slot.slot * span (height_of c.args.tree.root - 1) < c.args.tree.size =
     slot_live image c.args.tree.root c.args.tree.size (height_of c.args.tree.root - 1) c.args.cut c.requires.sound c.if-tree-cut.false c.if-top-eq0.false high c.loop-slot.slot (rw is at c.loop-slot-test.true) in
-    let lower : height_of c.subtree-below.result.root ≡ height_of c.args.tree.root - 1 = ap height_of c.subtree-below.ensures.root ∙ child_is_lower image c.args.tree.root c.args.tree.size (height_of c.args.tree.root - 1) c.args.cut c.requires.sound c.if-tree-cut.false c.if-top-eq0.false high c.loop-slot.slot live in (
+    let lower : height_of c.in-Some.below.root ≡ height_of c.args.tree.root - 1 = ap height_of c.in-Some.ensures.root ∙ child_is_lower image c.args.tree.root c.args.tree.size (height_of c.args.tree.root - 1) c.args.cut c.requires.sound c.if-tree-cut.false c.if-top-eq0.false high c.loop-slot.slot live in (
       omega (arith, c.decreases, lower, high),
       (
         within,
         (
-          rw (c.subtree-below.ensures.root, c.subtree-below.ensures.size) (child_is_sound image c.args.tree.root c.args.tree.size (height_of c.args.tree.root - 1) c.args.cut c.requires.sound c.if-tree-cut.false c.if-top-eq0.false high c.loop-slot.slot live),
+          rw (c.in-Some.ensures.root, c.in-Some.ensures.size) (child_is_sound image c.args.tree.root c.args.tree.size (height_of c.args.tree.root - 1) c.args.cut c.requires.sound c.if-tree-cut.false c.if-top-eq0.false high c.loop-slot.slot live),
           (
             c.loop-slot.invariant.room ∙ c.requires.room,
-            rw (c.subtree-below.ensures.root, c.subtree-below.ensures.size) (not_yet image c.args.tree.root c.args.tree.size (height_of c.args.tree.root - 1) c.args.cut c.requires.sound c.if-tree-cut.false c.if-top-eq0.false high c.loop-slot.slot c.args.blocks.now c.loop-slot.blocks live c.requires.taken c.loop-slot.invariant),
+            rw (c.in-Some.ensures.root, c.in-Some.ensures.size) (not_yet image c.args.tree.root c.args.tree.size (height_of c.args.tree.root - 1) c.args.cut c.requires.sound c.if-tree-cut.false c.if-top-eq0.false high c.loop-slot.slot c.args.blocks.now c.loop-slot.blocks live c.requires.taken c.loop-slot.invariant),
           ),
         ),
       ),
@@ -83,9 +85,20 @@ loop-slot-preserved g t c =
     let high : height_of c.args.tree.root ≡ suc (height_of c.args.tree.root - 1) = omega (arith, mask, c.if-height-eq0.false) in
     let live : c.loop-slot.slot * span (height_of c.args.tree.root - 1) < c.args.tree.size =
     slot_live image c.args.tree.root c.args.tree.size (height_of c.args.tree.root - 1) c.args.cut c.requires.sound c.if-tree-cut.false c.if-top-eq0.false high c.loop-slot.slot (rw is at c.loop-slot-test.true) in
-    let cut : c.saturating_sub.result ≡ c.args.cut - c.loop-slot.slot * span (height_of c.args.tree.root - 1) = c.saturating_sub.ensures ∙ ap (λ s. c.args.cut - c.loop-slot.slot * s) is in
-    slots_step image c.args.tree.root c.args.tree.size (height_of c.args.tree.root - 1) c.args.cut c.requires.sound c.if-tree-cut.false c.if-top-eq0.false high c.loop-slot.slot c.args.blocks.now c.loop-slot.blocks c.give_back.new.blocks live c.loop-slot.invariant
-    (rw (c.subtree-below.ensures.root, c.subtree-below.ensures.size, cut) at c.give_back.ensures)
+    elim c.match-subtree.branch [
+      | in-Some w ↦
+          let cut : w.saturating_sub.result ≡ c.args.cut - c.loop-slot.slot * span (height_of c.args.tree.root - 1) = w.saturating_sub.ensures ∙ ap (λ s. c.args.cut - c.loop-slot.slot * s) is in
+          rw w.blocks-is
+          (slots_step image c.args.tree.root c.args.tree.size (height_of c.args.tree.root - 1) c.args.cut c.requires.sound c.if-tree-cut.false c.if-top-eq0.false high c.loop-slot.slot c.args.blocks.now c.loop-slot.blocks w.give_back.new.blocks live c.loop-slot.invariant
+          (rw (w.in-Some.ensures.root, w.in-Some.ensures.size, cut) at w.give_back.ensures))
+      | in-None w ↦
+          let low : height_of c.args.tree.root - 1 < 4096 = omega arith in
+          let null : block_of (child image (block_of c.args.tree.root) (height_of c.args.tree.root - 1) c.loop-slot.slot) ≡ 0 = omega (arith, low, w.in-None.ensures.none) in
+          rw w.blocks-is
+          (slots_step image c.args.tree.root c.args.tree.size (height_of c.args.tree.root - 1) c.args.cut c.requires.sound c.if-tree-cut.false c.if-top-eq0.false high c.loop-slot.slot c.args.blocks.now c.loop-slot.blocks c.loop-slot.blocks live c.loop-slot.invariant
+          (gives_none _ c.loop-slot.blocks (λ b. null_cut image (child image (block_of c.args.tree.root) (height_of c.args.tree.root - 1) c.loop-slot.slot) (piece c.args.tree.size (height_of c.args.tree.root - 1) c.loop-slot.slot)
+          (c.args.cut - c.loop-slot.slot * span (height_of c.args.tree.root - 1)) b null)))
+    ]
 
 pub returns : goal.returns
 returns g t c =

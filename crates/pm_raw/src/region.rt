@@ -84,6 +84,25 @@ impl RawRegion {
         })
     }
 
+    /// A region of these words, with an empty log that can take `capacity` events. Fails only for want of memory.
+    pub fn from_words(
+        alloc: Global,
+        words: &[u64],
+        capacity: usize,
+    ) -> Result<RawRegion, AllocError>
+        requires { length words.now < 2 ^ 32 }
+        ensures { IfOk result (λ region. region ≡ record {
+          base = words.now;
+          events = [];
+          capacity = capacity;
+          drains = 0;
+        }) }
+    {
+        let mut region = RawRegion::new(alloc, words.len() as u32, capacity)?;
+        region.adopt_words(0, words);
+        Ok(region)
+    }
+
     /// The events since the last drain.
     fn log(&self) -> &[Event]
         ensures { result.now ≡ self.now.events }

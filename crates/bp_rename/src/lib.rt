@@ -13,4 +13,4 @@ mod within;
 
 pub use moving::Move;
 pub use needing::need;
-pub use renaming::rename;
+pub use renaming::{rename, rename_in};

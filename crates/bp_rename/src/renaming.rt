@@ -3,7 +3,7 @@
 ghost use Rattle.std.specs.Prelude.{◌≡◌, ◌≤◌, IfErr, OnErr, OnOk};
 ghost use Rattle.bp_calls.specs.Space.{LacksSpace};
 ghost use Rattle.bp_limits.specs.Limits.{call_room};
-ghost use Rattle.bp_rename.specs.CanRename.{CanRename, change_of};
+ghost use Rattle.bp_rename.specs.CanRename.{CanRename, IsSlotAcross, change_of};
 ghost use Rattle.bp_rename.specs.RenamesEntry.{RenamesEntry};
 ghost use Rattle.bp_shapes.specs.Sets.{AreExact};
 ghost use Rattle.bp_tree.specs.Performs.{Performs};
@@ -16,6 +16,40 @@ use crate::onto::rename_onto;
 use crate::within::rename_within;
 use bp_free::{NoSpace, Parts};
 use pm_region::Region;
+
+/// What [`rename`] does, for a caller that has found the least empty slot of the new directory, None where no entry is
+/// empty. Where the new name is there, or the name stays in its directory, the slot is not looked at.
+///
+/// # Errors
+///
+/// As those of [`rename`].
+pub fn rename_in<R: Region>(
+    parts: &mut Parts<R>,
+    to_move: &Move<'_>,
+    empty: Option<u64>,
+) -> Result<(), NoSpace>
+    requires can { CanRename (current_words (R.memory parts.old.region)) to_move.now }
+    requires empty { IsSlotAcross (current_words (R.memory parts.old.region)) to_move.now empty }
+    requires exact { AreExact (current_words (R.memory parts.old.region)) parts.old.blocks parts.old.inodes }
+    requires room { call_room ≤ room_in (R.memory parts.old.region) }
+    ensures performs { OnOk result (Performs (R.memory parts.old.region) (R.memory parts.new.region)
+        (change_of to_move.now) (RenamesEntry to_move.now)) }
+    ensures exact { AreExact (current_words (R.memory parts.new.region)) parts.new.blocks parts.new.inodes }
+    ensures refused { IfErr result (LacksSpace (current_words (R.memory parts.old.region)) (change_of to_move.now)) }
+    ensures same { OnErr result (parts.new ≡ parts.old) }
+{
+    let need = need_with(&parts.region, to_move, empty);
+    let free = parts.blocks.count();
+    if free < need {
+        return Err(NoSpace { need, free });
+    }
+    match to_move.to_slot {
+        Some(slot) => rename_onto(parts, to_move, slot),
+        None if to_move.from_dir == to_move.to_dir => rename_within(parts, to_move),
+        None => rename_across(parts, to_move, empty),
+    }
+    Ok(())
+}
 
 /// Moves a name, by one store alone in its epoch. Where the new name stood, in place of a file or an empty directory, the
 /// blocks and the inode of that one come back.
@@ -34,15 +68,5 @@ pub fn rename<R: Region>(parts: &mut Parts<R>, to_move: &Move<'_>) -> Result<(),
     ensures same { OnErr result (parts.new ≡ parts.old) }
 {
     let empty = slot_across(&parts.region, to_move);
-    let need = need_with(&parts.region, to_move, empty);
-    let free = parts.blocks.count();
-    if free < need {
-        return Err(NoSpace { need, free });
-    }
-    match to_move.to_slot {
-        Some(slot) => rename_onto(parts, to_move, slot),
-        None if to_move.from_dir == to_move.to_dir => rename_within(parts, to_move),
-        None => rename_across(parts, to_move, empty),
-    }
-    Ok(())
+    rename_in(parts, to_move, empty)
 }

@@ -1,7 +1,7 @@
 -- What the two paths of a rename find.
 use Rattle.std.specs.Prelude.{◌≡◌, ◌≢◌, ◌==◌, ℕ, List, [], Bool, false, Option, None, Some, option_map}
 use Rattle.bp_changes.specs.Effects.{CanUnlink}
-use Rattle.bp_layout.specs.Directory.{IsName, inumber_at, slot_named}
+use Rattle.bp_layout.specs.Directory.{IsName, empty_slot, inumber_at, slot_named}
 use Rattle.bp_layout.specs.Inode.{kind_of}
 use Rattle.bp_layout.specs.Lookup.{Path, lookup}
 use Rattle.bp_layout.specs.PathText.{parse}
@@ -17,7 +17,8 @@ use Rattle.bp_volume.specs.Step.{IsEntryOn, last_of}
 use Rattle.bp_volume.specs.declared.renaming.Ends.{Ends}
 use Rattle.bp_volume.specs.declared.walking.Target.{Target}
 
--- the path is this name in this directory, and `there` is what has it there
+-- The path is this name in this directory, and `there` is what has it there. Where nothing has it, `empty` is the
+-- directory's least empty slot.
 pub record IsTarget (image : Image) (path : Path) (target : Target) : Type 0 where
   pub below : path ≢ []
   pub parent : lookup image (parent_of path) ≡ Some target.dir
@@ -26,6 +27,7 @@ pub record IsTarget (image : Image) (path : Path) (target : Target) : Type 0 whe
   pub form : IsName target.name.now
   pub new : target.there ≡ None → slot_named image target.dir target.name.now ≡ None
   pub there : (place : Place) → target.there ≡ Some place → IsEntryOn image path target.dir place.slot place.inumber
+  pub empty : target.there ≡ None → target.empty ≡ empty_slot image target.dir
 
 -- The first path finds an entry. The second is a name in a directory, and not below the first.
 pub record AreEnds (image : Image) (p q : Path) (ends : Ends) : Type 0 where

@@ -23,7 +23,7 @@ use bp_inodes::get;
 use bp_layout::Kind;
 use bp_path::{Path, Place, parse};
 use bp_plain::FsError;
-use bp_rename::Move;
+use bp_rename::{Move, rename_in};
 use bp_tree::Tree;
 use pm_region::Region;
 
@@ -204,7 +204,7 @@ fn move_name<R: Region>(
     ensures exact { AreExact (current_words (R.memory parts.new.region)) parts.new.blocks parts.new.inodes }
 {
     let to_move = move_of(ends);
-    match bp_rename::rename(parts, &to_move) {
+    match rename_in(parts, &to_move, ends.target.empty) {
         Ok(()) => Ok(()),
         Err(lacks) => Err(no_space(lacks)),
     }

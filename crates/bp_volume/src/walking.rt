@@ -18,10 +18,10 @@ ghost use Rattle.bp_volume.specs.Told.{StopsAtEntry, StopsAtFile, StopsAtNew, St
 ghost use Rattle.pm_region.specs.Memory.{current_words};
 
 use bp_calls::tree_of;
-use bp_dirs::{Spot, find_or_free};
+use bp_dirs::{Spot, find_or_free, inumber};
 use bp_inodes::get;
 use bp_layout::Kind;
-use bp_path::{Path, Place, WalkFault, parse, step, walk, walk_parent};
+use bp_path::{Path, Place, WalkFault, parse, walk, walk_parent};
 use bp_plain::FsError;
 use pm_region::Region;
 
@@ -45,6 +45,8 @@ pub(crate) struct Target<'a> {
     pub name: &'a [u8],
     /// What has that name there, None where nothing has it.
     pub there: Option<Place>,
+    /// Where nothing has it, the least slot of the directory whose entry is empty, None where no entry is.
+    pub empty: Option<u64>,
 }
 
 /// A file that a path finds.
@@ -212,16 +214,25 @@ pub(crate) fn target_on<'a, R: Region>(region: &R, path: &Path<'a>) -> Result<Ta
     match walk_parent(region, path) {
         Ok(dir) => {
             let name = path.last();
-            match step(region, dir, name) {
-                Ok(place) => Ok(Target {
-                    dir,
-                    name,
-                    there: Some(place),
-                }),
-                Err(_) => Ok(Target {
+            match spot_of(region, dir, name) {
+                Spot::Named(slot) => {
+                    let place = Place {
+                        inumber: inumber(region, tree_of(region, dir), slot) as u32,
+                        dir,
+                        slot,
+                    };
+                    Ok(Target {
+                        dir,
+                        name,
+                        there: Some(place),
+                        empty: None,
+                    })
+                }
+                Spot::Free(empty) => Ok(Target {
                     dir,
                     name,
                     there: None,
+                    empty,
                 }),
             }
         }

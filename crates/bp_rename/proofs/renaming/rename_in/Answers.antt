@@ -1,5 +1,5 @@
 use Rattle.bp_rename.proofs.Renames.{across_renames, onto_renames}
-use Rattle.bp_rename.proofs.renaming.rename.Goals as goal
+use Rattle.bp_rename.proofs.renaming.rename_in.Goals as goal
 
 pub returns-in-Some-clause-performs : goal.returns-in-Some-clause-performs
 returns-in-Some-clause-performs g c =
@@ -10,4 +10,4 @@ returns-in-None-2-clause-performs g c =
     across_renames (g.R.Region.memory c.args.parts.now.region) (g.R.Region.memory c.rename_across.new.parts.region) c.args.to_move.now c.in-None-2.is c.if-to_move.false c.rename_across.ensures.performs
 
 pub rename_across-requires-clause-slot : goal.rename_across-requires-clause-slot
-rename_across-requires-clause-slot g c = c.slot_across-empty.ensures c.in-None-2.is c.if-to_move.false
+rename_across-requires-clause-slot g c = c.requires.empty c.in-None-2.is c.if-to_move.false

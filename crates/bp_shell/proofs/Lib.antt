@@ -2,4 +2,5 @@ pub mod OpeningLaws
 pub mod FormattingLaws
 pub mod RunningLaws
 mod ProgramLaws
+mod PlayingLaws
 mod StillLaws

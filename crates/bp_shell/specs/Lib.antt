@@ -2,5 +2,6 @@ pub mod Opening
 pub mod Stops
 pub mod Formatting
 pub mod Checking
+pub mod Playing
 pub mod Running
 pub mod Still

@@ -9,7 +9,7 @@ use Rattle.bp_plain.specs.PlainTree.{FileTree}
 use Rattle.bp_plain.specs.Stands.{Stands}
 use Rattle.bp_layout.specs.WellFormed.{IsWellFormed}
 use Rattle.bp_command.specs.Programs.{Program, Requests}
-use Rattle.bp_command.specs.Programs.Program.{formats, runs, checks}
+use Rattle.bp_command.specs.Programs.Program.{formats, runs, checks, plays}
 use Rattle.bp_script.specs.Commands.{Command}
 use Rattle.bp_script.specs.Commands.Command.{sync}
 use Rattle.bp_script.specs.declared.notices.Notice.{Notice}
@@ -25,6 +25,7 @@ use Rattle.bp_shell.specs.Opening.{HoldsFileSystem, RefusesFile, start}
 use Rattle.bp_shell.specs.Formatting.{new_image, HasPartly}
 use Rattle.bp_session.specs.Outside.{Outside, SourceFailed, SinkFailed, FilesFailed, IsFirstFault, IsIdle, IsUntouched, TellsLine}
 use Rattle.bp_shell.specs.Checking.{CheckOutcome}
+use Rattle.bp_shell.specs.Playing.{PlayOutcome}
 use Rattle.bp_session.specs.Pieces.{piece_size}
 use Rattle.bp_session.specs.Taking.{TakesPart}
 
@@ -158,12 +159,14 @@ abbrev pub file_name : Program → List ℕ
 file_name (formats name blocks) = name
 file_name (runs name) = name
 file_name (checks name) = name
+file_name (plays name seed count) = name
 
 -- What a program answers, and when.
 abbrev pub ProgramOutcome : Program → ℕ → Outside → Outside → Type 0
 ProgramOutcome (formats name blocks) status before after = FormatOutcome status blocks before after
 ProgramOutcome (runs name) status before after = RunOutcome status before after
 ProgramOutcome (checks name) status before after = CheckOutcome status before after
+ProgramOutcome (plays name seed count) status before after = PlayOutcome status seed count before after
 
 -- The words ask for a program, and this is its outcome. What is known of a file is told for each name.
 pub record Does (words : List (List ℕ)) (status : ℕ) (before after : List ℕ → Outside) : Type 0 where

@@ -1,9 +1,10 @@
-//! The programs `format`, `run` and `check`.
+//! The programs `format`, `run`, `check` and `play`.
 #![tactic(auto)]
 
 mod checking;
 pub mod formatting;
 pub mod opening;
+mod playing;
 mod printing;
 mod running;
 mod still;

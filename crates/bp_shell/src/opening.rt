@@ -127,3 +127,22 @@ pub fn open<F: Files>(alloc: Global, name: &str, files: &mut F) -> Result<Volume
         Err(stop) => Err(stop),
     }
 }
+
+/// Mounts the file of a name, which is then attached to be read alone. No file is made.
+pub(crate) fn open_to_read<F: Files>(
+    alloc: Global,
+    name: &str,
+    files: &mut F,
+) -> Result<Volume<ListRegion>, Stop>
+    ensures opened { IfOk result (λ volume. (image : Image) × HoldsFileSystem ((F.view files.old).contents name.now) image
+        × (volume ≡ (start image).memory)) }
+    ensures reason { IfErr result (IsReason ((F.view files.old).contents name.now)) }
+    ensures cause { HasStopCause (F.view files.old).faults (F.view files.new).faults result }
+    ensures file { (F.view files.new).contents name.now ≡ (F.view files.old).contents name.now }
+    ensures flushed { (F.view files.new).is_flushed ≡ (F.view files.old).is_flushed }
+{
+    match load_file(alloc, name, Access::Read, files) {
+        Ok(words) => mount(alloc, words),
+        Err(stop) => Err(stop),
+    }
+}

@@ -11,6 +11,7 @@ ghost use Rattle.std.specs.Prelude.{◌≡◌, ◌⊎◌, map};
 use crate::checking::check_file;
 use crate::formatting::format_file;
 use crate::opening::open;
+use crate::playing::play_file;
 use crate::printing::tell_notice;
 use crate::stop::Stop;
 use bp_command::laws::plain_words_are_taken;
@@ -81,17 +82,18 @@ fn run_program<S: Source, K: Sink, F: Files>(
         Program::Format { name, blocks } => format_file(alloc, name, blocks, out, files),
         Program::Run { name } => run_file(alloc, name, src, out, files),
         Program::Check { name } => check_file(alloc, name, out, files),
+        Program::Play { name, seed, count } => play_file(alloc, name, seed, count, out, files),
     }
 }
 
 /// Does what the words ask for, the name under which the program was called first, and answers its status:
 ///
 /// - 0 where all was done;
-/// - 1 where `run` or `check` finds no file of the name;
+/// - 1 where `run`, `check` or `play` finds no file of the name;
 /// - 2 where the command takes no such words;
 /// - 3, 4, 5 where the source, the sink or the files failed;
 /// - 6 where the source has more than 1,073,741,824 bytes;
-/// - 7 where `run` or `check` refuses the file;
+/// - 7 where `run`, `check` or `play` refuses the file;
 /// - 8 for want of memory, before a line is read or told.
 pub fn run<S: Source, K: Sink, F: Files>(
     alloc: Global,

@@ -39,6 +39,13 @@ fn file_name<'a>(alloc: Global, words: &'a [&'a str]) -> &'a str {
         Ok(Program::Format { name, blocks: _ }) => name,
         Ok(Program::Run { name }) => name,
         Ok(Program::Check { name }) => name,
+        Ok(
+            Program::Play {
+                name,
+                seed: _,
+                count: _,
+            },
+        ) => name,
         Err(_) => "FILE",
     }
 }

@@ -1,0 +1,78 @@
+-- What `play FILE --seed S --count C` answers, and when.
+use Rattle.std.specs.Prelude.{◌≡◌, ◌⊎◌, ◌++◌, ℕ, List, codes, decimal, flat_map}
+use Rattle.std.specs.Io.KnownBytes.{Appends}
+use Rattle.pm_region.specs.Memory.{Memory, current_words}
+use Rattle.bp_io.specs.Files.{Known}
+use Rattle.bp_layout.specs.Free.{HasFree}
+use Rattle.bp_layout.specs.Words.{Image}
+use Rattle.bp_plain.specs.PlainTree.{FileTree}
+use Rattle.bp_plain.specs.Stands.{Stands}
+use Rattle.bp_play.specs.Playing.{Plays}
+use Rattle.bp_play.specs.Turns.{turns}
+use Rattle.bp_play.specs.declared.summary.Summary.{Summary}
+use Rattle.bp_scan.specs.Totals.{HasTotals}
+use Rattle.bp_scan.specs.declared.totals.Totals.{Totals}
+use Rattle.bp_script.specs.declared.notices.Notice.{Notice}
+use Rattle.bp_script.specs.declared.notices.Notice.TheVariants.{NoFile}
+use Rattle.bp_session.specs.Acting.{state}
+use Rattle.bp_session.specs.Files.{IsAbsent}
+use Rattle.bp_session.specs.Outside.{Outside, IsFirstFault, IsUntouched, TellsLine}
+use Rattle.bp_session.specs.PlainSession.{FollowsTree}
+use Rattle.bp_session.specs.Taking.{TakesPart}
+use Rattle.bp_shell.specs.Checking.{IsCheckComplete}
+use Rattle.bp_shell.specs.Opening.{HoldsFileSystem, RefusesFile, start}
+
+-- ---- the five lines
+
+-- each number behind a space
+abbrev pub spaced : List ℕ → List ℕ
+spaced numbers = flat_map (λ number. codes " " ++ decimal number) numbers
+
+abbrev pub turns_text : ℕ → ℕ → List ℕ
+turns_text count ok = codes "turns " ++ decimal count ++ codes "\nok " ++ decimal ok ++ codes "\nrefused"
+
+abbrev pub crashes_text : ℕ → ℕ → ℕ → List ℕ
+crashes_text crashes kept total = codes "\ncrashes " ++ decimal crashes ++ codes " kept " ++ decimal kept ++ codes " of " ++ decimal total ++ codes "\n"
+
+abbrev pub tree_text : Totals → ℕ → List ℕ
+tree_text totals free =
+    codes "tree " ++ decimal totals.files ++ codes " " ++ decimal totals.dirs ++ codes " " ++ decimal totals.bytes ++ codes " space " ++ decimal free ++ codes " " ++ decimal totals.live ++ codes "\n"
+
+-- the turns, those that were carried out, those that were refused, the storms, and what is held at the end
+abbrev pub play_text : ℕ → Summary → Totals → ℕ → List ℕ
+play_text count summary totals free =
+    turns_text count summary.ok ++ spaced summary.refused ++ crashes_text summary.crashes summary.kept summary.of ++ tree_text totals free
+
+-- ---- a play
+
+-- A play came to this summary, and to a memory that holds so much in all.
+pub record EndsPlay (old : Memory) (seed count : ℕ) (summary : Summary) (totals : Totals) (free : ℕ) : Type 0 where
+  pub new : Memory
+  pub plays : Plays old new seed count summary
+  pub holds : HasTotals (current_words new) totals
+  pub leaves : HasFree (current_words new) free
+
+-- FILE holds a file system, a play over a region of its words came to this text, and its replies are a plain tree's.
+pub record PlaysFile (known : Known) (seed count : ℕ) (text : List ℕ) : Type 0 where
+  pub image : Image
+  pub found : HoldsFileSystem known image
+  pub summary : Summary
+  pub totals : Totals
+  pub free : ℕ
+  pub ends : EndsPlay (start image).memory seed count summary totals free
+  pub told : text ≡ play_text count summary totals free
+  pub plainly : (tree : FileTree) → Stands image tree → FollowsTree tree (start image) (turns seed count) ends.plays.replies (state ends.new image)
+
+-- What `play FILE --seed S --count C` answers, and when. It reads no input, and FILE stays as it is.
+pub record PlayOutcome (status seed count : ℕ) (before after : Outside) : Type 0 where
+  pub whole : status ≡ 0 → (text : List ℕ) × PlaysFile before.file seed count text × Appends before.taken after.taken text
+  pub missing : status ≡ 1 → IsAbsent before.file × TellsLine NoFile before after
+  pub sink : status ≡ 4 → (text : List ℕ) × PlaysFile before.file seed count text × TakesPart text before.taken after.taken
+  pub files : status ≡ 5 → after.taken ≡ before.taken
+  pub refused : status ≡ 7 → (notice : Notice) × RefusesFile before.file notice × TellsLine notice before after
+  pub memory : status ≡ 8 → after.taken ≡ before.taken
+  pub untouched : IsUntouched before after
+  pub flushed : after.is_flushed ≡ before.is_flushed
+  pub first : IsFirstFault status before.faults after.faults
+  pub complete : IsCheckComplete status before after
+  pub one_of : (status ≡ 0) ⊎ (status ≡ 1) ⊎ (status ≡ 4) ⊎ (status ≡ 5) ⊎ (status ≡ 7) ⊎ (status ≡ 8)

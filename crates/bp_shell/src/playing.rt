@@ -1,0 +1,160 @@
+//! The program `play`.
+
+ghost use Rattle.bp_limits.specs.Limits.{log_events, max_turns};
+ghost use Rattle.bp_session.specs.Outside.{outside};
+ghost use Rattle.bp_shell.specs.Playing.{EndsPlay, PlayOutcome, PlaysFile, crashes_text, play_text, spaced, tree_text, turns_text};
+ghost use Rattle.bp_shell.specs.Stops.{HasStopCause, IsReason};
+ghost use Rattle.std.specs.Prelude.{◌≡◌, ◌≤◌, ◌++◌, ℕ, IfErr, IfOk, List, OnOk, Option};
+
+use crate::opening::open_to_read;
+use crate::printing::tell_notice;
+use crate::stop::Stop;
+use bp_io::{Failed, Files, Sink};
+use bp_play::{PlayBuffers, Summary, play_on};
+use bp_scan::Totals;
+use bp_script::Notice;
+use bp_session::sending::send;
+use bp_volume::Volume;
+use pm_region::Region;
+use std::alloc::{AllocError, Global};
+
+/// What a play came to.
+#[derive(Clone, Copy)]
+struct Played {
+    summary: Summary,
+    totals: Totals,
+    free: u32,
+}
+
+// Plays over a volume, and tells what it then holds.
+fn play_over<R: Region>(
+    alloc: Global,
+    volume: &mut Volume<R>,
+    seed: u64,
+    count: u32,
+) -> Result<Played, AllocError>
+    requires few { count ≤ max_turns }
+    requires roomy { volume.old.capacity ≤ log_events }
+    ensures { IfOk result (λ played. EndsPlay volume.old seed count played.summary played.totals played.free) }
+{
+    let mut buffers = PlayBuffers::new(alloc)?;
+    let summary = play_on(alloc, volume, &mut buffers, seed, count);
+    let totals = volume.totals();
+    let space = volume.space();
+    Ok(Played {
+        summary,
+        totals,
+        free: space.free,
+    })
+}
+
+// Writes numbers, each behind a space.
+fn write_spaced(text: &mut String, numbers: &[u64]) -> Result<(), AllocError>
+    ensures { OnOk result (text.new.bytes.items ≡ text.old.bytes.items ++ spaced numbers.now) }
+{
+    for number in numbers {
+        write!(text, " {number}")?;
+    }
+    Ok(())
+}
+
+// Writes the lines of a summary.
+fn write_summary(text: &mut String, count: u32, summary: &Summary) -> Result<(), AllocError>
+    ensures { OnOk result (text.new.bytes.items ≡ text.old.bytes.items ++ turns_text count summary.now.ok
+        ++ spaced summary.now.refused ++ crashes_text summary.now.crashes summary.now.kept summary.now.of) }
+{
+    write!(text, "turns {count}\nok {}\nrefused", summary.ok)?;
+    write_spaced(text, &summary.refused)?;
+    write!(
+        text,
+        "\ncrashes {} kept {} of {}\n",
+        summary.crashes, summary.kept, summary.of
+    )
+}
+
+// Writes the line of what is held in all.
+fn write_tree(text: &mut String, totals: &Totals, free: u32) -> Result<(), AllocError>
+    ensures { OnOk result (text.new.bytes.items ≡ text.old.bytes.items ++ tree_text totals.now free) }
+{
+    write!(
+        text,
+        "tree {} {} {}",
+        totals.files, totals.dirs, totals.bytes
+    )?;
+    write!(text, " space {free} {}\n", totals.live)
+}
+
+// The five lines of a play.
+fn text_of(alloc: Global, count: u32, played: &Played) -> Result<String, AllocError>
+    ensures { IfOk result (λ text. text.bytes.items ≡ play_text count played.now.summary played.now.totals played.now.free) }
+{
+    let mut text = String::new(alloc);
+    write_summary(&mut text, count, &played.summary)?;
+    write_tree(&mut text, &played.totals, played.free)?;
+    Ok(text)
+}
+
+// Plays over the file of a name, in memory alone, and tells what came of it.
+fn perform<F: Files>(
+    alloc: Global,
+    name: &str,
+    seed: u64,
+    count: u32,
+    files: &mut F,
+) -> Result<String, Stop>
+    requires { count ≤ max_turns }
+    ensures plays { IfOk result (λ text. PlaysFile ((F.view files.old).contents name.now) seed count text.bytes.items) }
+    ensures reason { IfErr result (IsReason ((F.view files.old).contents name.now)) }
+    ensures cause { HasStopCause (F.view files.old).faults (F.view files.new).faults result }
+    ensures file { (F.view files.new).contents name.now ≡ (F.view files.old).contents name.now }
+    ensures flushed { (F.view files.new).is_flushed ≡ (F.view files.old).is_flushed }
+{
+    let mut volume = match open_to_read(alloc, name, files) {
+        Ok(volume) => volume,
+        Err(stop) => return Err(stop),
+    };
+    let played = match play_over(alloc, &mut volume, seed, count) {
+        Ok(played) => played,
+        Err(_) => return Err(Stop::Memory),
+    };
+    match text_of(alloc, count, &played) {
+        Ok(text) => Ok(text),
+        Err(_) => Err(Stop::Memory),
+    }
+}
+
+/// Plays so many turns over the file of a name, which is read alone: what they change is kept in memory, and forgotten. It
+/// answers the status: 0 where its five lines were taken, 1 where the file is not there, 4 where the sink failed, 5 where the
+/// files did, 7 where the file is refused, 8 for want of memory.
+pub(crate) fn play_file<K: Sink, F: Files>(
+    alloc: Global,
+    name: &str,
+    seed: u64,
+    count: u32,
+    out: &mut K,
+    files: &mut F,
+) -> u8
+    requires { count ≤ max_turns }
+    // Whatever a source has left.
+    ensures { (left : Option (List ℕ)) (reads : ℕ) → PlayOutcome result seed count
+        (outside left reads (K.taken out.old) (K.faults out.old) (F.view files.old) name.now)
+        (outside left reads (K.taken out.new) (K.faults out.new) (F.view files.new) name.now) }
+{
+    let text = match perform(alloc, name, seed, count, files) {
+        Ok(text) => text,
+        Err(Stop::Missing) => {
+            tell_notice(&Notice::NoFile, out);
+            return 1;
+        }
+        Err(Stop::Outside) => return 5,
+        Err(Stop::Refused(notice)) => {
+            tell_notice(&notice, out);
+            return 7;
+        }
+        Err(Stop::Memory) => return 8,
+    };
+    match send(out, text.as_bytes()) {
+        Ok(()) => 0,
+        Err(Failed) => 4,
+    }
+}

@@ -1,0 +1,66 @@
+#!/bin/sh
+# Refuses each allocation of the built program in turn: of 'format', 'check', 'play' and of 'run' with every call. Each run has to end as
+# without a refusal, or with status 8 and no reply; or, where the script lists, with 'err 12 memory' in place of a listing. It needs a
+# C compiler, for a malloc that fails once. It is not part of the gate.
+#
+#     refused-memory.sh [PROGRAM]
+set -eu
+here=$(cd "$(dirname "$0")" && pwd)
+bpfs=${1:-$here/../crates/bpfs/out/bpfs}
+[ -x "$bpfs" ] || { echo "bpfs is not built: run examples/first-run.sh" >&2; exit 1; }
+work=$(mktemp -d)
+trap 'rm -rf "$work"' EXIT
+cat > "$work/refuse.c" <<'C'
+#define _GNU_SOURCE
+#include <dlfcn.h>
+#include <errno.h>
+#include <stdlib.h>
+static long until = -1;
+static void *(*real)(size_t);
+void *malloc(size_t size)
+{
+    if (!real) {
+        const char *number = getenv("REFUSED_CALL");
+        until = number ? atol(number) : 0;
+        real = (void *(*)(size_t))dlsym(RTLD_NEXT, "malloc");
+    }
+    if (until > 0 && --until == 0) {
+        errno = ENOMEM;
+        return NULL;
+    }
+    return real(size);
+}
+C
+cc -shared -fPIC -O1 -o "$work/refuse.so" "$work/refuse.c" -ldl
+"$bpfs" format "$work/image" --blocks 16 > /dev/null
+printf 'create /a\nmkdir /d\nwrite /a 0 6869\ntruncate /a 5000\nrename /a /d/b\nread /d/b 0 8\nlist /d\nstat /d\nspace\nlog\nstorm 7\ncrash all\nsync\nlist /\n' > "$work/script"
+
+# One run with a call of malloc refused (0: none): its status and its replies.
+run() {
+    cp "$work/image" "$work/f"
+    status=0
+    # shellcheck disable=SC2086
+    (cd "$work" && REFUSED_CALL=$1 LD_PRELOAD="$work/refuse.so" "$bpfs" $2 < "$work/script" > "$3" 2> /dev/null) || status=$?
+    echo "status $status" >> "$3"
+}
+
+for words in "format g --blocks 8" "check f" "play f --seed 9 --count 200" "run f"; do
+    run 0 "$words" "$work/whole"
+    same=0 none=0 listed=0 call=1
+    while [ "$call" -le 80 ]; do
+        run "$call" "$words" "$work/told"
+        if cmp -s "$work/whole" "$work/told"; then
+            same=$((same + 1))
+        elif [ "$(cat "$work/told")" = "status 8" ]; then
+            none=$((none + 1))
+        elif [ "$words" = "run f" ] && grep -q '^err 12 memory$' "$work/told"; then
+            listed=$((listed + 1))
+        else
+            echo "bpfs $words, allocation $call refused:"
+            cat "$work/told"
+            exit 1
+        fi
+        call=$((call + 1))
+    done
+    echo "bpfs $words: of 80 allocations $none answer 8, $listed a listing with err 12, $same are no allocation of its own or change nothing"
+done

@@ -47,7 +47,7 @@ run() {
 for words in "format g --blocks 8" "check f" "play f --seed 9 --count 200" "run f"; do
     run 0 "$words" "$work/whole"
     same=0 none=0 listed=0 call=1
-    while [ "$call" -le 80 ]; do
+    while [ "$call" -le 150 ]; do
         run "$call" "$words" "$work/told"
         if cmp -s "$work/whole" "$work/told"; then
             same=$((same + 1))
@@ -62,5 +62,5 @@ for words in "format g --blocks 8" "check f" "play f --seed 9 --count 200" "run 
         fi
         call=$((call + 1))
     done
-    echo "bpfs $words: of 80 allocations $none answer 8, $listed a listing with err 12, $same are no allocation of its own or change nothing"
+    echo "bpfs $words: of 150 calls of malloc $none answer 8, $listed a listing with err 12, $same change nothing or never come"
 done

@@ -147,20 +147,31 @@ def rest(bench):
     bench.case("run-files", image)
 
 
+# Starts a program with its streams, and tells its processor time, its memory and its status. It is a process of its own, since a program
+# that is started counts the memory of the one that starts it.
+START = """
+import os, sys
+script, replies, *words = sys.argv[1:]
+pid = os.fork()
+if pid == 0:
+    os.dup2(os.open(script, os.O_RDONLY), 0)
+    os.dup2(os.open(replies, os.O_WRONLY | os.O_CREAT | os.O_TRUNC, 0o600), 1)
+    os.execv(words[0], words)
+_, status, used = os.wait4(pid, 0)
+print(used.ru_utime + used.ru_stime, used.ru_maxrss / 1024, os.waitstatus_to_exitcode(status))
+"""
+
+
 def once(program, case, folder):
     """Runs a program over a copy of a case's image: its processor time in seconds, its memory in MiB, its status, a digest of its replies."""
     name, image, script, words = case
     work, replies = f"{folder}/work.img", f"{folder}/replies"
     shutil.copyfile(image, work)
-    pid = os.fork()
-    if pid == 0:
-        os.dup2(os.open(script, os.O_RDONLY), 0)
-        os.dup2(os.open(replies, os.O_WRONLY | os.O_CREAT | os.O_TRUNC, 0o600), 1)
-        os.execv(program, [program, words[0], work, *words[1:]])
-    _, status, used = os.wait4(pid, 0)
+    ran = subprocess.run([sys.executable, "-S", "-c", START, script, replies, program, words[0], work, *words[1:]], check=True, stdout=subprocess.PIPE, text=True)
+    seconds, memory, status = ran.stdout.split()
     with open(replies, "rb") as it:
         told = hashlib.sha256(it.read()).hexdigest()
-    return used.ru_utime + used.ru_stime, used.ru_maxrss / 1024, os.waitstatus_to_exitcode(status), told
+    return float(seconds), float(memory), int(status), told
 
 
 def main():

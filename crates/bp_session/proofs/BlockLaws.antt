@@ -51,12 +51,13 @@ one_more words k low =
     rw (next, take-suc words k 0 low, image_bytes-append (take k words) (get_or words k 0 ∷ [])) (ap (λ l. image_bytes (take k words) ++ l) (image_bytes-one (get_or words k 0)))
 
 -- one more word of a block
-pub block_more : (words into : List ℕ) (first k word : ℕ) → first + k < length words → word ≡ get_or words (first + k) 0 → take (8 * k) into ≡ image_bytes (take k (drop first words))
-    → take (8 * k) into ++ word_bytes word ≡ image_bytes (take (k + 1) (drop first words))
-block_more words into first k word low is before =
+pub word_more : (words read : List ℕ) (first k word : ℕ) → first + k < length words → word ≡ get_or words (first + k) 0 → read ≡ take k (drop first words)
+    → read ++ word ∷ [] ≡ take (k + 1) (drop first words)
+word_more words read first k word low is before =
     let at : get_or (drop first words) k 0 ≡ get_or words (first + k) 0 = get_or-drop first words k 0 in
     let inside : k < length (drop first words) = omega (arith, length-drop first words) in
-    ap (λ l. l ++ word_bytes word) before ∙ ap (λ w. image_bytes (take k (drop first words)) ++ word_bytes w) (is ∙ sym at) ∙ sym (one_more (drop first words) k inside)
+    let next : k + 1 ≡ suc k = omega arith in
+    rw (next, take-suc (drop first words) k 0 inside, is ∙ sym at) (ap (λ l. l ++ get_or (drop first words) k 0 ∷ []) before)
 
 small_front : (n : ℕ) (bytes : List ℕ) → ((i : ℕ) → get_or bytes i 0 < 256) → (i : ℕ) → get_or (take n bytes) i 0 < 256
 small_front zero bytes small i = lit< tt

@@ -1,7 +1,9 @@
 -- What is known of the file of a run.
-use Rattle.std.proofs.Common.{refl, sym, ◌∙◌, ap, arith, ◌≡◌, ◌≢◌, ℕ, ◌+◌, ◌*◌, ◌-◌, List, [], ◌++◌, length, take, false, true, inl, inr}
+use Rattle.std.proofs.Common.{zero, suc, refl, sym, ◌∙◌, ap, subst, arith, ◌≡◌, ◌≢◌, ◌<◌, ◌≤◌, ℕ, ◌+◌, ◌*◌, ◌-◌, List, [], ◌∷◌, ◌++◌, length, length-drop, take, drop, false, true, inl, inr}
 use Rattle.std.specs.Prelude.{Some, None, ◌⊎◌}
-use Rattle.std.proofs.Math.Seq.{take-add, take-length}
+use Rattle.std.proofs.Math.Seq.{take-add, take-append_seam, take-length}
+use Rattle.std.proofs.lemmas.List.{append_assoc, length-append, length-take-le}
+use Rattle.pm_region.specs.Memory.{Memory as RegionMemory, with_values}
 use Rattle.bp_io.specs.Files.{Known, Stays, Tells, Answers, Attaches, Reads, View, block_of}
 use Rattle.bp_session.proofs.SavingLaws.{stays_attached, still_attached}
 use Rattle.bp_layout.specs.Bytes.{image_bytes}
@@ -14,8 +16,9 @@ use Rattle.bp_scan.specs.declared.fault.MountFault.{MountFault}
 use Rattle.bp_scan.specs.declared.fault.MountFault.TheVariants as f
 use Rattle.bp_script.specs.declared.notices.Notice.{Notice}
 use Rattle.bp_script.specs.declared.notices.Notice.TheVariants.{NotFormatted, BadSize, Damaged}
-use Rattle.bp_session.specs.Files.{HasBytes, HasLength, HasImage}
-use Rattle.bp_shell.specs.Opening.{HasSized, RefusesFile}
+use Rattle.bp_session.proofs.BlockLaws.{image_bytes-append}
+use Rattle.bp_session.specs.Files.{AreWordsOf64Bits, HasBytes, HasLength, HasImage, Holds, HoldsFront}
+use Rattle.bp_shell.specs.Opening.{FindsImage, HasSized, RefusesFile}
 use Rattle.bp_shell.specs.Opening.RefusesFile.{by_length, not_formatted, by_count, damaged}
 use Rattle.bp_shell.specs.Stops.{stop_by}
 use Rattle.bp_shell.specs.declared.stop.Stop.{Stop}
@@ -43,13 +46,9 @@ stays_stays None b c first second = stays_none b c first second
     stays_none (Some b) c e stays = absurd (let no_way : ◌≡◌ {A = Known} (Some b) None = e in cc)
 stays_stays (Some a) b c first second = rw first at second
 
-pub found_known : (was now : Known) (n count : ℕ) (whole : List ℕ) → Answers was false (Some n) → Attaches was (Some n) now → n ≡ 4096 * count → Tells now (λ bytes. whole ≡ take (4096 * count) bytes) → HasBytes was whole × HasBytes now whole
-found_known None now n count whole answers attaches e tells = (tt, rw attaches tt)
-found_known (Some None) now n count whole answers attaches e tells = absurd (let never : false ≡ true = answers.0 in cc)
-found_known (Some (Some bytes)) now n count whole answers attaches e tells =
-    let same = rw attaches at tells in
-    let all : whole ≡ bytes = same ∙ ap (λ k. take k bytes) (sym e ∙ answers) ∙ take-length bytes in
-    (sym all, rw attaches (sym all))
+stays_equal : (was now : Known) → Stays was now → now ≡ was
+stays_equal None now stays = stays
+stays_equal (Some was) now stays = stays
 
 pub stays_same : (known : Known) → Stays known known
 stays_same None = refl
@@ -70,9 +69,74 @@ tells_all None P all = tt
 tells_all (Some None) P all = tt
 tells_all (Some (Some bytes)) P all = all bytes
 
-pub no_words : (words : List ℕ) → words ≡ [] → image_bytes words ≡ []
+-- ---- an image that is loaded
+
+-- the first words, with those of one more block
+pub front_next : (base words : Image) (i count : ℕ) → length base ≡ 512 * count → length words ≡ 512 → i < count → take (512 * (i + 1)) (with_values base (512 * i) words) ≡ take (512 * i) base ++ words
+front_next base words i count size long low =
+    let front = take (512 * i) base in
+    let rest = drop (512 * i + length words) base in
+    let inside : 512 * i ≤ length base = omega arith in
+    let width : length (front ++ words) ≡ 512 * (i + 1) = omega (arith, length-append front words, length-take-le (512 * i) base inside) in
+    ap (λ n. take n (front ++ (words ++ rest))) (sym width) ∙ ap (λ l. take (length (front ++ words)) l) (sym (append_assoc front words rest)) ∙ take-append_seam (front ++ words) rest
+
+pub size_next : (base words : Image) (i count : ℕ) → length base ≡ 512 * count → length words ≡ 512 → i < count → length (with_values base (512 * i) words) ≡ 512 * count
+size_next base words i count size long low =
+    let front = take (512 * i) base in
+    let rest = drop (512 * i + length words) base in
+    let inside : 512 * i ≤ length base = omega arith in
+    omega (arith, length-append front (words ++ rest), length-append words rest, length-take-le (512 * i) base inside, length-drop (512 * i + length words) base)
+
+pub bytes_next : (base words : Image) (bytes : List ℕ) (i count : ℕ) → length base ≡ 512 * count → length words ≡ 512 → i < count → image_bytes words ≡ bytes
+    → image_bytes (take (512 * (i + 1)) (with_values base (512 * i) words)) ≡ image_bytes (take (512 * i) base) ++ bytes
+bytes_next base words bytes i count size long low spelled =
+    ap image_bytes (front_next base words i count size long low) ∙ image_bytes-append (take (512 * i) base) words ∙ ap (λ l. image_bytes (take (512 * i) base) ++ l) spelled
+
+words_append : (first second : Image) → AreWordsOf64Bits first → AreWordsOf64Bits second → AreWordsOf64Bits (first ++ second)
+words_append [] second low high place = high place
+words_append (w ∷ first) second low high zero = low zero
+words_append (w ∷ first) second low high (suc place) = words_append first second (λ k. low (suc k)) high place
+
+pub words_next : (base words : Image) (i count : ℕ) → length base ≡ 512 * count → length words ≡ 512 → i < count → AreWordsOf64Bits (take (512 * i) base) → AreWordsOf64Bits words
+    → AreWordsOf64Bits (take (512 * (i + 1)) (with_values base (512 * i) words))
+words_next base words i count size long low before here =
+    let P : Image → Type 0 = λ l. AreWordsOf64Bits l in
+    subst P (sym (front_next base words i count size long low)) (words_append (take (512 * i) base) words before here)
+
+pub rest_kept : (first second third : RegionMemory) (words : Image) → second ≡ record first { base = second.base } → third ≡ record second { base = words } → third ≡ record first { base = third.base }
+rest_kept first second third words one two =
+    two ∙ ap (λ (m : RegionMemory). record m { base = words }) one ∙ ap (λ l. record first { base = l }) (sym (ap (λ (m : RegionMemory). m.base) two))
+
+pub no_words : image_bytes [] ≡ []
 unfolding image_bytes
-no_words words none = rw none refl
+no_words = refl
+
+whole_known : (known : Known) (count : ℕ) (bytes : List ℕ) → HasLength known (4096 * count) → Tells known (λ found. bytes ≡ take (4096 * count) found) → HasBytes known bytes
+whole_known None count bytes long tells = tt
+whole_known (Some None) count bytes long tells = long
+whole_known (Some (Some found)) count bytes long tells = sym (tells ∙ ap (λ n. take n found) (sym long) ∙ take-length found)
+
+module _ (was : Known) (name : List ℕ) (count : ℕ) (found now : View) (base : Image) (finds : FindsImage was name count found) (same : found.contents name ≡ was) (reads : Reads found now)
+    (front : HoldsFront found count base) (size : length base ≡ 512 * count) (words : AreWordsOf64Bits base) where
+  known : HasBytes was (image_bytes base)
+  known =
+      let tells : Tells was (λ bytes. image_bytes base ≡ take (4096 * count) bytes) = rw same at (front name finds.attached) in
+      whole_known was count (image_bytes base) finds.has tells
+
+  pub is_sized : HasSized was base
+  is_sized = record {
+    has = record { bytes = known; words = words };
+    whole = omega (arith, size);
+    at_least = omega (arith, size, finds.at_least);
+    at_most = omega (arith, size, finds.at_most);
+  }
+
+  pub is_held : Holds now name base
+  is_held = record {
+    attached = reads.attached.attached name ∙ finds.attached;
+    size = omega (arith, size, finds.blocks, reads.attached.blocks);
+    bytes = let e : now.contents name ≡ was = stays_equal _ _ (reads.files name) ∙ same in rw e known;
+  }
 
 pub has_length : (known : Known) (n : ℕ) → Answers known false (Some n) → HasLength known n
 has_length None n answers = tt

@@ -1,6 +1,6 @@
 -- Which files are file systems, and why others are refused.
-use Rattle.std.specs.Prelude.{◌≡◌, ◌≢◌, ◌≤◌, ℕ, ◌-◌, ◌*◌, ◌^◌, length, min, []}
-use Rattle.bp_io.specs.Files.{Known}
+use Rattle.std.specs.Prelude.{◌≡◌, ◌≢◌, ◌≤◌, ℕ, ◌-◌, ◌*◌, ◌^◌, List, length, min, [], true}
+use Rattle.bp_io.specs.Files.{Known, View}
 use Rattle.bp_layout.specs.Words.{Image, word, block_count}
 use Rattle.bp_limits.specs.Limits.{block_size, block_words, log_events, magic, max_blocks, min_blocks, super_blocks, super_magic}
 use Rattle.bp_layout.specs.Checks.{Fails}
@@ -22,6 +22,14 @@ pub record HasSized (known : Known) (image : Image) : Type 0 where
   pub whole : length image ≡ block_words * block_count image
   pub at_least : min_blocks ≤ block_count image
   pub at_most : block_count image ≤ max_blocks
+
+-- The file of this name, of which so much was known, is attached, and has so many blocks of an image.
+pub record FindsImage (was : Known) (name : List ℕ) (count : ℕ) (files : View) : Type 0 where
+  pub attached : files.is_attached name ≡ true
+  pub blocks : files.blocks ≡ count
+  pub has : HasLength was (block_size * count)
+  pub at_least : min_blocks ≤ count
+  pub at_most : count ≤ max_blocks
 
 -- Why a file is refused, by the line that says so: it has no image's length; or it has one, and word 0 is not the mark of a file
 -- system, word 1 is not its number of blocks, or both are right and this check of the format fails at this word.

@@ -8,13 +8,13 @@ ghost use Rattle.bp_limits.specs.Limits.{block_words};
 ghost use Rattle.bp_script.specs.declared.notices.Notice.{Notice};
 ghost use Rattle.bp_shell.specs.Checking.{CheckOutcome, Checks, IsClean};
 ghost use Rattle.bp_session.specs.Files.{HasImage};
-ghost use Rattle.bp_shell.specs.Opening.{RefusesFile};
+ghost use Rattle.bp_shell.specs.Opening.{HasSized, RefusesFile};
 ghost use Rattle.bp_session.specs.Outside.{outside};
 ghost use Rattle.bp_shell.specs.Stops.{HasStopCause, IsReason};
 ghost use Rattle.bp_shell.specs.declared.stop.Stop.TheVariants.{Memory, Refused};
 ghost use Rattle.std.specs.Prelude.{◌*◌, ◌≡◌, ◌≤◌, ◌⊎◌, ℕ, IfErr, IfOk, List, OnOk, Option, vec_len};
 
-use crate::opening::{load_file, stop_of};
+use crate::opening::{find_image, load, stop_of};
 use crate::printing::{print, tell_notice};
 use crate::still::StillRegion;
 use crate::stop::Stop;
@@ -23,6 +23,7 @@ use bp_io::{Access, Failed, Files, Sink};
 use bp_limits::{BLOCK_WORDS, MAX_BLOCKS, MIN_BLOCKS};
 use bp_scan::{Pending, scan};
 use bp_script::Notice;
+use pm_region::Region;
 use std::alloc::{AllocError, Global};
 
 // Memory for the scan of an image of so many blocks.
@@ -41,25 +42,21 @@ fn room(alloc: Global, blocks: u32) -> Result<(Blocks, Inodes, Pending), AllocEr
 }
 
 // Scans an image, and tells what it holds.
-fn survey(alloc: Global, words: Vec<u64>) -> Result<Notice, Stop>
-    requires whole { vec_len words ≡ block_words * block_count words.items }
-    requires least { MIN_BLOCKS ≤ block_count words.items }
-    requires most { block_count words.items ≤ MAX_BLOCKS }
-    ensures well_formed { OnOk result (IsWellFormed words.items) }
-    ensures clean { IfOk result (λ notice. IsClean words.items notice) }
-    ensures refused { IfErr result (λ stop. (known : Known) (notice : Notice) → HasImage known words.items →
+fn survey(alloc: Global, region: &StillRegion) -> Result<Notice, Stop>
+    requires whole { vec_len region.now.base ≡ block_words * block_count region.now.base.items }
+    requires least { MIN_BLOCKS ≤ block_count region.now.base.items }
+    requires most { block_count region.now.base.items ≤ MAX_BLOCKS }
+    ensures well_formed { OnOk result (IsWellFormed region.now.base.items) }
+    ensures clean { IfOk result (λ notice. IsClean region.now.base.items notice) }
+    ensures refused { IfErr result (λ stop. (known : Known) (notice : Notice) → HasImage known region.now.base.items →
         stop ≡ Refused notice → RefusesFile known notice) }
     ensures kinds { IfErr result (λ stop. ((notice : Notice) × (stop ≡ Refused notice)) ⊎ (stop ≡ Memory)) }
 {
-    let (mut blocks, mut inodes, mut pending) = match room(
-        alloc,
-        (words.len() / BLOCK_WORDS as usize) as u32,
-    ) {
+    let (mut blocks, mut inodes, mut pending) = match room(alloc, region.words() / BLOCK_WORDS) {
         Ok(room) => room,
         Err(_) => return Err(Stop::Memory),
     };
-    let region = StillRegion::new(words);
-    match scan(&region, &mut blocks, &mut inodes, &mut pending) {
+    match scan(region, &mut blocks, &mut inodes, &mut pending) {
         Ok(totals) => Ok(Notice::Clean {
             files: totals.files,
             dirs: totals.dirs,
@@ -71,6 +68,28 @@ fn survey(alloc: Global, words: Vec<u64>) -> Result<Notice, Stop>
     }
 }
 
+// The words of the file of a name, which is then attached to be read.
+fn load_file<F: Files>(alloc: Global, name: &str, files: &mut F) -> Result<StillRegion, Stop>
+    ensures image { IfOk result (λ region. HasSized ((F.view files.old).contents name.now) region.base.items) }
+    ensures reason { IfErr result (IsReason ((F.view files.old).contents name.now)) }
+    ensures cause { HasStopCause (F.view files.old).faults (F.view files.new).faults result }
+    ensures file { (F.view files.new).contents name.now ≡ (F.view files.old).contents name.now }
+    ensures flushed { (F.view files.new).is_flushed ≡ (F.view files.old).is_flushed }
+{
+    let count = match find_image(name, Access::Read, files) {
+        Ok(count) => count,
+        Err(stop) => return Err(stop),
+    };
+    let mut region = match StillRegion::zeros(alloc, BLOCK_WORDS * count) {
+        Ok(region) => region,
+        Err(_) => return Err(Stop::Memory),
+    };
+    match load(&mut region, count, files) {
+        Ok(()) => Ok(region),
+        Err(stop) => Err(stop),
+    }
+}
+
 // Reads the file of a name, and tells what it holds.
 fn examine<F: Files>(alloc: Global, name: &str, files: &mut F) -> Result<Notice, Stop>
     ensures checks { IfOk result (Checks ((F.view files.old).contents name.now)) }
@@ -79,8 +98,8 @@ fn examine<F: Files>(alloc: Global, name: &str, files: &mut F) -> Result<Notice,
     ensures file { (F.view files.new).contents name.now ≡ (F.view files.old).contents name.now }
     ensures flushed { (F.view files.new).is_flushed ≡ (F.view files.old).is_flushed }
 {
-    match load_file(alloc, name, Access::Read, files) {
-        Ok(words) => survey(alloc, words),
+    match load_file(alloc, name, files) {
+        Ok(region) => survey(alloc, &region),
         Err(stop) => Err(stop),
     }
 }

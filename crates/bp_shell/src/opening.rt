@@ -1,13 +1,14 @@
 //! The file of a program.
 
-ghost use Rattle.std.specs.Prelude.{◌≡◌, ◌≤◌, ◌*◌, List, ℕ, ◌⊎◌, IfErr, IfOk, OnOk, false, true, vec_len};
+ghost use Rattle.pm_region.specs.Memory.{with_values};
+ghost use Rattle.std.specs.Prelude.{◌≡◌, ◌<◌, ◌≤◌, ◌+◌, ◌*◌, [], List, ℕ, ◌⊎◌, IfErr, IfOk, OnOk, false, length, true};
 ghost use Rattle.bp_io.specs.Files.{Known, Reads, makes, may_change};
 ghost use Rattle.bp_layout.specs.WellFormed.{IsWellFormed};
 ghost use Rattle.bp_layout.specs.Words.{Image, block_count};
 ghost use Rattle.bp_limits.specs.Limits.{block_words, log_events};
 ghost use Rattle.bp_script.specs.declared.notices.Notice.{Notice};
 ghost use Rattle.bp_session.specs.Files.{AreWordsOf64Bits, HasImage, Holds, HoldsFront, IsReady};
-ghost use Rattle.bp_shell.specs.Opening.{HasSized, HoldsFileSystem, RefusesFile, start};
+ghost use Rattle.bp_shell.specs.Opening.{FindsImage, HasSized, HoldsFileSystem, RefusesFile, start};
 ghost use Rattle.bp_shell.specs.Stops.{HasStopCause, IsReason, stop_by};
 ghost use Rattle.bp_shell.specs.declared.stop.Stop.TheVariants.{Memory, Outside, Refused};
 
@@ -18,32 +19,51 @@ use bp_scan::{MountFault, image_length};
 use bp_script::Notice;
 use bp_session::blocks::decode;
 use bp_volume::Volume;
-use pm_region::ListRegion;
+use pm_raw::RawRegion;
+use pm_region::Region;
 use std::alloc::Global;
 
-// Reads the words of the attached file.
-fn load<F: Files>(alloc: Global, count: u32, files: &mut F) -> Result<Vec<u64>, Stop>
+// Puts the words of block `i` in their place. They are words of 64 bits, as their type says.
+fn adopt_block<R: Region>(region: &mut R, i: u32, words: &[u64; 512])
+    requires inside { block_words * i + block_words ≤ length (R.memory region.old).base }
+    requires few { i < MAX_BLOCKS }
+    requires drained { (R.memory region.old).events ≡ [] }
+    ensures adopted { R.memory region.new ≡ record (R.memory region.old) {
+      base = with_values (R.memory region.old).base (block_words * i) words.now;
+    } }
+    ensures words { AreWordsOf64Bits words.now }
+{
+    region.adopt_words(BLOCK_WORDS * i, words);
+}
+
+/// Reads the attached file into a region of its size with an empty log, as words that were there at the last drain.
+pub(crate) fn load<F: Files, R: Region>(
+    region: &mut R,
+    count: u32,
+    files: &mut F,
+) -> Result<(), Stop>
     requires count { count ≡ (F.view files.old).blocks }
     requires few { count ≤ MAX_BLOCKS }
-    ensures kinds { IfErr result (λ e. (e ≡ Outside) ⊎ (e ≡ Memory)) }
+    requires size { length (R.memory region.old).base ≡ block_words * count }
+    requires drained { (R.memory region.old).events ≡ [] }
+    ensures kinds { IfErr result (λ e. e ≡ Outside) }
     ensures cause { HasStopCause (F.view files.old).faults (F.view files.new).faults result }
-    ensures image { IfOk result (λ words. HoldsFront (F.view files.old) count words.items) }
-    ensures size { IfOk result (λ words. vec_len words ≡ block_words * count) }
-    ensures words { IfOk result (λ words. AreWordsOf64Bits words.items) }
+    ensures image { OnOk result (HoldsFront (F.view files.old) count (R.memory region.new).base) }
+    ensures words { OnOk result (AreWordsOf64Bits (R.memory region.new).base) }
+    ensures size { length (R.memory region.new).base ≡ block_words * count }
+    ensures rest { R.memory region.new ≡ record (R.memory region.old) { base = (R.memory region.new).base } }
     ensures reads { Reads (F.view files.old) (F.view files.new) }
 {
-    let mut words = match Vec::with_capacity(alloc, (BLOCK_WORDS * count) as usize) {
-        Ok(words) => words,
-        Err(_) => return Err(Stop::Memory),
-    };
     let mut block = [0u8; 4096];
+    let mut words = [0u64; 512];
     for i in 0..count {
         match files.read_block(i, &mut block) {
             Ok(()) => decode(&block, &mut words),
             Err(Failed) => return Err(Stop::Outside),
         }
+        adopt_block(region, i, &words);
     }
-    Ok(words)
+    Ok(())
 }
 
 /// Why a program ends at a fault of its image.
@@ -58,16 +78,10 @@ pub(crate) fn stop_of(fault: MountFault) -> Stop
     }
 }
 
-/// The words of the file of a name, which is then attached. No file is made.
-pub(crate) fn load_file<F: Files>(
-    alloc: Global,
-    name: &str,
-    access: Access,
-    files: &mut F,
-) -> Result<Vec<u64>, Stop>
+/// Attaches the file of a name, and answers how many blocks its image has. No file is made.
+pub(crate) fn find_image<F: Files>(name: &str, access: Access, files: &mut F) -> Result<u32, Stop>
     requires { makes access ≡ false }
-    ensures image { IfOk result (λ words. HasSized ((F.view files.old).contents name.now) words.items) }
-    ensures holds { IfOk result (λ words. Holds (F.view files.new) name.now words.items) }
+    ensures found { IfOk result (λ count. FindsImage ((F.view files.old).contents name.now) name.now count (F.view files.new)) }
     ensures may_write { OnOk result ((F.view files.new).may_write ≡ may_change access) }
     ensures reason { IfErr result (IsReason ((F.view files.old).contents name.now)) }
     ensures cause { HasStopCause (F.view files.old).faults (F.view files.new).faults result }
@@ -80,26 +94,54 @@ pub(crate) fn load_file<F: Files>(
         Err(Failed) => return Err(Stop::Outside),
     };
     match image_length(len) {
-        Ok(count) => load(alloc, count, files),
+        Ok(count) => Ok(count),
         Err(fault) => Err(stop_of(fault)),
     }
 }
 
-// Mounts a region of the words of an image.
-fn mount(alloc: Global, words: Vec<u64>) -> Result<Volume<ListRegion>, Stop>
-    requires whole { vec_len words ≡ block_words * block_count words.items }
-    requires least { MIN_BLOCKS ≤ block_count words.items }
-    requires most { block_count words.items ≤ MAX_BLOCKS }
-    ensures same { IfOk result (λ volume. volume ≡ (start words.items).memory) }
-    ensures well_formed { OnOk result (IsWellFormed words.items) }
-    ensures refused { IfErr result (λ stop. (known : Known) (notice : Notice) → HasImage known words.items →
-        stop ≡ Refused notice → RefusesFile known notice) }
-    ensures kinds { IfErr result (λ stop. ((notice : Notice) × (stop ≡ Refused notice)) ⊎ (stop ≡ Memory)) }
+// The words of the file of a name, which is then attached, as a region. No file is made.
+fn load_file<F: Files>(
+    alloc: Global,
+    name: &str,
+    access: Access,
+    files: &mut F,
+) -> Result<RawRegion, Stop>
+    requires { makes access ≡ false }
+    ensures image { IfOk result (λ region. HasSized ((F.view files.old).contents name.now) region.base) }
+    ensures holds { IfOk result (λ region. Holds (F.view files.new) name.now region.base) }
+    ensures starts { IfOk result (λ region. region ≡ (start region.base).memory) }
+    ensures may_write { OnOk result ((F.view files.new).may_write ≡ may_change access) }
+    ensures reason { IfErr result (IsReason ((F.view files.old).contents name.now)) }
+    ensures cause { HasStopCause (F.view files.old).faults (F.view files.new).faults result }
+    ensures file { (F.view files.new).contents name.now ≡ (F.view files.old).contents name.now }
+    ensures flushed { (F.view files.new).is_flushed ≡ (F.view files.old).is_flushed }
 {
-    let region = match ListRegion::new(alloc, words, LOG_EVENTS) {
+    let count = match find_image(name, access, files) {
+        Ok(count) => count,
+        Err(stop) => return Err(stop),
+    };
+    let mut region = match RawRegion::new(alloc, BLOCK_WORDS * count, LOG_EVENTS) {
         Ok(region) => region,
         Err(_) => return Err(Stop::Memory),
     };
+    match load(&mut region, count, files) {
+        Ok(()) => Ok(region),
+        Err(stop) => Err(stop),
+    }
+}
+
+// Mounts a region of the words of an image.
+fn mount(alloc: Global, region: RawRegion) -> Result<Volume<RawRegion>, Stop>
+    requires starts { region ≡ (start region.base).memory }
+    requires whole { length region.base ≡ block_words * block_count region.base }
+    requires least { MIN_BLOCKS ≤ block_count region.base }
+    requires most { block_count region.base ≤ MAX_BLOCKS }
+    ensures same { IfOk result (λ volume. volume ≡ region) }
+    ensures well_formed { OnOk result (IsWellFormed region.base) }
+    ensures refused { IfErr result (λ stop. (known : Known) (notice : Notice) → HasImage known region.base →
+        stop ≡ Refused notice → RefusesFile known notice) }
+    ensures kinds { IfErr result (λ stop. ((notice : Notice) × (stop ≡ Refused notice)) ⊎ (stop ≡ Memory)) }
+{
     match Volume::mount(alloc, region) {
         Ok(volume) => Ok(volume),
         Err((_, fault)) => Err(stop_of(fault)),
@@ -112,7 +154,7 @@ fn mount(alloc: Global, words: Vec<u64>) -> Result<Volume<ListRegion>, Stop>
 ///
 /// `Missing` where the file is not there; `Outside` where the files failed; `Refused` where it is no file system; `Memory`
 /// where there is no memory for the volume.
-pub fn open<F: Files>(alloc: Global, name: &str, files: &mut F) -> Result<Volume<ListRegion>, Stop>
+pub fn open<F: Files>(alloc: Global, name: &str, files: &mut F) -> Result<Volume<RawRegion>, Stop>
     ensures opened { IfOk result (λ volume. (image : Image) × HoldsFileSystem ((F.view files.old).contents name.now) image
         × (volume ≡ (start image).memory) × Holds (F.view files.new) name.now image) }
     ensures ready { IfOk result (λ volume. IsReady volume.base (F.view files.new)) }
@@ -123,7 +165,7 @@ pub fn open<F: Files>(alloc: Global, name: &str, files: &mut F) -> Result<Volume
     ensures flushed { (F.view files.new).is_flushed ≡ (F.view files.old).is_flushed }
 {
     match load_file(alloc, name, Access::Write, files) {
-        Ok(words) => mount(alloc, words),
+        Ok(region) => mount(alloc, region),
         Err(stop) => Err(stop),
     }
 }
@@ -133,7 +175,7 @@ pub(crate) fn open_to_read<F: Files>(
     alloc: Global,
     name: &str,
     files: &mut F,
-) -> Result<Volume<ListRegion>, Stop>
+) -> Result<Volume<RawRegion>, Stop>
     ensures opened { IfOk result (λ volume. (image : Image) × HoldsFileSystem ((F.view files.old).contents name.now) image
         × (volume ≡ (start image).memory)) }
     ensures reason { IfErr result (IsReason ((F.view files.old).contents name.now)) }
@@ -142,7 +184,7 @@ pub(crate) fn open_to_read<F: Files>(
     ensures flushed { (F.view files.new).is_flushed ≡ (F.view files.old).is_flushed }
 {
     match load_file(alloc, name, Access::Read, files) {
-        Ok(words) => mount(alloc, words),
+        Ok(region) => mount(alloc, region),
         Err(stop) => Err(stop),
     }
 }

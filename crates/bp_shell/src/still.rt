@@ -1,9 +1,10 @@
 //! Words that are only looked at, as a region.
 
-ghost use Rattle.std.specs.Prelude.{◌≡◌, ◌<◌, ◌^◌, vec_len};
+ghost use Rattle.std.specs.Prelude.{◌≡◌, ◌<◌, ◌^◌, IfOk, replicate, vec_len};
 
 use pm_epochs::{BadChoice, Choice, Event, Kept, kept_calls};
 use pm_region::Region;
+use std::alloc::{AllocError, Global};
 
 /// A region in ordinary memory whose log has no room, so that nothing is ever stored. It keeps its words once, and takes no
 /// memory beside them.
@@ -15,15 +16,14 @@ pub(crate) struct StillRegion {
 }
 
 impl StillRegion {
-    /// A region of these words.
-    pub(crate) fn new(words: Vec<u64>) -> StillRegion
-        requires { vec_len words < 2 ^ 32 }
-        ensures { result.base.items ≡ words.items }
+    /// A region of so many words, each 0. Fails only for want of memory.
+    pub(crate) fn zeros(alloc: Global, words: u32) -> Result<StillRegion, AllocError>
+        ensures words { IfOk result (λ region. region.base.items ≡ replicate words 0) }
     {
-        StillRegion {
-            base: words,
+        Ok(StillRegion {
+            base: vec![in alloc; 0u64; words as usize]?,
             drains: 0,
-        }
+        })
     }
 }
 
@@ -78,5 +78,10 @@ impl Region for StillRegion {
 
     fn adopt_word(&mut self, word: u32, value: u64) {
         self.base[word as usize] = value;
+    }
+
+    fn adopt_words(&mut self, first: u32, values: &[u64]) {
+        let at = first as usize;
+        self.base[at..at + values.len()].copy_from_slice(values);
     }
 }

@@ -1,5 +1,4 @@
 use Rattle.std.proofs.Common.{rules, ◌≡◌, ◌∙◌, ap, sym, inl, inr}
-use Rattle.pm_region.specs.Memory.{Memory}
 use Rattle.bp_shell.specs.Stops.{stop_by}
 use Rattle.bp_shell.specs.declared.stop.Stop.TheVariants.{Refused}
 use Rattle.bp_shell.proofs.OpeningLaws.{no_refusal, stop_refused}
@@ -7,9 +6,8 @@ use Rattle.bp_shell.proofs.opening.mount.Goals as goal
 
 pub returns-clause-refused : goal.returns-clause-refused
 returns-clause-refused c = λ known notice has e.
-    let same : c.in-Ok.region.base ≡ c.args.words.items = ap (λ (m : Memory). m.base) c.in-Ok.ensures in
-    let told : stop_by c.in-Err-mount.fault ≡ Refused notice = sym c.stop_of.ensures ∙ e in
-    elim c.in-Err-mount.ensures.fault [
+    let told : stop_by c.in-Err.fault ≡ Refused notice = sym c.stop_of.ensures ∙ e in
+    elim c.in-Err.ensures.fault [
       | inl out ↦ absurd (no_refusal notice (rw out at told))
-      | inr why ↦ stop_refused c.in-Err-mount.fault c.args.words.items known notice (rw same at why) (record { has = has; whole = search rules; at_least = c.requires.least; at_most = c.requires.most }) told
+      | inr why ↦ stop_refused c.in-Err.fault c.args.region.base known notice why (record { has = has; whole = search rules; at_least = c.requires.least; at_most = c.requires.most }) told
     ]

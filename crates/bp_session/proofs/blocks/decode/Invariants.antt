@@ -1,6 +1,6 @@
 use Rattle.std.proofs.Common.{◌≡◌, ◌*◌, take, length}
 use Rattle.bp_layout.specs.Bytes.{image_bytes}
-use Rattle.bp_session.proofs.blocks.spelled.Given as goal
+use Rattle.bp_session.proofs.blocks.decode.Given as goal
 
 -- the first words are there
 abbrev pub invariant-loop-k : goal.invariant-loop-k

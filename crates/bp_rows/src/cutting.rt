@@ -152,7 +152,7 @@ impl Cuts<'_> {
     /// Tries the cuts at a moment. False is the answer where one is wrong.
     fn cut_at(&mut self, moment: usize, report: &mut String) -> Result<bool, AllocError> {
         let barriers = barriers_of(self.events.get(..moment).unwrap_or(&[]));
-        for epoch in 0..barriers + 1 {
+        for epoch in 0..barriers.saturating_add(1) {
             for mask in MASKS {
                 self.choose(moment, epoch, mask);
                 if !self.cut(report)? {

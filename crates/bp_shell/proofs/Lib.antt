@@ -3,4 +3,3 @@ pub mod FormattingLaws
 pub mod RunningLaws
 mod ProgramLaws
 mod PlayingLaws
-mod StillLaws

@@ -4,4 +4,3 @@ pub mod Formatting
 pub mod Checking
 pub mod Playing
 pub mod Running
-pub mod Still

@@ -8,21 +8,21 @@ ghost use Rattle.bp_limits.specs.Limits.{block_words};
 ghost use Rattle.bp_script.specs.declared.notices.Notice.{Notice};
 ghost use Rattle.bp_shell.specs.Checking.{CheckOutcome, Checks, IsClean};
 ghost use Rattle.bp_session.specs.Files.{HasImage};
-ghost use Rattle.bp_shell.specs.Opening.{HasSized, RefusesFile};
+ghost use Rattle.bp_shell.specs.Opening.{RefusesFile};
 ghost use Rattle.bp_session.specs.Outside.{outside};
 ghost use Rattle.bp_shell.specs.Stops.{HasStopCause, IsReason};
 ghost use Rattle.bp_shell.specs.declared.stop.Stop.TheVariants.{Memory, Refused};
-ghost use Rattle.std.specs.Prelude.{◌*◌, ◌≡◌, ◌≤◌, ◌⊎◌, ℕ, IfErr, IfOk, List, OnOk, Option, vec_len};
+ghost use Rattle.std.specs.Prelude.{◌*◌, ◌≡◌, ◌≤◌, ◌⊎◌, ℕ, [], IfErr, IfOk, List, OnOk, Option, length};
 
-use crate::opening::{find_image, load, stop_of};
+use crate::opening::{load_file, stop_of};
 use crate::printing::{print, tell_notice};
-use crate::still::StillRegion;
 use crate::stop::Stop;
 use bp_free::{Blocks, Inodes};
 use bp_io::{Access, Failed, Files, Sink};
 use bp_limits::{BLOCK_WORDS, MAX_BLOCKS, MIN_BLOCKS};
 use bp_scan::{Pending, scan};
 use bp_script::Notice;
+use pm_raw::RawRegion;
 use pm_region::Region;
 use std::alloc::{AllocError, Global};
 
@@ -42,13 +42,14 @@ fn room(alloc: Global, blocks: u32) -> Result<(Blocks, Inodes, Pending), AllocEr
 }
 
 // Scans an image, and tells what it holds.
-fn survey(alloc: Global, region: &StillRegion) -> Result<Notice, Stop>
-    requires whole { vec_len region.now.base ≡ block_words * block_count region.now.base.items }
-    requires least { MIN_BLOCKS ≤ block_count region.now.base.items }
-    requires most { block_count region.now.base.items ≤ MAX_BLOCKS }
-    ensures well_formed { OnOk result (IsWellFormed region.now.base.items) }
-    ensures clean { IfOk result (λ notice. IsClean region.now.base.items notice) }
-    ensures refused { IfErr result (λ stop. (known : Known) (notice : Notice) → HasImage known region.now.base.items →
+fn survey(alloc: Global, region: &RawRegion) -> Result<Notice, Stop>
+    requires fresh { region.now.events ≡ [] }
+    requires whole { length region.now.base ≡ block_words * block_count region.now.base }
+    requires least { MIN_BLOCKS ≤ block_count region.now.base }
+    requires most { block_count region.now.base ≤ MAX_BLOCKS }
+    ensures well_formed { OnOk result (IsWellFormed region.now.base) }
+    ensures clean { IfOk result (λ notice. IsClean region.now.base notice) }
+    ensures refused { IfErr result (λ stop. (known : Known) (notice : Notice) → HasImage known region.now.base →
         stop ≡ Refused notice → RefusesFile known notice) }
     ensures kinds { IfErr result (λ stop. ((notice : Notice) × (stop ≡ Refused notice)) ⊎ (stop ≡ Memory)) }
 {
@@ -68,28 +69,6 @@ fn survey(alloc: Global, region: &StillRegion) -> Result<Notice, Stop>
     }
 }
 
-// The words of the file of a name, which is then attached to be read.
-fn load_file<F: Files>(alloc: Global, name: &str, files: &mut F) -> Result<StillRegion, Stop>
-    ensures image { IfOk result (λ region. HasSized ((F.view files.old).contents name.now) region.base.items) }
-    ensures reason { IfErr result (IsReason ((F.view files.old).contents name.now)) }
-    ensures cause { HasStopCause (F.view files.old).faults (F.view files.new).faults result }
-    ensures file { (F.view files.new).contents name.now ≡ (F.view files.old).contents name.now }
-    ensures flushed { (F.view files.new).is_flushed ≡ (F.view files.old).is_flushed }
-{
-    let count = match find_image(name, Access::Read, files) {
-        Ok(count) => count,
-        Err(stop) => return Err(stop),
-    };
-    let mut region = match StillRegion::zeros(alloc, BLOCK_WORDS * count) {
-        Ok(region) => region,
-        Err(_) => return Err(Stop::Memory),
-    };
-    match load(&mut region, count, files) {
-        Ok(()) => Ok(region),
-        Err(stop) => Err(stop),
-    }
-}
-
 // Reads the file of a name, and tells what it holds.
 fn examine<F: Files>(alloc: Global, name: &str, files: &mut F) -> Result<Notice, Stop>
     ensures checks { IfOk result (Checks ((F.view files.old).contents name.now)) }
@@ -98,7 +77,7 @@ fn examine<F: Files>(alloc: Global, name: &str, files: &mut F) -> Result<Notice,
     ensures file { (F.view files.new).contents name.now ≡ (F.view files.old).contents name.now }
     ensures flushed { (F.view files.new).is_flushed ≡ (F.view files.old).is_flushed }
 {
-    match load_file(alloc, name, files) {
+    match load_file(alloc, name, Access::Read, files) {
         Ok(region) => survey(alloc, &region),
         Err(stop) => Err(stop),
     }

@@ -7,7 +7,6 @@ pub mod opening;
 mod playing;
 mod printing;
 mod running;
-mod still;
 mod stop;
 #[cfg(test)]
 mod tests;

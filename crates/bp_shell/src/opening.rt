@@ -36,12 +36,8 @@ fn adopt_block<R: Region>(region: &mut R, i: u32, words: &[u64; 512])
     region.adopt_words(BLOCK_WORDS * i, words);
 }
 
-/// Reads the attached file into a region of its size with an empty log, as words that were there at the last drain.
-pub(crate) fn load<F: Files, R: Region>(
-    region: &mut R,
-    count: u32,
-    files: &mut F,
-) -> Result<(), Stop>
+// Reads the attached file into a region of its size with an empty log, as words that were there at the last drain.
+fn load<F: Files, R: Region>(region: &mut R, count: u32, files: &mut F) -> Result<(), Stop>
     requires count { count ≡ (F.view files.old).blocks }
     requires few { count ≤ MAX_BLOCKS }
     requires size { length (R.memory region.old).base ≡ block_words * count }
@@ -78,8 +74,8 @@ pub(crate) fn stop_of(fault: MountFault) -> Stop
     }
 }
 
-/// Attaches the file of a name, and answers how many blocks its image has. No file is made.
-pub(crate) fn find_image<F: Files>(name: &str, access: Access, files: &mut F) -> Result<u32, Stop>
+// Attaches the file of a name, and answers how many blocks its image has. No file is made.
+fn find_image<F: Files>(name: &str, access: Access, files: &mut F) -> Result<u32, Stop>
     requires { makes access ≡ false }
     ensures found { IfOk result (λ count. FindsImage ((F.view files.old).contents name.now) name.now count (F.view files.new)) }
     ensures may_write { OnOk result ((F.view files.new).may_write ≡ may_change access) }
@@ -99,8 +95,8 @@ pub(crate) fn find_image<F: Files>(name: &str, access: Access, files: &mut F) ->
     }
 }
 
-// The words of the file of a name, which is then attached, as a region. No file is made.
-fn load_file<F: Files>(
+/// The words of the file of a name, which is then attached, as a region. No file is made.
+pub(crate) fn load_file<F: Files>(
     alloc: Global,
     name: &str,
     access: Access,

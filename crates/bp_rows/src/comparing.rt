@@ -106,7 +106,12 @@ impl<'a> Comparison<'a> {
 
     /// Does a line, and writes its reply. False is the answer for a line that asks for blocks, a log or a crash, of which a plain
     /// tree knows nothing.
-    pub fn answer(&mut self, alloc: Global, line: &str, told: &mut String) -> Result<bool, AllocError> {
+    pub fn answer(
+        &mut self,
+        alloc: Global,
+        line: &str,
+        told: &mut String,
+    ) -> Result<bool, AllocError> {
         if line.len() > MAX_LINE {
             put_said(alloc, &Said::LongLine, told)?;
             return Ok(true);

@@ -3,4 +3,5 @@ pub mod Block
 pub mod Lends
 pub mod RawArray
 pub mod RawLends
+pub mod Undo
 pub mod RawRegion

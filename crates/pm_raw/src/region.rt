@@ -1,22 +1,24 @@
-ghost use Rattle.std.specs.Prelude.{◌≡◌, ℕ, ◌+◌, ◌^◌, ◌<◌, ◌≤◌, [], ◌∷◌, ◌++◌, IfOk, length, take, replicate};
+ghost use Rattle.std.specs.Prelude.{◌≡◌, ℕ, ◌+◌, ◌^◌, ◌<◌, ◌≤◌, [], ◌∷◌, ◌++◌, IfOk, length, take, drop, replicate};
 ghost use Rattle.pm_region.specs.Memory.{stores_from, with_values};
 
 use super::array::RawArray;
+use super::undo::{replaced_by, undo, word_before};
 use pm_epochs::{BadChoice, Choice, Event, Kept, kept_calls};
 use pm_region::Region;
-use pm_region::words::{apply, apply_event, apply_kept, put_back, set_words};
+use pm_region::words::{apply_event, apply_kept};
 use std::alloc::{AllocError, Global};
 use std::marker::Model;
 use std::mem::size_of;
 
-/// A region in raw memory: the words at the last drain, the words now, and the events since, which stand at the front of an
-/// array that has a place for each event that the log can take. Each call but a drain and a crash takes constant time; those
-/// two take time for the events of the log, and none for words that no event stores to.
+/// A region in raw memory: the words now, the events since the last drain, and for each event the value that it replaced.
+/// The events and these values stand at the fronts of arrays that have a place for each event that the log can take. The
+/// words at the last drain are held nowhere: they are what undoing the log leaves. So a drain takes constant time, as each
+/// other call does but a crash and a look at a word at the last drain, which take time for the events of the log.
 #[derive(Drop)]
 pub struct RawRegion {
-    base: RawArray<u64>,
     current: RawArray<u64>,
     events: RawArray<Event>,
+    replaced: RawArray<u64>,
     count: usize,
     drains: u64,
 }
@@ -39,6 +41,15 @@ fn overwrite(words: &mut [u64], first: usize, values: &[u64])
     ensures { words.new ≡ with_values words.old first values.now }
 {
     words[first..first + values.len()].copy_from_slice(values);
+}
+
+/// Puts as many words as are wanted, from `first` on, in place of those values that stand from `at` on.
+fn save_words(values: &mut [u64], at: usize, words: &[u64], first: usize, wanted: usize)
+    requires room { at + wanted ≤ length values.old }
+    requires in_range { first + wanted ≤ length words.now }
+    ensures { values.new ≡ with_values values.old at (take wanted (drop first words.now)) }
+{
+    overwrite(values, at, &words[first..first + wanted]);
 }
 
 /// Writes stores of these values behind the first `count` events of a log.
@@ -72,13 +83,13 @@ impl RawRegion {
         if capacity > isize::MAX as usize / size_of::<Event>() {
             return Err(AllocError);
         }
-        let base = RawArray::new(alloc, words as usize, 0)?;
         let current = RawArray::new(alloc, words as usize, 0)?;
         let events = RawArray::new(alloc, capacity, Event::Mark)?;
+        let replaced = RawArray::new(alloc, capacity, 0)?;
         Ok(RawRegion {
-            base,
             current,
             events,
+            replaced,
             count: 0,
             drains: 0,
         })
@@ -110,12 +121,15 @@ impl RawRegion {
         &self.events.as_slice()[..self.count]
     }
 
+    /// Does an event, and puts it at the end of the log with the value that it replaces.
     fn push(&mut self, event: Event)
         requires { length self.old.events < self.old.capacity }
         ensures { self.new ≡ record self.old { events = self.old.events ++ event ∷ [] } }
     {
+        let replaced = replaced_by(self.current.as_slice(), event);
         apply_event(self.current.as_mut_slice(), event);
         self.events.set(self.count, event);
+        self.replaced.set(self.count, replaced);
         self.count += 1;
     }
 }
@@ -124,7 +138,7 @@ impl Region for RawRegion {
     ghost memory = { λ region. region };
 
     fn words(&self) -> u32 {
-        self.base.len() as u32
+        self.current.len() as u32
     }
 
     fn load(&self, word: u32) -> u64 {
@@ -136,7 +150,15 @@ impl Region for RawRegion {
     }
 
     fn store_words(&mut self, first: u32, values: &[u64]) {
-        set_words(self.current.as_mut_slice(), first, values);
+        let place = first as usize;
+        save_words(
+            self.replaced.as_mut_slice(),
+            self.count,
+            self.current.as_slice(),
+            place,
+            values.len(),
+        );
+        overwrite(self.current.as_mut_slice(), place, values);
         write_stores(self.events.as_mut_slice(), self.count, first, values);
         self.count += values.len();
     }
@@ -150,8 +172,6 @@ impl Region for RawRegion {
     }
 
     fn drain(&mut self) {
-        let log = &self.events.as_slice()[..self.count];
-        apply(self.base.as_mut_slice(), log);
         self.count = 0;
         self.drains = self.drains.saturating_add(1);
     }
@@ -169,30 +189,34 @@ impl Region for RawRegion {
     }
 
     fn base_word(&self, word: u32) -> u64 {
-        self.base.as_slice()[word as usize]
+        word_before(
+            self.current.as_slice(),
+            &self.events.as_slice()[..self.count],
+            &self.replaced.as_slice()[..self.count],
+            word,
+        )
     }
 
     fn crash_to(&mut self, choice: &Choice) -> Result<Kept, BadChoice> {
         let kept = kept_calls(self.log(), choice)?;
         let log = &self.events.as_slice()[..self.count];
+        let replaced = &self.replaced.as_slice()[..self.count];
+        undo(self.current.as_mut_slice(), log, replaced);
         apply_kept(
-            self.base.as_mut_slice(),
+            self.current.as_mut_slice(),
             &log[..choice.moment()],
             choice.epoch(),
             choice.mask(),
         );
-        put_back(self.current.as_mut_slice(), self.base.as_slice(), log);
         self.count = 0;
         Ok(kept)
     }
 
     fn adopt_word(&mut self, word: u32, value: u64) {
-        self.base.set(word as usize, value);
         self.current.set(word as usize, value);
     }
 
     fn adopt_words(&mut self, first: u32, values: &[u64]) {
-        overwrite(self.base.as_mut_slice(), first as usize, values);
         overwrite(self.current.as_mut_slice(), first as usize, values);
     }
 }

@@ -1,0 +1,175 @@
+-- What undoing a log leaves, and what writing a block of words does to the words and to the arrays of a log.
+use Rattle.std.proofs.Common.{◌≡◌, ℕ, suc, ◌+◌, ◌<◌, ◌≤◌, true, false, eqb, inl, inr, List, [], ◌∷◌, ◌++◌, length, take, drop, get_or, set, refl, sym, ◌∙◌, ap, arith}
+use Rattle.std.proofs.lemmas.Bool.Decides.{eqb_tells}
+use Rattle.std.proofs.lemmas.List.{append_assoc, drop-set-lt, drop_more, get_or-set_other, get_or-set_same, length-append, length-set, length-take, length-take-le, set-get_or, set-set, take_at, take_more, take_more_set}
+use Rattle.pm_epochs.specs.declared.event.Event.{Event}
+use Rattle.pm_epochs.specs.declared.event.Event.TheVariants.{Store, Barrier, Mark}
+use Rattle.pm_epochs.specs.Log.{words_after}
+use Rattle.pm_epochs.proofs.CrashLaws.{words_after-append}
+use Rattle.pm_region.specs.Memory.{Memory, stores_from, with_values}
+use Rattle.pm_region.proofs.MemoryLaws.{length-with_values, with_values-none}
+use Rattle.pm_raw.specs.Undo.{is_store_to, replaced_by, undone}
+
+pub length-undone : (words : List ℕ) (events : List Event) (replaced : List ℕ) → length (undone words events replaced) ≡ length words
+length-undone words [] replaced = refl
+length-undone words (event ∷ events) [] = refl
+length-undone words (Store word value ∷ events) (old ∷ replaced) = length-set (undone words events replaced) word old ∙ length-undone words events replaced
+length-undone words (Barrier ∷ events) (old ∷ replaced) = length-undone words events replaced
+length-undone words (Mark ∷ events) (old ∷ replaced) = length-undone words events replaced
+
+-- the end of a log is undone first
+pub undone-append : (words : List ℕ) (first rest : List Event) (replaced more : List ℕ) → length replaced ≡ length first → undone words (first ++ rest) (replaced ++ more) ≡ undone (undone words rest more) first replaced
+undone-append words [] rest [] more each = refl
+undone-append words [] rest (old ∷ replaced) more each = absurd (omega arith)
+undone-append words (event ∷ first) rest [] more each = absurd (omega arith)
+undone-append words (Store word value ∷ first) rest (old ∷ replaced) more each = ap (λ ws. set ws word old) (undone-append words first rest replaced more (omega arith))
+undone-append words (Barrier ∷ first) rest (old ∷ replaced) more each = undone-append words first rest replaced more (omega arith)
+undone-append words (Mark ∷ first) rest (old ∷ replaced) more each = undone-append words first rest replaced more (omega arith)
+
+-- one event done and undone changes nothing
+pub undone-one : (words : List ℕ) (event : Event) → undone (words_after words (event ∷ [])) (event ∷ []) (replaced_by words event ∷ []) ≡ words
+undone-one words (Store word value) = set-set words word value (get_or words word 0) ∙ set-get_or words word 0
+undone-one words Barrier = refl
+undone-one words Mark = refl
+
+-- a run of stores done and undone changes nothing
+pub undone-run : (words values : List ℕ) (first : ℕ) → first + length values ≤ length words →
+    undone (words_after words (stores_from first values)) (stores_from first values) (take (length values) (drop first words)) ≡ words
+undone-run words [] first fits = refl
+undone-run words (value ∷ values) first fits =
+    let next = set words first value in
+    let rest = stores_from (first + 1) values in
+    let behind = undone (words_after next rest) rest in
+    let same : drop (first + 1) next ≡ drop (first + 1) words = drop-set-lt (first + 1) words first value (omega arith) in
+    ap (λ ws. undone (words_after next rest) (Store first value ∷ rest) (take (suc (length values)) ws)) (drop_more words first 0 (omega arith))
+    ∙ ap (λ ws. set (behind (take (length values) ws)) first (get_or words first 0)) (sym same)
+    ∙ ap (λ ws. set ws first (get_or words first 0)) (undone-run next values (first + 1) (omega (arith, length-set words first value)))
+    ∙ set-set words first value (get_or words first 0)
+    ∙ set-get_or words first 0
+
+-- the words before one event, from those behind it
+abbrev pub undone_event : List ℕ → Event → ℕ → List ℕ
+undone_event words (Store word value) old = set words word old
+undone_event words Barrier old = words
+undone_event words Mark old = words
+
+undone-cons : (words : List ℕ) (event : Event) (events : List Event) (old : ℕ) (replaced : List ℕ) → undone words (event ∷ events) (old ∷ replaced) ≡ undone_event (undone words events replaced) event old
+undone-cons words (Store word value) events old replaced = refl
+undone-cons words Barrier events old replaced = refl
+undone-cons words Mark events old replaced = refl
+
+-- from one place of a log to the next
+pub undone-drop : (words : List ℕ) (events : List Event) (replaced : List ℕ) (none : Event) (i : ℕ) → i < length events → length replaced ≡ length events →
+    undone words (drop i events) (drop i replaced) ≡ undone_event (undone words (drop (i + 1) events) (drop (i + 1) replaced)) (get_or events i none) (get_or replaced i 0)
+undone-drop words events replaced none i low each =
+    ap (λ es. undone words es (drop i replaced)) (drop_more events i none low)
+    ∙ ap (undone words (get_or events i none ∷ drop (i + 1) events)) (drop_more replaced i 0 (omega arith))
+    ∙ undone-cons words (get_or events i none) (drop (i + 1) events) (get_or replaced i 0) (drop (i + 1) replaced)
+
+-- the front of a log up to a place, and the event there
+pub undone-take : (words : List ℕ) (events : List Event) (replaced : List ℕ) (none : Event) (i : ℕ) → i < length events → length replaced ≡ length events →
+    undone words (take (i + 1) events) (take (i + 1) replaced) ≡ undone (undone words (get_or events i none ∷ []) (get_or replaced i 0 ∷ [])) (take i events) (take i replaced)
+undone-take words events replaced none i low each =
+    ap (λ es. undone words es (take (i + 1) replaced)) (take_more events i none low)
+    ∙ ap (undone words (take i events ++ get_or events i none ∷ [])) (take_more replaced i 0 (omega arith))
+    ∙ undone-append words (take i events) (get_or events i none ∷ []) (take i replaced) (get_or replaced i 0 ∷ [])
+    (length-take-le i replaced (omega arith) ∙ sym (length-take-le i events (omega arith)))
+
+-- a block written at once is written word by word
+pub with_values-stores : (words values : List ℕ) (first : ℕ) → first + length values ≤ length words → with_values words first values ≡ words_after words (stores_from first values)
+with_values-stores words [] first fits = with_values-none words first
+with_values-stores words (value ∷ values) first fits =
+    let next = set words first value in
+    let place : first + suc (length values) ≡ (first + 1) + length values = omega arith in
+    let behind = drop ((first + 1) + length values) in
+    ap (λ n. take first words ++ ((value ∷ values) ++ drop n words)) place
+    ∙ sym (append_assoc (take first words) (value ∷ []) (values ++ behind words))
+    ∙ ap (λ front. front ++ (values ++ behind words)) (sym (take_more_set words first value (omega arith)))
+    ∙ ap (λ ws. take (first + 1) next ++ (values ++ ws)) (sym (drop-set-lt ((first + 1) + length values) words first value (omega arith)))
+    ∙ with_values-stores next values (first + 1) (omega (arith, length-set words first value))
+
+-- what stands before the end of a block that was written
+pub take-with_values : (words values : List ℕ) (first : ℕ) → first + length values ≤ length words → take (first + length values) (with_values words first values) ≡ take first words ++ values
+take-with_values words values first fits =
+    let front = take first words in
+    ap (take (first + length values)) (sym (append_assoc front values (drop (first + length values) words)))
+    ∙ take_at (front ++ values) (drop (first + length values) words) (first + length values) (length-append front values ∙ ap (λ n. n + length values) (length-take-le first words (omega arith)))
+
+-- ## One word
+
+word-undone-same : (words : List ℕ) (event : Event) (old word : ℕ) → word < length words → is_store_to word event ≡ true → get_or (undone_event words event old) word 0 ≡ old
+word-undone-same words (Store place value) old word low found = elim (eqb_tells place word) [
+  | inl same ↦ rw same.1 (get_or-set_same words word old 0 low)
+  | inr differ ↦ let other : eqb place word ≡ false = differ.0 in cc
+]
+word-undone-same words Barrier old word low found = cc
+word-undone-same words Mark old word low found = cc
+
+word-undone-other : (words : List ℕ) (event : Event) (old word : ℕ) → is_store_to word event ≡ false → get_or (undone_event words event old) word 0 ≡ get_or words word 0
+word-undone-other words (Store place value) old word missed = elim (eqb_tells place word) [
+  | inl same ↦ let here : eqb place word ≡ true = same.0 in cc
+  | inr differ ↦ get_or-set_other words place word old 0 (λ e. differ.1 (sym e))
+]
+word-undone-other words Barrier old word missed = refl
+word-undone-other words Mark old word missed = refl
+
+module _ (words : List ℕ) (events : List Event) (replaced : List ℕ) (none : Event) (i word : ℕ) (low : i < length events) (each : length replaced ≡ length events) where
+  abbrev behind : List ℕ
+  behind = undone words (drop (i + 1) events) (drop (i + 1) replaced)
+
+  -- the first store to a word replaced what the word was
+  pub word_before-found : word < length words → is_store_to word (get_or events i none) ≡ true → get_or (undone words (drop i events) (drop i replaced)) word 0 ≡ get_or replaced i 0
+  word_before-found within found =
+      ap (λ ws. get_or ws word 0) (undone-drop words events replaced none i low each)
+      ∙ word-undone-same behind (get_or events i none) (get_or replaced i 0) word (omega (arith, length-undone words (drop (i + 1) events) (drop (i + 1) replaced))) found
+
+  -- another event leaves it
+  pub word_before-other : is_store_to word (get_or events i none) ≡ false → get_or (undone words (drop i events) (drop i replaced)) word 0 ≡ get_or (undone words (drop (i + 1) events) (drop (i + 1) replaced)) word 0
+  word_before-other missed =
+      ap (λ ws. get_or ws word 0) (undone-drop words events replaced none i low each)
+      ∙ word-undone-other behind (get_or events i none) (get_or replaced i 0) word missed
+
+-- ## Memories
+
+-- what is put into a log leaves it as long
+pub length-saved : (values words : List ℕ) (at first wanted : ℕ) → at + wanted ≤ length values → length (with_values values at (take wanted (drop first words))) ≡ length values
+length-saved values words at first wanted fits = length-with_values values at (take wanted (drop first words)) (omega (arith, length-take wanted (drop first words)))
+
+abbrev pub memory_with : List ℕ → List Event → ℕ → ℕ → Memory
+memory_with base events capacity drains = record { base = base; events = events; capacity = capacity; drains = drains }
+
+-- events are done, and stand behind the log with the values that they replaced
+module _ (current next : List ℕ) (log new_log more : List Event) (replaced new_replaced values : List ℕ) (each : length replaced ≡ length log) (undoes : undone (words_after current more) more values ≡ current) (next_is : next ≡ words_after current more) (log_is : new_log ≡ log ++ more) (replaced_is : new_replaced ≡ replaced ++ values) where
+  pub base-pushed : undone next new_log new_replaced ≡ undone current log replaced
+  base-pushed =
+      ap (λ ws. undone ws new_log new_replaced) next_is
+      ∙ ap (λ es. undone (words_after current more) es new_replaced) log_is
+      ∙ ap (undone (words_after current more) (log ++ more)) replaced_is
+      ∙ undone-append (words_after current more) log more replaced values each
+      ∙ ap (λ ws. undone ws log replaced) undoes
+
+  pub current-pushed : current ≡ words_after (undone current log replaced) log → next ≡ words_after (undone next new_log new_replaced) new_log
+  current-pushed now =
+      next_is
+      ∙ ap (λ ws. words_after ws more) now
+      ∙ sym (words_after-append (undone current log replaced) log more)
+      ∙ ap (words_after (undone current log replaced)) (sym log_is)
+      ∙ ap (λ ws. words_after ws new_log) (sym base-pushed)
+
+pub memory-pushed : (old : Memory) (base new_base : List ℕ) (log new_log more : List Event) (capacity new_capacity drains : ℕ) → memory_with base log capacity drains ≡ old → new_base ≡ base → new_log ≡ log ++ more → new_capacity ≡ capacity → memory_with new_base new_log new_capacity drains ≡ record old { events = old.events ++ more }
+memory-pushed old base new_base log new_log more capacity new_capacity drains is base_is log_is capacity_is =
+    ap (λ ws. memory_with ws new_log new_capacity drains) base_is
+    ∙ ap (λ es. memory_with base es new_capacity drains) log_is
+    ∙ ap (λ n. memory_with base (log ++ more) n drains) capacity_is
+    ∙ ap (λ (m : Memory). record m { events = m.events ++ more }) is
+
+-- words are changed while the log is empty
+pub current-adopted : (next : List ℕ) (log : List Event) (replaced : List ℕ) → log ≡ [] → next ≡ words_after (undone next log replaced) log
+current-adopted next log replaced none = sym (ap (λ es. words_after (undone next es replaced) es) none)
+
+pub memory-adopted : (change : List ℕ → List ℕ) (old : Memory) (current next : List ℕ) (log : List Event) (replaced : List ℕ) (capacity drains : ℕ) → memory_with (undone current log replaced) log capacity drains ≡ old → log ≡ [] → next ≡ change current → memory_with (undone next log replaced) log capacity drains ≡ record old { base = change old.base }
+memory-adopted change old current next log replaced capacity drains is none next_is =
+    ap (λ es. memory_with (undone next es replaced) es capacity drains) none
+    ∙ ap (λ ws. memory_with ws [] capacity drains) next_is
+    ∙ sym (ap (λ es. memory_with (change (undone current es replaced)) es capacity drains) none)
+    ∙ ap (λ (m : Memory). record m { base = change m.base }) is

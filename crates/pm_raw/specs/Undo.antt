@@ -1,0 +1,24 @@
+-- What undoes a log: for each of its events the value that it replaced, 0 where it is no store.
+use Rattle.std.specs.Prelude.{ℕ, ◌==◌, Bool, false, List, [], ◌∷◌, slice_index, slice_set}
+use Rattle.pm_epochs.specs.declared.event.Event.{Event}
+use Rattle.pm_epochs.specs.declared.event.Event.TheVariants.{Store, Barrier, Mark}
+
+-- the value of the word that an event stores to
+abbrev pub replaced_by : List ℕ → Event → ℕ
+replaced_by words (Store word value) = slice_index words word
+replaced_by words Barrier = 0
+replaced_by words Mark = 0
+
+-- whether an event is a store to this word
+abbrev pub is_store_to : ℕ → Event → Bool
+is_store_to word (Store place value) = place == word
+is_store_to word Barrier = false
+is_store_to word Mark = false
+
+-- the words before a log, from those after it: its last event is undone first
+abbrev pub undone : List ℕ → List Event → List ℕ → List ℕ
+undone words [] replaced = words
+undone words (event ∷ events) [] = words
+undone words (Store word value ∷ events) (old ∷ replaced) = slice_set (undone words events replaced) word old
+undone words (Barrier ∷ events) (old ∷ replaced) = undone words events replaced
+undone words (Mark ∷ events) (old ∷ replaced) = undone words events replaced

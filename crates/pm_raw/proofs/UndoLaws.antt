@@ -1,5 +1,6 @@
 -- What undoing a log leaves, and what writing a block of words does to the words and to the arrays of a log.
 use Rattle.std.proofs.Common.{◌≡◌, ℕ, suc, ◌+◌, ◌<◌, ◌≤◌, true, false, eqb, inl, inr, List, [], ◌∷◌, ◌++◌, length, take, drop, get_or, set, refl, sym, ◌∙◌, ap, arith}
+use Rattle.std.specs.Prelude.{if◌then◌else◌}
 use Rattle.std.proofs.lemmas.Bool.Decides.{eqb_tells}
 use Rattle.std.proofs.lemmas.List.{append_assoc, drop-set-lt, drop_more, get_or-set_other, get_or-set_same, length-append, length-set, length-take, length-take-le, set-get_or, set-set, take_at, take_more, take_more_set}
 use Rattle.pm_epochs.specs.declared.event.Event.{Event}
@@ -8,7 +9,8 @@ use Rattle.pm_epochs.specs.Log.{words_after}
 use Rattle.pm_epochs.proofs.CrashLaws.{words_after-append}
 use Rattle.pm_region.specs.Memory.{Memory, stores_from, with_values}
 use Rattle.pm_region.proofs.MemoryLaws.{length-with_values, with_values-none}
-use Rattle.pm_raw.specs.Undo.{is_store_to, replaced_by, undone}
+use Rattle.pm_raw.specs.Entries.{signal_of}
+use Rattle.pm_raw.specs.Undo.{is_store_to, undone}
 
 pub length-undone : (words : List ℕ) (events : List Event) (replaced : List ℕ) → length (undone words events replaced) ≡ length words
 length-undone words [] replaced = refl
@@ -26,11 +28,16 @@ undone-append words (Store word value ∷ first) rest (old ∷ replaced) more ea
 undone-append words (Barrier ∷ first) rest (old ∷ replaced) more each = undone-append words first rest replaced more (omega arith)
 undone-append words (Mark ∷ first) rest (old ∷ replaced) more each = undone-append words first rest replaced more (omega arith)
 
--- one event done and undone changes nothing
-pub undone-one : (words : List ℕ) (event : Event) → undone (words_after words (event ∷ [])) (event ∷ []) (replaced_by words event ∷ []) ≡ words
-undone-one words (Store word value) = set-set words word value (get_or words word 0) ∙ set-get_or words word 0
-undone-one words Barrier = refl
-undone-one words Mark = refl
+-- one store done and undone changes nothing
+pub undone-store : (words : List ℕ) (word value : ℕ) → undone (words_after words (Store word value ∷ [])) (Store word value ∷ []) (get_or words word 0 ∷ []) ≡ words
+undone-store words word value = set-set words word value (get_or words word 0) ∙ set-get_or words word 0
+
+-- what is no store changes nothing
+pub after-signal : (words : List ℕ) (value : ℕ) → words ≡ words_after words (signal_of value ∷ [])
+after-signal words value = elim (eqb value 0) as (λ b. words ≡ words_after words ((if b then Barrier else Mark) ∷ [])) [ true ↦ refl | false ↦ refl ]
+
+pub undone-signal : (words : List ℕ) (value : ℕ) → undone (words_after words (signal_of value ∷ [])) (signal_of value ∷ []) (0 ∷ []) ≡ words
+undone-signal words value = elim (eqb value 0) as (λ b. undone (words_after words ((if b then Barrier else Mark) ∷ [])) ((if b then Barrier else Mark) ∷ []) (0 ∷ []) ≡ words) [ true ↦ refl | false ↦ refl ]
 
 -- a run of stores done and undone changes nothing
 pub undone-run : (words values : List ℕ) (first : ℕ) → first + length values ≤ length words →

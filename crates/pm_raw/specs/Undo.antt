@@ -1,13 +1,7 @@
 -- What undoes a log: for each of its events the value that it replaced, 0 where it is no store.
-use Rattle.std.specs.Prelude.{ℕ, ◌==◌, Bool, false, List, [], ◌∷◌, slice_index, slice_set}
+use Rattle.std.specs.Prelude.{ℕ, ◌==◌, Bool, false, List, [], ◌∷◌, slice_set}
 use Rattle.pm_epochs.specs.declared.event.Event.{Event}
 use Rattle.pm_epochs.specs.declared.event.Event.TheVariants.{Store, Barrier, Mark}
-
--- the value of the word that an event stores to
-abbrev pub replaced_by : List ℕ → Event → ℕ
-replaced_by words (Store word value) = slice_index words word
-replaced_by words Barrier = 0
-replaced_by words Mark = 0
 
 -- whether an event is a store to this word
 abbrev pub is_store_to : ℕ → Event → Bool

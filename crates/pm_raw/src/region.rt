@@ -1,23 +1,27 @@
 ghost use Rattle.std.specs.Prelude.{◌≡◌, ℕ, ◌+◌, ◌^◌, ◌<◌, ◌≤◌, [], ◌∷◌, ◌++◌, IfOk, length, take, drop, replicate};
-ghost use Rattle.pm_region.specs.Memory.{stores_from, with_values};
+ghost use Rattle.std.specs.List.{range_with_len};
+ghost use Rattle.pm_region.specs.Memory.{with_values};
+ghost use Rattle.pm_raw.specs.Entries.{events_of, signal_of};
 
 use super::array::RawArray;
-use super::undo::{replaced_by, undo, word_before};
-use pm_epochs::{BadChoice, Choice, Event, Kept, kept_calls};
+use super::crash::{apply_kept, kept_calls};
+use super::log::{BARRIER, Log, MARK, NO_WORD};
+use super::undo::{undo, word_before};
+use pm_epochs::{BadChoice, Choice, Event, Kept};
 use pm_region::Region;
-use pm_region::words::{apply_event, apply_kept};
 use std::alloc::{AllocError, Global};
 use std::marker::Model;
 use std::mem::size_of;
 
-/// A region in raw memory: the words now, the events since the last drain, and for each event the value that it replaced.
-/// The events and these values stand at the fronts of arrays that have a place for each event that the log can take. The
-/// words at the last drain are held nowhere: they are what undoing the log leaves. So a drain takes constant time, as each
-/// other call does but a crash and a look at a word at the last drain, which take time for the events of the log.
+/// A region in raw memory: the words now, and for each event since the last drain its word, its value, and the value that it
+/// replaced. These stand at the fronts of arrays that have a place for each event that the log can take. The words at the
+/// last drain are held nowhere: they are what undoing the log leaves. So a drain takes constant time, as each other call does
+/// but a crash and a look at a word at the last drain, which take time for the events of the log.
 #[derive(Drop)]
 pub struct RawRegion {
     current: RawArray<u64>,
-    events: RawArray<Event>,
+    words: RawArray<u32>,
+    values: RawArray<u64>,
     replaced: RawArray<u64>,
     count: usize,
     drains: u64,
@@ -52,43 +56,51 @@ fn save_words(values: &mut [u64], at: usize, words: &[u64], first: usize, wanted
     overwrite(values, at, &words[first..first + wanted]);
 }
 
-/// Writes stores of these values behind the first `count` events of a log.
-fn write_stores(log: &mut [Event], count: usize, first: u32, values: &[u64])
-    requires room { count + length values.now ≤ length log.old }
-    requires in_range { first + length values.now < 2 ^ 32 }
-    ensures stores { take (count + length values.now) log.new ≡ take count log.old ++ stores_from first values.now }
-    ensures size { length log.new ≡ length log.old }
+/// Writes so many words, from `first` on, behind the first `count` words of a log.
+fn write_words(words: &mut [u32], count: usize, first: u32, wanted: usize)
+    requires room { count + wanted ≤ length words.old }
+    requires in_range { first + wanted < 2 ^ 32 }
+    ensures written { take (count + wanted) words.new ≡ take count words.old ++ range_with_len first wanted }
+    ensures size { length words.new ≡ length words.old }
 {
-    for i in 0..values.len() {
-        log[count + i] = Event::Store {
-            word: first + i as u32,
-            value: values[i],
-        };
+    for i in 0..wanted {
+        words[count + i] = first + i as u32;
     }
+}
+
+/// The log that stands at the fronts of these arrays.
+fn log_of<'a>(words: &'a RawArray<u32>, values: &'a RawArray<u64>, count: usize) -> Log<'a>
+    requires sized { length values.now ≡ length words.now }
+    requires fits { count ≤ length words.now }
+    ensures { result ≡ events_of (take count words.now) (take count values.now) }
+{
+    Log::new(&words.as_slice()[..count], &values.as_slice()[..count])
 }
 
 impl RawRegion {
     ghost use Rattle.pm_region.specs.Memory.{Memory};
 
-    /// A region of so many words, each 0, with an empty log that can take `capacity` events. Fails only for want of memory; no
+    /// A region of `size` words, each 0, with an empty log that can take `capacity` events. Fails only for want of memory; no
     /// other call takes any.
-    pub fn new(alloc: Global, words: u32, capacity: usize) -> Result<RawRegion, AllocError>
+    pub fn new(alloc: Global, size: u32, capacity: usize) -> Result<RawRegion, AllocError>
         ensures { IfOk result (λ region. region ≡ record {
-          base = replicate words 0;
+          base = replicate size 0;
           events = [];
           capacity = capacity;
           drains = 0;
         }) }
     {
-        if capacity > isize::MAX as usize / size_of::<Event>() {
+        if capacity > isize::MAX as usize / size_of::<u64>() {
             return Err(AllocError);
         }
-        let current = RawArray::new(alloc, words as usize, 0)?;
-        let events = RawArray::new(alloc, capacity, Event::Mark)?;
+        let current = RawArray::new(alloc, size as usize, 0)?;
+        let words = RawArray::new(alloc, capacity, NO_WORD)?;
+        let values = RawArray::new(alloc, capacity, MARK)?;
         let replaced = RawArray::new(alloc, capacity, 0)?;
         Ok(RawRegion {
             current,
-            events,
+            words,
+            values,
             replaced,
             count: 0,
             drains: 0,
@@ -114,22 +126,14 @@ impl RawRegion {
         Ok(region)
     }
 
-    /// The events since the last drain.
-    fn log(&self) -> &[Event]
-        ensures { result.now ≡ self.now.events }
-    {
-        &self.events.as_slice()[..self.count]
-    }
-
-    /// Does an event, and puts it at the end of the log with the value that it replaces.
-    fn push(&mut self, event: Event)
+    /// Puts an event that is no store at the end of the log, by its value.
+    fn push_signal(&mut self, value: u64)
         requires { length self.old.events < self.old.capacity }
-        ensures { self.new ≡ record self.old { events = self.old.events ++ event ∷ [] } }
+        ensures { self.new ≡ record self.old { events = self.old.events ++ signal_of value ∷ [] } }
     {
-        let replaced = replaced_by(self.current.as_slice(), event);
-        apply_event(self.current.as_mut_slice(), event);
-        self.events.set(self.count, event);
-        self.replaced.set(self.count, replaced);
+        self.words.set(self.count, NO_WORD);
+        self.values.set(self.count, value);
+        self.replaced.set(self.count, 0);
         self.count += 1;
     }
 }
@@ -146,7 +150,12 @@ impl Region for RawRegion {
     }
 
     fn store(&mut self, word: u32, value: u64) {
-        self.push(Event::Store { word, value });
+        let replaced = self.current.as_slice()[word as usize];
+        self.current.set(word as usize, value);
+        self.words.set(self.count, word);
+        self.values.set(self.count, value);
+        self.replaced.set(self.count, replaced);
+        self.count += 1;
     }
 
     fn store_words(&mut self, first: u32, values: &[u64]) {
@@ -159,16 +168,17 @@ impl Region for RawRegion {
             values.len(),
         );
         overwrite(self.current.as_mut_slice(), place, values);
-        write_stores(self.events.as_mut_slice(), self.count, first, values);
+        overwrite(self.values.as_mut_slice(), self.count, values);
+        write_words(self.words.as_mut_slice(), self.count, first, values.len());
         self.count += values.len();
     }
 
     fn barrier(&mut self) {
-        self.push(Event::Barrier);
+        self.push_signal(BARRIER);
     }
 
     fn mark(&mut self) {
-        self.push(Event::Mark);
+        self.push_signal(MARK);
     }
 
     fn drain(&mut self) {
@@ -177,7 +187,7 @@ impl Region for RawRegion {
     }
 
     fn room(&self) -> usize {
-        self.events.len() - self.count
+        self.words.len() - self.count
     }
 
     fn event_count(&self) -> usize {
@@ -185,26 +195,26 @@ impl Region for RawRegion {
     }
 
     fn event(&self, i: usize) -> Event {
-        self.log()[i]
+        log_of(&self.words, &self.values, self.count).event(i)
     }
 
     fn base_word(&self, word: u32) -> u64 {
         word_before(
             self.current.as_slice(),
-            &self.events.as_slice()[..self.count],
+            &log_of(&self.words, &self.values, self.count),
             &self.replaced.as_slice()[..self.count],
             word,
         )
     }
 
     fn crash_to(&mut self, choice: &Choice) -> Result<Kept, BadChoice> {
-        let kept = kept_calls(self.log(), choice)?;
-        let log = &self.events.as_slice()[..self.count];
+        let log = log_of(&self.words, &self.values, self.count);
+        let kept = kept_calls(&log, choice)?;
         let replaced = &self.replaced.as_slice()[..self.count];
-        undo(self.current.as_mut_slice(), log, replaced);
+        undo(self.current.as_mut_slice(), &log, replaced);
         apply_kept(
             self.current.as_mut_slice(),
-            &log[..choice.moment()],
+            &log.front(choice.moment()),
             choice.epoch(),
             choice.mask(),
         );

@@ -1,22 +1,9 @@
 ghost use Rattle.std.specs.Prelude.{◌≡◌, ◌<◌, [], ◌∷◌, length, slice_index};
-ghost use Rattle.pm_raw.specs.Undo.{is_store_to, replaced_by as value_replaced, undone};
+ghost use Rattle.pm_raw.specs.Undo.{is_store_to, undone};
 
+use super::log::Log;
 use pm_epochs::Event;
 use pm_region::words::apply_event;
-
-/// The value that an event is about to replace, or 0 where it is no store to one of the words.
-pub fn replaced_by(words: &[u64], event: Event) -> u64
-    ensures { result ≡ value_replaced words.now event }
-{
-    match event {
-        Event::Store { word, .. } => match words.get(word as usize) {
-            Some(value) => *value,
-            None => 0,
-        },
-        Event::Barrier => 0,
-        Event::Mark => 0,
-    }
-}
 
 /// Undoes one event, which replaced this value.
 fn undo_event(words: &mut [u64], event: Event, replaced: u64)
@@ -36,12 +23,12 @@ fn undo_event(words: &mut [u64], event: Event, replaced: u64)
 }
 
 /// Undoes a log whose events replaced these values, the last one first.
-pub fn undo(words: &mut [u64], events: &[Event], replaced: &[u64])
-    requires { length replaced.now ≡ length events.now }
-    ensures { words.new ≡ undone words.old events.now replaced.now }
+pub fn undo(words: &mut [u64], log: &Log<'_>, replaced: &[u64])
+    requires { length replaced.now ≡ length log.now }
+    ensures { words.new ≡ undone words.old log.now replaced.now }
 {
-    for i in (0..events.len()).rev() {
-        undo_event(words, events[i], replaced[i]);
+    for i in (0..log.len()).rev() {
+        undo_event(words, log.event(i), replaced[i]);
     }
 }
 
@@ -57,13 +44,13 @@ fn stores_to(event: Event, word: u32) -> bool
 }
 
 /// What a word was before a log whose events replaced these values: what the first store to it replaced.
-pub fn word_before(words: &[u64], events: &[Event], replaced: &[u64], word: u32) -> u64
+pub fn word_before(words: &[u64], log: &Log<'_>, replaced: &[u64], word: u32) -> u64
     requires in_range { word < length words.now }
-    requires each { length replaced.now ≡ length events.now }
-    ensures { result ≡ slice_index (undone words.now events.now replaced.now) word }
+    requires each { length replaced.now ≡ length log.now }
+    ensures { result ≡ slice_index (undone words.now log.now replaced.now) word }
 {
-    for i in 0..events.len() {
-        let found = stores_to(events[i], word);
+    for i in 0..log.len() {
+        let found = stores_to(log.event(i), word);
         if found {
             return replaced[i];
         }

@@ -1,6 +1,5 @@
-use Rattle.std.proofs.Common.{◌≡◌, ◌+◌, ◌-◌, ◌<◌, ◌∙◌, ap, arith, length, sym, take}
+use Rattle.std.proofs.Common.{◌≡◌, ◌+◌, ◌-◌, ◌<◌, ◌∙◌, [], ◌∷◌, ap, arith, get_or, length, sym, take}
 use Rattle.std.proofs.lemmas.List.{take_all}
-use Rattle.pm_epochs.specs.declared.event.Event.TheVariants.{Store}
 use Rattle.pm_raw.specs.Undo.{undone}
 use Rattle.pm_raw.proofs.UndoLaws.{undone-take}
 use Rattle.pm_raw.proofs.undo.undo.Goals as goal
@@ -8,22 +7,25 @@ use Rattle.pm_raw.proofs.undo.undo.Goals as goal
 pub loop-i-init : goal.loop-i-init
 loop-i-init c =
     let words = c.args.words.now in
-    let events = c.args.events.now in
+    let log = c.args.log.now in
     let replaced = c.args.replaced.now in
-    ap (λ es. undone words es (take (length events) replaced)) (take_all (length events) events (omega arith))
-    ∙ ap (undone words events) (take_all (length events) replaced (omega (arith, c.requires)))
+    let count = c.len-i.result in
+    ap (λ es. undone words es (take count replaced)) (take_all count log (omega arith))
+    ∙ ap (undone words log) (take_all count replaced (omega (arith, c.requires)))
 
 pub loop-i-preserved : goal.loop-i-preserved
 loop-i-preserved c =
     let loop = c.loop-i in
-    let events = c.args.events.now in
+    let log = c.args.log.now in
     let replaced = c.args.replaced.now in
+    let event = c.event.result in
     let at = loop.i - 1 in
     let above : at + 1 ≡ loop.i = omega (arith, c.loop-i-test.true) in
-    let low : at < length events = omega (arith, c.loop-i-test.true, c.loop-i.auto.i) in
-    ap (λ ws. undone ws (take at events) (take at replaced)) c.undo_event.ensures
-    ∙ sym (undone-take loop.words events replaced (Store 0 0) at low c.requires)
-    ∙ ap (λ n. undone loop.words (take n events) (take n replaced)) above
+    let low : at < length log = omega (arith, c.loop-i-test.true, c.loop-i.auto.i) in
+    ap (λ ws. undone ws (take at log) (take at replaced)) c.undo_event.ensures
+    ∙ ap (λ e. undone (undone loop.words (e ∷ []) (get_or replaced at 0 ∷ [])) (take at log) (take at replaced)) c.event.ensures.value
+    ∙ sym (undone-take loop.words log replaced event at low c.requires)
+    ∙ ap (λ n. undone loop.words (take n log) (take n replaced)) above
     ∙ loop.invariant
 
 pub returns : goal.returns

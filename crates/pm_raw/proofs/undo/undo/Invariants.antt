@@ -3,4 +3,4 @@ use Rattle.pm_raw.specs.Undo.{undone}
 use Rattle.pm_raw.proofs.undo.undo.Given as goal
 
 abbrev pub invariant-loop-i : goal.invariant-loop-i
-invariant-loop-i l = undone l.words (take l.i l.events) (take l.i l.replaced) ≡ undone l.fn.words l.events l.replaced
+invariant-loop-i l = undone l.words (take l.i l.log) (take l.i l.replaced) ≡ undone l.fn.words l.log l.replaced

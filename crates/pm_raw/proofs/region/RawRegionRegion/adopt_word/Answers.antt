@@ -1,30 +1,45 @@
-use Rattle.std.proofs.Common.{◌∙◌, ap, arith, length, set, take}
+use Rattle.std.proofs.Common.{◌∙◌, ap, arith, length, set, take, ◌-◌}
 use Rattle.std.proofs.lemmas.List.{length-set}
-use Rattle.pm_region.specs.Memory.{Memory}
+use Rattle.pm_region.specs.Memory.{Memory, drained}
+use Rattle.pm_raw.specs.Entries.{events_of}
 use Rattle.pm_raw.proofs.UndoLaws.{length-undone, current-adopted, memory-adopted}
 use Rattle.pm_raw.proofs.region.RawRegionRegion.adopt_word.Goals as goal
 
 pub set-requires : goal.set-requires
 set-requires c =
     let region = c.self.inside in
-    let base_long = length-undone region.current (take region.count region.events) (take region.count region.replaced) in
-    omega (arith, c.requires.in_range, ap (λ (m : Memory). length m.base) c.self.view_is, base_long)
+    let log = events_of (take region.count region.words) (take region.count region.values) in
+    let replaced = take region.count region.replaced in
+    let step = c.self.invariant in
+    let base_is = ap (λ (m : Memory). length m.base) c.self.view_is in
+    let base_long = length-undone region.current log replaced in
+    omega (arith, c.requires.in_range, base_is, base_long)
 
 pub invariant_of-self : goal.invariant_of-self
 invariant_of-self c =
     let region = c.self.inside in
+    let log = events_of (take region.count region.words) (take region.count region.values) in
+    let replaced = take region.count region.replaced in
+    let step = c.self.invariant in
+    let base_is = ap (λ (m : Memory). length m.base) c.self.view_is in
+    let base_long = length-undone region.current log replaced in
     let none = ap (λ (m : Memory). m.events) c.self.view_is ∙ c.requires.drained in
     record {
-      current = current-adopted _ (take region.count region.events) (take region.count region.replaced) none;
-      few = omega (arith, ap length c.set.ensures, length-set region.current c.args.word c.args.value, c.self.invariant.few);
-      sized = c.self.invariant.sized;
-      fits = c.self.invariant.fits;
-      small = c.self.invariant.small;
+      current = current-adopted _ log replaced none;
+      few = omega (arith, ap length c.set.ensures, length-set region.current c.args.word c.args.value, step.few);
+      values_sized = step.values_sized;
+      replaced_sized = step.replaced_sized;
+      fits = step.fits;
+      small = step.small;
     }
 
 pub returns : goal.returns
 returns c =
     let region = c.self.inside in
+    let log = events_of (take region.count region.words) (take region.count region.values) in
+    let replaced = take region.count region.replaced in
+    let step = c.self.invariant in
+    let base_is = ap (λ (m : Memory). length m.base) c.self.view_is in
+    let base_long = length-undone region.current log replaced in
     let none = ap (λ (m : Memory). m.events) c.self.view_is ∙ c.requires.drained in
-    memory-adopted (λ words. set words c.args.word c.args.value) _ region.current _ (take region.count region.events) (take region.count region.replaced) (length region.events) region.drains c.self.view_is none
-    c.set.ensures
+    memory-adopted (λ words. set words c.args.word c.args.value) _ region.current _ log replaced (length region.words) region.drains c.self.view_is none c.set.ensures

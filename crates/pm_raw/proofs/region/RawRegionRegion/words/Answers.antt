@@ -1,10 +1,15 @@
-use Rattle.std.proofs.Common.{◌∙◌, ap, length, sym, take}
+use Rattle.std.proofs.Common.{◌∙◌, ap, length, sym, take, ◌-◌}
 use Rattle.pm_region.specs.Memory.{Memory}
+use Rattle.pm_raw.specs.Entries.{events_of}
 use Rattle.pm_raw.proofs.UndoLaws.{length-undone}
 use Rattle.pm_raw.proofs.region.RawRegionRegion.words.Goals as goal
 
 pub returns : goal.returns
 returns c =
     let region = c.self.inside in
-    c.len.ensures ∙ sym (length-undone region.current (take region.count region.events) (take region.count region.replaced))
-    ∙ ap (λ (m : Memory). length m.base) c.self.view_is
+    let log = events_of (take region.count region.words) (take region.count region.values) in
+    let replaced = take region.count region.replaced in
+    let step = c.self.invariant in
+    let base_is = ap (λ (m : Memory). length m.base) c.self.view_is in
+    let base_long = length-undone region.current log replaced in
+    c.len.ensures ∙ sym base_long ∙ base_is

@@ -1,0 +1,74 @@
+-- A log that stands in two arrays.
+use Rattle.std.proofs.Common.{◌≡◌, ℕ, zero, suc, ◌+◌, ◌<◌, ◌≤◌, inl, inr, List, [], ◌∷◌, ◌++◌, length, take, drop, get_or, refl, sym, ◌∙◌, ap, arith, add-one}
+use Rattle.std.specs.Prelude.{Some, slice_get}
+use Rattle.std.specs.List.{range_with_len}
+use Rattle.std.proofs.lemmas.Bool.Decides.{eqb_tells}
+use Rattle.std.proofs.lemmas.List.{at_drop_more}
+use Rattle.pm_epochs.specs.declared.event.Event.{Event}
+use Rattle.pm_epochs.specs.declared.event.Event.TheVariants.{Store}
+use Rattle.pm_region.specs.Memory.{stores_from}
+use Rattle.pm_raw.specs.Entries.{no_word, event_of, events_of}
+
+pub event_of-store : (word value : ℕ) → word < no_word → event_of word value ≡ Store word value
+event_of-store word value low = elim (eqb_tells word no_word) [
+  | inl same ↦ absurd (omega (arith, same.1))
+  | inr differ ↦ rw differ.0 refl
+]
+
+pub length_events : (words values : List ℕ) → length values ≡ length words → length (events_of words values) ≡ length words
+length_events [] values same = refl
+length_events (word ∷ words) [] same = absurd (omega arith)
+length_events (word ∷ words) (value ∷ values) same = ap suc (length_events words values (omega arith))
+
+pub events_of-append : (words more values rest : List ℕ) → length values ≡ length words → events_of (words ++ more) (values ++ rest) ≡ events_of words values ++ events_of more rest
+events_of-append [] more [] rest same = refl
+events_of-append [] more (value ∷ values) rest same = absurd (omega arith)
+events_of-append (word ∷ words) more [] rest same = absurd (omega arith)
+events_of-append (word ∷ words) more (value ∷ values) rest same = ap (λ es. event_of word value ∷ es) (events_of-append words more values rest (omega arith))
+
+pub events_of-take : (n : ℕ) (words values : List ℕ) → events_of (take n words) (take n values) ≡ take n (events_of words values)
+events_of-take zero words values = refl
+events_of-take (suc n) [] values = refl
+events_of-take (suc n) (word ∷ words) [] = refl
+events_of-take (suc n) (word ∷ words) (value ∷ values) = ap (λ es. event_of word value ∷ es) (events_of-take n words values)
+
+pub get_or-events_of : (words values : List ℕ) (i : ℕ) (none : Event) → length values ≡ length words → i < length words → get_or (events_of words values) i none ≡ event_of (get_or words i 0) (get_or values i 0)
+get_or-events_of [] values i none same low = absurd (omega arith)
+get_or-events_of (word ∷ words) [] i none same low = absurd (omega arith)
+get_or-events_of (word ∷ words) (value ∷ values) zero none same low = refl
+get_or-events_of (word ∷ words) (value ∷ values) (suc i) none same low = get_or-events_of words values i none (omega arith) (omega arith)
+
+-- a run of stores
+pub events_of-run : (first : ℕ) (values : List ℕ) → first + length values ≤ no_word → events_of (range_with_len first (length values)) values ≡ stores_from first values
+events_of-run first [] fits = refl
+events_of-run first (value ∷ values) fits =
+    ap (λ e. e ∷ events_of (range_with_len (first + 1) (length values)) values) (event_of-store first value (omega arith))
+    ∙ ap (λ es. Store first value ∷ es) (events_of-run (first + 1) values (omega arith))
+
+-- a number more
+pub range_with_len-more : (first n : ℕ) → range_with_len first (n + 1) ≡ range_with_len first n ++ (first + n) ∷ []
+range_with_len-more first n = rw add-one (more first n)
+  where
+    more : (first n : ℕ) → range_with_len first (suc n) ≡ range_with_len first n ++ (first + n) ∷ []
+    more first zero =
+        let here : first ≡ first + 0 = omega arith in
+        ap (λ w. w ∷ []) here
+    more first (suc n) =
+        let there : (first + 1) + n ≡ first + suc n = omega arith in
+        ap (λ ws. first ∷ ws) (more (first + 1) n ∙ ap (λ w. range_with_len (first + 1) n ++ w ∷ []) there)
+
+-- events behind a log
+pub log-pushed : (words values new_words new_values more_words more_values : List ℕ) → length values ≡ length words → new_words ≡ words ++ more_words → new_values ≡ values ++ more_values → events_of new_words new_values ≡ events_of words values ++ events_of more_words more_values
+log-pushed words values new_words new_values more_words more_values same words_are values_are =
+    ap (λ ws. events_of ws new_values) words_are ∙ ap (events_of (words ++ more_words)) values_are
+    ∙ events_of-append words more_words values more_values same
+
+-- a function of the rest of a log, by the event at a place
+pub at_event : {Y : Type 0} (F : List Event → Y) (events : List Event) (i : ℕ) (event : Event) → i < length events → event ≡ get_or events i event → F (drop i events) ≡ F (event ∷ drop (i + 1) events)
+at_event F events i event low is = at_drop_more F events i event low ∙ ap (λ e. F (e ∷ drop (i + 1) events)) (sym is)
+
+-- what stands at a place, by what a look there gives
+pub slice_get_read : (events : List Event) (i : ℕ) (event : Event) → i < length events → event ≡ get_or events i event → slice_get events i ≡ Some event
+slice_get_read [] i event low is = absurd (omega arith)
+slice_get_read (first ∷ events) zero event low is = ap Some (sym is)
+slice_get_read (first ∷ events) (suc i) event low is = slice_get_read events i event (omega arith) is

@@ -1,0 +1,20 @@
+-- How a log stands in an array of words and an array of values, with one place of each for an event.
+use Rattle.std.specs.Prelude.{◌≡◌, ℕ, ◌==◌, if◌then◌else◌, List, [], ◌∷◌, length}
+use Rattle.pm_epochs.specs.declared.event.Event.{Event}
+use Rattle.pm_epochs.specs.declared.event.Event.TheVariants.{Store, Barrier, Mark}
+
+-- the last number of 32 bits, which no word of a region has, stands for what is no store
+abbrev pub no_word : ℕ
+no_word = 4294967295
+
+-- what is no store, by its value
+abbrev pub signal_of : ℕ → Event
+signal_of value = if value == 0 then Barrier else Mark
+
+abbrev pub event_of : ℕ → ℕ → Event
+event_of word value = if word == no_word then signal_of value else Store word value
+
+abbrev pub events_of : List ℕ → List ℕ → List Event
+events_of [] values = []
+events_of (word ∷ words) [] = []
+events_of (word ∷ words) (value ∷ values) = event_of word value ∷ events_of words values

@@ -1,0 +1,88 @@
+ghost use Rattle.std.specs.Prelude.{◌≡◌, ◌<◌, ◌≤◌, length, take, slice_get, slice_index_or, Some};
+ghost use Rattle.pm_raw.specs.Entries.{event_of, events_of};
+
+use pm_epochs::Event;
+use std::marker::Model;
+
+/// The word of an event that is no store. No region has a word with this place.
+pub const NO_WORD: u32 = u32::MAX;
+
+/// The value of a barrier, whose word is `NO_WORD`.
+pub const BARRIER: u64 = 0;
+
+/// The value of a mark, whose word is `NO_WORD`.
+pub const MARK: u64 = 1;
+
+/// A log as it stands in two arrays: the words and the values of its events.
+#[derive(Drop)]
+pub struct Log<'a> {
+    words: &'a [u32],
+    values: &'a [u64],
+}
+
+impl<'a> Model for Log<'a> {
+    ghost use Rattle.std.specs.Prelude.{◌≡◌, List, length};
+    ghost use Rattle.pm_epochs.specs.declared.event.Event.{Event};
+    ghost use Rattle.pm_raw.specs.Entries.{events_of};
+
+    ghost Value = { List Event };
+
+    ghost view = { λ log. events_of log.words.now log.values.now };
+
+    ghost invariant = { λ log. length log.values.now ≡ length log.words.now };
+}
+
+/// The event with this word and this value.
+#[tactic(auto, using(std::proofs::lemmas::Bool::Decides::nat_tests))]
+fn read_event(word: u32, value: u64) -> Event
+    ensures { result ≡ event_of word value }
+{
+    if word == NO_WORD {
+        if value == BARRIER {
+            Event::Barrier
+        } else {
+            Event::Mark
+        }
+    } else {
+        Event::Store { word, value }
+    }
+}
+
+impl<'a> Log<'a> {
+    /// The log of these words and values.
+    pub fn new(words: &'a [u32], values: &'a [u64]) -> Log<'a>
+        requires { length values.now ≡ length words.now }
+        ensures { result ≡ events_of words.now values.now }
+    {
+        Log { words, values }
+    }
+
+    /// How many events there are.
+    pub fn len(&self) -> usize
+        ensures { result ≡ length self.now }
+    {
+        self.words.len()
+    }
+
+    /// An event, by its number from 0.
+    #[tactic(auto, using(crate::proofs::EntryLaws::length_events))]
+    pub fn event(&self, i: usize) -> Event
+        requires { i < length self.now }
+        ensures get { slice_get self.now i ≡ Some result }
+        ensures value { result ≡ slice_index_or self.now i result }
+    {
+        read_event(self.words[i], self.values[i])
+    }
+
+    /// The first events, as many as are wanted.
+    #[tactic(auto, using(crate::proofs::EntryLaws::length_events))]
+    pub fn front(&self, wanted: usize) -> Log<'a>
+        requires { wanted ≤ length self.now }
+        ensures { result ≡ take wanted self.now }
+    {
+        Log {
+            words: &self.words[..wanted],
+            values: &self.values[..wanted],
+        }
+    }
+}

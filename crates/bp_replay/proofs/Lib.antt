@@ -2,3 +2,4 @@ pub mod Ends
 pub mod Bits
 pub mod Storms
 pub mod Rule
+pub mod Standing

@@ -43,7 +43,7 @@ length-waiting_behind false (other ∷ waiting) word = let more = length-waiting
 
 -- ## The order
 
-length-storm_flags : (state epoch : ℕ) (waiting : List ℕ) (events : List Event) → length (storm_flags state epoch waiting events) ≡ length events
+pub length-storm_flags : (state epoch : ℕ) (waiting : List ℕ) (events : List Event) → length (storm_flags state epoch waiting events) ≡ length events
 length-storm_flags state epoch waiting [] = refl
 length-storm_flags state zero waiting (Store word value ∷ events) = ap suc (length-storm_flags (next_state state) zero (waiting_behind (goes_back state waiting word) waiting word) events)
 length-storm_flags state zero waiting (Barrier ∷ events) = ap suc (length-replicate (length events) false)

@@ -1,15 +1,16 @@
-ghost use Rattle.std.specs.Prelude.{◌≡◌, ℕ, ◌-◌, ◌<◌, ◌≤◌, [], ◌++◌, true, false, length, take, drop, replicate, ◌∷◌};
+ghost use Rattle.std.specs.Prelude.{◌≡◌, ◌<◌, ◌≤◌, [], length, take, drop};
 ghost use Rattle.pm_region.specs.Memory.{Memory};
 ghost use Rattle.pm_epochs.specs.Log.{barriers};
 ghost use Rattle.pm_epochs.specs.Replay.{IsRight};
+ghost use Rattle.pm_steps.specs.Machine.{cut_of};
 ghost use Rattle.bp_replay.specs.Generator.{next_state, drawn};
-ghost use Rattle.bp_replay.specs.Storm.{goes_back, waiting_behind, storm_flags, storm_cut};
+ghost use Rattle.bp_replay.specs.Storm.{goes_back, waiting_behind, storm_flags, storm_cut, from_epoch};
 
 use super::generator::Generator;
 use super::wanted::barriers_before;
 use pm_epochs::{Choice, Event};
 use pm_region::Region;
-use pm_steps::{Backs, Machine};
+use pm_steps::Backs;
 
 /// A random run of the write-back machine over the region's log, and the choice of what a crash then keeps. A moment is
 /// drawn, and an epoch before it; all stores of earlier epochs are written back, and of its own each whose draw is odd,
@@ -26,121 +27,93 @@ pub fn storm<R: Region>(region: &R, seed: u64, backs: &mut Backs, choice: &mut C
     let mut generator = Generator::new(seed);
     let moment = generator.draw_up_to(region.event_count());
     let epoch = generator.draw_up_to(barriers_before(region, moment));
-    write_back(region, moment, epoch, &mut generator, backs);
-    Machine::resume(region, backs).choice(choice);
-}
-
-/// Takes the events before a moment, and writes back those of their stores that the storm does.
-fn write_back<R: Region>(
-    region: &R,
-    moment: usize,
-    epoch: usize,
-    generator: &mut Generator,
-    backs: &mut Backs,
-)
-    requires taken { moment ≤ length (R.memory region.now).events }
-    requires room { moment ≤ backs.old.room }
-    ensures back { backs.new.back ≡
-        storm_flags generator.old.state epoch [] (take moment (R.memory region.now).events) }
-    ensures room { backs.new.room ≡ backs.old.room }
-{
-    let start = write_back_earlier(region, moment, epoch, backs);
-    let end = write_back_drawn(region, start, moment, generator, backs);
-    take_later(end, moment, backs);
-}
-
-/// Takes the events before an epoch, and writes back all their stores. Says where the epoch begins, or the moment where that
-/// comes first.
-fn write_back_earlier<R: Region>(
-    region: &R,
-    moment: usize,
-    epoch: usize,
-    backs: &mut Backs,
-) -> usize
-    requires taken { moment ≤ length (R.memory region.now).events }
-    requires room { moment ≤ backs.old.room }
-    ensures few { result ≤ moment }
-    ensures count { length backs.new.back ≡ result }
-    ensures room { backs.new.room ≡ backs.old.room }
-    ensures waiting { backs.new.waiting ≡ [] }
-    ensures back { (state : ℕ) → let taken = take moment (R.memory region.now).events in
-        backs.new.back ++ storm_flags state 0 [] (drop result taken) ≡ storm_flags state epoch [] taken }
-{
+    let start = epoch_start(region, moment, epoch);
     backs.clear();
+    choice.start(moment, epoch);
+    choose_drawn(region, start, &mut generator, backs, choice);
+}
+
+/// Where an epoch begins that does before a moment.
+fn epoch_start<R: Region>(region: &R, moment: usize, epoch: usize) -> usize
+    requires taken { moment ≤ length (R.memory region.now).events }
+    requires begun { epoch ≤ barriers (take moment (R.memory region.now).events) }
+    ensures low { epoch ≤ result }
+    ensures high { result ≤ moment }
+    ensures start { let taken = take moment (R.memory region.now).events in drop result taken ≡ from_epoch epoch taken }
+{
     let mut left = epoch;
     for i in 0..moment {
         if left == 0 {
             return i;
         }
         match region.event(i) {
-            Event::Store { .. } => backs.push_flag(true),
-            Event::Barrier => {
-                backs.push_flag(false);
-                left -= 1;
-            }
-            Event::Mark => backs.push_flag(false),
+            Event::Store { .. } => {}
+            Event::Barrier => left -= 1,
+            Event::Mark => {}
         }
     }
     moment
 }
 
-/// Takes the events of the storm's epoch, and writes back those stores that are drawn and may go. Says where the epoch ends,
-/// or the moment where that comes first.
-fn write_back_drawn<R: Region>(
+/// Draws for the stores of the storm's epoch, which begins at `start`, and chooses what is back then. Where all of them are,
+/// the machine has come to the first later epoch with a store, or the last one: of those no store is back.
+fn choose_drawn<R: Region>(
     region: &R,
-    from: usize,
-    moment: usize,
+    start: usize,
     generator: &mut Generator,
     backs: &mut Backs,
-) -> usize
-    requires taken { (from ≤ moment) × (moment ≤ length (R.memory region.now).events) }
-    requires room { moment ≤ backs.old.room }
-    requires count { length backs.old.back ≡ from }
+    choice: &mut Choice,
+)
+    requires taken { choice.old.cut.moment ≤ length (R.memory region.now).events }
+    requires begun { choice.old.cut.epoch ≤ barriers (take choice.old.cut.moment (R.memory region.now).events) }
+    requires low { choice.old.cut.epoch ≤ start }
+    requires high { start ≤ choice.old.cut.moment }
+    requires start { let taken = take choice.old.cut.moment (R.memory region.now).events in
+        drop start taken ≡ from_epoch choice.old.cut.epoch taken }
+    requires mask { choice.old.cut.mask ≡ [] }
     requires waiting { backs.old.waiting ≡ [] }
-    ensures few { result ≤ moment }
-    ensures count { length backs.new.back ≡ result }
-    ensures room { backs.new.room ≡ backs.old.room }
-    ensures back { let taken = take moment (R.memory region.now).events in
-        backs.new.back ++ replicate (moment - result) false ≡
-        backs.old.back ++ storm_flags generator.old.state 0 [] (drop from taken) }
+    requires backs { choice.old.cut.moment ≤ backs.old.room }
+    requires choice { choice.old.cut.moment ≤ choice.old.room }
+    ensures chosen { choice.new.cut ≡ cut_of (R.memory region.now).events (storm_flags generator.old.state
+        choice.old.cut.epoch [] (take choice.old.cut.moment (R.memory region.now).events)) }
+    ensures right { IsRight (R.memory region.now).events choice.new.cut }
+    ensures backs_room { backs.new.room ≡ backs.old.room }
+    ensures choice_room { choice.new.room ≡ choice.old.room }
 {
-    for i in from..moment {
+    let moment = choice.moment();
+    let mut draws = true;
+    let mut waits = false;
+    for i in start..moment {
         match region.event(i) {
-            Event::Store { word, .. } => draw_for(word, generator, backs),
-            Event::Barrier => return i,
-            Event::Mark => backs.push_flag(false),
+            Event::Store { word, .. } => {
+                let is_back = draws && draw_for(word, generator, backs);
+                waits = waits || !is_back;
+                choice.push(is_back);
+            }
+            Event::Barrier => {
+                if waits {
+                    return;
+                }
+                draws = false;
+                let next = choice.epoch() + 1;
+                choice.start(moment, next);
+            }
+            Event::Mark => {}
         }
     }
-    moment
 }
 
-/// Takes a store to a word, and draws whether it is written back. It waits where an earlier one to its word does.
-fn draw_for(word: u32, generator: &mut Generator, backs: &mut Backs)
-    requires back { length backs.old.back < backs.old.room }
-    requires waiting { length backs.old.waiting < backs.old.room }
+/// Draws whether a store to a word is written back. It waits where an earlier one to its word does.
+fn draw_for(word: u32, generator: &mut Generator, backs: &mut Backs) -> bool
+    requires { length backs.old.waiting < backs.old.room }
     ensures state { generator.new.state ≡ next_state generator.old.state }
-    ensures drawn { let flag = goes_back generator.old.state backs.old.waiting word in backs.new ≡ record {
-      back = backs.old.back ++ flag ∷ [];
-      room = backs.old.room;
-      waiting = waiting_behind flag backs.old.waiting word;
-    } }
+    ensures drawn { result ≡ goes_back generator.old.state backs.old.waiting word }
+    ensures waiting { backs.new ≡ record backs.old { waiting = waiting_behind result backs.old.waiting word } }
 {
     let is_odd = generator.draw() % 2 == 1;
     let is_back = is_odd && !backs.waits(word);
     if !is_back {
         backs.wait_for(word);
     }
-    backs.push_flag(is_back);
-}
-
-/// Takes events none of which is written back.
-fn take_later(from: usize, moment: usize, backs: &mut Backs)
-    requires few { from ≤ moment }
-    requires room { moment ≤ backs.old.room }
-    requires count { length backs.old.back ≡ from }
-    ensures { backs.new ≡ record backs.old { back = backs.old.back ++ replicate (moment - from) false } }
-{
-    for _ in from..moment {
-        backs.push_flag(false);
-    }
+    is_back
 }

@@ -1,5 +1,5 @@
 -- The cut at which the machine stands behind a storm, found from where the storm's epoch begins.
-use Rattle.std.proofs.Common.{◌≡◌, ℕ, zero, suc, ◌+◌, ◌<◌, ◌≤◌, Bool, true, false, not, ◌||◌, Some, List, [], ◌∷◌, ◌++◌, length, take, drop, replicate, refl, sym, ◌∙◌, ap, arith, append_assoc}
+use Rattle.std.proofs.Common.{◌≡◌, ℕ, zero, suc, ◌+◌, ◌<◌, ◌≤◌, Bool, true, false, not, ◌||◌, Some, List, [], ◌∷◌, ◌++◌, length, take, drop, replicate, refl, sym, ◌∙◌, ap, arith, add-one, append_assoc}
 use Rattle.std.specs.List.{slice_get}
 use Rattle.std.proofs.lemmas.List.{append-nil, length-take}
 use Rattle.pm_epochs.specs.declared.event.Event.{Event}
@@ -11,7 +11,7 @@ use Rattle.pm_steps.proofs.Scan.{barriers_of, open_epoch-none, epoch_flags-none}
 use Rattle.pm_steps.proofs.Cuts.{right_open}
 use Rattle.bp_replay.specs.Generator.{next_state}
 use Rattle.bp_replay.specs.Storm.{goes_back, waiting_behind, storm_flags, from_epoch}
-use Rattle.bp_replay.proofs.Storms.{drop_at, length-storm_flags, in_order_storm}
+use Rattle.bp_replay.proofs.Storms.{length-storm_flags, in_order_storm}
 
 -- ## Event by event
 
@@ -33,6 +33,15 @@ stands (Store word value ∷ events) waits false state waiting cut = stands even
 stands (Barrier ∷ events) true draws state waiting cut = cut
 stands (Barrier ∷ events) false draws state waiting cut = stands events false false state waiting (at_next cut)
 stands (Mark ∷ events) waits draws state waiting cut = stands events waits draws state waiting cut
+
+drop_suc : (events : List Event) (moment i : ℕ) (event : Event) → i < moment → slice_get events i ≡ Some event → drop i (take moment events) ≡ event ∷ drop (suc i) (take moment events)
+drop_suc [] moment i event low is = cc
+drop_suc (first ∷ events) zero i event low is = absurd (omega arith)
+drop_suc (first ∷ events) (suc moment) zero event low is = let same : first ≡ event = cc in ap (λ e. e ∷ take moment events) same
+drop_suc (first ∷ events) (suc moment) (suc i) event low is = drop_suc events moment i event (omega arith) is
+
+pub drop_at : (events : List Event) (moment i : ℕ) (event : Event) → i < moment → slice_get events i ≡ Some event → drop i (take moment events) ≡ event ∷ drop (i + 1) (take moment events)
+drop_at events moment i event low is = rw add-one (drop_suc events moment i event low is)
 
 pub stands_at : (waits draws : Bool) (state : ℕ) (waiting : List ℕ) (cut : Cut) (events : List Event) (moment i : ℕ) (event : Event) → i < moment → slice_get events i ≡ Some event
     → stands (drop i (take moment events)) waits draws state waiting cut ≡ stands (event ∷ drop (i + 1) (take moment events)) waits draws state waiting cut

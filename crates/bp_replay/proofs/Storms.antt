@@ -1,7 +1,7 @@
 -- What a storm writes back may be written back: what must come first did.
-use Rattle.std.proofs.Common.{◌≡◌, ◌≢◌, ℕ, zero, suc, ◌+◌, ◌-◌, ◌<◌, ◌≤◌, inl, inr, Bool, true, false, not, ◌&&◌, ◌||◌, Some, List, [], ◌∷◌, ◌++◌, length, take, drop, replicate, refl, sym, ◌∙◌, ap, subst, arith, add-one, eq-eqb, length-append}
+use Rattle.std.proofs.Common.{◌≡◌, ◌≢◌, ℕ, zero, suc, ◌+◌, ◌<◌, ◌≤◌, inl, inr, Bool, true, false, not, ◌&&◌, ◌||◌, Some, List, [], ◌∷◌, ◌++◌, length, take, drop, replicate, refl, sym, ◌∙◌, ap, subst, arith, eq-eqb, length-append}
 use Rattle.std.specs.List.{slice_get}
-use Rattle.std.proofs.lemmas.List.{length-replicate, length-take, length-drop, take-append-drop, take-append-le}
+use Rattle.std.proofs.lemmas.List.{length-replicate, take-append-drop, take-append-le}
 use Rattle.std.proofs.lemmas.List.Folds.{list_any-append}
 use Rattle.std.specs.Prelude.{◌==◌, ◌%◌}
 use Rattle.pm_epochs.specs.declared.event.Event.{Event}
@@ -14,32 +14,6 @@ use Rattle.pm_steps.proofs.Order.{store_is}
 use Rattle.pm_steps.proofs.Reaching.{ComesFirst-tail}
 use Rattle.bp_replay.specs.Generator.{next_state, drawn}
 use Rattle.bp_replay.specs.Storm.{goes_back, waiting_behind, storm_flags}
-
--- ## One event on
-
-drop_suc : (events : List Event) (moment i : ℕ) (event : Event) → i < moment → slice_get events i ≡ Some event → drop i (take moment events) ≡ event ∷ drop (suc i) (take moment events)
-drop_suc [] moment i event low is = cc
-drop_suc (first ∷ events) zero i event low is = absurd (omega arith)
-drop_suc (first ∷ events) (suc moment) zero event low is = let same : first ≡ event = cc in ap (λ e. e ∷ take moment events) same
-drop_suc (first ∷ events) (suc moment) (suc i) event low is = drop_suc events moment i event (omega arith) is
-
-pub drop_at : (events : List Event) (moment i : ℕ) (event : Event) → i < moment → slice_get events i ≡ Some event → drop i (take moment events) ≡ event ∷ drop (i + 1) (take moment events)
-drop_at events moment i event low is = rw add-one (drop_suc events moment i event low is)
-
-pub flags_at : (state : ℕ) (waiting : List ℕ) (events : List Event) (moment i : ℕ) (event : Event) → i < moment → slice_get events i ≡ Some event → storm_flags state 0 waiting (drop i (take moment events)) ≡ storm_flags state 0 waiting (event ∷ drop (i + 1) (take moment events))
-flags_at state waiting events moment i event low is = ap (storm_flags state 0 waiting) (drop_at events moment i event low is)
-
--- behind the storm's epoch none is back
-pub flags_at_barrier : (state : ℕ) (waiting : List ℕ) (events : List Event) (moment i : ℕ) → i < moment → moment ≤ length events → slice_get events i ≡ Some Barrier → storm_flags state 0 waiting (drop i (take moment events)) ≡ replicate (moment - i) false
-flags_at_barrier state waiting events moment i low taken is =
-    let behind = drop (i + 1) (take moment events) in
-    let count : suc (length behind) ≡ moment - i = omega (arith, length-drop (i + 1) (take moment events), length-take moment events) in
-    flags_at state waiting events moment i Barrier low is ∙ ap (λ n. replicate n false) count
-
-pub length-waiting_behind : (flag : Bool) (waiting : List ℕ) (word : ℕ) → length (waiting_behind flag waiting word) ≤ length waiting + 1
-length-waiting_behind true waiting word = omega arith
-length-waiting_behind false [] word = omega arith
-length-waiting_behind false (other ∷ waiting) word = let more = length-waiting_behind false waiting word in omega arith
 
 -- ## The order
 

@@ -81,7 +81,9 @@ fn choose_drawn<R: Region>(
     ensures choice_room { choice.new.room ≡ choice.old.room }
 {
     let moment = choice.moment();
+    // Only the stores of the storm's own epoch are drawn for.
     let mut draws = true;
+    // Whether a store waits of the epoch that the machine has come to, which it does not leave then.
     let mut waits = false;
     for i in start..moment {
         match region.event(i) {

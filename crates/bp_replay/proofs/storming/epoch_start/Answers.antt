@@ -2,8 +2,7 @@ use Rattle.std.proofs.Common.{◌≡◌, ◌+◌, ◌∷◌, ◌∙◌, ap, sym,
 use Rattle.pm_epochs.specs.Log.{barriers}
 use Rattle.pm_steps.proofs.Scan.{barriers_of}
 use Rattle.bp_replay.specs.Storm.{from_epoch}
-use Rattle.bp_replay.proofs.Storms.{drop_at}
-use Rattle.bp_replay.proofs.Standing.{barriers_of-le, barriers_next, from_epoch_next}
+use Rattle.bp_replay.proofs.Standing.{drop_at, barriers_of-le, barriers_next, from_epoch_next}
 use Rattle.bp_replay.proofs.storming.epoch_start.Goals as goal
 use Rattle.bp_replay.proofs.storming.epoch_start.Goals.{in-Store, in-Barrier, in-Mark}
 

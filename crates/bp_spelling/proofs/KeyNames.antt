@@ -55,6 +55,10 @@ pub key-at : (image : Image) (place k : ℕ) → k < 31 → slice_index (name_ke
 unfolding name_key keys
 key-at image place k low = get_or-map-range_with_len (key_word image place) 0 31 k k 0 low (omega arith)
 
+-- the words of equal keys
+pub key_words : (image : Image) (a b : ℕ) → name_key image a ≡ name_key image b → (k : ℕ) → k < 31 → key_word image a k ≡ key_word image b k
+key_words image a b same k low = sym (key-at image a k low) ∙ ap (λ xs. slice_index xs k) same ∙ key-at image b k low
+
 pub same_key : (image : Image) (a b : ℕ) → ((k : ℕ) → k < 31 → key_word image a k ≡ key_word image b k) → name_key image a ≡ name_key image b
 unfolding name_key keys
 same_key image a b same = map-same (key_word image a) (key_word image b) 0 31 (λ k low high. same k high)
@@ -70,8 +74,7 @@ name-at image place o d low = get_or-map-range_with_len (λ i. byte_of (word ima
 module _ (image : Image) (a b : ℕ) where
   pub same_name : word image (a + 1) ≤ 240 → name_key image a ≡ name_key image b → name_there image a ≡ name_there image b
   same_name short same =
-      let words : (k : ℕ) → k < 31 → key_word image a k ≡ key_word image b k =
-      λ k low. sym (key-at image a k low) ∙ ap (λ xs. slice_index xs k) same ∙ key-at image b k low in
+      let words : (k : ℕ) → k < 31 → key_word image a k ≡ key_word image b k = key_words image a b same in
       let long : word image (a + 1) ≡ word image (b + 1) = words 0 (omega arith) in
       rw (sym long)
       (map-same (λ o. byte_of (word image (a + 2 + o / 8)) (o % 8)) (λ o. byte_of (word image (b + 2 + o / 8)) (o % 8)) 0 (word image (a + 1)) (λ o low high.

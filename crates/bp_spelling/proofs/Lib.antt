@@ -2,6 +2,8 @@ pub mod ByteWise
 pub mod Deciding
 pub mod EntryPlaces
 pub mod Forms
+pub mod HashLaws
+pub mod HashOrder
 pub mod KeyNames
 pub mod NameOrder
 pub mod PastEnd

@@ -1,5 +1,5 @@
--- Entries in the order of their names: equal names are neighbours.
-use Rattle.std.proofs.Common.{◌≡◌, ℕ, zero, suc, ◌+◌, ◌-◌, ◌*◌, ◌%◌, ◌^◌, ◌<◌, ◌≤◌, min, List, ◌∷◌, length, false, slice_index, refl, sym, ◌∙◌, ap, ap₂, arith, true≢false, Less, Equal, Greater, is_lt}
+-- The order of names; and lists in the order of a key, where equal keys are neighbours.
+use Rattle.std.proofs.Common.{◌≡◌, ℕ, zero, suc, ◌+◌, ◌-◌, ◌*◌, ◌%◌, ◌^◌, ◌<◌, ◌≤◌, min, List, ◌∷◌, length, false, slice_index_or, refl, sym, ◌∙◌, ap, ap₂, arith, true≢false, Less, Equal, Greater, is_lt}
 use Rattle.std.specs.declared.cmp.Ordering.{Ordering}
 use Rattle.std.specs.Ordering.{nat_cmp, ordering_then, ordering_reverse}
 use Rattle.std.specs.Cmp.{nat_cmp_is}
@@ -9,7 +9,7 @@ use Rattle.std.specs.List.Sorted.{IsSortedBy}
 use Rattle.std.proofs.lemmas.Cmp.{nat_list_cmp_total}
 use Rattle.std.proofs.lemmas.List.Sorted.{ranks_by, sorted_far}
 use Rattle.bp_layout.specs.Words.{Image, word}
-use Rattle.bp_spelling.specs.Places.{key_word, keys, rest_cmp, name_key, name_cmp, name_lt, AreApart}
+use Rattle.bp_spelling.specs.Places.{key_word, keys, rest_cmp, name_key, name_cmp}
 
 keys-next : (image : Image) (p k n : ℕ) → keys image p k (suc n) ≡ key_word image p k ∷ keys image p (k + 1) n
 unfolding keys
@@ -94,14 +94,15 @@ tie xs ys low high = go (slice_cmp nat_cmp xs ys) refl
     go Equal e = equal_key xs ys e
     go Greater e = absurd (true≢false (sym (ap is_lt (nat_list_cmp_total.antisymm ys xs ∙ ap ordering_reverse e)) ∙ high))
 
--- where no neighbours have one name, no two have
-pub apart_from_neighbours : (image : Image) (places : List ℕ) → IsSortedBy (name_lt image) places →
-    ((k : ℕ) → suc k < length places → name_key image (slice_index places k) ≡ name_key image (slice_index places (suc k)) → ⊥) → AreApart image places
-apart_from_neighbours image places sorted beside i j order high same =
-    let first : name_lt image (slice_index places (suc i)) (slice_index places i) ≡ false =
-    sorted_far (name_lt image) (ranks_by nat_list_cmp_total (name_key image)) places sorted i (suc i) 0 (omega arith) (omega (arith, order, high)) in
-    let far : name_lt image (slice_index places j) (slice_index places (suc i)) ≡ false =
-    sorted_far (name_lt image) (ranks_by nat_list_cmp_total (name_key image)) places sorted (suc i) j 0 (omega (arith, order)) high in
-    let back : is_lt (slice_cmp nat_cmp (name_key image (slice_index places i)) (name_key image (slice_index places (suc i)))) ≡ false =
-    ap (λ xs. is_lt (slice_cmp nat_cmp xs (name_key image (slice_index places (suc i))))) same ∙ far in
+-- where no neighbours have one key, no two have
+pub apart_from_neighbours : {A : Type 0} (key : A → List ℕ) (xs : List A) (d : A) → IsSortedBy (λ a b. is_lt (slice_cmp nat_cmp (key a) (key b))) xs →
+    ((k : ℕ) → suc k < length xs → key (slice_index_or xs k d) ≡ key (slice_index_or xs (suc k) d) → ⊥) →
+    (i j : ℕ) → i < j → j < length xs → key (slice_index_or xs i d) ≡ key (slice_index_or xs j d) → ⊥
+apart_from_neighbours {A} key xs d sorted beside i j order high same =
+    let first : is_lt (slice_cmp nat_cmp (key (slice_index_or xs (suc i) d)) (key (slice_index_or xs i d))) ≡ false =
+    sorted_far (λ a b. is_lt (slice_cmp nat_cmp (key a) (key b))) (ranks_by nat_list_cmp_total key) xs sorted i (suc i) d (omega arith) (omega (arith, order, high)) in
+    let far : is_lt (slice_cmp nat_cmp (key (slice_index_or xs j d)) (key (slice_index_or xs (suc i) d))) ≡ false =
+    sorted_far (λ a b. is_lt (slice_cmp nat_cmp (key a) (key b))) (ranks_by nat_list_cmp_total key) xs sorted (suc i) j d (omega (arith, order)) high in
+    let back : is_lt (slice_cmp nat_cmp (key (slice_index_or xs i d)) (key (slice_index_or xs (suc i) d))) ≡ false =
+    ap (λ ys. is_lt (slice_cmp nat_cmp ys (key (slice_index_or xs (suc i) d)))) same ∙ far in
     beside i (omega (arith, order, high)) (tie _ _ back first)

@@ -1,29 +1,34 @@
 -- One more slot of a walk over the entries.
 use Rattle.std.proofs.Common.{◌≡◌, ◌≢◌, ◌⊎◌, ℕ, ◌+◌, ◌-◌, ◌<◌, ◌≤◌, suc, List, [], ◌∷◌, ◌++◌, length, take, sym, ◌∙◌, ap, subst, arith, inl, inr, append_assoc, append-nil}
-use Rattle.std.specs.List.{range_with_len}
+use Rattle.std.specs.List.{range_with_len, All}
 use Rattle.std.proofs.Math.ListN.{set}
 use Rattle.std.proofs.lemmas.Bool.{cases_eq}
-use Rattle.std.proofs.lemmas.List.{take_more_set}
+use Rattle.std.proofs.lemmas.List.{map-append, take_more_set}
+use Rattle.std.proofs.lemmas.List.Elements.{All-push}
 use Rattle.bp_layout.specs.Words.{Image}
 use Rattle.bp_layout.specs.Directory.{IsName, inumber_in, name_in}
 use Rattle.bp_spelling.specs.Names.{entry_place_in}
+use Rattle.bp_spelling.specs.declared.entry.Spelled.{Spelled}
+use Rattle.bp_spelling.specs.Hashes.{IsSpelled, places_of}
 use Rattle.bp_spelling.specs.Places.{used_places}
 use Rattle.bp_spelling.proofs.UsedPlaces.{empty_slot, used_slot}
 
--- so many places were written down, those of the entries below a slot
-pub record IsGathered (image : Image) (root end slot : ℕ) (places : List ℕ) (count : ℕ) : Type 0 where
+-- so many entries were written down, those below a slot
+pub record IsGathered (image : Image) (root end slot : ℕ) (entries : List Spelled) (count : ℕ) : Type 0 where
   pub few : count ≤ slot
-  pub gathered : take count places ++ used_places image root (range_with_len slot (end - slot)) ≡ used_places image root (range_with_len 0 end)
+  pub gathered : places_of (take count entries) ++ used_places image root (range_with_len slot (end - slot)) ≡ used_places image root (range_with_len 0 end)
+  pub hashed : All (IsSpelled image) (take count entries)
   pub forms : (k : ℕ) → k < slot → inumber_in image root k ≢ 0 → IsName (name_in image root k)
 
 next_slot : (slot end : ℕ) → slot < end → range_with_len slot (end - slot) ≡ slot ∷ range_with_len (slot + 1) (end - (slot + 1))
 next_slot slot end below = let n : end - slot ≡ suc (end - (slot + 1)) = omega (arith, below) in ap (range_with_len slot) n
 
-module _ (image : Image) (root end : ℕ) (places : List ℕ) where
-  pub gathered_none : IsGathered image root end 0 places 0
+module _ (image : Image) (root end : ℕ) (entries : List Spelled) where
+  pub gathered_none : IsGathered image root end 0 entries 0
   gathered_none = record {
     few = omega arith;
     gathered = let n : end - 0 ≡ end = omega arith in ap (λ k. used_places image root (range_with_len 0 k)) n;
+    hashed = λ k d low. absurd (omega (arith, low));
     forms = λ k low. absurd (omega (arith, low));
   }
 
@@ -35,33 +40,36 @@ module _ (image : Image) (root end : ℕ) (places : List ℕ) where
       go (inl same) = subst (λ (s : ℕ). IsName (name_in image root s)) (sym same) (here (λ none. some (ap (inumber_in image root) same ∙ none)))
       go (inr other) = before k (omega (arith, low, other)) some
 
-  pub gathered_empty : (slot count : ℕ) → slot < end → IsGathered image root end slot places count → inumber_in image root slot ≡ 0 →
-      IsGathered image root end (slot + 1) places count
+  pub gathered_empty : (slot count : ℕ) → slot < end → IsGathered image root end slot entries count → inumber_in image root slot ≡ 0 →
+      IsGathered image root end (slot + 1) entries count
   gathered_empty slot count below is none = record {
     few = omega (arith, is.few);
     gathered =
-        ap (λ xs. take count places ++ xs) (sym (ap (used_places image root) (next_slot slot end below) ∙ empty_slot image root slot (range_with_len (slot + 1) (end - (slot + 1))) none))
+        ap (λ xs. places_of (take count entries) ++ xs) (sym (ap (used_places image root) (next_slot slot end below) ∙ empty_slot image root slot (range_with_len (slot + 1) (end - (slot + 1))) none))
         ∙ is.gathered;
+    hashed = is.hashed;
     forms = more_forms slot is.forms (λ some. absurd (some none));
   }
 
-  pub gathered_more : (slot count : ℕ) → slot < end → end ≤ length places → IsGathered image root end slot places count → inumber_in image root slot ≢ 0 → IsName (name_in image root slot) →
-      IsGathered image root end (slot + 1) (set places count (entry_place_in image root slot)) (count + 1)
-  gathered_more slot count below room is some form =
-      let place : ℕ = entry_place_in image root slot in
+  pub gathered_more : (slot count : ℕ) (entry : Spelled) → slot < end → end ≤ length entries → IsGathered image root end slot entries count → inumber_in image root slot ≢ 0 → IsName (name_in image root slot) →
+      entry.place ≡ entry_place_in image root slot → IsSpelled image entry → IsGathered image root end (slot + 1) (set entries count entry) (count + 1)
+  gathered_more slot count entry below room is some form there spelled =
       let rest : List ℕ = used_places image root (range_with_len (slot + 1) (end - (slot + 1))) in
-      let inside : count < length places = omega (arith, is.few, below, room) in
+      let inside : count < length entries = omega (arith, is.few, below, room) in
       record {
         few = omega (arith, is.few);
         gathered =
-            ap (λ xs. xs ++ rest) (take_more_set places count place inside)
-            ∙ append_assoc (take count places) (place ∷ []) rest
-            ∙ ap (λ xs. take count places ++ xs) (sym (ap (used_places image root) (next_slot slot end below) ∙ used_slot image root slot (range_with_len (slot + 1) (end - (slot + 1))) some))
+            ap (λ xs. places_of xs ++ rest) (take_more_set entries count entry inside)
+            ∙ ap (λ xs. xs ++ rest) (map-append (λ (e : Spelled). e.place) (take count entries) (entry ∷ []))
+            ∙ append_assoc (places_of (take count entries)) (entry.place ∷ []) rest
+            ∙ ap (λ (p : ℕ). places_of (take count entries) ++ (p ∷ rest)) there
+            ∙ ap (λ xs. places_of (take count entries) ++ xs) (sym (ap (used_places image root) (next_slot slot end below) ∙ used_slot image root slot (range_with_len (slot + 1) (end - (slot + 1))) some))
             ∙ is.gathered;
+        hashed = subst (All (IsSpelled image)) (sym (take_more_set entries count entry inside)) (All-push (IsSpelled image) (take count entries) entry is.hashed spelled);
         forms = more_forms slot is.forms (λ also. form);
       }
 
-  pub gathered_all : (slot count : ℕ) → end ≤ slot → IsGathered image root end slot places count → take count places ≡ used_places image root (range_with_len 0 end)
+  pub gathered_all : (slot count : ℕ) → end ≤ slot → IsGathered image root end slot entries count → places_of (take count entries) ≡ used_places image root (range_with_len 0 end)
   gathered_all slot count late is =
       let none : end - slot ≡ 0 = omega (arith, late) in
-      sym (append-nil (take count places)) ∙ sym (ap (λ n. take count places ++ used_places image root (range_with_len slot n)) none) ∙ is.gathered
+      sym (append-nil (places_of (take count entries))) ∙ sym (ap (λ n. places_of (take count entries) ++ used_places image root (range_with_len slot n)) none) ∙ is.gathered

@@ -1,8 +1,8 @@
 -- The places of a directory's entries, and the names that stand there.
-use Rattle.std.specs.Prelude.{◌≡◌, ◌≢◌, ◌⊎◌, ℕ, zero, suc, ◌+◌, ◌-◌, ◌*◌, ◌/◌, ◌%◌, ◌^◌, ◌<◌, min, List, length, map, filter, not, ◌==◌, slice_index, Bool}
+use Rattle.std.specs.Prelude.{◌≡◌, ◌≢◌, ◌⊎◌, ℕ, zero, suc, ◌+◌, ◌-◌, ◌*◌, ◌/◌, ◌%◌, ◌^◌, ◌<◌, min, List, length, map, filter, not, ◌==◌, slice_index}
 use Rattle.std.specs.List.{range_with_len}
 use Rattle.std.specs.declared.cmp.Ordering.{Ordering}
-use Rattle.std.specs.Ordering.{nat_cmp, is_lt}
+use Rattle.std.specs.Ordering.{nat_cmp}
 use Rattle.std.specs.Cmp.Lexicographic.{slice_cmp}
 use Rattle.bp_layout.specs.Words.{Image, word, byte_of}
 use Rattle.bp_layout.specs.Directory.{Name, IsName, inumber_in, name_in}
@@ -56,9 +56,6 @@ rest_cmp image a b part = slice_cmp nat_cmp (keys image a part (31 - part)) (key
 
 abbrev pub name_cmp : Image → ℕ → ℕ → Ordering
 name_cmp image a b = slice_cmp nat_cmp (name_key image a) (name_key image b)
-
-abbrev pub name_lt : Image → ℕ → ℕ → Bool
-name_lt image a b = is_lt (name_cmp image a b)
 
 -- no two of the entries have one name
 abbrev pub AreApart : Image → List ℕ → Type 0

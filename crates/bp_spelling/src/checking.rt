@@ -7,26 +7,31 @@ ghost use Rattle.bp_spelling.specs.Names.{AreNames, AreWrong};
 ghost use Rattle.pm_region.specs.Memory.{current_words};
 
 use crate::doubles::find_double;
+use crate::entry::Spelled;
 use crate::fault::NameFault;
 use crate::gathering::gather;
 use bp_tree::Tree;
 use pm_region::Region;
 
-/// Checks the names of a directory's entries that name an inode. `places` is memory for one number for each entry.
+/// Checks the names of a directory's entries that name an inode. `entries` is memory for as many as the directory has.
 ///
 /// # Errors
 ///
 /// A name that has not the form of one, or one that two entries have. Which of several faults is told is open.
-pub fn check_names<R: Region>(region: &R, tree: Tree, places: &mut [u32]) -> Result<(), NameFault>
+pub fn check_names<R: Region>(
+    region: &R,
+    tree: Tree,
+    entries: &mut [Spelled],
+) -> Result<(), NameFault>
     requires sound { IsSound (current_words (R.memory region.now)) tree.root tree.size }
     requires full { IsFull (current_words (R.memory region.now)) tree.root tree.size }
-    requires room { tree.size / entry_size ≤ length places.old }
+    requires room { tree.size / entry_size ≤ length entries.old }
     ensures ok { OnOk result (AreNames (current_words (R.memory region.now)) tree.root tree.size) }
     ensures err { IfErr result (AreWrong (current_words (R.memory region.now)) tree.root tree.size) }
-    ensures room { length places.new ≡ length places.old }
+    ensures room { length entries.new ≡ length entries.old }
 {
-    match gather(region, tree, places) {
-        Ok(count) => match find_double(region, &mut places[..count]) {
+    match gather(region, tree, entries) {
+        Ok(count) => match find_double(region, &mut entries[..count]) {
             Some(place) => Err(NameFault::Twice { place }),
             None => Ok(()),
         },

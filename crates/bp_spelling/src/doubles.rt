@@ -1,11 +1,13 @@
 //! Whether two entries of a directory have one name.
 
-ghost use Rattle.std.specs.Prelude.{◌≡◌, ◌+◌, IsPermutation, MatchOption};
+ghost use Rattle.std.specs.Prelude.{◌≡◌, ◌+◌, All, IsPermutation, MatchOption};
 ghost use Rattle.std.specs.List.Sorted.{IsSortedBy};
 ghost use Rattle.bp_layout.specs.Words.{word};
-ghost use Rattle.bp_spelling.specs.Places.{rest_cmp, name_cmp, name_lt, AreApart, IsDouble};
+ghost use Rattle.bp_spelling.specs.Hashes.{IsSpelled, places_of, spelled_cmp, spelled_lt};
+ghost use Rattle.bp_spelling.specs.Places.{rest_cmp, name_cmp, AreApart, IsDouble};
 ghost use Rattle.pm_region.specs.Memory.{current_words};
 
+use crate::entry::Spelled;
 use crate::name_words::{compare_words, word_at};
 use pm_region::Region;
 use std::cmp::Ordering;
@@ -42,23 +44,34 @@ fn compare_names<R: Region>(region: &R, a: u32, b: u32) -> Ordering
     compare_bytes(region, a, b, count)
 }
 
-fn sort_by_name<R: Region>(region: &R, places: &mut [u32])
-    ensures same { IsPermutation places.old places.new }
-    ensures sorted { IsSortedBy (name_lt (current_words (R.memory region.now))) places.new }
+/// Compares two entries by the hashes of their names, and by the names alone where these are the same.
+fn compare_entries<R: Region>(region: &R, a: Spelled, b: Spelled) -> Ordering
+    ensures { result ≡ spelled_cmp (current_words (R.memory region.now)) a b }
 {
-    places.sort_unstable_by(|a, b| compare_names(region, *a, *b));
+    match a.hash.cmp(&b.hash) {
+        Ordering::Equal => compare_names(region, a.place, b.place),
+        unequal => unequal,
+    }
 }
 
-/// The place of an entry whose name another one has too. Sorts the places by their names.
-pub(crate) fn find_double<R: Region>(region: &R, places: &mut [u32]) -> Option<u32>
-    ensures same { IsPermutation places.old places.new }
-    ensures double { let words = current_words (R.memory region.now) in
-        MatchOption result (AreApart words places.new) (IsDouble words places.new) }
+fn sort_by_name<R: Region>(region: &R, entries: &mut [Spelled])
+    ensures same { IsPermutation entries.old entries.new }
+    ensures sorted { IsSortedBy (spelled_lt (current_words (R.memory region.now))) entries.new }
 {
-    sort_by_name(region, places);
-    for i in 1..places.len() {
-        if let Ordering::Equal = compare_names(region, places[i - 1], places[i]) {
-            return Some(places[i]);
+    entries.sort_unstable_by(|a, b| compare_entries(region, *a, *b));
+}
+
+/// The place of an entry whose name another one has too. Sorts the entries by their hashes, then by their names.
+pub(crate) fn find_double<R: Region>(region: &R, entries: &mut [Spelled]) -> Option<u32>
+    requires { All (IsSpelled (current_words (R.memory region.now))) entries.old }
+    ensures same { IsPermutation entries.old entries.new }
+    ensures double { let words = current_words (R.memory region.now) in
+        MatchOption result (AreApart words (places_of entries.new)) (IsDouble words (places_of entries.new)) }
+{
+    sort_by_name(region, entries);
+    for i in 1..entries.len() {
+        if let Ordering::Equal = compare_entries(region, entries[i - 1], entries[i]) {
+            return Some(entries[i].place);
         }
     }
     None

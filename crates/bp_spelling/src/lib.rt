@@ -3,12 +3,15 @@
 
 mod checking;
 mod doubles;
+mod entry;
 mod fault;
 mod form;
 mod gathering;
+mod hashing;
 mod name_words;
 #[cfg(test)]
 mod tests;
 
 pub use checking::check_names;
+pub use entry::Spelled;
 pub use fault::NameFault;

@@ -46,8 +46,8 @@ fn checked(
     second: Start,
 ) -> Result<Result<(), NameFault>, AllocError> {
     let region = sample(alloc, first, second)?;
-    let mut places = [0; 2];
-    Ok(check_names(&region, TREE, &mut places))
+    let mut entries = [Spelled::default(); 2];
+    Ok(check_names(&region, TREE, &mut entries))
 }
 
 // "ab" and "ac", whatever stands in their dead bytes; "..." is a name

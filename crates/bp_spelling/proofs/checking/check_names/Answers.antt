@@ -1,20 +1,23 @@
 use Rattle.std.proofs.Common.{ℕ, take, sym, subst}
+use Rattle.std.proofs.lemmas.List.Sorted.{IsPermutation-map}
 use Rattle.pm_region.specs.Memory.{current_words}
 use Rattle.bp_spelling.specs.Names.{AreWrong}
 use Rattle.bp_spelling.specs.Names.AreWrong.{form}
 use Rattle.bp_spelling.specs.declared.fault.NameFault.TheVariants.{Form}
+use Rattle.bp_spelling.specs.declared.entry.Spelled.{Spelled}
+use Rattle.bp_spelling.specs.Hashes.{places_of}
 use Rattle.bp_spelling.proofs.Deciding.{no_doubles, doubles}
 use Rattle.bp_spelling.proofs.checking.check_names.Goals as goal
 
 pub returns-in-Some-clause-err : goal.returns-in-Some-clause-err
 returns-in-Some-clause-err g c =
-    doubles (current_words (g.R.Region.memory c.args.region.now)) c.args.tree.root c.args.tree.size c.requires.sound c.requires.full c.in-Ok.ensures.forms (take c.in-Ok.count c.gather.new.places) c.find_double.new.places
-    c.in-Ok.ensures.places c.find_double.ensures.same c.in-Some.place c.in-Some.ensures.double
+    doubles (current_words (g.R.Region.memory c.args.region.now)) c.args.tree.root c.args.tree.size c.requires.sound c.requires.full c.in-Ok.ensures.forms (places_of (take c.in-Ok.count c.gather.new.entries)) (places_of c.find_double.new.entries)
+    c.in-Ok.ensures.places (IsPermutation-map (λ (e : Spelled). e.place) _ _ c.find_double.ensures.same) c.in-Some.place c.in-Some.ensures.double
 
 pub returns-in-None-clause-ok : goal.returns-in-None-clause-ok
 returns-in-None-clause-ok g c =
-    no_doubles (current_words (g.R.Region.memory c.args.region.now)) c.args.tree.root c.args.tree.size c.requires.sound c.requires.full c.in-Ok.ensures.forms (take c.in-Ok.count c.gather.new.places) c.find_double.new.places
-    c.in-Ok.ensures.places c.find_double.ensures.same c.in-None.ensures.double
+    no_doubles (current_words (g.R.Region.memory c.args.region.now)) c.args.tree.root c.args.tree.size c.requires.sound c.requires.full c.in-Ok.ensures.forms (places_of (take c.in-Ok.count c.gather.new.entries)) (places_of c.find_double.new.entries)
+    c.in-Ok.ensures.places (IsPermutation-map (λ (e : Spelled). e.place) _ _ c.find_double.ensures.same) c.in-None.ensures.double
 
 pub returns-in-Err-clause-err : goal.returns-in-Err-clause-err
 returns-in-Err-clause-err g c =

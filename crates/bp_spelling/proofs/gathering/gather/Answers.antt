@@ -1,10 +1,11 @@
-use Rattle.std.proofs.Common.{◌≡◌, ℕ, ◌+◌, ◌/◌, ◌<◌, ◌≤◌, length, sym, ◌∙◌, ap, subst, arith, true≢false}
+use Rattle.std.proofs.Common.{◌≡◌, ℕ, ◌+◌, ◌/◌, ◌<◌, ◌≤◌, length, refl, sym, ◌∙◌, ap, subst, arith, true≢false}
 use Rattle.pm_region.specs.Memory.{current_words}
 use Rattle.bp_tree.proofs.RegionWords.{length_now}
 use Rattle.bp_layout.specs.Words.{word}
 use Rattle.bp_layout.specs.Directory.{IsName, inumber_in, name_in}
 use Rattle.bp_spelling.specs.Places.{name_there}
 use Rattle.bp_spelling.proofs.EntryPlaces.{inumber-there, form-there, form-in, place_fits}
+use Rattle.bp_spelling.proofs.Forms.{name-short}
 use Rattle.bp_spelling.proofs.SlotSteps.{gathered_empty, gathered_more}
 use Rattle.bp_spelling.proofs.gathering.gather.Goals as goal
 use Rattle.bp_spelling.proofs.gathering.gather.Goals.{then-load-ne0+else-not-is_name, else-load-ne0}
@@ -48,8 +49,12 @@ loop-slot-preserved g c =
       | then-load-ne0+else-not-is_name w ↦
           let form : IsName (name_in image root slot) =
           form-there image root size slot c.requires.full live (subst (λ (p : ℕ). IsName (name_there image p)) c.entry_place-place.ensures.place (w.is_name.ensures.0 w.if-not-is_name.false)) in
-          let room : size / 256 ≤ length c.loop-slot.places = omega arith in
-          rw (w.places-is, w.count-is, c.entry_place-place.ensures.place)
-          (gathered_more image root (size / 256) c.loop-slot.places slot c.loop-slot.count live room c.loop-slot.invariant (λ none. w.if-load-ne0.true (read ∙ none)) form)
-      | else-load-ne0 w ↦ rw (w.places-is, w.count-is) (gathered_empty image root (size / 256) c.loop-slot.places slot c.loop-slot.count live c.loop-slot.invariant (sym read ∙ w.if-load-ne0.false))
+          let room : size / 256 ≤ length c.loop-slot.entries = omega arith in
+          rw (w.entries-is, w.count-is, c.entry_place-place.ensures.place)
+          (gathered_more image root (size / 256) c.loop-slot.entries slot c.loop-slot.count _ live room c.loop-slot.invariant (λ none. w.if-load-ne0.true (read ∙ none)) form refl (rw (← c.entry_place-place.ensures.place) w.hash_name.ensures))
+      | else-load-ne0 w ↦ rw (w.entries-is, w.count-is) (gathered_empty image root (size / 256) c.loop-slot.entries slot c.loop-slot.count live c.loop-slot.invariant (sym read ∙ w.if-load-ne0.false))
     ]
+
+pub hash_name-requires-clause-short : goal.hash_name-requires-clause-short
+hash_name-requires-clause-short g c =
+    name-short (current_words (g.R.Region.memory c.args.region.now)) c.entry_place-place.result (c.is_name.ensures.0 c.if-not-is_name.false)

@@ -4,4 +4,4 @@ use Rattle.bp_spelling.proofs.SlotSteps.{IsGathered}
 use Rattle.bp_spelling.proofs.gathering.gather.Given as goal
 
 abbrev pub invariant-loop-slot : goal.invariant-loop-slot
-invariant-loop-slot g l = IsGathered (current_words (g.R.Region.memory l.region)) l.tree.root (l.tree.size / 256) l.slot l.places l.count
+invariant-loop-slot g l = IsGathered (current_words (g.R.Region.memory l.region)) l.tree.root (l.tree.size / 256) l.slot l.entries l.count

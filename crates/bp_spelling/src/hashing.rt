@@ -1,0 +1,38 @@
+//! Hashes of names: names that are equal have equal ones.
+
+ghost use Rattle.std.specs.Prelude.{◌≡◌, ◌+◌, ◌≤◌, length};
+ghost use Rattle.bp_layout.specs.Words.{word};
+ghost use Rattle.bp_limits.specs.Limits.{max_name};
+ghost use Rattle.bp_spelling.specs.Hashes.{mixed, name_hash};
+ghost use Rattle.pm_region.specs.Memory.{current_words};
+
+use pm_region::Region;
+use pm_words::low_bytes;
+
+const FACTOR: u64 = 0x9e37_79b9_7f4a_7c15;
+
+/// What a word makes of the hash of the words before it. A product carries upwards alone, so names that differ in the
+/// highest bytes of their words would have but few hashes: its high half is folded into its low half, which the next
+/// product spreads.
+fn mix(state: u64, word: u64) -> u64
+    ensures { result ≡ mixed state word }
+{
+    let product = FACTOR.wrapping_mul(state.wrapping_add(word));
+    product ^ (product >> 32)
+}
+
+/// The hash of the name of the entry at a place: of its length, and of its words without the dead bytes.
+pub(crate) fn hash_name<R: Region>(region: &R, place: u32) -> u32
+    requires short { word (current_words (R.memory region.now)) (place + 1) ≤ max_name }
+    requires within { place + 32 ≤ length (current_words (R.memory region.now)) }
+    ensures { result ≡ name_hash (current_words (R.memory region.now)) place }
+{
+    let _words = region.words();
+    let count = region.load(place + 1);
+    let mut state = mix(0, count);
+    for part in 0..count.div_ceil(8) {
+        let word = region.load(place + 2 + part as u32);
+        state = mix(state, low_bytes(word, count - 8 * part));
+    }
+    (state >> 32) as u32
+}

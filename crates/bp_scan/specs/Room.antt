@@ -2,7 +2,7 @@
 use Rattle.std.specs.Prelude.{◌≡◌, ◌/◌, length, vec_len}
 use Rattle.bp_scan.specs.declared.pending.Pending.TheInside.{Inside}
 
--- a flag for each inode, and a place for each entry that a directory may have: 16 for each block, to 64 inodes
+-- a flag for each inode, and memory for each entry that a directory may have: 16 for each block, to 64 inodes
 pub record HasRoom (pending : Inside) : Type 0 where
   pub flags : length pending.todo ≡ pending.inodes
-  pub places : vec_len pending.places ≡ pending.inodes / 4
+  pub entries : vec_len pending.entries ≡ pending.inodes / 4

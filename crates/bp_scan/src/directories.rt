@@ -15,7 +15,7 @@ use bp_dirs::{entry_place, inumber};
 use bp_free::{Blocks, Inodes};
 use bp_inodes::{get, inode_file};
 use bp_limits::{ENTRY_SIZE, INODE_SIZE};
-use bp_spelling::{NameFault, check_names};
+use bp_spelling::{NameFault, Spelled, check_names};
 use bp_tree::Tree;
 use bp_walk::CheckFault;
 use pm_region::Region;
@@ -91,17 +91,17 @@ fn read_entries<R: Region>(
     Ok(())
 }
 
-/// Checks the names of a directory. `places` is memory for one number for each entry.
-fn read_names<R: Region>(region: &R, tree: Tree, places: &mut [u32]) -> Result<(), CheckFault>
+/// Checks the names of a directory. `entries` is memory for as many as it has.
+fn read_names<R: Region>(region: &R, tree: Tree, entries: &mut [Spelled]) -> Result<(), CheckFault>
     requires sound { IsSound (current_words (R.memory region.now)) tree.root tree.size }
     requires full { IsFull (current_words (R.memory region.now)) tree.root tree.size }
-    requires room { tree.size / entry_size ≤ length places.old }
+    requires room { tree.size / entry_size ≤ length entries.old }
     ensures ok { OnOk result (AreNames (current_words (R.memory region.now)) tree.root tree.size) }
     ensures err { let words = current_words (R.memory region.now) in
         IfErr result (λ f. FailsNames words tree.root tree.size f.check f.place) }
-    ensures room { length places.new ≡ length places.old }
+    ensures room { length entries.new ≡ length entries.old }
 {
-    match check_names(region, tree, places) {
+    match check_names(region, tree, entries) {
         Ok(()) => Ok(()),
         Err(NameFault::Form { place }) => Err(CheckFault { check: 12, place }),
         Err(NameFault::Twice { place }) => Err(CheckFault { check: 13, place }),
@@ -115,25 +115,25 @@ pub(crate) fn read_directory<R: Region>(
     blocks: &mut Blocks,
     inodes: &mut Inodes,
     todo: &mut Inodes,
-    places: &mut [u32],
+    entries: &mut [Spelled],
 ) -> Result<(), CheckFault>
     requires ready { IsOpen (current_words (R.memory region.now)) }
     requires begun { IsAtHand (current_words (R.memory region.now)) blocks.old inodes.old todo.old inode 0 }
-    requires places { 16 * block_count (current_words (R.memory region.now)) ≤ length places.old }
+    requires entries { 16 * block_count (current_words (R.memory region.now)) ≤ length entries.old }
     ensures done { OnOk result (IsReading (current_words (R.memory region.now)) blocks.new inodes.new todo.new 0 0) }
     ensures work { OnOk result (work inodes.new todo.new ≤ work inodes.old todo.old) }
     ensures fault { IfErr result (λ f. Fails (current_words (R.memory region.now)) f.check f.place) }
     ensures block_room { length blocks.new ≡ length blocks.old }
     ensures inode_room { length inodes.new ≡ length inodes.old }
     ensures todo_room { length todo.new ≡ length todo.old }
-    ensures place_room { length places.new ≡ length places.old }
+    ensures entry_room { length entries.new ≡ length entries.old }
 {
     let words = get(region, inode);
     let tree = Tree {
         root: words.root,
         size: words.size,
     };
-    if let Err(fault) = read_names(region, tree, places) {
+    if let Err(fault) = read_names(region, tree, entries) {
         return Err(fault);
     }
     read_entries(region, Directory { inode, tree }, blocks, inodes, todo)

@@ -3,15 +3,16 @@
 ghost use Rattle.std.specs.Prelude.{◌≡◌, ◌≤◌, IfOk};
 
 use bp_free::Inodes;
+use bp_spelling::Spelled;
 use std::alloc::{AllocError, Global};
 use std::marker::Model;
 
-/// Memory for scans: the directories that are still to be read, and the places of the entries of the one at hand. Contracts
-/// see it as the number of inodes that it was made for.
+/// Memory for scans: the directories that are still to be read, and the entries of the one at hand. Contracts see it as the
+/// number of inodes that it was made for.
 #[derive(Drop)]
 pub struct Pending {
     pub(crate) todo: Inodes,
-    pub(crate) places: Vec<u32>,
+    pub(crate) entries: Vec<Spelled>,
     inodes: u32,
 }
 
@@ -33,7 +34,7 @@ impl Pending {
     {
         Ok(Pending {
             todo: Inodes::new(alloc, inodes)?,
-            places: vec![in alloc; 0u32; inodes as usize / 4]?,
+            entries: vec![in alloc; Spelled::default(); inodes as usize / 4]?,
             inodes,
         })
     }

@@ -17,6 +17,7 @@ use crate::trees::{enter, enter_inode_file};
 use bp_free::{Blocks, Inodes};
 use bp_inodes::inode_file;
 use bp_limits::INODE_SIZE;
+use bp_spelling::Spelled;
 use bp_walk::CheckFault;
 use pm_region::Region;
 
@@ -54,41 +55,41 @@ fn read_directories<R: Region>(
     blocks: &mut Blocks,
     inodes: &mut Inodes,
     todo: &mut Inodes,
-    places: &mut [u32],
+    entries: &mut [Spelled],
 ) -> Result<(), CheckFault>
     requires ready { IsOpen (current_words (R.memory region.now)) }
     requires reading { IsReading (current_words (R.memory region.now)) blocks.old inodes.old todo.old 0 0 }
-    requires places { 16 * block_count (current_words (R.memory region.now)) ≤ length places.old }
+    requires entries { 16 * block_count (current_words (R.memory region.now)) ≤ length entries.old }
     ensures reading { OnOk result (IsReading (current_words (R.memory region.now)) blocks.new inodes.new todo.new 0 0) }
     ensures none_left { OnOk result ((i : ℕ) → has todo.new i ≡ false) }
     ensures fault { IfErr result (λ f. Fails (current_words (R.memory region.now)) f.check f.place) }
     ensures block_room { length blocks.new ≡ length blocks.old }
     ensures inode_room { length inodes.new ≡ length inodes.old }
     ensures todo_room { length todo.new ≡ length todo.old }
-    ensures place_room { length places.new ≡ length places.old }
+    ensures entry_room { length entries.new ≡ length entries.old }
 {
     while let Some(inode) = todo.take() {
-        if let Err(fault) = read_directory(region, inode, blocks, inodes, todo, places) {
+        if let Err(fault) = read_directory(region, inode, blocks, inodes, todo, entries) {
             return Err(fault);
         }
     }
     Ok(())
 }
 
-/// The same as [`read_trees`] with the memory taken apart: a set for the directories to do, and a number for each entry that
+/// The same as [`read_trees`] with the memory taken apart: a set for the directories to do, and memory for each entry that
 /// a directory may have.
 fn read_with<R: Region>(
     region: &R,
     blocks: &mut Blocks,
     inodes: &mut Inodes,
     todo: &mut Inodes,
-    places: &mut [u32],
+    entries: &mut [Spelled],
 ) -> Result<(), CheckFault>
     requires formatted { IsFormatted (current_words (R.memory region.now)) }
     requires no_blocks { blocks.old ≡ empty (block_count (current_words (R.memory region.now))) }
     requires no_inodes { inodes.old ≡ empty (64 * block_count (current_words (R.memory region.now))) }
     requires todo { length todo.old ≡ 64 * block_count (current_words (R.memory region.now)) }
-    requires places { 16 * block_count (current_words (R.memory region.now)) ≤ length places.old }
+    requires entries { 16 * block_count (current_words (R.memory region.now)) ≤ length entries.old }
     ensures well_formed { OnOk result (IsWellFormed (current_words (R.memory region.now))) }
     ensures blocks { OnOk result (AreFreeBlocks (current_words (R.memory region.now)) (has blocks.new)) }
     ensures inodes { OnOk result (AreFreeInodes (current_words (R.memory region.now)) (has inodes.new)) }
@@ -98,13 +99,13 @@ fn read_with<R: Region>(
     ensures block_room { length blocks.new ≡ length blocks.old }
     ensures inode_room { length inodes.new ≡ length inodes.old }
     ensures todo_room { length todo.new ≡ length todo.old }
-    ensures place_room { length places.new ≡ length places.old }
+    ensures entry_room { length entries.new ≡ length entries.old }
 {
     todo.clear();
     if let Err(fault) = start(region, blocks, inodes, todo) {
         return Err(fault);
     }
-    read_directories(region, blocks, inodes, todo, places)
+    read_directories(region, blocks, inodes, todo, entries)
 }
 
 /// Reads all trees of an image that is formatted: puts its free blocks and inodes into two sets that are empty. The answer is
@@ -134,6 +135,6 @@ pub(crate) fn read_trees<R: Region>(
         blocks,
         inodes,
         &mut pending.todo,
-        &mut pending.places,
+        &mut pending.entries,
     )
 }

@@ -26,7 +26,7 @@ read_names-requires-clause-room g c =
     let few : c.get-words.result.size / 256 ≤ 16 * block_count image =
     begun_few image c.requires.ready c.args.blocks.now c.args.inodes.now c.args.todo.now
     (record { inode = c.args.inode; tree = record { root = c.get-words.result.root; size = c.get-words.result.size } }) c.requires.begun c.get-words.ensures.root c.get-words.ensures.size in
-    omega (arith, few, c.requires.places)
+    omega (arith, few, c.requires.entries)
 
 pub returns-in-Err-clause-fault : goal.returns-in-Err-clause-fault
 returns-in-Err-clause-fault g c =

@@ -10,7 +10,7 @@ invariant-loop-inode g l = record {
   block_room : length l.blocks ≡ length l.initial.blocks;
   inode_room : length l.inodes ≡ length l.initial.inodes;
   todo_room : length l.todo ≡ length l.initial.todo;
-  place_room : length l.places ≡ length l.initial.places;
+  entry_room : length l.entries ≡ length l.initial.entries;
 }
 
 abbrev pub decreases-loop-inode : goal.decreases-loop-inode

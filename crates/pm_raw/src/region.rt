@@ -149,6 +149,11 @@ impl Region for RawRegion {
         self.current.as_slice()[word as usize]
     }
 
+    fn load_words(&self, first: u32, count: u32) -> &[u64] {
+        let first = first as usize;
+        &self.current.as_slice()[first..first + count as usize]
+    }
+
     fn store(&mut self, word: u32, value: u64) {
         let replaced = self.current.as_slice()[word as usize];
         self.current.set(word as usize, value);

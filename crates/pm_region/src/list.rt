@@ -74,6 +74,11 @@ impl Region for ListRegion {
         self.now[word as usize]
     }
 
+    fn load_words(&self, first: u32, count: u32) -> &[u64] {
+        let first = first as usize;
+        &self.now[first..first + count as usize]
+    }
+
     fn store(&mut self, word: u32, value: u64) {
         self.push(Event::Store { word, value });
     }

@@ -1,4 +1,4 @@
-ghost use Rattle.std.specs.Prelude.{◌≡◌, ℕ, ◌+◌, ◌<◌, ◌≤◌, ◌↔◌, [], ◌∷◌, ◌++◌, length, slice_get, slice_index, slice_index_or, slice_set, Some, IsOk, IfOk, OnOk, OnErr};
+ghost use Rattle.std.specs.Prelude.{◌≡◌, ℕ, ◌+◌, ◌<◌, ◌≤◌, ◌↔◌, [], ◌∷◌, ◌++◌, length, slice_get, slice_index, slice_index_or, slice_range, slice_set, Some, IsOk, IfOk, OnOk, OnErr};
 ghost use Rattle.pm_epochs.specs.declared.event.Event.TheVariants.{Store, Barrier, Mark};
 ghost use Rattle.pm_epochs.specs.Log.{marks};
 ghost use Rattle.pm_epochs.specs.Replay.{IsRight, kept_calls};
@@ -19,6 +19,11 @@ pub trait Region {
     fn load(&self, word: u32) -> u64
         requires { word < length (memory self.now).base }
         ensures { result ≡ slice_index (current_words (memory self.now)) word };
+
+    /// The words from `first` on, so many, as the processor sees them.
+    fn load_words(&self, first: u32, count: u32) -> &[u64]
+        requires { first + count ≤ length (memory self.now).base }
+        ensures { result.now ≡ slice_range (current_words (memory self.now)) first (first + count) };
 
     /// Sets a word, and writes that to the log.
     fn store(&mut self, word: u32, value: u64)

@@ -71,7 +71,8 @@ impl<'a> Log<'a> {
         ensures get { slice_get self.now i ≡ Some result }
         ensures value { result ≡ slice_index_or self.now i result }
     {
-        read_event(self.words[i], self.values[i])
+        let (words, values) = (self.words, self.values);
+        read_event(words[i], values[i])
     }
 
     /// The first events, as many as are wanted.

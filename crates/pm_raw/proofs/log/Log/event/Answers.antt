@@ -20,10 +20,3 @@ returns-clause-value c =
     let event = c.read_event.result in
     let low : i < length words = omega (arith, c.requires, length_events words values c.self.invariant, ap length c.self.view_is) in
     c.read_event.ensures ∙ sym (get_or-events_of words values i event c.self.invariant low) ∙ ap (λ es. get_or es i event) c.self.view_is
-
-pub offset_bounds-self-inside-i : goal.offset_bounds-self-inside-i
-offset_bounds-self-inside-i c =
-    let words = c.self.inside.words.now in
-    let values = c.self.inside.values.now in
-    let low : c.args.i < length words = omega (arith, c.requires, length_events words values c.self.invariant, ap length c.self.view_is) in
-    omega (arith, low)

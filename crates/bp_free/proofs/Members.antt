@@ -208,3 +208,43 @@ count_less s i low out =
     let most = count_most (with s i) in
     let same = length-set s i true in
     omega (arith, more, most, same)
+
+-- the members of a set are those below one number, those up to another, and the rest
+members_parts : (s : Set) (from to : ℕ) → from ≤ to → to ≤ length s →
+    length (members s) ≡ length (filter (has s) (range_with_len 0 from)) + length (filter (has s) (range_with_len from (to - from))) + length (filter (has s) (range_with_len to (length s - to)))
+members_parts s from to order within =
+    let size : length s ≡ from + (to - from) + (length s - to) = omega (arith, order, within) in
+    let here : 0 + from ≡ from = omega arith in
+    let there : 0 + (from + (to - from)) ≡ to = omega (arith, order) in
+    let parts : range_with_len 0 (length s) ≡ (range_with_len 0 from ++ range_with_len from (to - from)) ++ range_with_len to (length s - to) =
+    ap (range_with_len 0) size
+    ∙ range_split 0 (from + (to - from)) (length s - to)
+    ∙ ap (λ xs. xs ++ range_with_len (0 + (from + (to - from))) (length s - to)) (range_split 0 from (to - from))
+    ∙ ap (λ a. (range_with_len 0 from ++ range_with_len a (to - from)) ++ range_with_len (0 + (from + (to - from))) (length s - to)) here
+    ∙ ap (λ a. (range_with_len 0 from ++ range_with_len from (to - from)) ++ range_with_len a (length s - to)) there in
+    ap (λ xs. length (filter (has s) xs)) parts
+    ∙ ap length (filter-append (has s) (range_with_len 0 from ++ range_with_len from (to - from)) (range_with_len to (length s - to)))
+    ∙ length-append (filter (has s) (range_with_len 0 from ++ range_with_len from (to - from))) (filter (has s) (range_with_len to (length s - to)))
+    ∙ ap (λ xs. length xs + length (filter (has s) (range_with_len to (length s - to)))) (filter-append (has s) (range_with_len 0 from) (range_with_len from (to - from)))
+    ∙ ap (λ n. n + length (filter (has s) (range_with_len to (length s - to)))) (length-append (filter (has s) (range_with_len 0 from)) (filter (has s) (range_with_len from (to - from))))
+
+-- a run joins of which none was in
+pub count_filled : (from to : ℕ) (old new : Set) → from ≤ to → to ≤ length old → ((k : ℕ) → from ≤ k → k < to → has old k ≡ false) → Fills from to old new → length (members new) ≡ length (members old) + (to - from)
+count_filled from to old new order within none fills =
+    let within_new : to ≤ length new = omega (arith, within, fills.room) in
+    let now = members_parts new from to order within_new in
+    let before = members_parts old from to order within in
+    let front : filter (has new) (range_with_len 0 from) ≡ filter (has old) (range_with_len 0 from) =
+    filter_same (has new) (has old) 0 from (λ k low high. fills.below k (omega (arith, high))) in
+    let middle : filter (has new) (range_with_len from (to - from)) ≡ range_with_len from (to - from) =
+    filter_all (has new) from (to - from) (λ k low high. fills.inside k low (omega (arith, low, high, order))) in
+    let middle_old : filter (has old) (range_with_len from (to - from)) ≡ [] =
+    filter_none (has old) from (to - from) (λ k low high. none k low (omega (arith, low, high, order))) in
+    let back : filter (has new) (range_with_len to (length new - to)) ≡ filter (has old) (range_with_len to (length old - to)) =
+    ap (λ n. filter (has new) (range_with_len to (n - to))) fills.room
+    ∙ filter_same (has new) (has old) to (length old - to) (λ k low high. fills.above k low) in
+    let front_size = ap length front in
+    let middle_size : length (filter (has new) (range_with_len from (to - from))) ≡ to - from = ap length middle ∙ length-range_with_len from (to - from) in
+    let middle_none : length (filter (has old) (range_with_len from (to - from))) ≡ 0 = ap length middle_old in
+    let back_size = ap length back in
+    omega (arith, now, before, front_size, middle_size, middle_none, back_size)

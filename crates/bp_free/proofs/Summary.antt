@@ -1,12 +1,12 @@
 -- The summary of a set, a number for each word that is not empty, and the count.
-use Rattle.std.proofs.Common.{◌≡◌, ℕ, ◌+◌, ◌-◌, ◌/◌, ◌^◌, ◌<◌, ◌≤◌, ◌≢◌, [], length, Bool, true, false, refl, sym, ◌∙◌, ap, arith, inl, inr, Option, Some, None}
+use Rattle.std.proofs.Common.{◌≡◌, ◌⊎◌, ℕ, ◌+◌, ◌-◌, ◌/◌, ◌%◌, ◌^◌, ◌<◌, ◌≤◌, ◌≢◌, [], length, Bool, true, false, refl, sym, ◌∙◌, ap, arith, inl, inr, Option, Some, None}
 use Rattle.std.specs.Prelude.{MatchOption}
 use Rattle.std.specs.Option.{is_some}
 use Rattle.std.proofs.lemmas.Bool.{cases_eq, cases_lt}
 use Rattle.std.proofs.lemmas.List.{length-set, length-replicate, get_or-replicate}
 use Rattle.bp_free.specs.Set.{Set, has, members, with, without, empty, IsLeast, Fills}
 use Rattle.bp_free.specs.Words.{IsSummary, IsCounted, IsEmptyWord, IsLeastInWord}
-use Rattle.bp_free.proofs.Members.{has_past, has_with_same, has_with_other, has_without_same, has_without_other, members_empty, members_none, count_with, count_without, count_less}
+use Rattle.bp_free.proofs.Members.{has_past, has_with_same, has_with_other, has_without_same, has_without_other, members_empty, members_none, count_with, count_without, count_less, count_most, count_filled}
 
 -- ---- cases
 
@@ -203,3 +203,75 @@ fills_more from i old s new order fills low is =
       below = λ k low_k. has_with_other s i k (omega (arith, order, low_k)) ∙ fills.below k low_k;
       above = λ k high. has_with_other s i k (omega (arith, high)) ∙ fills.above k (omega (arith, high));
     })
+
+-- two runs in a row
+pub fills_on : (from middle to : ℕ) (old s new : Set) → from ≤ middle → middle ≤ to → Fills from middle old s → Fills middle to s new → Fills from to old new
+fills_on from middle to old s new first second fills more = record {
+  room = more.room ∙ fills.room;
+  inside = λ k low high. elim (cases_lt k middle) [
+    | inl before ↦ more.below k before ∙ fills.inside k low before
+    | inr after ↦ more.inside k after high
+  ];
+  below = λ k low. more.below k (omega (arith, low, first)) ∙ fills.below k low;
+  above = λ k high. more.above k high ∙ fills.above k (omega (arith, high, second));
+}
+
+-- a number that was in stays in
+fills_keeps : (from to : ℕ) (old new : Set) → Fills from to old new → (k : ℕ) → has old k ≡ true → has new k ≡ true
+fills_keeps from to old new fills k there = elim (cases_lt k from) [
+  | inl before ↦ fills.below k before ∙ there
+  | inr after ↦ elim (cases_lt k to) [
+    | inl low ↦ fills.inside k after low
+    | inr high ↦ fills.above k high ∙ there
+  ]
+]
+
+-- a number that is in afterwards was in or is one of the run
+fills_had_or : (from to : ℕ) (old new : Set) → Fills from to old new → (k : ℕ) → has new k ≡ true → ((from ≤ k) × (k < to)) ⊎ (has old k ≡ true)
+fills_had_or from to old new fills k there = elim (cases_lt k from) [
+  | inl before ↦ inr (sym (fills.below k before) ∙ there)
+  | inr after ↦ elim (cases_lt k to) [
+    | inl low ↦ inl (after, low)
+    | inr high ↦ inr (sym (fills.above k high) ∙ there)
+  ]
+]
+
+summary_filled : (s used new : Set) (from count : ℕ) → IsSummary s used → 0 < count → from % 64 + count ≤ 64 → from + count ≤ length s → Fills from (from + count) s new → IsSummary new (with used (from / 64))
+summary_filled s used new from count sum some one_word within fills =
+    let long_used = length-set used (from / 64) true in
+    let place : from / 64 < length used = word_low s used from sum (omega (arith, some, within)) in
+    record {
+      room = omega (arith, sum.room, fills.room, long_used);
+      all = λ k there. elim (fills_had_or from (from + count) s new fills k there) [
+        | inl run ↦
+            let here : k / 64 ≡ from / 64 = omega (arith, run.0, run.1, one_word) in
+            ap (has (with used (from / 64))) here ∙ has_with_same used (from / 64) place
+        | inr was ↦ elim (cases_eq (k / 64) (from / 64)) [
+          | inl here ↦ ap (has (with used (from / 64))) here ∙ has_with_same used (from / 64) place
+          | inr other ↦ has_with_other used (from / 64) (k / 64) other ∙ sum.all k was
+        ]
+      ];
+      some = λ word there. elim (cases_eq word (from / 64)) [
+        | inl here ↦ (from, sym here, fills.inside from (omega arith) (omega (arith, some)))
+        | inr other ↦
+            let found = sum.some word (sym (has_with_other used (from / 64) word other) ∙ there) in
+            (found.0, found.1, fills_keeps from (from + count) s new fills found.0 found.2)
+      ];
+    }
+
+pub counted_filled : (s used new new_used : Set) (count from more : ℕ) → IsCounted s used count → 0 < more → from % 64 + more ≤ 64 → from + more ≤ length s →
+    ((k : ℕ) → from ≤ k → k < from + more → has s k ≡ false) → Fills from (from + more) s new → new_used ≡ with used (from / 64) → IsCounted new new_used (count + more)
+counted_filled s used new new_used count from more counted some one_word within none fills used_is =
+    let size = count_filled from (from + more) s new (omega arith) within none fills in
+    rw used_is (record {
+      number = omega (arith, counted.number, size);
+      fits = omega (arith, counted.fits, fills.room);
+      summary = summary_filled s used new from more counted.summary some one_word within fills;
+    })
+
+pub many_fit : (s used : Set) (count from more : ℕ) (new : Set) → IsCounted s used count → from + more ≤ length s →
+    ((k : ℕ) → from ≤ k → k < from + more → has s k ≡ false) → Fills from (from + more) s new → count + more < 2 ^ 32
+many_fit s used count from more new counted within none fills =
+    let size = count_filled from (from + more) s new (omega arith) within none fills in
+    let most = count_most new in
+    omega (arith, size, most, counted.number, counted.fits, fills.room)

@@ -1,13 +1,15 @@
 -- A set in words: what a write of one bit does to it, and its least number in a word.
-use Rattle.std.proofs.Common.{◌≡◌, ℕ, ◌+◌, ◌*◌, ◌/◌, ◌%◌, ◌^◌, ◌<◌, ◌≤◌, ◌≢◌, List, length, Bool, true, false, set, replicate, get_or, refl, sym, ◌∙◌, ap, subst, arith, inl, inr}
+use Rattle.std.proofs.Common.{◌≡◌, ◌↔◌, ℕ, zero, suc, ◌+◌, ◌-◌, ◌*◌, ◌/◌, ◌%◌, ◌^◌, ◌<◌, ◌≤◌, ◌≢◌, min, max, List, length, Bool, true, false, set, replicate, get_or, refl, sym, ◌∙◌, ap, subst, arith, inl, inr}
 use Rattle.std.specs.Prelude.{eqb}
 use Rattle.std.specs.Int.{bit_at, bit_not, w64, trailing_zeros}
 use Rattle.std.specs.Int.Bits.{bit_and, bit_or}
 use Rattle.std.proofs.lemmas.Bool.{cases_eq, cases_lt}
 use Rattle.std.proofs.lemmas.List.{get_or_read, get_or-set_same, get_or-set_other, get_or_past, get_or-replicate, length-set, length-replicate, ext_get_or}
 use Rattle.std.proofs.lemmas.List.FromFn.{length-map-range_with_len, get_or-map-range_with_len}
-use Rattle.std.proofs.lemmas.Nat.Bits.{bit_at-zero, bit_at-trailing_zeros, shr_and_one, bit_at_set_same, bit_at_set_other, bit_at_clear_same, bit_at_clear_other}
-use Rattle.bp_free.specs.Set.{Set, has, with, without, empty, IsLeast}
+use Rattle.std.proofs.lemmas.Nat.Bits.{bit_at-zero, bit_at-trailing_zeros, shr_and_one, bit_at_set_same, bit_at_set_other, bit_at_clear_same, bit_at_clear_other, bit_at-lt, bit_at_and, bit_at_or, bit_at_mask_inside, bit_at_mask_below, bit_at_mask_above, same_from_bits}
+use Rattle.std.proofs.Math.Nat.{le-mul_of_pos_right}
+use Rattle.std.proofs.lemmas.Nat.{pow_pos, pow-add}
+use Rattle.bp_free.specs.Set.{Set, has, with, without, empty, IsLeast, Fills}
 use Rattle.bp_free.specs.Words.{word_has, set_in, HoldRoom, IsLowestBit, IsLeastInWord, IsEmptyWord}
 
 -- the word of number i with its bit set, and with it cleared
@@ -241,3 +243,150 @@ least_seen seen word i before least = record {
     | inr high ↦ least.first k (omega (arith, high, below, least.place)) below
   ];
 }
+
+-- ---- a run of numbers that share a word
+
+pub powers_rise : (low more : ℕ) → (1 ≤ 2 ^ low) × (2 ^ low ≤ 2 ^ (low + more))
+powers_rise low more =
+    let some : 1 ≤ 2 ^ low = omega (arith, pow_pos low) in
+    (some, subst (λ n. 2 ^ low ≤ n) (sym (pow-add 2 low more)) (le-mul_of_pos_right (2 ^ low) (pow_pos more)))
+
+-- the bits of a run in a word
+abbrev pub run_bits : ℕ → ℕ → ℕ
+run_bits first count = 2 ^ (first % 64 + count) - 2 ^ (first % 64)
+
+-- a run joins, and each other number is as before
+record Joins (old new : List ℕ) (first count : ℕ) : Type 0 where
+  length : length new ≡ length old
+  inside : (k : ℕ) → first ≤ k → k < first + count → word_has new k ≡ true
+  below : (k : ℕ) → k < first → word_has new k ≡ word_has old k
+  above : (k : ℕ) → first + count ≤ k → word_has new k ≡ word_has old k
+
+max_one : (n : ℕ) → n < 2 → max n 1 ≡ 1
+max_one n low = omega (arith, low)
+
+max_none : (n : ℕ) → max n 0 ≡ n
+max_none n = omega arith
+
+joined_inside : (w first count k : ℕ) → first ≤ k → k < first + count → first % 64 + count ≤ 64 → bit_at (bit_or w (run_bits first count)) (k % 64) ≡ 1
+joined_inside w first count k low high one_word =
+    bit_at_or w (run_bits first count) (k % 64)
+    ∙ ap (λ b. max (bit_at w (k % 64)) b) (bit_at_mask_inside (first % 64) (first % 64 + count) (k % 64) (omega (arith, low, high, one_word)) (omega (arith, low, high, one_word)))
+    ∙ max_one (bit_at w (k % 64)) (bit_at-lt w (k % 64))
+
+joined_below : (w first count k : ℕ) → k < first → k / 64 ≡ first / 64 → bit_at (bit_or w (run_bits first count)) (k % 64) ≡ bit_at w (k % 64)
+joined_below w first count k low here =
+    bit_at_or w (run_bits first count) (k % 64)
+    ∙ ap (λ b. max (bit_at w (k % 64)) b) (bit_at_mask_below (first % 64) (first % 64 + count) (k % 64) (omega (arith, low, here)))
+    ∙ max_none (bit_at w (k % 64))
+
+joined_above : (w first count k : ℕ) → first + count ≤ k → k / 64 ≡ first / 64 → bit_at (bit_or w (run_bits first count)) (k % 64) ≡ bit_at w (k % 64)
+joined_above w first count k high here =
+    bit_at_or w (run_bits first count) (k % 64)
+    ∙ ap (λ b. max (bit_at w (k % 64)) b) (bit_at_mask_above (first % 64) (first % 64 + count) (k % 64) (omega (arith, high, here)))
+    ∙ max_none (bit_at w (k % 64))
+
+run_joins : (words : List ℕ) (first count : ℕ) → first / 64 < length words → first % 64 + count ≤ 64 →
+    Joins words (set words (first / 64) (bit_or (get_or words (first / 64) 0) (run_bits first count))) first count
+run_joins words first count low one_word =
+    let w : ℕ = get_or words (first / 64) 0 in
+    let joined : ℕ = bit_or w (run_bits first count) in
+    record {
+      length = length-set words (first / 64) joined;
+      inside = λ k from to.
+          word_here words (first / 64) joined k low (omega (arith, from, to, one_word))
+          ∙ ap (λ n. eqb n 1) (joined_inside w first count k from to one_word);
+      below = λ k before. elim (cases_eq (k / 64) (first / 64)) [
+        | inl here ↦
+            word_here words (first / 64) joined k low here ∙ ap (λ n. eqb n 1) (joined_below w first count k before here)
+            ∙ sym (word_is words (first / 64) k here)
+        | inr there ↦ word_there words (first / 64) joined k there
+      ];
+      above = λ k after. elim (cases_eq (k / 64) (first / 64)) [
+        | inl here ↦
+            word_here words (first / 64) joined k low here ∙ ap (λ n. eqb n 1) (joined_above w first count k after here)
+            ∙ sym (word_is words (first / 64) k here)
+        | inr there ↦ word_there words (first / 64) joined k there
+      ];
+    }
+
+joins_read : (words : List ℕ) (room : ℕ) (seen : Set) (first count v : ℕ) → HoldRoom words room → set_in words room ≡ seen → first < length seen → first % 64 + count ≤ 64 → v ≡ get_or words (first / 64) v →
+    Joins words (set words (first / 64) (bit_or v (run_bits first count))) first count
+joins_read words room seen first count v hold view low one_word read =
+    let at = word_seen words room seen first hold view low in
+    let value : get_or words (first / 64) 0 ≡ v = sym (get_or_read words (first / 64) v at read 0) in
+    subst (λ n. Joins words (set words (first / 64) (bit_or n (run_bits first count))) first count) value (run_joins words first count at one_word)
+
+pub run_holds : (words : List ℕ) (room : ℕ) (seen : Set) (first count v : ℕ) → HoldRoom words room → set_in words room ≡ seen → 0 < count → first + count ≤ length seen → first % 64 + count ≤ 64 → v ≡ get_or words (first / 64) v →
+    HoldRoom (set words (first / 64) (bit_or v (run_bits first count))) room
+run_holds words room seen first count v hold view some low one_word read =
+    let long = room_seen words room seen view in
+    let joins = joins_read words room seen first count v hold view (omega (arith, some, low)) one_word read in
+    record {
+      fits = hold.fits;
+      long = omega (arith, joins.length, hold.long);
+      short = omega (arith, joins.length, hold.short);
+      behind = λ k high. joins.above k (omega (arith, low, long, high)) ∙ hold.behind k high;
+    }
+
+pub run_seen : (words : List ℕ) (room : ℕ) (seen : Set) (first count v : ℕ) → HoldRoom words room → set_in words room ≡ seen → 0 < count → first + count ≤ length seen → first % 64 + count ≤ 64 → v ≡ get_or words (first / 64) v →
+    Fills first (first + count) seen (set_in (set words (first / 64) (bit_or v (run_bits first count))) room)
+run_seen words room seen first count v hold view some low one_word read =
+    let new : List ℕ = set words (first / 64) (bit_or v (run_bits first count)) in
+    let joins = joins_read words room seen first count v hold view (omega (arith, some, low)) one_word read in
+    let holds = run_holds words room seen first count v hold view some low one_word read in
+    subst (λ (s : Set). Fills first (first + count) s (set_in new room)) view (record {
+      room = length_in new room ∙ sym (length_in words room);
+      inside = λ k from to. has_in new room holds k ∙ joins.inside k from to;
+      below = λ k before. has_in new room holds k ∙ joins.below k before ∙ sym (has_in words room hold k);
+      above = λ k after. has_in new room holds k ∙ joins.above k after ∙ sym (has_in words room hold k);
+    })
+
+-- whether none of a run is in, by the bits that the run's word has in common with the run
+
+min_one : (n : ℕ) → n < 2 → min n 1 ≡ n
+min_one n low = omega (arith, low)
+
+min_none : (n : ℕ) → min n 0 ≡ 0
+min_none n = omega arith
+
+none_min : (n : ℕ) → min 0 n ≡ 0
+none_min n = omega arith
+
+one_or_none : (n : ℕ) → n < 2 → eqb n 1 ≡ false → n ≡ 0
+one_or_none zero low other = refl
+one_or_none (suc zero) low other = absurd (cc (other))
+one_or_none (suc (suc n)) low other = absurd (omega (arith, low))
+
+none_there : (w first count k : ℕ) → bit_and w (run_bits first count) ≡ 0 → first ≤ k → k < first + count → first % 64 + count ≤ 64 → bit_at w (k % 64) ≡ 0
+none_there w first count k none low high one_word =
+    sym (min_one (bit_at w (k % 64)) (bit_at-lt w (k % 64)))
+    ∙ ap (λ b. min (bit_at w (k % 64)) b) (sym (bit_at_mask_inside (first % 64) (first % 64 + count) (k % 64) (omega (arith, low, high, one_word)) (omega (arith, low, high, one_word))))
+    ∙ sym (bit_at_and w (run_bits first count) (k % 64))
+    ∙ ap (λ n. bit_at n (k % 64)) none ∙ bit_at-zero (k % 64)
+
+none_common : (w first count : ℕ) → first % 64 + count ≤ 64 → ((k : ℕ) → first ≤ k → k < first + count → bit_at w (k % 64) ≡ 0) → bit_and w (run_bits first count) ≡ 0
+none_common w first count one_word none = same_from_bits (bit_and w (run_bits first count)) 0 (λ i.
+    bit_at_and w (run_bits first count) i ∙ elim (cases_lt i (first % 64)) [
+      | inl before ↦ ap (λ b. min (bit_at w i) b) (bit_at_mask_below (first % 64) (first % 64 + count) i before) ∙ min_none (bit_at w i)
+      | inr from ↦ elim (cases_lt i (first % 64 + count)) [
+        | inl to ↦
+            let k : ℕ = 64 * (first / 64) + i in
+            let digit : k % 64 ≡ i = omega (arith, to, one_word) in
+            let out : bit_at w i ≡ 0 = sym (ap (bit_at w) digit) ∙ none k (omega (arith, from)) (omega (arith, to)) in
+            ap (λ b. min b (bit_at (run_bits first count) i)) out ∙ none_min (bit_at (run_bits first count) i)
+        | inr after ↦ ap (λ b. min (bit_at w i) b) (bit_at_mask_above (first % 64) (first % 64 + count) i after) ∙ min_none (bit_at w i)
+      ]
+    ] ∙ sym (bit_at-zero i))
+
+pub none_seen : (words : List ℕ) (room : ℕ) (seen : Set) (first count v : ℕ) → HoldRoom words room → set_in words room ≡ seen → 0 < count → first + count ≤ length seen → first % 64 + count ≤ 64 → v ≡ get_or words (first / 64) v →
+    (bit_and v (run_bits first count) ≡ 0) ↔ ((k : ℕ) → first ≤ k → k < first + count → has seen k ≡ false)
+none_seen words room seen first count v hold view some low one_word read =
+    let at = word_seen words room seen first hold view (omega (arith, some, low)) in
+    let value : v ≡ get_or words (first / 64) 0 = get_or_read words (first / 64) v at read 0 in
+    let told : (k : ℕ) → first ≤ k → k < first + count → has seen k ≡ eqb (bit_at v (k % 64)) 1 = λ k from to.
+    sym (ap (λ s. has s k) view) ∙ has_in words room hold k ∙ word_is words (first / 64) k (omega (arith, from, to, one_word))
+    ∙ ap (λ n. eqb (bit_at n (k % 64)) 1) (sym value) in (
+      λ none k from to. told k from to ∙ ap (λ n. eqb n 1) (none_there v first count k none from to one_word),
+      λ none. none_common v first count one_word (λ k from to. one_or_none (bit_at v (k % 64)) (bit_at-lt v (k % 64)) (sym (told k from to) ∙ none k from to)),
+    )

@@ -1,8 +1,8 @@
 //! A set of numbers as bits.
 
-ghost use Rattle.std.specs.Prelude.{◌≡◌, ℕ, ◌+◌, ◌*◌, ◌<◌, ◌^◌, false, length, IfOk, MatchOption};
+ghost use Rattle.std.specs.Prelude.{◌≡◌, ℕ, ◌+◌, ◌-◌, ◌*◌, ◌%◌, ◌<◌, ◌≤◌, ◌↔◌, ◌^◌, false, length, IsTrue, IfOk, MatchOption};
 ghost use Rattle.bp_free.specs.Looks.{bit_looks};
-ghost use Rattle.bp_free.specs.Set.{Set, has, with, without, empty, IsLeast};
+ghost use Rattle.bp_free.specs.Set.{Set, has, with, without, empty, IsLeast, Fills};
 ghost use Rattle.bp_free.specs.Words.{IsLowestBit, IsLeastInWord, IsEmptyWord};
 
 use crate::steps::Steps;
@@ -41,6 +41,26 @@ fn lowest_bit(word: u64) -> Option<usize>
     Some(word.trailing_zeros() as usize)
 }
 
+/// A word in which as many of the lowest bits are set.
+fn low_ones(count: usize) -> u64
+    requires { count ≤ 64 }
+    ensures { result ≡ 2 ^ count - 1 }
+{
+    if count < WORD {
+        (1 << count) - 1
+    } else {
+        u64::MAX
+    }
+}
+
+/// A word in which the bits from one on are set, so many.
+fn ones(first: usize, count: usize) -> u64
+    requires { first + count ≤ 64 }
+    ensures { result ≡ 2 ^ (first + count) - 2 ^ first }
+{
+    low_ones(first + count) - low_ones(first)
+}
+
 impl Bits {
     /// The empty set of a room. Fails where memory is out.
     pub fn new(alloc: Global, room: usize) -> Result<Bits, AllocError>
@@ -71,6 +91,26 @@ impl Bits {
         ensures { self.new ≡ with self.old i }
     {
         self.words[i / WORD] |= 1 << (i % WORD);
+    }
+
+    /// Whether none of the numbers from one on is in, so many, which share a word.
+    pub fn has_none(&self, first: usize, count: usize) -> bool
+        requires one_word { first % 64 + count ≤ 64 }
+        requires some { 0 < count }
+        requires in_range { first + count ≤ length self.now }
+        ensures { IsTrue result ↔ ((k : ℕ) → first ≤ k → k < first + count → has self.now k ≡ false) }
+    {
+        self.words[first / WORD] & ones(first % WORD, count) == 0
+    }
+
+    /// Puts the numbers from one on in, so many, which share a word.
+    pub fn insert_run(&mut self, first: usize, count: usize)
+        requires one_word { first % 64 + count ≤ 64 }
+        requires some { 0 < count }
+        requires in_range { first + count ≤ length self.old }
+        ensures { Fills first (first + count) self.old self.new }
+    {
+        self.words[first / WORD] |= ones(first % WORD, count);
     }
 
     /// Takes a number out.

@@ -1,6 +1,6 @@
 //! Free numbers, and how many there are.
 
-ghost use Rattle.std.specs.Prelude.{◌≡◌, ℕ, ◌+◌, ◌<◌, ◌≤◌, ◌^◌, [], false, true, length, IfOk, MatchOption};
+ghost use Rattle.std.specs.Prelude.{◌≡◌, ℕ, ◌+◌, ◌%◌, ◌<◌, ◌≤◌, ◌^◌, [], false, true, length, IfOk, MatchOption};
 ghost use Rattle.std.specs.Int.{div_ceil};
 ghost use Rattle.bp_free.specs.Looks.{looks};
 ghost use Rattle.bp_free.specs.Set.{Set, has, members, with, without, empty, IsLeast, Fills};
@@ -166,8 +166,8 @@ impl<Kind> Numbers<Kind> {
         self.count = 0;
     }
 
-    /// Puts all numbers from one up to another in, the latter not included.
-    pub fn fill(&mut self, from: u32, to: u32)
+    /// Puts all numbers from one up to another in, the latter not included, one by one.
+    fn fill_singly(&mut self, from: u32, to: u32)
         requires order { from ≤ to }
         requires in_range { to ≤ length self.old }
         ensures { Fills from to self.old self.new }
@@ -176,6 +176,37 @@ impl<Kind> Numbers<Kind> {
             if !self.is_free(i) {
                 self.give(i);
             }
+        }
+    }
+
+    /// Puts the numbers from one on in, so many, which share a word.
+    fn fill_run(&mut self, from: u32, count: u32)
+        requires one_word { from % 64 + count ≤ 64 }
+        requires some { 0 < count }
+        requires in_range { from + count ≤ length self.old }
+        ensures { Fills from (from + count) self.old self.new }
+    {
+        let first = from as usize;
+        if !self.free.has_none(first, count as usize) {
+            self.fill_singly(from, from + count);
+            return;
+        }
+        self.free.insert_run(first, count as usize);
+        self.words_in_use.insert(first / WORD);
+        self.count += count;
+    }
+
+    /// Puts all numbers from one up to another in, the latter not included.
+    pub fn fill(&mut self, from: u32, to: u32)
+        requires order { from ≤ to }
+        requires in_range { to ≤ length self.old }
+        ensures { Fills from to self.old self.new }
+    {
+        let mut next = from;
+        while next < to {
+            let count = (to - next).min(WORD as u32 - next % WORD as u32);
+            self.fill_run(next, count);
+            next += count;
         }
     }
 }

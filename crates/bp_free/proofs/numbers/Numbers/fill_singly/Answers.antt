@@ -1,8 +1,8 @@
 use Rattle.std.proofs.Common.{◌≡◌, ◌<◌, ◌+◌, length, arith, subst, sym, ◌∙◌}
 use Rattle.bp_free.specs.Set.{Fills}
 use Rattle.bp_free.proofs.Summary.{fills_none, fills_had, fills_more}
-use Rattle.bp_free.proofs.numbers.Numbers.fill.Goals as goal
-use Rattle.bp_free.proofs.numbers.Numbers.fill.Goals.{then-not-is_free, else-not-is_free}
+use Rattle.bp_free.proofs.numbers.Numbers.fill_singly.Goals as goal
+use Rattle.bp_free.proofs.numbers.Numbers.fill_singly.Goals.{then-not-is_free, else-not-is_free}
 
 pub loop-i-init : goal.loop-i-init
 loop-i-init g c = fills_none c.args.from c.args.self.now

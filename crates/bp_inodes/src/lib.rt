@@ -16,7 +16,7 @@ ghost use Rattle.pm_region.specs.Memory.{current_words, room_in};
 ghost use Rattle.pm_region.specs.Safe.{AddsMay};
 
 use bp_layout::{Inode, Kind};
-use bp_tree::{Tree, content_place, leaf_block, load_slot};
+use bp_tree::{Tree, content_place, leaf_block};
 use pm_region::Region;
 
 /// The inode file: words 2 and 3 of the superblock are its root word and its size.
@@ -46,12 +46,11 @@ pub fn get<R: Region>(region: &R, i: u32) -> Inode
     let inodes = inode_file(region);
     let i = i as u64;
     let block = leaf_block(region, inodes, i / 64);
-    let first = 8 * (i % 64);
-    Inode::read(&[
-        load_slot(region, block, first),
-        load_slot(region, block, first + 1),
-        load_slot(region, block, first + 2),
-    ])
+    // An inode that is there stands in a block, and words are counted in 32 bits, so that the place of one fits.
+    let _words = region.words();
+    let first = (512 * block + 8 * (i % 64)) as u32;
+    let words = region.load_words(first, 3);
+    Inode::read(&[words[0], words[1], words[2]])
 }
 
 /// The word of the region at which a word of an inode stands.

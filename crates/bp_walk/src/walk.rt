@@ -120,9 +120,11 @@ fn take_below<R: Region>(
     ensures room { length blocks.new ≡ length blocks.old }
 {
     let first = 512 * top.block;
-    for slot in 0..live_slots(tree.size, top) {
+    let live = live_slots(tree.size, top);
+    let pointers = region.load_words(first, live);
+    for slot in 0..live {
         let place = first + slot;
-        let pointer = region.load(place);
+        let pointer = pointers[slot as usize];
         // Where there may be nulls there may be very many.
         if pointer == 0 && holes {
             continue;

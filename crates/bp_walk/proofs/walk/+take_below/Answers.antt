@@ -1,6 +1,6 @@
-use Rattle.std.proofs.Common.{rules, ◌≡◌, ◌≢◌, ℕ, suc, ◌+◌, ◌*◌, ◌%◌, ◌<◌, false, sym, ◌∙◌, ap, subst, arith}
+use Rattle.std.proofs.Common.{rules, ◌≡◌, ◌≢◌, ℕ, suc, ◌+◌, ◌*◌, ◌%◌, ◌<◌, false, get_or, sym, ◌∙◌, ap, subst, arith}
 use Rattle.std.proofs.lemmas.Nat.{and_mask}
-use Rattle.bp_layout.specs.Words.{block_count, height_of}
+use Rattle.bp_layout.specs.Words.{word, block_count, height_of}
 use Rattle.bp_layout.specs.Tree.{node, covered, IsLivePointer}
 use Rattle.bp_layout.specs.Checks.{IsFollowed, Passes}
 use Rattle.pm_region.specs.Memory.{current_words}
@@ -9,116 +9,130 @@ use Rattle.bp_walk.specs.Walk.{WalksBelow, IsPlace}
 use Rattle.bp_walk.specs.Walk.FailsBelow.{bits}
 use Rattle.bp_walk.proofs.Below.{rest, small_number, covered_most, child_below, child_of, child_word}
 use Rattle.bp_walk.proofs.Pointers.{claimed_room, claimed_less, claimed_out, claimed_node, claimed_passes, claimed_step, claimed_leaf, claimed_present, claimed_fails, null_step, refused_below, within_blocks}
+use Rattle.bp_walk.proofs.Places.{loaded}
 use Rattle.bp_walk.proofs.LiveSlots.{covered_some}
 use Rattle.bp_walk.proofs.walk.+take_below.Goals.{else-pointer-eq0-via-then-pointer-eq0+else-holes, else-pointer-eq0-via-else-pointer-eq0}
 use Rattle.bp_walk.proofs.walk.+take_below.Goals as goal
 
-pub load-pointer-requires : goal.load-pointer-requires
-load-pointer-requires g t c =
+pub load_words-pointers-requires : goal.load_words-pointers-requires
+load_words-pointers-requires g t c =
     let image = current_words (g.R.Region.memory c.args.region.now) in
     let some : c.args.top.block < block_count image = subst (λ x. x < block_count image) c.requires.block (within_blocks image c.args.tree.root c.args.top.depth c.args.top.index c.requires.passes) in
-    let low : c.loop-slot.slot < 512 = omega (arith, c.loop-slot-test.true, c.live_slots-slot-end.ensures.most) in
-    omega (arith, some, low, c.requires.whole, length_now (g.R.Region.memory c.args.region.now))
+    omega (arith, some, c.live_slots-live.ensures.most, c.requires.whole, length_now (g.R.Region.memory c.args.region.now))
 
 pub loop-slot-preserved-then-holes : goal.loop-slot-preserved-then-holes
 loop-slot-preserved-then-holes g t c =
     let image = current_words (g.R.Region.memory c.args.region.now) in
-    let low : c.loop-slot.slot < 512 = omega (arith, c.loop-slot-test.true, c.live_slots-slot-end.ensures.most) in
+    let pointer : ℕ = get_or c.load_words-pointers.result.now c.loop-slot.slot 0 in
+    let read : pointer ≡ word image (512 * c.args.top.block + c.loop-slot.slot) = loaded image c.load_words-pointers.result.now (512 * c.args.top.block) c.live_slots-live.result c.loop-slot.slot c.load_words-pointers.ensures c.loop-slot-test.true in
+    let low : c.loop-slot.slot < 512 = omega (arith, c.loop-slot-test.true, c.live_slots-live.ensures.most) in
     let child : IsPlace image 0 c.args.tree.root c.args.tree.size (suc c.args.top.depth) (512 * c.args.top.index + c.loop-slot.slot) (512 * c.args.top.block + c.loop-slot.slot) =
     child_of image c.args.tree.root c.args.tree.size c.args.top.depth c.args.top.index c.loop-slot.slot c.args.top.block c.args.top.level low c.requires.above c.requires.height
-    (c.live_slots-slot-end.ensures.live c.loop-slot.slot c.loop-slot-test.true) c.requires.fits c.requires.followed c.requires.passes c.requires.block c.requires.present in
+    (c.live_slots-live.ensures.live c.loop-slot.slot c.loop-slot-test.true) c.requires.fits c.requires.followed c.requires.passes c.requires.block c.requires.present in
     let some : c.args.top.block < block_count image = subst (λ x. x < block_count image) c.requires.block (within_blocks image c.args.tree.root c.args.top.depth c.args.top.index c.requires.passes) in
-    null_step image c.args.tree.root c.args.tree.size c.args.holes c.args.top.depth c.args.top.index c.args.top.block c.loop-slot.slot c.args.blocks.now c.loop-slot.blocks c.requires.block low c.requires.taken child c.loop-slot.invariant c.load-pointer.result c.load-pointer.ensures c.requires.room some c.if-holes.true c.if-pointer-eq0.true
+    null_step image c.args.tree.root c.args.tree.size c.args.holes c.args.top.depth c.args.top.index c.args.top.block c.loop-slot.slot c.args.blocks.now c.loop-slot.blocks c.requires.block low c.requires.taken child c.loop-slot.invariant pointer read c.requires.room some c.if-holes.true c.if-pointer-eq0.true
 
 pub returns-then-pointer-ne0-clause-err : goal.returns-then-pointer-ne0-clause-err
 returns-then-pointer-ne0-clause-err g t c =
     let image = current_words (g.R.Region.memory c.args.region.now) in
-    let low : c.loop-slot.slot < 512 = omega (arith, c.loop-slot-test.true, c.live_slots-slot-end.ensures.most) in
+    let pointer : ℕ = get_or c.load_words-pointers.result.now c.loop-slot.slot 0 in
+    let read : pointer ≡ word image (512 * c.args.top.block + c.loop-slot.slot) = loaded image c.load_words-pointers.result.now (512 * c.args.top.block) c.live_slots-live.result c.loop-slot.slot c.load_words-pointers.ensures c.loop-slot-test.true in
+    let low : c.loop-slot.slot < 512 = omega (arith, c.loop-slot-test.true, c.live_slots-live.ensures.most) in
     let child : IsPlace image 0 c.args.tree.root c.args.tree.size (suc c.args.top.depth) (512 * c.args.top.index + c.loop-slot.slot) (512 * c.args.top.block + c.loop-slot.slot) =
     child_of image c.args.tree.root c.args.tree.size c.args.top.depth c.args.top.index c.loop-slot.slot c.args.top.block c.args.top.level low c.requires.above c.requires.height
-    (c.live_slots-slot-end.ensures.live c.loop-slot.slot c.loop-slot-test.true) c.requires.fits c.requires.followed c.requires.passes c.requires.block c.requires.present in
-    let here = c.load-pointer.ensures ∙ child_word image 0 c.args.tree.root c.args.tree.size c.args.top.depth (512 * c.args.top.index + c.loop-slot.slot) (512 * c.args.top.block + c.loop-slot.slot) child in
-    bits child (λ even. c.if-pointer-ne0.true (and_mask c.load-pointer.result 12 ∙ ap (λ x. x % 4096) here ∙ even))
+    (c.live_slots-live.ensures.live c.loop-slot.slot c.loop-slot-test.true) c.requires.fits c.requires.followed c.requires.passes c.requires.block c.requires.present in
+    let here = read ∙ child_word image 0 c.args.tree.root c.args.tree.size c.args.top.depth (512 * c.args.top.index + c.loop-slot.slot) (512 * c.args.top.block + c.loop-slot.slot) child in
+    bits child (λ even. c.if-pointer-ne0.true (and_mask pointer 12 ∙ ap (λ x. x % 4096) here ∙ even))
 
 pub returns-in-Err-clause-err : goal.returns-in-Err-clause-err
 returns-in-Err-clause-err g t c =
     let image = current_words (g.R.Region.memory c.args.region.now) in
-    let low : c.loop-slot.slot < 512 = omega (arith, c.loop-slot-test.true, c.live_slots-slot-end.ensures.most) in
+    let pointer : ℕ = get_or c.load_words-pointers.result.now c.loop-slot.slot 0 in
+    let read : pointer ≡ word image (512 * c.args.top.block + c.loop-slot.slot) = loaded image c.load_words-pointers.result.now (512 * c.args.top.block) c.live_slots-live.result c.loop-slot.slot c.load_words-pointers.ensures c.loop-slot-test.true in
+    let low : c.loop-slot.slot < 512 = omega (arith, c.loop-slot-test.true, c.live_slots-live.ensures.most) in
     let child : IsPlace image 0 c.args.tree.root c.args.tree.size (suc c.args.top.depth) (512 * c.args.top.index + c.loop-slot.slot) (512 * c.args.top.block + c.loop-slot.slot) =
     child_of image c.args.tree.root c.args.tree.size c.args.top.depth c.args.top.index c.loop-slot.slot c.args.top.block c.args.top.level low c.requires.above c.requires.height
-    (c.live_slots-slot-end.ensures.live c.loop-slot.slot c.loop-slot-test.true) c.requires.fits c.requires.followed c.requires.passes c.requires.block c.requires.present in
-    rw c.in-Err.ensures.place (refused_below image c.args.tree.root c.args.tree.size c.args.holes c.args.top.depth c.args.top.index c.args.top.block c.loop-slot.slot c.args.blocks.now c.loop-slot.blocks c.requires.block low c.requires.taken child c.loop-slot.invariant c.load-pointer.result c.load-pointer.ensures c.requires.room c.in-Err.fault.check c.in-Err.ensures.err)
+    (c.live_slots-live.ensures.live c.loop-slot.slot c.loop-slot-test.true) c.requires.fits c.requires.followed c.requires.passes c.requires.block c.requires.present in
+    rw c.in-Err.ensures.place (refused_below image c.args.tree.root c.args.tree.size c.args.holes c.args.top.depth c.args.top.index c.args.top.block c.loop-slot.slot c.args.blocks.now c.loop-slot.blocks c.requires.block low c.requires.taken child c.loop-slot.invariant pointer read c.requires.room c.in-Err.fault.check c.in-Err.ensures.err)
 
 pub loop-slot-preserved-then-top-eq1 : goal.loop-slot-preserved-then-top-eq1
 loop-slot-preserved-then-top-eq1 g t c =
     let image = current_words (g.R.Region.memory c.args.region.now) in
-    let low : c.loop-slot.slot < 512 = omega (arith, c.loop-slot-test.true, c.live_slots-slot-end.ensures.most) in
+    let pointer : ℕ = get_or c.load_words-pointers.result.now c.loop-slot.slot 0 in
+    let read : pointer ≡ word image (512 * c.args.top.block + c.loop-slot.slot) = loaded image c.load_words-pointers.result.now (512 * c.args.top.block) c.live_slots-live.result c.loop-slot.slot c.load_words-pointers.ensures c.loop-slot-test.true in
+    let low : c.loop-slot.slot < 512 = omega (arith, c.loop-slot-test.true, c.live_slots-live.ensures.most) in
     let child : IsPlace image 0 c.args.tree.root c.args.tree.size (suc c.args.top.depth) (512 * c.args.top.index + c.loop-slot.slot) (512 * c.args.top.block + c.loop-slot.slot) =
     child_of image c.args.tree.root c.args.tree.size c.args.top.depth c.args.top.index c.loop-slot.slot c.args.top.block c.args.top.level low c.requires.above c.requires.height
-    (c.live_slots-slot-end.ensures.live c.loop-slot.slot c.loop-slot-test.true) c.requires.fits c.requires.followed c.requires.passes c.requires.block c.requires.present in
-    let bits : c.load-pointer.result % 4096 ≡ 0 = sym (and_mask c.load-pointer.result 12) ∙ c.if-pointer-ne0.false in
-    claimed_leaf image c.args.tree.root c.args.tree.size c.args.holes c.args.top.depth c.args.top.index c.args.top.block c.loop-slot.slot c.args.blocks.now c.loop-slot.blocks c.requires.block low c.requires.taken child c.loop-slot.invariant c.load-pointer.result c.load-pointer.ensures c.requires.room c.claim_pointed.new.blocks c.in-Ok.block c.in-Ok.ensures.ok (omega (arith, c.requires.height, c.if-top-eq1.true)) bits
+    (c.live_slots-live.ensures.live c.loop-slot.slot c.loop-slot-test.true) c.requires.fits c.requires.followed c.requires.passes c.requires.block c.requires.present in
+    let bits : pointer % 4096 ≡ 0 = sym (and_mask pointer 12) ∙ c.if-pointer-ne0.false in
+    claimed_leaf image c.args.tree.root c.args.tree.size c.args.holes c.args.top.depth c.args.top.index c.args.top.block c.loop-slot.slot c.args.blocks.now c.loop-slot.blocks c.requires.block low c.requires.taken child c.loop-slot.invariant pointer read c.requires.room c.claim_pointed.new.blocks c.in-Ok.block c.in-Ok.ensures.ok (omega (arith, c.requires.height, c.if-top-eq1.true)) bits
 
 pub overflow_add-child-in-loop-slot : goal.overflow_add-child-in-loop-slot
 overflow_add-child-in-loop-slot g t c =
     let number : 512 * c.args.top.index + c.loop-slot.slot < c.args.tree.size =
-    small_number (512 * c.args.top.index + c.loop-slot.slot) (covered c.args.top.level) c.args.tree.size (covered_some c.args.top.level c.requires.above) (c.live_slots-slot-end.ensures.live c.loop-slot.slot c.loop-slot-test.true) in
+    small_number (512 * c.args.top.index + c.loop-slot.slot) (covered c.args.top.level) c.args.tree.size (covered_some c.args.top.level c.requires.above) (c.live_slots-live.ensures.live c.loop-slot.slot c.loop-slot-test.true) in
     let low : 512 * c.args.top.index + c.loop-slot.slot < 18446744073709551616 = omega (arith, number, c.requires.fits, covered_most (suc (height_of c.args.tree.root)) (omega (arith, c.requires.low))) in
     search (rules, low)
 
 pub overflow_mul-child : goal.overflow_mul-child
 overflow_mul-child g t c =
     let number : 512 * c.args.top.index + c.loop-slot.slot < c.args.tree.size =
-    small_number (512 * c.args.top.index + c.loop-slot.slot) (covered c.args.top.level) c.args.tree.size (covered_some c.args.top.level c.requires.above) (c.live_slots-slot-end.ensures.live c.loop-slot.slot c.loop-slot-test.true) in
+    small_number (512 * c.args.top.index + c.loop-slot.slot) (covered c.args.top.level) c.args.tree.size (covered_some c.args.top.level c.requires.above) (c.live_slots-live.ensures.live c.loop-slot.slot c.loop-slot-test.true) in
     let low : 512 * c.args.top.index < 18446744073709551616 = omega (arith, number, c.requires.fits, covered_most (suc (height_of c.args.tree.root)) (omega (arith, c.requires.low))) in
     search (rules, low)
 
 pub take_below-requires : goal.take_below-requires
 take_below-requires g t c κs within =
     let image = current_words (g.R.Region.memory c.args.region.now) in
-    let low : c.loop-slot.slot < 512 = omega (arith, c.loop-slot-test.true, c.live_slots-slot-end.ensures.most) in
+    let pointer : ℕ = get_or c.load_words-pointers.result.now c.loop-slot.slot 0 in
+    let read : pointer ≡ word image (512 * c.args.top.block + c.loop-slot.slot) = loaded image c.load_words-pointers.result.now (512 * c.args.top.block) c.live_slots-live.result c.loop-slot.slot c.load_words-pointers.ensures c.loop-slot-test.true in
+    let low : c.loop-slot.slot < 512 = omega (arith, c.loop-slot-test.true, c.live_slots-live.ensures.most) in
     let child : IsPlace image 0 c.args.tree.root c.args.tree.size (suc c.args.top.depth) (512 * c.args.top.index + c.loop-slot.slot) (512 * c.args.top.block + c.loop-slot.slot) =
     child_of image c.args.tree.root c.args.tree.size c.args.top.depth c.args.top.index c.loop-slot.slot c.args.top.block c.args.top.level low c.requires.above c.requires.height
-    (c.live_slots-slot-end.ensures.live c.loop-slot.slot c.loop-slot-test.true) c.requires.fits c.requires.followed c.requires.passes c.requires.block c.requires.present in
-    let bits : c.load-pointer.result % 4096 ≡ 0 = sym (and_mask c.load-pointer.result 12) ∙ c.if-pointer-ne0.false in
-    let full : c.load-pointer.result ≡ 0 → c.args.holes ≡ false = λ none. elim c.else-pointer-eq0.branch [
+    (c.live_slots-live.ensures.live c.loop-slot.slot c.loop-slot-test.true) c.requires.fits c.requires.followed c.requires.passes c.requires.block c.requires.present in
+    let bits : pointer % 4096 ≡ 0 = sym (and_mask pointer 12) ∙ c.if-pointer-ne0.false in
+    let full : pointer ≡ 0 → c.args.holes ≡ false = λ none. elim c.else-pointer-eq0.branch [
       | else-pointer-eq0-via-then-pointer-eq0+else-holes w ↦ w.if-holes.false
       | else-pointer-eq0-via-else-pointer-eq0 w ↦ absurd (w.if-pointer-eq0.false none)
     ] in
-    let present : c.in-Ok.block ≢ 0 = claimed_present image c.args.tree.root c.args.tree.size c.args.holes c.args.top.depth c.args.top.index c.args.top.block c.loop-slot.slot c.args.blocks.now c.loop-slot.blocks c.requires.block low c.requires.taken child c.loop-slot.invariant c.load-pointer.result c.load-pointer.ensures c.requires.room c.claim_pointed.new.blocks c.in-Ok.block c.in-Ok.ensures.ok bits full in
+    let present : c.in-Ok.block ≢ 0 = claimed_present image c.args.tree.root c.args.tree.size c.args.holes c.args.top.depth c.args.top.index c.args.top.block c.loop-slot.slot c.args.blocks.now c.loop-slot.blocks c.requires.block low c.requires.taken child c.loop-slot.invariant pointer read c.requires.room c.claim_pointed.new.blocks c.in-Ok.block c.in-Ok.ensures.ok bits full in
     let up : suc c.args.top.depth ≡ c.args.top.depth + 1 = omega arith in
     let index = 512 * c.args.top.index + c.loop-slot.slot in
-    (omega (arith, c.decreases, c.requires.above), (within, (c.requires.whole, (c.requires.most, (claimed_room c.load-pointer.result c.args.holes c.loop-slot.blocks c.claim_pointed.new.blocks c.in-Ok.block c.in-Ok.ensures.ok ∙ c.loop-slot.invariant.takes.room ∙ c.requires.room, (claimed_less c.load-pointer.result c.args.holes c.loop-slot.blocks c.claim_pointed.new.blocks c.in-Ok.block c.in-Ok.ensures.ok 0 (c.loop-slot.invariant.takes.less 0 c.requires.not_first), (omega (arith, c.requires.height, c.requires.above), (c.requires.low, (c.requires.fits, (omega (arith, c.requires.above, c.if-top-eq1.false), (subst (λ (x : ℕ). IsLivePointer c.args.tree.root c.args.tree.size x index) up child.live, (subst (λ (x : ℕ). IsFollowed image c.args.tree.root c.args.tree.size x index) up child.followed, (subst (λ (x : ℕ). Passes image c.args.tree.root x index) up (claimed_passes image c.args.tree.root c.args.tree.size c.args.holes c.args.top.depth c.args.top.index c.args.top.block c.loop-slot.slot c.args.blocks.now c.loop-slot.blocks c.requires.block low c.requires.taken child c.loop-slot.invariant c.load-pointer.result c.load-pointer.ensures c.requires.room c.claim_pointed.new.blocks c.in-Ok.block c.in-Ok.ensures.ok bits), (subst (λ (x : ℕ). node image c.args.tree.root x index ≡ c.in-Ok.block) up (claimed_node image c.args.tree.root c.args.tree.size c.args.holes c.args.top.depth c.args.top.index c.args.top.block c.loop-slot.slot c.args.blocks.now c.loop-slot.blocks c.requires.block low c.requires.taken child c.loop-slot.invariant c.load-pointer.result c.load-pointer.ensures c.requires.room c.claim_pointed.new.blocks c.in-Ok.block c.in-Ok.ensures.ok), (present, claimed_out c.load-pointer.result c.args.holes c.loop-slot.blocks c.claim_pointed.new.blocks c.in-Ok.block c.in-Ok.ensures.ok (c.loop-slot.invariant.takes.less 0 c.requires.not_first))))))))))))))))
+    (omega (arith, c.decreases, c.requires.above), (within, (c.requires.whole, (c.requires.most, (claimed_room pointer c.args.holes c.loop-slot.blocks c.claim_pointed.new.blocks c.in-Ok.block c.in-Ok.ensures.ok ∙ c.loop-slot.invariant.takes.room ∙ c.requires.room, (claimed_less pointer c.args.holes c.loop-slot.blocks c.claim_pointed.new.blocks c.in-Ok.block c.in-Ok.ensures.ok 0 (c.loop-slot.invariant.takes.less 0 c.requires.not_first), (omega (arith, c.requires.height, c.requires.above), (c.requires.low, (c.requires.fits, (omega (arith, c.requires.above, c.if-top-eq1.false), (subst (λ (x : ℕ). IsLivePointer c.args.tree.root c.args.tree.size x index) up child.live, (subst (λ (x : ℕ). IsFollowed image c.args.tree.root c.args.tree.size x index) up child.followed, (subst (λ (x : ℕ). Passes image c.args.tree.root x index) up (claimed_passes image c.args.tree.root c.args.tree.size c.args.holes c.args.top.depth c.args.top.index c.args.top.block c.loop-slot.slot c.args.blocks.now c.loop-slot.blocks c.requires.block low c.requires.taken child c.loop-slot.invariant pointer read c.requires.room c.claim_pointed.new.blocks c.in-Ok.block c.in-Ok.ensures.ok bits), (subst (λ (x : ℕ). node image c.args.tree.root x index ≡ c.in-Ok.block) up (claimed_node image c.args.tree.root c.args.tree.size c.args.holes c.args.top.depth c.args.top.index c.args.top.block c.loop-slot.slot c.args.blocks.now c.loop-slot.blocks c.requires.block low c.requires.taken child c.loop-slot.invariant pointer read c.requires.room c.claim_pointed.new.blocks c.in-Ok.block c.in-Ok.ensures.ok), (present, claimed_out pointer c.args.holes c.loop-slot.blocks c.claim_pointed.new.blocks c.in-Ok.block c.in-Ok.ensures.ok (c.loop-slot.invariant.takes.less 0 c.requires.not_first))))))))))))))))
 
 pub returns-in-Err-take_below-clause-err : goal.returns-in-Err-take_below-clause-err
 returns-in-Err-take_below-clause-err g t c =
     let image = current_words (g.R.Region.memory c.args.region.now) in
-    let low : c.loop-slot.slot < 512 = omega (arith, c.loop-slot-test.true, c.live_slots-slot-end.ensures.most) in
+    let pointer : ℕ = get_or c.load_words-pointers.result.now c.loop-slot.slot 0 in
+    let read : pointer ≡ word image (512 * c.args.top.block + c.loop-slot.slot) = loaded image c.load_words-pointers.result.now (512 * c.args.top.block) c.live_slots-live.result c.loop-slot.slot c.load_words-pointers.ensures c.loop-slot-test.true in
+    let low : c.loop-slot.slot < 512 = omega (arith, c.loop-slot-test.true, c.live_slots-live.ensures.most) in
     let child : IsPlace image 0 c.args.tree.root c.args.tree.size (suc c.args.top.depth) (512 * c.args.top.index + c.loop-slot.slot) (512 * c.args.top.block + c.loop-slot.slot) =
     child_of image c.args.tree.root c.args.tree.size c.args.top.depth c.args.top.index c.loop-slot.slot c.args.top.block c.args.top.level low c.requires.above c.requires.height
-    (c.live_slots-slot-end.ensures.live c.loop-slot.slot c.loop-slot-test.true) c.requires.fits c.requires.followed c.requires.passes c.requires.block c.requires.present in
-    let bits : c.load-pointer.result % 4096 ≡ 0 = sym (and_mask c.load-pointer.result 12) ∙ c.if-pointer-ne0.false in
-    let full : c.load-pointer.result ≡ 0 → c.args.holes ≡ false = λ none. elim c.else-pointer-eq0.branch [
+    (c.live_slots-live.ensures.live c.loop-slot.slot c.loop-slot-test.true) c.requires.fits c.requires.followed c.requires.passes c.requires.block c.requires.present in
+    let bits : pointer % 4096 ≡ 0 = sym (and_mask pointer 12) ∙ c.if-pointer-ne0.false in
+    let full : pointer ≡ 0 → c.args.holes ≡ false = λ none. elim c.else-pointer-eq0.branch [
       | else-pointer-eq0-via-then-pointer-eq0+else-holes w ↦ w.if-holes.false
       | else-pointer-eq0-via-else-pointer-eq0 w ↦ absurd (w.if-pointer-eq0.false none)
     ] in
-    let present : c.in-Ok.block ≢ 0 = claimed_present image c.args.tree.root c.args.tree.size c.args.holes c.args.top.depth c.args.top.index c.args.top.block c.loop-slot.slot c.args.blocks.now c.loop-slot.blocks c.requires.block low c.requires.taken child c.loop-slot.invariant c.load-pointer.result c.load-pointer.ensures c.requires.room c.claim_pointed.new.blocks c.in-Ok.block c.in-Ok.ensures.ok bits full in
-    claimed_fails image c.args.tree.root c.args.tree.size c.args.holes c.args.top.depth c.args.top.index c.args.top.block c.loop-slot.slot c.args.blocks.now c.loop-slot.blocks c.requires.block low c.requires.taken child c.loop-slot.invariant c.load-pointer.result c.load-pointer.ensures c.requires.room c.claim_pointed.new.blocks c.in-Ok.block c.in-Ok.ensures.ok c.in-Err-take_below.fault.check c.in-Err-take_below.fault.place present c.in-Err-take_below.ensures.err
+    let present : c.in-Ok.block ≢ 0 = claimed_present image c.args.tree.root c.args.tree.size c.args.holes c.args.top.depth c.args.top.index c.args.top.block c.loop-slot.slot c.args.blocks.now c.loop-slot.blocks c.requires.block low c.requires.taken child c.loop-slot.invariant pointer read c.requires.room c.claim_pointed.new.blocks c.in-Ok.block c.in-Ok.ensures.ok bits full in
+    claimed_fails image c.args.tree.root c.args.tree.size c.args.holes c.args.top.depth c.args.top.index c.args.top.block c.loop-slot.slot c.args.blocks.now c.loop-slot.blocks c.requires.block low c.requires.taken child c.loop-slot.invariant pointer read c.requires.room c.claim_pointed.new.blocks c.in-Ok.block c.in-Ok.ensures.ok c.in-Err-take_below.fault.check c.in-Err-take_below.fault.place present c.in-Err-take_below.ensures.err
 
 pub loop-slot-preserved : goal.loop-slot-preserved
 loop-slot-preserved g t c =
     let image = current_words (g.R.Region.memory c.args.region.now) in
-    let low : c.loop-slot.slot < 512 = omega (arith, c.loop-slot-test.true, c.live_slots-slot-end.ensures.most) in
+    let pointer : ℕ = get_or c.load_words-pointers.result.now c.loop-slot.slot 0 in
+    let read : pointer ≡ word image (512 * c.args.top.block + c.loop-slot.slot) = loaded image c.load_words-pointers.result.now (512 * c.args.top.block) c.live_slots-live.result c.loop-slot.slot c.load_words-pointers.ensures c.loop-slot-test.true in
+    let low : c.loop-slot.slot < 512 = omega (arith, c.loop-slot-test.true, c.live_slots-live.ensures.most) in
     let child : IsPlace image 0 c.args.tree.root c.args.tree.size (suc c.args.top.depth) (512 * c.args.top.index + c.loop-slot.slot) (512 * c.args.top.block + c.loop-slot.slot) =
     child_of image c.args.tree.root c.args.tree.size c.args.top.depth c.args.top.index c.loop-slot.slot c.args.top.block c.args.top.level low c.requires.above c.requires.height
-    (c.live_slots-slot-end.ensures.live c.loop-slot.slot c.loop-slot-test.true) c.requires.fits c.requires.followed c.requires.passes c.requires.block c.requires.present in
-    let bits : c.load-pointer.result % 4096 ≡ 0 = sym (and_mask c.load-pointer.result 12) ∙ c.if-pointer-ne0.false in
+    (c.live_slots-live.ensures.live c.loop-slot.slot c.loop-slot-test.true) c.requires.fits c.requires.followed c.requires.passes c.requires.block c.requires.present in
+    let bits : pointer % 4096 ≡ 0 = sym (and_mask pointer 12) ∙ c.if-pointer-ne0.false in
     let down : c.args.top.depth + 1 ≡ suc c.args.top.depth = omega arith in
-    claimed_step image c.args.tree.root c.args.tree.size c.args.holes c.args.top.depth c.args.top.index c.args.top.block c.loop-slot.slot c.args.blocks.now c.loop-slot.blocks c.requires.block low c.requires.taken child c.loop-slot.invariant c.load-pointer.result c.load-pointer.ensures c.requires.room c.claim_pointed.new.blocks c.in-Ok.block c.in-Ok.ensures.ok c.take_below.new.blocks bits
+    claimed_step image c.args.tree.root c.args.tree.size c.args.holes c.args.top.depth c.args.top.index c.args.top.block c.loop-slot.slot c.args.blocks.now c.loop-slot.blocks c.requires.block low c.requires.taken child c.loop-slot.invariant pointer read c.requires.room c.claim_pointed.new.blocks c.in-Ok.block c.in-Ok.ensures.ok c.take_below.new.blocks bits
     (subst (λ (x : ℕ). WalksBelow image 0 c.args.tree.root c.args.tree.size c.args.holes x (512 * c.args.top.index + c.loop-slot.slot) 512 c.claim_pointed.new.blocks c.take_below.new.blocks) down c.in_default.ensures.ok)
 
 pub returns-clause-ok : goal.returns-clause-ok
 returns-clause-ok g t c =
-    let end : c.loop-slot.slot ≡ c.live_slots-slot-end.result = omega (arith, c.loop-slot.auto.slot-end, c.loop-slot-test.false) in
-    rest (current_words (g.R.Region.memory c.args.region.now)) 0 c.args.tree.root c.args.tree.size c.args.holes c.args.top.depth c.args.top.index c.loop-slot.slot c.args.blocks.now c.loop-slot.blocks (omega (arith, end, c.live_slots-slot-end.ensures.most))
-    (λ r order below live. absurd (omega (arith, end, order, c.live_slots-slot-end.ensures.all r below (child_below c.args.tree.root c.args.tree.size c.args.top.depth c.args.top.index r c.args.top.level c.requires.height live)))) c.loop-slot.invariant
+    let end : c.loop-slot.slot ≡ c.live_slots-live.result = omega (arith, c.loop-slot.auto.slot-end, c.loop-slot-test.false) in
+    rest (current_words (g.R.Region.memory c.args.region.now)) 0 c.args.tree.root c.args.tree.size c.args.holes c.args.top.depth c.args.top.index c.loop-slot.slot c.args.blocks.now c.loop-slot.blocks (omega (arith, end, c.live_slots-live.ensures.most))
+    (λ r order below live. absurd (omega (arith, end, order, c.live_slots-live.ensures.all r below (child_below c.args.tree.root c.args.tree.size c.args.top.depth c.args.top.index r c.args.top.level c.requires.height live)))) c.loop-slot.invariant

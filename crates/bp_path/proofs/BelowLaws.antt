@@ -1,5 +1,5 @@
 -- Which names are left of two texts, once a front that they share is gone.
-use Rattle.std.proofs.Common.{◌≡◌, ◌≢◌, ◌&&◌, ◌==◌, ℕ, List, length, [], ◌∷◌, Bool, true, false, bytes_eq, not, refl, sym, ◌∙◌, ap}
+use Rattle.std.proofs.Common.{◌≡◌, ◌&&◌, ℕ, List, ◌∷◌, Bool, true, bytes_eq, not, ◌∙◌, ap}
 use Rattle.std.specs.Prelude.{if◌then◌else◌, is_some, None}
 use Rattle.std.specs.List.{list_all}
 use Rattle.bp_layout.specs.Below.{rest_below, same_path}

@@ -1,4 +1,5 @@
 pub mod BelowLaws
 pub mod PartsLaws
+pub mod PlainBytes
 pub mod WalkLaws
 pub mod Walking

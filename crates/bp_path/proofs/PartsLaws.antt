@@ -59,16 +59,19 @@ first_part text end found =
     ap parts (cut_at text end here.0 (eqb-true _ _ here.1)) ∙ parts-append (take end text) (drop (end + 1) text) ∙ ap (λ ps. ps ++ parts (drop (end + 1) text)) front
 
 -- where there is none
-pub only_part : (text : List ℕ) → position (λ b. b == 47) text ≡ None → parts text ≡ text ∷ []
-only_part text none = parts-one text (λ k h. eqb-false _ _ (fails_before_first (λ b. b == 47) text k 0 (omega (arith, h, all_before (nat_lt (position_or_len (λ b. b == 47) text) (length text)) refl))))
+pub no_slash : (text : List ℕ) → position (λ b. b == 47) text ≡ None → (k : ℕ) → k < length text → (slice_index text k == 47) ≡ false
+no_slash text none k low = fails_before_first (λ b. b == 47) text k 0 (omega (arith, low, all_before (nat_lt (position_or_len (λ b. b == 47) text) (length text)) refl))
   where
     all_before : (t : Bool) → nat_lt (position_or_len (λ b. b == 47) text) (length text) ≡ t → length text ≤ position_or_len (λ b. b == 47) text
     all_before true at = let some : ◌≡◌ {A = Option ℕ} (Some (position_or_len (λ b. b == 47) text)) None = rw at at none in absurd (cc)
     all_before false at = ltb-false _ _ at
 
+pub only_part : (text : List ℕ) → position (λ b. b == 47) text ≡ None → parts text ≡ text ∷ []
+only_part text none = parts-one text (λ k h. eqb-false _ _ (no_slash text none k h))
+
 -- ---- names
 
-and_parts : (a b : Bool) → (a && b) ≡ true → (a ≡ true) × (b ≡ true)
+pub and_parts : (a b : Bool) → (a && b) ≡ true → (a ≡ true) × (b ≡ true)
 and_parts true b both = (refl, both)
 and_parts false b both = absurd (cc)
 

@@ -7,16 +7,11 @@ ghost use Rattle.bp_layout.specs.PathText.{is_name, parts};
 ghost use Rattle.bp_path.specs.Names.{names_in};
 
 use bp_limits::MAX_NAME;
+use memchr::{memchr, memrchr};
 
-/// Whether no byte is 0 or `/`.
-fn has_plain_bytes(name: &[u8]) -> bool
-    ensures { result ≡ list_all (λ b. not (b == 0) && not (b == 47)) name.now }
-{
-    name.iter().all(|byte| *byte != 0 && *byte != b'/')
-}
-
-/// Whether these bytes may be a name: 1 to 240 of them, no byte 0 and no `/`, and neither `.` nor `..`.
-pub(crate) fn is_name(name: &[u8]) -> bool
+/// Whether bytes of which none is 0 or `/` may be a name: 1 to 240 of them, and neither `.` nor `..`.
+fn is_plain_name(name: &[u8]) -> bool
+    requires { list_all (λ b. not (b == 0) && not (b == 47)) name.now ≡ true }
     ensures { result ≡ is_name name.now }
 {
     if name.is_empty() {
@@ -25,34 +20,41 @@ pub(crate) fn is_name(name: &[u8]) -> bool
     if name.len() > MAX_NAME {
         return false;
     }
-    if name == b".".as_slice() {
-        return false;
+    if name[0] != b'.' {
+        return true;
     }
-    if name == b"..".as_slice() {
-        return false;
-    }
-    has_plain_bytes(name)
+    name != b".".as_slice() && name != b"..".as_slice()
 }
 
 /// Where the first `/` stands.
 fn first_slash(text: &[u8]) -> Option<usize>
     ensures { result ≡ position (λ b. b == 47) text.now }
 {
-    text.iter().position(|byte| *byte == b'/')
+    memchr(b'/', text)
+}
+
+/// Whether a byte is 0.
+fn has_zero(text: &[u8]) -> bool
+    ensures { result ≡ not (list_all (λ b. not (b == 0)) text.now) }
+{
+    memchr(0, text).is_some()
 }
 
 /// Whether the parts round each `/` are names.
 pub(crate) fn are_names(text: &[u8]) -> bool
     ensures { result ≡ list_all is_name (parts text.now) }
 {
+    if has_zero(text) {
+        return false;
+    }
     let mut rest = text;
     while let Some(end) = first_slash(rest) {
-        if !is_name(&rest[..end]) {
+        if !is_plain_name(&rest[..end]) {
             return false;
         }
         rest = &rest[end + 1..];
     }
-    is_name(rest)
+    is_plain_name(rest)
 }
 
 /// The first name of a text, and the text behind it.
@@ -75,11 +77,10 @@ fn last_start(text: &[u8]) -> usize
     ensures last { parts (drop result text.now) ≡ drop result text.now ∷ [] }
     ensures slash { 0 < result → slice_index text.now (result - 1) ≡ 47 }
 {
-    let mut start = text.len();
-    while start > 0 && text[start - 1] != b'/' {
-        start -= 1;
+    match memrchr(b'/', text) {
+        Some(slash) => slash + 1,
+        None => 0,
     }
-    start
 }
 
 /// The text before the last name, and the last name.

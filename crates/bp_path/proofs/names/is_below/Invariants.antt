@@ -1,7 +1,4 @@
-use Rattle.std.proofs.Common.{length, ◌≡◌, true}
-use Rattle.std.specs.List.{list_all}
-use Rattle.bp_layout.specs.PathText.{is_name}
-use Rattle.bp_path.specs.Names.{names_in}
+use Rattle.std.proofs.Common.{length}
 use Rattle.bp_path.proofs.BelowLaws.{IsLeft}
 use Rattle.bp_path.proofs.names.is_below.Given as goal
 

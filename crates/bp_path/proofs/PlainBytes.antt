@@ -1,0 +1,131 @@
+-- Where a text has a byte, and what is said of the bytes of names.
+use Rattle.std.proofs.Common.{◌≡◌, ℕ, zero, suc, ◌+◌, ◌<◌, Bool, true, false, not, ◌&&◌, ◌==◌, is_some, List, [], ◌∷◌, length, take, drop, slice_index, position, Option, None, Some, refl, sym, ◌∙◌, ap, arith, eq-eqb, bytes_eq, nat_le}
+use Rattle.std.specs.List.{list_all, position_or_len}
+use Rattle.std.proofs.lemmas.Bool.{eqb-true, le-ltb, lt-ltb}
+use Rattle.std.proofs.lemmas.List.{get_or-take, length-take}
+use Rattle.std.proofs.lemmas.List.Folds.{list_all_at}
+use Rattle.std.proofs.lemmas.List.Quantifiers.{position-Some}
+use Rattle.std.proofs.lemmas.List.Sums.{position_or_len_is}
+use Rattle.memchr.specs.Find.{IsFirstByte, IsLastByte, Passes, is_byte}
+use Rattle.bp_limits.specs.Limits.{max_name}
+use Rattle.bp_layout.specs.PathText.{is_name, onto_first, parts}
+use Rattle.bp_path.proofs.PartsLaws.{and_parts, no_slash, parts-one, parts_one_more}
+
+-- the first byte that passes
+
+module _ (p : ℕ → Bool) where
+  fails_there : (xs : List ℕ) (k : ℕ) → ¬ Passes p xs k → p (slice_index xs k) ≡ false
+  fails_there xs k fails = go (p (slice_index xs k)) refl
+    where
+      go : (b : Bool) → p (slice_index xs k) ≡ b → p (slice_index xs k) ≡ false
+      go true e = absurd (fails e)
+      go false e = e
+
+  pub first_is_position : (xs : List ℕ) (found : Option ℕ) → IsFirstByte p xs found → found ≡ position p xs
+  first_is_position xs None nowhere =
+      let all : position_or_len p xs ≡ length xs =
+      position_or_len_is p xs (length xs) 0 (omega arith) (λ k low. fails_there xs k (nowhere k (omega arith) low)) (λ low. absurd (omega (arith, low))) in
+      rw (le-ltb (position_or_len p xs) (length xs) (omega (arith, all))) refl
+  first_is_position xs (Some i) found =
+      let at : position_or_len p xs ≡ i =
+      position_or_len_is p xs i 0 (omega (arith, found.0.high)) (λ k low. fails_there xs k (found.0.before k (omega arith) low)) (λ low. found.1) in
+      rw (lt-ltb (position_or_len p xs) (length xs) (omega (arith, at, found.0.high))) (ap Some (sym at))
+
+  all_pass : (xs : List ℕ) → ((k : ℕ) → k < length xs → p (slice_index xs k) ≡ true) → list_all p xs ≡ true
+  all_pass [] each = refl
+  all_pass (x ∷ xs) each = rw (each 0 (omega arith)) (all_pass xs (λ k low. each (suc k) (omega (arith, low))))
+
+  each_passes : (xs : List ℕ) → list_all p xs ≡ true → (k : ℕ) → k < length xs → p (slice_index xs k) ≡ true
+  each_passes [] all k low = absurd (omega (arith, low))
+  each_passes (x ∷ xs) all zero low = (and_parts _ _ all).0
+  each_passes (x ∷ xs) all (suc k) low = each_passes xs (and_parts _ _ all).1 k (omega (arith, low))
+
+  pub all_pass_behind : (xs : List ℕ) (n : ℕ) → list_all p xs ≡ true → list_all p (drop n xs) ≡ true
+  all_pass_behind xs zero all = all
+  all_pass_behind [] (suc n) all = refl
+  all_pass_behind (x ∷ xs) (suc n) all = all_pass_behind xs n (and_parts _ _ all).1
+
+-- ---- the last `/`
+
+pub last_slash : (text : List ℕ) (found : Option ℕ) (k : ℕ) → IsLastByte (is_byte 47) text found → found ≡ Some k →
+    (parts (drop (k + 1) text) ≡ drop (k + 1) text ∷ []) × (slice_index text k ≡ 47)
+last_slash text None k last is = absurd (cc)
+last_slash text (Some j) k last is =
+    let same : j ≡ k = cc in
+    (rw (← same) (parts_one_more text (j + 1) (λ n low high slash. last.0.after n low high (eq-eqb _ _ slash))), rw (← same) (eqb-true _ _ last.1))
+
+pub no_last_slash : (text : List ℕ) (found : Option ℕ) → IsLastByte (is_byte 47) text found → found ≡ None → parts text ≡ text ∷ []
+no_last_slash text None nowhere is = parts-one text (λ k low slash. nowhere k (omega arith) low (eq-eqb _ _ slash))
+no_last_slash text (Some k) last is = absurd (cc)
+
+-- ---- bytes that are not 0
+
+abbrev pub not_zero : ℕ → Bool
+not_zero b = not (b == 0)
+
+abbrev pub is_plain : ℕ → Bool
+is_plain b = not (b == 0) && not (b == 47)
+
+pub has_byte : (text : List ℕ) (found : Option ℕ) → IsFirstByte (is_byte 0) text found → is_some found ≡ not (list_all not_zero text)
+has_byte text None nowhere =
+    let all : list_all not_zero text ≡ true = all_pass not_zero text (λ k low. ap not (fails_there (is_byte 0) text k (nowhere k (omega arith) low))) in
+    rw all refl
+has_byte text (Some k) found =
+    let some : list_all not_zero text ≡ false = list_all_at not_zero text k 0 found.0.high (ap not found.1) in
+    rw some refl
+
+neither : (b : ℕ) → not_zero b ≡ true → (b == 47) ≡ false → is_plain b ≡ true
+neither b some other = rw (some, other) refl
+
+-- a text without a 0, up to its first `/`, and as a whole where it has none
+pub plain_front : (text : List ℕ) (end : ℕ) → position (λ b. b == 47) text ≡ Some end → list_all not_zero text ≡ true → list_all is_plain (take end text) ≡ true
+plain_front text end found some =
+    let here : (end < length text) × ((slice_index text end == 47) ≡ true) × ((k : ℕ) → k < end → (slice_index text k == 47) ≡ false) = position-Some (λ b. b == 47) text end 0 found in
+    all_pass is_plain (take end text) (λ k low.
+    let before : k < end = omega (arith, low, length-take end text) in
+    rw (get_or-take end text k 0 before) (neither (slice_index text k) (each_passes not_zero text some k (omega (arith, before, here.0))) (here.2 k before)))
+
+pub plain_whole : (text : List ℕ) → position (λ b. b == 47) text ≡ None → list_all not_zero text ≡ true → list_all is_plain text ≡ true
+plain_whole text none some = all_pass is_plain text (λ k low. neither (slice_index text k) (each_passes not_zero text some k low) (no_slash text none k low))
+
+-- ---- a text with a 0 has a part that is no name
+
+grouped : (a b c : Bool) → ((a && b) && c) ≡ (a && (b && c))
+grouped true b c = refl
+grouped false b c = refl
+
+onto_some : (b : ℕ) (ps : List (List ℕ)) → list_all (list_all not_zero) (onto_first b ps) ≡ (not_zero b && list_all (list_all not_zero) ps)
+onto_some b [] = grouped (not_zero b) true true
+onto_some b (p ∷ ps) = grouped (not_zero b) (list_all not_zero p) (list_all (list_all not_zero) ps)
+
+parts_some : (text : List ℕ) → list_all (list_all not_zero) (parts text) ≡ list_all not_zero text
+parts_some [] = refl
+parts_some (b ∷ text) = go (parts_some text) (b == 47) refl
+  where
+    go : list_all (list_all not_zero) (parts text) ≡ list_all not_zero text → (t : Bool) → (b == 47) ≡ t → list_all (list_all not_zero) (parts (b ∷ text)) ≡ list_all not_zero (b ∷ text)
+    go same true at =
+        let slash : not_zero b ≡ true = ap not_zero (eqb-true b 47 at) in
+        rw (at, slash) same
+    go same false at = rw at (onto_some b (parts text) ∙ ap (λ t. not_zero b && t) same)
+
+third : (a b c d e : Bool) → (a && b && c && d && e) ≡ true → c ≡ true
+third a b true d e all = refl
+third true true false d e all = absurd (cc)
+third true false false d e all = absurd (cc)
+third false b false d e all = absurd (cc)
+
+name_some : (name : List ℕ) → is_name name ≡ true → list_all not_zero name ≡ true
+name_some name is =
+    let plain : list_all is_plain name ≡ true = third (nat_le 1 (length name)) (nat_le (length name) max_name) (list_all is_plain name) (not (bytes_eq name (46 ∷ []))) (not (bytes_eq name (46 ∷ 46 ∷ []))) is in
+    all_pass not_zero name (λ k low. (and_parts _ _ (each_passes is_plain name plain k low)).0)
+
+names_some : (ps : List (List ℕ)) → list_all is_name ps ≡ true → list_all (list_all not_zero) ps ≡ true
+names_some [] all = refl
+names_some (p ∷ ps) all = rw (name_some p (and_parts _ _ all).0) (names_some ps (and_parts _ _ all).1)
+
+pub no_names : (text : List ℕ) → list_all not_zero text ≡ false → list_all is_name (parts text) ≡ false
+no_names text zeros = go (list_all is_name (parts text)) refl
+  where
+    go : (b : Bool) → list_all is_name (parts text) ≡ b → list_all is_name (parts text) ≡ false
+    go true all = let clash : true ≡ false = sym (names_some (parts text) all) ∙ parts_some text ∙ zeros in absurd (cc)
+    go false all = all

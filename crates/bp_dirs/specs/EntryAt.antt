@@ -1,8 +1,8 @@
 -- Entries whose leaf has been found, and names as words.
-use Rattle.std.specs.Prelude.{◌≡◌, ℕ, ◌+◌, ◌-◌, ◌*◌, ◌/◌, ◌%◌, ◌<◌, ◌≤◌, length, take, drop}
+use Rattle.std.specs.Prelude.{◌≡◌, ℕ, ◌+◌, ◌-◌, ◌*◌, ◌/◌, ◌%◌, ◌<◌, ◌≤◌, List, length, slice_index, take, drop}
 use Rattle.bp_layout.specs.Words.{Image, height_of}
 use Rattle.bp_layout.specs.Tree.{node, IsSound}
-use Rattle.bp_layout.specs.Directory.{Name}
+use Rattle.bp_layout.specs.Directory.{Name, word_in}
 use Rattle.pm_words.specs.Bytes.{word_of}
 use Rattle.bp_dirs.specs.declared.entry_at.EntryAt.{EntryAt}
 use Rattle.bp_dirs.specs.declared.leaf.Leaf.{Leaf}
@@ -12,6 +12,16 @@ pub record IsEntryAt (image : Image) (at : EntryAt) : Type 0 where
   pub sound : IsSound image at.tree.root at.tree.size
   pub live : at.slot < at.tree.size / 256
   pub block : at.block ≡ node image at.tree.root (height_of at.tree.root) (at.slot / 16)
+
+-- all words of the entry in a slot
+pub record HasWords (image : Image) (root slot : ℕ) (words : List ℕ) : Type 0 where
+  pub long : length words ≡ 32
+  pub each : (field : ℕ) → field < 32 → slice_index words field ≡ word_in image root slot field
+
+-- all words of so many entries in a row, the first of them in this slot
+pub record IsRow (image : Image) (root first count : ℕ) (words : List ℕ) : Type 0 where
+  pub long : length words ≡ 32 * count
+  pub each : (index field : ℕ) → index < count → field < 32 → slice_index words (32 * index + field) ≡ word_in image root (first + index) field
 
 -- slots in a row, from the first of a leaf on, and the block with their entries
 pub record IsLeaf (image : Image) (leaf : Leaf) : Type 0 where

@@ -1,5 +1,6 @@
 -- What a scan for a name tells.
 use Rattle.std.specs.Prelude.{◌≡◌, ℕ, ⊤, Option, Some, None}
+use Rattle.bp_dirs.specs.declared.spot.Found.{Found}
 use Rattle.bp_dirs.specs.declared.spot.Spot.{Spot}
 use Rattle.bp_dirs.specs.declared.spot.Spot.TheVariants.{Named, Free}
 
@@ -12,3 +13,8 @@ named_slot (Free empty) = None
 abbrev pub FreeIs : Spot → Option ℕ → Type 0
 FreeIs (Named slot) expected = ⊤
 FreeIs (Free empty) expected = empty ≡ expected
+
+-- the slot of the entry that was found
+abbrev pub found_slot : Option Found → Option ℕ
+found_slot None = None
+found_slot (Some found) = Some found.slot

@@ -7,12 +7,12 @@ ghost use Rattle.bp_layout.specs.Directory.{word_in, inumber_in, name_in, empty_
 ghost use Rattle.bp_limits.specs.Limits.{max_name};
 ghost use Rattle.pm_region.specs.Memory.{current_words};
 ghost use Rattle.bp_dirs.specs.Names.{HasNameLength, name_count};
-ghost use Rattle.bp_dirs.specs.Spots.{FreeIs, named_slot};
+ghost use Rattle.bp_dirs.specs.Spots.{FreeIs, found_slot, named_slot};
 
 use crate::entry_at::EntryAt;
 use crate::leaf::{leaf_count, leaf_from};
 use crate::name_words::last_word;
-use crate::spot::Spot;
+use crate::spot::{Found, Spot};
 use bp_layout::Entry;
 use bp_tree::{Tree, content_place, content_word, leaf_block};
 use pm_region::Region;
@@ -32,11 +32,26 @@ pub fn find<R: Region>(region: &R, tree: Tree, name: &[u8]) -> Option<u64>
     requires short { length name.now ≤ max_name }
     ensures { result ≡ slot_named_in (current_words (R.memory region.now)) tree.root tree.size name.now }
 {
+    match find_entry(region, tree, name) {
+        Some(found) => Some(found.slot),
+        None => None,
+    }
+}
+
+/// What [`find`] tells, and the number of the inode that the entry names.
+pub fn find_entry<R: Region>(region: &R, tree: Tree, name: &[u8]) -> Option<Found>
+    requires sound { IsSound (current_words (R.memory region.now)) tree.root tree.size }
+    requires short { length name.now ≤ max_name }
+    ensures slot { found_slot result ≡
+        slot_named_in (current_words (R.memory region.now)) tree.root tree.size name.now }
+    ensures inumber { IfSome result
+        (λ found. found.inumber ≡ inumber_in (current_words (R.memory region.now)) tree.root found.slot) }
+{
     let last = last_word(name);
     for number in 0..leaf_count(tree) {
         let leaf = leaf_from(region, tree, 16 * number);
-        if let Some(slot) = leaf.find(region, name, last) {
-            return Some(slot);
+        if let Some(found) = leaf.find(region, name, last) {
+            return Some(found);
         }
     }
     None
@@ -68,8 +83,8 @@ pub fn find_or_free<R: Region>(region: &R, tree: Tree, name: &[u8]) -> Spot
     let mut empty = None;
     for number in 0..leaf_count(tree) {
         let leaf = leaf_from(region, tree, 16 * number);
-        if let Some(slot) = leaf.find(region, name, last) {
-            return Spot::Named(slot);
+        if let Some(found) = leaf.find(region, name, last) {
+            return Spot::Named(found.slot);
         }
         empty = leaf.first_empty_after(region, empty);
     }

@@ -1,14 +1,16 @@
 //! The entries of one leaf of a directory.
 
-ghost use Rattle.std.specs.Prelude.{◌≡◌, ℕ, ◌-◌, ◌*◌, ◌/◌, ◌%◌, ◌<◌, ◌≤◌, ◌==◌, not, min, length, find, filter, Option, IfSome, IfNone};
+ghost use Rattle.std.specs.Prelude.{◌≡◌, ◌≢◌, ℕ, ◌-◌, ◌*◌, ◌/◌, ◌%◌, ◌<◌, ◌≤◌, ◌==◌, not, min, length, find, filter, Option, IfSome, IfNone};
 ghost use Rattle.std.specs.List.{range_with_len};
 ghost use Rattle.bp_layout.specs.Tree.{IsSound};
 ghost use Rattle.bp_layout.specs.Directory.{inumber_in, is_named_in};
 ghost use Rattle.pm_region.specs.Memory.{current_words};
-ghost use Rattle.bp_dirs.specs.EntryAt.{IsLeaf, last_part, part_word};
+ghost use Rattle.bp_dirs.specs.EntryAt.{IsLeaf, IsRow, last_part, part_word};
+ghost use Rattle.bp_dirs.specs.Spots.{found_slot};
 ghost use Rattle.bp_limits.specs.Limits.{max_name};
 
-use crate::entry_at::EntryAt;
+use crate::entry_words::is_named;
+use crate::spot::Found;
 use bp_tree::{Tree, leaf_block};
 use pm_region::Region;
 
@@ -51,25 +53,38 @@ pub(crate) fn leaf_from<R: Region>(region: &R, tree: Tree, first: u64) -> Leaf
 }
 
 impl Leaf {
-    /// The first of the slots whose entry names an inode by this name, whose last word is `last`.
-    pub fn find<R: Region>(&self, region: &R, name: &[u8], last: u64) -> Option<u64>
+    /// The words of the entries, which stand in a block.
+    fn words<'a, R: Region>(&self, region: &'a R) -> &'a [u64]
+        requires leaf { IsLeaf (current_words (R.memory region.now)) self.now }
+        requires present { self.now.block ≢ 0 }
+        ensures { IsRow (current_words (R.memory region.now)) self.now.tree.root self.now.first self.now.count result.now }
+    {
+        // Words are counted in 32 bits, so that the place of one fits.
+        let _words = region.words();
+        region.load_words((512 * self.block) as u32, 32 * self.count as u32)
+    }
+
+    /// The first of the entries that names an inode by this name, whose last word is `last`.
+    pub fn find<R: Region>(&self, region: &R, name: &[u8], last: u64) -> Option<Found>
         requires leaf { IsLeaf (current_words (R.memory region.now)) self.now }
         requires short { length name.now ≤ max_name }
         requires last { last ≡ part_word name.now (last_part name.now) }
-        ensures { result ≡ find (is_named_in (current_words (R.memory region.now)) self.now.tree.root name.now)
+        ensures slot { found_slot result ≡ find (is_named_in (current_words (R.memory region.now)) self.now.tree.root name.now)
             (range_with_len self.now.first self.now.count) }
+        ensures inumber { IfSome result
+            (λ found. found.inumber ≡ inumber_in (current_words (R.memory region.now)) self.now.tree.root found.slot) }
     {
         if self.block == 0 {
             return None;
         }
+        let words = self.words(region);
         for index in 0..self.count {
-            let at = EntryAt {
-                tree: self.tree,
-                slot: self.first + index,
-                block: self.block,
-            };
-            if at.is_named(region, name, last) {
-                return Some(self.first + index);
+            let at = 32 * index as usize;
+            if is_named(&words[at..at + 32], name, last) {
+                return Some(Found {
+                    slot: self.first + index,
+                    inumber: words[at],
+                });
             }
         }
         None
@@ -81,13 +96,12 @@ impl Leaf {
         ensures { result ≡ find (λ slot. inumber_in (current_words (R.memory region.now)) self.now.tree.root slot == 0)
             (range_with_len self.now.first self.now.count) }
     {
+        if self.block == 0 {
+            return Some(self.first);
+        }
+        let words = self.words(region);
         for index in 0..self.count {
-            let at = EntryAt {
-                tree: self.tree,
-                slot: self.first + index,
-                block: self.block,
-            };
-            if at.word(region, 0) == 0 {
+            if words[32 * index as usize] == 0 {
                 return Some(self.first + index);
             }
         }
@@ -116,14 +130,13 @@ impl Leaf {
             (range_with_len self.now.first self.now.count)) }
         ensures few { result ≤ self.now.count }
     {
+        if self.block == 0 {
+            return 0;
+        }
+        let words = self.words(region);
         let mut names = 0;
         for index in 0..self.count {
-            let at = EntryAt {
-                tree: self.tree,
-                slot: self.first + index,
-                block: self.block,
-            };
-            if at.word(region, 0) != 0 {
+            if words[32 * index as usize] != 0 {
                 names += 1;
             }
         }

@@ -8,3 +8,12 @@ pub enum Spot {
     /// No entry does. The least slot whose entry is empty, None where none is.
     Free(Option<u64>),
 }
+
+/// An entry that has a name.
+#[derive(Clone, Copy, Debug, PartialEq, Eq)]
+pub struct Found {
+    /// Its slot.
+    pub slot: u64,
+    /// The number of the inode that it names.
+    pub inumber: u64,
+}

@@ -1,8 +1,9 @@
-use Rattle.std.proofs.Common.{◌≡◌, ◌-◌, ◌*◌, ◌/◌, ◌<◌, ◌==◌, min, find, sym, ◌∙◌, arith}
+use Rattle.std.proofs.Common.{◌≡◌, ◌-◌, ◌*◌, ◌/◌, ◌<◌, ◌==◌, min, find, sym, ◌∙◌, ap, arith}
 use Rattle.std.specs.List.{range_with_len}
 use Rattle.std.specs.Prelude.{IfNone}
 use Rattle.bp_layout.specs.Directory.{inumber_in, is_named_in, empty_slot_in}
 use Rattle.pm_region.specs.Memory.{current_words}
+use Rattle.bp_dirs.specs.Spots.{found_slot}
 use Rattle.bp_dirs.proofs.Leaves.{in_leaf, leaf-early, leaf-late, first-on, if_none, none_left, known_first}
 use Rattle.bp_dirs.proofs.directory.find_or_free.Goals as goal
 
@@ -15,8 +16,8 @@ returns-in-Some-clause-named g c =
     let inside : 16 * number < tree.size / 256 = c.leaf_count-number-end.ensures.most number c.loop-number-test.true in
     let leaf = c.leaf_from-leaf.ensures in
     sym (c.loop-number.invariant.named
-    ∙ leaf-early (is_named_in image tree.root name) number (tree.size / 256) inside c.in-Some.slot
-    (sym (in_leaf (λ root first count. find (is_named_in image root name) (range_with_len first count)) tree c.leaf_from-leaf.result number leaf.tree leaf.first leaf.count) ∙ sym c.find.ensures ∙ c.in-Some.is))
+    ∙ leaf-early (is_named_in image tree.root name) number (tree.size / 256) inside c.in-Some.found.slot
+    (sym (in_leaf (λ root first count. find (is_named_in image root name) (range_with_len first count)) tree c.leaf_from-leaf.result number leaf.tree leaf.first leaf.count) ∙ sym c.find.ensures.slot ∙ ap found_slot c.in-Some.is))
 
 pub loop-number-preserved : goal.loop-number-preserved
 loop-number-preserved g c =
@@ -34,7 +35,7 @@ loop-number-preserved g c =
     record {
       named = c.loop-number.invariant.named
           ∙ leaf-late (is_named_in image tree.root name) number (tree.size / 256) inside
-          (sym (in_leaf (λ root first count. find (is_named_in image root name) (range_with_len first count)) tree c.leaf_from-leaf.result number leaf.tree leaf.first leaf.count) ∙ sym c.find.ensures ∙ c.in_default.is);
+          (sym (in_leaf (λ root first count. find (is_named_in image root name) (range_with_len first count)) tree c.leaf_from-leaf.result number leaf.tree leaf.first leaf.count) ∙ sym c.find.ensures.slot ∙ ap found_slot c.in_default.is);
       some = on.0;
       none = on.1;
     }

@@ -2,7 +2,7 @@ use Rattle.std.proofs.Common.{◌≡◌, ◌*◌, ◌-◌, ◌/◌, find}
 use Rattle.std.specs.List.{range_with_len}
 use Rattle.bp_layout.specs.Directory.{is_named_in, slot_named_in}
 use Rattle.pm_region.specs.Memory.{current_words}
-use Rattle.bp_dirs.proofs.directory.find.Given as goal
+use Rattle.bp_dirs.proofs.directory.find_entry.Given as goal
 
 abbrev pub invariant-loop-number : goal.invariant-loop-number
 invariant-loop-number g l =

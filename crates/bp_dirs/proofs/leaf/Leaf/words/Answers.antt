@@ -1,0 +1,29 @@
+use Rattle.std.proofs.Common.{arith}
+use Rattle.pm_region.specs.Memory.{current_words}
+use Rattle.bp_tree.proofs.RegionWords.{length_now}
+use Rattle.bp_dirs.proofs.EntryWords.{leaf_block_in_range, row_of}
+use Rattle.bp_dirs.proofs.leaf.Leaf.words.Goals as goal
+
+pub overflow_mul-self : goal.overflow_mul-self
+overflow_mul-self g c =
+    let image = current_words (g.R.Region.memory c.args.region.now) in
+    omega (arith, length_now (g.R.Region.memory c.args.region.now), leaf_block_in_range image c.args.self.now c.requires.leaf)
+
+pub overflow_cast-self : goal.overflow_cast-self
+overflow_cast-self g c =
+    let image = current_words (g.R.Region.memory c.args.region.now) in
+    omega (arith, length_now (g.R.Region.memory c.args.region.now), leaf_block_in_range image c.args.self.now c.requires.leaf)
+
+pub overflow_cast-self-2 : goal.overflow_cast-self-2
+overflow_cast-self-2 g c = omega (arith, c.requires.leaf.few)
+
+pub load_words-requires : goal.load_words-requires
+load_words-requires g c =
+    let image = current_words (g.R.Region.memory c.args.region.now) in
+    omega (arith, length_now (g.R.Region.memory c.args.region.now), leaf_block_in_range image c.args.self.now c.requires.leaf, c.requires.leaf.few)
+
+pub returns : goal.returns
+returns g c =
+    let image = current_words (g.R.Region.memory c.args.region.now) in
+    row_of image c.args.self.now c.load_words.result.now c.requires.leaf c.requires.present
+    (omega (arith, leaf_block_in_range image c.args.self.now c.requires.leaf, c.requires.leaf.few)) c.load_words.ensures

@@ -16,7 +16,7 @@ ghost use Rattle.bp_path.specs.Places.{IsEntryOf, fault_of, walked_of, dir_of};
 
 use crate::names::{split_first, split_last};
 use crate::path::Path;
-use bp_dirs::{find, inumber};
+use bp_dirs::find_entry;
 use bp_inodes::get;
 use bp_layout::Kind;
 use bp_tree::Tree;
@@ -71,12 +71,12 @@ pub fn step<R: Region>(region: &R, dir: u32, name: &[u8]) -> Result<Place, WalkF
     };
     match inode.kind {
         Kind::File => Err(WalkFault::NotDir),
-        Kind::Dir => match find(region, tree, name) {
+        Kind::Dir => match find_entry(region, tree, name) {
             None => Err(WalkFault::NotFound),
-            Some(slot) => Ok(Place {
-                inumber: inumber(region, tree, slot) as u32,
+            Some(found) => Ok(Place {
+                inumber: found.inumber as u32,
                 dir,
-                slot,
+                slot: found.slot,
             }),
         },
     }

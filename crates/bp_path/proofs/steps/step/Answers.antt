@@ -4,7 +4,7 @@ use Rattle.bp_layout.specs.Fields.{kind_word}
 use Rattle.bp_layout.specs.Directory.{inumber_in, inumber_at, slot_named, slot_named_in}
 use Rattle.bp_layout.specs.Reached.IsReached.{inode_file}
 use Rattle.pm_region.specs.Memory.{current_words}
-use Rattle.bp_path.proofs.WalkLaws.{there, low_number, named_reached, slot_there}
+use Rattle.bp_path.proofs.WalkLaws.{there, low_number, named_reached}
 use Rattle.bp_path.proofs.steps.step.Goals as goal
 
 pub get-inode-requires-clause-sound : goal.get-inode-requires-clause-sound
@@ -13,23 +13,16 @@ get-inode-requires-clause-sound g c = c.requires.well.sound 0 inode_file
 pub get-inode-requires-clause-there : goal.get-inode-requires-clause-there
 get-inode-requires-clause-there g c = there (current_words (g.R.Region.memory c.args.region.now)) c.args.dir c.requires.well c.requires.reached
 
-pub inumber-requires-clause-live : goal.inumber-requires-clause-live
-inumber-requires-clause-live g c =
-    let image = current_words (g.R.Region.memory c.args.region.now) in
-    let at : slot_named image c.args.dir c.args.name.now ≡ Some c.in-Some.slot =
-    ap₂ (λ r s. slot_named_in image r s c.args.name.now) (sym c.get-inode.ensures.root) (sym c.get-inode.ensures.size) ∙ sym c.in-Some.ensures in
-    omega (arith, slot_there image c.args.dir c.in-Some.slot c.args.name.now at, c.get-inode.ensures.size)
-
 pub overflow_cast-result : goal.overflow_cast-result
 overflow_cast-result g c =
     let image = current_words (g.R.Region.memory c.args.region.now) in
-    let at : slot_named image c.args.dir c.args.name.now ≡ Some c.in-Some.slot =
-    ap₂ (λ r s. slot_named_in image r s c.args.name.now) (sym c.get-inode.ensures.root) (sym c.get-inode.ensures.size) ∙ sym c.in-Some.ensures in
-    let is : inumber_at image c.args.dir c.in-Some.slot ≡ c.inumber.result =
-    ap (λ r. inumber_in image r c.in-Some.slot) (sym c.get-inode.ensures.root) ∙ sym c.inumber.ensures in
+    let at : slot_named image c.args.dir c.args.name.now ≡ Some c.in-Some.found.slot =
+    ap₂ (λ r s. slot_named_in image r s c.args.name.now) (sym c.get-inode.ensures.root) (sym c.get-inode.ensures.size) ∙ sym c.in-Some.ensures.slot in
+    let is : inumber_at image c.args.dir c.in-Some.found.slot ≡ c.in-Some.found.inumber =
+    ap (λ r. inumber_in image r c.in-Some.found.slot) (sym c.get-inode.ensures.root) ∙ sym c.in-Some.ensures.inumber in
     let kind : kind_of image c.args.dir ≡ 2 = sym c.get-inode.ensures.kind ∙ ap kind_word c.in-Dir.is in
     omega (
       arith,
-      low_number image c.inumber.result c.requires.well
-          (there image c.inumber.result c.requires.well (named_reached image c.args.dir c.inumber.result c.in-Some.slot c.args.name.now c.requires.reached kind at is)),
+      low_number image c.in-Some.found.inumber c.requires.well
+          (there image c.in-Some.found.inumber c.requires.well (named_reached image c.args.dir c.in-Some.found.inumber c.in-Some.found.slot c.args.name.now c.requires.reached kind at is)),
     )

@@ -8,17 +8,14 @@ slot_there : (image : Image) (block slot : ℕ) → (block ≡ 0 → ⊥) → ge
 slot_there image zero slot some = absurd (some (omega arith))
 slot_there image (suc b) slot some = omega arith
 
-pub overflow_cast-first : goal.overflow_cast-first
-overflow_cast-first g c = omega (arith, length_now (g.R.Region.memory c.args.region.now))
-
-pub overflow_mul-first : goal.overflow_mul-first
-overflow_mul-first g c = omega (arith, length_now (g.R.Region.memory c.args.region.now))
-
-pub load-requires : goal.load-requires
-load-requires g c = omega (arith, length_now (g.R.Region.memory c.args.region.now))
-
-pub overflow_add-first : goal.overflow_add-first
-overflow_add-first g c = omega (arith, length_now (g.R.Region.memory c.args.region.now), c.requires, c.loop-slot-test.true, c.words-words.ensures, c.words-words.type_inv)
-
 pub returns-then-from-eq0 : goal.returns-then-from-eq0
 returns-then-from-eq0 g c = λ slot low. rw (c.fill.ensures.after (λ y same. same), c.if-from-eq0.true) (get_or-replicate (length c.args.words.now) slot 0 0 (omega (arith, low)))
+
+pub overflow_cast-from : goal.overflow_cast-from
+overflow_cast-from g c = omega (arith, c.requires, length_now (g.R.Region.memory c.args.region.now), c.words-words.ensures, c.words-words.type_inv)
+
+pub overflow_mul-from : goal.overflow_mul-from
+overflow_mul-from g c = omega (arith, c.requires, length_now (g.R.Region.memory c.args.region.now), c.words-words.ensures, c.words-words.type_inv)
+
+pub load_words-requires : goal.load_words-requires
+load_words-requires g c = omega (arith, c.requires, length_now (g.R.Region.memory c.args.region.now))

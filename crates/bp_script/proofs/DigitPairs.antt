@@ -55,7 +55,7 @@ no_value digit byte number letter =
 
 -- ---- pairs of digits
 
-below_none : (digit v : ℕ) → hex_digit_value digit ≡ Some v → v < 16
+pub below_none : (digit v : ℕ) → hex_digit_value digit ≡ Some v → v < 16
 below_none digit v is = grind (arith)
 
 value_read : (digit i v : ℕ) → v ≡ value_or_none digit → v < 16 → value_at digit i ≡ Ok v

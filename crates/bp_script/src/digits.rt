@@ -1,11 +1,15 @@
-//! Bytes as hexadecimal digits.
-//!
-//! A loop over bytes has no branch and no table in it: so a compiler can do many bytes at a time.
+//! Bytes as hexadecimal digits: sixteen bytes at a time, and then those that are left.
 
 ghost use Rattle.hex.specs.Hex.{decode_of, encode_lower, hex_digit_value, lower_digits};
 ghost use Rattle.std.specs.Option.{unwrap_or};
-ghost use Rattle.std.specs.Prelude.{if◌then◌else◌, None, Some, length, max, slice_index, ◌*◌, ◌<◌, ◌≡◌};
+ghost use Rattle.std.specs.Prelude.{if◌then◌else◌, None, Some, length, map, max, slice_index, take, ◌*◌, ◌%◌, ◌++◌, ◌<◌, ◌≡◌, ◌≤◌};
 ghost use Rattle.std.specs.Result.{result_ok};
+ghost use Rattle.std.specs.Simd.Lanes.{Each1};
+
+use std::simd::prelude::*;
+
+/// How many bytes are done at a time.
+const LANES: usize = 16;
 
 /// What stands for a byte that is no digit: more than the value of any digit.
 const NO_DIGIT: u8 = 16;
@@ -15,6 +19,61 @@ const LOWER_CASE: u8 = 32;
 
 /// Decodes pairs of digits of either case, and tells whether all of them are digits.
 pub(crate) fn decode_digits(digits: &[u8], into: &mut [u8]) -> bool
+    requires { length digits.now ≡ 2 * length into.old }
+    ensures { result_ok (decode_of digits.now) ≡ (if result then Some into.new else None) }
+{
+    let whole = into.len() / LANES * LANES;
+    let (long, short) = digits.split_at(2 * whole);
+    let (front, back) = into.split_at_mut(whole);
+    decode_runs(long, front) && decode_pairs(short, back)
+}
+
+/// The same for whole runs of digits.
+fn decode_runs(digits: &[u8], into: &mut [u8]) -> bool
+    requires pairs { length digits.now ≡ 2 * length into.old }
+    requires whole { length into.old % LANES ≡ 0 }
+    ensures { result_ok (decode_of digits.now) ≡ (if result then Some into.new else None) }
+{
+    for i in 0..into.len() / LANES {
+        let (bytes, is_right) = decode_run(&digits[2 * LANES * i..]);
+        if !is_right {
+            return false;
+        }
+        bytes.copy_to_slice(&mut into[LANES * i..]);
+    }
+    true
+}
+
+/// The bytes of the run of digits that a text begins with, and whether all of them are digits.
+fn decode_run(digits: &[u8]) -> (u8x16, bool)
+    requires { 2 * LANES ≤ length digits.now }
+    ensures bytes { result_ok (decode_of (take (2 * LANES) digits.now)) ≡ (if result.1 then Some result.0 else None) }
+    ensures len { length result.0 ≡ LANES }
+{
+    let first = u8x16::from_slice(digits);
+    let second = u8x16::from_slice(&digits[LANES..]);
+    let (high, low) = first.deinterleave(second);
+    let high = values_of(high);
+    let low = values_of(low);
+    let none = u8x16::splat(NO_DIGIT);
+    let foreign = high.simd_ge(none) | low.simd_ge(none);
+    (high * u8x16::splat(16) + low, foreign.to_bitmask() == 0)
+}
+
+/// The values of digits of either case, or `NO_DIGIT`.
+fn values_of(digits: u8x16) -> u8x16
+    ensures { result ≡ map (λ digit. unwrap_or (hex_digit_value digit) NO_DIGIT) digits }
+{
+    let number = digits - u8x16::splat(b'0');
+    let letter = (digits | u8x16::splat(LOWER_CASE)) - u8x16::splat(b'a');
+    let of_letter = letter
+        .simd_lt(u8x16::splat(6))
+        .select(letter + u8x16::splat(10), u8x16::splat(NO_DIGIT));
+    number.simd_lt(u8x16::splat(10)).select(number, of_letter)
+}
+
+/// The same for few digits.
+fn decode_pairs(digits: &[u8], into: &mut [u8]) -> bool
     requires { length digits.now ≡ 2 * length into.old }
     ensures { result_ok (decode_of digits.now) ≡ (if result then Some into.new else None) }
 {
@@ -53,6 +112,54 @@ fn value_of(digit: u8) -> u8
 
 /// Writes each byte as two digits of lower case.
 pub(crate) fn encode_digits(content: &[u8], into: &mut [u8])
+    requires { length into.old ≡ 2 * length content.now }
+    ensures { into.new ≡ encode_lower content.now }
+{
+    let whole = content.len() / LANES * LANES;
+    let (long, short) = content.split_at(whole);
+    let (front, back) = into.split_at_mut(2 * whole);
+    encode_runs(long, front);
+    encode_bytes(short, back);
+}
+
+/// The same for whole runs of bytes.
+fn encode_runs(content: &[u8], into: &mut [u8])
+    requires pairs { length into.old ≡ 2 * length content.now }
+    requires whole { length content.now % LANES ≡ 0 }
+    ensures { into.new ≡ encode_lower content.now }
+{
+    for i in 0..content.len() / LANES {
+        let (first, second) = encode_run(&content[LANES * i..]);
+        first.copy_to_slice(&mut into[2 * LANES * i..]);
+        second.copy_to_slice(&mut into[2 * LANES * i + LANES..]);
+    }
+}
+
+/// The digits of the run of bytes that a content begins with.
+fn encode_run(content: &[u8]) -> (u8x16, u8x16)
+    requires { LANES ≤ length content.now }
+    ensures digits { result.0 ++ result.1 ≡ encode_lower (take LANES content.now) }
+    ensures first { length result.0 ≡ LANES }
+    ensures second { length result.1 ≡ LANES }
+{
+    let bytes = u8x16::from_slice(content);
+    let high = digits_of(bytes / u8x16::splat(16));
+    let low = digits_of(bytes % u8x16::splat(16));
+    high.interleave(low)
+}
+
+/// The digits of values, in lower case.
+fn digits_of(values: u8x16) -> u8x16
+    requires { Each1 (λ value. value < 16) values }
+    ensures { result ≡ map (λ value. slice_index lower_digits value) values }
+{
+    let numbers = values + u8x16::splat(b'0');
+    let letters = values + u8x16::splat(b'a' - 10);
+    values.simd_lt(u8x16::splat(10)).select(numbers, letters)
+}
+
+/// The same for few bytes.
+fn encode_bytes(content: &[u8], into: &mut [u8])
     requires { length into.old ≡ 2 * length content.now }
     ensures { into.new ≡ encode_lower content.now }
 {

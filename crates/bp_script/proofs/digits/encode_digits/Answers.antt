@@ -1,11 +1,8 @@
-use Rattle.std.proofs.Common.{arith}
-use Rattle.hex.specs.Hex.{lower_digits}
-use Rattle.hex.proofs.Pairs.{encode_done, encode_step}
+use Rattle.std.proofs.Common.{◌*◌, ◌/◌, length}
+use Rattle.bp_script.proofs.EncodedRuns.{encoded_parted}
 use Rattle.bp_script.proofs.digits.encode_digits.Goals as goal
 
-pub loop-i-preserved : goal.loop-i-preserved
-loop-i-preserved c =
-    encode_step lower_digits c.args.content.now c.loop-i.into c.loop-i.i _ _ (omega arith) (omega arith) c.digit_of.ensures c.digit_of-in-loop-i.ensures c.loop-i.invariant
-
 pub returns : goal.returns
-returns c = encode_done lower_digits c.args.content.now c.loop-i.into c.loop-i.i (omega arith) (omega arith) c.loop-i.invariant
+returns c =
+    rw (c.encode_runs.ensures, c.encode_bytes.ensures, c.split_at.ensures.front, c.split_at.ensures.back)
+    (encoded_parted (length c.args.content.now / 16 * 16) c.args.content.now)

@@ -1,5 +1,5 @@
 -- The path of a word exists as a whole where no null stands above the word and the trees on the way keep their heights.
-use Rattle.std.proofs.Common.{nat_le, ◌||◌, ◌≡◌, ◌≢◌, ℕ, zero, suc, ◌+◌, ◌-◌, ◌*◌, ◌/◌, ◌%◌, ◌<◌, ◌≤◌, List, [], ◌∷◌, ◌++◌, length, Bool, true, false, refl, sym, ◌∙◌, ap, ap₂, subst, arith, append_assoc}
+use Rattle.std.proofs.Common.{nat_le, ◌||◌, ◌≡◌, ◌≢◌, ℕ, zero, suc, ◌+◌, ◌-◌, ◌*◌, ◌/◌, ◌%◌, ◌<◌, ◌≤◌, List, [], ◌∷◌, ◌++◌, length, Bool, true, false, refl, sym, ◌∙◌, ap, subst, arith, append_assoc}
 use Rattle.std.specs.List.{list_any}
 use Rattle.std.proofs.lemmas.Bool.{le-leb, lt-leb, lt-ltb, ne_eqb, or_left}
 use Rattle.std.proofs.lemmas.List.{length-append, append-nil}
@@ -13,7 +13,7 @@ use Rattle.bp_layout.specs.Reached.IsReached.{inode_file}
 use Rattle.bp_layout.specs.WellFormed.{IsWellFormed}
 use Rattle.bp_layout.specs.Nodes.{TreeNode, is_present}
 use Rattle.bp_layout.specs.WordPaths.{WordPath, digits, inode_path, tree_path}
-use Rattle.bp_layout.specs.Need.{Change, height_after, touched, number_of, pointed, same_node, preparation, is_there, is_there_after, existing_from, common_all, cover_of, cover, prefixes_of, copies_of, copied, content_path}
+use Rattle.bp_layout.specs.Need.{Change, height_after, touched, number_of, pointed, same_node, preparation, is_there, is_there_after, existing_from, cover_of, cover, prefixes_of, copies_of, copied, content_path}
 use Rattle.bp_layout.proofs.Addresses.{IsUnderNodes, present_above}
 use Rattle.bp_layout.proofs.Reached.{reached-in_file}
 use Rattle.bp_layout.proofs.TreeLaws.{first_index, live_above, live_pointer_word, live_content}

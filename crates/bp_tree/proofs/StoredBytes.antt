@@ -1,11 +1,11 @@
 -- The bytes of words and of leaves, in the order of their places.
-use Rattle.std.proofs.Common.{◌≡◌, ◌≢◌, ℕ, ◌+◌, ◌*◌, ◌/◌, ◌%◌, ◌≤◌, replicate, refl, sym, ◌∙◌, ap, ap₂, arith}
+use Rattle.std.proofs.Common.{◌≡◌, ◌≢◌, ℕ, ◌+◌, ◌*◌, ◌/◌, ◌%◌, ◌<◌, ◌≤◌, replicate, refl, sym, ◌∙◌, ap, ap₂, arith}
 use Rattle.std.specs.Int.{w64, to_le_bytes}
 use Rattle.std.specs.List.{between}
 use Rattle.std.proofs.lemmas.List.{get_or-replicate, length-replicate}
 use Rattle.std.proofs.lemmas.List.Edits.{length-between, get_or-between}
 use Rattle.bp_layout.specs.Words.{Image, word, height_of, slot_word, byte_of}
-use Rattle.bp_layout.specs.Tree.{node, byte}
+use Rattle.bp_layout.specs.Tree.{node, byte, content_word}
 use Rattle.bp_layout.proofs.TreeLaws.{word_at-suc, slot_word-at}
 use Rattle.bp_layout.proofs.WordBytes.{to_le-byte}
 use Rattle.bp_tree.specs.Bytes.{stored_byte, stored_bytes, content_part}
@@ -64,3 +64,24 @@ leaf_part image root offset n leaf present is within =
     ap₂ (λ p c. byte_of (word image p) c) place column
     ∙ ap (λ w. byte_of w ((offset + i) % 8)) (sym (slot_word-at image leaf ((offset + i) / 8 % 512) present))
     ∙ sym (in_leaf image root (offset + i) leaf (is ∙ ap (node image root (height_of root)) (sym same))))
+
+-- the bytes of words that stand in a row
+pub run_part : (image words : Image) (first count n : ℕ) → words ≡ between first (first + count) image → n ≤ 8 * count →
+    stored_bytes words 0 n ≡ stored_bytes image (8 * first) n
+run_part image words first count n is within =
+    same_values (stored_byte words) (stored_byte image) 0 (8 * first) n
+    (λ i low.
+    let here : (8 * first + i) / 8 ≡ first + (0 + i) / 8 = omega arith in
+    let column : (8 * first + i) % 8 ≡ (0 + i) % 8 = omega arith in
+    ap (λ ws. byte_of (word ws ((0 + i) / 8)) ((0 + i) % 8)) is
+    ∙ ap (λ w. byte_of w ((0 + i) % 8)) (get_or-between image first (first + count) ((0 + i) / 8) 0 (omega (arith, low, within)))
+    ∙ ap₂ (λ p k. byte_of (word image p) k) (sym here) (sym column))
+
+-- a content word, by the leaf that it stands in
+pub leaf_word : (image : Image) (root leaf block i : ℕ) → i < 512 → block ≡ node image root (height_of root) leaf →
+    slot_word image block i ≡ content_word image root (512 * leaf + i)
+leaf_word image root leaf block i low is =
+    let row : (512 * leaf + i) / 512 ≡ leaf = omega (arith, low) in
+    let column : (512 * leaf + i) % 512 ≡ i = omega (arith, low) in
+    ap (λ b. slot_word image b i) is
+    ∙ sym (word_at-suc image root (height_of root) (512 * leaf + i) ∙ ap₂ (λ l s. slot_word image (node image root (height_of root) l) s) row column)

@@ -20,5 +20,5 @@ pub use counts::count_live;
 pub use likeness::SameTree;
 pub use nulls::first_null;
 pub use paths::{Slots, address, word_path};
-pub use reading::read;
+pub use reading::{leaf_words, read, unpack};
 pub use tree::{Tree, content_place, content_word, leaf_block, load_slot, node};

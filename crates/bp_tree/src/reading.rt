@@ -1,7 +1,7 @@
 //! Reading bytes: a walk for each leaf, and then word by word.
 
-ghost use Rattle.std.specs.Prelude.{◌≡◌, ℕ, ◌+◌, ◌-◌, ◌*◌, ◌/◌, ◌%◌, ◌<◌, ◌≤◌, length, take, drop, min};
-ghost use Rattle.bp_layout.specs.Tree.{IsSound};
+ghost use Rattle.std.specs.Prelude.{◌≡◌, ℕ, ◌+◌, ◌-◌, ◌*◌, ◌/◌, ◌%◌, ◌<◌, ◌≤◌, IfNone, IfSome, length, slice_index, take, drop, min};
+ghost use Rattle.bp_layout.specs.Tree.{IsSound, content_word};
 ghost use Rattle.bp_limits.specs.Limits.{block_size};
 ghost use Rattle.pm_region.specs.Memory.{current_words};
 ghost use Rattle.bp_tree.specs.Bytes.{stored_bytes, content_part};
@@ -68,15 +68,22 @@ fn read_words<R: Region>(region: &R, word: u32, into: &mut [u8])
     ensures { into.new ≡ stored_bytes (current_words (R.memory region.now)) (8 * word) (length into.old) }
 {
     let _words = region.words();
+    unpack(region.load_words(word, into.len().div_ceil(8) as u32), into);
+}
+
+/// The bytes of words, the lowest of each first, as many as `into` has room for.
+pub fn unpack(words: &[u64], into: &mut [u8])
+    requires { length into.old ≤ 8 * length words.now }
+    ensures { into.new ≡ stored_bytes words.now 0 (length into.old) }
+{
     let end = into.len();
-    let count = (end / 8) as u32;
-    for i in 0..count {
-        let at = 8 * i as usize;
-        into[at..at + 8].copy_from_slice(&region.load(word + i).to_le_bytes());
+    for i in 0..end / 8 {
+        into[8 * i..8 * i + 8].copy_from_slice(&words[i].to_le_bytes());
     }
-    let done = 8 * count as usize;
+    let done = end - end % 8;
     if done < end {
-        read_part(region, word + count, 0, &mut into[done..end]);
+        let bytes = words[done / 8].to_le_bytes();
+        into[done..end].copy_from_slice(&bytes[..end - done]);
     }
 }
 
@@ -89,4 +96,23 @@ fn read_part<R: Region>(region: &R, word: u32, first: usize, into: &mut [u8])
     let _words = region.words();
     let bytes = region.load(word).to_le_bytes();
     into.copy_from_slice(&bytes[first..first + into.len()]);
+}
+
+/// The content words `512 * leaf` to `512 * leaf + 511` where they stand, None where the leaf is null, so that all are 0.
+pub fn leaf_words<R: Region>(region: &R, tree: Tree, leaf: u64) -> Option<&[u64]>
+    requires sound { IsSound (current_words (R.memory region.now)) tree.root tree.size }
+    requires live { block_size * leaf < tree.size }
+    ensures len { IfSome result (λ words. length words.now ≡ 512) }
+    ensures words { IfSome result (λ words. (i : ℕ) → i < 512 →
+        slice_index words.now i ≡ content_word (current_words (R.memory region.now)) tree.root (512 * leaf + i)) }
+    ensures none { IfNone result ((i : ℕ) → i < 512 →
+        content_word (current_words (R.memory region.now)) tree.root (512 * leaf + i) ≡ 0) }
+{
+    let _words = region.words();
+    let block = leaf_block(region, tree, leaf);
+    if block == 0 {
+        None
+    } else {
+        Some(region.load_words((512 * block) as u32, 512))
+    }
 }

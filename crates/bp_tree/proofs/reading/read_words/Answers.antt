@@ -1,42 +1,21 @@
-use Rattle.std.proofs.Common.{ℕ, ◌∙◌, ◌*◌, ◌/◌, ◌+◌, ◌-◌, ◌≤◌, ◌≡◌, length, sym, ap, arith}
+use Rattle.std.proofs.Common.{◌+◌, ◌∙◌, length, arith}
+use Rattle.std.proofs.lemmas.List.Edits.{length-between}
 use Rattle.pm_region.specs.Memory.{current_words}
-use Rattle.bp_tree.specs.Bytes.{stored_byte, stored_bytes}
-use Rattle.bp_tree.proofs.Ranges.{grown, filled, counted}
 use Rattle.bp_tree.proofs.RegionWords.{length_now}
-use Rattle.bp_tree.proofs.StoredBytes.{whole_word}
+use Rattle.bp_tree.proofs.StoredBytes.{run_part}
 use Rattle.bp_tree.proofs.reading.read_words.Goals as goal
 
-pub load-requires : goal.load-requires
-load-requires g c = omega (arith, length_now (g.R.Region.memory c.args.region.now))
+pub overflow_cast-div_ceil : goal.overflow_cast-div_ceil
+overflow_cast-div_ceil g c = omega (arith, length_now (g.R.Region.memory c.args.region.now), c.requires, c.words-words.ensures, c.words-words.type_inv, c.div_ceil.ensures)
 
-pub loop-i-preserved : goal.loop-i-preserved
-loop-i-preserved g c =
+pub load_words-requires : goal.load_words-requires
+load_words-requires g c = omega (arith, length_now (g.R.Region.memory c.args.region.now), c.requires, c.div_ceil.ensures)
+
+pub unpack-requires : goal.unpack-requires
+unpack-requires g c =
     let image = current_words (g.R.Region.memory c.args.region.now) in
-    let i = c.loop-i.i in
-    let next : 8 * (c.loop-i.i + 1) ≡ 8 * c.loop-i.i + 8 = omega arith in
-    let eight : 8 * c.loop-i.i + 8 - 8 * c.loop-i.i ≡ 8 = omega arith in
-    let within : 8 * c.loop-i.i + 8 ≤ length c.args.into.now = omega arith in
-    record {
-      within = omega arith;
-      bytes = rw next (grown (stored_byte image) (8 * c.args.word) (8 * (c.args.word + i)) (8 * i) (8 * i + 8) c.loop-i.into c.copy_from_slice.new.self
-          (omega arith) (omega arith) c.loop-i.invariant.bytes (omega arith)
-          (c.copy_from_slice.ensures.after ∙ c.to_le_bytes.ensures ∙ whole_word image (c.args.word + i) c.load.result c.load.ensures ∙ ap (stored_bytes image (8 * (c.args.word + i))) (sym eight)));
-    }
+    rw c.load_words.ensures (omega (arith, c.requires, c.div_ceil.ensures, length-between image c.args.word (c.args.word + c.div_ceil.result) (omega (arith, c.requires, c.div_ceil.ensures))))
 
-pub returns-then-done-end : goal.returns-then-done-end
-returns-then-done-end g c =
-    let image = current_words (g.R.Region.memory c.args.region.now) in
-    let count : ℕ = length c.args.into.now / 8 in
-    let is : c.loop-i.i ≡ length c.args.into.now / 8 = omega (arith, c.loop-i-test.false, c.loop-i.auto) in
-    let len : length c.read_part.new.into ≡ length c.args.into.now - 8 * (length c.args.into.now / 8) = omega arith in
-    filled (stored_byte image) (8 * c.args.word) (8 * (c.args.word + count)) (8 * count) (length c.args.into.now) c.loop-i.into c.read_part.new.into
-    (omega arith) (omega arith) (rw is at c.loop-i.invariant.bytes) (omega arith) (counted (stored_byte image) _ _ _ _ _ c.read_part.ensures len (λ some. omega arith))
-
-pub overflow_cast-count : goal.overflow_cast-count
-overflow_cast-count g c = omega (arith, length_now (g.R.Region.memory c.args.region.now), c.requires, c.words-words.ensures, c.words-words.type_inv)
-
-pub overflow_add-word : goal.overflow_add-word
-overflow_add-word g c = omega (arith, length_now (g.R.Region.memory c.args.region.now), c.requires, c.words-words.ensures, c.words-words.type_inv, c.loop-i-test.true)
-
-pub overflow_add-word-then-done-end : goal.overflow_add-word-then-done-end
-overflow_add-word-then-done-end g c = omega (arith, length_now (g.R.Region.memory c.args.region.now), c.requires, c.words-words.ensures, c.words-words.type_inv)
+pub returns : goal.returns
+returns g c =
+    c.unpack.ensures ∙ run_part (current_words (g.R.Region.memory c.args.region.now)) c.load_words.result.now c.args.word c.div_ceil.result (length c.args.into.now) c.load_words.ensures (omega (arith, c.div_ceil.ensures))

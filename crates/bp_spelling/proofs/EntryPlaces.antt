@@ -15,7 +15,7 @@ pub leaf_of_slot : (slot : ℕ) → (32 * slot + 0) / 512 ≡ slot / 16
 leaf_of_slot slot = omega arith
 
 module _ (image : Image) (root size slot : ℕ) (full : IsFull image root size) (live : slot < size / 256) where
-  place-is : entry_place_in image root slot ≡ 512 * node image root (height_of root) (slot / 16) + 32 * (slot % 16)
+  pub place-is : entry_place_in image root slot ≡ 512 * node image root (height_of root) (slot / 16) + 32 * (slot % 16)
   place-is =
       let at : (32 * slot + 0) % 512 ≡ 32 * (slot % 16) = omega arith in
       ap₂ (λ l s. 512 * node image root (height_of root) l + s) (leaf_of_slot slot) at

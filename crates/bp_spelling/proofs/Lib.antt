@@ -9,3 +9,4 @@ pub mod NameOrder
 pub mod PastEnd
 pub mod SlotSteps
 pub mod UsedPlaces
+pub mod TableLaws

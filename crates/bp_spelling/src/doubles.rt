@@ -45,7 +45,7 @@ fn compare_names<R: Region>(region: &R, a: u32, b: u32) -> Ordering
 }
 
 /// Compares two entries by the hashes of their names, and by the names alone where these are the same.
-fn compare_entries<R: Region>(region: &R, a: Spelled, b: Spelled) -> Ordering
+pub(crate) fn compare_entries<R: Region>(region: &R, a: Spelled, b: Spelled) -> Ordering
     ensures { result ≡ spelled_cmp (current_words (R.memory region.now)) a b }
 {
     match a.hash.cmp(&b.hash) {

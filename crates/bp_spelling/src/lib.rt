@@ -9,9 +9,12 @@ mod form;
 mod gathering;
 mod hashing;
 mod name_words;
+mod places;
+mod table;
 #[cfg(test)]
 mod tests;
 
 pub use checking::check_names;
 pub use entry::Spelled;
 pub use fault::NameFault;
+pub use places::next_place;

@@ -40,7 +40,19 @@ fn sample(alloc: Global, first: Start, second: Start) -> Result<ListRegion, Allo
     Ok(region)
 }
 
+// by a table
 fn checked(
+    alloc: Global,
+    first: Start,
+    second: Start,
+) -> Result<Result<(), NameFault>, AllocError> {
+    let region = sample(alloc, first, second)?;
+    let mut entries = [Spelled::default(); 160];
+    Ok(check_names(&region, TREE, &mut entries))
+}
+
+// where there is no memory for a table
+fn checked_by_order(
     alloc: Global,
     first: Start,
     second: Start,
@@ -64,6 +76,11 @@ fn names_that_differ(rt: HostRuntime) -> Result<(), Fail> {
             Ok(()),
             "{first:?} {second:?}"
         );
+        assert_eq!(rt;
+            checked_by_order(rt.alloc(), first, second)?,
+            Ok(()),
+            "{first:?} {second:?}"
+        );
     }
     Ok(())
 }
@@ -72,6 +89,8 @@ fn names_that_differ(rt: HostRuntime) -> Result<(), Fail> {
 #[test]
 fn names_that_are_equal(rt: HostRuntime) -> Result<(), Fail> {
     let answer = checked(rt.alloc(), (2, 0x1234_6261), (2, 0xff00_6261))?;
+    assert!(rt; matches!(answer, Err(NameFault::Twice { place: 1568 })));
+    let answer = checked_by_order(rt.alloc(), (2, 0x1234_6261), (2, 0xff00_6261))?;
     assert!(rt; matches!(answer, Err(NameFault::Twice { place: 1536 | 1568 })));
     Ok(())
 }

@@ -7,7 +7,7 @@ use Rattle.bp_spelling.specs.declared.fault.NameFault.TheVariants.{Form}
 use Rattle.bp_spelling.specs.declared.entry.Spelled.{Spelled}
 use Rattle.bp_spelling.specs.Hashes.{places_of}
 use Rattle.bp_spelling.proofs.Deciding.{no_doubles, doubles}
-use Rattle.bp_spelling.proofs.checking.check_names.Goals as goal
+use Rattle.bp_spelling.proofs.checking.check_by_order.Goals as goal
 
 pub returns-in-Some-clause-err : goal.returns-in-Some-clause-err
 returns-in-Some-clause-err g c =

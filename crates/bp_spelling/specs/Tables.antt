@@ -1,0 +1,43 @@
+-- Tables of names: cells, each empty or with an entry. A name stands in the first empty cell from the one of its hash on.
+use Rattle.std.specs.Prelude.{◌≡◌, ◌≢◌, ◌⊎◌, ℕ, ◌-◌, ◌%◌, ◌<◌, ◌≤◌, List, length, slice_index_or}
+use Rattle.bp_layout.specs.Words.{Image}
+use Rattle.bp_spelling.specs.Hashes.{spelled_key}
+use Rattle.bp_spelling.specs.Names.{AreWrong}
+use Rattle.bp_spelling.specs.declared.entry.Spelled.{Spelled}
+use Rattle.bp_spelling.specs.declared.fault.NameFault.{NameFault}
+use Rattle.bp_spelling.specs.declared.table.Clash.{Clash}
+use Rattle.bp_spelling.specs.declared.table.Clash.TheVariants.{Double, Full}
+use Rattle.bp_spelling.specs.declared.table.Stop.{Stop}
+use Rattle.bp_spelling.specs.declared.table.Stop.TheVariants.{Wrong, Crowded}
+
+-- the first cell that may hold a hash, of so many cells
+abbrev pub home : ℕ → ℕ → ℕ
+home cells hash = hash % (cells - 128)
+
+-- what a cell holds: place 0 where it is empty
+abbrev pub cell_at : List Spelled → ℕ → Spelled
+cell_at table cell = slice_index_or table cell (record { hash = 0; place = 0 })
+
+-- the entry stands in a cell that may hold it, and no cell before that is empty
+pub record IsKept (table : List Spelled) (entry : Spelled) : Type 0 where
+  pub cell : ℕ
+  pub from : home (length table) entry.hash ≤ cell
+  pub there : cell_at table cell ≡ entry
+  pub taken : (before : ℕ) → home (length table) entry.hash ≤ before → before < cell → (cell_at table before).place ≢ 0
+
+-- an entry joins: no other one has its name, and each one that was kept still is
+pub record Puts (image : Image) (old new : List Spelled) (entry : Spelled) : Type 0 where
+  pub here : IsKept new entry
+  pub keeps : (other : Spelled) → other.place ≢ 0 → IsKept old other → IsKept new other
+  pub alone : (other : Spelled) → other.place ≢ 0 → IsKept old other → spelled_key image other ≡ spelled_key image entry → ⊥
+  pub cells : (cell : ℕ) → (cell_at new cell ≡ cell_at old cell) ⊎ (cell_at new cell ≡ entry)
+
+-- a cell has an entry with the same name, or nothing is known
+pub data IsClash (image : Image) (old : List Spelled) (entry : Spelled) : Clash → Type 0 where
+  double : (cell : ℕ) → (cell_at old cell).place ≢ 0 → spelled_key image (cell_at old cell) ≡ spelled_key image entry → IsClash image old entry Double
+  full : IsClash image old entry Full
+
+-- a name is wrong, or nothing is known
+pub data IsStop (image : Image) (root size : ℕ) : Stop → Type 0 where
+  wrong : (fault : NameFault) → AreWrong image root size fault → IsStop image root size (Wrong fault)
+  untold : IsStop image root size (Crowded)

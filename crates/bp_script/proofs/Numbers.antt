@@ -1,31 +1,43 @@
 -- The number that a word of digits stands for.
-use Rattle.std.proofs.Common.{◌≡◌, ℕ, ◌^◌, ◌<◌, ◌≤◌, List, length, Bool, true, false, Result, Ok, Err, nat_le, nat_lt, refl, arith, rules}
-use Rattle.std.proofs.lemmas.Str.Parse.{IsNumeralModel, numerals_by_value, parse_digits}
-use Rattle.std.proofs.lemmas.Str.{IsUtf8-from_ascii}
-use Rattle.std.proofs.lemmas.Fmt.{IsAscii-from_digits}
-use Rattle.std.specs.Str.{IsUtf8}
-use Rattle.std.specs.Char.{is_ascii_digit}
+use Rattle.std.proofs.Common.{◌≡◌, ℕ, ◌+◌, ◌-◌, ◌*◌, ◌^◌, ◌<◌, ◌≤◌, List, length, take, get_or, Bool, true, false, ◌==◌, ◌&&◌, None, Some, if◌then◌else◌, refl, sym, ◌∙◌, arith, inl, inr, true≢false}
+use Rattle.std.proofs.lemmas.Bool.{cases_eq, eq-eqb, eqb-true, le-leb, le-ltb, lt-ltb}
+use Rattle.std.proofs.lemmas.Int.Digits.{digits_value_more}
+use Rattle.std.proofs.lemmas.Str.Parse.{digits_value-take-le}
+use Rattle.std.specs.Char.{digit_value, is_ascii_digit}
 use Rattle.std.specs.List.{list_all}
-use Rattle.std.specs.Result.{result_ok, OkIff}
-use Rattle.std.specs.Str.Parse.{digits_value, ParsesUnsigned}
-use borrow.Author.Tests.{leb-true, ltb-true, ltb-false, leb-false, le-leb}
-use Rattle.bp_script.specs.Commands.{number_of}
+use Rattle.std.specs.Str.Parse.{digits_value}
+use Rattle.bp_script.specs.Commands.{is_numeral, number_of}
+use Rattle.bp_script.proofs.EachByte.{all_below, from_all_below}
 
-all_digits : IsNumeralModel (λ ds. list_all is_ascii_digit ds ≡ true) (digits_value 10)
-all_digits = numerals_by_value _ (search rules)
+agrees : ℕ → Bool
+agrees d = if is_ascii_digit d then digit_value d == d - 48 else true
 
-pub parsed_number : {E : Type 0} (word : List ℕ) (r : Result ℕ E) → ParsesUnsigned 64 10 word r → length word ≤ 20 → list_all is_ascii_digit word ≡ true → result_ok r ≡ number_of word
-parsed_number {E} word r parses short digits =
-    go (nat_le 1 (length word)) refl (nat_lt (digits_value 10 word) 18446744073709551616) refl r (parse_digits all_digits 64 word r parses digits)
+all_agree : all_below agrees 256 ≡ true
+unfolding all_below agrees
+all_agree = refl
+
+pub digit_is : (d : ℕ) → d < 256 → is_ascii_digit d ≡ true → digit_value d ≡ d - 48
+unfolding agrees
+digit_is d byte is = eqb-true (digit_value d) (d - 48) (rw is at (from_all_below agrees 256 d all_agree byte))
+
+pub not_empty : (n : ℕ) → (n == 0) ≡ false → 1 ≤ n
+not_empty n is =
+    elim (cases_eq n 0) [
+      | inl e ↦ absurd (true≢false (sym (eq-eqb n 0 e) ∙ is))
+      | inr some ↦ omega (arith, some)
+    ]
+
+pub number_is : (word : List ℕ) → 1 ≤ length word → length word ≤ 20 → list_all is_ascii_digit word ≡ true → digits_value 10 word < 2 ^ 64
+    → number_of word ≡ Some (digits_value 10 word)
+number_is word some short digits fits =
+    rw (le-leb 1 (length word) some, le-leb (length word) 20 short, digits, lt-ltb (digits_value 10 word) 18446744073709551616 fits) refl
+
+pub number_too_large : (word : List ℕ) (i : ℕ) → i < length word
+    → 2 ^ 64 ≤ digits_value 10 (take i word) * 10 + digit_value (get_or word i 0) → number_of word ≡ None
+number_too_large word i inside large =
+    let whole : 18446744073709551616 ≤ digits_value 10 word = omega (arith, large, digits_value_more 10 word i inside, digits_value-take-le 10 word (i + 1) (omega arith)) in
+    rw (le-ltb (digits_value 10 word) 18446744073709551616 whole) (go (is_numeral word))
   where
-    go : (some : Bool) → nat_le 1 (length word) ≡ some → (fits : Bool) → nat_lt (digits_value 10 word) 18446744073709551616 ≡ fits → (answer : Result ℕ E) →
-        OkIff answer ((0 < length word) × (digits_value 10 word < 2 ^ 64)) (digits_value 10 word) → result_ok answer ≡ number_of word
-    go true a true b (Ok x) o = rw (a, le-leb (length word) 20 short, digits, b, o.1) refl
-    go true a true b (Err e) o = absurd (o (leb-true 1 (length word) a, ltb-true (digits_value 10 word) 18446744073709551616 b))
-    go true a false b (Ok x) o = absurd (omega (arith, ltb-false (digits_value 10 word) 18446744073709551616 b, o.0.1))
-    go true a false b (Err e) o = rw (a, le-leb (length word) 20 short, digits, b) refl
-    go false a fits b (Ok x) o = absurd (omega (arith, leb-false 1 (length word) a, o.0.0))
-    go false a fits b (Err e) o = rw a refl
-
-pub digits_are_text : (word : List ℕ) → list_all is_ascii_digit word ≡ true → IsUtf8 word
-digits_are_text word digits = IsUtf8-from_ascii word (IsAscii-from_digits word (all_digits.to word digits))
+    go : (b : Bool) → (if b && false then Some (digits_value 10 word) else None) ≡ None
+    go true = refl
+    go false = refl

@@ -6,12 +6,11 @@ ghost use Rattle.bp_script.specs.Commands.Command.{bad_syntax, crash, file_call}
 ghost use Rattle.bp_script.specs.Commands.{bare_command, bytes_of, command_by_words, decoded, in_grammar, is_empty_word, long_command, mask_in, masked_crash, number_of, pair_command, part_bytes, path_bytes, path_command, read_command, storm_command, truncate_command, unslashed, whole_crash, word_command, words_of, write_command, written_command};
 ghost use Rattle.bp_script.specs.Lines.{AllFit, KeepsRoom, decoded_room, first_held, line_asks, second_held};
 ghost use Rattle.std.specs.Borrow.{sem};
-ghost use Rattle.std.specs.List.{list_all, list_any, slice_split};
+ghost use Rattle.std.specs.List.{list_any, slice_split};
 ghost use Rattle.std.specs.Option.{option_map_or};
 ghost use Rattle.hex.specs.Hex.{decode_of};
 ghost use Rattle.std.specs.Result.{is_ok, result_ok};
 ghost use Rattle.std.specs.Prelude.{◌/◌, ◌*◌, if◌then◌else◌, None, Ok, Some, IfNone, IfOk, IfSome, false, length, map, position, vec_capacity, vec_len, [], ◌∷◌, ◌+◌, ◌++◌, ◌==◌, ◌<◌, ◌≡◌, ◌≤◌};
-ghost use Rattle.std.specs.Char.{is_ascii_digit};
 
 use crate::digits::decode_digits;
 use arrayvec::ArrayVec;
@@ -499,20 +498,18 @@ fn digits_of(word: &[u8]) -> &[u8]
 fn number(word: &[u8]) -> Option<u64>
     ensures { result ≡ number_of word.now }
 {
-    if word.len() > MOST_DIGITS || !is_digits(word) {
+    if word.is_empty() || word.len() > MOST_DIGITS {
         return None;
     }
-    match str::from_utf8(word) {
-        Ok(text) => text.parse::<u64>().ok(),
-        Err(_) => None,
+    let mut value: u64 = 0;
+    for &byte in word {
+        if !byte.is_ascii_digit() {
+            return None;
+        }
+        let digit = (byte - b'0') as u64;
+        value = value.checked_mul(10)?.checked_add(digit)?;
     }
-}
-
-/// Whether all bytes of a word are decimal digits.
-fn is_digits(word: &[u8]) -> bool
-    ensures { result ≡ list_all is_ascii_digit word.now }
-{
-    word.iter().all(|b| b.is_ascii_digit())
+    Some(value)
 }
 
 /// The text before the first byte of this kind, and what stands after it.

@@ -1,57 +1,31 @@
 -- Hexadecimal digits: their values, and the bytes of their pairs.
-use Rattle.std.proofs.Common.{◌≡◌, ◌⊎◌, ℕ, ◌+◌, ◌*◌, ◌%◌, ◌<◌, ◌≤◌, List, ◌==◌, length, take, drop, slice_index, slice_set, Bool, true, if◌then◌else◌, nat_lt, Option, Some, None, Ok, Err, refl, sym, ap, arith, bit_or, inl, inr}
+use Rattle.std.proofs.Common.{◌≡◌, ◌⊎◌, ℕ, ◌+◌, ◌*◌, ◌%◌, ◌<◌, ◌≤◌, List, ◌==◌, length, take, drop, slice_index, slice_set, Bool, true, Option, Some, None, Ok, Err, refl, sym, ap, arith, inl, inr}
 use Rattle.std.specs.Option.{unwrap_or}
 use Rattle.std.specs.Result.{result_ok}
-use Rattle.std.proofs.lemmas.Bool.{cases_lt, eqb-true, lt-ltb, le-ltb}
+use Rattle.std.proofs.lemmas.Bool.{cases_lt, eqb-true}
 use Rattle.hex.specs.Hex.{decode_pairs, digit_or_error, hex_digit_value, pair_value, value_at}
 use Rattle.hex.specs.declared.error.FromHexError.{FromHexError}
 use Rattle.hex.specs.declared.error.FromHexError.TheVariants.{InvalidHexCharacter}
 use Rattle.hex.proofs.Pairs.{decode_err, decode_step, prepend}
+use Rattle.bp_script.specs.declared.digits.TheConstants.{DIGIT_VALUES}
 use Rattle.bp_script.proofs.EachByte.{all_below, from_all_below}
 
 -- the value of a digit, or 16
 abbrev pub value_or_none : ℕ → ℕ
 value_or_none digit = unwrap_or (hex_digit_value digit) 16
 
--- ---- the value as it is computed
-
--- how far a byte is above the digit 0, and above the letter a in lower case
-abbrev above_zero : ℕ → ℕ
-above_zero digit = (digit + 208) % 256
-
-abbrev above_a : ℕ → ℕ
-above_a digit = (bit_or digit 32 + 159) % 256
-
-abbrev computed : ℕ → ℕ
-computed digit =
-    if nat_lt (above_zero digit) 10 then above_zero digit
-    else if nat_lt (above_a digit) 6 then above_a digit + 10
-    else 16
+-- ---- the table of values
 
 agrees : ℕ → Bool
-agrees digit = computed digit == value_or_none digit
+agrees digit = slice_index DIGIT_VALUES digit == value_or_none digit
 
 all_agree : all_below agrees 256 ≡ true
 unfolding all_below agrees
 all_agree = refl
 
-computed_is : (digit : ℕ) → digit < 256 → computed digit ≡ value_or_none digit
+pub table_is : (digit : ℕ) → digit < 256 → slice_index DIGIT_VALUES digit ≡ value_or_none digit
 unfolding agrees
-computed_is digit byte = eqb-true (computed digit) (value_or_none digit) (from_all_below agrees 256 digit all_agree byte)
-
-pub letter_value : (digit : ℕ) → digit < 256 → 10 ≤ (digit + 208) % 256 → (bit_or digit 32 + 159) % 256 < 6
-    → (bit_or digit 32 + 159) % 256 + 10 ≡ value_or_none digit
-letter_value digit byte number letter =
-    let a = le-ltb (above_zero digit) 10 number in
-    let b = lt-ltb (above_a digit) 6 letter in
-    rw (a, b) at (computed_is digit byte)
-
-pub no_value : (digit : ℕ) → digit < 256 → 10 ≤ (digit + 208) % 256 → 6 ≤ (bit_or digit 32 + 159) % 256
-    → 16 ≡ value_or_none digit
-no_value digit byte number letter =
-    let a = le-ltb (above_zero digit) 10 number in
-    let b = le-ltb (above_a digit) 6 letter in
-    rw (a, b) at (computed_is digit byte)
+table_is digit byte = eqb-true (slice_index DIGIT_VALUES digit) (value_or_none digit) (from_all_below agrees 256 digit all_agree byte)
 
 -- ---- pairs of digits
 

@@ -1,9 +1,6 @@
 use Rattle.std.proofs.Common.{arith}
-use Rattle.bp_script.proofs.DigitPairs.{letter_value, no_value}
+use Rattle.bp_script.proofs.DigitPairs.{table_is}
 use Rattle.bp_script.proofs.digits.value_of.Goals as goal
 
-pub returns-then-letter-lt6 : goal.returns-then-letter-lt6
-returns-then-letter-lt6 c = letter_value c.args.digit (omega (arith, c.ranges.digit.fits)) c.if-number-lt10.false c.if-letter-lt6.true
-
-pub returns-else-letter-lt6 : goal.returns-else-letter-lt6
-returns-else-letter-lt6 c = no_value c.args.digit (omega (arith, c.ranges.digit.fits)) c.if-number-lt10.false c.if-letter-lt6.false
+pub returns : goal.returns
+returns c = table_is c.args.digit (omega (arith, c.ranges.digit.fits))

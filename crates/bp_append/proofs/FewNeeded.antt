@@ -1,16 +1,13 @@
 -- Few bytes need few blocks.
-use Rattle.std.proofs.Common.{◌≡◌, ◌⊎◌, ℕ, zero, suc, ◌+◌, ◌-◌, ◌*◌, ◌/◌, ◌<◌, ◌≤◌, length, Bool, true, false, not, ◌&&◌, ◌==◌, nat_lt, if◌then◌else◌, refl, sym, ◌∙◌, inl, inr, arith, le_trans}
+use Rattle.std.proofs.Common.{◌≡◌, ◌⊎◌, ℕ, zero, suc, ◌+◌, ◌-◌, ◌*◌, ◌/◌, ◌<◌, ◌≤◌, length, Bool, true, false, not, ◌&&◌, ◌==◌, nat_lt, if◌then◌else◌, inl, inr, arith}
 use Rattle.std.proofs.lemmas.Bool.{cases_lt}
-use Rattle.std.proofs.Math.Nat.{div-lt_iff_lt-mul, lt-div-mul-add, mul-le-mul_left, mul-le-mul_right}
-use Rattle.bp_limits.specs.Limits.{max_height, max_size}
+use Rattle.std.proofs.Math.Nat.{div-lt_iff_lt-mul, lt-div-mul-add}
+use Rattle.bp_limits.specs.Limits.{max_height}
 use Rattle.bp_layout.specs.Words.{Image, block_of, height_of}
 use Rattle.bp_layout.specs.Nodes.{height_with, nodes_for}
 use Rattle.bp_layout.specs.Tree.{span}
-use Rattle.bp_layout.specs.Inode.{root_of, size_of}
 use Rattle.bp_append.specs.Needs.{lack, raised_at, needs}
-use Rattle.bp_append.specs.Prepared.{need_for}
 use Rattle.bp_append.specs.Risen.{idle}
-use Rattle.bp_append.specs.Spine.{spine_at}
 use Rattle.bp_append.specs.Tally.{met}
 use Rattle.bp_append.proofs.NeedLaws.{need_is, tall_low}
 use Rattle.bp_append.proofs.TallyLaws.{met_none, met_some, span-leaf, span-positive, span-suc}

@@ -1,5 +1,5 @@
 -- Over a preparation of one tree each other tree keeps its blocks.
-use Rattle.std.proofs.Common.{◌≡◌, ◌≢◌, ℕ, zero, suc, ◌+◌, List, sym, ◌∙◌, ap, subst₂, arith}
+use Rattle.std.proofs.Common.{◌≡◌, ◌≢◌, ℕ, zero, suc, List, sym, ◌∙◌, ap, subst₂, arith}
 use Rattle.bp_layout.specs.Words.{Image, block_of, height_of}
 use Rattle.bp_layout.specs.Tree.{node, HasBlock, IsLivePointer}
 use Rattle.bp_layout.specs.Inode.{root_of, size_of}

@@ -32,6 +32,13 @@ events_of-take (suc n) [] values = refl
 events_of-take (suc n) (word ∷ words) [] = refl
 events_of-take (suc n) (word ∷ words) (value ∷ values) = ap (λ es. event_of word value ∷ es) (events_of-take n words values)
 
+pub events_of-drop : (n : ℕ) (words values : List ℕ) → length values ≡ length words → events_of (drop n words) (drop n values) ≡ drop n (events_of words values)
+events_of-drop zero words values same = refl
+events_of-drop (suc n) [] [] same = refl
+events_of-drop (suc n) [] (value ∷ values) same = absurd (omega arith)
+events_of-drop (suc n) (word ∷ words) [] same = absurd (omega arith)
+events_of-drop (suc n) (word ∷ words) (value ∷ values) same = events_of-drop n words values (omega arith)
+
 pub get_or-events_of : (words values : List ℕ) (i : ℕ) (none : Event) → length values ≡ length words → i < length words → get_or (events_of words values) i none ≡ event_of (get_or words i 0) (get_or values i 0)
 get_or-events_of [] values i none same low = absurd (omega arith)
 get_or-events_of (word ∷ words) [] i none same low = absurd (omega arith)

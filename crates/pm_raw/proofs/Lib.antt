@@ -1,3 +1,4 @@
 mod Blocks
 mod EntryLaws
 mod UndoLaws
+mod EpochLaws

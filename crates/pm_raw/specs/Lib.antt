@@ -4,5 +4,6 @@ pub mod Lends
 pub mod RawArray
 pub mod RawLends
 pub mod Entries
+pub mod Epochs
 pub mod Undo
 pub mod RawRegion

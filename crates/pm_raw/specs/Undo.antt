@@ -1,5 +1,5 @@
 -- What undoes a log: for each of its events the value that it replaced, 0 where it is no store.
-use Rattle.std.specs.Prelude.{ℕ, ◌==◌, Bool, false, List, [], ◌∷◌, slice_set}
+use Rattle.std.specs.Prelude.{ℕ, ◌==◌, Bool, false, List, [], ◌∷◌, slice_index, slice_set}
 use Rattle.pm_epochs.specs.declared.event.Event.{Event}
 use Rattle.pm_epochs.specs.declared.event.Event.TheVariants.{Store, Barrier, Mark}
 
@@ -16,3 +16,10 @@ undone words (event ∷ events) [] = words
 undone words (Store word value ∷ events) (old ∷ replaced) = slice_set (undone words events replaced) word old
 undone words (Barrier ∷ events) (old ∷ replaced) = undone words events replaced
 undone words (Mark ∷ events) (old ∷ replaced) = undone words events replaced
+
+-- the values that a log replaces, from the words before it, 0 where an event is no store
+abbrev pub saved_of : List ℕ → List Event → List ℕ
+saved_of words [] = []
+saved_of words (Store word value ∷ events) = slice_index words word ∷ saved_of (slice_set words word value) events
+saved_of words (Barrier ∷ events) = 0 ∷ saved_of words events
+saved_of words (Mark ∷ events) = 0 ∷ saved_of words events

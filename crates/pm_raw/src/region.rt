@@ -4,9 +4,9 @@ ghost use Rattle.pm_region.specs.Memory.{with_values};
 ghost use Rattle.pm_raw.specs.Entries.{events_of, signal_of};
 
 use super::array::RawArray;
-use super::crash::{apply_kept, kept_calls};
+use super::crash::{apply_first, kept_calls, start_of};
 use super::log::{BARRIER, Log, MARK, NO_WORD};
-use super::undo::{undo, word_before};
+use super::undo::{undo_from, word_before};
 use pm_epochs::{BadChoice, Choice, Event, Kept};
 use pm_region::Region;
 use std::alloc::{AllocError, Global};
@@ -214,13 +214,13 @@ impl Region for RawRegion {
 
     fn crash_to(&mut self, choice: &Choice) -> Result<Kept, BadChoice> {
         let log = log_of(&self.words, &self.values, self.count);
-        let kept = kept_calls(&log, choice)?;
+        let start = start_of(&log, choice)?;
+        let kept = kept_calls(&log, start, choice);
         let replaced = &self.replaced.as_slice()[..self.count];
-        undo(self.current.as_mut_slice(), &log, replaced);
-        apply_kept(
+        undo_from(self.current.as_mut_slice(), &log, replaced, start);
+        apply_first(
             self.current.as_mut_slice(),
-            &log.front(choice.moment()),
-            choice.epoch(),
+            &log.front(choice.moment()).behind(start),
             choice.mask(),
         );
         self.count = 0;

@@ -1,4 +1,4 @@
-ghost use Rattle.std.specs.Prelude.{◌≡◌, ◌<◌, [], ◌∷◌, length, slice_index};
+ghost use Rattle.std.specs.Prelude.{◌≡◌, ◌<◌, ◌≤◌, [], ◌∷◌, drop, length, slice_index};
 ghost use Rattle.pm_raw.specs.Undo.{is_store_to, undone};
 
 use super::log::Log;
@@ -23,13 +23,22 @@ fn undo_event(words: &mut [u64], event: Event, replaced: u64)
 }
 
 /// Undoes a log whose events replaced these values, the last one first.
-pub fn undo(words: &mut [u64], log: &Log<'_>, replaced: &[u64])
+fn undo(words: &mut [u64], log: &Log<'_>, replaced: &[u64])
     requires { length replaced.now ≡ length log.now }
     ensures { words.new ≡ undone words.old log.now replaced.now }
 {
     for i in (0..log.len()).rev() {
         undo_event(words, log.event(i), replaced[i]);
     }
+}
+
+/// Undoes a log from its event with the number `start` on. Its events replaced these values.
+pub fn undo_from(words: &mut [u64], log: &Log<'_>, replaced: &[u64], start: usize)
+    requires each { length replaced.now ≡ length log.now }
+    requires fits { start ≤ length log.now }
+    ensures { words.new ≡ undone words.old (drop start log.now) (drop start replaced.now) }
+{
+    undo(words, &log.behind(start), &replaced[start..]);
 }
 
 /// Whether an event is a store to this word.

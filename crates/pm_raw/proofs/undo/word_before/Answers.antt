@@ -1,6 +1,6 @@
 use Rattle.std.proofs.Common.{◌<◌, ◌∙◌, ap, arith, length, sym}
 use Rattle.std.proofs.lemmas.List.{drop_all}
-use Rattle.pm_raw.specs.Undo.{is_store_to, undone}
+use Rattle.pm_raw.specs.Undo.{is_store_to}
 use Rattle.pm_raw.proofs.UndoLaws.{word_before-found, word_before-other}
 use Rattle.pm_raw.proofs.undo.word_before.Goals as goal
 

@@ -1,4 +1,4 @@
-use Rattle.std.proofs.Common.{◌≡◌, ◌<◌, ◌∙◌, ap, arith, get_or, length, sym}
+use Rattle.std.proofs.Common.{◌<◌, ◌∙◌, ap, arith, get_or, length, sym}
 use Rattle.pm_raw.proofs.EntryLaws.{slice_get_read, get_or-events_of, length_events}
 use Rattle.pm_raw.proofs.log.Log.event.Goals as goal
 

@@ -1,10 +1,10 @@
-use Rattle.std.proofs.Common.{◌≡◌, ◌+◌, ◌<◌, ◌∙◌, [], ◌∷◌, ap, arith, length, set, sym, take, ◌-◌}
+use Rattle.std.proofs.Common.{◌≡◌, ◌+◌, ◌<◌, ◌∙◌, [], ◌∷◌, ap, arith, length, sym, take}
 use Rattle.std.proofs.lemmas.List.{length-set, length-take-le, take_more_set}
 use Rattle.pm_region.specs.Memory.{Memory}
 use Rattle.pm_raw.specs.Entries.{no_word, events_of, signal_of}
 use Rattle.pm_raw.specs.Undo.{undone}
 use Rattle.pm_raw.proofs.EntryLaws.{length_events, log-pushed}
-use Rattle.pm_raw.proofs.UndoLaws.{length-undone, undone-signal, after-signal, base-pushed, current-pushed, memory-pushed}
+use Rattle.pm_raw.proofs.UndoLaws.{length-undone, saved-signal, after-signal, base-pushed, current-pushed, saved-pushed, memory-pushed}
 use Rattle.pm_raw.proofs.region.RawRegion.push_signal.Goals as goal
 
 pub set-requires : goal.set-requires
@@ -96,12 +96,13 @@ invariant_of-self c =
     (ap (take (region.count + 1)) c.set.ensures ∙ take_more_set region.words region.count no_word room)
     (ap (take (region.count + 1)) c.set-2.ensures ∙ take_more_set region.values region.count c.args.value (omega (arith, room, step.values_sized))) in
     let replaced_is = ap (take (region.count + 1)) c.set-3.ensures ∙ take_more_set region.replaced region.count 0 (omega (arith, room, step.replaced_sized)) in
-    let undoes = undone-signal region.current c.args.value in
+    let undoes = saved-signal region.current c.args.value in
     let words_size = ap length c.set.ensures ∙ length-set region.words region.count no_word in
     let values_size = ap length c.set-2.ensures ∙ length-set region.values region.count c.args.value in
     let replaced_size = ap length c.set-3.ensures ∙ length-set region.replaced region.count 0 in
     record {
       current = current-pushed region.current region.current log _ (event ∷ []) replaced _ (0 ∷ []) each undoes next_is log_is replaced_is step.current;
+      saved = saved-pushed region.current region.current log _ (event ∷ []) replaced _ (0 ∷ []) each undoes next_is log_is replaced_is step.current step.saved;
       few = step.few;
       values_sized = omega (arith, values_size, words_size, step.values_sized);
       replaced_sized = omega (arith, replaced_size, words_size, step.replaced_sized);
@@ -135,7 +136,7 @@ returns c =
     (ap (take (region.count + 1)) c.set.ensures ∙ take_more_set region.words region.count no_word room)
     (ap (take (region.count + 1)) c.set-2.ensures ∙ take_more_set region.values region.count c.args.value (omega (arith, room, step.values_sized))) in
     let replaced_is = ap (take (region.count + 1)) c.set-3.ensures ∙ take_more_set region.replaced region.count 0 (omega (arith, room, step.replaced_sized)) in
-    let undoes = undone-signal region.current c.args.value in
+    let undoes = saved-signal region.current c.args.value in
     let words_size = ap length c.set.ensures ∙ length-set region.words region.count no_word in
     let values_size = ap length c.set-2.ensures ∙ length-set region.values region.count c.args.value in
     let replaced_size = ap length c.set-3.ensures ∙ length-set region.replaced region.count 0 in

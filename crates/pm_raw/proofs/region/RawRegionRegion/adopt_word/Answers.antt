@@ -1,8 +1,9 @@
-use Rattle.std.proofs.Common.{◌∙◌, ap, arith, length, set, take, ◌-◌}
+use Rattle.std.proofs.Common.{◌∙◌, ap, arith, length, set, take}
 use Rattle.std.proofs.lemmas.List.{length-set}
-use Rattle.pm_region.specs.Memory.{Memory, drained}
+use Rattle.pm_region.specs.Memory.{Memory}
 use Rattle.pm_raw.specs.Entries.{events_of}
-use Rattle.pm_raw.proofs.UndoLaws.{length-undone, current-adopted, memory-adopted}
+use Rattle.pm_raw.proofs.UndoLaws.{length-undone, current-adopted, saved-adopted, memory-adopted}
+use Rattle.pm_raw.specs.Undo.{undone}
 use Rattle.pm_raw.proofs.region.RawRegionRegion.adopt_word.Goals as goal
 
 pub set-requires : goal.set-requires
@@ -26,6 +27,7 @@ invariant_of-self c =
     let none = ap (λ (m : Memory). m.events) c.self.view_is ∙ c.requires.drained in
     record {
       current = current-adopted _ log replaced none;
+      saved = saved-adopted (undone region.current log replaced) _ log replaced none step.saved;
       few = omega (arith, ap length c.set.ensures, length-set region.current c.args.word c.args.value, step.few);
       values_sized = step.values_sized;
       replaced_sized = step.replaced_sized;

@@ -1,8 +1,9 @@
-use Rattle.std.proofs.Common.{◌+◌, ◌≤◌, ◌∙◌, ap, arith, length, take, ◌-◌}
-use Rattle.pm_region.specs.Memory.{Memory, with_values, drained}
+use Rattle.std.proofs.Common.{◌+◌, ◌≤◌, ◌∙◌, ap, arith, length, take}
+use Rattle.pm_region.specs.Memory.{Memory, with_values}
 use Rattle.pm_region.proofs.MemoryLaws.{length-with_values}
 use Rattle.pm_raw.specs.Entries.{events_of}
-use Rattle.pm_raw.proofs.UndoLaws.{length-undone, current-adopted, memory-adopted}
+use Rattle.pm_raw.proofs.UndoLaws.{length-undone, current-adopted, saved-adopted, memory-adopted}
+use Rattle.pm_raw.specs.Undo.{undone}
 use Rattle.pm_raw.proofs.region.RawRegionRegion.adopt_words.Goals as goal
 
 pub overwrite-requires : goal.overwrite-requires
@@ -34,6 +35,7 @@ invariant_of-self c =
     let next_is = c.as_mut_slice.ensures.same_len c.overwrite.new.words size in
     record {
       current = current-adopted _ log replaced none;
+      saved = saved-adopted (undone region.current log replaced) _ log replaced none step.saved;
       few = omega (arith, ap length next_is, size, step.few);
       values_sized = step.values_sized;
       replaced_sized = step.replaced_sized;

@@ -1,4 +1,4 @@
-use Rattle.std.proofs.Common.{◌≡◌, ◌∙◌, ap, arith, get_or, length, sym, take, ◌-◌}
+use Rattle.std.proofs.Common.{◌≡◌, ◌∙◌, ap, arith, length, sym, take}
 use Rattle.std.proofs.lemmas.List.{length-take-le}
 use Rattle.pm_region.specs.Memory.{Memory}
 use Rattle.pm_raw.specs.Entries.{events_of}

@@ -1,4 +1,4 @@
-use Rattle.std.proofs.Common.{ap, arith, length, take, ◌-◌}
+use Rattle.std.proofs.Common.{ap, arith, length, take}
 use Rattle.pm_region.specs.Memory.{Memory}
 use Rattle.pm_raw.specs.Entries.{events_of}
 use Rattle.pm_raw.proofs.UndoLaws.{length-undone}

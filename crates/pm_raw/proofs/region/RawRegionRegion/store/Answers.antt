@@ -1,11 +1,11 @@
-use Rattle.std.proofs.Common.{◌≡◌, ◌+◌, ◌<◌, ◌∙◌, ◌++◌, [], ◌∷◌, ap, arith, get_or, length, set, sym, take, ◌-◌}
+use Rattle.std.proofs.Common.{◌≡◌, ◌+◌, ◌<◌, ◌∙◌, ◌++◌, [], ◌∷◌, ap, arith, get_or, length, sym, refl, take}
 use Rattle.std.proofs.lemmas.List.{length-set, length-take-le, take_more_set}
 use Rattle.pm_epochs.specs.declared.event.Event.TheVariants.{Store}
 use Rattle.pm_region.specs.Memory.{Memory}
 use Rattle.pm_raw.specs.Entries.{no_word, events_of}
 use Rattle.pm_raw.specs.Undo.{undone}
 use Rattle.pm_raw.proofs.EntryLaws.{event_of-store, length_events, log-pushed}
-use Rattle.pm_raw.proofs.UndoLaws.{length-undone, undone-store, base-pushed, current-pushed, memory-pushed}
+use Rattle.pm_raw.proofs.UndoLaws.{length-undone, base-pushed, current-pushed, saved-pushed, memory-pushed}
 use Rattle.pm_raw.proofs.region.RawRegionRegion.store.Goals as goal
 
 pub bounds-as_slice-word : goal.bounds-as_slice-word
@@ -150,12 +150,12 @@ invariant_of-self c =
     let replaced_is =
     ap (take (region.count + 1)) c.set-4.ensures ∙ take_more_set region.replaced region.count old (omega (arith, room, step.replaced_sized))
     ∙ ap (λ now. replaced ++ get_or now c.args.word 0 ∷ []) c.as_slice.ensures in
-    let undoes = undone-store region.current c.args.word c.args.value in
     let words_size = ap length c.set-2.ensures ∙ length-set region.words region.count c.args.word in
     let values_size = ap length c.set-3.ensures ∙ length-set region.values region.count c.args.value in
     let replaced_size = ap length c.set-4.ensures ∙ length-set region.replaced region.count old in
     record {
-      current = current-pushed region.current _ log _ more replaced _ (get_or region.current c.args.word 0 ∷ []) each undoes next_is log_is replaced_is step.current;
+      current = current-pushed region.current _ log _ more replaced _ (get_or region.current c.args.word 0 ∷ []) each refl next_is log_is replaced_is step.current;
+      saved = saved-pushed region.current _ log _ more replaced _ (get_or region.current c.args.word 0 ∷ []) each refl next_is log_is replaced_is step.current step.saved;
       few = omega (arith, ap length c.set.ensures, length-set region.current c.args.word c.args.value, step.few);
       values_sized = omega (arith, values_size, words_size, step.values_sized);
       replaced_sized = omega (arith, replaced_size, words_size, step.replaced_sized);
@@ -195,11 +195,10 @@ returns c =
     let replaced_is =
     ap (take (region.count + 1)) c.set-4.ensures ∙ take_more_set region.replaced region.count old (omega (arith, room, step.replaced_sized))
     ∙ ap (λ now. replaced ++ get_or now c.args.word 0 ∷ []) c.as_slice.ensures in
-    let undoes = undone-store region.current c.args.word c.args.value in
     let words_size = ap length c.set-2.ensures ∙ length-set region.words region.count c.args.word in
     let values_size = ap length c.set-3.ensures ∙ length-set region.values region.count c.args.value in
     let replaced_size = ap length c.set-4.ensures ∙ length-set region.replaced region.count old in
-    let base_same = base-pushed region.current _ log _ more replaced _ (get_or region.current c.args.word 0 ∷ []) each undoes next_is log_is replaced_is in
+    let base_same = base-pushed region.current _ log _ more replaced _ (get_or region.current c.args.word 0 ∷ []) each refl next_is log_is replaced_is in
     memory-pushed _ (undone region.current log replaced) _ log _ more (length region.words) _ region.drains c.self.view_is base_same log_is words_size
 
 pub overflow_add-self : goal.overflow_add-self

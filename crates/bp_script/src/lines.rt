@@ -317,7 +317,7 @@ fn decode_bytes(digits: &[u8], into: &mut Vec<u8>) -> Result<(), Syntax>
     ensures bytes { result_ok (decode_of digits.now) ≡ (if is_ok result then Some into.new.items else None) }
     ensures room { vec_capacity into.old ≤ vec_capacity into.new }
 {
-    into.clear();
+    // Not cleared before: what it held is written over, and only what it lacks has to be filled.
     match into.resize(digits.len() / 2, 0) {
         Ok(()) => {}
         Err(_) => unreachable!(),

@@ -2,20 +2,20 @@
 
 ghost use Rattle.std.specs.Prelude.{◌≡◌, ◌+◌, ◌*◌, ◌/◌, ◌<◌, ◌≤◌, length, OnOk, IfErr};
 ghost use Rattle.bp_layout.specs.Checks.{Fails};
+ghost use Rattle.bp_layout.specs.Directory.{inumber_in};
 ghost use Rattle.bp_layout.specs.Tree.{IsFull, IsSound};
 ghost use Rattle.bp_layout.specs.Words.{block_count};
 ghost use Rattle.bp_limits.specs.Limits.{entry_size};
 ghost use Rattle.bp_scan.specs.Reading.{IsOpen, IsReading, IsAtHand, IsInside, work};
 ghost use Rattle.bp_scan.specs.Misspelled.{FailsNames};
-ghost use Rattle.bp_spelling.specs.Names.{AreNames};
+ghost use Rattle.bp_spelling.specs.Names.{AreNames, entry_place_in};
 ghost use Rattle.pm_region.specs.Memory.{current_words};
 
 use crate::trees::enter;
-use bp_dirs::{entry_place, inumber};
 use bp_free::{Blocks, Inodes};
 use bp_inodes::{get, inode_file};
 use bp_limits::{ENTRY_SIZE, INODE_SIZE};
-use bp_spelling::{NameFault, Spelled, check_names};
+use bp_spelling::{NameFault, Spelled, check_names, next_place};
 use bp_tree::Tree;
 use bp_walk::CheckFault;
 use pm_region::Region;
@@ -29,31 +29,44 @@ pub(crate) struct Directory {
     pub tree: Tree,
 }
 
-/// Reads the entry in a slot, and enters the inode that it names.
+/// An entry of a directory: its slot, where it stands, and what it names.
+#[derive(Clone, Copy)]
+pub(crate) struct Slot {
+    /// The slot's number.
+    pub number: u64,
+    /// The word of the region at which the entry begins.
+    pub place: u32,
+    /// The number of the inode that it names, 0 where it is empty.
+    pub named: u64,
+}
+
+/// Reads an entry, and enters the inode that it names.
 fn read_entry<R: Region>(
     region: &R,
     directory: Directory,
-    slot: u64,
+    slot: Slot,
     blocks: &mut Blocks,
     inodes: &mut Inodes,
     todo: &mut Inodes,
 ) -> Result<(), CheckFault>
     requires ready { IsOpen (current_words (R.memory region.now)) }
-    requires inside { IsInside (current_words (R.memory region.now)) blocks.old inodes.old todo.old directory slot }
-    requires live { slot < directory.tree.size / entry_size }
+    requires inside { IsInside (current_words (R.memory region.now)) blocks.old inodes.old todo.old directory slot.number }
+    requires live { slot.number < directory.tree.size / entry_size }
+    requires place { slot.place ≡ entry_place_in (current_words (R.memory region.now)) directory.tree.root slot.number }
+    requires named { slot.named ≡ inumber_in (current_words (R.memory region.now)) directory.tree.root slot.number }
     ensures inside { let words = current_words (R.memory region.now) in
-        OnOk result (IsInside words blocks.new inodes.new todo.new directory (slot + 1)) }
+        OnOk result (IsInside words blocks.new inodes.new todo.new directory (slot.number + 1)) }
     ensures work { OnOk result (work inodes.new todo.new ≤ work inodes.old todo.old) }
     ensures fault { IfErr result (λ f. Fails (current_words (R.memory region.now)) f.check f.place) }
     ensures block_room { length blocks.new ≡ length blocks.old }
     ensures inode_room { length inodes.new ≡ length inodes.old }
     ensures todo_room { length todo.new ≡ length todo.old }
 {
-    let named = inumber(region, directory.tree, slot);
+    let named = slot.named;
     if named == 0 {
         return Ok(());
     }
-    let place = entry_place(region, directory.tree, slot, 0);
+    let place = slot.place;
     if named >= inode_file(region).size / INODE_SIZE {
         return Err(CheckFault { check: 7, place });
     }
@@ -83,7 +96,15 @@ fn read_entries<R: Region>(
     ensures inode_room { length inodes.new ≡ length inodes.old }
     ensures todo_room { length todo.new ≡ length todo.old }
 {
-    for slot in 0..directory.tree.size / ENTRY_SIZE {
+    let tree = directory.tree;
+    let mut place = 0;
+    for number in 0..tree.size / ENTRY_SIZE {
+        place = next_place(region, tree, number, place);
+        let slot = Slot {
+            number,
+            place,
+            named: region.load(place),
+        };
         if let Err(fault) = read_entry(region, directory, slot, blocks, inodes, todo) {
             return Err(fault);
         }

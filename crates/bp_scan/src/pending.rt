@@ -34,7 +34,7 @@ impl Pending {
     {
         Ok(Pending {
             todo: Inodes::new(alloc, inodes)?,
-            entries: vec![in alloc; Spelled::default(); inodes as usize / 4]?,
+            entries: vec![in alloc; Spelled::default(); inodes as usize / 2 + 256]?,
             inodes,
         })
     }

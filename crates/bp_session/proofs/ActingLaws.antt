@@ -21,9 +21,9 @@ use Rattle.bp_replay.specs.declared.cut.Cut.TheVariants.{All, Nothing, At}
 use Rattle.bp_replay.specs.Storm.{storm_cut}
 use Rattle.bp_script.specs.Commands.{Command, command_of, in_grammar, mask_in}
 use Rattle.bp_script.specs.Commands.Command.{file_call, sync, space, crash, storm, log, bad_syntax, too_long}
-use Rattle.bp_script.specs.Texts.LineReply.{answered, synced, space_of, kept_of, syntax, long}
+use Rattle.bp_script.specs.Texts.LineReply.{synced}
 use Rattle.bp_session.specs.Files.{Holds, HoldsBytes}
-use Rattle.bp_session.specs.Acting.{CrashesTo, Does, HasCrashed, HasRefused, reply_of, state, to_save}
+use Rattle.bp_session.specs.Acting.{CrashesTo, Does, HasCrashed, reply_of, state, to_save}
 use Rattle.bp_session.specs.Serving.{Acts, SyncFails}
 use Rattle.bp_session.specs.Session.{Crashes, Line, State}
 use Rattle.bp_session.specs.declared.outcome.Outcome.{Outcome}

@@ -7,4 +7,6 @@ pub mod BlockLaws
 pub mod TellingLaws
 pub mod ShortReads
 pub mod OutcomeLaws
+pub mod GatheringLaws
+pub mod AheadLaws
 pub mod Runs

@@ -1,17 +1,15 @@
 -- Outcomes of serving, from line to line and piece to piece.
-use Rattle.std.proofs.Common.{refl, sym, ◌∙◌, subst, arith, ◌≡◌, ◌≤◌, ℕ, List, [], ◌∷◌, ◌++◌, length, inl, inr, true}
+use Rattle.std.proofs.Common.{refl, sym, ◌∙◌, subst, arith, ◌≡◌, ◌≤◌, ℕ, List, [], ◌∷◌, ◌++◌, length, inl, inr}
 use Rattle.std.proofs.lemmas.List.{append_assoc, append-nil}
-use Rattle.std.specs.Prelude.{Option, Some, ◌⊎◌}
+use Rattle.std.specs.Prelude.{◌⊎◌}
 use Rattle.std.specs.Io.KnownBytes.{Consumes, IsAtEnd}
 use Rattle.bp_io.specs.Causes.{Rose}
-use Rattle.bp_io.specs.Files.{StaysAttached}
 use Rattle.bp_script.specs.Commands.{Command, command_of}
 use Rattle.bp_session.specs.Lines.{commands_from}
 use Rattle.bp_session.specs.Outside.{Faults, IsFirstFault, IsQuiet, counts}
-use Rattle.bp_session.specs.Pieces.{piece_size}
-use Rattle.bp_session.specs.Serving.{DoesAll, DoesCut, DoesPart, DoesStop, Input, Keeps, LineOutcome, Moment, OfLines, PieceOutcome, ServeOutcome}
+use Rattle.bp_session.specs.Serving.{DoesAll, DoesCut, DoesStop, Input, Keeps, LineOutcome, Moment, PieceOutcome, ServeOutcome}
 use Rattle.bp_session.proofs.SavingLaws.{stays_attached, still_attached}
-use Rattle.bp_session.proofs.ServingLaws.{commands_at_newline, commands_of_nothing, cuts_behind, cuts_in, not_long, serves_newline, serves_nothing, serves_quietly, serves_then, serves_to_end, stops_behind, stops_in, told_none}
+use Rattle.bp_session.proofs.ServingLaws.{commands_at_newline, commands_of_nothing, cuts_behind, cuts_in, not_long, serves_newline, serves_quietly, serves_then, serves_to_end, stops_behind, stops_in, told_none}
 
 -- ---- faults
 

@@ -14,10 +14,9 @@ use Rattle.bp_plain.specs.PlainTree.{FileTree}
 use Rattle.bp_layout.specs.Same.{Same}
 use Rattle.bp_plain.specs.Stands.{Stands}
 use Rattle.bp_plain.proofs.Uniqueness.{stands_once}
-use Rattle.bp_replay.specs.Wanted.{Wanted, cut_for}
+use Rattle.bp_replay.specs.Wanted.{cut_for}
 use Rattle.bp_replay.specs.Wanted.Wanted.{all, nothing, at}
 use Rattle.bp_replay.proofs.Ends.{kept_calls_all, right_all}
-use Rattle.bp_replay.specs.Storm.{storm_cut}
 use Rattle.bp_layout.specs.Words.{Image}
 use Rattle.bp_plain.specs.Calls.{Call, Answer}
 use Rattle.bp_volume.specs.Step.{Steps}
@@ -33,7 +32,7 @@ use Rattle.pm_epochs.proofs.CrashLaws.{crash_right_none}
 use Rattle.bp_plain.specs.Calls.{Refusal}
 use Rattle.std.specs.Prelude.{Option, Some, None, is_none, ◌&&◌, ◌⊎◌, nat_le, nat_lt, if◌then◌else◌}
 use Rattle.std.proofs.lemmas.Bool.{leb-true, leb-false}
-use Rattle.bp_session.specs.PlainSession.{PlainSession, PlainLine, Plain, PlainCall, latest, tree_at, tree_now, after_crash, with_call, fresh, Follows, FollowsTree, IsPlainly, PlainCrash, PlainCrashes}
+use Rattle.bp_session.specs.PlainSession.{PlainSession, PlainLine, Plain, PlainCall, latest, tree_at, tree_now, after_crash, with_call, fresh, Follows, FollowsTree, IsPlainly, PlainCrashes}
 use Rattle.bp_session.proofs.ServingLaws.{session_split}
 use Rattle.bp_session.specs.PlainSession.PlainCall.{plainly, no_room as finds_no_room, no_listing as finds_no_memory}
 

@@ -5,8 +5,11 @@ use Rattle.std.proofs.Math.Seq.{take-add}
 use Rattle.std.specs.Prelude.{Some, None}
 use Rattle.memchr.specs.Find.{IsFirst, IsFirstByte, Nowhere, Passes, is_byte}
 use Rattle.bp_session.specs.Lines.{commands_from}
-use Rattle.bp_session.specs.Serving.{Moment, PieceOutcome}
-use Rattle.bp_session.proofs.OutcomeLaws.{piece_quiet, piece_stops, piece_then}
+use Rattle.bp_script.specs.Commands.{command_of}
+use Rattle.bp_session.specs.Gathering.{LineGathers, Reaches}
+use Rattle.bp_session.specs.Serving.{Keeps, Moment, PieceOutcome}
+use Rattle.bp_session.proofs.AheadLaws.{Waits, line_ends, line_keeps, line_waits, reaches_then, waits_run}
+use Rattle.bp_session.proofs.OutcomeLaws.{piece_stops}
 use Rattle.bp_session.proofs.ServingLaws.{commands_at_run, commands_kept, take_more, take_next}
 
 module _ (xs : List ℕ) (from to : ℕ) where
@@ -56,22 +59,30 @@ module _ (xs : List ℕ) (from to : ℕ) where
             go true e = absurd (nowhere (from + k) (omega arith) (omega (arith, inner)) (ap (λ b. nat_eq b 10) (sym (at_part k inner)) ∙ e))
             go false e = e
 
--- ---- a piece, run by run
-
-module _ (xs held middle kept : List ℕ) (at end : ℕ) (a b : Moment) (order : at ≤ end) (one : PieceOutcome 0 held (take at xs) middle a b)
-    (same : (rest : List ℕ) → commands_from middle (take (end - at) (drop at xs) ++ rest) ≡ commands_from kept rest) where
-  pub run_served : PieceOutcome 0 held (take end xs) kept a b
-  run_served =
-      subst (λ (l : List ℕ). PieceOutcome 0 held l kept a b) (take_part xs at end order)
-      (piece_then 0 held (take at xs) middle (take (end - at) (drop at xs)) kept a b b one (piece_quiet b middle (take (end - at) (drop at xs)) kept same))
-
-  pub line_served : (status : ℕ) (keeps : List ℕ) (c : Moment) → end < length xs → get_or xs end 0 ≡ 10 → PieceOutcome status kept (10 ∷ []) keeps b c → PieceOutcome status held (take (end + 1) xs) keeps a c
-  line_served status keeps c low newline two =
-      subst (λ (l : List ℕ). PieceOutcome status held l keeps a c) (sym (take_next xs end 10 low (sym newline)))
-      (piece_then status held (take end xs) kept (10 ∷ []) keeps a b c run_served two)
-
 -- a line that a fault ends
 pub line_stops : (status : ℕ) (xs held keeps : List ℕ) (next count : ℕ) (a b : Moment) → ¬ (status ≡ 0) → next ≤ count → PieceOutcome status held (take next xs) keeps a b → PieceOutcome status held (take count xs) keeps a b
 line_stops status xs held keeps next count a b other low one =
     subst (λ (l : List ℕ). PieceOutcome status held l keeps a b) (take_more xs next count low)
     (piece_stops status held (take next xs) (drop next (take count xs)) keeps keeps a b other one)
+
+-- ---- a piece, run by run
+
+module _ (start : Moment) (most : ℕ) (xs held middle kept a : List ℕ) (at end : ℕ) (now : Moment) (order : at ≤ end) (one : Waits start most held (take at xs) middle a now)
+    (same : (rest : List ℕ) → commands_from middle (take (end - at) (drop at xs) ++ rest) ≡ commands_from kept rest) where
+  pub run_waits : Waits start most held (take end xs) kept a now
+  run_waits = subst (λ (l : List ℕ). Waits start most held l kept a now) (take_part xs at end order) (waits_run start most held (take at xs) middle a now one (take (end - at) (drop at xs)) kept same)
+
+  module _ (low : end < length xs) (newline : get_or xs end 0 ≡ 10) (b : List ℕ) (new : Moment) where
+    next : take end xs ++ 10 ∷ [] ≡ take (end + 1) xs
+    next = sym (take_next xs end 10 low (sym newline))
+
+    pub next_waits : (most ≡ 0 → b ≡ []) → LineGathers 0 (command_of kept) a b now new → Waits start most held (take (end + 1) xs) [] b new
+    next_waits few line = subst (λ (l : List ℕ). Waits start most held l [] b new) next (line_waits start most held (take end xs) kept a now run_waits new b few line)
+
+    pub next_ends : (status count : ℕ) (keeps : List ℕ) → ¬ (status ≡ 0) → end + 1 ≤ count → LineGathers status (command_of kept) a b now new → Reaches status most (PieceOutcome status held (take count xs) keeps start) new
+    next_ends status count keeps other inside line =
+        reaches_then status most _ _ new (λ moment piece. line_stops status xs held keeps (end + 1) count start moment other inside piece)
+        (subst (λ (l : List ℕ). Reaches status most (PieceOutcome status held l keeps start) new) next (line_ends start most held (take end xs) kept a now run_waits new status b keeps other line))
+
+    pub next_keeps : (status : ℕ) → LineGathers status (command_of kept) a b now new → Keeps status start new
+    next_keeps status line = line_keeps start most held (take end xs) kept a now run_waits new status b line

@@ -5,6 +5,7 @@ pub mod Session
 pub mod PlainSession
 pub mod Files
 pub mod Serving
+pub mod Gathering
 pub mod Work
 pub mod Acting
 pub mod Outside

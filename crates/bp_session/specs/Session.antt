@@ -3,7 +3,7 @@ use Rattle.std.specs.Prelude.{◌≡◌, ◌⊎◌, ℕ, List, [], ◌∷◌, le
 use Rattle.pm_epochs.specs.Log.{barriers, marks}
 use Rattle.pm_epochs.specs.Replay.{Cut, IsRight, kept_calls}
 use Rattle.pm_region.specs.Memory.{Memory, crashed, current_words, drained}
-use Rattle.bp_replay.specs.Wanted.{Wanted, cut_for}
+use Rattle.bp_replay.specs.Wanted.{cut_for}
 use Rattle.bp_replay.specs.Storm.{storm_cut}
 use Rattle.bp_layout.specs.Words.{Image}
 use Rattle.bp_layout.specs.Free.{HasFree}

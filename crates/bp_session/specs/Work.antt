@@ -2,6 +2,7 @@
 use Rattle.std.specs.Prelude.{ℕ, List, length, nat_lt, Option, Some, None, if◌then◌else◌}
 use Rattle.bp_limits.specs.Limits.{max_line}
 use Rattle.bp_plain.specs.Calls.{Answer}
+use Rattle.bp_session.specs.Gathering.{waiting}
 use Rattle.bp_session.specs.declared.work.LineBuffers.{LineBuffers}
 use Rattle.bp_session.specs.declared.work.Work.{Work}
 
@@ -12,6 +13,14 @@ line_in buffers = buffers.line.items
 -- the answer of the last call
 abbrev pub answer_in : LineBuffers → Answer
 answer_in buffers = buffers.reply.answer
+
+-- the replies that wait for a sink
+abbrev pub waiting_in : LineBuffers → List ℕ
+waiting_in buffers = waiting buffers.replies
+
+-- those of a run
+abbrev pub held_replies : Work → List ℕ
+held_replies work = waiting_in work.buffers
 
 -- the line of a run
 abbrev pub held_line : Work → List ℕ

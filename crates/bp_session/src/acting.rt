@@ -1,8 +1,7 @@
 //! What one line does.
 
-ghost use Rattle.std.specs.Prelude.{◌≡◌, ◌≤◌, IfOk, OnErr, OnOk, length, true};
+ghost use Rattle.std.specs.Prelude.{◌≡◌, ◌≤◌, [], IfErr, IfOk, OnOk, length, true};
 ghost use Rattle.pm_epochs.specs.Log.{barriers, marks};
-ghost use Rattle.bp_io.specs.Causes.{HasCause};
 ghost use Rattle.bp_io.specs.Files.{StaysAttached};
 ghost use Rattle.bp_limits.specs.Limits.{log_events, max_mask};
 ghost use Rattle.bp_replay.specs.Storm.{storm_cut};
@@ -11,14 +10,15 @@ ghost use Rattle.bp_script.specs.Commands.Command.{sync};
 ghost use Rattle.bp_script.specs.Commands.{command_of};
 ghost use Rattle.bp_session.specs.Acting.{CrashesTo, Does, HasCrashed, reply_of};
 ghost use Rattle.bp_session.specs.Files.{IsReady};
-ghost use Rattle.bp_session.specs.Serving.{DoesLine, FailsLine};
+ghost use Rattle.bp_session.specs.Gathering.{Clears, LineGathers};
+ghost use Rattle.bp_session.specs.Serving.{DoesLine, moment};
 ghost use Rattle.bp_session.specs.declared.outcome.Outcome.TheVariants.{Logged};
-ghost use Rattle.bp_session.specs.Work.{answer_in, line_in};
+ghost use Rattle.bp_session.specs.Work.{answer_in, line_in, waiting_in};
 
 use crate::outcome::Outcome;
 use crate::saving::save;
 use crate::work::LineBuffers;
-use bp_io::{Failed, Files};
+use bp_io::{Failed, Files, Sink};
 use bp_limits::MAX_LINE;
 use bp_replay::{Cut, choice_of, storm};
 use bp_script::{Line, Syntax};
@@ -106,6 +106,7 @@ pub fn act<R: Region>(alloc: Global, volume: &mut Volume<R>, buffers: &mut LineB
     requires { volume.old.capacity ≤ log_events }
     ensures does { Does volume.old (command_of (line_in buffers.old)) result (answer_in buffers.new) volume.new }
     ensures line { line_in buffers.new ≡ line_in buffers.old }
+    ensures waiting { waiting_in buffers.new ≡ waiting_in buffers.old }
 {
     if buffers.line.len() > MAX_LINE {
         return Outcome::TooLong;
@@ -135,31 +136,43 @@ pub fn act<R: Region>(alloc: Global, volume: &mut Volume<R>, buffers: &mut LineB
     }
 }
 
-/// Does what the line asks for, and saves the words of a sync to the attached file.
-pub(crate) fn act_and_save<R: Region, F: Files>(
+/// Does what the line asks for, and saves the words of a sync to the attached file, behind the replies that wait. An error is
+/// the status: 4 where the sink failed before a sync could save, and 5 where the files did.
+pub(crate) fn act_and_save<R: Region, K: Sink, F: Files>(
     alloc: Global,
     volume: &mut Volume<R>,
     buffers: &mut LineBuffers,
+    out: &mut K,
     files: &mut F,
-) -> Result<Outcome, Failed>
+) -> Result<Outcome, u8>
     requires ready { IsReady volume.old.base (F.view files.old) }
     requires roomy { volume.old.capacity ≤ log_events }
     ensures does { IfOk result (λ outcome. DoesLine volume.old (F.view files.old) (command_of (line_in buffers.old))
         (reply_of outcome (answer_in buffers.new)) volume.new (F.view files.new)) }
-    ensures fails { OnErr result (FailsLine volume.old (F.view files.old) (command_of (line_in buffers.old))
-        volume.new (F.view files.new)) }
+    ensures clears { OnOk result (Clears (waiting_in buffers.old) (waiting_in buffers.new) (K.taken out.old) (K.taken out.new)
+        (F.view files.old) (F.view files.new)) }
+    ensures stops { IfErr result (λ status. LineGathers status (command_of (line_in buffers.old))
+        (waiting_in buffers.old) (waiting_in buffers.new)
+        (moment volume.old (F.view files.old) (K.taken out.old) (K.faults out.old))
+        (moment volume.new (F.view files.new) (K.taken out.new) (K.faults out.new))) }
+    ensures some { IfErr result (λ status. ¬ (status ≡ 0)) }
+    ensures heard { IfErr result (λ status. waiting_in buffers.old ≡ [] → status ≡ 5) }
     ensures synced { OnOk result (command_of (line_in buffers.old) ≡ sync → (F.view files.new).is_flushed ≡ true) }
     ensures flushed { OnOk result ((F.view files.old).is_flushed ≡ true → (F.view files.new).is_flushed ≡ true) }
+    ensures sink { OnOk result (K.faults out.new ≡ K.faults out.old) }
+    ensures files { OnOk result ((F.view files.new).faults ≡ (F.view files.old).faults) }
     ensures size { length volume.new.base ≡ length volume.old.base }
     ensures capacity { volume.new.capacity ≡ volume.old.capacity }
     ensures attached { StaysAttached (F.view files.old) (F.view files.new) }
     ensures line { line_in buffers.new ≡ line_in buffers.old }
-    ensures cause { HasCause (F.view files.old).faults (F.view files.new).faults result }
 {
     match act(alloc, volume, buffers) {
-        Outcome::Synced => match save(volume.region(), files) {
-            Ok(()) => Ok(Outcome::Synced),
-            Err(Failed) => Err(Failed),
+        Outcome::Synced => match buffers.replies.hand_over(out) {
+            Ok(()) => match save(volume.region(), files) {
+                Ok(()) => Ok(Outcome::Synced),
+                Err(Failed) => Err(5),
+            },
+            Err(Failed) => Err(4),
         },
         outcome => Ok(outcome),
     }

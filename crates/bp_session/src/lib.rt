@@ -5,6 +5,7 @@ mod acting;
 pub mod blocks;
 pub mod laws;
 mod outcome;
+mod replies;
 pub mod saving;
 pub mod sending;
 mod serving;
@@ -13,5 +14,5 @@ mod work;
 
 pub use acting::act;
 pub use outcome::Outcome;
-pub use serving::{serve, serve_line};
+pub use serving::{serve, serve_gathered, serve_line};
 pub use work::{LineBuffers, Work};

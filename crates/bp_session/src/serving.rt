@@ -10,19 +10,50 @@ ghost use Rattle.bp_script.specs.Commands.Command.{sync};
 ghost use Rattle.bp_script.specs.Commands.{command_of};
 ghost use Rattle.bp_session.specs.Files.{IsReady};
 ghost use Rattle.bp_session.specs.Lines.{commands_from};
-ghost use Rattle.bp_session.specs.Pieces.{piece_size};
+ghost use Rattle.bp_session.specs.Gathering.{LineGathers, Reaches};
+ghost use Rattle.bp_session.specs.Pieces.{gathered_size, piece_size};
 ghost use Rattle.bp_session.specs.Serving.{LineOutcome, PieceOutcome, ServeOutcome, moment, told};
-ghost use Rattle.bp_session.specs.Work.{held_line, read_piece};
+ghost use Rattle.bp_session.specs.Work.{held_line, held_replies, line_in, read_piece, waiting_in};
 
 use crate::acting::act_and_save;
-use crate::telling::tell;
-use crate::work::Work;
+use crate::replies::GATHERED;
+use crate::telling::tell_by;
+use crate::work::{LineBuffers, Work};
 use bp_io::{Failed, Files, Sink, Source};
 use bp_limits::MAX_INPUT;
 use bp_volume::Volume;
 use memchr::memchr;
 use pm_region::Region;
 use std::alloc::Global;
+
+// Serves the line of the buffers. Where more replies than so many bytes then wait, they are handed over.
+fn answer_line<R: Region, K: Sink, F: Files>(
+    alloc: Global,
+    volume: &mut Volume<R>,
+    buffers: &mut LineBuffers,
+    most: usize,
+    out: &mut K,
+    files: &mut F,
+) -> u8
+    requires ready { IsReady volume.old.base (F.view files.old) }
+    requires roomy { volume.old.capacity ≤ log_events }
+    ensures outcome { LineGathers result (command_of (line_in buffers.old)) (waiting_in buffers.old) (waiting_in buffers.new)
+        (moment volume.old (F.view files.old) (K.taken out.old) (K.faults out.old))
+        (moment volume.new (F.view files.new) (K.taken out.new) (K.faults out.new)) }
+    ensures few { result ≡ 0 → length (waiting_in buffers.new) ≤ most }
+    ensures synced { waiting_in buffers.old ≡ [] → ¬ (result ≡ 5) → command_of (line_in buffers.old) ≡ sync →
+        (F.view files.new).is_flushed ≡ true }
+    ensures ready { IsReady volume.new.base (F.view files.new) }
+    ensures line { line_in buffers.new ≡ line_in buffers.old }
+{
+    match act_and_save(alloc, volume, buffers, out, files) {
+        Ok(outcome) => match tell_by(outcome, &buffers.reply, &mut buffers.replies, most, out) {
+            Ok(()) => 0,
+            Err(Failed) => 4,
+        },
+        Err(status) => status,
+    }
+}
 
 /// Serves the line that the work holds, and answers the status: 0 where its reply was taken whole, 4 where the sink failed, 5
 /// where a sync could not save. A file is to be attached that has the volume's blocks and may be written.
@@ -44,32 +75,30 @@ pub fn serve_line<R: Region, K: Sink, F: Files>(
     ensures line { held_line work.new ≡ held_line work.old }
     ensures piece { read_piece work.new ≡ read_piece work.old }
 {
-    let buffers = &mut work.buffers;
-    match act_and_save(alloc, volume, buffers, files) {
-        Ok(outcome) => match tell(outcome, &buffers.reply, &mut buffers.text, out) {
-            Ok(()) => 0,
-            Err(Failed) => 4,
-        },
-        Err(Failed) => 5,
-    }
+    work.buffers.replies.clear();
+    answer_line(alloc, volume, &mut work.buffers, 0, out, files)
 }
 
-// Serves the line that a newline ends, and begins the next.
+// Serves the line that a newline ends, and begins the next. Where more replies than so many bytes then wait, they are handed over.
 fn end_line<R: Region, K: Sink, F: Files>(
     alloc: Global,
     volume: &mut Volume<R>,
     work: &mut Work,
+    most: usize,
     out: &mut K,
     files: &mut F,
 ) -> u8
     requires ready { IsReady volume.old.base (F.view files.old) }
     requires roomy { volume.old.capacity ≤ log_events }
-    ensures outcome { PieceOutcome result (held_line work.old) (10 ∷ []) (held_line work.new)
+    ensures outcome { LineGathers result (command_of (held_line work.old)) (held_replies work.old) (held_replies work.new)
         (moment volume.old (F.view files.old) (K.taken out.old) (K.faults out.old))
         (moment volume.new (F.view files.new) (K.taken out.new) (K.faults out.new)) }
+    ensures few { result ≡ 0 → length (held_replies work.new) ≤ most }
+    ensures ready { IsReady volume.new.base (F.view files.new) }
+    ensures line { held_line work.new ≡ [] }
     ensures piece { read_piece work.new ≡ read_piece work.old }
 {
-    let status = serve_line(alloc, volume, work, out, files);
+    let status = answer_line(alloc, volume, &mut work.buffers, most, out, files);
     work.buffers.line.clear();
     status
 }
@@ -82,6 +111,7 @@ fn take_run(work: &mut Work, from: usize, to: usize)
     ensures same { (rest : List ℕ) → commands_from (held_line work.old) (slice_range (read_piece work.old) from to ++ rest)
         ≡ commands_from (held_line work.new) rest }
     ensures piece { read_piece work.new ≡ read_piece work.old }
+    ensures replies { held_replies work.new ≡ held_replies work.old }
 {
     let Work { buffers, piece } = work;
     buffers.add(&piece[from..to]);
@@ -105,27 +135,34 @@ fn take_piece<R: Region, K: Sink, F: Files>(
     volume: &mut Volume<R>,
     work: &mut Work,
     count: usize,
+    most: usize,
     out: &mut K,
     files: &mut F,
 ) -> u8
     requires ready { IsReady volume.old.base (F.view files.old) }
     requires roomy { volume.old.capacity ≤ log_events }
     requires inside { count ≤ piece_size }
-    ensures { PieceOutcome result (held_line work.old) (take count (read_piece work.old)) (held_line work.new)
-        (moment volume.old (F.view files.old) (K.taken out.old) (K.faults out.old))
+    ensures outcome { Reaches result most (PieceOutcome result (held_line work.old) (take count (read_piece work.old)) (held_line work.new)
+        (moment volume.old (F.view files.old) (K.taken out.old) (K.faults out.old)))
         (moment volume.new (F.view files.new) (K.taken out.new) (K.faults out.new)) }
+    ensures ready { IsReady volume.new.base (F.view files.new) }
+    ensures capacity { volume.new.capacity ≡ volume.old.capacity }
 {
     let mut at: usize = 0;
+    work.buffers.replies.clear();
     while let Some(end) = newline_in(&work.piece, at, count) {
         take_run(work, at, end);
-        let status = end_line(alloc, volume, work, out, files);
+        let status = end_line(alloc, volume, work, most, out, files);
         if status != 0 {
             return status;
         }
         at = end + 1;
     }
     take_run(work, at, count);
-    0
+    match work.buffers.replies.hand_over(out) {
+        Ok(()) => 0,
+        Err(Failed) => 4,
+    }
 }
 
 // Serves a line that ends the input.
@@ -158,7 +195,50 @@ fn fill<S: Source>(src: &mut S, piece: &mut Vec<u8>) -> Result<usize, Failed>
     src.read(piece)
 }
 
-/// Answers each line of a source, in whatever pieces it comes. No line that the work held before is served.
+// Answers each line of a source. Replies of at most so many bytes wait while more lines of the same piece follow.
+fn serve_by<R: Region, S: Source, K: Sink, F: Files>(
+    alloc: Global,
+    volume: &mut Volume<R>,
+    work: &mut Work,
+    most: usize,
+    src: &mut S,
+    out: &mut K,
+    files: &mut F,
+) -> u8
+    requires ready { IsReady volume.old.base (F.view files.old) }
+    requires roomy { volume.old.capacity ≤ log_events }
+    ensures outcome { Reaches result most
+        (ServeOutcome result (told (S.left src.old) (S.faults src.old)) (told (S.left src.new) (S.faults src.new))
+        (moment volume.old (F.view files.old) (K.taken out.old) (K.faults out.old)))
+        (moment volume.new (F.view files.new) (K.taken out.new) (K.faults out.new)) }
+    ensures ready { IsReady volume.new.base (F.view files.new) }
+    ensures capacity { volume.new.capacity ≡ volume.old.capacity }
+{
+    work.buffers.line.clear();
+    let mut taken: usize = 0;
+    loop {
+        let count = match fill(src, &mut work.piece) {
+            Ok(count) => count,
+            Err(Failed) => return 3,
+        };
+        if count == 0 {
+            break;
+        }
+        let served = count.min(MAX_INPUT as usize - taken);
+        let status = take_piece(alloc, volume, work, served, most, out, files);
+        if status != 0 {
+            return status;
+        }
+        if served < count {
+            return 6;
+        }
+        taken += count;
+    }
+    finish(alloc, volume, work, out, files)
+}
+
+/// Answers each line of a source, in whatever pieces it comes. No line that the work held before is served. Each reply is
+/// handed to the sink before the next line is served.
 pub fn serve<R: Region, S: Source, K: Sink, F: Files>(
     alloc: Global,
     volume: &mut Volume<R>,
@@ -175,25 +255,28 @@ pub fn serve<R: Region, S: Source, K: Sink, F: Files>(
     ensures ready { IsReady volume.new.base (F.view files.new) }
     ensures capacity { volume.new.capacity ≡ volume.old.capacity }
 {
-    work.buffers.line.clear();
-    let mut taken: usize = 0;
-    loop {
-        let count = match fill(src, &mut work.piece) {
-            Ok(count) => count,
-            Err(Failed) => return 3,
-        };
-        if count == 0 {
-            break;
-        }
-        let served = count.min(MAX_INPUT as usize - taken);
-        let status = take_piece(alloc, volume, work, served, out, files);
-        if status != 0 {
-            return status;
-        }
-        if served < count {
-            return 6;
-        }
-        taken += count;
-    }
-    finish(alloc, volume, work, out, files)
+    serve_by(alloc, volume, work, 0, src, out, files)
+}
+
+/// Answers each line of a source, as `serve` does, but for when replies are handed to the sink: they are gathered while more
+/// lines of one read follow, and handed over before the next read, before a sync saves, and at the end. Where the sink failed,
+/// the volume may be ahead of the line whose reply was cut; no file is.
+pub fn serve_gathered<R: Region, S: Source, K: Sink, F: Files>(
+    alloc: Global,
+    volume: &mut Volume<R>,
+    work: &mut Work,
+    src: &mut S,
+    out: &mut K,
+    files: &mut F,
+) -> u8
+    requires ready { IsReady volume.old.base (F.view files.old) }
+    requires roomy { volume.old.capacity ≤ log_events }
+    ensures outcome { Reaches result gathered_size
+        (ServeOutcome result (told (S.left src.old) (S.faults src.old)) (told (S.left src.new) (S.faults src.new))
+        (moment volume.old (F.view files.old) (K.taken out.old) (K.faults out.old)))
+        (moment volume.new (F.view files.new) (K.taken out.new) (K.faults out.new)) }
+    ensures ready { IsReady volume.new.base (F.view files.new) }
+    ensures capacity { volume.new.capacity ≡ volume.old.capacity }
+{
+    serve_by(alloc, volume, work, GATHERED, src, out, files)
 }

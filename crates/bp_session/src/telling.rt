@@ -1,41 +1,25 @@
 //! Replies for a sink.
 
-ghost use Rattle.std.specs.Prelude.{◌≡◌, OnOk, OnErr, vec_len};
-ghost use Rattle.std.specs.Io.KnownBytes.{Appends};
+ghost use Rattle.std.specs.Prelude.{◌++◌, ◌≤◌, OnOk, OnErr, length};
 ghost use Rattle.bp_io.specs.Causes.{HasCause};
-ghost use Rattle.bp_limits.specs.Limits.{max_text};
 ghost use Rattle.bp_plain.specs.Calls.Answer.{names};
-ghost use Rattle.bp_script.specs.Sayings.{said_text, FitsReply};
 ghost use Rattle.bp_script.specs.Texts.{answer_text, reply_text};
 ghost use Rattle.bp_session.specs.Acting.{reply_of};
+ghost use Rattle.bp_session.specs.Gathering.{Passes, waiting};
 ghost use Rattle.bp_session.specs.Taking.{TakesPart};
 
 use crate::outcome::Outcome;
-use crate::sending::send;
+use crate::replies::Replies;
 use bp_io::{Failed, Sink};
 use bp_layout::Listing;
 use bp_plain::{Answer, Reply};
-use bp_script::{Said, say};
-
-// Tells one line of a reply.
-fn tell_line<K: Sink>(said: &Said<'_>, text: &mut Vec<u8>, out: &mut K) -> Result<(), Failed>
-    requires short { FitsReply said.now }
-    requires room { vec_len text.old ≡ max_text }
-    ensures room { vec_len text.new ≡ max_text }
-    ensures all { OnOk result (Appends (K.taken out.old) (K.taken out.new) (said_text said.now)) }
-    ensures some { OnErr result (TakesPart (said_text said.now) (K.taken out.old) (K.taken out.new)) }
-    ensures cause { HasCause (K.faults out.old) (K.faults out.new) result }
-{
-    let count = say(said, text);
-    send(out, &text[..count])
-}
+use bp_script::Said;
 
 // Tells a line for each name, and the line that ends a listing.
-fn tell_names<K: Sink>(listing: &Listing, text: &mut Vec<u8>, out: &mut K) -> Result<(), Failed>
-    requires room { vec_len text.old ≡ max_text }
-    ensures room { vec_len text.new ≡ max_text }
-    ensures all { OnOk result (Appends (K.taken out.old) (K.taken out.new) (answer_text (names listing.now))) }
-    ensures some { OnErr result (TakesPart (answer_text (names listing.now)) (K.taken out.old) (K.taken out.new)) }
+fn tell_names<K: Sink>(listing: &Listing, replies: &mut Replies, out: &mut K) -> Result<(), Failed>
+    ensures all { OnOk result (Passes (answer_text (names listing.now)) (waiting replies.old) (waiting replies.new)
+        (K.taken out.old) (K.taken out.new)) }
+    ensures some { OnErr result (TakesPart (waiting replies.old ++ answer_text (names listing.now)) (K.taken out.old) (K.taken out.new)) }
     ensures cause { HasCause (K.faults out.old) (K.faults out.new) result }
 {
     for i in 0..listing.len() {
@@ -44,43 +28,42 @@ fn tell_names<K: Sink>(listing: &Listing, text: &mut Vec<u8>, out: &mut K) -> Re
             kind: *kind,
             name: name.as_slice(),
         };
-        tell_line(&said, text, out)?;
+        replies.tell(&said, out)?;
     }
-    tell_line(&Said::End, text, out)
+    replies.tell(&Said::End, out)
 }
 
 // Tells the answer of a call.
-fn tell_answer<K: Sink>(reply: &Reply, text: &mut Vec<u8>, out: &mut K) -> Result<(), Failed>
-    requires room { vec_len text.old ≡ max_text }
-    ensures room { vec_len text.new ≡ max_text }
-    ensures all { OnOk result (Appends (K.taken out.old) (K.taken out.new) (answer_text reply.now.answer)) }
-    ensures some { OnErr result (TakesPart (answer_text reply.now.answer) (K.taken out.old) (K.taken out.new)) }
+fn tell_answer<K: Sink>(reply: &Reply, replies: &mut Replies, out: &mut K) -> Result<(), Failed>
+    ensures all { OnOk result (Passes (answer_text reply.now.answer) (waiting replies.old) (waiting replies.new)
+        (K.taken out.old) (K.taken out.new)) }
+    ensures some { OnErr result (TakesPart (waiting replies.old ++ answer_text reply.now.answer) (K.taken out.old) (K.taken out.new)) }
     ensures cause { HasCause (K.faults out.old) (K.faults out.new) result }
 {
     match reply.answer() {
-        Answer::Names(listing) => tell_names(listing, text, out),
-        answer => tell_line(&Said::Answer(answer), text, out),
+        Answer::Names(listing) => tell_names(listing, replies, out),
+        answer => replies.tell(&Said::Answer(answer), out),
     }
 }
 
-/// Tells what a line came to. Where the sink failed, it took a proper front of the reply.
-pub(crate) fn tell<K: Sink>(
+// Tells what a line came to, behind the replies that wait. Where the sink failed, it took a proper front of them all.
+fn tell<K: Sink>(
     outcome: Outcome,
     reply: &Reply,
-    text: &mut Vec<u8>,
+    replies: &mut Replies,
     out: &mut K,
 ) -> Result<(), Failed>
-    requires room { vec_len text.old ≡ max_text }
-    ensures room { vec_len text.new ≡ max_text }
-    ensures all { OnOk result (Appends (K.taken out.old) (K.taken out.new) (reply_text (reply_of outcome reply.now.answer))) }
-    ensures some { OnErr result (TakesPart (reply_text (reply_of outcome reply.now.answer)) (K.taken out.old) (K.taken out.new)) }
+    ensures all { OnOk result (Passes (reply_text (reply_of outcome reply.now.answer)) (waiting replies.old) (waiting replies.new)
+        (K.taken out.old) (K.taken out.new)) }
+    ensures some { OnErr result (TakesPart (waiting replies.old ++ reply_text (reply_of outcome reply.now.answer))
+        (K.taken out.old) (K.taken out.new)) }
     ensures cause { HasCause (K.faults out.old) (K.faults out.new) result }
 {
     match outcome {
-        Outcome::Answered => tell_answer(reply, text, out),
-        Outcome::Synced => tell_line(&Said::Synced, text, out),
-        Outcome::Counted { free, live } => tell_line(&Said::Space { free, live }, text, out),
-        Outcome::Kept { c, n } => tell_line(&Said::Kept { c, n }, text, out),
+        Outcome::Answered => tell_answer(reply, replies, out),
+        Outcome::Synced => replies.tell(&Said::Synced, out),
+        Outcome::Counted { free, live } => replies.tell(&Said::Space { free, live }, out),
+        Outcome::Kept { c, n } => replies.tell(&Said::Kept { c, n }, out),
         Outcome::Logged {
             events,
             barriers,
@@ -91,10 +74,32 @@ pub(crate) fn tell<K: Sink>(
                 barriers,
                 calls,
             };
-            tell_line(&said, text, out)
+            replies.tell(&said, out)
         }
-        Outcome::BadChoice => tell_line(&Said::BadChoice, text, out),
-        Outcome::BadSyntax => tell_line(&Said::Syntax, text, out),
-        Outcome::TooLong => tell_line(&Said::LongLine, text, out),
+        Outcome::BadChoice => replies.tell(&Said::BadChoice, out),
+        Outcome::BadSyntax => replies.tell(&Said::Syntax, out),
+        Outcome::TooLong => replies.tell(&Said::LongLine, out),
+    }
+}
+
+/// Tells what a line came to, behind the replies that wait, and hands over what then waits, where it is more than so many bytes.
+/// Where the sink failed, it took a proper front of them all.
+pub(crate) fn tell_by<K: Sink>(
+    outcome: Outcome,
+    reply: &Reply,
+    replies: &mut Replies,
+    most: usize,
+    out: &mut K,
+) -> Result<(), Failed>
+    ensures all { OnOk result (Passes (reply_text (reply_of outcome reply.now.answer)) (waiting replies.old) (waiting replies.new)
+        (K.taken out.old) (K.taken out.new)) }
+    ensures some { OnErr result (TakesPart (waiting replies.old ++ reply_text (reply_of outcome reply.now.answer))
+        (K.taken out.old) (K.taken out.new)) }
+    ensures few { OnOk result (length (waiting replies.new) ≤ most) }
+    ensures cause { HasCause (K.faults out.old) (K.faults out.new) result }
+{
+    match tell(outcome, reply, replies, out) {
+        Ok(()) => replies.hand_over_above(most, out),
+        Err(Failed) => Err(Failed),
     }
 }

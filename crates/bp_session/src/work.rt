@@ -2,10 +2,11 @@
 
 ghost use Rattle.bp_script.specs.Lines.{decoded_room};
 ghost use Rattle.std.specs.Prelude.{◌+◌, ◌≡◌, ◌≤◌, IfOk, [], vec_capacity, vec_len};
-ghost use Rattle.bp_limits.specs.Limits.{log_events, max_line, max_mask, max_text};
+ghost use Rattle.bp_limits.specs.Limits.{log_events, max_line, max_mask};
 ghost use Rattle.bp_session.specs.Pieces.{piece_size};
 
-use bp_limits::{LOG_EVENTS, MAX_LINE, MAX_MASK, MAX_TEXT};
+use crate::replies::Replies;
+use bp_limits::{LOG_EVENTS, MAX_LINE, MAX_MASK};
 use bp_plain::Reply;
 use bp_script::Decoded;
 use pm_epochs::Choice;
@@ -21,19 +22,18 @@ pub struct LineBuffers {
     pub(crate) line: Vec<u8>,
     pub(crate) decoded: Decoded,
     pub(crate) reply: Reply,
-    pub(crate) text: Vec<u8>,
+    pub(crate) replies: Replies,
     pub(crate) choice: Choice,
     pub(crate) backs: Backs,
     ghost room: { max_line + 1 ≤ vec_capacity line },
     ghost fits: { vec_len line ≤ max_line + 1 },
     ghost decodes: { max_line ≤ decoded_room decoded },
-    ghost spelled: { vec_len text ≡ max_text },
     ghost chooses: { choice.room ≡ max_mask },
     ghost storms: { backs.room ≡ log_events },
 }
 
 impl LineBuffers {
-    ghost use Rattle.bp_session.specs.Work.{answer_in, line_in, line_of};
+    ghost use Rattle.bp_session.specs.Work.{answer_in, line_in, line_of, waiting_in};
     ghost use Rattle.std.specs.Prelude.{◌++◌, take, option_map};
 
     /// Room for lines of 140,000 bytes, with the empty line in it. It fails for want of memory alone.
@@ -44,7 +44,7 @@ impl LineBuffers {
             line: Vec::with_capacity(alloc, MAX_LINE + 1)?,
             decoded: Decoded::new(alloc, MAX_LINE)?,
             reply: Reply::new(alloc)?,
-            text: vec![in alloc; 0; MAX_TEXT]?,
+            replies: Replies::new(alloc)?,
             choice: Choice::new(alloc, MAX_MASK)?,
             backs: Backs::new(alloc, LOG_EVENTS)?,
         })
@@ -60,7 +60,8 @@ impl LineBuffers {
 
     /// Adds bytes to the line. Of one above the limit only that it is too long is kept.
     pub(crate) fn add(&mut self, bytes: &[u8])
-        ensures { line_in self.new ≡ take (max_line + 1) (line_in self.old ++ bytes.now) }
+        ensures line { line_in self.new ≡ take (max_line + 1) (line_in self.old ++ bytes.now) }
+        ensures waiting { waiting_in self.new ≡ waiting_in self.old }
     {
         let kept = bytes.len().min(MAX_LINE + 1 - self.line.len());
         match self.line.extend_from_slice(&bytes[..kept]) {

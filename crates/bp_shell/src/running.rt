@@ -19,7 +19,7 @@ use bp_command::{Program, WordsFault, read_words};
 use bp_io::{Failed, Files, Sink, Source};
 use bp_script::Notice;
 use bp_session::saving::save;
-use bp_session::{Work, serve};
+use bp_session::{Work, serve_gathered};
 use std::alloc::Global;
 
 // Serves the script of a source over the file of a name.
@@ -52,7 +52,7 @@ fn run_file<S: Source, K: Sink, F: Files>(
         Ok(work) => work,
         Err(_) => return 8,
     };
-    let status = serve(alloc, &mut volume, &mut work, src, out, files);
+    let status = serve_gathered(alloc, &mut volume, &mut work, src, out, files);
     if status != 0 {
         return status;
     }

@@ -1,7 +1,7 @@
 use Rattle.std.proofs.Common.{arith, ap, ◌∙◌, length}
 use Rattle.bp_script.specs.Commands.{in_grammar}
-use Rattle.bp_script.specs.Commands.Command.{bad_syntax, crash, log, space, storm, sync}
-use Rattle.bp_session.proofs.ActingLaws.{command_long, command_short, does_call, does_crash, does_log, does_long, does_space, does_storm, does_sync, does_syntax, mask_fits}
+use Rattle.bp_script.specs.Commands.Command.{log, space, sync}
+use Rattle.bp_session.proofs.ActingLaws.{command_long, command_short, does_call, does_crash, does_log, does_long, does_space, does_storm, does_sync, mask_fits}
 use Rattle.bp_session.proofs.ShortReads.{short_call}
 use Rattle.bp_session.proofs.acting.act.Goals as goal
 

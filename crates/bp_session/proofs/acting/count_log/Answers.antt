@@ -1,5 +1,4 @@
-use Rattle.std.proofs.Common.{arith, ◌≡◌, ◌+◌, take}
-use Rattle.pm_epochs.specs.Log.{barriers, marks}
+use Rattle.std.proofs.Common.{arith}
 use Rattle.bp_session.proofs.ActingLaws.{one_more_barrier, one_more_mark}
 use Rattle.bp_session.proofs.acting.count_log.Goals as goal
 use Rattle.bp_session.proofs.acting.count_log.Goals.{in-Store, in-Barrier, in-Mark}

@@ -1,4 +1,4 @@
-use Rattle.std.proofs.Common.{arith, refl, rules, ap, ◌∙◌, ◌≡◌, ◌*◌, ◌+◌, ◌++◌, ◌∷◌, [], ◌-◌, take, drop, length, sym, get_or, get_or-drop, length-drop}
+use Rattle.std.proofs.Common.{arith, refl, rules, ◌∙◌, ◌≡◌, ◌*◌, take, sym}
 use Rattle.std.proofs.Math.Seq.{take-length}
 use Rattle.std.proofs.lemmas.List.{take_more_set}
 use Rattle.pm_region.specs.Memory.{current_words}

@@ -1,4 +1,4 @@
-use Rattle.std.proofs.Common.{◌∙◌, sym}
+use Rattle.std.proofs.Common.{◌∙◌}
 use Rattle.bp_session.proofs.SavingLaws.{all_mixed, are_sizes, on_err, on_ok, stays_attached, stays_known, stays_told}
 use Rattle.bp_session.proofs.saving.save.Goals as goal
 

@@ -1,12 +1,15 @@
-use Rattle.std.proofs.Common.{refl, arith, rules, sym, ap, ◌∙◌, ◌≡◌, ◌+◌, ◌-◌, ◌++◌, take, drop, length, get_or}
+use Rattle.std.proofs.Common.{refl, arith, rules, sym, ap, ◌∙◌, ◌≡◌, ◌≤◌, ◌-◌, ◌++◌, take, drop, length, get_or}
 use Rattle.std.proofs.lemmas.Bool.{eqb-true}
+use Rattle.std.proofs.lemmas.List.{nil_from_length}
+use Rattle.bp_session.specs.Gathering.{waiting}
 use Rattle.bp_session.specs.Lines.{commands_from}
+use Rattle.bp_session.proofs.AheadLaws.{reaches_all, waits_cut, waits_handed, waits_nothing}
 use Rattle.bp_session.proofs.OutcomeLaws.{piece_nothing}
-use Rattle.bp_session.proofs.Runs.{line_served, line_stops, run_served}
+use Rattle.bp_session.proofs.Runs.{next_ends, next_waits, run_waits}
 use Rattle.bp_session.proofs.serving.take_piece.Goals as goal
 
 pub loop-end-init : goal.loop-end-init
-loop-end-init g c = record { inside = omega arith; piece = refl; served = piece_nothing _ _ }
+loop-end-init g c = record { inside = omega arith; piece = refl; waits = waits_nothing _ _ _ _ c.clear.ensures (piece_nothing _ _) }
 
 pub loop-end-preserved : goal.loop-end-preserved
 loop-end-preserved g c =
@@ -18,17 +21,20 @@ loop-end-preserved g c =
     let whole : c.deref.result.now ≡ c.loop-end.work.piece.items = search rules in
     let size : length all ≡ 65536 = search rules in
     let newline : get_or all end 0 ≡ 10 = ap (λ l. get_or l end 0) (sym (whole ∙ c.loop-end.invariant.piece)) ∙ eqb-true (get_or c.deref.result.now end 0) 10 found.1 in
+    let b = waiting c.end_line-status.new.work.buffers.replies in
     record {
       inside = omega (arith, found.0.high);
       piece = c.end_line-status.ensures.piece ∙ c.take_run.ensures.piece ∙ c.loop-end.invariant.piece;
-      served =
-          line_served all _ line c.take_run.new.work.buffers.line.items at end _ _ found.0.low c.loop-end.invariant.served
+      waits = rw c.end_line-status.ensures.line (
+          next_waits _ c.args.most all _ line c.take_run.new.work.buffers.line.items _ at end _ found.0.low c.loop-end.invariant.waits
           (λ rest. ap (λ l. commands_from line (take (end - at) (drop at l) ++ rest)) (sym c.loop-end.invariant.piece) ∙ c.take_run.ensures.same rest)
-          0 _ _ (omega (arith, found.0.high, size)) newline (rw c.if-status-ne0.false at c.end_line-status.ensures.outcome);
+          (omega (arith, found.0.high, size)) newline b _
+          (λ e. nil_from_length b (let few : length b ≤ c.args.most = c.end_line-status.ensures.few c.if-status-ne0.false in omega (arith, few, e)))
+          (rw (c.if-status-ne0.false, c.take_run.ensures.replies) at c.end_line-status.ensures.outcome));
     }
 
-pub returns-then-status-ne0 : goal.returns-then-status-ne0
-returns-then-status-ne0 g c =
+pub returns-then-status-ne0-clause-outcome : goal.returns-then-status-ne0-clause-outcome
+returns-then-status-ne0-clause-outcome g c =
     let all = c.args.work.now.piece.items in
     let at = c.loop-end.at in
     let end = c.in-Some.end in
@@ -37,17 +43,27 @@ returns-then-status-ne0 g c =
     let whole : c.deref.result.now ≡ c.loop-end.work.piece.items = search rules in
     let size : length all ≡ 65536 = search rules in
     let newline : get_or all end 0 ≡ 10 = ap (λ l. get_or l end 0) (sym (whole ∙ c.loop-end.invariant.piece)) ∙ eqb-true (get_or c.deref.result.now end 0) 10 found.1 in
-    let ended =
-    line_served all _ line c.take_run.new.work.buffers.line.items at end _ _ found.0.low c.loop-end.invariant.served
+    next_ends _ c.args.most all _ line c.take_run.new.work.buffers.line.items _ at end _ found.0.low c.loop-end.invariant.waits
     (λ rest. ap (λ l. commands_from line (take (end - at) (drop at l) ++ rest)) (sym c.loop-end.invariant.piece) ∙ c.take_run.ensures.same rest)
-    _ _ _ (omega (arith, found.0.high, size)) newline c.end_line-status.ensures.outcome in
-    line_stops _ all _ _ (end + 1) c.args.count _ _ c.if-status-ne0.true (omega (arith, found.0.high)) ended
+    (omega (arith, found.0.high, size)) newline _ _ _ c.args.count _ c.if-status-ne0.true (omega (arith, found.0.high))
+    (rw c.take_run.ensures.replies at c.end_line-status.ensures.outcome)
 
-pub returns : goal.returns
-returns g c =
+pub returns-in-Ok-clause-outcome : goal.returns-in-Ok-clause-outcome
+returns-in-Ok-clause-outcome g c =
     let all = c.args.work.now.piece.items in
     let at = c.loop-end.at in
     let count = c.args.count in
     let line = c.loop-end.work.buffers.line.items in
-    run_served all _ line c.take_run-2.new.work.buffers.line.items at count _ _ c.loop-end.invariant.inside c.loop-end.invariant.served
-    (λ rest. ap (λ l. commands_from line (take (count - at) (drop at l) ++ rest)) (sym c.loop-end.invariant.piece) ∙ c.take_run-2.ensures.same rest)
+    let ran = run_waits _ c.args.most all _ line c.take_run-2.new.work.buffers.line.items _ at count _ c.loop-end.invariant.inside c.loop-end.invariant.waits
+    (λ rest. ap (λ l. commands_from line (take (count - at) (drop at l) ++ rest)) (sym c.loop-end.invariant.piece) ∙ c.take_run-2.ensures.same rest) in
+    rw c.in-Ok.ensures.cause.same (reaches_all 0 _ _ _ _ _ _ (waits_handed _ _ _ _ _ _ _ ran _ (rw c.take_run-2.ensures.replies at c.in-Ok.ensures.all)))
+
+pub returns-in-Err-clause-outcome : goal.returns-in-Err-clause-outcome
+returns-in-Err-clause-outcome g c =
+    let all = c.args.work.now.piece.items in
+    let at = c.loop-end.at in
+    let count = c.args.count in
+    let line = c.loop-end.work.buffers.line.items in
+    let ran = run_waits _ c.args.most all _ line c.take_run-2.new.work.buffers.line.items _ at count _ c.loop-end.invariant.inside c.loop-end.invariant.waits
+    (λ rest. ap (λ l. commands_from line (take (count - at) (drop at l) ++ rest)) (sym c.loop-end.invariant.piece) ∙ c.take_run-2.ensures.same rest) in
+    waits_cut _ _ _ _ _ _ _ ran _ _ _ (rw c.take_run-2.ensures.replies at c.in-Err.ensures.some) c.in-Err.ensures.cause.failed

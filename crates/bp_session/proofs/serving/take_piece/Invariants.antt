@@ -1,15 +1,17 @@
 use Rattle.std.proofs.Common.{◌≡◌, ◌≤◌, ◌-◌, take}
-use Rattle.bp_session.specs.Serving.{PieceOutcome, moment}
+use Rattle.bp_session.specs.Serving.{moment}
+use Rattle.bp_session.specs.Gathering.{waiting}
+use Rattle.bp_session.proofs.AheadLaws.{Waits}
 use Rattle.bp_session.proofs.serving.take_piece.Given as goal
 
--- the front of the piece was served
+-- the front of the piece was served, and the last replies wait
 abbrev pub invariant-loop-end : goal.invariant-loop-end
 invariant-loop-end g l =
     record {
       inside : l.at ≤ l.count;
       piece : l.work.piece.items ≡ l.fn.work.piece.items;
-      served : PieceOutcome 0 l.fn.work.buffers.line.items (take l.at l.fn.work.piece.items) l.work.buffers.line.items
-          (moment l.fn.volume (g.F.Files.view l.fn.files) (g.K.Sink.taken l.fn.out) (g.K.Sink.faults l.fn.out))
+      waits : Waits (moment l.fn.volume (g.F.Files.view l.fn.files) (g.K.Sink.taken l.fn.out) (g.K.Sink.faults l.fn.out)) l.most
+          l.fn.work.buffers.line.items (take l.at l.fn.work.piece.items) l.work.buffers.line.items (waiting l.work.buffers.replies)
           (moment l.volume (g.F.Files.view l.files) (g.K.Sink.taken l.out) (g.K.Sink.faults l.out));
     }
 

@@ -9,5 +9,5 @@ returns-clause-same c rest =
     let all = c.args.work.now.piece.items in
     let whole : c.deref.result.now ≡ all = search rules in
     let kept : c.add.new.self.line.items ≡ take 140001 (line ++ take (c.args.to - c.args.from) (drop c.args.from all)) =
-    c.add.ensures ∙ ap (λ l. take 140001 (line ++ take (c.args.to - c.args.from) (drop c.args.from l))) whole in
+    c.add.ensures.line ∙ ap (λ l. take 140001 (line ++ take (c.args.to - c.args.from) (drop c.args.from l))) whole in
     commands_of_part all c.args.from c.args.to (search rules) line rest c.requires.quiet ∙ ap (λ l. commands_from l rest) (sym kept)

@@ -1,15 +1,13 @@
-use Rattle.std.proofs.Common.{◌≡◌, take, vec_len}
+use Rattle.std.proofs.Common.{◌≡◌, take}
 use Rattle.std.specs.Prelude.{flat_map}
-use Rattle.std.specs.Io.KnownBytes.{Appends}
-use Rattle.bp_limits.specs.Limits.{max_text}
 use Rattle.bp_script.specs.Texts.{entry_text}
+use Rattle.bp_session.specs.Gathering.{Passes, waiting}
 use Rattle.bp_session.proofs.telling.tell_names.Given as goal
 
--- the lines of the first names were taken
+-- the lines of the first names were told
 abbrev pub invariant-loop-i : goal.invariant-loop-i
 invariant-loop-i g l =
     record {
-      room : vec_len l.text ≡ max_text;
-      taken : Appends (g.K.Sink.taken l.fn.out) (g.K.Sink.taken l.out) (flat_map entry_text (take l.i l.listing));
+      passes : Passes (flat_map entry_text (take l.i l.listing)) (waiting l.fn.replies) (waiting l.replies) (g.K.Sink.taken l.fn.out) (g.K.Sink.taken l.out);
       faults : g.K.Sink.faults l.out ≡ g.K.Sink.faults l.fn.out;
     }

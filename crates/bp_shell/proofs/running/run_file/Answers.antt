@@ -1,5 +1,6 @@
-use Rattle.std.proofs.Common.{refl, rules, ◌∙◌, ap}
+use Rattle.std.proofs.Common.{refl, rules, ◌∙◌, ap, arith}
 use Rattle.bp_layout.specs.Bytes.{image_bytes}
+use Rattle.bp_session.proofs.AheadLaws.{reached_own}
 use Rattle.bp_session.proofs.ActingLaws.{holds_bytes, size-drained}
 use Rattle.bp_shell.proofs.OpeningLaws.{if_memory, if_missing, if_refused}
 use Rattle.bp_shell.proofs.ProgramLaws.{run_faulty, run_memory, run_missing, run_refused, run_served, run_unsaved, run_whole}
@@ -31,12 +32,12 @@ returns-in-Err-clause-outcome g c = run_memory _ _ (record { left = refl; file =
 pub returns-then-status-ne0-clause-outcome : goal.returns-then-status-ne0-clause-outcome
 returns-then-status-ne0-clause-outcome g c =
     let opened = c.in-Ok.ensures.opened in
-    run_served _ _ (g.F.Files.view c.args.files.now) _ _ c.args.name.now opened.0 opened.1 opened.2 opened.3 c.open.ensures.flushed c.in-Ok.ensures.cause.same _ (search rules) c.serve-status.ensures.outcome
+    run_served _ _ (g.F.Files.view c.args.files.now) _ _ c.args.name.now opened.0 opened.1 opened.2 opened.3 c.open.ensures.flushed c.in-Ok.ensures.cause.same _ (search rules) c.serve_gathered-status.ensures.outcome.is
 
 pub returns-in-Ok-save-clause-outcome : goal.returns-in-Ok-save-clause-outcome
 returns-in-Ok-save-clause-outcome g c =
     let opened = c.in-Ok.ensures.opened in
-    let served = rw c.if-status-ne0.false at c.serve-status.ensures.outcome in
+    let served = reached_own 0 _ _ _ _ _ _ (λ e. absurd (omega (arith, e))) (rw c.if-status-ne0.false at c.serve_gathered-status.ensures.outcome) in
     let told = (served.whole refl).4 c.args.name.now opened.0 opened.3 in
     let saved = c.in-Ok-save.ensures.saved c.args.name.now (image_bytes told.after) (holds_bytes _ _ told.after told.file) in
     run_whole _ _ (g.F.Files.view c.args.files.now) _ _ c.args.name.now opened.0 opened.1 opened.2 opened.3 c.open.ensures.flushed c.in-Ok.ensures.cause.same (g.F.Files.view c.save.new.files) served
@@ -45,9 +46,9 @@ returns-in-Ok-save-clause-outcome g c =
 pub returns-clause-outcome : goal.returns-clause-outcome
 returns-clause-outcome g c =
     let opened = c.in-Ok.ensures.opened in
-    let served = rw c.if-status-ne0.false at c.serve-status.ensures.outcome in
+    let served = reached_own 0 _ _ _ _ _ _ (λ e. absurd (omega (arith, e))) (rw c.if-status-ne0.false at c.serve_gathered-status.ensures.outcome) in
     run_unsaved _ _ (g.F.Files.view c.args.files.now) _ _ c.args.name.now opened.0 opened.1 opened.2 opened.3 c.open.ensures.flushed c.in-Ok.ensures.cause.same (g.F.Files.view c.save.new.files) served _ c.sync.ensures.drained
     (λ was file. rw (c.region.ensures.memory, c.sync.ensures.drained) at (c.in-Err-save.ensures.partly c.args.name.now (image_bytes was) (holds_bytes _ _ was file))) c.in-Err-save.ensures.cause.failed
 
 pub save-requires : goal.save-requires
-save-requires g c = rw (c.region.ensures.memory, c.sync.ensures.drained) (still_ready _ _ _ _ c.serve-status.ensures.ready (size-drained c.serve-status.new.volume) (still_attached _))
+save-requires g c = rw (c.region.ensures.memory, c.sync.ensures.drained) (still_ready _ _ _ _ c.serve_gathered-status.ensures.ready (size-drained c.serve_gathered-status.new.volume) (still_attached _))

@@ -3,8 +3,8 @@ use Rattle.std.proofs.Math.Seq.{take-append-add}
 use Rattle.bp_session.proofs.BlockLaws.{take_least}
 use Rattle.bp_session.proofs.work.LineBuffers.add.Goals as goal
 
-pub returns : goal.returns
-returns c =
+pub returns-clause-line : goal.returns-clause-line
+returns-clause-line c =
     let line = c.args.self.now.line.items in
     let left = 140001 - length line in
     let all : length line + left ≡ 140001 = search rules in

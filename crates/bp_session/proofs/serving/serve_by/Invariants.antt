@@ -1,7 +1,7 @@
 use Rattle.std.proofs.Common.{[], ◌-◌, ◌≡◌, ◌≤◌, ℕ, List, length}
 use Rattle.std.specs.Io.KnownBytes.{Consumes}
 use Rattle.bp_session.specs.Serving.{PieceOutcome, moment}
-use Rattle.bp_session.proofs.serving.serve.Given as goal
+use Rattle.bp_session.proofs.serving.serve_by.Given as goal
 
 -- What was read so far was served.
 abbrev pub invariant-loop-count : goal.invariant-loop-count

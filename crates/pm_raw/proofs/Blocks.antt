@@ -1,12 +1,14 @@
 -- What the walks of the raw memory share. Assumes `Logic`.
 --     empty        a block's fields without bytes, as the machine holds them
 --     nowhere      nothing lies at null
---     emptied      a row of items is room for as many: the items are forgotten
+--     emptied      a row of items, and the room behind them, is room for all: the items are forgotten
 --     made_base, made_empty      the address of a block, and a value without bytes, are made of nothing
 --     side_by_side      three values make a tuple
-use mathlib.Core.Path.{refl}
+use mathlib.Core.Path.{◌≡◌, refl}
 use mathlib.Core.List.{List, [], ◌∷◌}
-use Prim.Native.Nat.{ℕ, ◌+◌}
+use Prim.Native.Nat.{ℕ, suc, ◌+◌, ◌*◌}
+use native.Mathlib.Nat.{suc-mul}
+use native.Mathlib.Omega.{arith}
 use lib.ListN.{length}
 use mir.Syntax.{ty_array}
 use mir.Val.{Val, of_list, vcons, vnil, vstruct}
@@ -24,7 +26,7 @@ use denote.Struct.Declared as Declared
 use denote.Struct.Owning.{shape}
 use denote.Struct.Struct.{Struct, within}
 use denote.Struct.Tuple.{Tuple, tuple_type}
-use types.Kit.{‵, ◌⊛◌, given, some, ◌$◌, ◌∵◌, !, qed, by, done, move, keep, learn, pick, split, use1, feq_i, fjoin, fpack, fsplit}
+use types.Kit.{‵, ◌⊛◌, given, some, ◌$◌, ◌∵◌, !, qed, by, done, move, keep, learn, pick, split, rewrite, drop, use1, use2, feq_i, fjoin, fpack, fsplit}
 use types.Logic.{Logic, sem}
 use Rattle.core.proofs.ptr.Rows.{El, Good, R, el_out, el_own, el_x, elτ, sz}
 use Rattle.std_alloc.proofs.RcSteps.{word}
@@ -38,17 +40,31 @@ empty = vstruct (vcons (vstruct vnil) vnil)
 pub nowhere : (R : RattleType) (items : List R.Denot) (count : ℕ) {M : Type 1} {𝓤 : Ura M} (𝓛 : Logic 𝓤) → ent 𝓤 (sem 𝓛 (places_own R null_ptr items count)) (never 𝓤)
 nowhere R items count {𝓤 = 𝓤} 𝓛 = qed 𝓛 (‵ (places_own R null_ptr items count) ∷ []) ∵ fsplit ! $ move ! (1 ∷ []) $ fsplit ! $ keep ! (0 ∷ []) $ by ! (id⊢ 𝓤 (never 𝓤))
 
+next : (o many size : ℕ) → o + suc many * size ≡ (o + size) + many * size
+next o many size = omega (arith, suc-mul many size)
+
 module _ (E : El) {M : Type 1} {𝓤 : Ura M} (𝓛 : Logic 𝓤) where
   open 𝓛 use {H}
 
-  pub emptied : (items : List (el_x E)) (b o : ℕ) → ent 𝓤 (sem 𝓛 (row (R E) full_share items b o)) (H.room (ty_array (elτ E) (length items)) b o)
-  emptied [] b o = 𝓛.laws.room_nil (elτ E) b o
-  emptied (item ∷ items) b o = qed 𝓛 (‵ (part_at (R E) full_share item b o) ∷ ‵ (row (R E) full_share items b (o + sz E)) ∷ []) ∵
+  pub emptied : (items : List (el_x E)) (rest b o : ℕ)
+      → ent 𝓤 (sep 𝓤 (sem 𝓛 (row (R E) full_share items b o)) (H.room (ty_array (elτ E) rest) b (o + length items * sz E))) (H.room (ty_array (elτ E) (length items + rest)) b o)
+  emptied [] rest b o =
+      let here : o + 0 * sz E ≡ o = omega arith in
+      let all : rest ≡ 0 + rest = omega arith in
+      qed 𝓛 (‵ (row (R E) full_share [] b o) ∷ ‵ (froom (ty_array (elτ E) rest) b (o + 0 * sz E)) ∷ []) ∵
+      drop ! $ rewrite ! 0 (λ (n : ℕ). ‵ (froom (ty_array (elτ E) rest) b n)) here refl $ rewrite ! 0 (λ (n : ℕ). ‵ (froom (ty_array (elτ E) n) b o)) all refl $ done !
+  emptied (item ∷ items) rest b o =
+      let behind : o + suc (length items) * sz E ≡ (o + sz E) + length items * sz E = next o (length items) (sz E) in
+      let all : suc (length items + rest) ≡ suc (length items) + rest = omega arith in
+      qed 𝓛 ((‵ (part_at (R E) full_share item b o) ⊛ ‵ (row (R E) full_share items b (o + sz E))) ∷ ‵ (froom (ty_array (elτ E) rest) b (o + suc (length items) * sz E)) ∷ []) ∵
+      split ! $
       use1 𝓛 (some (λ (v : Val). given (Good E v) (‵ (fat full_share (elτ E) b o v) ⊛ ‵ (el_own E item (v ∷ []))))) (el_out E 𝓛 full_share item b o) $
-      pick ! (λ v. learn ! (λ _. split ! $ keep ! (0 ∷ 2 ∷ []) $
-      use1 𝓛 (‵ (froom (elτ E) b o)) (𝓛.laws.at_room (elτ E) b o v) $ move ! (1 ∷ []) $
-      use1 𝓛 (‵ (froom (ty_array (elτ E) (length items)) b (o + sz E))) (emptied items b (o + sz E)) $ move ! (1 ∷ []) $
-      by ! (𝓛.laws.room_cons (elτ E) (length items) b o)))
+      pick ! (λ v. learn ! (λ _. split ! $ keep ! (0 ∷ 2 ∷ 3 ∷ []) $
+      use1 𝓛 (‵ (froom (elτ E) b o)) (𝓛.laws.at_room (elτ E) b o v) $ move ! (2 ∷ []) $
+      rewrite ! 0 (λ (n : ℕ). ‵ (froom (ty_array (elτ E) rest) b n)) behind refl $ move ! (2 ∷ 0 ∷ []) $
+      use2 𝓛 (‵ (froom (ty_array (elτ E) (length items + rest)) b (o + sz E))) (emptied items rest b (o + sz E)) $ move ! (1 ∷ []) $
+      use2 𝓛 (‵ (froom (ty_array (elτ E) (suc (length items + rest))) b o)) (𝓛.laws.room_cons (elτ E) (length items + rest) b o) $
+      rewrite ! 0 (λ (n : ℕ). ‵ (froom (ty_array (elτ E) n) b o)) all refl $ done !))
 
 module _ (T : RattleType) {M : Type 1} {𝓤 : Ura M} (𝓛 : Logic 𝓤) where
   pub made_base : (p : Ptr) → ent 𝓤 (emp 𝓤) (sem 𝓛 ((Base.the_row T).own_val (record { address = p }) (word p ∷ [])))

@@ -3,6 +3,8 @@ pub mod Block
 pub mod Lends
 pub mod RawArray
 pub mod RawLends
+pub mod Part
+pub mod Filling
 pub mod Entries
 pub mod Epochs
 pub mod Undo

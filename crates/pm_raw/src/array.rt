@@ -1,5 +1,5 @@
 //! Arrays of a fixed length over raw memory.
-ghost use Rattle.std.specs.Prelude.{◌≡◌, ◌<◌, [], length, replicate, slice_set, IfOk};
+ghost use Rattle.std.specs.Prelude.{◌≡◌, ◌+◌, ◌^◌, ◌<◌, ◌≤◌, [], ◌++◌, length, replicate, slice_set, IfOk};
 ghost use Rattle.std.specs.Borrow.{sem};
 ghost use Rattle.std.specs.Vec.Ownership.{FitsInBlock};
 
@@ -107,5 +107,103 @@ impl<T: Copy> RawArray<T> {
         ensures { self.new ≡ slice_set self.old i value }
     {
         self.as_mut_slice()[i] = value;
+    }
+}
+
+/// The words of a region in the making: a block of so many places, of which the first are written. It is freed at its end.
+pub struct Filling {
+    base: Base<u64>,
+    size: usize,
+    count: usize,
+    cells: Cells<u64>,
+    deed: Deed<u64, Global>,
+    alloc: Global,
+}
+
+impl Model for Filling {
+    ghost use Rattle.pm_raw.specs.Part.{Part};
+
+    ghost Value = { Part };
+
+    ghost use Rattle.pm_raw.specs.Filling.{part_of, IsPartly};
+
+    ghost view = { part_of };
+
+    ghost invariant = { IsPartly };
+}
+
+impl Drop for Filling {
+    fn drop(self) {
+        let Filling {
+            base,
+            size,
+            count: _,
+            cells,
+            deed,
+            alloc,
+        } = self;
+        Base::deallocate(&alloc, base, size, cells, deed);
+    }
+}
+
+/// Puts the items into the first empty places, which are those from this index on.
+fn push_all<T: Copy>(cells: &mut Cells<T>, base: Base<T>, count: usize, items: &[T])
+    requires at { base.address ≡ cells.old.at }
+    requires count { count ≡ length cells.old.items }
+    requires room { count + length items.now ≤ cells.old.count }
+    requires small { cells.old.count < 2 ^ 64 }
+    ensures { cells.new ≡ record cells.old { items = cells.old.items ++ items.now } }
+{
+    for i in 0..items.len() {
+        cells.push(base, count + i, items[i]);
+    }
+}
+
+impl Filling {
+    /// No words yet, and places for so many. Fails only for want of memory; no other call takes any.
+    pub fn new(alloc: Global, size: u32) -> Result<Filling, AllocError>
+        ensures { IfOk result (λ filling. filling ≡ record { words = []; size = size }) }
+    {
+        let size = size as usize;
+        let (base, cells, deed) = Base::allocate(&alloc, size)?;
+        Ok(Filling {
+            base,
+            size,
+            count: 0,
+            cells,
+            deed,
+            alloc,
+        })
+    }
+
+    /// Puts these words behind those that are there.
+    pub fn push_all(&mut self, words: &[u64])
+        requires room { length self.old.words + length words.now ≤ self.old.size }
+        ensures { self.new ≡ record self.old { words = self.old.words ++ words.now } }
+    {
+        push_all(&mut self.cells, self.base, self.count, words);
+        self.count += words.len();
+    }
+
+    /// The words, once they are all there.
+    pub fn finish(self) -> RawArray<u64>
+        requires full { length self.words ≡ self.size }
+        ensures { result ≡ self.words }
+    {
+        let Filling {
+            base,
+            size,
+            count: _,
+            cells,
+            deed,
+            alloc,
+        } = self;
+        RawArray {
+            base,
+            len: size,
+            cells,
+            deed,
+            alloc,
+        }
     }
 }

@@ -1,6 +1,6 @@
 //! The raw memory behind an array: a block of places, of which the first ones hold an item each and the others are empty.
 //! All raw pointers of the project stand here.
-ghost use Rattle.std.specs.Prelude.{◌≡◌, ℕ, ◌<◌, List, [], ◌∷◌, ◌++◌, length, IfOk};
+ghost use Rattle.std.specs.Prelude.{◌≡◌, ℕ, ◌<◌, ◌≤◌, List, [], ◌∷◌, ◌++◌, length, IfOk};
 ghost use Rattle.std.specs.Borrow.{sem};
 ghost use Rattle.std.specs.Vec.Ownership.{FitsInBlock};
 ghost use base.Fml.{ftrue};
@@ -70,7 +70,7 @@ impl<T> Base<T> {
         }
     }
 
-    /// Gives a block back whose places all hold an item. The items are forgotten, so their type is to be `Copy`.
+    /// Gives a block back. Its items are forgotten, so their type is to be `Copy`.
     pub(crate) fn deallocate<A: Allocator>(
         alloc: &A,
         base: Base<T>,
@@ -78,7 +78,7 @@ impl<T> Base<T> {
         cells: Cells<T>,
         deed: Deed<T, A>,
     )
-        requires { IsBlock base cells deed count alloc.now × (length cells.items ≡ count) }
+        requires { IsBlock base cells deed count alloc.now × (length cells.items ≤ count) }
     {
         let Cells { of: _ } = cells;
         let Deed { of: _ } = deed;

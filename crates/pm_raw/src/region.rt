@@ -126,6 +126,15 @@ impl RawRegion {
         Ok(region)
     }
 
+    /// Puts these words in place of all of its own, as words that were there at the last drain.
+    pub fn adopt_all(&mut self, words: RawArray<u64>)
+        requires few { length words < 2 ^ 32 }
+        requires drained { self.old.events ≡ [] }
+        ensures { self.new ≡ record self.old { base = words } }
+    {
+        self.current = words;
+    }
+
     /// Puts an event that is no store at the end of the log, by its value.
     fn push_signal(&mut self, value: u64)
         requires { length self.old.events < self.old.capacity }

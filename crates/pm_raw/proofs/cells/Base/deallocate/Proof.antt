@@ -1,6 +1,6 @@
 -- The items are forgotten, and the block goes back with its deed. Assumes `Logic`.
 use mathlib.Core.Path.{◌≡◌, refl, sym, ap, subst, ◌∙◌}
-use Prim.Native.Nat.{ℕ, ◌*◌, ◌<◌, ◌^◌}
+use Prim.Native.Nat.{ℕ, ◌+◌, ◌-◌, ◌*◌, ◌<◌, ◌≤◌, ◌^◌}
 use native.Mathlib.Omega.{arith}
 use mathlib.Core.List.{List, [], ◌∷◌}
 use lib.Dec.{T as Holds}
@@ -18,7 +18,7 @@ use prog.Capped.{capped_fits}
 use prog.Memory.{align, capped}
 use prog.Wp.{WpFn}
 use types.ByLocal.{alloc_all, env, free_all, get, get_in, is, lands_last, look_at, pass_all, sets}
-use types.Kit.{‵, raw, ◌⊛◌, given, later, prop, at_ret, ◌$◌, ◌∵◌, !, qed, await, by, move, keep, drop, group, learn, use0, use1, split, split3, join, fsplit, fjoin, feq_i, flt_l, regoal, rewrite}
+use types.Kit.{‵, raw, ◌⊛◌, given, later, prop, at_ret, ◌$◌, ◌∵◌, !, qed, await, by, move, keep, drop, group, learn, use0, use1, use2, split, split3, join, fsplit, fjoin, feq_i, flt_l, regoal, rewrite}
 use types.Part.{sub, whole}
 use types.Run.{align_word, and_then, bin, blocks, enter, exec, first, fld, no_more, of_opd, returns, size_word, stop, unit_lit}
 use denote.Builtin.{RefOf, usize}
@@ -41,7 +41,7 @@ use Rattle.core.proofs.alloc.Shapes.{after}
 use Rattle.core.proofs.mem.Param.{El as Element}
 use Rattle.core.proofs.ptr.Rows.{El, apart, elτ}
 use Rattle.core.proofs.slots.Leases.{block_align, block_size, uncapped}
-use Rattle.std_alloc.proofs.RawLayout.{as_raw}
+use Rattle.std_alloc.proofs.RawLayout.{as_raw, as_written}
 use Rattle.std_alloc.proofs.RcSteps.{word, word-Good}
 use Rattle.pm_raw.specs.Block.{IsBlock}
 use Rattle.pm_raw.specs.Ownership.{deed_owns, empty_places, places_own}
@@ -102,7 +102,7 @@ deallocate_spec 𝓤 𝓛 𝓜 𝓡 wired T A L LA g d dd met md =
     let y : W.Ghost = ((κs, qs, bounds, a, (shr_vals alloc, (word base.address ∷ [], (vint w64 count ∷ [], (empty ∷ [], (empty ∷ [], tt)))))), ghost) in
     let Post : Val → SProp 𝓤 = W.post y in
     let Runs : Ptr → SProp 𝓤 = λ p. WpFn 𝓤 𝓛.H 𝓣.C 𝓣.Λ function (vptr alloc.ref_ptr.0 alloc.ref_ptr.1 ∷ word p ∷ vint w64 count ∷ empty ∷ empty ∷ []) Post in
-    let Asked = IsBlock base cells deed count alloc.now × (many ≡ count) in
+    let Asked = IsBlock base cells deed count alloc.now × (many ≤ count) in
     let alive = ‵ (flft κ q) ⊛ ‵ (flft κs.1.0 qs.1.0) ⊛ ‵ (flft κs.1.1.0 qs.1.1.0) ⊛ ‵ ftrue in
     let own_alloc = ‵ ((ShrRef (named 0) κ Heap).own_val alloc (shr_vals alloc)) in
     let own_base = ‵ ((Base.the_row Item).own_val base (word base.address ∷ [])) in
@@ -116,13 +116,16 @@ deallocate_spec 𝓤 𝓛 𝓜 𝓡 wired T A L LA g d dd met md =
     fsplit ! $ drop ! $ in_a_block ! cells.at (λ p. places_own Item p items cells.count) (nowhere Item items cells.count 𝓛) (λ b o at.
     fsplit ! $ flt_l ! (λ room. fsplit ! $
     use1 𝓛 (given (many ≡ many) (‵ (row Item full_share items b o))) (apart E 𝓛 full_share many items b o) $ learn ! (λ _.
-    use1 𝓛 (‵ (froom (ty_array (elτ E) many) b o)) (emptied E 𝓛 items b o) $
-    rewrite ! 0 (λ (n : ℕ). ‵ (froom (ty_array (elτ E) n) b o)) asked.1 refl $ as_raw ! (ty_array (elτ E) count) b o $
-    move ! (2 ∷ []) $ fsplit ! $ drop ! $
+    let rest : ℕ = cells.count - many in
+    let all : many + rest ≡ count = omega (arith, asked.0.cells_count, asked.1) in
+    move ! (1 ∷ []) $ as_written ! (ty_array (elτ E) rest) b (o + many * size) $ move ! (1 ∷ 0 ∷ []) $
+    use2 𝓛 (‵ (froom (ty_array (elτ E) (many + rest)) b o)) (emptied E 𝓛 items rest b o) $
+    rewrite ! 0 (λ (n : ℕ). ‵ (froom (ty_array (elτ E) n) b o)) all refl $ as_raw ! (ty_array (elτ E) count) b o $
+    move ! (1 ∷ []) $ fsplit ! $ drop ! $
     let one_block : base.address ≡ block_ptr b o = sym asked.0.cells_at ∙ at in
     rewrite ! 0 (λ (w : A.Denot × Ptr × ℕ). ‵ (deed_owns Item (token Z w.0) w.1 w.2)) {x = (alloc.now, block_ptr b o, count)}
     (λ i. (asked.0.deed_alloc i, (asked.0.deed_at ∙ one_block) i, asked.0.deed_count i)) refl $
-    move ! (3 ∷ []) $ fsplit ! $ drop ! $ move ! (4 ∷ []) $ split ! $ move ! (4 ∷ 3 ∷ 2 ∷ 0 ∷ []) $ keep ! (0 ∷ 1 ∷ 2 ∷ 3 ∷ 4 ∷ []) $
+    move ! (2 ∷ []) $ fsplit ! $ drop ! $ move ! (3 ∷ []) $ split ! $ move ! (4 ∷ 3 ∷ 2 ∷ 0 ∷ []) $ keep ! (0 ∷ 1 ∷ 2 ∷ 3 ∷ 4 ∷ []) $
     -- [the memory; the deed; the allocator; its lifetime's token; the other tokens]
     let small : count * size < 2 ^ 63 = subst (λ (k : ℕ). k * size < 2 ^ 63) asked.0.cells_count room in
     let bytes : count * size < 2 ^ 64 = omega arith in

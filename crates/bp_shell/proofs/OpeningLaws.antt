@@ -1,10 +1,8 @@
 -- What is known of the file of a run.
-use Rattle.std.proofs.Common.{zero, suc, refl, sym, ◌∙◌, ap, subst, arith, ◌≡◌, ◌≢◌, ◌<◌, ◌≤◌, ℕ, ◌+◌, ◌*◌, ◌-◌, List, [], ◌∷◌, ◌++◌, length, length-drop, take, drop, false, true, inl, inr}
+use Rattle.std.proofs.Common.{zero, suc, refl, sym, ◌∙◌, ap, arith, ◌≡◌, ◌≢◌, ℕ, ◌+◌, ◌*◌, ◌-◌, List, [], ◌∷◌, ◌++◌, length, take, false, true, inl, inr}
 use Rattle.std.specs.Prelude.{Some, None, ◌⊎◌}
-use Rattle.std.proofs.Math.Seq.{take-add, take-append_seam, take-length}
-use Rattle.std.proofs.lemmas.List.{append_assoc, length-append, length-take-le}
-use Rattle.pm_region.specs.Memory.{Memory as RegionMemory, with_values}
-use Rattle.bp_io.specs.Files.{Known, Stays, Tells, Answers, Attaches, Reads, View, block_of}
+use Rattle.std.proofs.Math.Seq.{take-add, take-length}
+use Rattle.bp_io.specs.Files.{Known, Stays, Tells, Answers, Reads, View, block_of}
 use Rattle.bp_session.proofs.SavingLaws.{stays_attached, still_attached}
 use Rattle.bp_layout.specs.Bytes.{image_bytes}
 use Rattle.bp_free.specs.Set.{Set, has, members}
@@ -17,7 +15,7 @@ use Rattle.bp_scan.specs.declared.fault.MountFault.TheVariants as f
 use Rattle.bp_script.specs.declared.notices.Notice.{Notice}
 use Rattle.bp_script.specs.declared.notices.Notice.TheVariants.{NotFormatted, BadSize, Damaged}
 use Rattle.bp_session.proofs.BlockLaws.{image_bytes-append}
-use Rattle.bp_session.specs.Files.{AreWordsOf64Bits, HasBytes, HasLength, HasImage, Holds, HoldsFront}
+use Rattle.bp_session.specs.Files.{AreWordsOf64Bits, HasBytes, HasLength, Holds, HoldsFront}
 use Rattle.bp_shell.specs.Opening.{FindsImage, HasSized, RefusesFile}
 use Rattle.bp_shell.specs.Opening.RefusesFile.{by_length, not_formatted, by_count, damaged}
 use Rattle.bp_shell.specs.Stops.{stop_by}
@@ -71,41 +69,13 @@ tells_all (Some (Some bytes)) P all = all bytes
 
 -- ---- an image that is loaded
 
--- the first words, with those of one more block
-pub front_next : (base words : Image) (i count : ℕ) → length base ≡ 512 * count → length words ≡ 512 → i < count → take (512 * (i + 1)) (with_values base (512 * i) words) ≡ take (512 * i) base ++ words
-front_next base words i count size long low =
-    let front = take (512 * i) base in
-    let rest = drop (512 * i + length words) base in
-    let inside : 512 * i ≤ length base = omega arith in
-    let width : length (front ++ words) ≡ 512 * (i + 1) = omega (arith, length-append front words, length-take-le (512 * i) base inside) in
-    ap (λ n. take n (front ++ (words ++ rest))) (sym width) ∙ ap (λ l. take (length (front ++ words)) l) (sym (append_assoc front words rest)) ∙ take-append_seam (front ++ words) rest
+pub bytes_next : (base words : Image) (bytes : List ℕ) → image_bytes words ≡ bytes → image_bytes (base ++ words) ≡ image_bytes base ++ bytes
+bytes_next base words bytes spelled = image_bytes-append base words ∙ ap (λ l. image_bytes base ++ l) spelled
 
-pub size_next : (base words : Image) (i count : ℕ) → length base ≡ 512 * count → length words ≡ 512 → i < count → length (with_values base (512 * i) words) ≡ 512 * count
-size_next base words i count size long low =
-    let front = take (512 * i) base in
-    let rest = drop (512 * i + length words) base in
-    let inside : 512 * i ≤ length base = omega arith in
-    omega (arith, length-append front (words ++ rest), length-append words rest, length-take-le (512 * i) base inside, length-drop (512 * i + length words) base)
-
-pub bytes_next : (base words : Image) (bytes : List ℕ) (i count : ℕ) → length base ≡ 512 * count → length words ≡ 512 → i < count → image_bytes words ≡ bytes
-    → image_bytes (take (512 * (i + 1)) (with_values base (512 * i) words)) ≡ image_bytes (take (512 * i) base) ++ bytes
-bytes_next base words bytes i count size long low spelled =
-    ap image_bytes (front_next base words i count size long low) ∙ image_bytes-append (take (512 * i) base) words ∙ ap (λ l. image_bytes (take (512 * i) base) ++ l) spelled
-
-words_append : (first second : Image) → AreWordsOf64Bits first → AreWordsOf64Bits second → AreWordsOf64Bits (first ++ second)
+pub words_append : (first second : Image) → AreWordsOf64Bits first → AreWordsOf64Bits second → AreWordsOf64Bits (first ++ second)
 words_append [] second low high place = high place
 words_append (w ∷ first) second low high zero = low zero
 words_append (w ∷ first) second low high (suc place) = words_append first second (λ k. low (suc k)) high place
-
-pub words_next : (base words : Image) (i count : ℕ) → length base ≡ 512 * count → length words ≡ 512 → i < count → AreWordsOf64Bits (take (512 * i) base) → AreWordsOf64Bits words
-    → AreWordsOf64Bits (take (512 * (i + 1)) (with_values base (512 * i) words))
-words_next base words i count size long low before here =
-    let P : Image → Type 0 = λ l. AreWordsOf64Bits l in
-    subst P (sym (front_next base words i count size long low)) (words_append (take (512 * i) base) words before here)
-
-pub rest_kept : (first second third : RegionMemory) (words : Image) → second ≡ record first { base = second.base } → third ≡ record second { base = words } → third ≡ record first { base = third.base }
-rest_kept first second third words one two =
-    two ∙ ap (λ (m : RegionMemory). record m { base = words }) one ∙ ap (λ l. record first { base = l }) (sym (ap (λ (m : RegionMemory). m.base) two))
 
 pub no_words : image_bytes [] ≡ []
 unfolding image_bytes

@@ -1,7 +1,6 @@
 //! The file of a program.
 
-ghost use Rattle.pm_region.specs.Memory.{with_values};
-ghost use Rattle.std.specs.Prelude.{◌≡◌, ◌<◌, ◌≤◌, ◌+◌, ◌*◌, [], List, ℕ, ◌⊎◌, IfErr, IfOk, OnOk, false, length, true};
+ghost use Rattle.std.specs.Prelude.{◌≡◌, ◌<◌, ◌≤◌, ◌+◌, ◌*◌, ◌++◌, [], List, ℕ, ◌⊎◌, IfErr, IfOk, OnOk, false, length, true};
 ghost use Rattle.bp_io.specs.Files.{Known, Reads, makes, may_change};
 ghost use Rattle.bp_layout.specs.WellFormed.{IsWellFormed};
 ghost use Rattle.bp_layout.specs.Words.{Image, block_count};
@@ -19,35 +18,28 @@ use bp_scan::{MountFault, image_length};
 use bp_script::Notice;
 use bp_session::blocks::decode;
 use bp_volume::Volume;
-use pm_raw::RawRegion;
-use pm_region::Region;
+use pm_raw::{Filling, RawRegion};
 use std::alloc::Global;
 
-// Puts the words of block `i` in their place. They are words of 64 bits, as their type says.
-fn adopt_block<R: Region>(region: &mut R, i: u32, words: &[u64; 512])
-    requires inside { block_words * i + block_words ≤ length (R.memory region.old).base }
-    requires few { i < MAX_BLOCKS }
-    requires drained { (R.memory region.old).events ≡ [] }
-    ensures adopted { R.memory region.new ≡ record (R.memory region.old) {
-      base = with_values (R.memory region.old).base (block_words * i) words.now;
-    } }
+// Puts a block's words behind those that are there. They are words of 64 bits, as their type says.
+fn push_block(filling: &mut Filling, words: &[u64; 512])
+    requires room { length filling.old.words + block_words ≤ filling.old.size }
+    ensures pushed { filling.new ≡ record filling.old { words = filling.old.words ++ words.now } }
     ensures words { AreWordsOf64Bits words.now }
 {
-    region.adopt_words(BLOCK_WORDS * i, words);
+    filling.push_all(words);
 }
 
-// Reads the attached file into a region of its size with an empty log, as words that were there at the last drain.
-fn load<F: Files, R: Region>(region: &mut R, count: u32, files: &mut F) -> Result<(), Stop>
+// Reads the attached file, as the words of a region in the making of its size.
+fn load<F: Files>(filling: &mut Filling, count: u32, files: &mut F) -> Result<(), Stop>
     requires count { count ≡ (F.view files.old).blocks }
-    requires few { count ≤ MAX_BLOCKS }
-    requires size { length (R.memory region.old).base ≡ block_words * count }
-    requires drained { (R.memory region.old).events ≡ [] }
+    requires size { filling.old ≡ record { words = []; size = block_words * count } }
     ensures kinds { IfErr result (λ e. e ≡ Outside) }
     ensures cause { HasStopCause (F.view files.old).faults (F.view files.new).faults result }
-    ensures image { OnOk result (HoldsFront (F.view files.old) count (R.memory region.new).base) }
-    ensures words { OnOk result (AreWordsOf64Bits (R.memory region.new).base) }
-    ensures size { length (R.memory region.new).base ≡ block_words * count }
-    ensures rest { R.memory region.new ≡ record (R.memory region.old) { base = (R.memory region.new).base } }
+    ensures image { OnOk result (HoldsFront (F.view files.old) count filling.new.words) }
+    ensures words { OnOk result (AreWordsOf64Bits filling.new.words) }
+    ensures whole { OnOk result (length filling.new.words ≡ block_words * count) }
+    ensures size { filling.new.size ≡ block_words * count }
     ensures reads { Reads (F.view files.old) (F.view files.new) }
 {
     let mut block = [0u8; 4096];
@@ -57,7 +49,7 @@ fn load<F: Files, R: Region>(region: &mut R, count: u32, files: &mut F) -> Resul
             Ok(()) => decode(&block, &mut words),
             Err(Failed) => return Err(Stop::Outside),
         }
-        adopt_block(region, i, &words);
+        push_block(filling, &words);
     }
     Ok(())
 }
@@ -116,12 +108,19 @@ pub(crate) fn load_file<F: Files>(
         Ok(count) => count,
         Err(stop) => return Err(stop),
     };
-    let mut region = match RawRegion::new(alloc, BLOCK_WORDS * count, LOG_EVENTS) {
+    let mut region = match RawRegion::new(alloc, 0, LOG_EVENTS) {
         Ok(region) => region,
         Err(_) => return Err(Stop::Memory),
     };
-    match load(&mut region, count, files) {
-        Ok(()) => Ok(region),
+    let mut filling = match Filling::new(alloc, BLOCK_WORDS * count) {
+        Ok(filling) => filling,
+        Err(_) => return Err(Stop::Memory),
+    };
+    match load(&mut filling, count, files) {
+        Ok(()) => {
+            region.adopt_all(filling.finish());
+            Ok(region)
+        }
         Err(stop) => Err(stop),
     }
 }

@@ -1,4 +1,4 @@
-use Rattle.std.proofs.Common.{arith, ◌∙◌, ◌≡◌, ◌*◌, sym}
+use Rattle.std.proofs.Common.{arith, ◌∙◌, sym}
 use Rattle.bp_shell.proofs.OpeningLaws.{has_length, stop_refused_length, never_missing}
 use Rattle.bp_shell.proofs.opening.find_image.Goals as goal
 

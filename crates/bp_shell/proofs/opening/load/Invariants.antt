@@ -1,4 +1,4 @@
-use Rattle.std.proofs.Common.{◌≡◌, ◌*◌, length, take}
+use Rattle.std.proofs.Common.{◌≡◌, ◌*◌, length}
 use Rattle.bp_io.specs.Files.{Reads}
 use Rattle.bp_session.specs.Files.{AreWordsOf64Bits, HoldsFront}
 use Rattle.bp_shell.proofs.opening.load.Given as goal
@@ -7,10 +7,10 @@ use Rattle.bp_shell.proofs.opening.load.Given as goal
 abbrev pub invariant-loop-i : goal.invariant-loop-i
 invariant-loop-i g l =
     record {
-      image : HoldsFront (g.F.Files.view l.fn.files) l.i (take (512 * l.i) (g.R.Region.memory l.region).base);
-      size : length (g.R.Region.memory l.region).base ≡ 512 * l.count;
-      words : AreWordsOf64Bits (take (512 * l.i) (g.R.Region.memory l.region).base);
-      rest : g.R.Region.memory l.region ≡ record (g.R.Region.memory l.fn.region) { base = (g.R.Region.memory l.region).base };
+      image : HoldsFront (g.F.Files.view l.fn.files) l.i l.filling.words;
+      long : length l.filling.words ≡ 512 * l.i;
+      size : l.filling.size ≡ 512 * l.count;
+      words : AreWordsOf64Bits l.filling.words;
       reads : Reads (g.F.Files.view l.fn.files) (g.F.Files.view l.files);
       faults : (g.F.Files.view l.files).faults ≡ (g.F.Files.view l.fn.files).faults;
     }

@@ -40,10 +40,7 @@ fn tell_names<K: Sink>(listing: &Listing, text: &mut Vec<u8>, out: &mut K) -> Re
 {
     for i in 0..listing.len() {
         let (kind, name) = listing.at(i);
-        let said = Said::Name {
-            kind: *kind,
-            name: name.as_slice(),
-        };
+        let said = Said::Name { kind, name };
         tell_line(&said, text, out)?;
     }
     tell_line(&Said::End, text, out)

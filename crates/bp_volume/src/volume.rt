@@ -349,13 +349,21 @@ impl<R: Region> Volume<R> {
             Call::Mkdir(path) => tell_done(reply, self.mkdir(path)),
             Call::Unlink(path) => tell_done(reply, self.unlink(path)),
             Call::Rmdir(path) => tell_done(reply, self.rmdir(path)),
-            Call::List(path) => tell_list(reply, self.list(alloc, path)),
+            Call::List(path) => self.apply_list(alloc, path, reply),
             Call::Stat(path) => tell_stat(reply, self.stat(path)),
             Call::Read { path, off, len } => self.apply_read(path, *off, *len, reply),
             Call::Write { path, off, bytes } => tell_done(reply, self.write(path, *off, bytes)),
             Call::Truncate { path, size } => tell_done(reply, self.truncate(path, *size)),
             Call::Rename { from, to } => tell_done(reply, self.rename(from, to)),
         }
+    }
+
+    /// Lists the names in a directory in a reply, which gives the memory of the last one back before.
+    fn apply_list(&mut self, alloc: Global, path: &[u8], reply: &mut Reply)
+        ensures { FileCall self.old (list path.now) reply.new.answer self.new }
+    {
+        reply.set_done();
+        tell_list(reply, self.list(alloc, path));
     }
 
     /// Reads so many bytes at most into the front of `buffer`.

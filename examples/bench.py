@@ -68,9 +68,31 @@ def writes(bench):
         sizes[i] = max(sizes[i], at + count)
     bench.case("small-writes", small, lines)
 
+    sizes, lines = [0] * 40, []
+    for _ in range(bench.times(200000)):
+        i, count = draw.randrange(40), draw.choice([1, 3, 8, 8, 8, 20, 50, 100, 200])
+        if sizes[i] > 60000:
+            lines.append(f"truncate /f{i} 0")
+            sizes[i] = 0
+            continue
+        lines.append(f"write /f{i} {sizes[i]} {bench.digits(count)}")
+        sizes[i] += count
+    bench.case("small-appends", small, lines)
+
+    filled = bench.image("filled", 2048, [line for i in range(40) for line in (f"create /f{i}", f"write /f{i} 0 {bench.digits(60000)}")])
+    for count in (8, 200, 4096):
+        turns = bench.times(200000 if count < 4096 else 30000)
+        bench.case(f"write-{count}-below-small", filled, [f"write /f{draw.randrange(40)} {draw.randrange(60000 - count)} {bench.digits(count)}" for _ in range(turns)])
+        places = [count * draw.randrange(60000 // count - 1) for _ in range(turns)]
+        bench.case(f"write-{count}-aligned-small", filled, [f"write /f{draw.randrange(40)} {at} {bench.digits(count)}" for at in places])
+
     large = bench.image("large", 8192, [f"create /b{i}" for i in range(8)])
     wholes = [f"write /b{draw.randrange(8)} {65536 * draw.randrange(20)} {bench.digits(65536)}" for _ in range(bench.times(600))]
     bench.case("write-64k-aligned", large, wholes)
+    appends = []
+    for _ in range(bench.times(30)):
+        appends += [f"write /b{i} {65536 * at} {bench.digits(65536)}" for at in range(6) for i in range(8)] + [f"truncate /b{i} 0" for i in range(8)]
+    bench.case("append-64k", large, appends)
     others = [f"write /b{draw.randrange(8)} {65536 * draw.randrange(20) + draw.choice([100, 4000])} {bench.digits(65536)}" for _ in range(bench.times(600))]
     bench.case("write-64k-shifted", large, others)
 

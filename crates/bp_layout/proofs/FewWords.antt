@@ -1,5 +1,5 @@
 -- An image has few words.
-use Rattle.std.proofs.Common.{ℕ, ◌^◌, ◌<◌, length, arith}
+use Rattle.std.proofs.Common.{◌^◌, ◌<◌, length, arith}
 use Rattle.bp_layout.specs.Words.{Image}
 use Rattle.bp_layout.specs.WellFormed.{IsWellFormed}
 

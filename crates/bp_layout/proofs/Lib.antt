@@ -20,3 +20,4 @@ pub mod NameBytes
 pub mod SameLaws
 pub mod Pieces
 pub mod FewWords
+pub mod ListedLaws

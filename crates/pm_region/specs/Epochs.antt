@@ -1,14 +1,8 @@
 -- Where the epochs of a log begin.
-use Rattle.std.specs.Prelude.{ℕ, Bool, true, false, List, [], ◌∷◌}
+use Rattle.std.specs.Prelude.{ℕ, List, [], ◌∷◌}
 use Rattle.std.proofs.Common.{zero, suc}
 use Rattle.pm_epochs.specs.declared.event.Event.{Event}
 use Rattle.pm_epochs.specs.declared.event.Event.TheVariants.{Store, Barrier, Mark}
-
--- whether an event is a barrier
-abbrev pub is_barrier : Event → Bool
-is_barrier (Store word value) = false
-is_barrier Barrier = true
-is_barrier Mark = false
 
 -- how many events stand before an epoch: those up to the barrier with its number, counted from 1
 abbrev pub epoch_start : ℕ → List Event → ℕ

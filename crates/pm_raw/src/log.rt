@@ -1,7 +1,5 @@
 ghost use Rattle.std.specs.Prelude.{◌≡◌, ◌<◌, ◌≤◌, length, take, drop, slice_get, slice_index_or, Some};
-ghost use Rattle.pm_epochs.specs.declared.event.Event.TheVariants.{Mark};
 ghost use Rattle.pm_raw.specs.Entries.{event_of, events_of};
-ghost use Rattle.pm_raw.specs.Epochs.{is_barrier};
 
 use pm_epochs::Event;
 use std::marker::Model;
@@ -50,18 +48,6 @@ fn read_event(word: u32, value: u64) -> Event
     }
 }
 
-/// Whether the event with this word and this value is a barrier.
-#[tactic(auto, using(std::proofs::lemmas::Bool::Decides::nat_tests))]
-fn reads_barrier(word: u32, value: u64) -> bool
-    ensures { result ≡ is_barrier (event_of word value) }
-{
-    if word == NO_WORD {
-        value == BARRIER
-    } else {
-        false
-    }
-}
-
 impl<'a> Log<'a> {
     /// The log of these words and values.
     pub fn new(words: &'a [u32], values: &'a [u64]) -> Log<'a>
@@ -87,16 +73,6 @@ impl<'a> Log<'a> {
     {
         let (words, values) = (self.words, self.values);
         read_event(words[i], values[i])
-    }
-
-    /// Whether an event is a barrier, by its number from 0.
-    #[tactic(auto, using(crate::proofs::EntryLaws::length_events))]
-    pub fn is_barrier(&self, i: usize) -> bool
-        requires { i < length self.now }
-        ensures { result ≡ is_barrier (slice_index_or self.now i Mark) }
-    {
-        let (words, values) = (self.words, self.values);
-        reads_barrier(words[i], values[i])
     }
 
     /// The first events, as many as are wanted.

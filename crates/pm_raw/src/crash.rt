@@ -79,8 +79,8 @@ pub fn start_of(log: &Log<'_>, barrier_places: &Places, choice: &Choice) -> Resu
     Ok(start)
 }
 
-/// How many calls a crash keeps that keeps the stores before `start`, where its epoch begins, and how many there are, in a log
-/// with these marks.
+/// How many calls a crash keeps that keeps the stores before `start`, where its epoch begins, and how many there are. The log
+/// has these marks.
 pub fn kept_calls(log: &Log<'_>, mark_places: &Places, start: usize, choice: &Choice) -> Kept
     requires places { mark_places.now.items ≡ places_where is_mark 0 log.now }
     requires start { start ≡ epoch_start choice.now.cut.epoch log.now }

@@ -1,5 +1,6 @@
 ghost use Rattle.std.specs.Prelude.{◌≡◌, ◌<◌, ◌≤◌, length, take, drop, slice_get, slice_index_or, Some};
-ghost use Rattle.pm_raw.specs.Entries.{event_of, events_of};
+ghost use Rattle.pm_epochs.specs.declared.event.Event.TheVariants.{Mark};
+ghost use Rattle.pm_raw.specs.Entries.{event_of, events_of, word_of};
 
 use pm_epochs::Event;
 use std::marker::Model;
@@ -73,6 +74,16 @@ impl<'a> Log<'a> {
     {
         let (words, values) = (self.words, self.values);
         read_event(words[i], values[i])
+    }
+
+    /// The word of an event, by its number from 0. It is `NO_WORD` where the event is no store.
+    #[tactic(auto, using(crate::proofs::EntryLaws::length_events))]
+    pub fn word(&self, i: usize) -> u32
+        requires { i < length self.now }
+        ensures { result ≡ word_of (slice_index_or self.now i Mark) }
+    {
+        let words = self.words;
+        words[i]
     }
 
     /// The first events, as many as are wanted.

@@ -1,4 +1,4 @@
-use Rattle.std.proofs.Common.{◌≡◌, ℕ, ◌+◌, ◌-◌, ◌*◌, ◌≤◌, ◌<◌, length, take, drop, get_or, ◌∙◌, sym, ap, refl, arith}
+use Rattle.std.proofs.Common.{◌≡◌, ℕ, ◌+◌, ◌-◌, ◌*◌, ◌<◌, length, get_or, ◌∙◌, sym, ap, refl, arith}
 use Rattle.bp_cow.proofs.CopyLaws.{part_of, length-part}
 use Rattle.bp_cow.proofs.SlotLaws.{part_at}
 use Rattle.bp_cow.proofs.copies.is_alike.Goals as goal

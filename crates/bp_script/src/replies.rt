@@ -4,8 +4,8 @@ ghost use Rattle.bp_limits.specs.Limits.{max_name, max_read, max_text};
 ghost use Rattle.bp_plain.specs.Seen.{refusal_of};
 ghost use Rattle.bp_plain.specs.SeenAnswers.{answer_seen};
 ghost use Rattle.bp_script.specs.Sayings.{FitsReply, IsLine, said_text};
-ghost use Rattle.bp_script.specs.Texts.{answer_text, data_text, entry_text, kept_text, kind_letter, log_text, name_text, refusal_text};
-ghost use Rattle.std.specs.Prelude.{codes, drop, length, take, ◌*◌, ◌+◌, ◌++◌, ◌≡◌, ◌≤◌};
+ghost use Rattle.bp_script.specs.Texts.{answer_text, data_text, entry_text, is_escaped, kept_text, kind_letter, log_text, name_text, refusal_text};
+ghost use Rattle.std.specs.Prelude.{IsTrue, codes, drop, length, take, ◌*◌, ◌+◌, ◌++◌, ◌≡◌, ◌≤◌};
 
 use crate::pieces::{put, put_digits, write_pair, write_pieces};
 use bp_layout::Kind;
@@ -210,9 +210,41 @@ fn name_front(kind: Kind) -> &'static str
     }
 }
 
-/// Writes the text of a name at a place of a buffer, and tells where it ends. Few bytes are escaped, so mostly it
-/// is one piece.
+/// Writes the text of a name at a place of a buffer, and tells where it ends.
 fn put_name(into: &mut [u8], at: usize, name: &[u8]) -> usize
+    requires { at + length (name_text name.now) ≤ length into.old }
+    ensures text { into.new ≡
+        take at into.old ++ name_text name.now ++ drop (at + length (name_text name.now)) into.old }
+    ensures end { result ≡ at + length (name_text name.now) }
+{
+    // Few names have a byte to escape, and the others are copied in one go.
+    if is_plain(name) {
+        put(into, at, name)
+    } else {
+        put_escaped(into, at, name)
+    }
+}
+
+/// Whether a name has no byte to escape. It looks at all bytes, so that it can look at many at once.
+fn is_plain(name: &[u8]) -> bool
+    ensures { IsTrue result → name_text name.now ≡ name.now }
+{
+    let mut plain = true;
+    for byte in name {
+        plain &= !is_escaped(*byte);
+    }
+    plain
+}
+
+/// Whether a byte of a name is escaped.
+fn is_escaped(byte: u8) -> bool
+    ensures { result ≡ is_escaped byte }
+{
+    (byte <= b' ') | (byte >= 127) | (byte == b'%') | (byte == b'/')
+}
+
+/// Writes the text of a name run by run, as [`put_name`] does.
+fn put_escaped(into: &mut [u8], at: usize, name: &[u8]) -> usize
     requires { at + length (name_text name.now) ≤ length into.old }
     ensures text { into.new ≡
         take at into.old ++ name_text name.now ++ drop (at + length (name_text name.now)) into.old }

@@ -4,7 +4,7 @@ use Rattle.percent_encoding.specs.Iter.{encoded_text}
 use Rattle.bp_script.specs.Texts.{name_text}
 use Rattle.bp_script.proofs.NameText.{percent_encode-name}
 use Rattle.bp_script.proofs.WrittenPieces.{nothing_written, next_fits, one_more, end_is, text_is}
-use Rattle.bp_script.proofs.replies.put_name.Goals as goal
+use Rattle.bp_script.proofs.replies.put_escaped.Goals as goal
 
 -- how long all is that is written, and what stood before it
 whole_is : (first name : List ℕ) (at : ℕ) → at + length (name_text name) ≤ length first → length (take at first ++ name_text name) ≡ at + length (name_text name)

@@ -17,4 +17,4 @@ mod tests;
 pub use checking::check_names;
 pub use entry::Spelled;
 pub use fault::NameFault;
-pub use places::next_place;
+pub use places::{named_in_row, next_place};

@@ -1,4 +1,4 @@
-use Rattle.bp_calls.proofs.reading.list.Goals as goal
+use Rattle.bp_calls.proofs.listing.list.Goals as goal
 
 pub returns : goal.returns
 returns g c = record {

@@ -13,10 +13,11 @@ ghost use Rattle.pm_region.specs.Memory.{current_words};
 
 use crate::pending::make_room;
 use crate::trees::enter;
+use bp_dirs::entry_place;
 use bp_free::{Blocks, Inodes};
 use bp_inodes::{get, inode_file};
 use bp_limits::{ENTRY_SIZE, INODE_SIZE};
-use bp_spelling::{NameFault, Spelled, check_names, named_in_row, next_place};
+use bp_spelling::{NameFault, Spelled, check_names, named_in_row};
 use bp_tree::Tree;
 use bp_walk::CheckFault;
 use pm_region::Region;
@@ -51,7 +52,8 @@ fn read_entry<R: Region>(
     todo: &mut Inodes,
 ) -> Result<(), CheckFault>
     requires ready { IsOpen (current_words (R.memory region.now)) }
-    requires inside { IsInside (current_words (R.memory region.now)) blocks.old inodes.old todo.old directory slot.number }
+    requires inside { let words = current_words (R.memory region.now) in
+        IsInside words blocks.old inodes.old todo.old directory slot.number }
     requires live { slot.number < directory.tree.size / entry_size }
     requires place { slot.place ≡ entry_place_in (current_words (R.memory region.now)) directory.tree.root slot.number }
     requires named { slot.named ≡ inumber_in (current_words (R.memory region.now)) directory.tree.root slot.number }
@@ -101,7 +103,7 @@ fn read_leaf<R: Region>(
     ensures inode_room { length inodes.new ≡ length inodes.old }
     ensures todo_room { length todo.new ≡ length todo.old }
 {
-    let place = next_place(region, directory.tree, first, 0);
+    let place = entry_place(region, directory.tree, first, 0);
     let count = (directory.tree.size / ENTRY_SIZE - first).min(16) as u32;
     let named = named_in_row(region, place, count);
     for k in 0..count {

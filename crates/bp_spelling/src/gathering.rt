@@ -13,13 +13,14 @@ ghost use Rattle.pm_region.specs.Memory.{current_words};
 use crate::entry::Spelled;
 use crate::form::is_name;
 use crate::hashing::hash_name;
-use crate::places::{named_in_row, next_place};
+use crate::rows::named_in_row;
+use bp_dirs::entry_place;
 use bp_limits::ENTRY_SIZE;
 use bp_tree::Tree;
 use pm_region::Region;
 
-/// Writes down the entries of a leaf, those from a slot on, behind so many that were written down before, and says how many
-/// there are then.
+/// Writes down the entries of a leaf, those from a slot on, behind so many that were written down before, and says how
+/// many there are then.
 fn gather_leaf<R: Region>(
     region: &R,
     tree: Tree,
@@ -41,7 +42,7 @@ fn gather_leaf<R: Region>(
     ensures room { length entries.new ≡ length entries.old }
 {
     let _words = region.words();
-    let row = next_place(region, tree, first, 0);
+    let row = entry_place(region, tree, first, 0);
     let slots = (tree.size / ENTRY_SIZE - first).min(16) as u32;
     let named = named_in_row(region, row, slots);
     let mut count = before;

@@ -20,14 +20,14 @@ returns-then-not-is_name-clause-err g c =
     let slot = c.args.first + k in
     let live : slot < size / 256 = omega (arith, c.loop-k-test.true) in
     let row : k < 16 = omega (arith, c.loop-k-test.true) in
-    let there : c.next_place-row.result + 32 * k ≡ entry_place_in image root slot = omega (arith, c.next_place-row.ensures, row_place image root c.args.first k c.requires.starts row) in
+    let there : c.entry_place-row.result + 32 * k ≡ entry_place_in image root slot = omega (arith, c.entry_place-row.ensures.place, row_place image root c.args.first k c.requires.starts row) in
     let read : slice_index c.named_in_row-named.result k ≡ inumber_in image root slot =
     c.named_in_row-named.ensures k c.loop-k-test.true ∙ ap (word image) there ∙ sym (inumber-there image root size slot c.requires.full live) in
     record {
       slot = slot;
       used = record { live = live; some = λ none. c.if-named-k-ne0.true (read ∙ none) };
       wrong = λ is.
-          let good : IsName (name_there image (c.next_place-row.result + 32 * k)) =
+          let good : IsName (name_there image (c.entry_place-row.result + 32 * k)) =
           subst (λ (p : ℕ). IsName (name_there image p)) (sym there) (form-in image root size slot c.requires.full live is) in
           true≢false (sym (c.is_name.ensures.1 good) ∙ c.if-not-is_name.true);
       there = ap (λ p. p + 1) there;
@@ -35,7 +35,7 @@ returns-then-not-is_name-clause-err g c =
 
 pub hash_name-requires-clause-short : goal.hash_name-requires-clause-short
 hash_name-requires-clause-short g c =
-    name-short (current_words (g.R.Region.memory c.args.region.now)) (c.next_place-row.result + 32 * c.loop-k.k) (c.is_name.ensures.0 c.if-not-is_name.false)
+    name-short (current_words (g.R.Region.memory c.args.region.now)) (c.entry_place-row.result + 32 * c.loop-k.k) (c.is_name.ensures.0 c.if-not-is_name.false)
 
 pub loop-k-preserved : goal.loop-k-preserved
 loop-k-preserved g c =
@@ -46,7 +46,7 @@ loop-k-preserved g c =
     let slot = c.args.first + k in
     let live : slot < size / 256 = omega (arith, c.loop-k-test.true) in
     let row : k < 16 = omega (arith, c.loop-k-test.true) in
-    let there : c.next_place-row.result + 32 * k ≡ entry_place_in image root slot = omega (arith, c.next_place-row.ensures, row_place image root c.args.first k c.requires.starts row) in
+    let there : c.entry_place-row.result + 32 * k ≡ entry_place_in image root slot = omega (arith, c.entry_place-row.ensures.place, row_place image root c.args.first k c.requires.starts row) in
     let read : slice_index c.named_in_row-named.result k ≡ inumber_in image root slot =
     c.named_in_row-named.ensures k c.loop-k-test.true ∙ ap (word image) there ∙ sym (inumber-there image root size slot c.requires.full live) in
     let next : slot + 1 ≡ c.args.first + (k + 1) = omega arith in

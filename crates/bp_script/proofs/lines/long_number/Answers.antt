@@ -1,12 +1,12 @@
-use Rattle.std.proofs.Common.{◌≡◌, ◌∙◌, get_or, length, refl, sym, ap, arith}
+use Rattle.std.proofs.Common.{◌≡◌, ◌∙◌, get_or, refl, sym, ap, arith}
 use Rattle.std.specs.Str.Parse.{digits_value}
 use Rattle.std.proofs.lemmas.Int.Digits.{digits_value_more}
 use Rattle.std.proofs.lemmas.List.{take_all}
 use Rattle.std.proofs.lemmas.List.Folds.{list_all_more}
 use Rattle.std.specs.Char.{is_ascii_digit}
 use Rattle.std.specs.List.{list_all}
-use Rattle.bp_script.proofs.Numbers.{digit_is, not_empty, number_is, number_too_large}
-use Rattle.bp_script.proofs.lines.number.Goals as goal
+use Rattle.bp_script.proofs.Numbers.{digit_is, number_is, number_too_large}
+use Rattle.bp_script.proofs.lines.long_number.Goals as goal
 
 pub returns-in_err-checked_mul : goal.returns-in_err-checked_mul
 returns-in_err-checked_mul c =
@@ -36,4 +36,4 @@ returns c =
     let all = take_all c.loop-byte.byte-index word (omega arith) in
     let value : c.loop-byte.value ≡ digits_value 10 word = c.loop-byte.invariant.value ∙ ap (digits_value 10) all in
     let digits = ap (list_all is_ascii_digit) (sym all) ∙ c.loop-byte.invariant.digits in
-    rw value (sym (number_is word (not_empty (length word) (sym c.is_empty.ensures ∙ c.if-is_empty.false)) (omega arith) digits (omega (arith, value, c.loop-byte.invariant.fits))))
+    rw value (sym (number_is word (omega arith) (omega arith) digits (omega (arith, value, c.loop-byte.invariant.fits))))

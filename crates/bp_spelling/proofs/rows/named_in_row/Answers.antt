@@ -4,7 +4,7 @@ use Rattle.std.proofs.lemmas.List.{get_or-set_same, get_or-set_other, length-set
 use Rattle.pm_region.specs.Memory.{current_words}
 use Rattle.bp_tree.proofs.RegionWords.{length_now}
 use Rattle.bp_layout.specs.Words.{word}
-use Rattle.bp_spelling.proofs.places.named_in_row.Goals as goal
+use Rattle.bp_spelling.proofs.rows.named_in_row.Goals as goal
 
 pub overflow_add-place : goal.overflow_add-place
 overflow_add-place g c = omega (arith, length_now (g.R.Region.memory c.args.region.now), c.requires.within, c.loop-k-test.true)

@@ -1,5 +1,5 @@
 -- Which words a file holds.
-use Rattle.std.specs.Prelude.{◌≡◌, ◌⊎◌, ℕ, List, None, Some, ⊤, true, is_some, length, take, drop, ◌++◌, ◌*◌, ◌<◌, ◌^◌}
+use Rattle.std.specs.Prelude.{◌≡◌, ◌⊎◌, ℕ, List, None, Some, ⊤, Bool, true, is_some, length, take, drop, ◌++◌, ◌*◌, ◌<◌, ◌^◌}
 use Rattle.bp_limits.specs.Limits.{block_size, block_words}
 use Rattle.bp_io.specs.Files.{Known, Tells, View, block_of}
 use Rattle.bp_layout.specs.Words.{Image, word}
@@ -57,6 +57,11 @@ pub record Holds (files : View) (name : List ℕ) (image : Image) : Type 0 where
   pub attached : files.is_attached name ≡ true
   pub size : length image ≡ block_words * files.blocks
   pub bytes : HasBytes (files.contents name) (image_bytes image)
+
+-- It holds the first words, and where it is taken to hold the others, it does. Where its bytes are told, both are the same then.
+pub record HoldsAs (is_saved : Bool) (files : View) (words : Image) (name : List ℕ) (image : Image) : Type 0 where
+  pub file : Holds files name image
+  pub current : is_saved ≡ true → Holds files name words
 
 -- It is attached, and each of its blocks is that of the first words or of the second.
 pub record HoldsPartly (files : View) (name : List ℕ) (first second : Image) : Type 0 where

@@ -1,5 +1,5 @@
 -- What serving some of an input does, from one moment to another.
-use Rattle.std.specs.Prelude.{◌≡◌, ◌≤◌, ◌⊎◌, ℕ, ◌<◌, List, [], ◌∷◌, ◌++◌, Some, true, length, take, Option}
+use Rattle.std.specs.Prelude.{◌≡◌, ◌≤◌, ◌⊎◌, ℕ, ◌<◌, List, [], ◌∷◌, ◌++◌, Some, Bool, true, false, length, take, Option}
 use Rattle.std.specs.Io.KnownBytes.{Appends, Consumes, IsAtEnd}
 use Rattle.bp_io.specs.Causes.{Rose}
 use Rattle.bp_io.specs.Files.{StaysAttached, View}
@@ -11,7 +11,7 @@ use Rattle.bp_script.specs.Commands.Command.{sync}
 use Rattle.bp_script.specs.Texts.{LineReply, reply_text}
 use Rattle.bp_session.specs.Lines.{commands_from, text_of}
 use Rattle.bp_session.specs.Acting.{state}
-use Rattle.bp_session.specs.Files.{Holds, HoldsPartly}
+use Rattle.bp_session.specs.Files.{Holds, HoldsAs, HoldsPartly}
 use Rattle.bp_session.specs.Outside.{IsFirstFault, counts}
 use Rattle.bp_session.specs.Session.{State, Line, Session}
 use Rattle.bp_session.specs.Pieces.{piece_size}
@@ -77,15 +77,24 @@ pub record Stops (old : State) (memory : Memory) (holds_partly : Image → Image
 
 -- ---- what is told from one moment to another
 
--- The region, the files and the sink, as they are told at a moment.
+-- The region, the files and the sink, as they are told at a moment, and whether the attached file is taken to hold the words as
+-- they are.
 pub record Moment : Type 0 where
   pub memory : Memory
   pub files : View
   pub taken : Option (List ℕ)
   pub faults : ℕ
+  pub is_saved : Bool
 
 abbrev pub moment : Memory → View → Option (List ℕ) → ℕ → Moment
-moment memory files taken faults = record { memory = memory; files = files; taken = taken; faults = faults }
+moment memory files taken faults = record { memory = memory; files = files; taken = taken; faults = faults; is_saved = false }
+
+abbrev pub where_saved : Bool → Moment → Moment
+where_saved is_saved now = record now { is_saved = is_saved }
+
+-- the file of this name holds these words, and where it is taken to hold the words as they are, it does
+abbrev pub HoldsAt : Moment → List ℕ → Image → Type 0
+HoldsAt now name image = HoldsAs now.is_saved now.files (current_words now.memory) name image
 
 -- What a source has left, and how often it has failed.
 pub record Input : Type 0 where
@@ -96,33 +105,33 @@ abbrev pub told : Option (List ℕ) → ℕ → Input
 told left faults = record { left = left; faults = faults }
 
 -- The attached file holds these words, and the command was done.
-abbrev pub DoesLine : Memory → View → Command → LineReply → Memory → View → Type 0
-DoesLine old files command reply new now = (name : List ℕ) (saved : Image) → Holds files name saved →
-    Acts (state old saved) new (Holds now name) command reply
+abbrev pub DoesLine : Moment → Command → LineReply → Moment → Type 0
+DoesLine old command reply new = (name : List ℕ) (saved : Image) → HoldsAt old name saved →
+    Acts (state old.memory saved) new.memory (HoldsAt new name) command reply
 
 -- .. and a sync couldn't save.
-abbrev pub FailsLine : Memory → View → Command → Memory → View → Type 0
-FailsLine old files command new now = (name : List ℕ) (saved : Image) → Holds files name saved →
-    SyncFails (state old saved) new (HoldsPartly now name) command
+abbrev pub FailsLine : Moment → Command → Moment → Type 0
+FailsLine old command new = (name : List ℕ) (saved : Image) → HoldsAt old name saved →
+    SyncFails (state old.memory saved) new.memory (HoldsPartly new.files name) command
 
 -- .. and the lines that this input ends were answered.
 abbrev pub DoesPart : List ℕ → List ℕ → List ℕ → Moment → Moment → Type 0
-DoesPart held input keeps old new = (name : List ℕ) (saved : Image) → Holds old.files name saved →
-    Serves (state old.memory saved) new.memory (Holds new.files name) held input keeps old.taken new.taken
+DoesPart held input keeps old new = (name : List ℕ) (saved : Image) → HoldsAt old name saved →
+    Serves (state old.memory saved) new.memory (HoldsAt new name) held input keeps old.taken new.taken
 
 -- .. and all these commands were answered.
 abbrev pub DoesAll : Moment → Moment → List Command → Type 0
-DoesAll old new commands = (name : List ℕ) (saved : Image) → Holds old.files name saved →
-    ServesAll (state old.memory saved) new.memory (Holds new.files name) commands old.taken new.taken
+DoesAll old new commands = (name : List ℕ) (saved : Image) → HoldsAt old name saved →
+    ServesAll (state old.memory saved) new.memory (HoldsAt new name) commands old.taken new.taken
 
 -- .. and the reply to one of these commands was cut.
 abbrev pub DoesCut : Moment → Moment → List Command → Type 0
-DoesCut old new commands = (name : List ℕ) (saved : Image) → Holds old.files name saved →
+DoesCut old new commands = (name : List ℕ) (saved : Image) → HoldsAt old name saved →
     Cuts (state old.memory saved) new.memory (Holds new.files name) commands old.taken new.taken
 
 -- .. and a sync among these commands couldn't save.
 abbrev pub DoesStop : Moment → Moment → List Command → Type 0
-DoesStop old new commands = (name : List ℕ) (saved : Image) → Holds old.files name saved →
+DoesStop old new commands = (name : List ℕ) (saved : Image) → HoldsAt old name saved →
     Stops (state old.memory saved) new.memory (HoldsPartly new.files name) commands old.taken new.taken
 
 -- The region keeps its size and the room of its log, the same file is attached, and what was flushed before is flushed where no sync failed.

@@ -15,12 +15,12 @@ use Rattle.bp_shapes.specs.Links.{CanHang, raised_by, IsChain}
 use Rattle.bp_layout.specs.Stores.{after_stores}
 use Rattle.bp_layout.proofs.TreeLaws.{node-kept, live_above, live_pointer_word}
 use Rattle.bp_changes.proofs.Frame.{keeps, root-kept, size-same}
-use Rattle.bp_shapes.proofs.Behind.{behind_of, behind_harmless, no_root_behind}
+use Rattle.bp_shapes.proofs.Behind.{behind_harmless, no_root_behind}
 use Rattle.bp_changes.proofs.ReachedOn.{reached_on, meaning_on}
 use Rattle.bp_shapes.proofs.Reshape as reshape
 use Rattle.bp_shapes.proofs.NullLink as null_link
 use Rattle.pm_epochs.specs.May.{AnyAt, StoresMay, AnyOf, links_of}
-use Rattle.bp_shapes.specs.Behind.{IsBehindIn}
+use Rattle.bp_shapes.specs.Behind.{IsBehind}
 use Rattle.bp_tree.specs.Performs.{IsOpen}
 use Rattle.bp_tree.specs.Performs.IsOpen.{in_taken, in_live}
 use Rattle.pm_region.specs.Memory.{Memory, current_words}
@@ -83,17 +83,17 @@ module _ (first new : Memory) (free_old free_new : List ℕ) (t place from to : 
 
   -- what may be stored before the links
   abbrev May : ℕ → ℕ → Type 0
-  May w v = InBlocks (grows.visited ++ grows.raised) w ⊎ IsBehindIn old (root_of old t) (size_of old t) w v
+  May w v = InBlocks (grows.visited ++ grows.raised) w ⊎ IsBehind old (root_of old t) (size_of old t) w v
 
   harmless : (w v : ℕ) → May w v → IsHarmless old w v
   harmless w v (inl own) = in_free_harmless old can.well (grows.visited ++ grows.raised) usable.low taken_free w v own
-  harmless w v (inr behind) = behind_harmless old can.well t w v (behind_of old t w v can.reached behind)
+  harmless w v (inr behind) = behind_harmless old can.well t w v can.reached behind
 
   agrees : Agrees old middle
   agrees = agrees_of old middle (each_after (IsHarmless old) 0 _ first grows.between (may_weaker May (IsHarmless old) 0 _ first grows.between harmless grows.stores.part))
 
   -- a word behind the size is in a block of the tree
-  behind_block : (w v : ℕ) → IsBehindIn old (root_of old t) (size_of old t) w v → HasBlock old (root_of old t) (size_of old t) (w / 512)
+  behind_block : (w v : ℕ) → IsBehind old (root_of old t) (size_of old t) w v → HasBlock old (root_of old t) (size_of old t) (w / 512)
   behind_block w v behind = record {
     depth = behind.depth;
     index = behind.index / 512;
@@ -116,7 +116,7 @@ module _ (first new : Memory) (free_old free_new : List ℕ) (t place from to : 
   roots_stay u r =
       root-kept old middle can.well agrees u r (λ p there. may_frame _ 0 _ first grows.between grows.stores.part p (λ v m. elim m [
         | inl own ↦ no_root_in_free old can.well (grows.visited ++ grows.raised) usable.low taken_free u p r there own
-        | inr behind ↦ no_root_behind old can.well t p v (behind_of old t p v can.reached behind) u r there
+        | inr behind ↦ no_root_behind old can.well t p v can.reached behind u r there
       ]))
 
   roots : root_of middle t ≡ root_of old t

@@ -8,7 +8,7 @@ use Rattle.bp_limits.specs.Limits.{max_size, max_height}
 use Rattle.bp_layout.specs.Nodes.{nodes_for, height_with}
 use Rattle.bp_layout.specs.Members.{Has, AreApart}
 use Rattle.bp_shapes.specs.Links.{raised_by, LeadDown}
-use Rattle.bp_shapes.specs.Behind.{IsBehindIn}
+use Rattle.bp_shapes.specs.Behind.{IsBehind}
 use Rattle.bp_layout.specs.Stores.{after_stores}
 use Rattle.pm_region.specs.Memory.{Memory, current_words, room_in, Adds}
 use Rattle.bp_append.specs.Into.{AddsInto}
@@ -41,7 +41,7 @@ pub record Grows (old new : Memory) (free_old free_new : List ℕ) (place root s
   pub takes : free_old ≡ (visited ++ raised) ++ free_new
   pub counted : length (visited ++ raised) ≡ length (nodes_for (current_words old) root size from to)
   pub between : Memory
-  pub stores : AddsInto (visited ++ raised) (λ p value. InBlocks (visited ++ raised) p ⊎ IsBehindIn (current_words old) root size p value)
+  pub stores : AddsInto (visited ++ raised) (λ p value. InBlocks (visited ++ raised) p ⊎ IsBehind (current_words old) root size p value)
       (512 * length (visited ++ raised) + stores_behind size from to max_height) old between
   pub links : List (ℕ × ℕ)
   pub hung : AreHung (current_words old) (current_words between) root size from to bytes visited (λ p. HasBlock (current_words old) root size (p / 512)) links

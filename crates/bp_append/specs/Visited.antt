@@ -5,7 +5,7 @@ use Rattle.bp_layout.specs.Words.{Image, height_of, slot_word}
 use Rattle.bp_layout.specs.Tree.{node, byte, span, IsLivePointer, HasBlock, IsSound, IsFull}
 use Rattle.bp_layout.specs.Pieces.{child}
 use Rattle.bp_layout.specs.Members.{Has}
-use Rattle.bp_shapes.specs.Behind.{IsBehindIn}
+use Rattle.bp_shapes.specs.Behind.{IsBehind}
 use Rattle.bp_layout.specs.Stores.{after_stores}
 use Rattle.pm_region.specs.Memory.{Memory, current_words, room_in}
 use Rattle.bp_append.specs.declared.visiting.Link.{Link}
@@ -28,7 +28,7 @@ extended image root size from bytes start i = if nat_lt (start + i) size then by
 
 -- a store behind the size of a tree, into a block of a part of it
 pub record IsBehindPart (image : Image) (root size part part_size place value : ℕ) : Type 0 where
-  pub behind : IsBehindIn image root size place value
+  pub behind : IsBehind image root size place value
   pub has : HasBlock image part part_size (place / 512)
 
 -- A live pointer of the tree is null, and a tree of the given bytes is made for its place.

@@ -127,9 +127,15 @@ module _ (old new : Image) (wf : IsWellFormed old) (prepared : IsPrepared old ne
 pub prepared_self : (image : Image) → IsWellFormed image → IsPrepared image image
 prepared_self image wf = record {
   meaning = record {
-    whole = refl;
-    marked = refl;
-    counted = refl;
+    trees = record {
+      whole = refl;
+      marked = refl;
+      counted = refl;
+      sound = wf.sound;
+      apart = wf.apart;
+      full_inode_file = wf.full_inode_file;
+      full_directories = wf.full_directories;
+    };
     kind = λ t r. refl;
     size = λ i r. refl;
     inode_blocks = wf.inode_blocks;
@@ -137,10 +143,6 @@ prepared_self image wf = record {
     inumber = λ i s r kind low. refl;
     entry = λ i s j f r n low. refl;
     bytes = λ i o r kind low. refl;
-    sound = wf.sound;
-    apart = wf.apart;
-    full_inode_file = wf.full_inode_file;
-    full_directories = wf.full_directories;
   };
   blocks = record { back = λ t b r has. has; stay = λ t b r has. has };
   inode_bytes = refl;

@@ -1,4 +1,4 @@
--- What is read of a file, and the names of a directory once they are sorted.
+-- What is read of a file.
 use Rattle.std.proofs.Common.{◌≡◌, ℕ, ◌-◌, ◌+◌, ◌<◌, List, [], ◌∷◌, length, map, take, drop, min, Bool, true, false, refl, sym, ◌∙◌, ap, ap₂, arith, IsSortedBy}
 use Rattle.std.specs.Prelude.{nat_le}
 use Rattle.std.proofs.lemmas.Bool.{leb-true, leb-false}
@@ -28,10 +28,3 @@ read_part image root size off len count is = go (nat_le off size) refl
         let none : count ≡ 0 = omega (arith, is, leb-false off size at) in
         let empty : content_part image root off count ≡ [] = rw none refl in
         empty ∙ sym (ap (λ n. take n (drop off whole)) none) ∙ same
-
--- what is sorted stays so where each element is told by another
-pub sorted-map : {A B : Type 0} (f : A → B) (before : B → B → Bool) (xs : List A) → IsSortedBy (λ x y. before (f x) (f y)) xs → IsSortedBy before (map f xs)
-sorted-map f before [] up k d low high = absurd (omega (arith, high))
-sorted-map f before (x ∷ xs) up k d low high =
-    let inside : k + 1 < length (x ∷ xs) = omega (arith, high, length-map (x ∷ xs) f) in
-    ap₂ before (get_or-map f (x ∷ xs) (k + 1) x d inside) (get_or-map f (x ∷ xs) k x d (omega (arith, inside))) ∙ up k x low inside

@@ -76,7 +76,7 @@ module _ (old mid : Image) (taken : List ℕ) (wf : IsWellFormed old) (ready : P
   new = set mid 3 end
 
   size_here : size_of new 0 ≡ end
-  size_here = get_or-set_same mid 3 end 0 (omega (arith, ready.meaning.whole, wf.whole, wf.at_least))
+  size_here = get_or-set_same mid 3 end 0 (omega (arith, ready.meaning.trees.whole, wf.whole, wf.at_least))
 
   word_here : (t k : ℕ) → content_word new (root_of new t) k ≡ content_word mid (root_of mid t) k
   word_here t k = rw (root_stays mid end t) (content_stays mid end (root_of mid t) k)
@@ -107,23 +107,29 @@ module _ (old mid : Image) (taken : List ℕ) (wf : IsWellFormed old) (ready : P
 
   sound_new : (t : ℕ) → IsReached old t → IsSound new (root_of new t) (size_of new t)
   sound_new zero reached = rw size_here (sound_here 0 end ready.sound)
-  sound_new (suc i) reached = rw (size_stays mid end i) (sound_here (suc i) (size_of mid (suc i)) (ready.meaning.sound (suc i) reached))
+  sound_new (suc i) reached = rw (size_stays mid end i) (sound_here (suc i) (size_of mid (suc i)) (ready.meaning.trees.sound (suc i) reached))
 
   apart_new : (t u b : ℕ) → IsReached old t → IsReached old u → HasBlock new (root_of new t) (size_of new t) b → HasBlock new (root_of new u) (size_of new u) b → t ≡ u
   apart_new zero zero b one two = λ has also. refl
   apart_new zero (suc u) b one two = λ has also. absurd (ready.apart (suc u) b two (suc-ne-zero u) (other_back u b also) (file_back b has))
   apart_new (suc t) zero b one two = λ has also. absurd (ready.apart (suc t) b one (suc-ne-zero t) (other_back t b has) (file_back b also))
-  apart_new (suc t) (suc u) b one two = λ has also. ready.meaning.apart (suc t) (suc u) b one two (other_back t b has) (other_back u b also)
+  apart_new (suc t) (suc u) b one two = λ has also. ready.meaning.trees.apart (suc t) (suc u) b one two (other_back t b has) (other_back u b also)
 
   full_new : (i : ℕ) → IsReached old i → kind_of old i ≡ 2 → IsFull new (root_of new i) (size_of new i)
   full_new zero reached kind = absurd (omega (arith, kind))
-  full_new (suc i) reached kind = rw (size_stays mid end i) (full_here (suc i) (size_of mid (suc i)) (ready.meaning.full_directories (suc i) reached kind))
+  full_new (suc i) reached kind = rw (size_stays mid end i) (full_here (suc i) (size_of mid (suc i)) (ready.meaning.trees.full_directories (suc i) reached kind))
 
   meaning : SameMeaning old new
   meaning = record {
-    whole = length-set mid 3 end ∙ ready.meaning.whole;
-    marked = top_word mid end 0 (omega arith) ∙ ready.meaning.marked;
-    counted = top_word mid end 1 (omega arith) ∙ ready.meaning.counted;
+    trees = record {
+      whole = length-set mid 3 end ∙ ready.meaning.trees.whole;
+      marked = top_word mid end 0 (omega arith) ∙ ready.meaning.trees.marked;
+      counted = top_word mid end 1 (omega arith) ∙ ready.meaning.trees.counted;
+      sound = sound_new;
+      apart = apart_new;
+      full_inode_file = rw size_here (full_here 0 end (ready.full (inl refl)));
+      full_directories = full_new;
+    };
     kind = λ t r. kind_stays mid end t ∙ ready.meaning.kind t r;
     size = λ i r. size_stays mid end i ∙ ready.meaning.size i r;
     inode_blocks = rw size_here (omega (arith, wf.inode_blocks));
@@ -131,10 +137,6 @@ module _ (old mid : Image) (taken : List ℕ) (wf : IsWellFormed old) (ready : P
     inumber = λ i s r kind low. word_here i (32 * s + 0) ∙ ready.meaning.inumber i s r kind low;
     entry = λ i s j f r n few. word_here i (32 * s + f) ∙ ready.meaning.entry i s j f r n few;
     bytes = λ i o r kind low. byte_here i o ∙ ready.meaning.bytes i o r kind low;
-    sound = sound_new;
-    apart = apart_new;
-    full_inode_file = rw size_here (full_here 0 end (ready.full (inl refl)));
-    full_directories = full_new;
   }
 
   pub adds_inodes : AddsInodes old new taken

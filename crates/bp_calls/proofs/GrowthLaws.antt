@@ -85,7 +85,7 @@ module _ (old new : Image) (taken : List ℕ) (wf : IsWellFormed old) (adds : Ad
   -- what is free now was free, and was not taken
   pub longer_free : (b : ℕ) → IsFreeBlock new b → IsFreeBlock old b × (Has taken b → ⊥)
   longer_free b free = (
-    record { low = free.low; high = rw adds.meaning.whole at free.high; free = λ live. free.free (longer_stays b live) },
+    record { low = free.low; high = rw adds.meaning.trees.whole at free.high; free = λ live. free.free (longer_stays b live) },
     λ took. free.free (longer_taken b took),
   )
 

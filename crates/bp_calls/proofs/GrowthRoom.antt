@@ -4,7 +4,7 @@ use Rattle.std.proofs.lemmas.List.{length-append}
 use Rattle.bp_append.specs.Prepared.{CanPrepare, PreparesWith, need_for}
 use Rattle.bp_append.proofs.StoresLaws.{behind_whole}
 use Rattle.bp_append.proofs.FewNeeded.{few_needed}
-use Rattle.bp_inodes.proofs.FewInodes.{few_leaves}
+use Rattle.bp_layout.proofs.FewLeaves.{few_leaves}
 use Rattle.bp_free.specs.Set.{Set, Fills, members}
 use Rattle.bp_layout.specs.Inode.{root_of, size_of}
 use Rattle.bp_layout.specs.Reached.IsReached.{inode_file}

@@ -36,14 +36,14 @@ module _ (old new : Image) (taken : List ℕ) (wf : IsWellFormed old) (adds : Ad
       let free : IsFreeBlock old b = exact.free_blocks.free b (of_members blocks b there) in
       record {
         low = free.low;
-        high = rw adds.meaning.whole free.high;
+        high = rw adds.meaning.trees.whole free.high;
         free = λ live. elim (longer_live old new taken wf adds b live) [ inl was ↦ free.free was | inr early ↦ apart_parts taken (members after) b apart early (in_members after b is) ];
       }
 
   all_now : (b : ℕ) → IsFreeBlock new b → has after b ≡ true
   all_now b free =
       let was : has blocks b ≡ true =
-      exact.free_blocks.all b (record { low = free.low; high = rw adds.meaning.whole at free.high; free = λ live. free.free (longer_stays old new taken wf adds b live) }) in
+      exact.free_blocks.all b (record { low = free.low; high = rw adds.meaning.trees.whole at free.high; free = λ live. free.free (longer_stays old new taken wf adds b live) }) in
       elim (has_either taken (members after) b (subst (λ bs. Has bs b) takes (in_members blocks b was))) [
         | inl early ↦ absurd (free.free (longer_taken old new taken wf adds b early))
         | inr late ↦ of_members after b late
@@ -81,8 +81,8 @@ module _ (old new : Image) (taken : List ℕ) (wf : IsWellFormed old) (adds : Ad
 
   pub exact_grown : AreExact new after filled
   exact_grown = record {
-    block_room = rw adds.meaning.whole (room ∙ exact.block_room);
-    inode_room = rw adds.meaning.whole (fills.room ∙ exact.inode_room);
+    block_room = rw adds.meaning.trees.whole (room ∙ exact.block_room);
+    inode_room = rw adds.meaning.trees.whole (fills.room ∙ exact.inode_room);
     free_blocks = record { free = free_now; all = all_now };
     free_inodes = record { free = inode_free; all = inode_all };
   }

@@ -365,7 +365,7 @@ module _ (first second third last : Memory) (blocks after : Set) (i j place : �
   })
     where
       whole : length done ≡ length image
-      whole = enters.adds.trees.whole ∙ meaning.whole
+      whole = enters.adds.trees.whole ∙ meaning.trees.whole
 
 -- ---- what is left of the memory behind the preparation
 

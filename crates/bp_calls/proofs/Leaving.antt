@@ -13,7 +13,7 @@ use Rattle.bp_changes.proofs.LinkInPlace.{store_removes}
 use Rattle.bp_changes.proofs.Unlink.{reached_stays, unlinked_well_formed}
 use Rattle.bp_free.specs.Set.{Set, has, with}
 use Rattle.bp_free.proofs.Members.{has_with_other, has_with_same}
-use Rattle.bp_inodes.proofs.FewInodes.{few_inodes}
+use Rattle.bp_layout.proofs.FewLeaves.{few_inodes}
 use Rattle.bp_layout.specs.Directory.{EntryNames, inumber_at, inumber_in}
 use Rattle.bp_layout.specs.Inode.{ContentStandsAt, inode_count, kind_of, root_of, size_of}
 use Rattle.bp_layout.specs.Need.{Change, copied, cover, entry_path, is_there_after, need}

@@ -143,12 +143,12 @@ module _ (old middle : Memory) (blocks inodes after : Set) (x from to : ℕ) (by
         let free = still_free b is in
         record {
           low = free.0.low;
-          high = rw prepared.ready.meaning.whole free.0.high;
+          high = rw prepared.ready.meaning.trees.whole free.0.high;
           free = λ held. elim (held_before b held) [ inl was ↦ free.0.free was | inr took ↦ free.1 took ];
         };
     all = λ b unheld.
         let was : has blocks b ≡ true =
-        exact.free_blocks.all b (record { low = unheld.low; high = rw prepared.ready.meaning.whole at unheld.high; free = λ live. unheld.free (held_on b live) }) in
+        exact.free_blocks.all b (record { low = unheld.low; high = rw prepared.ready.meaning.trees.whole at unheld.high; free = λ live. unheld.free (held_on b live) }) in
         elim (has_either prepared.taken (members after) b (subst (λ bs. Has bs b) prepared.takes (in_members blocks b was))) [
           | inl early ↦ absurd (unheld.free (own_block b (prepared.ready.has_taken b early)))
           | inr late ↦ of_members after b late
@@ -158,8 +158,8 @@ module _ (old middle : Memory) (blocks inodes after : Set) (x from to : ℕ) (by
   -- so the sets are exact under these sizes
   pub prepared_sets : length after ≡ length blocks → AreExactFor (current_words middle) (IsReached (current_words middle)) bound after inodes
   prepared_sets room = record {
-    block_room = rw prepared.ready.meaning.whole (room ∙ exact.block_room);
-    inode_room = rw prepared.ready.meaning.whole exact.inode_room;
+    block_room = rw prepared.ready.meaning.trees.whole (room ∙ exact.block_room);
+    inode_room = rw prepared.ready.meaning.trees.whole exact.inode_room;
     free_blocks = prepared_exact;
     free_inodes = free_inodes_stay image mid (has inodes) (prepared.ready.sizes 0 inode_file) back on exact.free_inodes;
   }

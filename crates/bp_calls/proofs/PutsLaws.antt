@@ -6,7 +6,7 @@ use Rattle.bp_append.proofs.FewNeeded.{few_needed}
 use Rattle.bp_changes.proofs.ReachedOn.{reached_on}
 use Rattle.bp_changes.proofs.SameMeaning.{well_formed-same}
 use Rattle.bp_free.specs.Set.{Set, members}
-use Rattle.bp_inodes.proofs.FewInodes.{few_entries}
+use Rattle.bp_layout.proofs.FewLeaves.{few_entries}
 use Rattle.bp_layout.specs.Directory.{Name}
 use Rattle.bp_layout.specs.Inode.{kind_of, root_of, size_of}
 use Rattle.bp_layout.specs.Reached.{IsReached}

@@ -14,7 +14,7 @@ use Rattle.bp_layout.specs.Reached.IsReached.{inode_file, named}
 use Rattle.bp_layout.specs.declared.fields.Kind.{Kind}
 use Rattle.bp_layout.specs.declared.fields.Kind.TheVariants.{File, Dir}
 use Rattle.bp_layout.specs.WellFormed.{IsWellFormed}
-use Rattle.bp_inodes.proofs.FewInodes.{few_inodes}
+use Rattle.bp_layout.proofs.FewLeaves.{few_inodes}
 use Rattle.bp_dirs.specs.Names.{name_count}
 use Rattle.bp_calls.specs.Asked.{kind_seen, entry_seen, entries_seen}
 

@@ -99,7 +99,7 @@ module _ (old new : Image) (wf : IsWellFormed old) (trees : SameTrees old new) (
   ready_kept_suc form entries = record {
     reached = reached_after old new wf trees.prepared (suc n) ready.reached;
     directory = kind_after old new wf trees.prepared (suc n) ready.reached ∙ ready.directory;
-    sound = subst₂ (λ r s. IsSound new r (s + 256)) (sym root_stays) (sym size_stays) (sound-kept old new root more keeps trees.prepared.meaning.whole ready.sound);
+    sound = subst₂ (λ r s. IsSound new r (s + 256)) (sym root_stays) (sym size_stays) (sound-kept old new root more keeps trees.prepared.meaning.trees.whole ready.sound);
     full = subst₂ (λ r s. IsFull new r (s + 256)) (sym root_stays) (sym size_stays) (full-kept old new root more keeps ready.full);
     apart = λ u b reached other has also.
         ready.apart u b (reached_before old new wf trees.prepared u reached) other (more_back b has) (trees.prepared.blocks.back u b (reached_before old new wf trees.prepared u reached) also);

@@ -15,7 +15,7 @@ use Rattle.bp_layout.specs.Tree.{HasBlock, IsFull, IsSound}
 use Rattle.bp_layout.specs.WellFormed.{IsWellFormed}
 use Rattle.bp_layout.specs.Words.{Image, word, block_count, block_of, slot_word}
 use Rattle.bp_limits.specs.Limits.{magic}
-use Rattle.bp_inodes.proofs.FewInodes.{few_inodes}
+use Rattle.bp_layout.proofs.FewLeaves.{few_inodes}
 use Rattle.bp_layout.proofs.Reached.{reached-in_file}
 use Rattle.bp_layout.proofs.Finding.{Finds, find-passes}
 use Rattle.bp_layout.proofs.View.{named_true}

@@ -76,9 +76,9 @@ free_inodes_taken old new numbers taken bytes there here cases stay are = record
 
 pub exact_prepared : (old new : Image) → IsWellFormed old → IsPrepared old new → (blocks inodes : Set) → AreExact old blocks inodes → AreExact new blocks inodes
 exact_prepared old new wf prepared blocks inodes exact = record {
-  block_room = rw prepared.meaning.whole exact.block_room;
-  inode_room = rw prepared.meaning.whole exact.inode_room;
-  free_blocks = free_blocks_stay old new (has blocks) prepared.meaning.whole (live_before_too old new wf prepared) (live_after old new wf prepared) exact.free_blocks;
+  block_room = rw prepared.meaning.trees.whole exact.block_room;
+  inode_room = rw prepared.meaning.trees.whole exact.inode_room;
+  free_blocks = free_blocks_stay old new (has blocks) prepared.meaning.trees.whole (live_before_too old new wf prepared) (live_after old new wf prepared) exact.free_blocks;
   free_inodes = free_inodes_stay old new (has inodes) prepared.inode_bytes (reached_before old new wf prepared) (reached_after old new wf prepared) exact.free_inodes;
 }
 

@@ -60,9 +60,9 @@ module _ (old mid new : Image) (wf : IsWellFormed old) (same : SameMeaning old m
     reached = here;
     fresh = λ r. adds.fresh (on j r);
     trees = record {
-      whole = adds.trees.whole ∙ same.whole;
-      marked = adds.trees.marked ∙ same.marked;
-      counted = adds.trees.counted ∙ same.counted;
+      whole = adds.trees.whole ∙ same.trees.whole;
+      marked = adds.trees.marked ∙ same.trees.marked;
+      counted = adds.trees.counted ∙ same.trees.counted;
       sound = λ t r. adds.trees.sound t (on t r);
       apart = λ t u b r q. adds.trees.apart t u b (on t r) (on u q);
       full_inode_file = adds.trees.full_inode_file;

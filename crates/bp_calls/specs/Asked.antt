@@ -2,9 +2,8 @@
 use Rattle.std.specs.Prelude.{ℕ, List, Bool, ◌==◌, Option, None, Some, if◌then◌else◌}
 use Rattle.std.specs.List.{filter_map, range_with_len}
 use Rattle.std.specs.List.Sorted.{IsPermutation, IsSortedBy}
-use Rattle.std.specs.Ordering.{nat_cmp, is_lt}
-use Rattle.std.specs.Cmp.Lexicographic.{slice_cmp}
 use Rattle.bp_dirs.specs.Names.{name_count}
+use Rattle.bp_layout.specs.Listing.{comes_before}
 use Rattle.bp_layout.specs.Words.{Image}
 use Rattle.bp_layout.specs.Tree.{content}
 use Rattle.bp_layout.specs.Inode.{kind_of, root_of, size_of}
@@ -35,10 +34,6 @@ entry_seen image i slot = if inumber_at image i slot == 0 then None else Some (k
 -- those of the first entries of directory i
 abbrev pub entries_seen : Image → ℕ → ℕ → List (Kind × Name)
 entries_seen image i count = filter_map (entry_seen image i) (range_with_len 0 count)
-
--- the name of one comes before that of the other, in the order of bytes
-abbrev pub comes_before : Kind × Name → Kind × Name → Bool
-comes_before one other = is_lt (slice_cmp nat_cmp one.1 other.1)
 
 -- all names in directory i, each with its kind, in the order of their bytes
 pub record ListsNames (image : Image) (i : ℕ) (names : List (Kind × Name)) : Type 0 where

@@ -35,10 +35,7 @@ pub fn tree_of<R: Region>(region: &R, i: u32) -> Tree
     ensures size { result.size ≡ size_of (current_words (R.memory region.now)) i }
 {
     let inode = bp_inodes::get(region, i);
-    Tree {
-        root: inode.root,
-        size: inode.size,
-    }
+    Tree::of(&inode)
 }
 
 /// Names a new inode in an empty entry of a directory.

@@ -25,11 +25,11 @@ fn subtree<R: Region>(region: &R, tree: Tree, slot: u64) -> Option<Tree>
         child (current_words (R.memory region.now)) (block_of tree.root) (height_of tree.root - 1) slot) }
     ensures size { IfSome result (λ below. below.size ≡ piece tree.size (height_of tree.root - 1) slot) }
 {
-    let pointer = load_slot(region, tree.root >> 12, slot);
+    let pointer = load_slot(region, tree.block(), slot);
     if pointer == 0 {
         return None;
     }
-    let level = (tree.root & 7) as u32 - 1;
+    let level = tree.height() - 1;
     Some(Tree {
         root: pointer + u64::from(level),
         size: (tree.size - slot * span(level)).min(span(level)),
@@ -60,12 +60,12 @@ pub fn give_back<R: Region>(region: &R, tree: Tree, cut: u64, blocks: &mut Block
     if tree.size <= cut {
         return;
     }
-    let top = (tree.root >> 12) as u32;
+    let top = tree.block() as u32;
     if top == 0 {
         return;
     }
     give_top(blocks, top, cut);
-    let height = (tree.root & 7) as u32;
+    let height = tree.height();
     if height == 0 {
         return;
     }

@@ -4,7 +4,6 @@ ghost use Rattle.std.specs.Prelude.{◌≡◌, ◌≤◌, IfOk, drop, length, ta
 ghost use Rattle.bp_calls.specs.Asked.{ListsNames, bytes_of, entries_seen, stat_of};
 ghost use Rattle.bp_layout.specs.Directory.{entry_count};
 ghost use Rattle.bp_layout.specs.Inode.{kind_of};
-ghost use Rattle.bp_layout.specs.Listing.{listed};
 ghost use Rattle.bp_layout.specs.Reached.{IsReached};
 ghost use Rattle.bp_layout.specs.WellFormed.{IsWellFormed};
 ghost use Rattle.pm_region.specs.Memory.{current_words};
@@ -12,7 +11,7 @@ ghost use Rattle.pm_region.specs.Memory.{current_words};
 use crate::entering::tree_of;
 use bp_dirs::{count, entry_unless_empty};
 use bp_inodes::get;
-use bp_layout::{Entry, Kind, Listing, Name, Stat};
+use bp_layout::{Entry, Kind, Listing, Stat};
 use bp_limits::ENTRY_SIZE;
 use bp_tree::Tree;
 use pm_region::Region;
@@ -52,21 +51,22 @@ pub fn stat<R: Region>(region: &R, i: u32) -> Stat
 }
 
 /// The kinds and names of the entries of directory `i` that name an inode, in the order of their slots.
-fn entries<R: Region>(alloc: Global, region: &R, i: u32) -> Result<Vec<(Kind, Name)>, AllocError>
+fn entries<R: Region>(alloc: Global, region: &R, i: u32) -> Result<Listing, AllocError>
     requires well_formed { IsWellFormed (current_words (R.memory region.now)) }
     requires reached { IsReached (current_words (R.memory region.now)) i }
     requires directory { kind_of (current_words (R.memory region.now)) i ≡ 2 }
-    ensures { IfOk result (λ names. listed names.items ≡ entries_seen (current_words (R.memory region.now)) i (entry_count (current_words (R.memory region.now)) i)) }
+    ensures { let words = current_words (R.memory region.now) in
+        IfOk result (λ listing. listing ≡ entries_seen words i (entry_count words i)) }
 {
     let tree = tree_of(region, i);
-    let mut names = Vec::with_capacity(alloc, count(region, tree) as usize)?;
+    let mut listing = Listing::with_capacity(alloc, count(region, tree) as usize)?;
     for slot in 0..tree.size / ENTRY_SIZE {
         if let Some(Entry { inumber, name }) = entry_unless_empty(region, tree, slot) {
             let kind = get(region, inumber as u32).kind;
-            names.push((kind, name))?;
+            listing.push(kind, name.as_slice())?;
         }
     }
-    Ok(names)
+    Ok(listing)
 }
 
 /// The names in directory `i` with their kinds, in the order of their bytes.
@@ -80,7 +80,7 @@ pub fn list<R: Region>(alloc: Global, region: &R, i: u32) -> Result<Listing, All
     requires directory { kind_of (current_words (R.memory region.now)) i ≡ 2 }
     ensures { IfOk result (λ names. ListsNames (current_words (R.memory region.now)) i names) }
 {
-    let mut names = entries(alloc, region, i)?;
-    names.sort_unstable_by(|one, other| one.1.as_slice().cmp(&other.1.as_slice()));
-    Ok(Listing::of(names))
+    let mut listing = entries(alloc, region, i)?;
+    listing.sort();
+    Ok(listing)
 }

@@ -4,7 +4,8 @@ use Rattle.bp_layout.specs.Words.{Image}
 use Rattle.bp_layout.specs.Inode.{size_of}
 use Rattle.bp_layout.specs.Reached.{IsReached}
 use Rattle.bp_layout.specs.WellFormed.{IsWellFormed}
-use Rattle.bp_changes.specs.Effects.{ChangesFile, CarriesEntry, IsNewEntry, IsOldEntry, KeepsTrees}
+use Rattle.bp_changes.specs.Effects.{ChangesFile, CarriesEntry, IsNewEntry, IsOldEntry}
+use Rattle.bp_changes.specs.KeepsTrees.{KeepsTrees}
 use Rattle.bp_changes.specs.SameMeaning.{SameMeaning}
 use Rattle.bp_changes.proofs.ReachedOn.{names_on, reached_on}
 use Rattle.bp_changes.proofs.SameMeaning.{reached-back, names-back, name-same}
@@ -15,9 +16,9 @@ module _ (old mid new : Image) (same : SameMeaning old mid) where
 
   trees_over : KeepsTrees mid new → KeepsTrees old new
   trees_over trees = record {
-    whole = trees.whole ∙ same.whole;
-    marked = trees.marked ∙ same.marked;
-    counted = trees.counted ∙ same.counted;
+    whole = trees.whole ∙ same.trees.whole;
+    marked = trees.marked ∙ same.trees.marked;
+    counted = trees.counted ∙ same.trees.counted;
     sound = λ t r. trees.sound t (on t r);
     apart = λ t u b r q. trees.apart t u b (on t r) (on u q);
     full_inode_file = trees.full_inode_file;

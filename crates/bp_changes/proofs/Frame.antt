@@ -111,9 +111,15 @@ module _ (old new : Image) (wf : IsWellFormed old) (agrees : Agrees old new) whe
 
   pub meaning-same : SameMeaning old new
   meaning-same = record {
-    whole = agrees.whole;
-    marked = (agrees.each 0).superblock (omega arith);
-    counted = (agrees.each 1).superblock (omega arith);
+    trees = record {
+      whole = agrees.whole;
+      marked = (agrees.each 0).superblock (omega arith);
+      counted = (agrees.each 1).superblock (omega arith);
+      sound = λ t r. at_old (IsSound new) (λ r s _. empty_sound new s) t r (sound-kept old new (root_of old t) (size_of old t) (keeps t r) agrees.whole (wf.sound t r));
+      apart = λ t u b r q has also. wf.apart t u b r q (has_block-back t b r has) (has_block-back u b q also);
+      full_inode_file = full-on 0 inode_file wf.full_inode_file;
+      full_directories = λ i r kind. full-on i r (wf.full_directories i r kind);
+    };
     kind = kind-same;
     size = λ i reached. size-same (suc i) reached;
     inode_blocks = rw (size-same 0 inode_file) wf.inode_blocks;
@@ -121,10 +127,6 @@ module _ (old new : Image) (wf : IsWellFormed old) (agrees : Agrees old new) whe
     inumber = inumber-same;
     entry = entry_word-same;
     bytes = byte-same;
-    sound = λ t r. at_old (IsSound new) (λ r s _. empty_sound new s) t r (sound-kept old new (root_of old t) (size_of old t) (keeps t r) agrees.whole (wf.sound t r));
-    apart = λ t u b r q has also. wf.apart t u b r q (has_block-back t b r has) (has_block-back u b q also);
-    full_inode_file = full-on 0 inode_file wf.full_inode_file;
-    full_directories = λ i r kind. full-on i r (wf.full_directories i r kind);
   }
 
   pub same-by_agreement : Same old new

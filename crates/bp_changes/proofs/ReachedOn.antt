@@ -28,9 +28,15 @@ module _ (old new : Image) (same : SameMeaning old new) where
 -- the same meaning, twice
 pub meaning_on : (first second third : Image) → SameMeaning first second → SameMeaning second third → SameMeaning first third
 meaning_on first second third one two = record {
-  whole = two.whole ∙ one.whole;
-  marked = two.marked ∙ one.marked;
-  counted = two.counted ∙ one.counted;
+  trees = record {
+    whole = two.trees.whole ∙ one.trees.whole;
+    marked = two.trees.marked ∙ one.trees.marked;
+    counted = two.trees.counted ∙ one.trees.counted;
+    sound = λ t r. two.trees.sound t (reached_on first second one t r);
+    apart = λ t u b r q. two.trees.apart t u b (reached_on first second one t r) (reached_on first second one u q);
+    full_inode_file = two.trees.full_inode_file;
+    full_directories = λ i r kind. two.trees.full_directories i (reached_on first second one i r) (one.kind i r ∙ kind);
+  };
   kind = λ t r. two.kind t (reached_on first second one t r) ∙ one.kind t r;
   size = λ i r. two.size i (reached_on first second one (suc i) r) ∙ one.size i r;
   inode_blocks = two.inode_blocks;
@@ -39,10 +45,6 @@ meaning_on first second third one two = record {
       two.inumber i s (reached_on first second one i r) (one.kind i r ∙ kind) (rw (same_count first second one i r kind) low) ∙ one.inumber i s r kind low;
   entry = λ i s j f r n few. two.entry i s j f (reached_on first second one i r) (names_on first second one i s j r n) few ∙ one.entry i s j f r n few;
   bytes = λ i o r kind low. two.bytes i o (reached_on first second one i r) (one.kind i r ∙ kind) (in_file i o r kind low) ∙ one.bytes i o r kind low;
-  sound = λ t r. two.sound t (reached_on first second one t r);
-  apart = λ t u b r q. two.apart t u b (reached_on first second one t r) (reached_on first second one u q);
-  full_inode_file = two.full_inode_file;
-  full_directories = λ i r kind. two.full_directories i (reached_on first second one i r) (one.kind i r ∙ kind);
 }
   where
     in_file : (i o : ℕ) → IsReached first i → kind_of first i ≡ 1 → o < size_of first i → o < size_of second i

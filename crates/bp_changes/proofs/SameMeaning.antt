@@ -57,15 +57,15 @@ module _ (old new : Image) (wf : IsWellFormed old) (same : SameMeaning old new) 
   pub well_formed-same : IsWellFormed new
   well_formed-same =
       record {
-        whole = rw same.whole wf.whole;
-        at_least = rw same.whole wf.at_least;
-        at_most = rw same.whole wf.at_most;
-        marked = same.marked ∙ wf.marked;
-        counted = same.counted ∙ rw same.whole wf.counted;
-        sound = λ t r. same.sound t (reached-back t r);
-        apart = λ t u b r q has also. same.apart t u b (reached-back t r) (reached-back u q) has also;
-        full_inode_file = same.full_inode_file;
-        full_directories = λ i r kind. same.full_directories i (reached-back i r) (sym (same.kind i (reached-back i r)) ∙ kind);
+        whole = rw same.trees.whole wf.whole;
+        at_least = rw same.trees.whole wf.at_least;
+        at_most = rw same.trees.whole wf.at_most;
+        marked = same.trees.marked ∙ wf.marked;
+        counted = same.trees.counted ∙ rw same.trees.whole wf.counted;
+        sound = λ t r. same.trees.sound t (reached-back t r);
+        apart = λ t u b r q has also. same.trees.apart t u b (reached-back t r) (reached-back u q) has also;
+        full_inode_file = same.trees.full_inode_file;
+        full_directories = λ i r kind. same.trees.full_directories i (reached-back i r) (sym (same.kind i (reached-back i r)) ∙ kind);
         inode_blocks = same.inode_blocks;
         some_inodes = le_trans wf.some_inodes same.inodes;
         inumbers = λ i s j r n.

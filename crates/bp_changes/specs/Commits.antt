@@ -4,7 +4,7 @@ use Rattle.bp_layout.specs.Words.{Image, byte_of}
 use Rattle.bp_layout.specs.Tree.{content_word, byte}
 use Rattle.bp_layout.specs.Inode.{kind_of, root_of, size_of}
 use Rattle.bp_layout.specs.Reached.{IsReached}
-use Rattle.bp_changes.specs.Effects.{KeepsTrees}
+use Rattle.bp_changes.specs.KeepsTrees.{KeepsTrees}
 use Rattle.bp_changes.specs.SameContent.{IsReadByWords}
 
 -- the content words that are given anew, by tree and number

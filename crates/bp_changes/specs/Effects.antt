@@ -1,24 +1,13 @@
 -- What a change makes of an image: told of the trees that the first image reaches, by slots and inodes. The second may
 -- have its trees in other blocks.
-use Rattle.std.specs.Prelude.{◌≡◌, ◌≢◌, ◌⊎◌, ℕ, ◌+◌, ◌*◌, ◌%◌, ◌<◌, ◌≤◌, length}
-use Rattle.bp_limits.specs.Limits.{super_magic, super_blocks, block_size, entry_size}
-use Rattle.bp_layout.specs.Words.{Image, word}
-use Rattle.bp_layout.specs.Tree.{byte, HasBlock, IsSound, IsFull}
+use Rattle.std.specs.Prelude.{◌≡◌, ◌≢◌, ◌⊎◌, ℕ, ◌+◌, ◌*◌, ◌%◌, ◌<◌, ◌≤◌}
+use Rattle.bp_limits.specs.Limits.{block_size, entry_size}
+use Rattle.bp_layout.specs.Words.{Image}
+use Rattle.bp_layout.specs.Tree.{byte, HasBlock}
 use Rattle.bp_layout.specs.Inode.{kind_of, root_of, size_of, inode_count}
 use Rattle.bp_layout.specs.Directory.{EntryNames, IsName, name_at, inumber_at, entry_word, entry_count}
 use Rattle.bp_layout.specs.Reached.{IsReached}
-
--- The image is as long, with its mark and its count. Each tree is sound, no block is in two, and none is missing in the
--- inode file and in directories.
-pub record KeepsTrees (old new : Image) : Type 0 where
-  pub whole : length new ≡ length old
-  pub marked : word new super_magic ≡ word old super_magic
-  pub counted : word new super_blocks ≡ word old super_blocks
-  pub sound : (t : ℕ) → IsReached old t → IsSound new (root_of new t) (size_of new t)
-  pub apart : (t u b : ℕ) → IsReached old t → IsReached old u →
-      HasBlock new (root_of new t) (size_of new t) b → HasBlock new (root_of new u) (size_of new u) b → t ≡ u
-  pub full_inode_file : IsFull new (root_of new 0) (size_of new 0)
-  pub full_directories : (i : ℕ) → IsReached old i → kind_of old i ≡ 2 → IsFull new (root_of new i) (size_of new i)
+use Rattle.bp_changes.specs.KeepsTrees.{KeepsTrees}
 
 -- each tree has the blocks that it had
 pub record KeepsBlocks (old new : Image) : Type 0 where

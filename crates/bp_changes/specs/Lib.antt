@@ -1,5 +1,7 @@
 -- What a change of an image keeps. To be read in this order.
 
+-- what each change keeps
+pub mod KeepsTrees
 -- when an image means the same as another
 pub mod SameMeaning
 pub mod SameContent

@@ -1,17 +1,16 @@
 -- When a second image means the same as the first: told of the trees that the first one reaches, so by inodes and not
 -- by paths.
-use Rattle.std.specs.Prelude.{◌≡◌, ℕ, suc, ◌%◌, ◌<◌, ◌≤◌, length}
-use Rattle.bp_limits.specs.Limits.{super_magic, super_blocks, block_size}
-use Rattle.bp_layout.specs.Words.{Image, word}
-use Rattle.bp_layout.specs.Tree.{byte, HasBlock, IsSound, IsFull}
+use Rattle.std.specs.Prelude.{◌≡◌, ℕ, suc, ◌%◌, ◌<◌, ◌≤◌}
+use Rattle.bp_limits.specs.Limits.{block_size}
+use Rattle.bp_layout.specs.Words.{Image}
+use Rattle.bp_layout.specs.Tree.{byte}
 use Rattle.bp_layout.specs.Inode.{kind_of, root_of, size_of}
 use Rattle.bp_layout.specs.Directory.{EntryNames, inumber_at, entry_word, entry_count}
 use Rattle.bp_layout.specs.Reached.{IsReached}
+use Rattle.bp_changes.specs.KeepsTrees.{KeepsTrees}
 
 pub record SameMeaning (old new : Image) : Type 0 where
-  pub whole : length new ≡ length old
-  pub marked : word new super_magic ≡ word old super_magic
-  pub counted : word new super_blocks ≡ word old super_blocks
+  pub trees : KeepsTrees old new
   pub kind : (t : ℕ) → IsReached old t → kind_of new t ≡ kind_of old t
   pub size : (i : ℕ) → IsReached old (suc i) → size_of new (suc i) ≡ size_of old (suc i)
   -- the inode file may grow
@@ -23,8 +22,3 @@ pub record SameMeaning (old new : Image) : Type 0 where
       entry_word new i s f ≡ entry_word old i s f
   pub bytes : (i o : ℕ) → IsReached old i → kind_of old i ≡ 1 → o < size_of old i →
       byte new (root_of new i) o ≡ byte old (root_of old i) o
-  pub sound : (t : ℕ) → IsReached old t → IsSound new (root_of new t) (size_of new t)
-  pub apart : (t u b : ℕ) → IsReached old t → IsReached old u →
-      HasBlock new (root_of new t) (size_of new t) b → HasBlock new (root_of new u) (size_of new u) b → t ≡ u
-  pub full_inode_file : IsFull new (root_of new 0) (size_of new 0)
-  pub full_directories : (i : ℕ) → IsReached old i → kind_of old i ≡ 2 → IsFull new (root_of new i) (size_of new i)

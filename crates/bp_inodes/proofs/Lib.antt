@@ -1,3 +1,2 @@
-pub mod FewInodes
 pub mod InodeWords
 pub mod Filling

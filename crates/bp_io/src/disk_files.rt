@@ -42,7 +42,8 @@ impl<R: rt::Files<File = File> + Drop> DiskFiles<R> {
     ///
     /// `AllocError` only where there is no memory for 64 blocks.
     pub fn new(alloc: Global, runtime: R) -> Result<Self, AllocError>
-        ensures attached { IfOk result (λ files. (name : List ℕ) → (⟦<DiskFiles<R> as files::Files>⟧.view files).is_attached name ≡ false) }
+        ensures attached { IfOk result (λ files. (name : List ℕ) →
+            (⟦<DiskFiles<R> as files::Files>⟧.view files).is_attached name ≡ false) }
         ensures blocks { IfOk result (λ files. (⟦<DiskFiles<R> as files::Files>⟧.view files).blocks ≡ 0) }
         ensures flushed { IfOk result (λ files. (⟦<DiskFiles<R> as files::Files>⟧.view files).is_flushed ≡ true) }
         ensures faults { IfOk result (λ files. (⟦<DiskFiles<R> as files::Files>⟧.view files).faults ≡ 0) }

@@ -27,15 +27,18 @@ pub trait Files {
     fn attach(&mut self, name: &str, access: Access) -> Result<Option<u64>, Failed>
         ensures answers { IfOk result (Answers ((view self.old).contents name.now) (makes access)) }
         ensures attached { IfOk result (λ r. IfSome r (IsAttached (view self.new) name.now access)) }
-        ensures contents { IfOk result (λ r. Attaches ((view self.old).contents name.now) r ((view self.new).contents name.now)) }
+        ensures contents { IfOk result (λ r. Attaches ((view self.old).contents name.now) r
+            ((view self.new).contents name.now)) }
 
         // Where no file was attached, the one before still is.
         ensures missing { IfOk result (λ r. IfNone r (StaysAttached (view self.old) (view self.new))) }
         ensures failed { OnErr result (StaysAttached (view self.old) (view self.new)) }
 
         // Each file that is there keeps its bytes, and a file that is made is empty.
-        ensures kept { (other : List ℕ) → Becomes (λ bytes. bytes) ((view self.old).contents other) ((view self.new).contents other) }
-        ensures made { (other : List ℕ) → StaysOrIsMade (makes access) ((view self.old).contents other) ((view self.new).contents other) }
+        ensures kept { (other : List ℕ) →
+            Becomes (λ bytes. bytes) ((view self.old).contents other) ((view self.new).contents other) }
+        ensures made { (other : List ℕ) →
+            StaysOrIsMade (makes access) ((view self.old).contents other) ((view self.new).contents other) }
         ensures flushed { makes access ≡ false → (view self.new).is_flushed ≡ (view self.old).is_flushed }
         ensures cause { HasCause (view self.old).faults (view self.new).faults result };
 
@@ -77,7 +80,8 @@ pub trait Files {
         requires may_write { (view self.old).may_write ≡ true }
         requires fits { n ≤ MAX_BLOCKS }
         ensures resized { OnOk result (Resizes n (view self.old) (view self.new)) }
-        ensures failed { OnErr result (KeepsSize (view self.old) (view self.new) ⊎ Resizes n (view self.old) (view self.new)) }
+        ensures failed { OnErr result
+            (KeepsSize (view self.old) (view self.new) ⊎ Resizes n (view self.old) (view self.new)) }
         ensures others { KeepsOthers (view self.old) (view self.new) }
         ensures attached { (name : List ℕ) → (view self.new).is_attached name ≡ (view self.old).is_attached name }
         ensures may_write { (view self.new).may_write ≡ (view self.old).may_write }

@@ -90,8 +90,10 @@ impl Files for MemFiles<'_> {
         ensures failed { OnErr result (StaysAttached (mem_view self.old) (mem_view self.new)) }
 
         // Each file that is there keeps its bytes, and a file that is made is empty.
-        ensures kept { (other : List ℕ) → Becomes (λ bytes. bytes) (Some (mem_image self.old)) (Some (mem_image self.new)) }
-        ensures made { (other : List ℕ) → StaysOrIsMade (makes access) (Some (mem_image self.old)) (Some (mem_image self.new)) }
+        ensures kept { (other : List ℕ) →
+            Becomes (λ bytes. bytes) (Some (mem_image self.old)) (Some (mem_image self.new)) }
+        ensures made { (other : List ℕ) →
+            StaysOrIsMade (makes access) (Some (mem_image self.old)) (Some (mem_image self.new)) }
         ensures flushed { makes access ≡ false → (mem_view self.new).is_flushed ≡ (mem_view self.old).is_flushed }
         ensures cause { HasCause (mem_view self.old).faults (mem_view self.new).faults result }
 
@@ -151,9 +153,11 @@ impl Files for MemFiles<'_> {
         requires may_write { (mem_view self.old).may_write ≡ true }
         requires fits { n ≤ MAX_BLOCKS }
         ensures resized { OnOk result (Resizes n (mem_view self.old) (mem_view self.new)) }
-        ensures failed { OnErr result (KeepsSize (mem_view self.old) (mem_view self.new) ⊎ Resizes n (mem_view self.old) (mem_view self.new)) }
+        ensures failed { OnErr result (KeepsSize (mem_view self.old) (mem_view self.new)
+            ⊎ Resizes n (mem_view self.old) (mem_view self.new)) }
         ensures others { KeepsOthers (mem_view self.old) (mem_view self.new) }
-        ensures attached { (name : List ℕ) → (mem_view self.new).is_attached name ≡ (mem_view self.old).is_attached name }
+        ensures attached { (name : List ℕ) →
+            (mem_view self.new).is_attached name ≡ (mem_view self.old).is_attached name }
         ensures may_write { (mem_view self.new).may_write ≡ (mem_view self.old).may_write }
         ensures flushed { (mem_view self.new).is_flushed ≡ false }
         ensures cause { HasCause (mem_view self.old).faults (mem_view self.new).faults result }

@@ -93,7 +93,8 @@ impl Source for MemSource<'_> {
 
         // The calls that fail are those of the plan, and the others give as much as they can.
         ensures plan { FollowsPlan (source_plan self.old) (source_plan self.new) result }
-        ensures count { IfOk result (λ n. n ≡ min (min (length into.new) (length (mem_left self.old))) (source_most self.old)) }
+        ensures count { IfOk result (λ n.
+            n ≡ min (min (length into.new) (length (mem_left self.old))) (source_most self.old)) }
         ensures most { source_most self.new ≡ source_most self.old }
     {
         self.plan.call()?;
@@ -160,7 +161,8 @@ impl Sink for MemSink<'_> {
 
         // The calls that fail are those of the plan and those without room, and the others take as
         // much as they can.
-        ensures fails { IsErr result ↔ (FailsNext (sink_plan self.old) ⊎ ((sink_room self.old ≡ 0) × (0 < length piece.now))) }
+        ensures fails { IsErr result ↔
+            (FailsNext (sink_plan self.old) ⊎ ((sink_room self.old ≡ 0) × (0 < length piece.now))) }
         ensures count { IfOk result (λ n. n ≡ min (sink_room self.old) (length piece.now)) }
         ensures room { IfOk result (λ n. sink_room self.new ≡ sink_room self.old - n) }
         ensures kept { OnErr result (sink_room self.new ≡ sink_room self.old) }

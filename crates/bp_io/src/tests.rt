@@ -1,4 +1,6 @@
 // What no clause says: the edge to std, and each call once on its happy path.
+ghost use Rattle.std.specs.Prelude.{◌≡◌, List, ℕ, true};
+
 use super::*;
 use std::io::{ErrorKind, Read, Write};
 use std::test::Fail;
@@ -32,14 +34,55 @@ fn disk_files_keep_blocks(rt: HostRuntime) -> Result<(), Fail> {
     Ok(())
 }
 
+// What the block `i` of the long file holds in each of its bytes.
+fn long_byte(i: u8) -> u8 {
+    match i {
+        0 => 77,
+        2 => 78,
+        4 => 79,
+        131..200 => 0,
+        _ => i,
+    }
+}
+
+// Writes the first blocks of the long file one behind another, as they are at first.
+fn write_row<F: Files>(files: &mut F) -> Result<(), Failed>
+    requires blocks { (F.view files.old).blocks ≡ 201 }
+    requires may_write { (F.view files.old).may_write ≡ true }
+    ensures blocks { (F.view files.new).blocks ≡ 201 }
+    ensures may_write { (F.view files.new).may_write ≡ true }
+    ensures attached { (name : List ℕ) → (F.view files.new).is_attached name ≡ (F.view files.old).is_attached name }
+{
+    for i in 0..131u8 {
+        files.write_block(u32::from(i), &[i; 4096])?;
+    }
+    Ok(())
+}
+
+// Whether the bytes of a file, and its blocks as they are read, are those of the long file.
+fn is_long<F: Files>(files: &mut F, bytes: &[u8]) -> bool
+    requires { (F.view files.old).blocks ≡ 201 }
+{
+    let mut read = [1u8; 4096];
+    for i in 0..201u8 {
+        let at = 4096 * i as usize;
+        let want = [long_byte(i); 4096];
+        if bytes.get(at..at + 4096) != Some(want.as_slice())
+            || files.read_block(u32::from(i), &mut read).is_err()
+            || read != want
+        {
+            return false;
+        }
+    }
+    true
+}
+
 #[test]
 fn disk_files_keep_many_blocks(rt: HostRuntime) -> Result<(), Fail> {
     let mut files = DiskFiles::new(rt.alloc(), &rt)?;
     assert_eq!(rt; files.attach("long.img", Access::Make), Ok(Some(0)));
     assert_eq!(rt; files.set_blocks(201), Ok(()));
-    for i in 0..131u8 {
-        assert_eq!(rt; files.write_block(u32::from(i), &[i; 4096]), Ok(()));
-    }
+    assert_eq!(rt; write_row(&mut files), Ok(()));
     assert_eq!(rt; files.write_block(200, &[200; 4096]), Ok(()));
     assert_eq!(rt; files.write_block(0, &[77; 4096]), Ok(()));
     let mut read = [1u8; 4096];
@@ -51,20 +94,7 @@ fn disk_files_keep_many_blocks(rt: HostRuntime) -> Result<(), Fail> {
     let bytes = fs::read(&rt, "long.img")?;
     let mut again = DiskFiles::new(rt.alloc(), &rt)?;
     assert_eq!(rt; again.attach("long.img", Access::Read), Ok(Some(823_296)));
-    for i in 0..201u8 {
-        let want = match i {
-            0 => 77,
-            2 => 78,
-            4 => 79,
-            131..200 => 0,
-            _ => i,
-        };
-        let at = 4096 * i as usize;
-        assert_eq!(rt; bytes.get(at).copied(), Some(want), "at {at}");
-        assert_eq!(rt; bytes.get(at + 4095).copied(), Some(want), "at {at}");
-        assert_eq!(rt; again.read_block(u32::from(i), &mut read), Ok(()));
-        assert!(rt; read == [want; 4096], "block {i}");
-    }
+    assert!(rt; is_long(&mut again, &bytes));
     fs::remove_file(&rt, "long.img")?;
     Ok(())
 }

@@ -14,9 +14,9 @@ pub mod ChecksLaws
 pub mod OnePlace
 pub mod OncePointer
 pub mod ChecksSuffice
-pub mod Examples
+pub mod FewLeaves
 pub mod WordBytes
 pub mod NameBytes
 pub mod SameLaws
 pub mod Pieces
-pub mod FewWords
+pub mod ListedLaws

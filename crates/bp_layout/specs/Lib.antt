@@ -13,6 +13,7 @@ pub mod Checks
 pub mod Same
 -- the fields of an image, as code reads and writes them
 pub mod Fields
+pub mod Listed
 pub mod Listing
 pub mod PathText
 pub mod Below

@@ -1,33 +1,110 @@
 //! The names of a directory.
 
-ghost use Rattle.std.specs.Prelude.{[], ◌<◌, ◌↔◌, ◌≡◌, IsTrue, Some, length, slice_get};
-ghost use Rattle.bp_layout.specs.Listing.{listed};
+ghost use Rattle.std.specs.Prelude.{[], ◌++◌, ◌<◌, ◌↔◌, ◌∷◌, ◌≡◌, IfOk, IsPermutation, IsTrue, OnErr, OnOk, Some, ◌≤◌, drop, length, slice_get, take};
+ghost use Rattle.std.specs.List.Sorted.{IsSortedBy};
+ghost use Rattle.bp_layout.specs.Listing.{comes_before, listed};
+ghost use Rattle.bp_limits.specs.Limits.{max_name};
 
 use crate::{Kind, Name};
+use std::alloc::{AllocError, Global};
 use std::marker::Model;
+
+/// A name of a listing: its kind, and where its bytes stand among those of all names.
+#[derive(Clone, Copy)]
+struct Listed {
+    first: usize,
+    len: usize,
+    kind: Kind,
+}
 
 /// A list of kinds and names, as a directory has them.
 #[derive(Drop)]
 pub struct Listing {
-    entries: Vec<(Kind, Name)>,
+    entries: Vec<Listed>,
+    bytes: Vec<u8>,
 }
 
 impl Model for Listing {
     ghost use Rattle.std.specs.Prelude.{List, ℕ};
     ghost use Rattle.bp_layout.specs.declared.fields.Kind.{Kind};
-    ghost use Rattle.bp_layout.specs.Listing.{listed};
+    ghost use Rattle.bp_layout.specs.Listed.{AreWithin, names_in};
 
     ghost Value = { List (Kind × List ℕ) };
 
-    ghost view = { λ listing. listed listing.entries.items };
+    ghost view = { λ listing. names_in listing.bytes.items listing.entries.items };
+
+    // So a name that is added moves none of the others.
+    ghost invariant = { λ listing. AreWithin listing.bytes.items listing.entries.items };
+}
+
+/// The bytes of a name, those of them that stand in `bytes`.
+fn name_in(bytes: &[u8], listed: Listed) -> &[u8]
+    ensures bytes { result.now ≡ take listed.len (drop listed.first bytes.now) }
+    ensures few { length result.now ≤ listed.len }
+{
+    let rest = &bytes[listed.first.min(bytes.len())..];
+    &rest[..listed.len.min(rest.len())]
 }
 
 impl Listing {
-    /// That list.
-    pub fn of(entries: Vec<(Kind, Name)>) -> Listing
-        ensures { result ≡ listed entries.items }
+    /// A list without names, with memory for so many, but for their bytes.
+    ///
+    /// # Errors
+    ///
+    /// Where there is no memory for them.
+    pub fn with_capacity(alloc: Global, count: usize) -> Result<Listing, AllocError>
+        ensures { IfOk result (λ listing. listing ≡ []) }
     {
-        Listing { entries }
+        Ok(Listing {
+            entries: Vec::with_capacity(alloc, count)?,
+            bytes: Vec::new(alloc),
+        })
+    }
+
+    /// A list of these kinds and names.
+    ///
+    /// # Errors
+    ///
+    /// Where there is no memory for it.
+    pub fn of(alloc: Global, entries: &[(Kind, Name)]) -> Result<Listing, AllocError>
+        ensures { IfOk result (λ listing. listing ≡ listed entries.now) }
+    {
+        let mut listing = Listing::with_capacity(alloc, entries.len())?;
+        for (kind, name) in entries {
+            listing.push(*kind, name.as_slice())?;
+        }
+        Ok(listing)
+    }
+
+    /// Adds a name at the end, of 240 bytes at most.
+    ///
+    /// # Errors
+    ///
+    /// Where there is no memory for it. The list stays as it was.
+    pub fn push(&mut self, kind: Kind, name: &[u8]) -> Result<(), AllocError>
+        requires { length name.now ≤ max_name }
+        ensures pushed { OnOk result (self.new ≡ self.old ++ (kind, name.now) ∷ []) }
+        ensures kept { OnErr result (self.new ≡ self.old) }
+    {
+        let first = self.bytes.len();
+        self.bytes.extend_from_slice(name)?;
+        self.entries.push(Listed {
+            first,
+            len: name.len(),
+            kind,
+        })?;
+        Ok(())
+    }
+
+    /// Puts the names in the order of their bytes.
+    pub fn sort(&mut self)
+        ensures all { IsPermutation self.old self.new }
+        ensures sorted { IsSortedBy comes_before self.new }
+    {
+        let bytes = self.bytes.as_slice();
+        self.entries.sort_unstable_by(|one, other| name_in(bytes, *one).cmp(name_in(
+            bytes, *other,
+        )));
     }
 
     /// How many names it has.
@@ -45,10 +122,12 @@ impl Listing {
     }
 
     /// The kind and the name at an index, from 0 on.
-    pub fn at(&self, index: usize) -> &(Kind, Name)
+    pub fn at(&self, index: usize) -> (Kind, &[u8])
         requires { index < length self.now }
-        ensures { slice_get self.now index ≡ Some (result.now.0, result.now.1.items) }
+        ensures entry { slice_get self.now index ≡ Some (result.0, result.1.now) }
+        ensures short { length result.1.now ≤ max_name }
     {
-        &self.entries[index]
+        let entry = self.entries[index];
+        (entry.kind, name_in(&self.bytes, entry))
     }
 }

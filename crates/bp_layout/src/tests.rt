@@ -67,11 +67,11 @@ fn listing_keeps_its_names(rt: HostRuntime) -> Result<(), Fail> {
     let mut name = Name::new();
     name.push(b'a');
     entries.push((Kind::Dir, name))?;
-    let listing = Listing::of(entries);
+    let listing = Listing::of(rt.alloc(), &entries)?;
     assert_eq!(rt; listing.len(), 1);
     assert!(rt; !listing.is_empty());
     let (kind, name) = listing.at(0);
-    assert_eq!(rt; *kind, Kind::Dir);
-    assert_eq!(rt; name.as_slice(), b"a".as_slice());
+    assert_eq!(rt; kind, Kind::Dir);
+    assert_eq!(rt; name, b"a".as_slice());
     Ok(())
 }

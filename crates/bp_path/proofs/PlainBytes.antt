@@ -1,36 +1,17 @@
 -- Where a text has a byte, and what is said of the bytes of names.
-use Rattle.std.proofs.Common.{◌≡◌, ℕ, zero, suc, ◌+◌, ◌<◌, Bool, true, false, not, ◌&&◌, ◌==◌, is_some, List, [], ◌∷◌, length, take, drop, slice_index, position, Option, None, Some, refl, sym, ◌∙◌, ap, arith, eq-eqb, bytes_eq, nat_le}
+use Rattle.std.proofs.Common.{◌≡◌, ℕ, zero, suc, ◌+◌, ◌<◌, ◌≤◌, Bool, true, false, not, ◌&&◌, ◌||◌, ◌==◌, nat_lt, List, [], ◌∷◌, length, take, drop, slice_index, position, Option, None, Some, refl, sym, ◌∙◌, ap, arith, eq-eqb, bytes_eq, nat_le}
 use Rattle.std.specs.List.{list_all, position_or_len}
-use Rattle.std.proofs.lemmas.Bool.{eqb-true, le-ltb, lt-ltb}
+use Rattle.std.proofs.lemmas.Bool.{eqb-true, le-ltb, lt-ltb, ltb-false}
 use Rattle.std.proofs.lemmas.List.{get_or-take, length-take}
 use Rattle.std.proofs.lemmas.List.Folds.{list_all_at}
 use Rattle.std.proofs.lemmas.List.Quantifiers.{position-Some}
-use Rattle.std.proofs.lemmas.List.Sums.{position_or_len_is}
-use Rattle.memchr.specs.Find.{IsFirstByte, IsLastByte, Passes, is_byte}
+use Rattle.std.proofs.lemmas.List.Sums.{fails_before_first, position_or_len_is}
+use Rattle.memchr.specs.Find.{IsLastByte, is_byte}
 use Rattle.bp_limits.specs.Limits.{max_name}
 use Rattle.bp_layout.specs.PathText.{is_name, onto_first, parts}
-use Rattle.bp_path.proofs.PartsLaws.{and_parts, no_slash, parts-one, parts_one_more}
-
--- the first byte that passes
+use Rattle.bp_path.proofs.PartsLaws.{and_parts, parts-one, parts_one_more}
 
 module _ (p : ℕ → Bool) where
-  fails_there : (xs : List ℕ) (k : ℕ) → ¬ Passes p xs k → p (slice_index xs k) ≡ false
-  fails_there xs k fails = go (p (slice_index xs k)) refl
-    where
-      go : (b : Bool) → p (slice_index xs k) ≡ b → p (slice_index xs k) ≡ false
-      go true e = absurd (fails e)
-      go false e = e
-
-  pub first_is_position : (xs : List ℕ) (found : Option ℕ) → IsFirstByte p xs found → found ≡ position p xs
-  first_is_position xs None nowhere =
-      let all : position_or_len p xs ≡ length xs =
-      position_or_len_is p xs (length xs) 0 (omega arith) (λ k low. fails_there xs k (nowhere k (omega arith) low)) (λ low. absurd (omega (arith, low))) in
-      rw (le-ltb (position_or_len p xs) (length xs) (omega (arith, all))) refl
-  first_is_position xs (Some i) found =
-      let at : position_or_len p xs ≡ i =
-      position_or_len_is p xs i 0 (omega (arith, found.0.high)) (λ k low. fails_there xs k (found.0.before k (omega arith) low)) (λ low. found.1) in
-      rw (lt-ltb (position_or_len p xs) (length xs) (omega (arith, at, found.0.high))) (ap Some (sym at))
-
   all_pass : (xs : List ℕ) → ((k : ℕ) → k < length xs → p (slice_index xs k) ≡ true) → list_all p xs ≡ true
   all_pass [] each = refl
   all_pass (x ∷ xs) each = rw (each 0 (omega arith)) (all_pass xs (λ k low. each (suc k) (omega (arith, low))))
@@ -44,6 +25,25 @@ module _ (p : ℕ → Bool) where
   all_pass_behind xs zero all = all
   all_pass_behind [] (suc n) all = refl
   all_pass_behind (x ∷ xs) (suc n) all = all_pass_behind xs n (and_parts _ _ all).1
+
+  -- the first place that passes
+
+  pub position_there : (xs : List ℕ) (i : ℕ) → i < length xs → p (slice_index xs i) ≡ true → ((k : ℕ) → k < i → p (slice_index xs k) ≡ false) → position p xs ≡ Some i
+  position_there xs i inside passes before =
+      let at : position_or_len p xs ≡ i = position_or_len_is p xs i 0 (omega (arith, inside)) before (λ low. passes) in
+      rw (lt-ltb (position_or_len p xs) (length xs) (omega (arith, at, inside))) (ap Some at)
+
+  pub position_nowhere : (xs : List ℕ) → ((k : ℕ) → k < length xs → p (slice_index xs k) ≡ false) → position p xs ≡ None
+  position_nowhere xs fails =
+      let all : position_or_len p xs ≡ length xs = position_or_len_is p xs (length xs) 0 (omega arith) fails (λ low. absurd (omega (arith, low))) in
+      rw (le-ltb (position_or_len p xs) (length xs) (omega (arith, all))) refl
+
+  pub no_place : (xs : List ℕ) → position p xs ≡ None → (k : ℕ) → k < length xs → p (slice_index xs k) ≡ false
+  no_place xs none k low = fails_before_first p xs k 0 (omega (arith, low, all_before (nat_lt (position_or_len p xs) (length xs)) refl))
+    where
+      all_before : (t : Bool) → nat_lt (position_or_len p xs) (length xs) ≡ t → length xs ≤ position_or_len p xs
+      all_before true at = let some : ◌≡◌ {A = Option ℕ} (Some (position_or_len p xs)) None = rw at at none in absurd (cc)
+      all_before false at = ltb-false _ _ at
 
 -- ---- the last `/`
 
@@ -66,27 +66,52 @@ not_zero b = not (b == 0)
 abbrev pub is_plain : ℕ → Bool
 is_plain b = not (b == 0) && not (b == 47)
 
-pub has_byte : (text : List ℕ) (found : Option ℕ) → IsFirstByte (is_byte 0) text found → is_some found ≡ not (list_all not_zero text)
-has_byte text None nowhere =
-    let all : list_all not_zero text ≡ true = all_pass not_zero text (λ k low. ap not (fails_there (is_byte 0) text k (nowhere k (omega arith) low))) in
-    rw all refl
-has_byte text (Some k) found =
-    let some : list_all not_zero text ≡ false = list_all_at not_zero text k 0 found.0.high (ap not found.1) in
-    rw some refl
+-- what is in no name
+abbrev pub ends_name : ℕ → Bool
+ends_name b = (b == 0) || (b == 47)
 
-neither : (b : ℕ) → not_zero b ≡ true → (b == 47) ≡ false → is_plain b ≡ true
-neither b some other = rw (some, other) refl
+neither : (b : ℕ) → ends_name b ≡ false → is_plain b ≡ true
+neither b ends = go (b == 0) (b == 47) ends
+  where
+    go : (zero slash : Bool) → (zero || slash) ≡ false → (not zero && not slash) ≡ true
+    go true slash e = absurd (cc)
+    go false true e = absurd (cc)
+    go false false e = refl
 
--- a text without a 0, up to its first `/`, and as a whole where it has none
-pub plain_front : (text : List ℕ) (end : ℕ) → position (λ b. b == 47) text ≡ Some end → list_all not_zero text ≡ true → list_all is_plain (take end text) ≡ true
-plain_front text end found some =
-    let here : (end < length text) × ((slice_index text end == 47) ≡ true) × ((k : ℕ) → k < end → (slice_index text k == 47) ≡ false) = position-Some (λ b. b == 47) text end 0 found in
+-- a text up to the first byte that is in no name, and as a whole where it has none
+pub plain_front : (text : List ℕ) (end : ℕ) → position ends_name text ≡ Some end → list_all is_plain (take end text) ≡ true
+plain_front text end found =
+    let here : (end < length text) × (ends_name (slice_index text end) ≡ true) × ((k : ℕ) → k < end → ends_name (slice_index text k) ≡ false) = position-Some ends_name text end 0 found in
     all_pass is_plain (take end text) (λ k low.
     let before : k < end = omega (arith, low, length-take end text) in
-    rw (get_or-take end text k 0 before) (neither (slice_index text k) (each_passes not_zero text some k (omega (arith, before, here.0))) (here.2 k before)))
+    rw (get_or-take end text k 0 before) (neither (slice_index text k) (here.2 k before)))
 
-pub plain_whole : (text : List ℕ) → position (λ b. b == 47) text ≡ None → list_all not_zero text ≡ true → list_all is_plain text ≡ true
-plain_whole text none some = all_pass is_plain text (λ k low. neither (slice_index text k) (each_passes not_zero text some k low) (no_slash text none k low))
+pub plain_whole : (text : List ℕ) → position ends_name text ≡ None → list_all is_plain text ≡ true
+plain_whole text none = all_pass is_plain text (λ k low. neither (slice_index text k) (no_place ends_name text none k low))
+
+-- the first such byte is a `/` where it isn't a 0
+slash_left : (b : ℕ) → ends_name b ≡ true → (b == 0) ≡ false → (b == 47) ≡ true
+slash_left b ends some = rw some at ends
+
+no_slash_there : (b : ℕ) → ends_name b ≡ false → (b == 47) ≡ false
+no_slash_there b ends = go (b == 0) (b == 47) ends
+  where
+    go : (zero slash : Bool) → (zero || slash) ≡ false → slash ≡ false
+    go true slash e = absurd (cc)
+    go false slash e = e
+
+pub slash_found : (text : List ℕ) (end : ℕ) → position ends_name text ≡ Some end → (slice_index text end == 0) ≡ false → position (λ b. b == 47) text ≡ Some end
+slash_found text end found some =
+    let here : (end < length text) × (ends_name (slice_index text end) ≡ true) × ((k : ℕ) → k < end → ends_name (slice_index text k) ≡ false) = position-Some ends_name text end 0 found in
+    position_there (λ b. b == 47) text end here.0 (slash_left (slice_index text end) here.1 some) (λ k low. no_slash_there (slice_index text k) (here.2 k low))
+
+pub no_slash_found : (text : List ℕ) → position ends_name text ≡ None → position (λ b. b == 47) text ≡ None
+no_slash_found text none = position_nowhere (λ b. b == 47) text (λ k low. no_slash_there (slice_index text k) (no_place ends_name text none k low))
+
+pub zero_found : (text : List ℕ) (end : ℕ) → position ends_name text ≡ Some end → (slice_index text end == 0) ≡ true → list_all not_zero text ≡ false
+zero_found text end found is =
+    let here : (end < length text) × (ends_name (slice_index text end) ≡ true) × ((k : ℕ) → k < end → ends_name (slice_index text k) ≡ false) = position-Some ends_name text end 0 found in
+    list_all_at not_zero text end 0 here.0 (ap not is)
 
 -- ---- a text with a 0 has a part that is no name
 

@@ -9,7 +9,7 @@ use Rattle.bp_layout.specs.Reached.IsReached.{inode_file, root_directory, named}
 use Rattle.bp_layout.specs.WellFormed.{IsWellFormed}
 use Rattle.bp_layout.proofs.View.{lookup_in-reached, lookup_from-reached, named_true}
 use Rattle.bp_layout.proofs.Finding.{Finds, find-passes}
-use Rattle.bp_inodes.proofs.FewInodes.{few_inodes}
+use Rattle.bp_layout.proofs.FewLeaves.{few_inodes}
 use Rattle.bp_path.specs.Walk.{Walked, onward, walk_from, WalkIsLookup}
 use Rattle.bp_path.specs.Walk.Walked.{found, missing, in_file}
 

@@ -7,7 +7,8 @@ ghost use Rattle.bp_layout.specs.PathText.{is_name, parts};
 ghost use Rattle.bp_path.specs.Names.{names_in};
 
 use bp_limits::MAX_NAME;
-use memchr::{memchr, memrchr};
+use bp_text::{first_of, first_of_either};
+use memchr::memrchr;
 
 /// Whether bytes of which none is 0 or `/` may be a name: 1 to 240 of them, and neither `.` nor `..`.
 fn is_plain_name(name: &[u8]) -> bool
@@ -26,29 +27,15 @@ fn is_plain_name(name: &[u8]) -> bool
     name != b".".as_slice() && name != b"..".as_slice()
 }
 
-/// Where the first `/` stands.
-fn first_slash(text: &[u8]) -> Option<usize>
-    ensures { result ≡ position (λ b. b == 47) text.now }
-{
-    memchr(b'/', text)
-}
-
-/// Whether a byte is 0.
-fn has_zero(text: &[u8]) -> bool
-    ensures { result ≡ not (list_all (λ b. not (b == 0)) text.now) }
-{
-    memchr(0, text).is_some()
-}
-
 /// Whether the parts round each `/` are names.
 pub(crate) fn are_names(text: &[u8]) -> bool
     ensures { result ≡ list_all is_name (parts text.now) }
 {
-    if has_zero(text) {
-        return false;
-    }
     let mut rest = text;
-    while let Some(end) = first_slash(rest) {
+    while let Some(end) = first_of_either(0, b'/', rest) {
+        if rest[end] == 0 {
+            return false;
+        }
         if !is_plain_name(&rest[..end]) {
             return false;
         }
@@ -65,7 +52,7 @@ pub(crate) fn split_first(text: &[u8]) -> (&[u8], &[u8])
     ensures rest { list_all is_name (names_in result.1.now) ≡ true }
     ensures shorter { length result.1.now < length text.now }
 {
-    match first_slash(text) {
+    match first_of(b'/', text) {
         Some(end) => (&text[..end], &text[end + 1..]),
         None => (text, &text[text.len()..]),
     }

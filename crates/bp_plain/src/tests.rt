@@ -44,7 +44,7 @@ fn answers(rt: HostRuntime) -> Result<(), Fail> {
     assert!(rt; matches!(reply.answer(), Answer::Bytes(b"")));
     reply.set_refused(FsError::Exists);
     assert!(rt; matches!(reply.answer(), Answer::Refused(FsError::Exists)));
-    reply.set_names(bp_layout::Listing::of(Vec::new(rt.alloc())));
+    reply.set_names(bp_layout::Listing::of(rt.alloc(), &[])?);
     assert!(rt; matches!(reply.answer(), Answer::Names(_)));
     reply.set_done();
     assert!(rt; matches!(reply.answer(), Answer::Done));

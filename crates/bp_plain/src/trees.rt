@@ -309,7 +309,7 @@ impl Plain {
     {
         let path = path_of(alloc, text)?;
         let names = self.names(alloc, &path)?;
-        reply.set_names(Listing::of(names));
+        reply.set_names(Listing::of(alloc, &names)?);
         Ok(())
     }
 

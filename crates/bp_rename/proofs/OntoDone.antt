@@ -4,7 +4,7 @@ use Rattle.std.proofs.lemmas.Bool.{cases_Bool}
 use Rattle.std.proofs.lemmas.List.{length-set}
 use Rattle.bp_free.specs.Set.{Set, has, with}
 use Rattle.bp_free.proofs.Members.{has_with_other, has_with_same}
-use Rattle.bp_inodes.proofs.FewInodes.{few_inodes}
+use Rattle.bp_layout.proofs.FewLeaves.{few_inodes}
 use Rattle.bp_layout.specs.Directory.{inumber_at}
 use Rattle.bp_layout.specs.Inode.{inode_count, kind_of, root_of, size_of}
 use Rattle.bp_layout.specs.Need.Change.{replaces}

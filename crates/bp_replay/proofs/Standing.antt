@@ -4,10 +4,11 @@ use Rattle.std.specs.List.{slice_get}
 use Rattle.std.proofs.lemmas.List.{append-nil, length-take}
 use Rattle.pm_epochs.specs.declared.event.Event.{Event}
 use Rattle.pm_epochs.specs.declared.event.Event.TheVariants.{Store, Barrier, Mark}
-use Rattle.pm_epochs.specs.Log.{barriers}
+use Rattle.pm_epochs.specs.Log.{barriers, epoch_stores}
 use Rattle.pm_epochs.specs.Replay.{Cut, IsRight}
+use Rattle.pm_region.specs.Epochs.{epoch_start}
 use Rattle.pm_steps.specs.Machine.{open_epoch, epoch_flags, cut_of}
-use Rattle.pm_steps.proofs.Scan.{barriers_of, open_epoch-none, epoch_flags-none}
+use Rattle.pm_steps.proofs.Scan.{open_epoch-none, epoch_flags-none}
 use Rattle.pm_steps.proofs.Cuts.{right_open}
 use Rattle.bp_replay.specs.Generator.{next_state}
 use Rattle.bp_replay.specs.Storm.{goes_back, waiting_behind, storm_flags, from_epoch}
@@ -230,20 +231,42 @@ stands_barrier waits draws state waiting cut events moment i low is waits_is =
 pub right_drawn : (state epoch moment : ℕ) (events : List Event) → IsRight events (cut_of events (storm_flags state epoch [] (take moment events)))
 right_drawn state epoch moment events = right_open events (storm_flags state epoch [] (take moment events)) (in_order_storm state epoch moment events)
 
--- ## Where the storm's epoch begins
+-- ## Where an epoch begins
 
-pub barriers_of-le : (event : Event) → barriers_of event ≤ 1
-barriers_of-le (Store word value) = omega arith
-barriers_of-le Barrier = omega arith
-barriers_of-le Mark = omega arith
+pub start_is_from : (epoch n : ℕ) (events : List Event) → epoch ≤ barriers (take n events) → drop (epoch_start epoch events) (take n events) ≡ from_epoch epoch (take n events)
+start_is_from zero n events begun = refl
+start_is_from (suc epoch) zero events begun = absurd (omega arith)
+start_is_from (suc epoch) (suc n) [] begun = refl
+start_is_from (suc epoch) (suc n) (Store word value ∷ events) begun = start_is_from (suc epoch) n events begun
+start_is_from (suc epoch) (suc n) (Barrier ∷ events) begun = start_is_from epoch n events (omega arith)
+start_is_from (suc epoch) (suc n) (Mark ∷ events) begun = start_is_from (suc epoch) n events begun
 
-pub barriers_next : (event : Event) (events : List Event) → barriers (event ∷ events) ≡ barriers events + barriers_of event
-barriers_next (Store word value) events = omega arith
-barriers_next Barrier events = omega arith
-barriers_next Mark events = omega arith
+pub start_is_low : (epoch : ℕ) (events : List Event) → epoch ≤ barriers events → epoch ≤ epoch_start epoch events
+start_is_low zero events begun = omega arith
+start_is_low (suc epoch) [] begun = absurd (omega arith)
+start_is_low (suc epoch) (Store word value ∷ events) begun = let rest = start_is_low (suc epoch) events begun in omega arith
+start_is_low (suc epoch) (Barrier ∷ events) begun = let rest = start_is_low epoch events (omega arith) in omega arith
+start_is_low (suc epoch) (Mark ∷ events) begun = let rest = start_is_low (suc epoch) events begun in omega arith
 
-pub from_epoch_next : (left now : ℕ) (event : Event) (events : List Event) → 0 < left → left ≡ now + barriers_of event → from_epoch left (event ∷ events) ≡ from_epoch now events
-from_epoch_next zero now event events some is = absurd (omega arith)
-from_epoch_next (suc left) now (Store word value) events some is = let same : suc left ≡ now = omega arith in ap (λ n. from_epoch n events) same
-from_epoch_next (suc left) now Barrier events some is = let same : left ≡ now = omega arith in ap (λ n. from_epoch n events) same
-from_epoch_next (suc left) now Mark events some is = let same : suc left ≡ now = omega arith in ap (λ n. from_epoch n events) same
+pub start_is_taken : (epoch n : ℕ) (events : List Event) → epoch ≤ barriers (take n events) → epoch_start epoch events ≤ n
+start_is_taken zero n events begun = omega arith
+start_is_taken (suc epoch) zero events begun = absurd (omega arith)
+start_is_taken (suc epoch) (suc n) [] begun = omega arith
+start_is_taken (suc epoch) (suc n) (Store word value ∷ events) begun = let rest = start_is_taken (suc epoch) n events begun in omega arith
+start_is_taken (suc epoch) (suc n) (Barrier ∷ events) begun = let rest = start_is_taken epoch n events (omega arith) in omega arith
+start_is_taken (suc epoch) (suc n) (Mark ∷ events) begun = let rest = start_is_taken (suc epoch) n events begun in omega arith
+
+pub barriers_taken : (n : ℕ) (events : List Event) → barriers (take n events) ≤ barriers events
+barriers_taken zero events = omega arith
+barriers_taken (suc n) [] = omega arith
+barriers_taken (suc n) (Store word value ∷ events) = barriers_taken n events
+barriers_taken (suc n) (Barrier ∷ events) = let rest = barriers_taken n events in omega arith
+barriers_taken (suc n) (Mark ∷ events) = barriers_taken n events
+
+pub stores_from_start : (epoch n : ℕ) (events : List Event) → epoch ≤ barriers (take n events) → epoch_stores epoch (take n events) ≡ epoch_stores 0 (drop (epoch_start epoch events) (take n events))
+stores_from_start zero n events begun = refl
+stores_from_start (suc epoch) zero events begun = absurd (omega arith)
+stores_from_start (suc epoch) (suc n) [] begun = refl
+stores_from_start (suc epoch) (suc n) (Store word value ∷ events) begun = stores_from_start (suc epoch) n events begun
+stores_from_start (suc epoch) (suc n) (Barrier ∷ events) begun = stores_from_start epoch n events (omega arith)
+stores_from_start (suc epoch) (suc n) (Mark ∷ events) begun = stores_from_start (suc epoch) n events begun

@@ -11,7 +11,8 @@ ghost use Rattle.bp_replay.specs.Wanted.{all, nothing, cut_for};
 pub fn all_keeps_each_call()
     ensures right { (events : List Event) → IsRight events (cut_for events all) }
     ensures kept { (events : List Event) → kept_calls events (cut_for events all) ≡ marks events }
-    ensures words { (base : List ℕ) (events : List Event) → replay base events (cut_for events all) ≡ words_after base events }
+    ensures words { (base : List ℕ) (events : List Event) →
+        replay base events (cut_for events all) ≡ words_after base events }
 {}
 
 /// A crash that is to keep nothing leaves the words of the last drain.

@@ -7,7 +7,6 @@ ghost use Rattle.bp_replay.specs.Generator.{next_state, drawn};
 ghost use Rattle.bp_replay.specs.Storm.{goes_back, waiting_behind, storm_flags, storm_cut, from_epoch};
 
 use super::generator::Generator;
-use super::wanted::barriers_before;
 use pm_epochs::{Choice, Event};
 use pm_region::Region;
 use pm_steps::Backs;
@@ -26,33 +25,11 @@ pub fn storm<R: Region>(region: &R, seed: u64, backs: &mut Backs, choice: &mut C
 {
     let mut generator = Generator::new(seed);
     let moment = generator.draw_up_to(region.event_count());
-    let epoch = generator.draw_up_to(barriers_before(region, moment));
-    let start = epoch_start(region, moment, epoch);
+    let epoch = generator.draw_up_to(region.barriers_before(moment));
+    let start = region.start_of_epoch(epoch);
     backs.clear();
     choice.start(moment, epoch);
     choose_drawn(region, start, &mut generator, backs, choice);
-}
-
-/// Where an epoch begins that does before a moment.
-fn epoch_start<R: Region>(region: &R, moment: usize, epoch: usize) -> usize
-    requires taken { moment ≤ length (R.memory region.now).events }
-    requires begun { epoch ≤ barriers (take moment (R.memory region.now).events) }
-    ensures low { epoch ≤ result }
-    ensures high { result ≤ moment }
-    ensures start { let taken = take moment (R.memory region.now).events in drop result taken ≡ from_epoch epoch taken }
-{
-    let mut left = epoch;
-    for i in 0..moment {
-        if left == 0 {
-            return i;
-        }
-        match region.event(i) {
-            Event::Store { .. } => {}
-            Event::Barrier => left -= 1,
-            Event::Mark => {}
-        }
-    }
-    moment
 }
 
 /// Draws for the stores of the storm's epoch, which begins at `start`, and chooses what is back then. Where all of them are,

@@ -36,43 +36,18 @@ pub fn choice_of<R: Region>(region: &R, cut: &Cut<'_>, choice: &mut Choice) -> R
     }
 }
 
-/// How many barriers stand before a moment.
-pub(crate) fn barriers_before<R: Region>(region: &R, moment: usize) -> usize
-    requires { moment ≤ length (R.memory region.now).events }
-    ensures { result ≡ barriers (take moment (R.memory region.now).events) }
-{
-    let mut count = 0;
-    for i in 0..moment {
-        match region.event(i) {
-            Event::Store { .. } => {}
-            Event::Barrier => count += 1,
-            Event::Mark => {}
-        }
-    }
-    count
-}
-
-/// How many stores an epoch has before a moment.
+/// How many stores an epoch has before a moment. It has begun by then.
 fn stores_before<R: Region>(region: &R, moment: usize, epoch: usize) -> usize
-    requires { moment ≤ length (R.memory region.now).events }
+    requires taken { moment ≤ length (R.memory region.now).events }
+    requires begun { epoch ≤ barriers (take moment (R.memory region.now).events) }
     ensures few { result ≤ moment }
     ensures count { result ≡ epoch_stores epoch (take moment (R.memory region.now).events) }
 {
-    let mut left = epoch;
     let mut count = 0;
-    for i in 0..moment {
+    for i in region.start_of_epoch(epoch)..moment {
         match region.event(i) {
-            Event::Store { .. } => {
-                if left == 0 {
-                    count += 1;
-                }
-            }
-            Event::Barrier => {
-                if left == 0 {
-                    return count;
-                }
-                left -= 1;
-            }
+            Event::Store { .. } => count += 1,
+            Event::Barrier => return count,
             Event::Mark => {}
         }
     }
@@ -92,7 +67,7 @@ fn choose_all<R: Region>(region: &R, choice: &mut Choice)
     } }
 {
     let moment = region.event_count();
-    let epoch = barriers_before(region, moment);
+    let epoch = region.barriers_before(moment);
     let stores = stores_before(region, moment, epoch);
     choice.start(moment, epoch);
     push_true(choice, stores);
@@ -126,14 +101,18 @@ fn choose_at<R: Region>(
       epoch = epoch;
       mask = trimmed (bits mask.now);
     }) }
-    ensures chosen { OnOk result (choice.new.cut ≡ record { moment = moment; epoch = epoch; mask = trimmed (bits mask.now) }) }
+    ensures chosen { OnOk result (choice.new.cut ≡ record {
+      moment = moment;
+      epoch = epoch;
+      mask = trimmed (bits mask.now);
+    }) }
     ensures room { choice.new.room ≡ choice.old.room }
 {
     if moment > region.event_count() as u64 {
         return Err(BadChoice);
     }
     let moment = moment as usize;
-    if epoch > barriers_before(region, moment) as u64 {
+    if epoch > region.barriers_before(moment) as u64 {
         return Err(BadChoice);
     }
     let epoch = epoch as usize;

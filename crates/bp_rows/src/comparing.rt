@@ -150,11 +150,7 @@ fn put_answer(alloc: Global, reply: &Reply, told: &mut String) -> Result<(), All
         Answer::Names(listing) => {
             for i in 0..listing.len() {
                 let (kind, name) = listing.at(i);
-                let said = Said::Name {
-                    kind: *kind,
-                    name: name.as_slice(),
-                };
-                put_said(alloc, &said, told)?;
+                put_said(alloc, &Said::Name { kind, name }, told)?;
             }
             put_said(alloc, &Said::End, told)
         }

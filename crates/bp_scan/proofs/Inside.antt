@@ -17,7 +17,7 @@ use Rattle.bp_scan.specs.Inodes.{FailsInode}
 use Rattle.bp_scan.specs.Misspelled.{FailsNames, check_of, place_of}
 use Rattle.bp_scan.specs.Reading.{IsOpen, IsReading}
 use Rattle.bp_scan.proofs.Readable.{is_sound, is_full, entry_seen, inode_found, one_entry, named_before}
-use Rattle.bp_scan.proofs.Room.{few_inodes, few_entries}
+use Rattle.bp_layout.proofs.FewLeaves.{few_inodes, few_entries}
 use Rattle.bp_scan.proofs.InodeFaults.{fails_inode}
 
 module _ (image : Image) (ready : IsOpen image) (blocks inodes todo : Set) (current slot : ℕ) (reading : IsReading image blocks inodes todo current slot) where

@@ -1,5 +1,4 @@
 pub mod Entering
-pub mod Room
 pub mod Readable
 pub mod ProgressLaws
 pub mod EntryStep

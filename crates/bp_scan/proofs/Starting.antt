@@ -19,7 +19,7 @@ use Rattle.bp_scan.specs.Reading.{IsOpen, HasInodeFile, IsReading}
 use Rattle.bp_scan.proofs.Entering.{enter, fails_tree, nothing_seen}
 use Rattle.bp_scan.proofs.Readable.{is_sound, is_full, content_followed}
 use Rattle.bp_scan.proofs.ProgressLaws.{started}
-use Rattle.bp_scan.proofs.Room.{few_inodes}
+use Rattle.bp_layout.proofs.FewLeaves.{few_inodes}
 use Rattle.bp_scan.proofs.InodePlaces.{moved}
 use Rattle.bp_scan.proofs.InodeFaults.{fails_inode, inode_of}
 

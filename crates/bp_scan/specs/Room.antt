@@ -1,8 +1,8 @@
 -- The memory of a scan.
-use Rattle.std.specs.Prelude.{◌≡◌, ◌/◌, ◌≤◌, length, vec_len}
+use Rattle.std.specs.Prelude.{◌≡◌, ◌/◌, ◌≤◌, length, vec_capacity}
 use Rattle.bp_scan.specs.declared.pending.Pending.TheInside.{Inside}
 
--- a flag for each inode, and memory for twice as many entries as a directory may have, and some more: 16 for each block, to 64 inodes
+-- a flag for each inode, and memory reserved for as many entries as a directory may have: 16 for each block, to 64 inodes
 pub record HasRoom (pending : Inside) : Type 0 where
   pub flags : length pending.todo ≡ pending.inodes
-  pub entries : pending.inodes / 4 ≤ vec_len pending.entries
+  pub entries : pending.inodes / 4 ≤ vec_capacity pending.entries

@@ -1,6 +1,6 @@
 //! The directories of an image, one after the other.
 
-ghost use Rattle.std.specs.Prelude.{◌≡◌, ◌+◌, ◌*◌, ◌/◌, ◌<◌, ◌≤◌, length, OnOk, IfErr};
+ghost use Rattle.std.specs.Prelude.{◌≡◌, ◌+◌, ◌*◌, ◌/◌, ◌<◌, ◌≤◌, length, vec_capacity, OnOk, IfErr};
 ghost use Rattle.bp_layout.specs.Checks.{Fails};
 ghost use Rattle.bp_layout.specs.Directory.{inumber_in};
 ghost use Rattle.bp_layout.specs.Tree.{IsFull, IsSound};
@@ -11,6 +11,7 @@ ghost use Rattle.bp_scan.specs.Misspelled.{FailsNames};
 ghost use Rattle.bp_spelling.specs.Names.{AreNames, entry_place_in};
 ghost use Rattle.pm_region.specs.Memory.{current_words};
 
+use crate::pending::make_room;
 use crate::trees::enter;
 use bp_free::{Blocks, Inodes};
 use bp_inodes::{get, inode_file};
@@ -112,17 +113,22 @@ fn read_entries<R: Region>(
     Ok(())
 }
 
-/// Checks the names of a directory. `entries` is memory for as many as it has.
-fn read_names<R: Region>(region: &R, tree: Tree, entries: &mut [Spelled]) -> Result<(), CheckFault>
+/// Checks the names of a directory. `entries` has memory reserved for as many as it has.
+fn read_names<R: Region>(
+    region: &R,
+    tree: Tree,
+    entries: &mut Vec<Spelled>,
+) -> Result<(), CheckFault>
     requires sound { IsSound (current_words (R.memory region.now)) tree.root tree.size }
     requires full { IsFull (current_words (R.memory region.now)) tree.root tree.size }
-    requires room { tree.size / entry_size ≤ length entries.old }
+    requires room { tree.size / entry_size ≤ vec_capacity entries.old }
     ensures ok { OnOk result (AreNames (current_words (R.memory region.now)) tree.root tree.size) }
     ensures err { let words = current_words (R.memory region.now) in
         IfErr result (λ f. FailsNames words tree.root tree.size f.check f.place) }
-    ensures room { length entries.new ≡ length entries.old }
+    ensures room { vec_capacity entries.old ≤ vec_capacity entries.new }
 {
-    match check_names(region, tree, entries) {
+    make_room(entries, (tree.size / ENTRY_SIZE) as usize);
+    match check_names(region, tree, &mut entries[..]) {
         Ok(()) => Ok(()),
         Err(NameFault::Form { place }) => Err(CheckFault { check: 12, place }),
         Err(NameFault::Twice { place }) => Err(CheckFault { check: 13, place }),
@@ -136,18 +142,18 @@ pub(crate) fn read_directory<R: Region>(
     blocks: &mut Blocks,
     inodes: &mut Inodes,
     todo: &mut Inodes,
-    entries: &mut [Spelled],
+    entries: &mut Vec<Spelled>,
 ) -> Result<(), CheckFault>
     requires ready { IsOpen (current_words (R.memory region.now)) }
     requires begun { IsAtHand (current_words (R.memory region.now)) blocks.old inodes.old todo.old inode 0 }
-    requires entries { 16 * block_count (current_words (R.memory region.now)) ≤ length entries.old }
+    requires entries { 16 * block_count (current_words (R.memory region.now)) ≤ vec_capacity entries.old }
     ensures done { OnOk result (IsReading (current_words (R.memory region.now)) blocks.new inodes.new todo.new 0 0) }
     ensures work { OnOk result (work inodes.new todo.new ≤ work inodes.old todo.old) }
     ensures fault { IfErr result (λ f. Fails (current_words (R.memory region.now)) f.check f.place) }
     ensures block_room { length blocks.new ≡ length blocks.old }
     ensures inode_room { length inodes.new ≡ length inodes.old }
     ensures todo_room { length todo.new ≡ length todo.old }
-    ensures entry_room { length entries.new ≡ length entries.old }
+    ensures entry_room { vec_capacity entries.old ≤ vec_capacity entries.new }
 {
     let words = get(region, inode);
     let tree = Tree {

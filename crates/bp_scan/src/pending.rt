@@ -1,11 +1,14 @@
 //! What a scan works with.
 
-ghost use Rattle.std.specs.Prelude.{◌≡◌, ◌≤◌, IfOk};
+ghost use Rattle.std.specs.Prelude.{◌≡◌, ◌≤◌, vec_capacity, vec_len, IfOk};
 
 use bp_free::Inodes;
 use bp_spelling::Spelled;
 use std::alloc::{AllocError, Global};
 use std::marker::Model;
+
+/// How many cells are left over where the entries of the greatest directory have three each.
+const SPARE: usize = 256;
 
 /// Memory for scans: the directories that are still to be read, and the entries of the one at hand. Contracts see it as the
 /// number of inodes that it was made for.
@@ -34,7 +37,7 @@ impl Pending {
     {
         Ok(Pending {
             todo: Inodes::new(alloc, inodes)?,
-            entries: vec![in alloc; Spelled::default(); inodes as usize / 2 + 256]?,
+            entries: Vec::with_capacity(alloc, 3 * (inodes as usize / 4) + SPARE)?,
             inodes,
         })
     }
@@ -44,5 +47,22 @@ impl Pending {
         ensures { result ≡ self.now }
     {
         self.inodes as usize
+    }
+}
+
+/// Makes memory for the check of so many names out of what is reserved: three cells for each and some more, as far as
+/// they go. Memory that no directory needs is never written.
+pub(crate) fn make_room(entries: &mut Vec<Spelled>, names: usize)
+    requires { names ≤ vec_capacity entries.old }
+    ensures room { names ≤ vec_len entries.new }
+    ensures capacity { vec_capacity entries.old ≤ vec_capacity entries.new }
+{
+    let wanted = names.saturating_mul(3).saturating_add(SPARE);
+    let wanted = wanted.min(entries.capacity());
+    if entries.len() < wanted {
+        match entries.resize(wanted, Spelled::default()) {
+            Ok(()) => {}
+            Err(_) => unreachable!(),
+        }
     }
 }

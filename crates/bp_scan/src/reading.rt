@@ -1,6 +1,6 @@
 //! The walk over all trees of an image.
 
-ghost use Rattle.std.specs.Prelude.{◌≡◌, ◌*◌, ◌<◌, ◌≤◌, ℕ, false, length, OnOk, IfErr};
+ghost use Rattle.std.specs.Prelude.{◌≡◌, ◌*◌, ◌<◌, ◌≤◌, ℕ, false, length, vec_capacity, OnOk, IfErr};
 ghost use Rattle.bp_free.specs.Set.{has, empty};
 ghost use Rattle.bp_layout.specs.Checks.{Fails, IsFormatted};
 ghost use Rattle.bp_layout.specs.Free.{AreFreeBlocks, AreFreeInodes};
@@ -55,18 +55,18 @@ fn read_directories<R: Region>(
     blocks: &mut Blocks,
     inodes: &mut Inodes,
     todo: &mut Inodes,
-    entries: &mut [Spelled],
+    entries: &mut Vec<Spelled>,
 ) -> Result<(), CheckFault>
     requires ready { IsOpen (current_words (R.memory region.now)) }
     requires reading { IsReading (current_words (R.memory region.now)) blocks.old inodes.old todo.old 0 0 }
-    requires entries { 16 * block_count (current_words (R.memory region.now)) ≤ length entries.old }
+    requires entries { 16 * block_count (current_words (R.memory region.now)) ≤ vec_capacity entries.old }
     ensures reading { OnOk result (IsReading (current_words (R.memory region.now)) blocks.new inodes.new todo.new 0 0) }
     ensures none_left { OnOk result ((i : ℕ) → has todo.new i ≡ false) }
     ensures fault { IfErr result (λ f. Fails (current_words (R.memory region.now)) f.check f.place) }
     ensures block_room { length blocks.new ≡ length blocks.old }
     ensures inode_room { length inodes.new ≡ length inodes.old }
     ensures todo_room { length todo.new ≡ length todo.old }
-    ensures entry_room { length entries.new ≡ length entries.old }
+    ensures entry_room { vec_capacity entries.old ≤ vec_capacity entries.new }
 {
     while let Some(inode) = todo.take() {
         if let Err(fault) = read_directory(region, inode, blocks, inodes, todo, entries) {
@@ -76,20 +76,20 @@ fn read_directories<R: Region>(
     Ok(())
 }
 
-/// The same as [`read_trees`] with the memory taken apart: a set for the directories to do, and memory for each entry that
-/// a directory may have.
+/// The same as [`read_trees`] with the memory taken apart: a set for the directories to do, and memory reserved for
+/// each entry that a directory may have.
 fn read_with<R: Region>(
     region: &R,
     blocks: &mut Blocks,
     inodes: &mut Inodes,
     todo: &mut Inodes,
-    entries: &mut [Spelled],
+    entries: &mut Vec<Spelled>,
 ) -> Result<(), CheckFault>
     requires formatted { IsFormatted (current_words (R.memory region.now)) }
     requires no_blocks { blocks.old ≡ empty (block_count (current_words (R.memory region.now))) }
     requires no_inodes { inodes.old ≡ empty (64 * block_count (current_words (R.memory region.now))) }
     requires todo { length todo.old ≡ 64 * block_count (current_words (R.memory region.now)) }
-    requires entries { 16 * block_count (current_words (R.memory region.now)) ≤ length entries.old }
+    requires entries { 16 * block_count (current_words (R.memory region.now)) ≤ vec_capacity entries.old }
     ensures well_formed { OnOk result (IsWellFormed (current_words (R.memory region.now))) }
     ensures blocks { OnOk result (AreFreeBlocks (current_words (R.memory region.now)) (has blocks.new)) }
     ensures inodes { OnOk result (AreFreeInodes (current_words (R.memory region.now)) (has inodes.new)) }
@@ -99,7 +99,7 @@ fn read_with<R: Region>(
     ensures block_room { length blocks.new ≡ length blocks.old }
     ensures inode_room { length inodes.new ≡ length inodes.old }
     ensures todo_room { length todo.new ≡ length todo.old }
-    ensures entry_room { length entries.new ≡ length entries.old }
+    ensures entry_room { vec_capacity entries.old ≤ vec_capacity entries.new }
 {
     todo.clear();
     if let Err(fault) = start(region, blocks, inodes, todo) {

@@ -12,7 +12,8 @@ use Rattle.bp_script.specs.Commands.{Command, asked_by, bare_command, bytes_of, 
 use Rattle.bp_plain.specs.Calls.Call.{read, rename}
 use Rattle.bp_replay.specs.Wanted.Wanted.{all, nothing}
 use Rattle.bp_script.specs.Commands.Command.{file_call, sync, space, crash, log, bad_syntax}
-use Rattle.bp_script.proofs.Rows.{parts_within, path_row}
+use Rattle.bp_plain.specs.Calls.Call.{create, mkdir, unlink, rmdir, list, stat}
+use Rattle.bp_script.proofs.Rows.{parts_within}
 
 -- ---- most commands have none
 
@@ -25,11 +26,22 @@ bare_none verb = go (bytes_eq verb (codes "sync")) (bytes_eq verb (codes "space"
     go false false true = refl
     go false false false = refl
 
+-- a row of a word and a path, by which word it is
+abbrev row_of : (a b c d e f : Bool) → List ℕ → Command
+row_of a b c d e f path =
+    if a then file_call (create path)
+    else if b then file_call (mkdir path)
+    else if c then file_call (unlink path)
+    else if d then file_call (rmdir path)
+    else if e then file_call (list path)
+    else if f then file_call (stat path)
+    else bad_syntax
+
 path_none : (verb path : List ℕ) → mask_in (path_command verb path) ≡ []
 path_none verb path =
     go (bytes_eq verb (codes "create")) (bytes_eq verb (codes "mkdir")) (bytes_eq verb (codes "unlink")) (bytes_eq verb (codes "rmdir")) (bytes_eq verb (codes "list")) (bytes_eq verb (codes "stat"))
   where
-    go : (a b c d e f : Bool) → mask_in (path_row a b c d e f path) ≡ []
+    go : (a b c d e f : Bool) → mask_in (row_of a b c d e f path) ≡ []
     go true b c d e f = refl
     go false true c d e f = refl
     go false false true d e f = refl

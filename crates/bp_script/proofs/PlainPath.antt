@@ -1,13 +1,12 @@
 -- A path with no escape is what it stands for.
-use Rattle.std.proofs.Common.{◌≡◌, ◌≢◌, ℕ, List, [], ◌∷◌, ◌++◌, ◌==◌, map, flat_map, Bool, true, false, None, refl, sym, ◌∙◌, ap, arith}
+use Rattle.std.proofs.Common.{◌≡◌, ◌≢◌, ℕ, List, [], ◌∷◌, ◌++◌, ◌==◌, map, flat_map, Bool, true, false, None, position, refl, sym, ◌∙◌, ap, true≢false}
 use Rattle.std.specs.Prelude.{All}
 use Rattle.std.specs.List.{join_by, slice_split}
 use Rattle.std.proofs.lemmas.Bool.{eqb-true}
 use Rattle.std.proofs.lemmas.List.Elements.{All-from_get_or, All-head, All-tail}
-use Rattle.memchr.specs.Find.{IsFirstByte, is_byte}
 use Rattle.percent_encoding.proofs.PercentLemmas.{percent_decode-nil, percent_decode_not_percent}
 use Rattle.bp_script.specs.Commands.{part_bytes, path_bytes, unslashed}
-use Rattle.bp_script.proofs.Splitting.{slice_split-cons}
+use Rattle.bp_script.proofs.Splitting.{no_place, slice_split-cons}
 
 -- what parts stand for, joined
 abbrev joined : List (List ℕ) → List ℕ
@@ -39,6 +38,6 @@ plain_path (b ∷ word) all =
         let whole' : part_bytes first ++ flat_map (λ y. (47 ∷ []) ++ part_bytes y) rest ≡ word = rw cut at whole in
         rw (at, cut) (ap (λ x. x ++ flat_map (λ y. (47 ∷ []) ++ part_bytes y) rest) (part_of-cons b first (All-head (λ c. c ≢ 37) b word all) at) ∙ ap (λ x. b ∷ x) whole')
 
--- where a search finds no `%`
-pub unescaped_path : (word : List ℕ) → IsFirstByte (is_byte 37) word None → path_bytes word ≡ word
-unescaped_path word nowhere = plain_path word (All-from_get_or (λ b. b ≢ 37) word 0 (λ k low e. nowhere k (omega arith) low (rw e refl)))
+-- where no byte is a `%`
+pub unescaped_path : (word : List ℕ) → position (λ b. b == 37) word ≡ None → path_bytes word ≡ word
+unescaped_path word none = plain_path word (All-from_get_or (λ b. b ≢ 37) word 0 (λ k low e. true≢false (sym (ap (λ b. b == 37) e) ∙ no_place (λ b. b == 37) word none k low)))

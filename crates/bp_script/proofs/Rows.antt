@@ -1,88 +1,194 @@
 -- The rows of the table of commands.
-use Rattle.std.proofs.Common.{◌≡◌, ℕ, ◌<◌, ◌≤◌, List, [], ◌∷◌, ◌++◌, ◌==◌, length, map, codes, Bool, true, false, Option, None, Some, if◌then◌else◌, refl, ◌∙◌, ap, arith, Bor}
-use Rattle.std.proofs.lemmas.List.{length-map}
-use Rattle.std.specs.List.{list_any, slice_split, AllByRecursion}
+use Rattle.std.proofs.Common.{◌≡◌, ℕ, zero, suc, ◌+◌, ◌-◌, ◌<◌, ◌≤◌, List, [], ◌∷◌, ◌==◌, ◌&&◌, ◌||◌, length, take, drop, slice_index, position, codes, nat_le, nat_lt, Bool, true, false, Option, None, Some, Result, Ok, Err, if◌then◌else◌, refl, sym, ◌∙◌, ap, arith, true≢false}
+use Rattle.std.proofs.lemmas.Bool.{eqb-true, ne_eqb}
+use Rattle.std.proofs.lemmas.List.Folds.{list_all_at}
+use Rattle.std.proofs.lemmas.List.Quantifiers.{position-Some}
+use Rattle.std.proofs.lemmas.List.Sums.{list_all-from_AllPass}
+use Rattle.std.specs.Char.{is_ascii_digit}
+use Rattle.std.specs.List.{list_all, list_any, slice_split, AllByRecursion}
 use Rattle.std.specs.Prelude.{bytes_eq}
-use Rattle.bp_plain.specs.Calls.Call.{create, mkdir, unlink, rmdir, list, stat}
-use Rattle.bp_script.specs.Commands.{Command, asked_by, command_by_words, decoded, is_empty_word, path_bytes, path_command, truncate_command, words_of, written_command}
-use Rattle.bp_script.specs.Commands.Command.{bad_syntax, file_call}
-use Rattle.bp_script.specs.Lines.{AllFit}
+use Rattle.std.specs.Result.{result_ok}
+use Rattle.std.specs.Str.Parse.{digits_value}
+use Rattle.hex.specs.Hex.{decode_of, is_hex_digit}
+use Rattle.hex.specs.declared.error.FromHexError.{FromHexError}
+use Rattle.hex.proofs.HexLemmas.{decode_of-ok}
+use Rattle.bp_script.specs.Commands.{asked_by, bare_command, bytes_of, decoded, is_empty_word, long_command, masked_crash, number_of, pair_command, path_bytes, read_command, storm_command, truncate_command, whole_crash, word_command, words_of, write_command}
+use Rattle.bp_script.specs.Commands.Command.{bad_syntax, crash, log, space, sync}
+use Rattle.bp_replay.specs.Wanted.Wanted.{all, nothing}
+use Rattle.bp_script.specs.Lines.{path_row}
+use Rattle.bp_script.specs.declared.lines.PathVerb.{PathVerb}
+use Rattle.bp_script.specs.declared.lines.PathVerb.TheVariants as verb
+use Rattle.bp_script.proofs.Splitting.{slice_split-cons, slice_split-none, slice_split-some}
 
--- words behind the fourth are none of the table
-asked_by-many : (words : List (List ℕ)) (word : List ℕ) (more : List (List ℕ)) → length words ≡ 4 → bad_syntax ≡ asked_by (words ++ word ∷ more)
-asked_by-many (a ∷ b ∷ c ∷ d ∷ []) word more four = go (list_any is_empty_word (a ∷ b ∷ c ∷ d ∷ word ∷ more)) refl
+-- words of a line, none of which but the first may be empty
+
+filled : (word : List ℕ) → 0 < length word → is_empty_word word ≡ false
+filled word some = ne_eqb (length word) 0 (λ none. absurd (omega (arith, some, none)))
+
+asked_one : (verb : List ℕ) → asked_by (verb ∷ []) ≡ bare_command verb
+asked_one [] = refl
+asked_one (v ∷ verb) = rw (filled (v ∷ verb) (omega arith)) refl
+
+pub asked_two : (verb word : List ℕ) → 0 < length word → asked_by (verb ∷ word ∷ []) ≡ word_command verb word
+asked_two [] word some = refl
+asked_two (v ∷ verb) word some = rw (filled (v ∷ verb) (omega arith), filled word some) refl
+
+pub asked_three : (verb first second : List ℕ) → 0 < length first → 0 < length second → asked_by (verb ∷ first ∷ second ∷ []) ≡ pair_command verb first second
+asked_three [] first second some some_second = refl
+asked_three (v ∷ verb) first second some some_second = rw (filled (v ∷ verb) (omega arith), filled first some, filled second some_second) refl
+
+asked_four : (verb first second third : List ℕ) → 0 < length first → 0 < length second → 0 < length third → asked_by (verb ∷ first ∷ second ∷ third ∷ []) ≡ long_command verb first second third
+asked_four [] first second third some some_second some_third = refl
+asked_four (v ∷ verb) first second third some some_second some_third =
+    rw (filled (v ∷ verb) (omega arith), filled first some, filled second some_second, filled third some_third) refl
+
+asked_more : (a b c d e : List ℕ) (more : List (List ℕ)) → asked_by (a ∷ b ∷ c ∷ d ∷ e ∷ more) ≡ bad_syntax
+asked_more a b c d e more = go (list_any is_empty_word (a ∷ b ∷ c ∷ d ∷ e ∷ more)) refl
   where
-    go : (e : Bool) → list_any is_empty_word (a ∷ b ∷ c ∷ d ∷ word ∷ more) ≡ e → bad_syntax ≡ asked_by (a ∷ b ∷ c ∷ d ∷ word ∷ more)
+    go : (t : Bool) → list_any is_empty_word (a ∷ b ∷ c ∷ d ∷ e ∷ more) ≡ t → asked_by (a ∷ b ∷ c ∷ d ∷ e ∷ more) ≡ bad_syntax
     go true at = rw at refl
     go false at = rw at refl
-asked_by-many words word more four = absurd (omega (arith, four))
 
-pub written_command-many : (line : List ℕ) (words : List (Bor (List ℕ))) (word : List ℕ) (more : List (List ℕ)) → length words ≡ 4 → map (λ w. w.now) words ++ word ∷ more ≡ words_of line → bad_syntax ≡ written_command line
-written_command-many line words word more four whole =
-    asked_by-many (map (λ w. w.now) words) word more (length-map words (λ w. w.now) ∙ four) ∙ ap asked_by whole
+-- an empty word makes a line none of the table
 
--- nor are words of which there is no first or a fifth
-pub no_words : (words : List (Bor (List ℕ))) → length words < 1 → bad_syntax ≡ decoded (command_by_words (map (λ word. word.now) words))
-no_words [] few = refl
-no_words (word ∷ words) few = absurd (omega (arith, few))
+either_true : (t : Bool) → (t || true) ≡ true
+either_true true = refl
+either_true false = refl
 
-pub many_words : (words : List (Bor (List ℕ))) → 5 ≤ length words → bad_syntax ≡ decoded (command_by_words (map (λ word. word.now) words))
-many_words (a ∷ b ∷ c ∷ d ∷ e ∷ words) many = refl
-many_words words many = absurd (omega (arith, many))
+pub second_empty : (verb word : List ℕ) (more : List (List ℕ)) → length word ≡ 0 → asked_by (verb ∷ word ∷ more) ≡ bad_syntax
+second_empty verb (w ∷ word) more none = absurd (omega (arith, none))
+second_empty verb [] more none = rw (either_true (is_empty_word verb)) refl
+
+pub third_empty : (verb first word : List ℕ) (more : List (List ℕ)) → length word ≡ 0 → asked_by (verb ∷ first ∷ word ∷ more) ≡ bad_syntax
+third_empty verb first (w ∷ word) more none = absurd (omega (arith, none))
+third_empty verb first [] more none = rw (either_true (is_empty_word first), either_true (is_empty_word verb)) refl
+
+fourth_empty : (verb first second : List ℕ) → asked_by (verb ∷ first ∷ second ∷ [] ∷ []) ≡ bad_syntax
+fourth_empty verb first second = rw (either_true (is_empty_word second), either_true (is_empty_word first), either_true (is_empty_word verb)) refl
+
+pub nothing_behind : (verb first second rest : List ℕ) → length rest ≡ 0 → asked_by (verb ∷ first ∷ second ∷ words_of rest) ≡ bad_syntax
+nothing_behind verb first second (r ∷ rest) none = absurd (omega (arith, none))
+nothing_behind verb first second [] none = fourth_empty verb first second
+
+-- ---- a fourth word with a space: there are more words, and it is neither a number nor bytes
+
+number_with_space : (word : List ℕ) (i : ℕ) → i < length word → slice_index word i ≡ 32 → number_of word ≡ None
+number_with_space word i inside is =
+    let no : list_all is_ascii_digit word ≡ false = list_all_at is_ascii_digit word i 0 inside (ap is_ascii_digit is) in
+    rw no (go (nat_le 1 (length word)) (nat_le (length word) 20) (nat_lt (digits_value 10 word) 18446744073709551616))
+  where
+    go : (a b c : Bool) → (if (a && b && false) && c then Some (digits_value 10 word) else None) ≡ None
+    go true true c = refl
+    go true false c = refl
+    go false b c = refl
+
+digits_with_space : (word : List ℕ) (i : ℕ) → i < length word → slice_index word i ≡ 32 → result_ok (decode_of word) ≡ None
+digits_with_space word i inside is = go (decode_of word) refl
+  where
+    go : (r : Result (List ℕ) FromHexError) → decode_of word ≡ r → result_ok r ≡ None
+    go (Err fault) at = refl
+    go (Ok found) at =
+        let all : list_all is_hex_digit word ≡ true = list_all-from_AllPass is_hex_digit word (decode_of-ok word found at).1 in
+        let no : list_all is_hex_digit word ≡ false = list_all_at is_hex_digit word i 0 inside (ap is_hex_digit is) in
+        absurd (true≢false (sym all ∙ no))
+
+bytes_with_space : (word : List ℕ) (i : ℕ) → i < length word → slice_index word i ≡ 32 → bytes_of word ≡ None
+bytes_with_space [] i inside is = absurd (omega (arith, inside))
+bytes_with_space (x ∷ []) zero inside is =
+    let space : x ≡ 32 = is in
+    rw space (digits_with_space (32 ∷ []) 0 (omega arith) refl)
+bytes_with_space (x ∷ []) (suc i) inside is = absurd (omega (arith, inside))
+bytes_with_space (x ∷ y ∷ word) i inside is = go (x == 45) (digits_with_space (x ∷ y ∷ word) i inside is)
+  where
+    go : (t : Bool) → result_ok (decode_of (x ∷ y ∷ word)) ≡ None → (if t && false then Some [] else result_ok (decode_of (x ∷ y ∷ word))) ≡ None
+    go true none = none
+    go false none = none
+
+no_length : (path : List ℕ) (off : Option ℕ) → read_command path off None ≡ bad_syntax
+no_length path None = refl
+no_length path (Some off) = refl
+
+no_bytes : (path : List ℕ) (off : Option ℕ) → write_command path off None ≡ bad_syntax
+no_bytes path None = refl
+no_bytes path (Some off) = refl
+
+no_mask : (moment epoch : Option ℕ) → masked_crash moment epoch None ≡ bad_syntax
+no_mask None epoch = refl
+no_mask (Some moment) None = refl
+no_mask (Some moment) (Some epoch) = refl
+
+long_with_space : (verb first second third : List ℕ) (i : ℕ) → i < length third → slice_index third i ≡ 32 → long_command verb first second third ≡ bad_syntax
+long_with_space verb first second third i inside is =
+    rw (number_with_space third i inside is, bytes_with_space third i inside is, no_length first (number_of second), no_bytes first (number_of second), no_mask (number_of first) (number_of second))
+    (go (bytes_eq verb (codes "read")) (bytes_eq verb (codes "write")) (bytes_eq verb (codes "crash")))
+  where
+    go : (a b c : Bool) → (if a then bad_syntax else if b then bad_syntax else if c then bad_syntax else bad_syntax) ≡ bad_syntax
+    go true b c = refl
+    go false true c = refl
+    go false false true = refl
+    go false false false = refl
+
+-- what is behind the third space, as a whole
+pub asked_behind : (verb first second rest : List ℕ) → 0 < length first → 0 < length second → 0 < length rest
+    → long_command verb first second rest ≡ asked_by (verb ∷ first ∷ second ∷ words_of rest)
+asked_behind verb first second rest some some_second some_rest = go (position (λ b. b == 32) rest) refl
+  where
+    go : (found : Option ℕ) → position (λ b. b == 32) rest ≡ found → long_command verb first second rest ≡ asked_by (verb ∷ first ∷ second ∷ words_of rest)
+    go None at = rw (slice_split-none (λ b. b == 32) rest at) (sym (asked_four verb first second rest some some_second some_rest))
+    go (Some i) at =
+        let here : (i < length rest) × ((slice_index rest i == 32) ≡ true) × ((k : ℕ) → k < i → (slice_index rest k == 32) ≡ false) = position-Some (λ b. b == 32) rest i 0 at in
+        let more = slice_split-cons (λ b. b == 32) (take (length rest - (i + 1)) (drop (i + 1) rest)) in
+        long_with_space verb first second rest i here.0 (eqb-true _ _ here.1)
+        ∙ sym (rw (slice_split-some (λ b. b == 32) rest i at, more.2) (asked_more verb first second (take i rest) more.0 more.1))
 
 -- ---- no word of a line is longer than the line
 
 AllByRecursion-more : (m n : ℕ) (words : List (List ℕ)) → m ≤ n → AllByRecursion (λ word. length word ≤ m) words → AllByRecursion (λ word. length word ≤ n) words
-AllByRecursion-more m n [] low all = tt
-AllByRecursion-more m n (word ∷ words) low all = (omega (arith, low, all.0), AllByRecursion-more m n words low all.1)
+AllByRecursion-more m n [] low fit = tt
+AllByRecursion-more m n (word ∷ words) low fit = (omega (arith, low, fit.0), AllByRecursion-more m n words low fit.1)
 
 pub parts_within : (p : ℕ → Bool) (text : List ℕ) → AllByRecursion (λ part. length part ≤ length text) (slice_split p text)
 parts_within p [] = (omega arith, tt)
 parts_within p (x ∷ xs) = go (p x) refl (slice_split p xs) refl (parts_within p xs)
   where
     go : (b : Bool) → p x ≡ b → (parts : List (List ℕ)) → slice_split p xs ≡ parts → AllByRecursion (λ part. length part ≤ length xs) parts → AllByRecursion (λ part. length part ≤ length (x ∷ xs)) (slice_split p (x ∷ xs))
-    go true at parts is all = rw (at, is) (omega arith, AllByRecursion-more (length xs) (length (x ∷ xs)) parts (omega arith) all)
-    go false at [] is all = rw (at, is) (omega arith, tt)
-    go false at (part ∷ parts) is all = rw (at, is) (omega (arith, all.0), AllByRecursion-more (length xs) (length (x ∷ xs)) parts (omega arith) all.1)
-
-fit_behind : (n : ℕ) (words : List (Bor (List ℕ))) → AllByRecursion (λ word. length word ≤ n) (map (λ word. word.now) words) → AllFit n words
-fit_behind n [] all = tt
-fit_behind n (word ∷ words) all = (all.0, fit_behind n words all.1)
-
-pub words_fit : (line : List ℕ) (words : List (Bor (List ℕ))) → map (λ word. word.now) words ≡ words_of line → AllFit (length line) words
-words_fit line words is =
-    let fit : AllByRecursion (λ word. length word ≤ length line) (map (λ word. word.now) words) = rw is (parts_within (λ b. b == 32) line) in
-    fit_behind (length line) words fit
-
-pub fit_more : (m n : ℕ) (words : List (Bor (List ℕ))) → m ≤ n → AllFit m words → AllFit n words
-fit_more m n [] low all = tt
-fit_more m n (word ∷ words) low all = (omega (arith, low, all.0), fit_more m n words low all.1)
+    go true at parts is fit = rw (at, is) (omega arith, AllByRecursion-more (length xs) (length (x ∷ xs)) parts (omega arith) fit)
+    go false at [] is fit = rw (at, is) (omega arith, tt)
+    go false at (part ∷ parts) is fit = rw (at, is) (omega (arith, fit.0), AllByRecursion-more (length xs) (length (x ∷ xs)) parts (omega arith) fit.1)
 
 -- ---- rows with their paths decoded
 
--- a row of a word and a path, by which word it is
-abbrev pub path_row : (a b c d e f : Bool) → List ℕ → Command
-path_row a b c d e f path =
-    if a then file_call (create path)
-    else if b then file_call (mkdir path)
-    else if c then file_call (unlink path)
-    else if d then file_call (rmdir path)
-    else if e then file_call (list path)
-    else if f then file_call (stat path)
-    else bad_syntax
+pub decoded-path : (verb : PathVerb) (path : List ℕ) → path_row verb (path_bytes path) ≡ decoded (path_row verb path)
+decoded-path verb.Create path = refl
+decoded-path verb.Mkdir path = refl
+decoded-path verb.Unlink path = refl
+decoded-path verb.Rmdir path = refl
+decoded-path verb.List path = refl
+decoded-path verb.Stat path = refl
 
-pub decoded-path : (verb path : List ℕ) → path_command verb (path_bytes path) ≡ decoded (path_command verb path)
-decoded-path verb path =
-    go (bytes_eq verb (codes "create")) (bytes_eq verb (codes "mkdir")) (bytes_eq verb (codes "unlink")) (bytes_eq verb (codes "rmdir")) (bytes_eq verb (codes "list")) (bytes_eq verb (codes "stat"))
+decoded-bare : (verb : List ℕ) → bare_command verb ≡ decoded (bare_command verb)
+decoded-bare verb = go (bytes_eq verb (codes "sync")) (bytes_eq verb (codes "space")) (bytes_eq verb (codes "log"))
   where
-    go : (a b c d e f : Bool) → path_row a b c d e f (path_bytes path) ≡ decoded (path_row a b c d e f path)
-    go true b c d e f = refl
-    go false true c d e f = refl
-    go false false true d e f = refl
-    go false false false true e f = refl
-    go false false false false true f = refl
-    go false false false false false true = refl
-    go false false false false false false = refl
+    go : (a b c : Bool) → (if a then sync else if b then space else if c then log else bad_syntax) ≡ decoded (if a then sync else if b then space else if c then log else bad_syntax)
+    go true b c = refl
+    go false true c = refl
+    go false false true = refl
+    go false false false = refl
+
+pub bare_asked : (verb : List ℕ) → bare_command verb ≡ decoded (asked_by (verb ∷ []))
+bare_asked verb = decoded-bare verb ∙ ap decoded (sym (asked_one verb))
+
+pub decoded-whole : (word : List ℕ) → whole_crash word ≡ decoded (whole_crash word)
+decoded-whole word = go (bytes_eq word (codes "all")) (bytes_eq word (codes "none"))
+  where
+    go : (a b : Bool) → (if a then crash all else if b then crash nothing else bad_syntax) ≡ decoded (if a then crash all else if b then crash nothing else bad_syntax)
+    go true b = refl
+    go false true = refl
+    go false false = refl
+
+pub decoded-storm : (seed : Option ℕ) → storm_command seed ≡ decoded (storm_command seed)
+decoded-storm None = refl
+decoded-storm (Some seed) = refl
 
 pub decoded-truncate : (path : List ℕ) (size : Option ℕ) → truncate_command (path_bytes path) size ≡ decoded (truncate_command path size)
 decoded-truncate path None = refl

@@ -1,12 +1,11 @@
 -- A text split at a byte.
-use Rattle.std.proofs.Common.{◌≡◌, ℕ, zero, suc, ◌+◌, ◌-◌, ◌<◌, List, [], ◌∷◌, length, get_or, take, drop, Bool, true, false, Option, Some, None, refl, sym, ◌∙◌, ap, arith, length-drop, add-one}
+use Rattle.std.proofs.Common.{◌≡◌, ℕ, zero, suc, ◌+◌, ◌-◌, ◌<◌, ◌≤◌, nat_lt, List, [], ◌∷◌, length, get_or, take, drop, Bool, true, false, Option, Some, None, refl, sym, ◌∙◌, ap, arith, length-drop, add-one}
 use Rattle.std.proofs.lemmas.List.{take_all}
 use Rattle.std.proofs.lemmas.List.Quantifiers.{position-Some}
-use Rattle.std.proofs.lemmas.List.Sums.{position_or_len_is}
-use Rattle.memchr.specs.Find.{IsFirstByte, Passes}
+use Rattle.std.proofs.lemmas.List.Sums.{fails_before_first}
 use Rattle.std.proofs.lemmas.Iterator.Adapters.{position_from-zero}
 use Rattle.std.specs.List.{slice_split, onto_first, position, position_from, position_or_len}
-use Rattle.std.proofs.lemmas.Bool.{le-ltb, lt-ltb}
+use Rattle.std.proofs.lemmas.Bool.{ltb-false}
 
 module _ (p : ℕ → Bool) where
   split_none : (xs : List ℕ) (i : ℕ) → position_from p i xs ≡ None → slice_split p xs ≡ xs ∷ []
@@ -44,21 +43,9 @@ module _ (p : ℕ → Bool) where
       go true at parts = ([], slice_split p xs, rw at refl)
       go false at parts = (x ∷ parts.0, parts.1, rw at (ap (onto_first x) parts.2))
 
-  -- a place where the test does not hold
-  fails_there : (xs : List ℕ) (k : ℕ) → ¬ Passes p xs k → p (get_or xs k 0) ≡ false
-  fails_there xs k fails = go (p (get_or xs k 0)) refl
+  pub no_place : (xs : List ℕ) → position p xs ≡ None → (k : ℕ) → k < length xs → p (get_or xs k 0) ≡ false
+  no_place xs none k low = fails_before_first p xs k 0 (omega (arith, low, all_before (nat_lt (position_or_len p xs) (length xs)) refl))
     where
-      go : (b : Bool) → p (get_or xs k 0) ≡ b → p (get_or xs k 0) ≡ false
-      go true e = absurd (fails e)
-      go false e = e
-
-  -- a search for the first byte that passes finds its position
-  pub first_is_position : (xs : List ℕ) (found : Option ℕ) → IsFirstByte p xs found → found ≡ position p xs
-  first_is_position xs None nowhere =
-      let all : position_or_len p xs ≡ length xs =
-      position_or_len_is p xs (length xs) 0 (omega arith) (λ k low. fails_there xs k (nowhere k (omega arith) low)) (λ low. absurd (omega (arith, low))) in
-      rw (le-ltb (position_or_len p xs) (length xs) (omega (arith, all))) refl
-  first_is_position xs (Some i) found =
-      let at : position_or_len p xs ≡ i =
-      position_or_len_is p xs i 0 (omega (arith, found.0.high)) (λ k low. fails_there xs k (found.0.before k (omega arith) low)) (λ low. found.1) in
-      rw (lt-ltb (position_or_len p xs) (length xs) (omega (arith, at, found.0.high))) (ap Some (sym at))
+      all_before : (t : Bool) → nat_lt (position_or_len p xs) (length xs) ≡ t → length xs ≤ position_or_len p xs
+      all_before true at = let some : ◌≡◌ {A = Option ℕ} (Some (position_or_len p xs)) None = rw at at none in absurd (cc)
+      all_before false at = ltb-false _ _ at

@@ -1,17 +1,21 @@
 -- What a line that was read asks for.
-use Rattle.std.specs.Prelude.{ℕ, ◌≤◌, List, length, min, Result, Ok, Err}
-use Rattle.std.specs.Borrow.{Bor, Fml, MutBor}
+use Rattle.std.specs.Prelude.{ℕ, ◌≤◌, List, min, Option, None, Some, Result, Ok, Err}
+use Rattle.std.specs.Borrow.{Fml, MutBor}
 use Rattle.std.specs.Io.BufRead.{Rests}
-use Rattle.std.specs.List.{AllByRecursion}
 use Rattle.std.specs.Vec.{vec_capacity}
+use Rattle.bp_plain.specs.Calls.Call.{create, mkdir, unlink, rmdir, list, stat}
 use Rattle.bp_plain.specs.Seen.{call_of}
 use Rattle.bp_replay.specs.Wanted.{wanted_by}
 use Rattle.bp_script.specs.declared.lines.Decoded.{Decoded}
 use Rattle.bp_script.specs.declared.lines.Line.{Line}
 use Rattle.bp_script.specs.declared.lines.Line.TheVariants as asks
+use Rattle.bp_script.specs.declared.lines.PathVerb.{PathVerb}
+use Rattle.bp_script.specs.declared.lines.PathVerb.TheVariants as verb
 use Rattle.bp_script.specs.declared.lines.Syntax.{Syntax}
+use Rattle.bp_script.specs.declared.lines.WordVerb.{WordVerb}
+use Rattle.bp_script.specs.declared.lines.WordVerb.TheVariants as on
 use Rattle.bp_script.specs.contracts.lines.Decoded.{the_row}
-use Rattle.bp_script.specs.Commands.{Command}
+use Rattle.bp_script.specs.Commands.{Command, number_of, storm_command, whole_crash}
 use Rattle.bp_script.specs.Commands.Command.{file_call, sync, space, crash, storm, log, bad_syntax}
 
 -- the bytes of the longest line that can be decoded
@@ -38,6 +42,18 @@ line_asks (Ok (asks.Storm seed)) = storm seed
 line_asks (Ok asks.Log) = log
 line_asks (Err fault) = bad_syntax
 
--- no word is longer than the room
-abbrev pub AllFit : ℕ → List (Bor (List ℕ)) → Type 0
-AllFit room words = AllByRecursion (λ word. length word.now ≤ room) words
+-- what a verb and a path ask for
+abbrev pub path_row : PathVerb → List ℕ → Command
+path_row verb.Create path = file_call (create path)
+path_row verb.Mkdir path = file_call (mkdir path)
+path_row verb.Unlink path = file_call (unlink path)
+path_row verb.Rmdir path = file_call (rmdir path)
+path_row verb.List path = file_call (list path)
+path_row verb.Stat path = file_call (stat path)
+
+-- what a verb and another word ask for
+abbrev pub word_row : Option WordVerb → List ℕ → Command
+word_row (Some on.Crash) word = whole_crash word
+word_row (Some on.Storm) word = storm_command (number_of word)
+word_row (Some (on.Path verb)) word = path_row verb word
+word_row None word = bad_syntax

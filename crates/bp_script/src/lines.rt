@@ -3,27 +3,23 @@
 ghost use Rattle.bp_plain.specs.Calls.Call.{rename, write};
 ghost use Rattle.bp_replay.specs.Wanted.Wanted.{at};
 ghost use Rattle.bp_script.specs.Commands.Command.{bad_syntax, crash, file_call};
-ghost use Rattle.bp_script.specs.Commands.{bare_command, bytes_of, command_by_words, decoded, in_grammar, is_empty_word, long_command, mask_in, masked_crash, number_of, pair_command, part_bytes, path_bytes, path_command, read_command, storm_command, truncate_command, unslashed, whole_crash, word_command, words_of, write_command, written_command};
-ghost use Rattle.bp_script.specs.Lines.{AllFit, KeepsRoom, decoded_room, first_held, line_asks, second_held};
+ghost use Rattle.bp_script.specs.Commands.{asked_by, bare_command, bytes_of, decoded, in_grammar, long_command, mask_in, masked_crash, number_of, pair_command, part_bytes, path_bytes, read_command, storm_command, truncate_command, unslashed, whole_crash, word_command, words_of, write_command};
+ghost use Rattle.bp_script.specs.Lines.{KeepsRoom, decoded_room, first_held, line_asks, path_row, second_held, word_row};
 ghost use Rattle.std.specs.Borrow.{sem};
-ghost use Rattle.std.specs.List.{list_any, slice_split};
+ghost use Rattle.std.specs.List.{slice_split};
 ghost use Rattle.std.specs.Option.{option_map_or};
 ghost use Rattle.hex.specs.Hex.{decode_of};
 ghost use Rattle.std.specs.Result.{is_ok, result_ok};
-ghost use Rattle.std.specs.Prelude.{◌/◌, ◌*◌, if◌then◌else◌, None, Ok, Some, IfNone, IfOk, IfSome, false, length, map, position, vec_capacity, vec_len, [], ◌∷◌, ◌+◌, ◌++◌, ◌==◌, ◌<◌, ◌≡◌, ◌≤◌};
+ghost use Rattle.std.specs.Prelude.{◌/◌, ◌*◌, if◌then◌else◌, List, None, Ok, Some, IfOk, length, vec_capacity, vec_len, [], ◌∷◌, ◌+◌, ◌++◌, ◌==◌, ◌<◌, ◌≡◌, ◌≤◌, ℕ};
 
 use crate::digits::decode_digits;
-use arrayvec::ArrayVec;
 use bp_limits::MAX_READ;
 use bp_plain::Call;
 use bp_replay::Cut;
-use memchr::memchr;
+use bp_text::first_of;
 use percent_encoding::percent_decode;
 use std::alloc::{AllocError, Global};
 use thiserror::Error;
-
-/// The most words of a line.
-const MOST_WORDS: usize = 4;
 
 /// The most digits of a number.
 const MOST_DIGITS: usize = 20;
@@ -86,24 +82,44 @@ impl Decoded {
         ensures meaning { line_asks result ≡ in_grammar bytes.now }
         ensures mask { 2 * length (mask_in (line_asks result)) ≤ length bytes.now }
     {
-        match words_in(bytes) {
-            Some(words) => self.by_words(words.as_slice()),
-            None => Err(Syntax),
+        let (verb, rest) = split_once(bytes, b' ');
+        match rest {
+            Some(rest) => self.behind_verb(verb, rest),
+            None => bare(verb),
         }
     }
 
-    /// What the words of a line ask for, none of which is empty.
-    fn by_words(&mut self, words: &[&[u8]]) -> Result<Line<'_>, Syntax>
-        requires { AllFit (decoded_room self.old) words.now }
+    /// What a word and the text behind its space ask for.
+    fn behind_verb(&mut self, verb: &[u8], rest: &[u8]) -> Result<Line<'_>, Syntax>
+        requires { length rest.now ≤ decoded_room self.old }
         ensures* keeps_room { sem 𝓛 (KeepsRoom self.entry) }
-        ensures meaning { line_asks result ≡ decoded (command_by_words (map (λ word. word.now) words.now)) }
+        ensures meaning { line_asks result ≡ decoded (asked_by (verb.now ∷ words_of rest.now)) }
     {
-        match words {
-            [verb] => bare(verb),
-            [verb, word] => self.on_word(verb, word),
-            [verb, path, last] => self.on_pair(verb, path, last),
-            [verb, first, second, third] => self.long(verb, first, second, third),
-            _ => Err(Syntax),
+        let (word, more) = split_once(rest, b' ');
+        if word.is_empty() {
+            return Err(Syntax);
+        }
+        match more {
+            Some(more) => self.behind_pair(verb, word, more),
+            None => self.on_word(verb, word),
+        }
+    }
+
+    /// What two words and the text behind the second one's space ask for.
+    fn behind_pair(&mut self, verb: &[u8], first: &[u8], rest: &[u8]) -> Result<Line<'_>, Syntax>
+        requires first { length first.now ≤ decoded_room self.old }
+        requires some { 0 < length first.now }
+        requires rest { length rest.now ≤ decoded_room self.old }
+        ensures* keeps_room { sem 𝓛 (KeepsRoom self.entry) }
+        ensures meaning { line_asks result ≡ decoded (asked_by (verb.now ∷ first.now ∷ words_of rest.now)) }
+    {
+        let (second, third) = split_once(rest, b' ');
+        if second.is_empty() {
+            return Err(Syntax);
+        }
+        match third {
+            Some(third) => self.long(verb, first, second, third),
+            None => self.on_pair(verb, first, second),
         }
     }
 
@@ -113,20 +129,19 @@ impl Decoded {
         ensures* keeps_room { sem 𝓛 (KeepsRoom self.entry) }
         ensures meaning { line_asks result ≡ decoded (word_command verb.now word.now) }
     {
-        if verb == b"crash".as_slice() {
-            whole_crash(word)
-        } else if verb == b"storm".as_slice() {
-            storm(number(word))
-        } else {
-            self.on_path(verb, word)
+        match word_verb(verb) {
+            Some(WordVerb::Crash) => whole_crash(word),
+            Some(WordVerb::Storm) => storm(number(word)),
+            Some(WordVerb::Path(verb)) => Ok(self.on_path(verb, word)),
+            None => Err(Syntax),
         }
     }
 
-    /// What a line of a word and a path asks for.
-    fn on_path(&mut self, verb: &[u8], path: &[u8]) -> Result<Line<'_>, Syntax>
+    /// The line of a verb and a path.
+    fn on_path(&mut self, verb: PathVerb, path: &[u8]) -> Line<'_>
         requires { length path.now ≤ decoded_room self.old }
         ensures* keeps_room { sem 𝓛 (KeepsRoom self.entry) }
-        ensures meaning { line_asks result ≡ decoded (path_command verb.now path.now) }
+        ensures meaning { line_asks (Ok result) ≡ decoded (path_row verb path.now) }
     {
         path_line(verb, self.path_of(path))
     }
@@ -166,8 +181,30 @@ impl Decoded {
         })
     }
 
-    /// What a line of four words asks for.
+    /// What three words and the text behind the third one's space ask for. A space in that text is no digit of any kind, so
+    /// where there is one the line is none of the table, as it must be: it has more words than four.
     fn long(
+        &mut self,
+        verb: &[u8],
+        first: &[u8],
+        second: &[u8],
+        rest: &[u8],
+    ) -> Result<Line<'_>, Syntax>
+        requires first { length first.now ≤ decoded_room self.old }
+        requires some_first { 0 < length first.now }
+        requires some_second { 0 < length second.now }
+        requires rest { length rest.now ≤ decoded_room self.old }
+        ensures* keeps_room { sem 𝓛 (KeepsRoom self.entry) }
+        ensures meaning { line_asks result ≡ decoded (asked_by (verb.now ∷ first.now ∷ second.now ∷ words_of rest.now)) }
+    {
+        if rest.is_empty() {
+            return Err(Syntax);
+        }
+        self.on_long(verb, first, second, rest)
+    }
+
+    /// What a line of four words asks for, where the last may hold spaces.
+    fn on_long(
         &mut self,
         verb: &[u8],
         first: &[u8],
@@ -343,7 +380,7 @@ fn decode(word: &[u8], into: &mut Vec<u8>)
     ensures path { into.new.items ≡ path_bytes word.now }
     ensures room { vec_capacity into.old ≤ vec_capacity into.new }
 {
-    match memchr(b'%', word) {
+    match first_of(b'%', word) {
         Some(_) => decode_parts(word, into),
         None => copy(word, into),
     }
@@ -379,29 +416,6 @@ fn decode_parts(word: &[u8], into: &mut Vec<u8>)
     }
 }
 
-/// The words of a line, where they are at most four and none is empty.
-fn words_in(bytes: &[u8]) -> Option<ArrayVec<&[u8], MOST_WORDS>>
-    ensures words { IfSome result (λ words. map (λ word. word.now) words.items ≡ words_of bytes.now) }
-    ensures full { IfSome result (λ _. list_any is_empty_word (words_of bytes.now) ≡ false) }
-    ensures fit { IfSome result (λ words. AllFit (length bytes.now) words.items) }
-    ensures others { IfNone result (bad_syntax ≡ written_command bytes.now) }
-{
-    let mut words = ArrayVec::new();
-    let mut left = Some(bytes);
-    while let Some(text) = left {
-        let (word, more) = split_once(text, b' ');
-        if word.is_empty() {
-            return None;
-        }
-        match words.try_push(word) {
-            Ok(()) => {}
-            Err(_) => return None,
-        }
-        left = more;
-    }
-    Some(words)
-}
-
 /// What a line of one word asks for.
 fn bare(verb: &[u8]) -> Result<Line<'static>, Syntax>
     ensures { line_asks result ≡ bare_command verb.now }
@@ -435,25 +449,55 @@ fn storm(seed: Option<u64>) -> Result<Line<'static>, Syntax>
     }
 }
 
-/// What a line of a word and a decoded path asks for.
-fn path_line<'a>(verb: &[u8], path: &'a [u8]) -> Result<Line<'a>, Syntax>
-    ensures { line_asks result ≡ path_command verb.now path.now }
+/// The first word of a line that has one more.
+#[derive(Clone, Copy)]
+enum WordVerb {
+    Crash,
+    Storm,
+    /// The other word is a path.
+    Path(PathVerb),
+}
+
+/// The first word of a line that has a path besides.
+#[derive(Clone, Copy)]
+enum PathVerb {
+    Create,
+    Mkdir,
+    Unlink,
+    Rmdir,
+    List,
+    Stat,
+}
+
+/// The verb that a word spells.
+fn word_verb(verb: &[u8]) -> Option<WordVerb>
+    ensures { (word : List ℕ) → word_command verb.now word ≡ word_row result word }
 {
-    if verb == b"create".as_slice() {
-        Ok(Line::Call(Call::Create(path)))
-    } else if verb == b"mkdir".as_slice() {
-        Ok(Line::Call(Call::Mkdir(path)))
-    } else if verb == b"unlink".as_slice() {
-        Ok(Line::Call(Call::Unlink(path)))
-    } else if verb == b"rmdir".as_slice() {
-        Ok(Line::Call(Call::Rmdir(path)))
-    } else if verb == b"list".as_slice() {
-        Ok(Line::Call(Call::List(path)))
-    } else if verb == b"stat".as_slice() {
-        Ok(Line::Call(Call::Stat(path)))
-    } else {
-        Err(Syntax)
+    match verb {
+        b"crash" => Some(WordVerb::Crash),
+        b"storm" => Some(WordVerb::Storm),
+        b"create" => Some(WordVerb::Path(PathVerb::Create)),
+        b"mkdir" => Some(WordVerb::Path(PathVerb::Mkdir)),
+        b"unlink" => Some(WordVerb::Path(PathVerb::Unlink)),
+        b"rmdir" => Some(WordVerb::Path(PathVerb::Rmdir)),
+        b"list" => Some(WordVerb::Path(PathVerb::List)),
+        b"stat" => Some(WordVerb::Path(PathVerb::Stat)),
+        _ => None,
     }
+}
+
+/// The line of a verb and a decoded path.
+fn path_line(verb: PathVerb, path: &[u8]) -> Line<'_>
+    ensures { line_asks (Ok result) ≡ path_row verb path.now }
+{
+    Line::Call(match verb {
+        PathVerb::Create => Call::Create(path),
+        PathVerb::Mkdir => Call::Mkdir(path),
+        PathVerb::Unlink => Call::Unlink(path),
+        PathVerb::Rmdir => Call::Rmdir(path),
+        PathVerb::List => Call::List(path),
+        PathVerb::Stat => Call::Stat(path),
+    })
 }
 
 /// The line of another size of a file.
@@ -518,17 +562,10 @@ fn split_once(text: &[u8], at: u8) -> (&[u8], Option<&[u8]>)
         result.0.now ∷ option_map_or (λ rest. slice_split (λ b. b == at) rest.now) result.1 [] }
     ensures len { length result.0.now + option_map_or (λ rest. length rest.now + 1) result.1 0 ≡ length text.now }
 {
-    match find(text, at) {
+    match first_of(at, text) {
         Some(i) => (&text[..i], Some(&text[i + 1..])),
         None => (text, None),
     }
-}
-
-/// Where a text has the first byte of this kind.
-fn find(text: &[u8], at: u8) -> Option<usize>
-    ensures { result ≡ position (λ b. b == at) text.now }
-{
-    memchr(at, text)
 }
 
 /// Adds what a part of a path stands for, in room that is there.

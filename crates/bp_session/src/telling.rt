@@ -24,11 +24,7 @@ fn tell_names<K: Sink>(listing: &Listing, replies: &mut Replies, out: &mut K) ->
 {
     for i in 0..listing.len() {
         let (kind, name) = listing.at(i);
-        let said = Said::Name {
-            kind: *kind,
-            name: name.as_slice(),
-        };
-        replies.tell(&said, out)?;
+        replies.tell(&Said::Name { kind, name }, out)?;
     }
     replies.tell(&Said::End, out)
 }

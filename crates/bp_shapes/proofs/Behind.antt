@@ -11,24 +11,15 @@ use Rattle.bp_changes.specs.Harmless.{IsHarmless}
 use Rattle.bp_layout.proofs.TreeLaws.{live_above, live_pointer_word, live_content}
 use Rattle.bp_layout.proofs.Reached.{reached-in_file}
 use Rattle.bp_changes.proofs.Separation.{SameWord, one_place_in_nodes}
-use Rattle.bp_shapes.specs.Behind.{IsBehind, IsBehindIn}
+use Rattle.bp_shapes.specs.Behind.{IsBehind}
 
-pub behind_of : (image : Image) (t place value : ℕ) → IsReached image t → IsBehindIn image (root_of image t) (size_of image t) place value → IsBehind image t place value
-behind_of image t place value reached behind = record {
-  reached = reached;
-  depth = behind.depth;
-  index = behind.index;
-  parent = behind.parent;
-  stands = record { present = behind.present; at = behind.at };
-  no_pointer = behind.no_pointer;
-  ends = behind.ends;
-  kept = behind.kept;
-}
+module _ (image : Image) (wf : IsWellFormed image) (t place value : ℕ) (here : IsReached image t) (behind : IsBehind image (root_of image t) (size_of image t) place value) where
+  stands_behind : StandsAt image t behind.depth behind.index place
+  stands_behind = record { present = behind.present; at = behind.at }
 
-module _ (image : Image) (wf : IsWellFormed image) (t place value : ℕ) (behind : IsBehind image t place value) where
   same_word : (u e l : ℕ) → IsReached image u → IsLiveWord (root_of image u) (size_of image u) (suc e) l → StandsAt image u e l place → SameWord t behind.depth behind.index u e l
   same_word u e l reached live stands =
-      one_place_in_nodes image wf t behind.depth behind.index u e l place behind.reached reached behind.parent (live_above _ _ e l live) behind.stands stands
+      one_place_in_nodes image wf t behind.depth behind.index u e l place here reached behind.parent (live_above _ _ e l live) stands_behind stands
 
   -- no content word that lies whole below its size
   not_whole : (u k : ℕ) → IsReached image u → 8 * k + 8 ≤ size_of image u → ContentStandsAt image u k place → ⊥
@@ -41,14 +32,14 @@ module _ (image : Image) (wf : IsWellFormed image) (t place value : ℕ) (behind
 
   -- and no root word
   pub no_root_behind : (u : ℕ) → IsReached image u → RootPlace image u place → ⊥
-  no_root_behind u reached (top first two) = behind.stands.present (omega (arith, behind.stands.at, two))
+  no_root_behind u reached (top first two) = behind.present (omega (arith, behind.at, two))
   no_root_behind u reached (inode some stands) =
       let in_file : u < inode_count image = reached-in_file image wf u reached in
       not_whole 0 (8 * u + 1) inode_file (omega (arith, in_file)) stands
 
   pub behind_harmless : IsHarmless image place value
   behind_harmless = record {
-    superblock = λ low. absurd (behind.stands.present (omega (arith, behind.stands.at, low)));
+    superblock = λ low. absurd (behind.present (omega (arith, behind.at, low)));
     pointers = λ u d k reached live stands.
         let same = same_word u d k reached (live_pointer_word _ _ (suc d) k live) stands in
         absurd (behind.no_pointer (moved u d k same live));

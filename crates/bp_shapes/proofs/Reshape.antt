@@ -139,9 +139,15 @@ module _ (old new : Image) (wf : IsWellFormed old) (t root : ℕ) (reshapes : Re
 
   pub reshaped_meaning : SameMeaning old new
   reshaped_meaning = record {
-    whole = reshapes.whole;
-    marked = reshapes.marked;
-    counted = reshapes.counted;
+    trees = record {
+      whole = reshapes.whole;
+      marked = reshapes.marked;
+      counted = reshapes.counted;
+      sound = sound-same;
+      apart = apart-same;
+      full_inode_file = full-same 0 inode_file wf.full_inode_file;
+      full_directories = λ i reached kind. full-same i reached (wf.full_directories i reached kind);
+    };
     kind = kind-same;
     size = λ i reached. size-same (suc i) reached;
     inode_blocks = rw (size-same 0 inode_file) wf.inode_blocks;
@@ -149,10 +155,6 @@ module _ (old new : Image) (wf : IsWellFormed old) (t root : ℕ) (reshapes : Re
     inumber = λ i s reached kind in_size. content-same i (32 * s + 0) reached kind (directory_inode i kind) (omega (arith, in_size));
     entry = λ i s j f reached n few. content-same i (32 * s + f) reached n.directory (directory_inode i n.directory) (omega (arith, n.in_size, few));
     bytes = λ i o reached kind below. bytes-same i o reached (file_inode i kind) below;
-    sound = sound-same;
-    apart = apart-same;
-    full_inode_file = full-same 0 inode_file wf.full_inode_file;
-    full_directories = λ i reached kind. full-same i reached (wf.full_directories i reached kind);
   }
 
   pub reshaped_same : Same old new

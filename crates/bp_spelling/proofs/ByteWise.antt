@@ -1,5 +1,5 @@
 -- What a word's bits say of each of its bytes.
-use Rattle.std.proofs.Common.{◌≡◌, ◌≢◌, ◌⊎◌, ℕ, zero, suc, ◌+◌, ◌*◌, ◌/◌, ◌%◌, ◌^◌, ◌<◌, ◌≤◌, min, Bool, true, false, ◌==◌, ◌&&◌, ◌||◌, refl, sym, ◌∙◌, ap, ap₂, arith, inl, inr, pow-add, pow-suc, true≢false}
+use Rattle.std.proofs.Common.{◌≡◌, ◌≢◌, ◌⊎◌, ℕ, zero, suc, ◌+◌, ◌*◌, ◌/◌, ◌%◌, ◌^◌, ◌<◌, ◌≤◌, ◌↔◌, min, Bool, true, false, ◌==◌, ◌&&◌, ◌||◌, refl, sym, ◌∙◌, ap, ap₂, arith, inl, inr, pow-add, pow-suc, true≢false}
 use Rattle.std.specs.Int.Bits.{bit_and, bit_or, bit_xor, xor_zero_r, xor_zero_l, xor_self, xor_assoc}
 use Rattle.std.proofs.Math.Nat.{div-div-eq-div-mul, pow-succ', zero-div, zero-mod}
 use Rattle.std.proofs.lemmas.Bool.{eqb-true, cases_eq}
@@ -158,22 +158,24 @@ other-turned w o low some same = some (turned w o low ∙ ap (λ b. bit_xor b 47
 
 -- ---- the lowest bytes of a word are 0
 
-byte-zero : (o : ℕ) → byte_of 0 o ≡ 0
+pub byte-zero : (o : ℕ) → byte_of 0 o ≡ 0
 byte-zero o = ap (λ n. n % 256) (zero-div (256 ^ o))
 
-module _ (a b count : ℕ) where
-  pub none_marked : ((o : ℕ) → o < min 8 count → byte_of a o ≡ 0) → ((o : ℕ) → o < min 8 count → byte_of b o ≡ 0) → bit_or a b % 256 ^ min 8 count ≡ 0
-  none_marked one two =
-      same_low (bit_or a b) 0 (min 8 count) (λ o low. or-byte a b o ∙ ap₂ bit_or (one o low) (two o low) ∙ sym (byte-zero o)) ∙ zero-mod (256 ^ min 8 count)
+pub low-none : (w count : ℕ) → (w % 256 ^ min 8 count ≡ 0) ↔ ((o : ℕ) → o < min 8 count → byte_of w o ≡ 0)
+low-none w count = (
+  λ none o low. same_bytes w 0 (min 8 count) (none ∙ sym (zero-mod (256 ^ min 8 count))) o low ∙ byte-zero o,
+  λ each. same_low w 0 (min 8 count) (λ o low. each o low ∙ sym (byte-zero o)) ∙ zero-mod (256 ^ min 8 count),
+)
 
-  pub first_unmarked : bit_or a b % 256 ^ min 8 count ≡ 0 → (o : ℕ) → o < min 8 count → byte_of a o ≡ 0
-  first_unmarked none o low =
-      let both : bit_or (byte_of a o) (byte_of b o) ≡ 0 =
-      sym (or-byte a b o) ∙ same_bytes (bit_or a b) 0 (min 8 count) (none ∙ sym (zero-mod (256 ^ min 8 count))) o low ∙ byte-zero o in
-      omega (arith, le_or_l (byte_of a o) (byte_of b o), both)
+pub none : (w : ℕ) → w < 18446744073709551616 → (w ≡ 0) ↔ ((o : ℕ) → o < 8 → byte_of w o ≡ 0)
+none w fits = (
+  λ zero o low. ap (λ x. byte_of x o) zero ∙ byte-zero o,
+  λ each. let low : w % 256 ^ 8 ≡ 0 = same_low w 0 8 (λ o low. each o low ∙ sym (byte-zero o)) ∙ zero-mod (256 ^ 8) in omega (arith, low, fits),
+)
 
-  pub second_unmarked : bit_or a b % 256 ^ min 8 count ≡ 0 → (o : ℕ) → o < min 8 count → byte_of b o ≡ 0
-  second_unmarked none o low =
-      let both : bit_or (byte_of a o) (byte_of b o) ≡ 0 =
-      sym (or-byte a b o) ∙ same_bytes (bit_or a b) 0 (min 8 count) (none ∙ sym (zero-mod (256 ^ min 8 count))) o low ∙ byte-zero o in
-      omega (arith, le_or_r (byte_of a o) (byte_of b o), both)
+pub or-none : (a b o : ℕ) → (byte_of (bit_or a b) o ≡ 0) ↔ (byte_of a o ≡ 0) × (byte_of b o ≡ 0)
+or-none a b o = (
+  λ none. let both : bit_or (byte_of a o) (byte_of b o) ≡ 0 = sym (or-byte a b o) ∙ none in
+      (omega (arith, le_or_l (byte_of a o) (byte_of b o), both), omega (arith, le_or_r (byte_of a o) (byte_of b o), both)),
+  λ both. or-byte a b o ∙ ap₂ bit_or both.0 both.1,
+)

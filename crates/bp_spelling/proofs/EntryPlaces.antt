@@ -1,5 +1,5 @@
 -- Entries by their places.
-use Rattle.std.proofs.Common.{◌≡◌, ℕ, ◌+◌, ◌*◌, ◌/◌, ◌%◌, ◌<◌, ◌≤◌, length, sym, ◌∙◌, ap, ap₂, subst, arith}
+use Rattle.std.proofs.Common.{◌≡◌, ◌≢◌, ℕ, ◌+◌, ◌*◌, ◌/◌, ◌%◌, ◌<◌, ◌≤◌, length, sym, ◌∙◌, ap, ap₂, subst, arith}
 use Rattle.std.proofs.lemmas.List.FromFn.{length-map-range_with_len}
 use Rattle.bp_layout.specs.Words.{Image, word, height_of, byte_of}
 use Rattle.bp_layout.specs.Tree.{node, byte, IsSound, IsFull}
@@ -56,6 +56,12 @@ module _ (image : Image) (root size slot : ℕ) (full : IsFull image root size) 
 
   pub name-short : IsName (name_in image root slot) → word_in image root slot 1 ≤ 240
   name-short is = omega (arith, is.short, length-in)
+
+  -- no entry stands at word 0
+  pub place-some : entry_place_in image root slot ≢ 0
+  place-some none =
+      let present : node image root (height_of root) (slot / 16) ≢ 0 = full _ _ (leaf_pointer root size slot live) in
+      present (omega (arith, place-is, none))
 
 -- an entry ends before the image does
 pub place_fits : (image : Image) (root size slot : ℕ) → IsSound image root size → IsFull image root size → slot < size / 256 → entry_place_in image root slot + 32 ≤ length image

@@ -1,10 +1,10 @@
 -- The form of a name, told by its words.
-use Rattle.std.proofs.Common.{◌≡◌, ◌≢◌, ◌⊎◌, ℕ, ◌+◌, ◌-◌, ◌*◌, ◌/◌, ◌%◌, ◌<◌, ◌≤◌, min, [], ◌∷◌, length, map, slice_index, slice_index_or, refl, sym, ◌∙◌, ap, ap₂, subst, arith, inl, inr}
+use Rattle.std.proofs.Common.{◌≡◌, ◌≢◌, ◌⊎◌, ℕ, ◌+◌, ◌-◌, ◌*◌, ◌/◌, ◌%◌, ◌<◌, ◌≤◌, min, List, [], ◌∷◌, length, map, slice_index, slice_index_or, refl, sym, ◌∙◌, ap, ap₂, subst, arith, inl, inr}
 use Rattle.std.specs.List.{range_with_len}
 use Rattle.std.proofs.lemmas.Bool.{cases_lt}
 use Rattle.bp_layout.specs.Words.{Image, word, byte_of}
 use Rattle.bp_layout.specs.Directory.{IsName}
-use Rattle.bp_spelling.specs.Places.{name_there, IsPlain, ArePlain, IsDots}
+use Rattle.bp_spelling.specs.Places.{name_there, IsPlain, ArePlain, ArePlainBytes, IsDots}
 use Rattle.bp_spelling.proofs.KeyNames.{length-name, name-at}
 
 module _ (image : Image) (place : ℕ) where
@@ -71,21 +71,33 @@ module _ (image : Image) (place : ℕ) where
       let inside : o < length (name_there image place) = rw (length-name image place) low in
       subst (λ (b : ℕ). IsPlain b) (name-at image place o 0 low) (is.plain o 0 inside)
 
--- the bytes of one more word
-pub plain_more : (image : Image) (first count part : ℕ) → ((o : ℕ) → o < 8 * part → o < count → IsPlain (byte_of (word image (first + o / 8)) (o % 8))) →
-    ((o : ℕ) → o < min 8 (count - 8 * part) → IsPlain (byte_of (word image (first + part)) o)) →
-    (o : ℕ) → o < 8 * (part + 1) → o < count → IsPlain (byte_of (word image (first + o / 8)) (o % 8))
-plain_more image first count part before here o below inside = go (cases_lt o (8 * part))
-  where
-    go : (o < 8 * part) ⊎ (8 * part ≤ o) → IsPlain (byte_of (word image (first + o / 8)) (o % 8))
-    go (inl early) = before o early inside
-    go (inr late) =
-        let at : o / 8 ≡ part = omega (arith, late, below) in
-        rw at (here (o % 8) (omega (arith, late, below, inside)))
-
 -- the bytes of a word are among them
 pub plain_word : (image : Image) (first count part : ℕ) → ArePlain image first count → (o : ℕ) → o < min 8 (count - 8 * part) → IsPlain (byte_of (word image (first + part)) o)
 plain_word image first count part plain o low =
     let whole : (8 * part + o) / 8 ≡ part = omega (arith, low) in
     let rest : (8 * part + o) % 8 ≡ o = omega (arith, low) in
     subst (λ (b : ℕ). IsPlain b) (ap₂ (λ p i. byte_of (word image (first + p)) i) whole rest) (plain (8 * part + o) (omega (arith, low)))
+
+-- bytes of whole words, and of one more
+pub plain_all : (image words : List ℕ) (first count : ℕ) → ((i : ℕ) → i < 30 → slice_index words i ≡ word image (first + i)) → count ≤ 240 →
+    ((i : ℕ) → i < count / 8 → ArePlainBytes (slice_index words i) 8) → (count % 8 ≢ 0 → ArePlainBytes (slice_index words (count / 8)) (count % 8)) → ArePlain image first count
+plain_all image words first count read short whole rest o low = go (cases_lt (o / 8) (count / 8))
+  where
+    here : IsPlain (byte_of (slice_index words (o / 8)) (o % 8)) → IsPlain (byte_of (word image (first + o / 8)) (o % 8))
+    here = subst (λ (w : ℕ). IsPlain (byte_of w (o % 8))) (read (o / 8) (omega (arith, low, short)))
+
+    go : (o / 8 < count / 8) ⊎ (count / 8 ≤ o / 8) → IsPlain (byte_of (word image (first + o / 8)) (o % 8))
+    go (inl before) = here (whole (o / 8) before (o % 8) (omega arith))
+    go (inr last) =
+        let at : count / 8 ≡ o / 8 = omega (arith, last, low) in
+        here (subst (λ (i : ℕ). IsPlain (byte_of (slice_index words i) (o % 8))) at (rest (omega (arith, at, low)) (o % 8) (omega (arith, at, low))))
+
+pub plain_whole : (image words : List ℕ) (first count : ℕ) → ((i : ℕ) → i < 30 → slice_index words i ≡ word image (first + i)) → count ≤ 240 → ArePlain image first count →
+    (i : ℕ) → i < count / 8 → ArePlainBytes (slice_index words i) 8
+plain_whole image words first count read short plain i low o inside =
+    subst (λ (w : ℕ). IsPlain (byte_of w o)) (sym (read i (omega (arith, low, short)))) (plain_word image first count i plain o (omega (arith, low, inside)))
+
+pub plain_rest : (image words : List ℕ) (first count : ℕ) → ((i : ℕ) → i < 30 → slice_index words i ≡ word image (first + i)) → count ≤ 240 → ArePlain image first count →
+    count % 8 ≢ 0 → ArePlainBytes (slice_index words (count / 8)) (count % 8)
+plain_rest image words first count read short plain some o inside =
+    subst (λ (w : ℕ). IsPlain (byte_of w o)) (sym (read (count / 8) (omega (arith, some, short)))) (plain_word image first count (count / 8) plain o (omega (arith, inside)))

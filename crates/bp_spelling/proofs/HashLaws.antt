@@ -1,5 +1,5 @@
 -- Names that are equal have equal hashes; and a hash, word by word.
-use Rattle.std.proofs.Common.{◌≡◌, ℕ, zero, suc, ◌+◌, ◌-◌, ◌*◌, ◌/◌, ◌%◌, ◌^◌, ◌≤◌, min, refl, ◌∙◌, ap, ap₂, arith}
+use Rattle.std.proofs.Common.{◌≡◌, ℕ, zero, suc, ◌+◌, ◌-◌, ◌*◌, ◌/◌, ◌%◌, ◌^◌, ◌<◌, ◌≤◌, min, refl, sym, ◌∙◌, ap, ap₂, arith}
 use Rattle.std.specs.Int.{div_ceil}
 use Rattle.bp_layout.specs.Words.{Image, word}
 use Rattle.bp_spelling.specs.Places.{key_word, name_key}
@@ -36,3 +36,17 @@ module _ (image : Image) (place : ℕ) where
   hash_all part short all =
       let few : part ≡ min 30 (div_ceil (word image (place + 1)) 8) = omega (arith, short, all) in
       ap (λ n. hash_state image place n / 2 ^ 32) few
+
+  -- a word with eight bytes of the name, and one with the last few
+  pub hash_whole : (part value : ℕ) → value ≡ word image (place + 2 + part) → value < 18446744073709551616 → part < word image (place + 1) / 8 →
+      mixed (hash_state image place part) value ≡ hash_state image place (part + 1)
+  hash_whole part value stands fits low =
+      let all : min 8 (word image (place + 1) - 8 * part) ≡ 8 = omega (arith, low) in
+      let uncut : value ≡ word image (place + 2 + part) % 256 ^ 8 = omega (arith, stands, fits) in
+      ap (mixed (hash_state image place part)) (uncut ∙ sym (ap (λ n. word image (place + 2 + part) % 256 ^ n) all)) ∙ hash_next part
+
+  pub hash_rest : (part value : ℕ) → value ≡ word image (place + 2 + part) % 256 ^ min 8 (word image (place + 1) % 8) → part ≡ word image (place + 1) / 8 →
+      mixed (hash_state image place part) value ≡ hash_state image place (part + 1)
+  hash_rest part value cut last =
+      let few : word image (place + 1) % 8 ≡ word image (place + 1) - 8 * part = omega (arith, last) in
+      ap (mixed (hash_state image place part)) (cut ∙ ap (λ n. word image (place + 2 + part) % 256 ^ min 8 n) few) ∙ hash_next part

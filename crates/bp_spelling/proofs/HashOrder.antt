@@ -14,10 +14,10 @@ use Rattle.bp_spelling.proofs.NameOrder.{apart_from_neighbours}
 abbrev pub blank : Spelled
 blank = record { hash = 0; place = 0 }
 
-place-at : (entries : List Spelled) (k : ℕ) → k < length entries → slice_index (places_of entries) k ≡ (slice_index_or entries k blank).place
+pub place-at : (entries : List Spelled) (k : ℕ) → k < length entries → slice_index (places_of entries) k ≡ (slice_index_or entries k blank).place
 place-at entries k low = get_or-map (λ (entry : Spelled). entry.place) entries k blank 0 low
 
-length-places : (entries : List Spelled) → length (places_of entries) ≡ length entries
+pub length-places : (entries : List Spelled) → length (places_of entries) ≡ length entries
 length-places entries = length-map entries (λ (entry : Spelled). entry.place)
 
 module _ (image : Image) (entries : List Spelled) where

@@ -11,6 +11,7 @@ use Rattle.bp_spelling.specs.Names.{entry_place_in}
 use Rattle.bp_spelling.specs.declared.entry.Spelled.{Spelled}
 use Rattle.bp_spelling.specs.Hashes.{IsSpelled, places_of}
 use Rattle.bp_spelling.specs.Places.{used_places}
+use Rattle.bp_spelling.specs.Tables.{IsPresent}
 use Rattle.bp_spelling.proofs.UsedPlaces.{empty_slot, used_slot}
 
 -- so many entries were written down, those below a slot
@@ -18,6 +19,7 @@ pub record IsGathered (image : Image) (root end slot : ℕ) (entries : List Spel
   pub few : count ≤ slot
   pub gathered : places_of (take count entries) ++ used_places image root (range_with_len slot (end - slot)) ≡ used_places image root (range_with_len 0 end)
   pub hashed : All (IsSpelled image) (take count entries)
+  pub present : All IsPresent (take count entries)
   pub forms : (k : ℕ) → k < slot → inumber_in image root k ≢ 0 → IsName (name_in image root k)
 
 next_slot : (slot end : ℕ) → slot < end → range_with_len slot (end - slot) ≡ slot ∷ range_with_len (slot + 1) (end - (slot + 1))
@@ -29,6 +31,7 @@ module _ (image : Image) (root end : ℕ) (entries : List Spelled) where
     few = omega arith;
     gathered = let n : end - 0 ≡ end = omega arith in ap (λ k. used_places image root (range_with_len 0 k)) n;
     hashed = λ k d low. absurd (omega (arith, low));
+    present = λ k d low. absurd (omega (arith, low));
     forms = λ k low. absurd (omega (arith, low));
   }
 
@@ -48,12 +51,13 @@ module _ (image : Image) (root end : ℕ) (entries : List Spelled) where
         ap (λ xs. places_of (take count entries) ++ xs) (sym (ap (used_places image root) (next_slot slot end below) ∙ empty_slot image root slot (range_with_len (slot + 1) (end - (slot + 1))) none))
         ∙ is.gathered;
     hashed = is.hashed;
+    present = is.present;
     forms = more_forms slot is.forms (λ some. absurd (some none));
   }
 
   pub gathered_more : (slot count : ℕ) (entry : Spelled) → slot < end → end ≤ length entries → IsGathered image root end slot entries count → inumber_in image root slot ≢ 0 → IsName (name_in image root slot) →
-      entry.place ≡ entry_place_in image root slot → IsSpelled image entry → IsGathered image root end (slot + 1) (set entries count entry) (count + 1)
-  gathered_more slot count entry below room is some form there spelled =
+      entry.place ≡ entry_place_in image root slot → IsSpelled image entry → IsPresent entry → IsGathered image root end (slot + 1) (set entries count entry) (count + 1)
+  gathered_more slot count entry below room is some form there spelled present =
       let rest : List ℕ = used_places image root (range_with_len (slot + 1) (end - (slot + 1))) in
       let inside : count < length entries = omega (arith, is.few, below, room) in
       record {
@@ -66,6 +70,7 @@ module _ (image : Image) (root end : ℕ) (entries : List Spelled) where
             ∙ ap (λ xs. places_of (take count entries) ++ xs) (sym (ap (used_places image root) (next_slot slot end below) ∙ used_slot image root slot (range_with_len (slot + 1) (end - (slot + 1))) some))
             ∙ is.gathered;
         hashed = subst (All (IsSpelled image)) (sym (take_more_set entries count entry inside)) (All-push (IsSpelled image) (take count entries) entry is.hashed spelled);
+        present = subst (All IsPresent) (sym (take_more_set entries count entry inside)) (All-push IsPresent (take count entries) entry is.present present);
         forms = more_forms slot is.forms (λ also. form);
       }
 

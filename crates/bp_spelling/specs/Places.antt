@@ -12,9 +12,12 @@ use Rattle.bp_spelling.specs.Names.{IsUsed, entry_place_in}
 abbrev pub name_there : Image → ℕ → Name
 name_there image place = map (λ o. byte_of (word image (place + 2 + o / 8)) (o % 8)) (range_with_len 0 (word image (place + 1)))
 
--- a byte that is neither 0 nor `/`, and so many such bytes from a word on
+-- a byte that is neither 0 nor `/`, so many such bytes of a word, and from a word on
 abbrev pub IsPlain : ℕ → Type 0
 IsPlain byte = (byte ≢ 0) × (byte ≢ 47)
+
+abbrev pub ArePlainBytes : ℕ → ℕ → Type 0
+ArePlainBytes value count = (o : ℕ) → o < min 8 count → IsPlain (byte_of value o)
 
 abbrev pub ArePlain : Image → ℕ → ℕ → Type 0
 ArePlain image first count = (o : ℕ) → o < count → IsPlain (byte_of (word image (first + o / 8)) (o % 8))

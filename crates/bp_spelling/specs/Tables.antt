@@ -2,17 +2,20 @@
 use Rattle.std.specs.Prelude.{◌≡◌, ◌≢◌, ◌⊎◌, ℕ, ◌-◌, ◌%◌, ◌<◌, ◌≤◌, List, length, slice_index_or}
 use Rattle.bp_layout.specs.Words.{Image}
 use Rattle.bp_spelling.specs.Hashes.{spelled_key}
-use Rattle.bp_spelling.specs.Names.{AreWrong}
+use Rattle.bp_spelling.specs.Places.{IsDouble}
 use Rattle.bp_spelling.specs.declared.entry.Spelled.{Spelled}
-use Rattle.bp_spelling.specs.declared.fault.NameFault.{NameFault}
 use Rattle.bp_spelling.specs.declared.table.Clash.{Clash}
 use Rattle.bp_spelling.specs.declared.table.Clash.TheVariants.{Double, Full}
 use Rattle.bp_spelling.specs.declared.table.Stop.{Stop}
-use Rattle.bp_spelling.specs.declared.table.Stop.TheVariants.{Wrong, Crowded}
+use Rattle.bp_spelling.specs.declared.table.Stop.TheVariants.{Repeated, Crowded}
 
 -- the first cell that may hold a hash, of so many cells
 abbrev pub home : ℕ → ℕ → ℕ
 home cells hash = hash % (cells - 128)
+
+-- the entry of a cell that is not empty
+abbrev pub IsPresent : Spelled → Type 0
+IsPresent entry = entry.place ≢ 0
 
 -- what a cell holds: place 0 where it is empty
 abbrev pub cell_at : List Spelled → ℕ → Spelled
@@ -37,7 +40,7 @@ pub data IsClash (image : Image) (old : List Spelled) (entry : Spelled) : Clash 
   double : (cell : ℕ) → (cell_at old cell).place ≢ 0 → spelled_key image (cell_at old cell) ≡ spelled_key image entry → IsClash image old entry Double
   full : IsClash image old entry Full
 
--- a name is wrong, or nothing is known
-pub data IsStop (image : Image) (root size : ℕ) : Stop → Type 0 where
-  wrong : (fault : NameFault) → AreWrong image root size fault → IsStop image root size (Wrong fault)
-  untold : IsStop image root size (Crowded)
+-- one of the entries at these places has the name of another, or nothing is known
+pub data IsStop (image : Image) (places : List ℕ) : Stop → Type 0 where
+  repeated : (place : ℕ) → IsDouble image places place → IsStop image places (Repeated place)
+  untold : IsStop image places (Crowded)

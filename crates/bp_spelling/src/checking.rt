@@ -1,10 +1,12 @@
 //! The check of a directory's names.
 
-ghost use Rattle.std.specs.Prelude.{◌≡◌, ◌/◌, ◌≤◌, length, OnOk, IfErr};
+ghost use Rattle.std.specs.Prelude.{◌≡◌, ◌/◌, ◌≤◌, length, take, All, OnOk, IfErr};
 ghost use Rattle.bp_layout.specs.Tree.{IsSound, IsFull};
 ghost use Rattle.bp_limits.specs.Limits.{entry_size};
+ghost use Rattle.bp_spelling.specs.Hashes.{IsSpelled, places_of};
 ghost use Rattle.bp_spelling.specs.Names.{AreNames, AreWrong};
-ghost use Rattle.bp_spelling.specs.Tables.{IsStop};
+ghost use Rattle.bp_spelling.specs.Places.{AreApart};
+ghost use Rattle.bp_spelling.specs.Tables.{IsPresent, IsStop};
 ghost use Rattle.pm_region.specs.Memory.{current_words};
 
 use crate::doubles::find_double;
@@ -12,50 +14,32 @@ use crate::entry::Spelled;
 use crate::fault::NameFault;
 use crate::gathering::gather;
 use crate::table::{REACH, Stop, check_by_table};
-use bp_limits::ENTRY_SIZE;
 use bp_tree::Tree;
 use pm_region::Region;
 
-/// What [`check_names`] does, by the order of the names.
-fn check_by_order<R: Region>(
-    region: &R,
-    tree: Tree,
-    entries: &mut [Spelled],
-) -> Result<(), NameFault>
-    requires sound { IsSound (current_words (R.memory region.now)) tree.root tree.size }
-    requires full { IsFull (current_words (R.memory region.now)) tree.root tree.size }
-    requires room { tree.size / entry_size ≤ length entries.old }
-    ensures ok { OnOk result (AreNames (current_words (R.memory region.now)) tree.root tree.size) }
-    ensures err { IfErr result (AreWrong (current_words (R.memory region.now)) tree.root tree.size) }
+/// What [`check_by_table`] tells of the first entries, so many, by a table in the memory behind them that is at most half
+/// full, where there is room for one.
+fn try_table<R: Region>(region: &R, entries: &mut [Spelled], count: usize) -> Result<(), Stop>
+    requires count { count ≤ length entries.old }
+    requires spelled { All (IsSpelled (current_words (R.memory region.now))) (take count entries.old) }
+    requires present { All IsPresent (take count entries.old) }
+    ensures same { take count entries.new ≡ take count entries.old }
+    ensures ok { let words = current_words (R.memory region.now) in
+        OnOk result (AreApart words (places_of (take count entries.old))) }
+    ensures err { let words = current_words (R.memory region.now) in
+        IfErr result (IsStop words (places_of (take count entries.old))) }
     ensures room { length entries.new ≡ length entries.old }
 {
-    match gather(region, tree, entries) {
-        Ok(count) => match find_double(region, &mut entries[..count]) {
-            Some(place) => Err(NameFault::Twice { place }),
-            None => Ok(()),
-        },
-        Err(place) => Err(NameFault::Form { place }),
-    }
-}
-
-/// What [`check_names`] does, by a table that is at most half full, where there is memory for one.
-fn try_table<R: Region>(region: &R, tree: Tree, entries: &mut [Spelled]) -> Result<(), Stop>
-    requires sound { IsSound (current_words (R.memory region.now)) tree.root tree.size }
-    requires full { IsFull (current_words (R.memory region.now)) tree.root tree.size }
-    ensures ok { OnOk result (AreNames (current_words (R.memory region.now)) tree.root tree.size) }
-    ensures err { IfErr result (IsStop (current_words (R.memory region.now)) tree.root tree.size) }
-    ensures room { length entries.new ≡ length entries.old }
-{
-    let cells = 2 * (tree.size / ENTRY_SIZE) + REACH as u64 + 1;
-    if cells > entries.len() as u64 {
+    let (found, table) = entries.split_at_mut(count);
+    if table.len() <= REACH || (table.len() - REACH - 1) / 2 < count {
         return Err(Stop::Crowded);
     }
-    check_by_table(region, tree, &mut entries[..cells as usize])
+    check_by_table(region, found, &mut table[..2 * count + REACH + 1])
 }
 
 /// Checks the names of a directory's entries that name an inode. `entries` is memory for as many as the directory has. It
-/// takes time linear in them where that has room for twice as many and some more, and few hashes fall together; else it
-/// sorts them.
+/// takes time linear in them where that has room for three times as many and some more, and few hashes fall together; else
+/// it sorts them.
 ///
 /// # Errors
 ///
@@ -72,9 +56,16 @@ pub fn check_names<R: Region>(
     ensures err { IfErr result (AreWrong (current_words (R.memory region.now)) tree.root tree.size) }
     ensures room { length entries.new ≡ length entries.old }
 {
-    match try_table(region, tree, entries) {
+    let count = match gather(region, tree, entries) {
+        Ok(count) => count,
+        Err(place) => return Err(NameFault::Form { place }),
+    };
+    match try_table(region, entries, count) {
         Ok(()) => Ok(()),
-        Err(Stop::Wrong(fault)) => Err(fault),
-        Err(Stop::Crowded) => check_by_order(region, tree, entries),
+        Err(Stop::Repeated(place)) => Err(NameFault::Twice { place }),
+        Err(Stop::Crowded) => match find_double(region, &mut entries[..count]) {
+            Some(place) => Err(NameFault::Twice { place }),
+            None => Ok(()),
+        },
     }
 }

@@ -1,10 +1,10 @@
 //! Whether a name has the form of one.
 
-ghost use Rattle.std.specs.Prelude.{◌≡◌, ◌≢◌, ◌⊎◌, ℕ, ◌+◌, ◌/◌, ◌%◌, ◌≤◌, ◌<◌, ◌↔◌, IsTrue, length, min};
+ghost use Rattle.std.specs.Prelude.{◌≡◌, ◌≢◌, ◌⊎◌, ℕ, ◌+◌, ◌/◌, ◌%◌, ◌≤◌, ◌<◌, ◌↔◌, IsTrue, length, slice_index};
 ghost use Rattle.bp_layout.specs.Directory.{IsName};
 ghost use Rattle.bp_layout.specs.Words.{byte_of};
 ghost use Rattle.bp_limits.specs.Limits.{max_name};
-ghost use Rattle.bp_spelling.specs.Places.{name_there, IsPlain, ArePlain, IsDots};
+ghost use Rattle.bp_spelling.specs.Places.{name_there, IsPlain, ArePlain, ArePlainBytes, IsDots};
 ghost use Rattle.pm_region.specs.Memory.{current_words};
 
 use bp_limits::MAX_NAME;
@@ -20,13 +20,29 @@ fn zero_marks(word: u64) -> u64
     ((sums | word) & 0x8080_8080_8080_8080) ^ 0x8080_8080_8080_8080
 }
 
+/// A word whose bytes are 0, except where a byte of the given word is 0 or `/`.
+fn marks(word: u64) -> u64
+    ensures { (o : ℕ) → o < 8 → (byte_of result o ≡ 0) ↔ IsPlain (byte_of word o) }
+{
+    zero_marks(word) | zero_marks(word ^ 0x2f2f_2f2f_2f2f_2f2f)
+}
+
 /// Whether none of the lowest bytes of a word is 0 or `/`.
 fn is_plain(word: u64, count: u64) -> bool
-    ensures { IsTrue result ↔ ((o : ℕ) → o < min 8 count → IsPlain (byte_of word o)) }
+    ensures { IsTrue result ↔ ArePlainBytes word count }
 {
-    let zeros = zero_marks(word);
-    let slashes = zero_marks(word ^ 0x2f2f_2f2f_2f2f_2f2f);
-    low_bytes(zeros | slashes, count) == 0
+    low_bytes(marks(word), count) == 0
+}
+
+/// Whether no byte of these words is 0 or `/`. It looks at each, which takes less time than to stop at the first.
+fn are_plain_words(words: &[u64]) -> bool
+    ensures { IsTrue result ↔ ((i : ℕ) → i < length words.now → ArePlainBytes (slice_index words.now i) 8) }
+{
+    let mut found = 0;
+    for word in words {
+        found |= marks(*word);
+    }
+    found == 0
 }
 
 /// Whether none of so many bytes is 0 or `/`. The first word of them stands at a place.
@@ -36,13 +52,12 @@ fn are_plain<R: Region>(region: &R, first: u32, count: u64) -> bool
     ensures { IsTrue result ↔ ArePlain (current_words (R.memory region.now)) first count }
 {
     let _words = region.words();
-    for part in 0..count.div_ceil(8) {
-        let word = region.load(first + part as u32);
-        if !is_plain(word, count - 8 * part) {
-            return false;
-        }
+    let words = region.load_words(first, 30);
+    let whole = count as usize / 8;
+    if !are_plain_words(&words[..whole]) {
+        return false;
     }
-    true
+    count % 8 == 0 || is_plain(words[whole], count % 8)
 }
 
 /// Whether a name of so many bytes, the first of which are in this word, is `.` or `..`.

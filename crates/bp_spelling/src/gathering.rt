@@ -6,12 +6,13 @@ ghost use Rattle.bp_layout.specs.Tree.{IsSound, IsFull};
 ghost use Rattle.bp_limits.specs.Limits.{entry_size};
 ghost use Rattle.bp_spelling.specs.Hashes.{IsSpelled, places_of};
 ghost use Rattle.bp_spelling.specs.Places.{used_places, HaveForms, IsMisspelled};
+ghost use Rattle.bp_spelling.specs.Tables.{IsPresent};
 ghost use Rattle.pm_region.specs.Memory.{current_words};
 
 use crate::entry::Spelled;
 use crate::form::is_name;
 use crate::hashing::hash_name;
-use bp_dirs::entry_place;
+use crate::places::next_place;
 use bp_limits::ENTRY_SIZE;
 use bp_tree::Tree;
 use pm_region::Region;
@@ -33,6 +34,7 @@ pub(crate) fn gather<R: Region>(
         IfOk result (λ count. places_of (take count entries.new) ≡ used_places words tree.root (slots tree.size)) }
     ensures hashes { let words = current_words (R.memory region.now) in
         IfOk result (λ count. All (IsSpelled words) (take count entries.new)) }
+    ensures present { IfOk result (λ count. All IsPresent (take count entries.new)) }
     ensures count { IfOk result (λ count. count ≤ length entries.new) }
     ensures forms { OnOk result (HaveForms (current_words (R.memory region.now)) tree.root tree.size) }
     ensures err { IfErr result (IsMisspelled (current_words (R.memory region.now)) tree.root tree.size) }
@@ -40,8 +42,9 @@ pub(crate) fn gather<R: Region>(
 {
     let _words = region.words();
     let mut count = 0;
+    let mut place = 0;
     for slot in 0..tree.size / ENTRY_SIZE {
-        let place = entry_place(region, tree, slot, 0);
+        place = next_place(region, tree, slot, place);
         if region.load(place) != 0 {
             if !is_name(region, place) {
                 return Err(place + 1);

@@ -29,10 +29,14 @@ pub(crate) fn hash_name<R: Region>(region: &R, place: u32) -> u32
 {
     let _words = region.words();
     let count = region.load(place + 1);
+    let words = region.load_words(place + 2, 30);
+    let whole = count as usize / 8;
     let mut state = mix(0, count);
-    for part in 0..count.div_ceil(8) {
-        let word = region.load(place + 2 + part as u32);
-        state = mix(state, low_bytes(word, count - 8 * part));
+    for word in &words[..whole] {
+        state = mix(state, *word);
+    }
+    if count % 8 != 0 {
+        state = mix(state, low_bytes(words[whole], count % 8));
     }
     (state >> 32) as u32
 }

@@ -1,19 +1,13 @@
 //! Names told apart by their hashes alone, where these are few in a row.
 
-ghost use Rattle.std.specs.Prelude.{◌≡◌, ◌≢◌, ℕ, ◌+◌, ◌%◌, ◌-◌, ◌<◌, length, OnOk, IfErr};
-ghost use Rattle.bp_layout.specs.Tree.{IsSound, IsFull};
-ghost use Rattle.bp_spelling.specs.Names.{AreNames};
-ghost use Rattle.bp_spelling.specs.Tables.{home, Puts, IsClash, IsStop};
+ghost use Rattle.std.specs.Prelude.{◌≡◌, ◌<◌, length, All, OnOk, IfErr};
+ghost use Rattle.bp_spelling.specs.Hashes.{IsSpelled, places_of};
+ghost use Rattle.bp_spelling.specs.Places.{AreApart};
+ghost use Rattle.bp_spelling.specs.Tables.{home, IsPresent, Puts, IsClash, IsStop};
 ghost use Rattle.pm_region.specs.Memory.{current_words};
 
 use crate::doubles::compare_entries;
 use crate::entry::Spelled;
-use crate::fault::NameFault;
-use crate::form::is_name;
-use crate::hashing::hash_name;
-use crate::places::next_place;
-use bp_limits::ENTRY_SIZE;
-use bp_tree::Tree;
 use pm_region::Region;
 use std::cmp::Ordering;
 
@@ -28,11 +22,11 @@ enum Clash {
     Full,
 }
 
-/// Why the names of a directory are not right by a table.
+/// Why a table does not tell that no two entries have one name.
 pub(crate) enum Stop {
-    /// A name is wrong.
-    Wrong(NameFault),
-    /// The table does not tell.
+    /// The entry at this place has the name of another.
+    Repeated(u32),
+    /// Too many hashes fall together, or there is no memory for a table.
     Crowded,
 }
 
@@ -47,7 +41,7 @@ fn home_of(cells: usize, hash: u32) -> usize
 /// Puts an entry into the first empty cell that may hold it. A cell is empty where its place is 0.
 fn put<R: Region>(region: &R, table: &mut [Spelled], entry: Spelled) -> Result<(), Clash>
     requires room { 128 < length table.old }
-    requires some { entry.place ≢ 0 }
+    requires some { IsPresent entry }
     ensures ok { OnOk result (Puts (current_words (R.memory region.now)) table.old table.new entry) }
     ensures err { IfErr result (IsClash (current_words (R.memory region.now)) table.old entry) }
     ensures room { length table.new ≡ length table.old }
@@ -65,37 +59,25 @@ fn put<R: Region>(region: &R, table: &mut [Spelled], entry: Spelled) -> Result<(
     Err(Clash::Full)
 }
 
-/// Checks the names of a directory by a table, whatever stands in it. It takes time linear in the cells.
+/// Puts entries into a table, whatever stands in it: an error where one has the name of another, or where the table does
+/// not tell. It takes time linear in the entries and the cells.
 pub(crate) fn check_by_table<R: Region>(
     region: &R,
-    tree: Tree,
+    entries: &[Spelled],
     table: &mut [Spelled],
 ) -> Result<(), Stop>
-    requires sound { IsSound (current_words (R.memory region.now)) tree.root tree.size }
-    requires full { IsFull (current_words (R.memory region.now)) tree.root tree.size }
+    requires spelled { All (IsSpelled (current_words (R.memory region.now))) entries.now }
+    requires present { All IsPresent entries.now }
     requires room { 128 < length table.old }
-    ensures ok { OnOk result (AreNames (current_words (R.memory region.now)) tree.root tree.size) }
-    ensures err { IfErr result (IsStop (current_words (R.memory region.now)) tree.root tree.size) }
+    ensures ok { OnOk result (AreApart (current_words (R.memory region.now)) (places_of entries.now)) }
+    ensures err { IfErr result (IsStop (current_words (R.memory region.now)) (places_of entries.now)) }
     ensures room { length table.new ≡ length table.old }
 {
     table.fill(Spelled::default());
-    let _words = region.words();
-    let mut place = 0;
-    for slot in 0..tree.size / ENTRY_SIZE {
-        place = next_place(region, tree, slot, place);
-        if region.load(place) == 0 {
-            continue;
-        }
-        if !is_name(region, place) {
-            return Err(Stop::Wrong(NameFault::Form { place: place + 1 }));
-        }
-        let entry = Spelled {
-            hash: hash_name(region, place),
-            place,
-        };
-        match put(region, table, entry) {
+    for entry in entries {
+        match put(region, table, *entry) {
             Ok(()) => {}
-            Err(Clash::Double) => return Err(Stop::Wrong(NameFault::Twice { place })),
+            Err(Clash::Double) => return Err(Stop::Repeated(entry.place)),
             Err(Clash::Full) => return Err(Stop::Crowded),
         }
     }

@@ -14,10 +14,10 @@ pub fn count_live<R: Region>(region: &R, tree: Tree) -> u32
     ensures { HasBlockCount (current_words (R.memory region.now)) tree.root tree.size result }
 {
     let _words = region.words();
-    if tree.size == 0 || tree.root >> 12 == 0 {
+    if tree.size == 0 || tree.block() == 0 {
         return 0;
     }
-    if tree.root & 7 == 0 {
+    if tree.height() == 0 {
         return 1;
     }
     let mut count = 1;

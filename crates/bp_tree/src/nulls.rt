@@ -21,15 +21,15 @@ pub fn first_null<R: Region>(region: &R, tree: Tree) -> Option<u64>
     if tree.size == 0 {
         return None;
     }
-    if tree.root >> 12 == 0 {
+    if tree.block() == 0 {
         return Some(0);
     }
-    if tree.root & 7 == 0 {
+    if tree.height() == 0 {
         return None;
     }
     for slot in 0..live_slots(tree) {
         if let Some(leaf) = first_null(region, child(region, tree, slot)) {
-            let level = (tree.root & 7) as u32 - 1;
+            let level = tree.height() - 1;
             return Some(slot * (span(level) / BLOCK_SIZE) + leaf);
         }
     }

@@ -23,7 +23,7 @@ pub fn word_path(tree: Tree, offset: u64) -> Slots
 {
     let word = offset / 8;
     let mut path = Slots::new();
-    let mut levels = (tree.root & 7) as u32 + 1;
+    let mut levels = tree.height() + 1;
     while levels > 0 {
         levels -= 1;
         path.push(((word >> (9 * levels)) & 511) as u16);

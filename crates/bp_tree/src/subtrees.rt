@@ -19,7 +19,7 @@ pub(crate) fn live_slots(tree: Tree) -> u64
     ensures live { (slot : ℕ) → slot < result → slot * span (height_of tree.root - 1) < tree.size }
     ensures all { (slot : ℕ) → slot * span (height_of tree.root - 1) < tree.size → slot < result }
 {
-    let level = (tree.root & 7) as u32 - 1;
+    let level = tree.height() - 1;
     (tree.size - 1) / span(level) + 1
 }
 
@@ -35,8 +35,8 @@ pub(crate) fn child<R: Region>(region: &R, tree: Tree, slot: u64) -> Tree
     ensures sound { IsSound (current_words (R.memory region.now)) result.root result.size }
     ensures lower { height_of result.root + 1 ≡ height_of tree.root }
 {
-    let level = (tree.root & 7) as u32 - 1;
-    let word = load_slot(region, tree.root >> 12, slot);
+    let level = tree.height() - 1;
+    let word = load_slot(region, tree.block(), slot);
     let before = slot * span(level);
     Tree {
         root: word + level as u64,

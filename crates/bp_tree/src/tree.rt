@@ -1,19 +1,47 @@
 ghost use Rattle.std.specs.Prelude.{◌≡◌, ◌≢◌, ◌+◌, ◌-◌, ◌*◌, ◌/◌, ◌%◌, ◌<◌, ◌≤◌, suc, length};
-ghost use Rattle.bp_layout.specs.Words.{block_count, height_of, slot_word};
+ghost use Rattle.bp_layout.specs.Words.{block_count, block_of, height_of, slot_word};
 ghost use Rattle.bp_layout.specs.Tree.{node, content_word, covered, IsSound};
 ghost use Rattle.bp_limits.specs.Limits.{block_size};
 ghost use Rattle.pm_region.specs.Memory.{current_words};
 
 use crate::descent::descend;
+use bp_layout::Inode;
 use pm_region::Region;
 
 /// A tree: its root word, which holds the height and the topmost block, and its size in bytes.
 #[derive(Clone, Copy, Debug, PartialEq, Eq)]
 pub struct Tree {
-    /// Bits 0 to 2 are the height, bits 12 to 63 the number of the topmost block.
+    /// Bits 0 to 2 are the height, bits 12 to 63 the number of the topmost block: [`Tree::height`], [`Tree::block`].
     pub root: u64,
     /// How many bytes of content there are.
     pub size: u64,
+}
+
+impl Tree {
+    /// The tree of an inode.
+    pub fn of(inode: &Inode) -> Tree
+        ensures root { result.root ≡ inode.now.root }
+        ensures size { result.size ≡ inode.now.size }
+    {
+        Tree {
+            root: inode.root,
+            size: inode.size,
+        }
+    }
+
+    /// How many levels the topmost block stands above the leaves.
+    pub fn height(self) -> u32
+        ensures { result ≡ height_of self.root }
+    {
+        (self.root & 7) as u32
+    }
+
+    /// The number of the topmost block, 0 where there is none.
+    pub fn block(self) -> u64
+        ensures { result ≡ block_of self.root }
+    {
+        self.root >> 12
+    }
 }
 
 /// The word in a slot of a block, 0 where the block is 0, which stands for no block.
@@ -40,7 +68,7 @@ pub fn node<R: Region>(region: &R, tree: Tree, level: u32, index: u64) -> u32
     ensures in_range { result < block_count (current_words (R.memory region.now)) }
 {
     let _words = region.words();
-    let depth = (tree.root & 7) as u32 - level;
+    let depth = tree.height() - level;
     (descend(region, tree, depth, index) >> 12) as u32
 }
 
@@ -51,7 +79,7 @@ pub fn leaf_block<R: Region>(region: &R, tree: Tree, leaf: u64) -> u64
     ensures node { result ≡ node (current_words (R.memory region.now)) tree.root (height_of tree.root) leaf }
     ensures in_range { result < block_count (current_words (R.memory region.now)) }
 {
-    descend(region, tree, (tree.root & 7) as u32, leaf) >> 12
+    descend(region, tree, tree.height(), leaf) >> 12
 }
 
 /// The content word with a number, bytes `8 * index` to `8 * index + 7`, the lowest first.
@@ -60,7 +88,7 @@ pub fn content_word<R: Region>(region: &R, tree: Tree, index: u64) -> u64
     requires live { 8 * index < tree.size }
     ensures { result ≡ content_word (current_words (R.memory region.now)) tree.root index }
 {
-    descend(region, tree, (tree.root & 7) as u32 + 1, index)
+    descend(region, tree, tree.height() + 1, index)
 }
 
 /// The word of the region at which the content word with a number stands.

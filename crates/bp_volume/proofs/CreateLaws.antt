@@ -26,7 +26,7 @@ use Rattle.bp_plain.specs.Calls.Refusal.{exists, not_dir}
 use Rattle.bp_plain.specs.Plain.{walk_parent, on_parsed, on_path, first, when, is_dir_at, is_root_path, parent_of, path_of, tree_after, with_bytes, with_node}
 use Rattle.bp_shapes.specs.Sets.{AreExact}
 use Rattle.bp_volume.specs.Carried.{making}
-use Rattle.bp_volume.specs.Step.{IsChange, NamesNew, last_of}
+use Rattle.bp_volume.specs.Step.{IsChange, FindsNew, last_of}
 use Rattle.bp_volume.specs.Step.IsChange.{by_create, by_mkdir}
 use Rattle.bp_volume.specs.Told.{Refuses, StopsAtNew, refusal_of_new}
 use Rattle.bp_volume.proofs.ChangeLaws.{Makes}
@@ -81,14 +81,14 @@ pub new_stops : (image : Image) (text : List ℕ) (kind : Kind) (why : Refusal) 
 new_stops image text File why stops = stops
 new_stops image text Dir why stops = stops
 
-module _ (image : Image) (text : List ℕ) (i : ℕ) (name : Name) (names : NamesNew image text i name) where
+module _ (image : Image) (text : List ℕ) (i : ℕ) (name : Name) (names : FindsNew image text i name) where
   goes : (tree : FileTree) → Stands image tree → on_path text (refusal_of_new tree) ≡ None
   goes tree stands =
       ap (λ o. on_parsed o (refusal_of_new tree)) names.parsed
       ∙ create_goes image names.path names.new.below i names.new.parent names.new.directory name names.new.last tree stands names.new.missing
 
   -- the text spells no other path, so its parent is no other directory
-  pub same_directory : (k : ℕ) (other : Name) → NamesNew image text k other → k ≡ i
+  pub same_directory : (k : ℕ) (other : Name) → FindsNew image text k other → k ≡ i
   same_directory k other new =
       let same : Some new.path ≡ Some names.path = sym new.parsed ∙ names.parsed in
       let paths : new.path ≡ names.path = cc in

@@ -26,7 +26,7 @@ use Rattle.bp_rename.specs.MovesPath.{IsFoundTarget, MovesPath}
 use Rattle.bp_rename.specs.declared.moving.Move.{Move}
 use Rattle.bp_rename.proofs.RenamedStands.{found_can_rename}
 use Rattle.bp_volume.specs.Renaming.{FindsEnds, IsMoveOf, MayMove}
-use Rattle.bp_volume.specs.Step.{FindsEntry, IsChange, NamesNew, StandsIn, last_of}
+use Rattle.bp_volume.specs.Step.{FindsEntry, IsChange, FindsNew, StandsIn, last_of}
 use Rattle.bp_volume.specs.Step.IsChange.{onto, across, within}
 use Rattle.bp_volume.specs.declared.renaming.Ends.{Ends}
 use Rattle.bp_volume.proofs.ChangeLaws.{Makes}
@@ -80,7 +80,7 @@ module _ (image : Image) (from to : List ℕ) (ends : Ends) (may : MayMove image
   other : p ≢ q
   other = other_ends image p q ends found.are may.other
 
-  new_name : slot_named image j name ≡ None → NamesNew image to j name
+  new_name : slot_named image j name ≡ None → FindsNew image to j name
   new_name missing = record {
     path = q;
     parsed = found.target_parsed;
@@ -104,7 +104,7 @@ module _ (image : Image) (from to : List ℕ) (ends : Ends) (may : MayMove image
       let one = one_target k stands.path stands.parsed stands.parent in
       (one.1, sym (ap₂ (λ d path. slot_named image d (last_of path)) one.1 one.0 ∙ ap (slot_named image j) found.are.target.last) ∙ stands.slot)
 
-  new_there : (k : ℕ) (now : Name) → NamesNew image to k now → (k ≡ j) × (now ≡ name) × (slot_named image j name ≡ None)
+  new_there : (k : ℕ) (now : Name) → FindsNew image to k now → (k ≡ j) × (now ≡ name) × (slot_named image j name ≡ None)
   new_there k now new =
       let one = one_target k new.path new.parsed new.new.parent in
       let same : now ≡ name = sym new.new.last ∙ ap last_of one.0 ∙ found.are.target.last in
@@ -136,7 +136,7 @@ module _ (image : Image) (from to : List ℕ) (ends : Ends) (may : MayMove image
       source = stands_in image from i s ends.source.inumber source_entry
 
       go : (i ≡ j) ⊎ (i ≡ j → ⊥) → IsChange image (rename from to) (if i == j then respells i s (length name) else moves i s j)
-      go (inl same) = rw (eq-eqb i j same) (within source (subst (λ k. NamesNew image to k name) (sym same) (new_name at)))
+      go (inl same) = rw (eq-eqb i j same) (within source (subst (λ k. FindsNew image to k name) (sym same) (new_name at)))
       go (inr apart) = rw (ne_eqb i j apart) (across source (new_name at) apart)
 
   rename_makes : Makes image (rename from to) change

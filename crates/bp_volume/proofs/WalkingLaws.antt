@@ -16,7 +16,7 @@ use Rattle.bp_plain.specs.Plain.{on_parsed, first, when, is_dir_at, walk, parent
 use Rattle.bp_path.specs.Places.{IsEntryOf}
 use Rattle.bp_path.specs.Walk.{Walked, walk_from, in_directory}
 use Rattle.bp_path.specs.declared.steps.Place.{Place}
-use Rattle.bp_volume.specs.Step.{IsEntryOn, IsNewIn, last_of}
+use Rattle.bp_volume.specs.Step.{IsEntryOn, IsNewOn, last_of}
 use Rattle.bp_volume.specs.Told.{StopsAtEntry, StopsWalk, RefusesEntry, RefusesFile, RefusesNew, RefusesWalk, refusal_of_entry, refusal_of_new, refusal_of_walk}
 use Rattle.bp_volume.proofs.WalkLaws.{first_one, walk-image, walk-found, walk_parent-image, dir_at}
 use Rattle.bp_volume.proofs.CreateLaws.{by_parent, create_stopped, create_there, not_root}
@@ -89,7 +89,7 @@ nothing (Some slot) e = absurd (true≢false e)
 
 module _ (image : Image) (path : Path) (below : path ≢ []) (dir : ℕ) (found : lookup image (parent_of path) ≡ Some dir) (kind : kind_of image dir ≡ 2) (name : Name) (last : name ≡ last_of path) where
   -- it is new where the directory doesn't have it, and else refused
-  pub name_is_new : is_name name ≡ true → is_some (slot_named image dir name) ≡ false → IsNewIn image path dir name
+  pub name_is_new : is_name name ≡ true → is_some (slot_named image dir name) ≡ false → IsNewOn image path dir name
   name_is_new form none = record { below = below; parent = found; last = sym last; directory = kind; form = name_form name form; missing = nothing (slot_named image dir name) none }
 
   pub name_is_there : is_some (slot_named image dir name) ≡ true → RefusesNew image path exists

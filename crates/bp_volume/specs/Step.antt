@@ -29,7 +29,7 @@ pub record StandsIn (image : Image) (text : List ℕ) (i s : ℕ) : Type 0 where
   pub slot : slot_named image i (last_of path) ≡ Some s
 
 -- the path is a name in directory i, which doesn't have it
-pub record IsNewIn (image : Image) (path : Path) (i : ℕ) (name : Name) : Type 0 where
+pub record IsNewOn (image : Image) (path : Path) (i : ℕ) (name : Name) : Type 0 where
   pub below : path ≢ []
   pub parent : lookup image (parent_of path) ≡ Some i
   pub last : last_of path ≡ name
@@ -38,10 +38,10 @@ pub record IsNewIn (image : Image) (path : Path) (i : ℕ) (name : Name) : Type 
   pub missing : slot_named image i name ≡ None
 
 -- the text spells such a path
-pub record NamesNew (image : Image) (text : List ℕ) (i : ℕ) (name : Name) : Type 0 where
+pub record FindsNew (image : Image) (text : List ℕ) (i : ℕ) (name : Name) : Type 0 where
   pub path : Path
   pub parsed : parse text ≡ Some path
-  pub new : IsNewIn image path i name
+  pub new : IsNewOn image path i name
 
 -- the path below the root directory finds inode j, by slot s of directory i
 pub record IsEntryOn (image : Image) (path : Path) (i s j : ℕ) : Type 0 where
@@ -64,9 +64,9 @@ pub record PathFinds (image : Image) (text : List ℕ) (i : ℕ) : Type 0 where
 
 -- what a changing call changes
 pub data IsChange (image : Image) : Call → Change → Type 0 where
-  by_create : {text : List ℕ} {name : Name} {i : ℕ} {free : Bool} → NamesNew image text i name →
+  by_create : {text : List ℕ} {name : Name} {i : ℕ} {free : Bool} → FindsNew image text i name →
       TellsFreeInode image free → IsChange image (create text) (enters i free)
-  by_mkdir : {text : List ℕ} {name : Name} {i : ℕ} {free : Bool} → NamesNew image text i name →
+  by_mkdir : {text : List ℕ} {name : Name} {i : ℕ} {free : Bool} → FindsNew image text i name →
       TellsFreeInode image free → IsChange image (mkdir text) (enters i free)
   by_write : {text new : List ℕ} {i off : ℕ} → PathFinds image text i →
       IsChange image (write text off new) (writes i off (length new))
@@ -76,9 +76,9 @@ pub data IsChange (image : Image) : Call → Change → Type 0 where
   by_rmdir : {text : List ℕ} {i s : ℕ} → StandsIn image text i s → IsChange image (rmdir text) (leaves i s)
   onto : {from to : List ℕ} {i s j r : ℕ} → StandsIn image from i s → StandsIn image to j r →
       IsChange image (rename from to) (replaces i s j r)
-  across : {from to : List ℕ} {i s j : ℕ} {name : Name} → StandsIn image from i s → NamesNew image to j name → i ≢ j →
+  across : {from to : List ℕ} {i s j : ℕ} {name : Name} → StandsIn image from i s → FindsNew image to j name → i ≢ j →
       IsChange image (rename from to) (moves i s j)
-  within : {from to : List ℕ} {i s : ℕ} {name : Name} → StandsIn image from i s → NamesNew image to i name →
+  within : {from to : List ℕ} {i s : ℕ} {name : Name} → StandsIn image from i s → FindsNew image to i name →
       IsChange image (rename from to) (respells i s (length name))
 
 -- a changing call, the blocks that it needs, and those that are free

@@ -7,7 +7,7 @@ ghost use Rattle.bp_limits.specs.Limits.{call_room};
 ghost use Rattle.bp_shapes.specs.Sets.{AreExact};
 ghost use Rattle.bp_volume.specs.Carried.{CarriesOut, making};
 ghost use Rattle.bp_volume.specs.Seen.{unit_answer};
-ghost use Rattle.bp_volume.specs.Step.{NamesNew};
+ghost use Rattle.bp_volume.specs.Step.{FindsNew};
 ghost use Rattle.pm_region.specs.Memory.{current_words, room_in};
 
 use crate::refusing::no_space;
@@ -27,7 +27,7 @@ fn create_new<R: Region>(
 ) -> Result<(), FsError>
     requires well_formed { IsWellFormed (current_words (R.memory parts.old.region)) }
     requires exact { AreExact (current_words (R.memory parts.old.region)) parts.old.blocks parts.old.inodes }
-    requires new { NamesNew (current_words (R.memory parts.old.region)) text.now new.dir new.name.now }
+    requires new { FindsNew (current_words (R.memory parts.old.region)) text.now new.dir new.name.now }
     requires slot { new.slot ≡ empty_slot (current_words (R.memory parts.old.region)) new.dir }
     requires room { call_room ≤ room_in (R.memory parts.old.region) }
     ensures called { CarriesOut (R.memory parts.old.region) (making kind text.now) (unit_answer result)

@@ -55,10 +55,7 @@ fn empty_place<R: Region>(region: &R, text: &[u8], place: Place) -> Result<Place
         (λ e. Refuses (current_words (R.memory region.now)) (rmdir text.now) (refusal_of e)) }
 {
     let inode = get(region, place.inumber);
-    let tree = Tree {
-        root: inode.root,
-        size: inode.size,
-    };
+    let tree = Tree::of(&inode);
     match inode.kind {
         Kind::File => Err(FsError::NotDir),
         Kind::Dir => {

@@ -126,10 +126,7 @@ fn may_replace<R: Region>(
         Kind::Dir => match source.kind {
             Kind::File => Err(FsError::IsDir),
             Kind::Dir => {
-                let tree = Tree {
-                    root: target.root,
-                    size: target.size,
-                };
+                let tree = Tree::of(&target);
                 if is_empty(region, tree) {
                     Ok(())
                 } else {

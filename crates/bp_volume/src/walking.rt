@@ -12,7 +12,7 @@ ghost use Rattle.bp_path.specs.Places.{fault_of};
 ghost use Rattle.bp_plain.specs.Calls.{Refusal};
 ghost use Rattle.bp_plain.specs.Seen.{refusal_of};
 ghost use Rattle.bp_volume.specs.Renaming.{IsTarget};
-ghost use Rattle.bp_volume.specs.Step.{FindsEntry, IsEntryOn, IsNewIn, NamesNew, PathFinds};
+ghost use Rattle.bp_volume.specs.Step.{FindsEntry, IsEntryOn, IsNewOn, FindsNew, PathFinds};
 ghost use Rattle.bp_volume.specs.Told.{RefusesEntry, RefusesFile, RefusesNew, RefusesParent, RefusesWalk, refusal_of_walk};
 ghost use Rattle.bp_volume.specs.Told.{StopsAtEntry, StopsAtFile, StopsAtNew, StopsWalk};
 ghost use Rattle.pm_region.specs.Memory.{current_words};
@@ -188,7 +188,7 @@ fn spot_of<R: Region>(region: &R, dir: u32, name: &[u8]) -> Spot
 fn last_name<'a, R: Region>(region: &R, path: &Path<'a>) -> Result<NewName<'a>, FsError>
     requires well_formed { IsWellFormed (current_words (R.memory region.now)) }
     requires below { path.now ≢ [] }
-    ensures found { IfOk result (λ new. IsNewIn (current_words (R.memory region.now)) path.now new.dir new.name.now) }
+    ensures found { IfOk result (λ new. IsNewOn (current_words (R.memory region.now)) path.now new.dir new.name.now) }
     ensures slot { IfOk result (λ new. new.slot ≡ empty_slot (current_words (R.memory region.now)) new.dir) }
     ensures refused { IfErr result (λ e. RefusesNew (current_words (R.memory region.now)) path.now (refusal_of e)) }
 {
@@ -243,7 +243,7 @@ pub(crate) fn target_on<'a, R: Region>(region: &R, path: &Path<'a>) -> Result<Ta
 /// The directory that is to have a new name at a path text, and its name there.
 pub(crate) fn new_name<'a, R: Region>(region: &R, text: &'a [u8]) -> Result<NewName<'a>, FsError>
     requires { IsWellFormed (current_words (R.memory region.now)) }
-    ensures found { IfOk result (λ new. NamesNew (current_words (R.memory region.now)) text.now new.dir new.name.now) }
+    ensures found { IfOk result (λ new. FindsNew (current_words (R.memory region.now)) text.now new.dir new.name.now) }
     ensures slot { IfOk result (λ new. new.slot ≡ empty_slot (current_words (R.memory region.now)) new.dir) }
     ensures refused { IfErr result (λ e. StopsAtNew (current_words (R.memory region.now)) text.now (refusal_of e)) }
 {

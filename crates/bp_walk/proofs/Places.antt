@@ -1,7 +1,7 @@
 -- The word at the place of a pointer.
-use Rattle.std.proofs.Common.{◌≡◌, ◌≢◌, ℕ, zero, suc, ◌+◌, ◌-◌, ◌*◌, ◌/◌, ◌%◌, ◌<◌, List, get_or, drop, refl, sym, ◌∙◌, ap, arith}
+use Rattle.std.proofs.Common.{◌≡◌, ◌≢◌, ℕ, zero, suc, ◌+◌, ◌-◌, ◌*◌, ◌/◌, ◌%◌, ◌<◌, ◌≤◌, List, length, get_or, take, drop, refl, sym, ◌∙◌, ap, arith}
 use Rattle.std.specs.List.{slice_range}
-use Rattle.std.proofs.lemmas.List.{get_or-take, get_or-drop}
+use Rattle.std.proofs.lemmas.List.{get_or-take, get_or-drop, length-take, length-drop}
 use Rattle.bp_layout.specs.Words.{Image, word, height_of}
 use Rattle.bp_layout.specs.Tree.{word_at, node, place_of}
 use Rattle.bp_layout.specs.Inode.{root_of}
@@ -26,3 +26,17 @@ loaded image words first count slot run low =
     ap (λ xs. get_or xs slot 0) run
     ∙ get_or-take (first + count - first) (drop first image) slot 0 (omega (arith, low))
     ∙ get_or-drop first image slot 0
+
+pub loaded_length : (image words : List ℕ) (first count : ℕ) → words ≡ slice_range image first (first + count) → first + count ≤ length image → length words ≡ count
+loaded_length image words first count run low =
+    ap length run ∙ omega (arith, low, length-take {A = ℕ} (first + count - first) (drop first image), length-drop {A = ℕ} first image)
+
+-- eight numbers in a row that are 0 are so in the list that they are taken from
+pub zero_there : (xs : List ℕ) (first i : ℕ) → first ≤ i → i < first + 8 → first + 8 ≤ length xs →
+    ((k : ℕ) → k < length (take (first + 8 - first) (drop first xs)) → get_or (take (first + 8 - first) (drop first xs)) k 0 ≡ 0) → get_or xs i 0 ≡ 0
+zero_there xs first i late low within zeros =
+    let at : first + (i - first) ≡ i = omega (arith, late) in
+    let inside : i - first < first + 8 - first = omega (arith, late, low) in
+    let long = loaded_length xs (take (first + 8 - first) (drop first xs)) first 8 refl within in
+    sym (ap (λ k. get_or xs k 0) at) ∙ sym (get_or-drop first xs (i - first) 0) ∙ sym (get_or-take (first + 8 - first) (drop first xs) (i - first) 0 inside)
+    ∙ zeros (i - first) (omega (arith, late, low, long))

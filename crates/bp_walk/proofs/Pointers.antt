@@ -105,6 +105,21 @@ module _ (image : Image) (root size : ℕ) (holes : Bool) (d k b s : ℕ) (old n
       record { named = nothing; in_range = omega (arith, some, room_now); null = λ is. (may, refl); present = λ is. absurd (is refl) } in
       claimed_step now 0 claims now (ap (λ x. x % 4096) none) (null image 0 root size holes (suc d) (512 * k + s) now (sym pointed ∙ nothing))
 
+-- nulls that may be are passed over
+module _ (image : Image) (root size : ℕ) (holes : Bool) (d k b : ℕ) (old now : Set) (named : node image root d k ≡ b) (out : has old b ≡ false) (room : length old ≡ block_count image)
+    (some : b < block_count image) (may : holes ≡ true) (s : ℕ) (walks : WalksBelow image 0 root size holes d k s old now) where
+  pub null_steps : (n : ℕ) → s + n ≤ 512 → ((r : ℕ) → s ≤ r → r < s + n → IsPlace image 0 root size (suc d) (512 * k + r) (512 * b + r)) →
+      ((r : ℕ) → s ≤ r → r < s + n → word image (512 * b + r) ≡ 0) → WalksBelow image 0 root size holes d k (s + n) old now
+  null_steps zero low places nulls =
+      let same : s ≡ s + 0 = omega arith in
+      subst (λ (t : ℕ). WalksBelow image 0 root size holes d k t old now) same walks
+  null_steps (suc n) low places nulls =
+      let next : s + n + 1 ≡ s + suc n = omega arith in
+      let before = null_steps n (omega (arith, low)) (λ r order below. places r order (omega (arith, below))) (λ r order below. nulls r order (omega (arith, below))) in
+      subst (λ (t : ℕ). WalksBelow image 0 root size holes d k t old now) next
+      (null_step image root size holes d k b (s + n) old now named (omega (arith, low)) out (places (s + n) (omega arith) (omega arith)) before (word image (512 * b + (s + n))) refl room some may
+      (nulls (s + n) (omega arith) (omega arith)))
+
 -- the root word is refused
 pub refused_root : (image : Image) (at root size : ℕ) (holes : Bool) (old : Set) (check : ℕ) → length old ≡ block_count image → 0 < size → size ≤ covered (suc (height_of root)) →
     RefusesPointed root holes old check → FailsTree image at root size holes old check at

@@ -1,6 +1,6 @@
 //! The pointers of a tree, from the root word down.
 
-ghost use Rattle.std.specs.Prelude.{◌≡◌, ◌≢◌, ℕ, suc, ◌+◌, ◌*◌, ◌<◌, ◌≤◌, ◌^◌, false, length, OnOk, IfOk, IfErr};
+ghost use Rattle.std.specs.Prelude.{◌≡◌, ◌≢◌, ℕ, suc, ◌+◌, ◌*◌, ◌<◌, ◌≤◌, ◌^◌, true, false, length, slice_index, OnOk, IfOk, IfErr};
 ghost use Rattle.bp_free.specs.Set.{has};
 ghost use Rattle.bp_layout.specs.Words.{word, block_count, height_of};
 ghost use Rattle.bp_limits.specs.Limits.{max_blocks, max_height};
@@ -14,6 +14,9 @@ use bp_free::Blocks;
 use bp_limits::MAX_HEIGHT;
 use bp_tree::Tree;
 use pm_region::Region;
+
+/// How many pointers are looked at in one go where there may be nulls: a line of a processor's cache.
+const LINE: usize = 8;
 
 /// A check of the format that fails, and where.
 #[derive(Clone, Copy, Debug, PartialEq, Eq)]
@@ -91,6 +94,32 @@ fn live_slots(size: u64, top: Node) -> u32
     ((rest - 1) / span(top.level) + 1).min(512) as u32
 }
 
+/// Whether all of these pointers are null. It looks at each, which takes less time than to stop at the first that isn't.
+fn are_null(pointers: &[u64]) -> bool
+    ensures { result ≡ true → (i : ℕ) → i < length pointers.now → slice_index pointers.now i ≡ 0 }
+{
+    let mut bits = 0;
+    for pointer in pointers {
+        bits |= *pointer;
+    }
+    bits == 0
+}
+
+/// A slot behind one whose pointer is null, with none but null pointers between them. It may be null too.
+fn past_nulls(pointers: &[u64], slot: u32) -> u32
+    requires low { slot < length pointers.now }
+    requires few { length pointers.now ≤ 512 }
+    ensures further { slot < result }
+    ensures most { result ≤ length pointers.now }
+    ensures nulls { (i : ℕ) → slot < i → i < result → slice_index pointers.now i ≡ 0 }
+{
+    let mut next = slot as usize + 1;
+    while next + LINE <= pointers.len() && are_null(&pointers[next..next + LINE]) {
+        next += LINE;
+    }
+    next as u32
+}
+
 /// Takes out the blocks below a node above the leaves, whose own block has left the set.
 fn take_below<R: Region>(
     region: &R,
@@ -122,11 +151,13 @@ fn take_below<R: Region>(
     let first = 512 * top.block;
     let live = live_slots(tree.size, top);
     let pointers = region.load_words(first, live);
-    for slot in 0..live {
+    let mut slot = 0;
+    while slot < live {
         let place = first + slot;
         let pointer = pointers[slot as usize];
         // Where there may be nulls there may be very many.
         if pointer == 0 && holes {
+            slot = past_nulls(pointers, slot);
             continue;
         }
         if pointer & 4095 != 0 {
@@ -136,13 +167,15 @@ fn take_below<R: Region>(
             Ok(block) => block,
             Err(fault) => return Err(fault),
         };
+        let index = 512 * top.index + slot as u64;
+        slot += 1;
         if top.level == 1 {
             continue;
         }
         let child = Node {
             depth: top.depth + 1,
             level: top.level - 1,
-            index: 512 * top.index + slot as u64,
+            index,
             block,
         };
         if let Err(fault) = take_below(region, tree, holes, child, blocks) {

@@ -1,11 +1,11 @@
 -- A log up to where an epoch begins, and from there on.
 use Rattle.std.proofs.Common.{◌≡◌, ℕ, zero, suc, ◌+◌, ◌≤◌, Bool, true, false, List, [], ◌∷◌, length, take, drop, set, refl, sym, ◌∙◌, ap, arith}
-use Rattle.std.proofs.lemmas.List.{take-take}
+use Rattle.std.proofs.lemmas.List.{length-take-le, take-take}
 use Rattle.pm_epochs.specs.declared.event.Event.{Event}
 use Rattle.pm_epochs.specs.declared.event.Event.TheVariants.{Store, Barrier, Mark}
 use Rattle.pm_epochs.specs.Log.{barriers, epoch_stores, marks, words_after}
 use Rattle.pm_epochs.specs.Replay.{marks_of, stores_of}
-use Rattle.pm_raw.specs.Epochs.{epoch_start, is_barrier}
+use Rattle.pm_region.specs.Epochs.{epoch_start}
 
 pub epoch_start-low : (epoch : ℕ) (events : List Event) → epoch_start epoch events ≤ length events
 epoch_start-low zero events = omega arith
@@ -22,6 +22,17 @@ epoch_start-front (suc n) (suc epoch) [] begun = refl
 epoch_start-front (suc n) (suc epoch) (Store word value ∷ events) begun = ap suc (epoch_start-front n (suc epoch) events begun)
 epoch_start-front (suc n) (suc epoch) (Barrier ∷ events) begun = ap suc (epoch_start-front n epoch events (omega arith))
 epoch_start-front (suc n) (suc epoch) (Mark ∷ events) begun = ap suc (epoch_start-front n (suc epoch) events begun)
+
+pub epoch_start-taken : (n epoch : ℕ) (events : List Event) → n ≤ length events → epoch ≤ barriers (take n events) → epoch_start epoch events ≤ n
+epoch_start-taken n epoch events fits begun =
+    omega (arith, epoch_start-front n epoch events begun, epoch_start-low epoch (take n events), length-take-le n events fits)
+
+pub barriers-front : (n : ℕ) (events : List Event) → barriers (take n events) ≤ barriers events
+barriers-front zero events = omega arith
+barriers-front (suc n) [] = omega arith
+barriers-front (suc n) (Store word value ∷ events) = barriers-front n events
+barriers-front (suc n) (Barrier ∷ events) = let rest = barriers-front n events in omega arith
+barriers-front (suc n) (Mark ∷ events) = barriers-front n events
 
 -- the stores of earlier epochs are all kept, and those from there on by the mask
 pub kept-from : (words : List ℕ) (epoch : ℕ) (mask : List Bool) (events : List Event) →
@@ -57,6 +68,10 @@ stores-from (suc epoch) (Store word value ∷ events) = stores-from (suc epoch) 
 stores-from (suc epoch) (Barrier ∷ events) = stores-from epoch events
 stores-from (suc epoch) (Mark ∷ events) = stores-from (suc epoch) events
 
+pub stores-at : (n epoch : ℕ) (events : List Event) → epoch ≤ barriers (take n events) → epoch_stores epoch (take n events) ≡ epoch_stores 0 (drop (epoch_start epoch events) (take n events))
+stores-at n epoch events begun =
+    stores-from epoch (take n events) ∙ ap (λ start. epoch_stores 0 (drop start (take n events))) (epoch_start-front n epoch events begun)
+
 pub marks-split : (n : ℕ) (events : List Event) → marks events ≡ marks (take n events) + marks (drop n events)
 marks-split zero events = omega arith
 marks-split (suc n) [] = refl
@@ -69,17 +84,6 @@ pub stores-stop : (mask : List Bool) (events : List Event) → stores_of 0 mask 
 stores-stop [] events = refl
 stores-stop (true ∷ mask) events = refl
 stores-stop (false ∷ mask) events = refl
-
--- from one event to the next, where the epoch has not begun
-pub barrier-step : (left : ℕ) (event : Event) (rest : List Event) → is_barrier event ≡ true → (barriers (event ∷ rest) ≡ suc (barriers rest)) × (epoch_start (suc left) (event ∷ rest) ≡ suc (epoch_start left rest))
-barrier-step left (Store word value) rest is = absurd (cc)
-barrier-step left Barrier rest is = (refl, refl)
-barrier-step left Mark rest is = absurd (cc)
-
-pub other-step : (left : ℕ) (event : Event) (rest : List Event) → is_barrier event ≡ false → (barriers (event ∷ rest) ≡ barriers rest) × (epoch_start (suc left) (event ∷ rest) ≡ suc (epoch_start (suc left) rest))
-other-step left (Store word value) rest is = (refl, refl)
-other-step left Barrier rest is = absurd (cc)
-other-step left Mark rest is = (refl, refl)
 
 pub marks-low : (events : List Event) → marks events ≤ length events
 marks-low [] = omega arith

@@ -2,3 +2,4 @@ mod Blocks
 mod EntryLaws
 mod UndoLaws
 mod EpochLaws
+mod PlaceLaws

@@ -6,6 +6,6 @@ pub mod RawLends
 pub mod Part
 pub mod Filling
 pub mod Entries
-pub mod Epochs
+pub mod Places
 pub mod Undo
 pub mod RawRegion

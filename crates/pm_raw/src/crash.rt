@@ -1,29 +1,13 @@
-ghost use Rattle.std.specs.Prelude.{◌≡◌, ◌^◌, ◌<◌, ◌≤◌, ◌↔◌, IsOk, IfOk, MatchOption, length};
+ghost use Rattle.std.specs.Prelude.{◌≡◌, ◌^◌, ◌<◌, ◌≤◌, ◌↔◌, IsOk, IfOk, length};
 ghost use Rattle.pm_epochs.specs.Log.{barriers, epoch_stores, marks, words_after};
 ghost use Rattle.pm_epochs.specs.Replay.{IsRight, kept_calls as kept_calls_of, marks_of, stores_of};
-ghost use Rattle.pm_raw.specs.Epochs.{epoch_start};
+ghost use Rattle.pm_region.specs.Epochs.{epoch_start};
+ghost use Rattle.pm_raw.specs.Places.{is_barrier, is_mark, places_where};
 
 use super::log::Log;
+use super::places::Places;
 use pm_epochs::{BadChoice, Choice, Event, Keeper, Kept};
 use pm_region::words::apply_event;
-
-/// Where an epoch begins: behind the barrier with its number. None where there are fewer barriers.
-fn find_epoch(log: &Log<'_>, epoch: usize) -> Option<usize>
-    ensures { MatchOption result (barriers log.now < epoch)
-        (λ start. (epoch ≤ barriers log.now) × (start ≡ epoch_start epoch log.now)) }
-{
-    let mut left = epoch;
-    for i in 0..log.len() {
-        if left == 0 {
-            return Some(i);
-        }
-        let ends = log.is_barrier(i);
-        if ends {
-            left -= 1;
-        }
-    }
-    if left == 0 { Some(log.len()) } else { None }
-}
 
 /// How many stores stand before the first barrier.
 fn first_stores(log: &Log<'_>) -> usize
@@ -62,70 +46,51 @@ fn calls_of(log: &Log<'_>, epoch: usize, mask: &[bool]) -> usize
     calls
 }
 
-fn mark_count(log: &Log<'_>) -> usize
-    ensures { result ≡ marks log.now }
+/// Where an epoch begins, in a log with these barriers.
+pub fn start_of_epoch(log: &Log<'_>, barrier_places: &Places, epoch: usize) -> usize
+    requires places { barrier_places.now.items ≡ places_where is_barrier 0 log.now }
+    requires begun { epoch ≤ barriers log.now }
+    requires small { length log.now < 2 ^ 64 }
+    ensures { result ≡ epoch_start epoch log.now }
 {
-    let mut count = 0;
-    for i in 0..log.len() {
-        match log.event(i) {
-            Event::Store { .. } => {}
-            Event::Barrier => {}
-            Event::Mark => count += 1,
-        }
-    }
-    count
-}
-
-/// Where an epoch stands in a log.
-#[derive(Drop)]
-struct Span {
-    /// How many events stand before it.
-    start: usize,
-    /// How many stores it has.
-    stores: usize,
-}
-
-/// Where an epoch stands. None where there are fewer barriers.
-fn span_of(log: &Log<'_>, epoch: usize) -> Option<Span>
-    ensures { MatchOption result (barriers log.now < epoch) (λ span. (epoch ≤ barriers log.now)
-        × (span.start ≡ epoch_start epoch log.now) × (span.stores ≡ epoch_stores epoch log.now)) }
-{
-    match find_epoch(log, epoch) {
-        Some(start) => Some(Span {
-            start,
-            stores: first_stores(&log.behind(start)),
-        }),
-        None => None,
+    if epoch == 0 {
+        0
+    } else {
+        barrier_places.get(epoch - 1) + 1
     }
 }
 
 /// Where the epoch of a choice begins. `BadChoice` is the answer where the choice is not right for the log.
-pub fn start_of(log: &Log<'_>, choice: &Choice) -> Result<usize, BadChoice>
+pub fn start_of(log: &Log<'_>, barrier_places: &Places, choice: &Choice) -> Result<usize, BadChoice>
+    requires places { barrier_places.now.items ≡ places_where is_barrier 0 log.now }
+    requires small { length log.now < 2 ^ 64 }
     ensures right { IsOk result ↔ IsRight log.now choice.now.cut }
     ensures start { IfOk result (λ start. start ≡ epoch_start choice.now.cut.epoch log.now) }
     ensures taken { IfOk result (λ start. start ≤ choice.now.cut.moment) }
 {
-    if choice.moment() > log.len() {
+    let (moment, epoch) = (choice.moment(), choice.epoch());
+    if moment > log.len() || epoch > barrier_places.before(moment) {
         return Err(BadChoice);
     }
-    match span_of(&log.front(choice.moment()), choice.epoch()) {
-        Some(span) if choice.mask().len() <= span.stores => Ok(span.start),
-        _ => Err(BadChoice),
+    let start = start_of_epoch(log, barrier_places, epoch);
+    if choice.mask().len() > first_stores(&log.front(moment).behind(start)) {
+        return Err(BadChoice);
     }
+    Ok(start)
 }
 
-/// How many calls a crash keeps that keeps the stores before `start`, where its epoch begins, and how many there are.
-pub fn kept_calls(log: &Log<'_>, start: usize, choice: &Choice) -> Kept
+/// How many calls a crash keeps that keeps the stores before `start`, where its epoch begins, and how many there are. The log
+/// has these marks.
+pub fn kept_calls(log: &Log<'_>, mark_places: &Places, start: usize, choice: &Choice) -> Kept
+    requires places { mark_places.now.items ≡ places_where is_mark 0 log.now }
     requires start { start ≡ epoch_start choice.now.cut.epoch log.now }
     requires small { length log.now < 2 ^ 64 }
     ensures kept { result.c ≡ kept_calls_of log.now choice.now.cut }
     ensures of { result.n ≡ marks log.now }
 {
-    let rest = log.behind(start);
-    let before = mark_count(&log.front(start));
     Kept {
-        c: before + calls_of(&rest, 0, choice.mask()),
-        n: before + mark_count(&rest),
+        c: mark_places.before(start) + calls_of(&log.behind(start), 0, choice.mask()),
+        n: mark_places.len(),
     }
 }
 

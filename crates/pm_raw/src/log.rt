@@ -1,7 +1,6 @@
 ghost use Rattle.std.specs.Prelude.{◌≡◌, ◌<◌, ◌≤◌, length, take, drop, slice_get, slice_index_or, Some};
 ghost use Rattle.pm_epochs.specs.declared.event.Event.TheVariants.{Mark};
-ghost use Rattle.pm_raw.specs.Entries.{event_of, events_of};
-ghost use Rattle.pm_raw.specs.Epochs.{is_barrier};
+ghost use Rattle.pm_raw.specs.Entries.{event_of, events_of, word_of};
 
 use pm_epochs::Event;
 use std::marker::Model;
@@ -50,18 +49,6 @@ fn read_event(word: u32, value: u64) -> Event
     }
 }
 
-/// Whether the event with this word and this value is a barrier.
-#[tactic(auto, using(std::proofs::lemmas::Bool::Decides::nat_tests))]
-fn reads_barrier(word: u32, value: u64) -> bool
-    ensures { result ≡ is_barrier (event_of word value) }
-{
-    if word == NO_WORD {
-        value == BARRIER
-    } else {
-        false
-    }
-}
-
 impl<'a> Log<'a> {
     /// The log of these words and values.
     pub fn new(words: &'a [u32], values: &'a [u64]) -> Log<'a>
@@ -89,14 +76,14 @@ impl<'a> Log<'a> {
         read_event(words[i], values[i])
     }
 
-    /// Whether an event is a barrier, by its number from 0.
+    /// The word of an event, by its number from 0. It is `NO_WORD` where the event is no store.
     #[tactic(auto, using(crate::proofs::EntryLaws::length_events))]
-    pub fn is_barrier(&self, i: usize) -> bool
+    pub fn word(&self, i: usize) -> u32
         requires { i < length self.now }
-        ensures { result ≡ is_barrier (slice_index_or self.now i Mark) }
+        ensures { result ≡ word_of (slice_index_or self.now i Mark) }
     {
-        let (words, values) = (self.words, self.values);
-        reads_barrier(words[i], values[i])
+        let words = self.words;
+        words[i]
     }
 
     /// The first events, as many as are wanted.

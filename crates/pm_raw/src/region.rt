@@ -2,10 +2,12 @@ ghost use Rattle.std.specs.Prelude.{◌≡◌, ℕ, ◌+◌, ◌^◌, ◌<◌, �
 ghost use Rattle.std.specs.List.{range_with_len};
 ghost use Rattle.pm_region.specs.Memory.{with_values};
 ghost use Rattle.pm_raw.specs.Entries.{events_of, signal_of};
+ghost use Rattle.pm_raw.specs.Places.{is_barrier, is_mark, places_where};
 
 use super::array::RawArray;
-use super::crash::{apply_first, kept_calls, start_of};
+use super::crash::{apply_first, kept_calls, start_of, start_of_epoch};
 use super::log::{BARRIER, Log, MARK, NO_WORD};
+use super::places::Places;
 use super::undo::{undo_from, word_before};
 use pm_epochs::{BadChoice, Choice, Event, Kept};
 use pm_region::Region;
@@ -14,15 +16,19 @@ use std::marker::Model;
 use std::mem::size_of;
 
 /// A region in raw memory: the words now, and for each event since the last drain its word, its value, and the value that it
-/// replaced. These stand at the fronts of arrays that have a place for each event that the log can take. The words at the
-/// last drain are held nowhere: they are what undoing the log leaves. So a drain takes constant time, as each other call does
-/// but a crash and a look at a word at the last drain, which take time for the events of the log.
+/// replaced. These stand at the fronts of arrays that have a place for each event that the log can take. Beside them it keeps
+/// where the barriers and the marks stand, so that a crash and a storm need not look for them among the stores. The words at
+/// the last drain are held nowhere: they are what undoing the log leaves. So a drain takes constant time, as each other call
+/// does but a crash and a look at a word at the last drain, which take time for the events of the log, and a count of the
+/// barriers before an event, which takes time for the barriers.
 #[derive(Drop)]
 pub struct RawRegion {
     current: RawArray<u64>,
     words: RawArray<u32>,
     values: RawArray<u64>,
     replaced: RawArray<u64>,
+    barriers: Places,
+    marks: Places,
     count: usize,
     drains: u64,
 }
@@ -68,6 +74,24 @@ fn write_words(words: &mut [u32], count: usize, first: u32, wanted: usize)
     }
 }
 
+/// Notes the place of an event that is no store, by its value.
+fn note_signal(barriers: &mut Places, marks: &mut Places, place: usize, value: u64)
+    requires barriers_room { length barriers.old.items < barriers.old.room }
+    requires marks_room { length marks.old.items < marks.old.room }
+    ensures barriers { barriers.new ≡ record barriers.old {
+      items = barriers.old.items ++ places_where is_barrier place (signal_of value ∷ []);
+    } }
+    ensures marks { marks.new ≡ record marks.old {
+      items = marks.old.items ++ places_where is_mark place (signal_of value ∷ []);
+    } }
+{
+    if value == BARRIER {
+        barriers.push(place);
+    } else {
+        marks.push(place);
+    }
+}
+
 /// The log that stands at the fronts of these arrays.
 fn log_of<'a>(words: &'a RawArray<u32>, values: &'a RawArray<u64>, count: usize) -> Log<'a>
     requires sized { length values.now ≡ length words.now }
@@ -97,11 +121,15 @@ impl RawRegion {
         let words = RawArray::new(alloc, capacity, NO_WORD)?;
         let values = RawArray::new(alloc, capacity, MARK)?;
         let replaced = RawArray::new(alloc, capacity, 0)?;
+        let barriers = Places::new(alloc, capacity)?;
+        let marks = Places::new(alloc, capacity)?;
         Ok(RawRegion {
             current,
             words,
             values,
             replaced,
+            barriers,
+            marks,
             count: 0,
             drains: 0,
         })
@@ -140,6 +168,7 @@ impl RawRegion {
         requires { length self.old.events < self.old.capacity }
         ensures { self.new ≡ record self.old { events = self.old.events ++ signal_of value ∷ [] } }
     {
+        note_signal(&mut self.barriers, &mut self.marks, self.count, value);
         self.words.set(self.count, NO_WORD);
         self.values.set(self.count, value);
         self.replaced.set(self.count, 0);
@@ -197,6 +226,8 @@ impl Region for RawRegion {
 
     fn drain(&mut self) {
         self.count = 0;
+        self.barriers.clear();
+        self.marks.clear();
         self.drains = self.drains.saturating_add(1);
     }
 
@@ -212,6 +243,15 @@ impl Region for RawRegion {
         log_of(&self.words, &self.values, self.count).event(i)
     }
 
+    fn barriers_before(&self, moment: usize) -> usize {
+        self.barriers.before(moment)
+    }
+
+    fn start_of_epoch(&self, epoch: usize) -> usize {
+        let log = log_of(&self.words, &self.values, self.count);
+        start_of_epoch(&log, &self.barriers, epoch)
+    }
+
     fn base_word(&self, word: u32) -> u64 {
         word_before(
             self.current.as_slice(),
@@ -223,8 +263,8 @@ impl Region for RawRegion {
 
     fn crash_to(&mut self, choice: &Choice) -> Result<Kept, BadChoice> {
         let log = log_of(&self.words, &self.values, self.count);
-        let start = start_of(&log, choice)?;
-        let kept = kept_calls(&log, start, choice);
+        let start = start_of(&log, &self.barriers, choice)?;
+        let kept = kept_calls(&log, &self.marks, start, choice);
         let replaced = &self.replaced.as_slice()[..self.count];
         undo_from(self.current.as_mut_slice(), &log, replaced, start);
         apply_first(
@@ -233,6 +273,8 @@ impl Region for RawRegion {
             choice.mask(),
         );
         self.count = 0;
+        self.barriers.clear();
+        self.marks.clear();
         Ok(kept)
     }
 

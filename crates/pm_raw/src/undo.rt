@@ -1,34 +1,30 @@
-ghost use Rattle.std.specs.Prelude.{◌≡◌, ◌<◌, ◌≤◌, [], ◌∷◌, drop, length, slice_index};
+ghost use Rattle.std.specs.Prelude.{◌≡◌, ◌^◌, ◌<◌, ◌≤◌, [], ◌∷◌, drop, length, slice_index};
+ghost use Rattle.pm_epochs.specs.declared.event.Event.{Event};
+ghost use Rattle.pm_raw.specs.Entries.{word_of};
 ghost use Rattle.pm_raw.specs.Undo.{is_store_to, undone};
 
 use super::log::Log;
 use pm_epochs::Event;
-use pm_region::words::apply_event;
 
-/// Undoes one event, which replaced this value.
-fn undo_event(words: &mut [u64], event: Event, replaced: u64)
-    ensures { words.new ≡ undone words.old (event ∷ []) (replaced ∷ []) }
+/// Puts back what an event replaced, by its word. An event that is no store has a word that no region has.
+fn undo_event(words: &mut [u64], word: u32, replaced: u64)
+    requires { length words.old < 2 ^ 32 }
+    ensures { (event : Event) → word ≡ word_of event → words.new ≡ undone words.old (event ∷ []) (replaced ∷ []) }
 {
-    match event {
-        Event::Store { word, .. } => apply_event(
-            words,
-            Event::Store {
-                word,
-                value: replaced,
-            },
-        ),
-        Event::Barrier => {}
-        Event::Mark => {}
+    let place = word as usize;
+    if place < words.len() {
+        words[place] = replaced;
     }
 }
 
 /// Undoes a log whose events replaced these values, the last one first.
 fn undo(words: &mut [u64], log: &Log<'_>, replaced: &[u64])
-    requires { length replaced.now ≡ length log.now }
+    requires each { length replaced.now ≡ length log.now }
+    requires few { length words.old < 2 ^ 32 }
     ensures { words.new ≡ undone words.old log.now replaced.now }
 {
     for i in (0..log.len()).rev() {
-        undo_event(words, log.event(i), replaced[i]);
+        undo_event(words, log.word(i), replaced[i]);
     }
 }
 
@@ -36,6 +32,7 @@ fn undo(words: &mut [u64], log: &Log<'_>, replaced: &[u64])
 pub fn undo_from(words: &mut [u64], log: &Log<'_>, replaced: &[u64], start: usize)
     requires each { length replaced.now ≡ length log.now }
     requires fits { start ≤ length log.now }
+    requires few { length words.old < 2 ^ 32 }
     ensures { words.new ≡ undone words.old (drop start log.now) (drop start replaced.now) }
 {
     undo(words, &log.behind(start), &replaced[start..]);

@@ -3,3 +3,4 @@ pub mod SafeLaws
 pub mod MayLaws
 pub mod PutBack
 pub mod RunLaws
+pub mod EpochLaws

@@ -1,7 +1,8 @@
-ghost use Rattle.std.specs.Prelude.{◌≡◌, ℕ, ◌+◌, ◌<◌, ◌≤◌, ◌↔◌, [], ◌∷◌, ◌++◌, length, slice_get, slice_index, slice_index_or, slice_range, slice_set, Some, IsOk, IfOk, OnOk, OnErr};
+ghost use Rattle.std.specs.Prelude.{◌≡◌, ℕ, ◌+◌, ◌<◌, ◌≤◌, ◌↔◌, [], ◌∷◌, ◌++◌, length, take, slice_get, slice_index, slice_index_or, slice_range, slice_set, Some, IsOk, IfOk, OnOk, OnErr};
 ghost use Rattle.pm_epochs.specs.declared.event.Event.TheVariants.{Store, Barrier, Mark};
-ghost use Rattle.pm_epochs.specs.Log.{marks};
+ghost use Rattle.pm_epochs.specs.Log.{barriers, marks};
 ghost use Rattle.pm_epochs.specs.Replay.{IsRight, kept_calls};
+ghost use Rattle.pm_region.specs.Epochs.{epoch_start};
 ghost use Rattle.pm_region.specs.Memory.{Memory, crashed, current_words, room_in, drained, stores_from, with_values, Adds};
 
 use pm_epochs::{BadChoice, Choice, Event, Kept};
@@ -72,6 +73,41 @@ pub trait Region {
         ensures get { slice_get (memory self.now).events i ≡ Some result }
         ensures value { result ≡ slice_index_or (memory self.now).events i result };
 
+    /// How many barriers stand before the event with this number.
+    fn barriers_before(&self, moment: usize) -> usize
+        requires { moment ≤ length (memory self.now).events }
+        ensures { result ≡ barriers (take moment (memory self.now).events) }
+    {
+        let mut count = 0;
+        for i in 0..moment {
+            match self.event(i) {
+                Event::Store { .. } => {}
+                Event::Barrier => count += 1,
+                Event::Mark => {}
+            }
+        }
+        count
+    }
+
+    /// How many events stand before an epoch: those up to the barrier with its number, counted from 1.
+    fn start_of_epoch(&self, epoch: usize) -> usize
+        requires { epoch ≤ barriers (memory self.now).events }
+        ensures { result ≡ epoch_start epoch (memory self.now).events }
+    {
+        let mut left = epoch;
+        for i in 0..self.event_count() {
+            if left == 0 {
+                return i;
+            }
+            match self.event(i) {
+                Event::Store { .. } => {}
+                Event::Barrier => left -= 1,
+                Event::Mark => {}
+            }
+        }
+        self.event_count()
+    }
+
     /// A word at the last drain.
     fn base_word(&self, word: u32) -> u64
         requires { word < length (memory self.now).base }
@@ -96,7 +132,9 @@ pub trait Region {
     fn adopt_words(&mut self, first: u32, values: &[u64])
         requires in_range { first + length values.now ≤ length (memory self.old).base }
         requires drained { (memory self.old).events ≡ [] }
-        ensures { memory self.new ≡ record (memory self.old) { base = with_values (memory self.old).base first values.now } }
+        ensures { memory self.new ≡ record (memory self.old) {
+          base = with_values (memory self.old).base first values.now;
+        } }
     {
         let _words = self.words();
         for i in 0..values.len() {

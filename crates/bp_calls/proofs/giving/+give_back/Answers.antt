@@ -1,5 +1,4 @@
-use Rattle.std.proofs.Common.{◌≡◌, ◌-◌, ◌*◌, ◌/◌, ◌+◌, ◌<◌, ◌≤◌, suc, le_antisymm, arith, bit_and, ap, sym, ◌∙◌}
-use Rattle.std.proofs.lemmas.Nat.{and_mask}
+use Rattle.std.proofs.Common.{◌≡◌, ◌-◌, ◌*◌, ◌/◌, ◌+◌, ◌<◌, ◌≤◌, suc, le_antisymm, arith, ap, sym, ◌∙◌}
 use Rattle.bp_layout.specs.Pieces.{child, piece}
 use Rattle.bp_layout.specs.Tree.{span}
 use Rattle.bp_layout.specs.Words.{block_of, height_of}
@@ -15,63 +14,61 @@ pub overflow_cast-top : goal.overflow_cast-top
 overflow_cast-top g t c =
     let image = current_words (g.R.Region.memory c.args.region.now) in
     let low = top_in_range image c.args.tree.root c.args.tree.size c.requires.sound (omega (arith, c.if-tree-cut.false)) in
-    omega (arith, low, c.words-words.ensures, c.words-words.type_inv, length_now (g.R.Region.memory c.args.region.now))
+    omega (arith, low, c.block-top.ensures, c.words-words.ensures, c.words-words.type_inv, length_now (g.R.Region.memory c.args.region.now))
 
 pub returns-then-top-eq0 : goal.returns-then-top-eq0
 returns-then-top-eq0 g t c =
     let image = current_words (g.R.Region.memory c.args.region.now) in
-    gives_none _ c.args.blocks.now (λ b. null_cut image c.args.tree.root c.args.tree.size c.args.cut b c.if-top-eq0.true)
+    gives_none _ c.args.blocks.now (λ b. null_cut image c.args.tree.root c.args.tree.size c.args.cut b (sym c.block-top.ensures ∙ c.if-top-eq0.true))
 
 pub give_top-requires-clause-in_range : goal.give_top-requires-clause-in_range
 give_top-requires-clause-in_range g t c =
     let image = current_words (g.R.Region.memory c.args.region.now) in
     let low = top_in_range image c.args.tree.root c.args.tree.size c.requires.sound (omega (arith, c.if-tree-cut.false)) in
-    omega (arith, low, c.requires.room)
+    omega (arith, low, c.block-top.ensures, c.requires.room)
 
 pub give_top-requires-clause-taken : goal.give_top-requires-clause-taken
 give_top-requires-clause-taken g t c =
     let image = current_words (g.R.Region.memory c.args.region.now) in
-    c.requires.taken (block_of c.args.tree.root) (top_block image c.args.tree.root c.args.tree.size (omega (arith, c.if-tree-cut.false)) c.if-top-eq0.false)
+    rw c.block-top.ensures (c.requires.taken (block_of c.args.tree.root) (top_block image c.args.tree.root c.args.tree.size (omega (arith, c.if-tree-cut.false)) (rw c.block-top.ensures at c.if-top-eq0.false)))
 
 pub returns-then-height-eq0 : goal.returns-then-height-eq0
 returns-then-height-eq0 g t c =
     let image = current_words (g.R.Region.memory c.args.region.now) in
-    leaf_gives image c.args.tree.root c.args.tree.size c.args.cut c.requires.sound c.if-tree-cut.false c.if-top-eq0.false (sym (and_mask c.args.tree.root 3) ∙ c.if-height-eq0.true) c.args.blocks.now c.give_top.new.blocks c.give_top.ensures
+    leaf_gives image c.args.tree.root c.args.tree.size c.args.cut c.requires.sound c.if-tree-cut.false (rw c.block-top.ensures at c.if-top-eq0.false) (sym c.height-height.ensures ∙ c.if-height-eq0.true) c.args.blocks.now c.give_top.new.blocks (rw c.block-top.ensures at c.give_top.ensures)
 
 pub overflow_step-slot : goal.overflow_step-slot
 overflow_step-slot g t c =
-    let is : c.span-step.result ≡ span (bit_and c.args.tree.root 7 - 1) = c.span-step.ensures ∙ sym (span-is (bit_and c.args.tree.root 7 - 1)) in
-    rw is (span-positive (bit_and c.args.tree.root 7 - 1))
+    let is : c.span-step.result ≡ span (c.height-height.result - 1) = c.span-step.ensures ∙ sym (span-is (c.height-height.result - 1)) in
+    rw is (span-positive (c.height-height.result - 1))
 
 pub nonzero_div-slot-end : goal.nonzero_div-slot-end
 nonzero_div-slot-end g t c =
-    let is : c.span-step.result ≡ span (bit_and c.args.tree.root 7 - 1) = c.span-step.ensures ∙ sym (span-is (bit_and c.args.tree.root 7 - 1)) in
-    rw is (span-positive (bit_and c.args.tree.root 7 - 1))
+    let is : c.span-step.result ≡ span (c.height-height.result - 1) = c.span-step.ensures ∙ sym (span-is (c.height-height.result - 1)) in
+    rw is (span-positive (c.height-height.result - 1))
 
 pub loop-slot-init : goal.loop-slot-init
 loop-slot-init g t c =
     let image = current_words (g.R.Region.memory c.args.region.now) in
-    let mask : bit_and c.args.tree.root 7 ≡ height_of c.args.tree.root = and_mask c.args.tree.root 3 in
-    let is : c.span-step.result ≡ span (height_of c.args.tree.root - 1) = c.span-step.ensures ∙ sym (span-is (bit_and c.args.tree.root 7 - 1)) ∙ ap (λ h. span (h - 1)) mask in
-    rw is (slots_begin image c.args.tree.root c.args.tree.size (height_of c.args.tree.root - 1) c.args.cut c.requires.sound c.if-tree-cut.false c.if-top-eq0.false (omega (arith, mask, c.if-height-eq0.false)) c.args.blocks.now c.give_top.new.blocks c.give_top.ensures)
+    let is : c.span-step.result ≡ span (height_of c.args.tree.root - 1) = c.span-step.ensures ∙ sym (span-is (c.height-height.result - 1)) ∙ ap (λ h. span (h - 1)) c.height-height.ensures in
+    rw is (slots_begin image c.args.tree.root c.args.tree.size (height_of c.args.tree.root - 1) c.args.cut c.requires.sound c.if-tree-cut.false (rw c.block-top.ensures at c.if-top-eq0.false) (omega (arith, c.height-height.ensures, c.if-height-eq0.false)) c.args.blocks.now c.give_top.new.blocks (rw c.block-top.ensures at c.give_top.ensures))
 
 pub give_back-requires : goal.give_back-requires
 give_back-requires g t c κs within =
     let image = current_words (g.R.Region.memory c.args.region.now) in
-    let mask : bit_and c.args.tree.root 7 ≡ height_of c.args.tree.root = and_mask c.args.tree.root 3 in
-    let is : c.span-step.result ≡ span (height_of c.args.tree.root - 1) = c.span-step.ensures ∙ sym (span-is (bit_and c.args.tree.root 7 - 1)) ∙ ap (λ h. span (h - 1)) mask in
-    let high : height_of c.args.tree.root ≡ suc (height_of c.args.tree.root - 1) = omega (arith, mask, c.if-height-eq0.false) in
+    let is : c.span-step.result ≡ span (height_of c.args.tree.root - 1) = c.span-step.ensures ∙ sym (span-is (c.height-height.result - 1)) ∙ ap (λ h. span (h - 1)) c.height-height.ensures in
+    let high : height_of c.args.tree.root ≡ suc (height_of c.args.tree.root - 1) = omega (arith, c.height-height.ensures, c.if-height-eq0.false) in
     let live : c.loop-slot.slot * span (height_of c.args.tree.root - 1) < c.args.tree.size =
-    slot_live image c.args.tree.root c.args.tree.size (height_of c.args.tree.root - 1) c.args.cut c.requires.sound c.if-tree-cut.false c.if-top-eq0.false high c.loop-slot.slot (rw is at c.loop-slot-test.true) in
-    let lower : height_of c.in-Some.below.root ≡ height_of c.args.tree.root - 1 = ap height_of c.in-Some.ensures.root ∙ child_is_lower image c.args.tree.root c.args.tree.size (height_of c.args.tree.root - 1) c.args.cut c.requires.sound c.if-tree-cut.false c.if-top-eq0.false high c.loop-slot.slot live in (
+    slot_live image c.args.tree.root c.args.tree.size (height_of c.args.tree.root - 1) c.args.cut c.requires.sound c.if-tree-cut.false (rw c.block-top.ensures at c.if-top-eq0.false) high c.loop-slot.slot (rw is at c.loop-slot-test.true) in
+    let lower : height_of c.in-Some.below.root ≡ height_of c.args.tree.root - 1 = ap height_of c.in-Some.ensures.root ∙ child_is_lower image c.args.tree.root c.args.tree.size (height_of c.args.tree.root - 1) c.args.cut c.requires.sound c.if-tree-cut.false (rw c.block-top.ensures at c.if-top-eq0.false) high c.loop-slot.slot live in (
       omega (arith, c.decreases, lower, high),
       (
         within,
         (
-          rw (c.in-Some.ensures.root, c.in-Some.ensures.size) (child_is_sound image c.args.tree.root c.args.tree.size (height_of c.args.tree.root - 1) c.args.cut c.requires.sound c.if-tree-cut.false c.if-top-eq0.false high c.loop-slot.slot live),
+          rw (c.in-Some.ensures.root, c.in-Some.ensures.size) (child_is_sound image c.args.tree.root c.args.tree.size (height_of c.args.tree.root - 1) c.args.cut c.requires.sound c.if-tree-cut.false (rw c.block-top.ensures at c.if-top-eq0.false) high c.loop-slot.slot live),
           (
             c.loop-slot.invariant.room ∙ c.requires.room,
-            rw (c.in-Some.ensures.root, c.in-Some.ensures.size) (not_yet image c.args.tree.root c.args.tree.size (height_of c.args.tree.root - 1) c.args.cut c.requires.sound c.if-tree-cut.false c.if-top-eq0.false high c.loop-slot.slot c.args.blocks.now c.loop-slot.blocks live c.requires.taken c.loop-slot.invariant),
+            rw (c.in-Some.ensures.root, c.in-Some.ensures.size) (not_yet image c.args.tree.root c.args.tree.size (height_of c.args.tree.root - 1) c.args.cut c.requires.sound c.if-tree-cut.false (rw c.block-top.ensures at c.if-top-eq0.false) high c.loop-slot.slot c.args.blocks.now c.loop-slot.blocks live c.requires.taken c.loop-slot.invariant),
           ),
         ),
       ),
@@ -80,22 +77,21 @@ give_back-requires g t c κs within =
 pub loop-slot-preserved : goal.loop-slot-preserved
 loop-slot-preserved g t c =
     let image = current_words (g.R.Region.memory c.args.region.now) in
-    let mask : bit_and c.args.tree.root 7 ≡ height_of c.args.tree.root = and_mask c.args.tree.root 3 in
-    let is : c.span-step.result ≡ span (height_of c.args.tree.root - 1) = c.span-step.ensures ∙ sym (span-is (bit_and c.args.tree.root 7 - 1)) ∙ ap (λ h. span (h - 1)) mask in
-    let high : height_of c.args.tree.root ≡ suc (height_of c.args.tree.root - 1) = omega (arith, mask, c.if-height-eq0.false) in
+    let is : c.span-step.result ≡ span (height_of c.args.tree.root - 1) = c.span-step.ensures ∙ sym (span-is (c.height-height.result - 1)) ∙ ap (λ h. span (h - 1)) c.height-height.ensures in
+    let high : height_of c.args.tree.root ≡ suc (height_of c.args.tree.root - 1) = omega (arith, c.height-height.ensures, c.if-height-eq0.false) in
     let live : c.loop-slot.slot * span (height_of c.args.tree.root - 1) < c.args.tree.size =
-    slot_live image c.args.tree.root c.args.tree.size (height_of c.args.tree.root - 1) c.args.cut c.requires.sound c.if-tree-cut.false c.if-top-eq0.false high c.loop-slot.slot (rw is at c.loop-slot-test.true) in
+    slot_live image c.args.tree.root c.args.tree.size (height_of c.args.tree.root - 1) c.args.cut c.requires.sound c.if-tree-cut.false (rw c.block-top.ensures at c.if-top-eq0.false) high c.loop-slot.slot (rw is at c.loop-slot-test.true) in
     elim c.match-subtree.branch [
       | in-Some w ↦
           let cut : w.saturating_sub.result ≡ c.args.cut - c.loop-slot.slot * span (height_of c.args.tree.root - 1) = w.saturating_sub.ensures ∙ ap (λ s. c.args.cut - c.loop-slot.slot * s) is in
           rw w.blocks-is
-          (slots_step image c.args.tree.root c.args.tree.size (height_of c.args.tree.root - 1) c.args.cut c.requires.sound c.if-tree-cut.false c.if-top-eq0.false high c.loop-slot.slot c.args.blocks.now c.loop-slot.blocks w.give_back.new.blocks live c.loop-slot.invariant
+          (slots_step image c.args.tree.root c.args.tree.size (height_of c.args.tree.root - 1) c.args.cut c.requires.sound c.if-tree-cut.false (rw c.block-top.ensures at c.if-top-eq0.false) high c.loop-slot.slot c.args.blocks.now c.loop-slot.blocks w.give_back.new.blocks live c.loop-slot.invariant
           (rw (w.in-Some.ensures.root, w.in-Some.ensures.size, cut) at w.give_back.ensures))
       | in-None w ↦
           let low : height_of c.args.tree.root - 1 < 4096 = omega arith in
           let null : block_of (child image (block_of c.args.tree.root) (height_of c.args.tree.root - 1) c.loop-slot.slot) ≡ 0 = omega (arith, low, w.in-None.ensures.none) in
           rw w.blocks-is
-          (slots_step image c.args.tree.root c.args.tree.size (height_of c.args.tree.root - 1) c.args.cut c.requires.sound c.if-tree-cut.false c.if-top-eq0.false high c.loop-slot.slot c.args.blocks.now c.loop-slot.blocks c.loop-slot.blocks live c.loop-slot.invariant
+          (slots_step image c.args.tree.root c.args.tree.size (height_of c.args.tree.root - 1) c.args.cut c.requires.sound c.if-tree-cut.false (rw c.block-top.ensures at c.if-top-eq0.false) high c.loop-slot.slot c.args.blocks.now c.loop-slot.blocks c.loop-slot.blocks live c.loop-slot.invariant
           (gives_none _ c.loop-slot.blocks (λ b. null_cut image (child image (block_of c.args.tree.root) (height_of c.args.tree.root - 1) c.loop-slot.slot) (piece c.args.tree.size (height_of c.args.tree.root - 1) c.loop-slot.slot)
           (c.args.cut - c.loop-slot.slot * span (height_of c.args.tree.root - 1)) b null)))
     ]
@@ -103,10 +99,9 @@ loop-slot-preserved g t c =
 pub returns : goal.returns
 returns g t c =
     let image = current_words (g.R.Region.memory c.args.region.now) in
-    let mask : bit_and c.args.tree.root 7 ≡ height_of c.args.tree.root = and_mask c.args.tree.root 3 in
-    let is : c.span-step.result ≡ span (height_of c.args.tree.root - 1) = c.span-step.ensures ∙ sym (span-is (bit_and c.args.tree.root 7 - 1)) ∙ ap (λ h. span (h - 1)) mask in
-    let high : height_of c.args.tree.root ≡ suc (height_of c.args.tree.root - 1) = omega (arith, mask, c.if-height-eq0.false) in
-    let order : c.args.cut / span (height_of c.args.tree.root - 1) ≤ (c.args.tree.size - 1) / span (height_of c.args.tree.root - 1) + 1 = slots_order image c.args.tree.root c.args.tree.size (height_of c.args.tree.root - 1) c.args.cut c.requires.sound c.if-tree-cut.false c.if-top-eq0.false high in
+    let is : c.span-step.result ≡ span (height_of c.args.tree.root - 1) = c.span-step.ensures ∙ sym (span-is (c.height-height.result - 1)) ∙ ap (λ h. span (h - 1)) c.height-height.ensures in
+    let high : height_of c.args.tree.root ≡ suc (height_of c.args.tree.root - 1) = omega (arith, c.height-height.ensures, c.if-height-eq0.false) in
+    let order : c.args.cut / span (height_of c.args.tree.root - 1) ≤ (c.args.tree.size - 1) / span (height_of c.args.tree.root - 1) + 1 = slots_order image c.args.tree.root c.args.tree.size (height_of c.args.tree.root - 1) c.args.cut c.requires.sound c.if-tree-cut.false (rw c.block-top.ensures at c.if-top-eq0.false) high in
     let low : c.loop-slot.slot ≤ (c.args.tree.size - 1) / c.span-step.result + 1 = c.loop-slot.auto.slot-end (rw is order) in
     let end : c.loop-slot.slot ≡ (c.args.tree.size - 1) / span (height_of c.args.tree.root - 1) + 1 = le_antisymm (rw is at low) (rw is at c.loop-slot-test.false) in
-    slots_end image c.args.tree.root c.args.tree.size (height_of c.args.tree.root - 1) c.args.cut c.requires.sound c.if-tree-cut.false c.if-top-eq0.false high c.args.blocks.now c.loop-slot.blocks (rw end at c.loop-slot.invariant)
+    slots_end image c.args.tree.root c.args.tree.size (height_of c.args.tree.root - 1) c.args.cut c.requires.sound c.if-tree-cut.false (rw c.block-top.ensures at c.if-top-eq0.false) high c.args.blocks.now c.loop-slot.blocks (rw end at c.loop-slot.invariant)

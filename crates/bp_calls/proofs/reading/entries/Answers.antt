@@ -2,7 +2,6 @@ use Rattle.std.proofs.Common.{◌≡◌, ◌≢◌, ℕ, [], ◌∷◌, ◌++◌
 use Rattle.std.proofs.lemmas.List.{map-append}
 use Rattle.bp_layout.specs.Directory.{inumber_in, inumber_at, name_in, name_at}
 use Rattle.bp_layout.specs.Inode.{kind_of, root_of}
-use Rattle.bp_layout.specs.Listing.{listed}
 use Rattle.bp_layout.specs.Words.{Image}
 use Rattle.pm_region.specs.Memory.{current_words}
 use Rattle.bp_calls.specs.Asked.{kind_seen}
@@ -54,10 +53,9 @@ loop-slot-preserved g c =
           let kind : w.get-kind.result.kind ≡ kind_seen (kind_of image (inumber_at image c.args.i slot)) =
           kind_from_word _ _ w.get-kind.ensures.kind ∙ ap (λ j. kind_seen (kind_of image j)) (sym inumber) in
           let name : w.in-Some.field-0.name.items ≡ name_at image c.args.i slot = w.in-Some.ensures.name ∙ ap (λ r. name_in image r slot) root in
-          ap (λ v. listed v.items) w.names-is ∙ ap listed w.in_ok-push.ensures.items
-          ∙ map-append _ c.loop-slot.names.items _
-          ∙ ap₂ (λ xs x. xs ++ x ∷ []) c.loop-slot.invariant (ap₂ (λ k n. (k, n)) kind name)
+          w.listing-is ∙ w.in_ok-push.ensures.pushed
+          ∙ ap₂ (λ xs x. xs ++ x ∷ []) c.loop-slot.invariant (ap₂ (λ k n. (k, n)) kind (w.as_slice.ensures.value ∙ name))
           ∙ sym (entries_seen-one image c.args.i slot (λ none. w.in-Some.ensures.some (sym inumber ∙ none)))
       | in_default w ↦
-          ap (λ v. listed v.items) w.names-is ∙ c.loop-slot.invariant ∙ sym (entries_seen-empty image c.args.i slot (ap (λ r. inumber_in image r slot) (sym root) ∙ w.in_default.ensures.none))
+          w.listing-is ∙ c.loop-slot.invariant ∙ sym (entries_seen-empty image c.args.i slot (ap (λ r. inumber_in image r slot) (sym root) ∙ w.in_default.ensures.none))
     ]

@@ -1,8 +1,7 @@
 use Rattle.std.proofs.Common.{◌≡◌}
-use Rattle.bp_layout.specs.Listing.{listed}
 use Rattle.pm_region.specs.Memory.{current_words}
 use Rattle.bp_calls.specs.Asked.{entries_seen}
 use Rattle.bp_calls.proofs.reading.entries.Given as goal
 
 abbrev pub invariant-loop-slot : goal.invariant-loop-slot
-invariant-loop-slot g l = listed l.names.items ≡ entries_seen (current_words (g.R.Region.memory l.region)) l.i l.slot
+invariant-loop-slot g l = l.listing ≡ entries_seen (current_words (g.R.Region.memory l.region)) l.i l.slot

@@ -1,9 +1,13 @@
-use Rattle.std.proofs.Common.{◌*◌}
+use Rattle.std.proofs.Common.{◌-◌, ◌*◌, ◌≤◌}
 use Rattle.std.specs.List.{slice_index}
 use Rattle.bp_cow.specs.Copies.{HoldsFront}
 use Rattle.bp_cow.proofs.copies.store_block.Given as goal
 
-abbrev pub invariant-loop-part : goal.invariant-loop-part
-invariant-loop-part g l = record {
-  front : HoldsFront l.to (slice_index l.words) (8 * l.part) (g.R.Region.memory l.fn.region) (g.R.Region.memory l.region);
+abbrev pub invariant-loop-piece : goal.invariant-loop-piece
+invariant-loop-piece g l = record {
+  most : l.piece ≤ 64;
+  front : HoldsFront l.to (slice_index l.words) (8 * l.piece) (g.R.Region.memory l.fn.region) (g.R.Region.memory l.region);
 }
+
+abbrev pub decreases-loop-piece : goal.decreases-loop-piece
+decreases-loop-piece g l = 64 - l.piece

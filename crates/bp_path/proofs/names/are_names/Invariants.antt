@@ -1,14 +1,10 @@
-use Rattle.std.proofs.Common.{◌≡◌, length, true}
+use Rattle.std.proofs.Common.{◌≡◌, length}
 use Rattle.std.specs.List.{list_all}
 use Rattle.bp_layout.specs.PathText.{is_name, parts}
-use Rattle.bp_path.proofs.PlainBytes.{not_zero}
 use Rattle.bp_path.proofs.names.are_names.Given as goal
 
 abbrev pub invariant-loop-end : goal.invariant-loop-end
-invariant-loop-end l = record {
-  same : list_all is_name (parts l.rest) ≡ list_all is_name (parts l.text);
-  some : list_all not_zero l.rest ≡ true;
-}
+invariant-loop-end l = list_all is_name (parts l.rest) ≡ list_all is_name (parts l.text)
 
 abbrev pub decreases-loop-end : goal.decreases-loop-end
 decreases-loop-end l = length l.rest

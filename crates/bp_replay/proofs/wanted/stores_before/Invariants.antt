@@ -6,6 +6,7 @@ abbrev pub invariant-loop-i : goal.invariant-loop-i
 invariant-loop-i g l =
     let taken = take l.moment (g.R.Region.memory l.region).events in
     record {
+      within : l.i ≤ l.moment;
       few : l.count ≤ l.i;
-      so_far : l.count + epoch_stores l.left (drop l.i taken) ≡ epoch_stores l.epoch taken;
+      so_far : l.count + epoch_stores 0 (drop l.i taken) ≡ epoch_stores l.epoch taken;
     }

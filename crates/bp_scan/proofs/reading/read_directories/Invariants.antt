@@ -1,4 +1,4 @@
-use Rattle.std.proofs.Common.{◌≡◌, length}
+use Rattle.std.proofs.Common.{◌≡◌, ◌≤◌, length, vec_capacity}
 use Rattle.pm_region.specs.Memory.{current_words}
 use Rattle.bp_scan.specs.Reading.{IsReading, work}
 use Rattle.bp_scan.proofs.reading.read_directories.Given as goal
@@ -10,7 +10,7 @@ invariant-loop-inode g l = record {
   block_room : length l.blocks ≡ length l.initial.blocks;
   inode_room : length l.inodes ≡ length l.initial.inodes;
   todo_room : length l.todo ≡ length l.initial.todo;
-  entry_room : length l.entries ≡ length l.initial.entries;
+  entry_room : vec_capacity l.initial.entries ≤ vec_capacity l.entries;
 }
 
 abbrev pub decreases-loop-inode : goal.decreases-loop-inode

@@ -4,7 +4,7 @@ use Rattle.bp_layout.specs.Inode.{root_of, size_of, inode_count}
 use Rattle.bp_layout.specs.Reached.IsReached.{inode_file}
 use Rattle.bp_layout.specs.Words.{Image, block_count}
 use Rattle.bp_layout.specs.WellFormed.{IsWellFormed}
-use Rattle.bp_inodes.proofs.FewInodes.{few_inodes}
+use Rattle.bp_layout.proofs.FewLeaves.{few_inodes}
 use Rattle.pm_region.specs.Memory.{current_words}
 use Rattle.bp_scan.specs.Counted.{HasCounted}
 use Rattle.bp_scan.proofs.Counting.{few_free, has_totals}

@@ -1,5 +1,5 @@
 use Rattle.bp_spelling.specs.Tables.IsStop.{untold}
 use Rattle.bp_spelling.proofs.checking.try_table.Goals as goal
 
-pub returns-then-cells-entries-clause-err : goal.returns-then-cells-entries-clause-err
-returns-then-cells-entries-clause-err g c = untold
+pub returns-then-table-le-REACH-clause-err : goal.returns-then-table-le-REACH-clause-err
+returns-then-table-le-REACH-clause-err g c = untold

@@ -3,5 +3,5 @@ use Rattle.pm_region.specs.Memory.{current_words}
 use Rattle.bp_spelling.specs.Hashes.{hash_state}
 use Rattle.bp_spelling.proofs.hashing.hash_name.Given as goal
 
-abbrev pub invariant-loop-part : goal.invariant-loop-part
-invariant-loop-part g l = l.state ≡ hash_state (current_words (g.R.Region.memory l.region)) l.place l.part
+abbrev pub invariant-loop-word : goal.invariant-loop-word
+invariant-loop-word g l = l.state ≡ hash_state (current_words (g.R.Region.memory l.region)) l.place l.word-index

@@ -1,5 +1,4 @@
-use Rattle.std.proofs.Common.{◌≡◌, ◌<◌, ◌-◌, bit_and, ◌∙◌, ap, arith}
-use Rattle.std.proofs.lemmas.Nat.{and_mask}
+use Rattle.std.proofs.Common.{◌≡◌, ◌<◌, ◌-◌, ◌∙◌, ap, arith}
 use Rattle.bp_layout.specs.Words.{block_count, height_of}
 use Rattle.bp_layout.specs.Tree.{node, word_at}
 use Rattle.pm_region.specs.Memory.{current_words}
@@ -13,7 +12,6 @@ overflow_cast-result g c =
     let image = current_words memory in
     let below : node image c.args.tree.root (height_of c.args.tree.root - c.args.level) c.args.index < block_count image =
     c.requires.sound.in_range _ _ (pointer_at c.args.tree.root c.args.tree.size c.args.level c.args.index c.requires.level c.requires.live) in
-    let mask : bit_and c.args.tree.root 7 ≡ height_of c.args.tree.root = and_mask c.args.tree.root 3 in
     let reached : c.descend.result ≡ word_at image c.args.tree.root (height_of c.args.tree.root - c.args.level) c.args.index =
-    c.descend.ensures ∙ ap (λ h. word_at image c.args.tree.root (h - c.args.level) c.args.index) mask in
+    c.descend.ensures ∙ ap (λ h. word_at image c.args.tree.root (h - c.args.level) c.args.index) c.height.ensures in
     omega (arith, below, length_now memory, reached)

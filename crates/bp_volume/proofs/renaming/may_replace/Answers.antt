@@ -38,7 +38,7 @@ pub get-target-requires-clause-most : goal.get-target-requires-clause-most
 get-target-requires-clause-most g c = (inode_found _ c.requires.well_formed c.requires.found.target_path _ (c.requires.found.are.target.there c.args.there c.requires.there).inode).most
 
 pub is_empty-requires : goal.is_empty-requires
-is_empty-requires g c = rw (c.get-target.ensures.root, c.get-target.ensures.size) (c.requires.well_formed.sound c.args.there.inumber (reached_at _ c.requires.well_formed c.requires.found.target_path _ (c.requires.found.are.target.there c.args.there c.requires.there).inode))
+is_empty-requires g c = rw (c.of-tree.ensures.root ∙ c.get-target.ensures.root, c.of-tree.ensures.size ∙ c.get-target.ensures.size) (c.requires.well_formed.sound c.args.there.inumber (reached_at _ c.requires.well_formed c.requires.found.target_path _ (c.requires.found.are.target.there c.args.there c.requires.there).inode))
 
 pub returns-in-File-kind-clause-leaves : goal.returns-in-File-kind-clause-leaves
 returns-in-File-kind-clause-leaves g c = file_leaves _ c.args.to.now _ _ _ (target_entry _ c.args.from.now c.args.to.now c.args.ends.now c.requires.found c.args.there c.requires.there) (sym c.get-target.ensures.kind ∙ ap kind_word c.in-File.is)
@@ -55,16 +55,16 @@ returns-in-File-kind-2-clause-refused g c = found_stops _ c.args.from.now c.args
 pub returns-then-is_empty-clause-leaves : goal.returns-then-is_empty-clause-leaves
 returns-then-is_empty-clause-leaves g c =
     directory_leaves _ c.args.to.now _ _ _ (target_entry _ c.args.from.now c.args.to.now c.args.ends.now c.requires.found c.args.there c.requires.there)
-    (rw (c.get-target.ensures.root, c.get-target.ensures.size) at (c.is_empty.ensures.0 c.if-is_empty.true))
+    (rw (c.of-tree.ensures.root ∙ c.get-target.ensures.root, c.of-tree.ensures.size ∙ c.get-target.ensures.size) at (c.is_empty.ensures.0 c.if-is_empty.true))
 
 pub returns-then-is_empty-clause-allowed : goal.returns-then-is_empty-clause-allowed
 returns-then-is_empty-clause-allowed g c =
     found_goes _ c.args.from.now c.args.to.now c.args.ends.now c.requires.found
     (empty_goes _ c.requires.found.source_path c.requires.found.target_path c.args.ends.now c.requires.found.are c.args.there c.requires.there (sym c.get-source.ensures.kind ∙ ap kind_word c.in-Dir-kind-2.is) (sym c.get-target.ensures.kind ∙ ap kind_word c.in-Dir.is)
-    (rw (c.get-target.ensures.root, c.get-target.ensures.size) at (c.is_empty.ensures.0 c.if-is_empty.true)))
+    (rw (c.of-tree.ensures.root ∙ c.get-target.ensures.root, c.of-tree.ensures.size ∙ c.get-target.ensures.size) at (c.is_empty.ensures.0 c.if-is_empty.true)))
 
 pub returns-else-is_empty-clause-refused : goal.returns-else-is_empty-clause-refused
 returns-else-is_empty-clause-refused g c =
     found_stops _ c.args.from.now c.args.to.now c.args.ends.now c.requires.found _
     (not_empty_stops _ c.requires.found.source_path c.requires.found.target_path c.args.ends.now c.requires.found.are c.args.there c.requires.there (other_ends _ c.requires.found.source_path c.requires.found.target_path c.args.ends.now c.requires.found.are c.requires.other) (sym c.get-source.ensures.kind ∙ ap kind_word c.in-Dir-kind-2.is) (sym c.get-target.ensures.kind ∙ ap kind_word c.in-Dir.is)
-    (λ none. true≢false (sym (c.is_empty.ensures.1 (rw (c.get-target.ensures.root, c.get-target.ensures.size) none)) ∙ c.if-is_empty.false)))
+    (λ none. true≢false (sym (c.is_empty.ensures.1 (rw (c.of-tree.ensures.root ∙ c.get-target.ensures.root, c.of-tree.ensures.size ∙ c.get-target.ensures.size) none)) ∙ c.if-is_empty.false)))

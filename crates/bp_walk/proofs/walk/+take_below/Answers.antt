@@ -1,4 +1,5 @@
-use Rattle.std.proofs.Common.{rules, ◌≡◌, ◌≢◌, ℕ, suc, ◌+◌, ◌*◌, ◌%◌, ◌<◌, false, get_or, sym, ◌∙◌, ap, subst, arith}
+use Rattle.std.proofs.Common.{rules, ◌≡◌, ◌≢◌, ℕ, suc, ◌+◌, ◌-◌, ◌*◌, ◌%◌, ◌<◌, ◌≤◌, false, length, get_or, sym, ◌∙◌, ap, subst, arith, inl, inr}
+use Rattle.std.proofs.lemmas.Bool.{cases_eq}
 use Rattle.std.proofs.lemmas.Nat.{and_mask}
 use Rattle.bp_layout.specs.Words.{word, block_count, height_of}
 use Rattle.bp_layout.specs.Tree.{node, covered, IsLivePointer}
@@ -8,8 +9,8 @@ use Rattle.bp_tree.proofs.RegionWords.{length_now}
 use Rattle.bp_walk.specs.Walk.{WalksBelow, IsPlace}
 use Rattle.bp_walk.specs.Walk.FailsBelow.{bits}
 use Rattle.bp_walk.proofs.Below.{rest, small_number, covered_most, child_below, child_of, child_word}
-use Rattle.bp_walk.proofs.Pointers.{claimed_room, claimed_less, claimed_out, claimed_node, claimed_passes, claimed_step, claimed_leaf, claimed_present, claimed_fails, null_step, refused_below, within_blocks}
-use Rattle.bp_walk.proofs.Places.{loaded}
+use Rattle.bp_walk.proofs.Pointers.{claimed_room, claimed_less, claimed_out, claimed_node, claimed_passes, claimed_step, claimed_leaf, claimed_present, claimed_fails, null_steps, refused_below, within_blocks}
+use Rattle.bp_walk.proofs.Places.{loaded, loaded_length}
 use Rattle.bp_walk.proofs.LiveSlots.{covered_some}
 use Rattle.bp_walk.proofs.walk.+take_below.Goals.{else-pointer-eq0-via-then-pointer-eq0+else-holes, else-pointer-eq0-via-else-pointer-eq0}
 use Rattle.bp_walk.proofs.walk.+take_below.Goals as goal
@@ -23,14 +24,30 @@ load_words-pointers-requires g t c =
 pub loop-slot-preserved-then-holes : goal.loop-slot-preserved-then-holes
 loop-slot-preserved-then-holes g t c =
     let image = current_words (g.R.Region.memory c.args.region.now) in
-    let pointer : ℕ = get_or c.load_words-pointers.result.now c.loop-slot.slot 0 in
-    let read : pointer ≡ word image (512 * c.args.top.block + c.loop-slot.slot) = loaded image c.load_words-pointers.result.now (512 * c.args.top.block) c.live_slots-live.result c.loop-slot.slot c.load_words-pointers.ensures c.loop-slot-test.true in
-    let low : c.loop-slot.slot < 512 = omega (arith, c.loop-slot-test.true, c.live_slots-live.ensures.most) in
-    let child : IsPlace image 0 c.args.tree.root c.args.tree.size (suc c.args.top.depth) (512 * c.args.top.index + c.loop-slot.slot) (512 * c.args.top.block + c.loop-slot.slot) =
-    child_of image c.args.tree.root c.args.tree.size c.args.top.depth c.args.top.index c.loop-slot.slot c.args.top.block c.args.top.level low c.requires.above c.requires.height
-    (c.live_slots-live.ensures.live c.loop-slot.slot c.loop-slot-test.true) c.requires.fits c.requires.followed c.requires.passes c.requires.block c.requires.present in
-    let some : c.args.top.block < block_count image = subst (λ x. x < block_count image) c.requires.block (within_blocks image c.args.tree.root c.args.top.depth c.args.top.index c.requires.passes) in
-    null_step image c.args.tree.root c.args.tree.size c.args.holes c.args.top.depth c.args.top.index c.args.top.block c.loop-slot.slot c.args.blocks.now c.loop-slot.blocks c.requires.block low c.requires.taken child c.loop-slot.invariant pointer read c.requires.room some c.if-holes.true c.if-pointer-eq0.true
+    let slot = c.loop-slot.slot in
+    let next = c.past_nulls-slot.result in
+    let block = c.args.top.block in
+    let live = c.live_slots-live.result in
+    let words = c.load_words-pointers.result.now in
+    let some : block < block_count image = subst (λ x. x < block_count image) c.requires.block (within_blocks image c.args.tree.root c.args.top.depth c.args.top.index c.requires.passes) in
+    let inside : 512 * block + live ≤ length image = omega (arith, some, c.live_slots-live.ensures.most, c.requires.whole) in
+    let long : length words ≡ live = loaded_length image words (512 * block) live c.load_words-pointers.ensures inside in
+    let end : slot + (next - slot) ≡ next = omega (arith, c.past_nulls-slot.ensures.further) in
+    let below : (r : ℕ) → r < slot + (next - slot) → r < live = λ r low. omega (arith, low, end, long, c.past_nulls-slot.ensures.most) in
+    let places : (r : ℕ) → slot ≤ r → r < slot + (next - slot) → IsPlace image 0 c.args.tree.root c.args.tree.size (suc c.args.top.depth) (512 * c.args.top.index + r) (512 * block + r) =
+    λ r order low. child_of image c.args.tree.root c.args.tree.size c.args.top.depth c.args.top.index r block c.args.top.level (omega (arith, below r low, c.live_slots-live.ensures.most)) c.requires.above c.requires.height
+    (c.live_slots-live.ensures.live r (below r low)) c.requires.fits c.requires.followed c.requires.passes c.requires.block c.requires.present in
+    let null : (r : ℕ) → slot ≤ r → r < slot + (next - slot) → word image (512 * block + r) ≡ 0 =
+    λ r order low. sym (loaded image words (512 * block) live r c.load_words-pointers.ensures (below r low)) ∙ elim (cases_eq r slot) [
+      | inl here ↦ ap (λ k. get_or words k 0) here ∙ c.if-pointer-eq0.true
+      | inr apart ↦ c.past_nulls-slot.ensures.nulls r (omega (arith, order, apart)) (omega (arith, low, end))
+    ] in
+    record {
+      most = omega (arith, long, c.past_nulls-slot.ensures.most);
+      walks = subst (λ (t : ℕ). WalksBelow image 0 c.args.tree.root c.args.tree.size c.args.holes c.args.top.depth c.args.top.index t c.args.blocks.now c.loop-slot.blocks) end
+          (null_steps image c.args.tree.root c.args.tree.size c.args.holes c.args.top.depth c.args.top.index block c.args.blocks.now c.loop-slot.blocks c.requires.block c.requires.taken c.requires.room some c.if-holes.true slot
+          c.loop-slot.invariant.walks (next - slot) (omega (arith, end, long, c.past_nulls-slot.ensures.most, c.live_slots-live.ensures.most)) places null);
+    }
 
 pub returns-then-pointer-ne0-clause-err : goal.returns-then-pointer-ne0-clause-err
 returns-then-pointer-ne0-clause-err g t c =
@@ -53,7 +70,7 @@ returns-in-Err-clause-err g t c =
     let child : IsPlace image 0 c.args.tree.root c.args.tree.size (suc c.args.top.depth) (512 * c.args.top.index + c.loop-slot.slot) (512 * c.args.top.block + c.loop-slot.slot) =
     child_of image c.args.tree.root c.args.tree.size c.args.top.depth c.args.top.index c.loop-slot.slot c.args.top.block c.args.top.level low c.requires.above c.requires.height
     (c.live_slots-live.ensures.live c.loop-slot.slot c.loop-slot-test.true) c.requires.fits c.requires.followed c.requires.passes c.requires.block c.requires.present in
-    rw c.in-Err.ensures.place (refused_below image c.args.tree.root c.args.tree.size c.args.holes c.args.top.depth c.args.top.index c.args.top.block c.loop-slot.slot c.args.blocks.now c.loop-slot.blocks c.requires.block low c.requires.taken child c.loop-slot.invariant pointer read c.requires.room c.in-Err.fault.check c.in-Err.ensures.err)
+    rw c.in-Err.ensures.place (refused_below image c.args.tree.root c.args.tree.size c.args.holes c.args.top.depth c.args.top.index c.args.top.block c.loop-slot.slot c.args.blocks.now c.loop-slot.blocks c.requires.block low c.requires.taken child c.loop-slot.invariant.walks pointer read c.requires.room c.in-Err.fault.check c.in-Err.ensures.err)
 
 pub loop-slot-preserved-then-top-eq1 : goal.loop-slot-preserved-then-top-eq1
 loop-slot-preserved-then-top-eq1 g t c =
@@ -65,17 +82,17 @@ loop-slot-preserved-then-top-eq1 g t c =
     child_of image c.args.tree.root c.args.tree.size c.args.top.depth c.args.top.index c.loop-slot.slot c.args.top.block c.args.top.level low c.requires.above c.requires.height
     (c.live_slots-live.ensures.live c.loop-slot.slot c.loop-slot-test.true) c.requires.fits c.requires.followed c.requires.passes c.requires.block c.requires.present in
     let bits : pointer % 4096 ≡ 0 = sym (and_mask pointer 12) ∙ c.if-pointer-ne0.false in
-    claimed_leaf image c.args.tree.root c.args.tree.size c.args.holes c.args.top.depth c.args.top.index c.args.top.block c.loop-slot.slot c.args.blocks.now c.loop-slot.blocks c.requires.block low c.requires.taken child c.loop-slot.invariant pointer read c.requires.room c.claim_pointed.new.blocks c.in-Ok.block c.in-Ok.ensures.ok (omega (arith, c.requires.height, c.if-top-eq1.true)) bits
+    record { most = omega (arith, c.loop-slot-test.true); walks = claimed_leaf image c.args.tree.root c.args.tree.size c.args.holes c.args.top.depth c.args.top.index c.args.top.block c.loop-slot.slot c.args.blocks.now c.loop-slot.blocks c.requires.block low c.requires.taken child c.loop-slot.invariant.walks pointer read c.requires.room c.claim_pointed.new.blocks c.in-Ok.block c.in-Ok.ensures.ok (omega (arith, c.requires.height, c.if-top-eq1.true)) bits }
 
-pub overflow_add-child-in-loop-slot : goal.overflow_add-child-in-loop-slot
-overflow_add-child-in-loop-slot g t c =
+pub overflow_add-index : goal.overflow_add-index
+overflow_add-index g t c =
     let number : 512 * c.args.top.index + c.loop-slot.slot < c.args.tree.size =
     small_number (512 * c.args.top.index + c.loop-slot.slot) (covered c.args.top.level) c.args.tree.size (covered_some c.args.top.level c.requires.above) (c.live_slots-live.ensures.live c.loop-slot.slot c.loop-slot-test.true) in
     let low : 512 * c.args.top.index + c.loop-slot.slot < 18446744073709551616 = omega (arith, number, c.requires.fits, covered_most (suc (height_of c.args.tree.root)) (omega (arith, c.requires.low))) in
     search (rules, low)
 
-pub overflow_mul-child : goal.overflow_mul-child
-overflow_mul-child g t c =
+pub overflow_mul-index : goal.overflow_mul-index
+overflow_mul-index g t c =
     let number : 512 * c.args.top.index + c.loop-slot.slot < c.args.tree.size =
     small_number (512 * c.args.top.index + c.loop-slot.slot) (covered c.args.top.level) c.args.tree.size (covered_some c.args.top.level c.requires.above) (c.live_slots-live.ensures.live c.loop-slot.slot c.loop-slot-test.true) in
     let low : 512 * c.args.top.index < 18446744073709551616 = omega (arith, number, c.requires.fits, covered_most (suc (height_of c.args.tree.root)) (omega (arith, c.requires.low))) in
@@ -95,10 +112,10 @@ take_below-requires g t c κs within =
       | else-pointer-eq0-via-then-pointer-eq0+else-holes w ↦ w.if-holes.false
       | else-pointer-eq0-via-else-pointer-eq0 w ↦ absurd (w.if-pointer-eq0.false none)
     ] in
-    let present : c.in-Ok.block ≢ 0 = claimed_present image c.args.tree.root c.args.tree.size c.args.holes c.args.top.depth c.args.top.index c.args.top.block c.loop-slot.slot c.args.blocks.now c.loop-slot.blocks c.requires.block low c.requires.taken child c.loop-slot.invariant pointer read c.requires.room c.claim_pointed.new.blocks c.in-Ok.block c.in-Ok.ensures.ok bits full in
+    let present : c.in-Ok.block ≢ 0 = claimed_present image c.args.tree.root c.args.tree.size c.args.holes c.args.top.depth c.args.top.index c.args.top.block c.loop-slot.slot c.args.blocks.now c.loop-slot.blocks c.requires.block low c.requires.taken child c.loop-slot.invariant.walks pointer read c.requires.room c.claim_pointed.new.blocks c.in-Ok.block c.in-Ok.ensures.ok bits full in
     let up : suc c.args.top.depth ≡ c.args.top.depth + 1 = omega arith in
     let index = 512 * c.args.top.index + c.loop-slot.slot in
-    (omega (arith, c.decreases, c.requires.above), (within, (c.requires.whole, (c.requires.most, (claimed_room pointer c.args.holes c.loop-slot.blocks c.claim_pointed.new.blocks c.in-Ok.block c.in-Ok.ensures.ok ∙ c.loop-slot.invariant.takes.room ∙ c.requires.room, (claimed_less pointer c.args.holes c.loop-slot.blocks c.claim_pointed.new.blocks c.in-Ok.block c.in-Ok.ensures.ok 0 (c.loop-slot.invariant.takes.less 0 c.requires.not_first), (omega (arith, c.requires.height, c.requires.above), (c.requires.low, (c.requires.fits, (omega (arith, c.requires.above, c.if-top-eq1.false), (subst (λ (x : ℕ). IsLivePointer c.args.tree.root c.args.tree.size x index) up child.live, (subst (λ (x : ℕ). IsFollowed image c.args.tree.root c.args.tree.size x index) up child.followed, (subst (λ (x : ℕ). Passes image c.args.tree.root x index) up (claimed_passes image c.args.tree.root c.args.tree.size c.args.holes c.args.top.depth c.args.top.index c.args.top.block c.loop-slot.slot c.args.blocks.now c.loop-slot.blocks c.requires.block low c.requires.taken child c.loop-slot.invariant pointer read c.requires.room c.claim_pointed.new.blocks c.in-Ok.block c.in-Ok.ensures.ok bits), (subst (λ (x : ℕ). node image c.args.tree.root x index ≡ c.in-Ok.block) up (claimed_node image c.args.tree.root c.args.tree.size c.args.holes c.args.top.depth c.args.top.index c.args.top.block c.loop-slot.slot c.args.blocks.now c.loop-slot.blocks c.requires.block low c.requires.taken child c.loop-slot.invariant pointer read c.requires.room c.claim_pointed.new.blocks c.in-Ok.block c.in-Ok.ensures.ok), (present, claimed_out pointer c.args.holes c.loop-slot.blocks c.claim_pointed.new.blocks c.in-Ok.block c.in-Ok.ensures.ok (c.loop-slot.invariant.takes.less 0 c.requires.not_first))))))))))))))))
+    (omega (arith, c.decreases, c.requires.above), (within, (c.requires.whole, (c.requires.most, (claimed_room pointer c.args.holes c.loop-slot.blocks c.claim_pointed.new.blocks c.in-Ok.block c.in-Ok.ensures.ok ∙ c.loop-slot.invariant.walks.takes.room ∙ c.requires.room, (claimed_less pointer c.args.holes c.loop-slot.blocks c.claim_pointed.new.blocks c.in-Ok.block c.in-Ok.ensures.ok 0 (c.loop-slot.invariant.walks.takes.less 0 c.requires.not_first), (omega (arith, c.requires.height, c.requires.above), (c.requires.low, (c.requires.fits, (omega (arith, c.requires.above, c.if-top-eq1.false), (subst (λ (x : ℕ). IsLivePointer c.args.tree.root c.args.tree.size x index) up child.live, (subst (λ (x : ℕ). IsFollowed image c.args.tree.root c.args.tree.size x index) up child.followed, (subst (λ (x : ℕ). Passes image c.args.tree.root x index) up (claimed_passes image c.args.tree.root c.args.tree.size c.args.holes c.args.top.depth c.args.top.index c.args.top.block c.loop-slot.slot c.args.blocks.now c.loop-slot.blocks c.requires.block low c.requires.taken child c.loop-slot.invariant.walks pointer read c.requires.room c.claim_pointed.new.blocks c.in-Ok.block c.in-Ok.ensures.ok bits), (subst (λ (x : ℕ). node image c.args.tree.root x index ≡ c.in-Ok.block) up (claimed_node image c.args.tree.root c.args.tree.size c.args.holes c.args.top.depth c.args.top.index c.args.top.block c.loop-slot.slot c.args.blocks.now c.loop-slot.blocks c.requires.block low c.requires.taken child c.loop-slot.invariant.walks pointer read c.requires.room c.claim_pointed.new.blocks c.in-Ok.block c.in-Ok.ensures.ok), (present, claimed_out pointer c.args.holes c.loop-slot.blocks c.claim_pointed.new.blocks c.in-Ok.block c.in-Ok.ensures.ok (c.loop-slot.invariant.walks.takes.less 0 c.requires.not_first))))))))))))))))
 
 pub returns-in-Err-take_below-clause-err : goal.returns-in-Err-take_below-clause-err
 returns-in-Err-take_below-clause-err g t c =
@@ -114,8 +131,8 @@ returns-in-Err-take_below-clause-err g t c =
       | else-pointer-eq0-via-then-pointer-eq0+else-holes w ↦ w.if-holes.false
       | else-pointer-eq0-via-else-pointer-eq0 w ↦ absurd (w.if-pointer-eq0.false none)
     ] in
-    let present : c.in-Ok.block ≢ 0 = claimed_present image c.args.tree.root c.args.tree.size c.args.holes c.args.top.depth c.args.top.index c.args.top.block c.loop-slot.slot c.args.blocks.now c.loop-slot.blocks c.requires.block low c.requires.taken child c.loop-slot.invariant pointer read c.requires.room c.claim_pointed.new.blocks c.in-Ok.block c.in-Ok.ensures.ok bits full in
-    claimed_fails image c.args.tree.root c.args.tree.size c.args.holes c.args.top.depth c.args.top.index c.args.top.block c.loop-slot.slot c.args.blocks.now c.loop-slot.blocks c.requires.block low c.requires.taken child c.loop-slot.invariant pointer read c.requires.room c.claim_pointed.new.blocks c.in-Ok.block c.in-Ok.ensures.ok c.in-Err-take_below.fault.check c.in-Err-take_below.fault.place present c.in-Err-take_below.ensures.err
+    let present : c.in-Ok.block ≢ 0 = claimed_present image c.args.tree.root c.args.tree.size c.args.holes c.args.top.depth c.args.top.index c.args.top.block c.loop-slot.slot c.args.blocks.now c.loop-slot.blocks c.requires.block low c.requires.taken child c.loop-slot.invariant.walks pointer read c.requires.room c.claim_pointed.new.blocks c.in-Ok.block c.in-Ok.ensures.ok bits full in
+    claimed_fails image c.args.tree.root c.args.tree.size c.args.holes c.args.top.depth c.args.top.index c.args.top.block c.loop-slot.slot c.args.blocks.now c.loop-slot.blocks c.requires.block low c.requires.taken child c.loop-slot.invariant.walks pointer read c.requires.room c.claim_pointed.new.blocks c.in-Ok.block c.in-Ok.ensures.ok c.in-Err-take_below.fault.check c.in-Err-take_below.fault.place present c.in-Err-take_below.ensures.err
 
 pub loop-slot-preserved : goal.loop-slot-preserved
 loop-slot-preserved g t c =
@@ -128,11 +145,14 @@ loop-slot-preserved g t c =
     (c.live_slots-live.ensures.live c.loop-slot.slot c.loop-slot-test.true) c.requires.fits c.requires.followed c.requires.passes c.requires.block c.requires.present in
     let bits : pointer % 4096 ≡ 0 = sym (and_mask pointer 12) ∙ c.if-pointer-ne0.false in
     let down : c.args.top.depth + 1 ≡ suc c.args.top.depth = omega arith in
-    claimed_step image c.args.tree.root c.args.tree.size c.args.holes c.args.top.depth c.args.top.index c.args.top.block c.loop-slot.slot c.args.blocks.now c.loop-slot.blocks c.requires.block low c.requires.taken child c.loop-slot.invariant pointer read c.requires.room c.claim_pointed.new.blocks c.in-Ok.block c.in-Ok.ensures.ok c.take_below.new.blocks bits
-    (subst (λ (x : ℕ). WalksBelow image 0 c.args.tree.root c.args.tree.size c.args.holes x (512 * c.args.top.index + c.loop-slot.slot) 512 c.claim_pointed.new.blocks c.take_below.new.blocks) down c.in_default.ensures.ok)
+    record {
+      most = omega (arith, c.loop-slot-test.true);
+      walks = claimed_step image c.args.tree.root c.args.tree.size c.args.holes c.args.top.depth c.args.top.index c.args.top.block c.loop-slot.slot c.args.blocks.now c.loop-slot.blocks c.requires.block low c.requires.taken child c.loop-slot.invariant.walks pointer read c.requires.room c.claim_pointed.new.blocks c.in-Ok.block c.in-Ok.ensures.ok c.take_below.new.blocks bits
+          (subst (λ (x : ℕ). WalksBelow image 0 c.args.tree.root c.args.tree.size c.args.holes x (512 * c.args.top.index + c.loop-slot.slot) 512 c.claim_pointed.new.blocks c.take_below.new.blocks) down c.in_default.ensures.ok);
+    }
 
 pub returns-clause-ok : goal.returns-clause-ok
 returns-clause-ok g t c =
-    let end : c.loop-slot.slot ≡ c.live_slots-live.result = omega (arith, c.loop-slot.auto.slot-end, c.loop-slot-test.false) in
+    let end : c.loop-slot.slot ≡ c.live_slots-live.result = omega (arith, c.loop-slot.invariant.most, c.loop-slot-test.false) in
     rest (current_words (g.R.Region.memory c.args.region.now)) 0 c.args.tree.root c.args.tree.size c.args.holes c.args.top.depth c.args.top.index c.loop-slot.slot c.args.blocks.now c.loop-slot.blocks (omega (arith, end, c.live_slots-live.ensures.most))
-    (λ r order below live. absurd (omega (arith, end, order, c.live_slots-live.ensures.all r below (child_below c.args.tree.root c.args.tree.size c.args.top.depth c.args.top.index r c.args.top.level c.requires.height live)))) c.loop-slot.invariant
+    (λ r order below live. absurd (omega (arith, end, order, c.live_slots-live.ensures.all r below (child_below c.args.tree.root c.args.tree.size c.args.top.depth c.args.top.index r c.args.top.level c.requires.height live)))) c.loop-slot.invariant.walks

@@ -1,24 +1,114 @@
-use Rattle.std.proofs.Common.{◌≡◌, ◌≤◌, ◌∙◌, ap, arith, length, take}
+use Rattle.std.proofs.Common.{◌≡◌, ◌≤◌, ◌∙◌, ap, arith, drop, length, refl, take}
 use Rattle.std.proofs.lemmas.List.{length-take-le}
-use Rattle.pm_epochs.specs.Log.{barriers}
-use Rattle.pm_raw.specs.Epochs.{epoch_start}
-use Rattle.pm_raw.proofs.EpochLaws.{epoch_start-front, epoch_start-low}
+use Rattle.pm_epochs.specs.Log.{barriers, epoch_stores}
+use Rattle.pm_epochs.specs.Replay.{IsRight}
+use Rattle.pm_region.specs.Epochs.{epoch_start}
+use Rattle.pm_raw.proofs.EpochLaws.{barriers-front, epoch_start-taken, stores-at}
+use Rattle.pm_raw.proofs.PlaceLaws.{barriers-below}
 use Rattle.pm_raw.proofs.crash.start_of.Goals as goal
+use Rattle.pm_raw.proofs.crash.start_of.Goals.{then-moment-len-via-then-moment-len, then-moment-len-via-else-moment-len+then-epoch-before}
 
-pub returns-in-Some-clause-start : goal.returns-in-Some-clause-start
-returns-in-Some-clause-start c =
+pub returns-then-moment-len-clause-right : goal.returns-then-moment-len-clause-right
+returns-then-moment-len-clause-right c =
     let log = c.args.log.now in
     let cut = c.args.choice.now.cut in
-    let front_is : c.front.result ≡ take cut.moment log = c.front.ensures ∙ ap (λ n. take n log) c.moment-2.ensures in
-    let start_is = c.in-Some.ensures.1 ∙ ap (λ n. epoch_start n c.front.result) c.epoch.ensures ∙ ap (epoch_start cut.epoch) front_is in
-    let begun : cut.epoch ≤ barriers (take cut.moment log) = omega (arith, c.in-Some.ensures.0, c.epoch.ensures, ap barriers front_is) in
-    start_is ∙ epoch_start-front cut.moment cut.epoch log begun
+    let places = c.args.barrier_places.now.items in
+    let moment_is : c.moment-moment.result ≡ cut.moment = c.moment-moment.ensures in
+    let count = ap (λ n. barriers (take n log)) moment_is in (
+      λ no. absurd cc,
+      λ right. absurd (elim c.then-moment-len.branch [
+        | then-moment-len-via-then-moment-len w ↦ omega (arith, w.if-moment-len.true, c.len.ensures, moment_is, right.moment)
+        | then-moment-len-via-else-moment-len+then-epoch-before w ↦ omega (
+          arith,
+          w.if-epoch-before.true,
+          w.before-else-moment-len.ensures,
+          barriers-below log places c.moment-moment.result c.requires.places,
+          count,
+          c.epoch-epoch.ensures,
+          right.epoch,
+        )
+      ]),
+    )
 
-pub returns-in-Some-clause-taken : goal.returns-in-Some-clause-taken
-returns-in-Some-clause-taken c =
+pub start_of_epoch-start-requires-clause-begun : goal.start_of_epoch-start-requires-clause-begun
+start_of_epoch-start-requires-clause-begun c =
+    let log = c.args.log.now in
+    let moment = c.moment-moment.result in
+    omega (
+      arith,
+      c.if-epoch-before.false,
+      c.before-else-moment-len.ensures,
+      barriers-below log c.args.barrier_places.now.items moment c.requires.places,
+      barriers-front moment log,
+    )
+
+pub behind-requires : goal.behind-requires
+behind-requires c =
+    let log = c.args.log.now in
+    let moment = c.moment-moment.result in
+    let fits : moment ≤ length log = omega (arith, c.if-moment-len.false, c.len.ensures) in
+    let begun : c.epoch-epoch.result ≤ barriers (take moment log) = omega (arith, c.if-epoch-before.false, c.before-else-moment-len.ensures, barriers-below log c.args.barrier_places.now.items moment c.requires.places) in
+    omega (
+      arith,
+      c.start_of_epoch-start.ensures,
+      epoch_start-taken moment c.epoch-epoch.result log fits begun,
+      ap length c.front.ensures,
+      length-take-le moment log fits,
+    )
+
+pub returns-then-mask-first_stores-clause-right : goal.returns-then-mask-first_stores-clause-right
+returns-then-mask-first_stores-clause-right c =
     let log = c.args.log.now in
     let cut = c.args.choice.now.cut in
-    let front_is : c.front.result ≡ take cut.moment log = c.front.ensures ∙ ap (λ n. take n log) c.moment-2.ensures in
-    let start_is = c.in-Some.ensures.1 ∙ ap (λ n. epoch_start n c.front.result) c.epoch.ensures ∙ ap (epoch_start cut.epoch) front_is in
-    let fits : cut.moment ≤ length log = omega (arith, c.if-moment-len.false, c.moment.ensures, c.len.ensures) in
-    omega (arith, start_is, epoch_start-low cut.epoch (take cut.moment log), length-take-le cut.moment log fits)
+    let front_is = c.front.ensures ∙ ap (λ n. take n log) c.moment-moment.ensures in
+    let start_is = c.start_of_epoch-start.ensures ∙ ap (λ n. epoch_start n log) c.epoch-epoch.ensures in
+    let stores =
+    c.first_stores.ensures
+    ∙ ap (epoch_stores 0) c.behind.ensures
+    ∙ ap (λ n. epoch_stores 0 (drop n c.front.result)) start_is
+    ∙ ap (λ es. epoch_stores 0 (drop (epoch_start cut.epoch log) es)) front_is in (
+      λ no. absurd cc,
+      λ right. absurd (omega (
+        arith,
+        c.if-mask-first_stores.true,
+        ap length c.mask.ensures,
+        stores,
+        stores-at cut.moment cut.epoch log right.epoch,
+        right.mask,
+      )),
+    )
+
+pub returns-clause-right : goal.returns-clause-right
+returns-clause-right c =
+    let log = c.args.log.now in
+    let cut = c.args.choice.now.cut in
+    let moment = c.moment-moment.result in
+    let front_is = c.front.ensures ∙ ap (λ n. take n log) c.moment-moment.ensures in
+    let start_is = c.start_of_epoch-start.ensures ∙ ap (λ n. epoch_start n log) c.epoch-epoch.ensures in
+    let stores =
+    c.first_stores.ensures
+    ∙ ap (epoch_stores 0) c.behind.ensures
+    ∙ ap (λ n. epoch_stores 0 (drop n c.front.result)) start_is
+    ∙ ap (λ es. epoch_stores 0 (drop (epoch_start cut.epoch log) es)) front_is in
+    let begun : cut.epoch ≤ barriers (take cut.moment log) = omega (
+      arith,
+      c.if-epoch-before.false,
+      c.before-else-moment-len.ensures,
+      barriers-below log c.args.barrier_places.now.items moment c.requires.places,
+      ap (λ n. barriers (take n log)) c.moment-moment.ensures,
+      c.epoch-epoch.ensures,
+    ) in
+    let right : IsRight log cut = record {
+      moment = omega (arith, c.if-moment-len.false, c.len.ensures, c.moment-moment.ensures);
+      epoch = begun;
+      mask = omega (arith, c.if-mask-first_stores.false, ap length c.mask.ensures, stores, stores-at cut.moment cut.epoch log begun);
+    } in
+    (λ yes. right, λ is. refl)
+
+pub returns-clause-taken : goal.returns-clause-taken
+returns-clause-taken c =
+    let log = c.args.log.now in
+    let moment = c.moment-moment.result in
+    let fits : moment ≤ length log = omega (arith, c.if-moment-len.false, c.len.ensures) in
+    let begun : c.epoch-epoch.result ≤ barriers (take moment log) = omega (arith, c.if-epoch-before.false, c.before-else-moment-len.ensures, barriers-below log c.args.barrier_places.now.items moment c.requires.places) in
+    omega (arith, c.start_of_epoch-start.ensures, epoch_start-taken moment c.epoch-epoch.result log fits begun, c.moment-moment.ensures)

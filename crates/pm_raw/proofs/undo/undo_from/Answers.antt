@@ -3,8 +3,8 @@ use Rattle.std.proofs.lemmas.List.{length-drop, take_rest}
 use Rattle.pm_raw.specs.Undo.{undone}
 use Rattle.pm_raw.proofs.undo.undo_from.Goals as goal
 
-pub undo-requires : goal.undo-requires
-undo-requires c =
+pub undo-requires-clause-each : goal.undo-requires-clause-each
+undo-requires-clause-each c =
     let log = c.args.log.now in
     let replaced = c.args.replaced.now in
     let start = c.args.start in

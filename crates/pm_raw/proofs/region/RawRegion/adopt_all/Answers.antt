@@ -15,6 +15,8 @@ invariant_of-self c =
     record {
       current = current-adopted _ log replaced none;
       saved = saved-adopted (undone region.current log replaced) _ log replaced none step.saved;
+      barriers = step.barriers;
+      marks = step.marks;
       few = c.requires.few;
       values_sized = step.values_sized;
       replaced_sized = step.replaced_sized;

@@ -28,6 +28,8 @@ invariant_of-self c =
     record {
       current = current-adopted _ log replaced none;
       saved = saved-adopted (undone region.current log replaced) _ log replaced none step.saved;
+      barriers = step.barriers;
+      marks = step.marks;
       few = omega (arith, ap length c.set.ensures, length-set region.current c.args.word c.args.value, step.few);
       values_sized = step.values_sized;
       replaced_sized = step.replaced_sized;

@@ -3,8 +3,10 @@ use Rattle.std.proofs.lemmas.List.{length-set, length-take-le, take_more_set}
 use Rattle.pm_epochs.specs.declared.event.Event.TheVariants.{Store}
 use Rattle.pm_region.specs.Memory.{Memory}
 use Rattle.pm_raw.specs.Entries.{no_word, events_of}
+use Rattle.pm_raw.specs.Places.{is_barrier, is_mark}
 use Rattle.pm_raw.specs.Undo.{undone}
 use Rattle.pm_raw.proofs.EntryLaws.{event_of-store, length_events, log-pushed}
+use Rattle.pm_raw.proofs.PlaceLaws.{placed-stores}
 use Rattle.pm_raw.proofs.UndoLaws.{length-undone, base-pushed, current-pushed, saved-pushed, memory-pushed}
 use Rattle.pm_raw.proofs.region.RawRegionRegion.store.Goals as goal
 
@@ -156,6 +158,8 @@ invariant_of-self c =
     record {
       current = current-pushed region.current _ log _ more replaced _ (get_or region.current c.args.word 0 ∷ []) each refl next_is log_is replaced_is step.current;
       saved = saved-pushed region.current _ log _ more replaced _ (get_or region.current c.args.word 0 ∷ []) each refl next_is log_is replaced_is step.current step.saved;
+      barriers = placed-stores is_barrier region.barriers log _ c.args.word (c.args.value ∷ []) (length region.words) _ (λ place value. refl) log_is words_size step.barriers;
+      marks = placed-stores is_mark region.marks log _ c.args.word (c.args.value ∷ []) (length region.words) _ (λ place value. refl) log_is words_size step.marks;
       few = omega (arith, ap length c.set.ensures, length-set region.current c.args.word c.args.value, step.few);
       values_sized = omega (arith, values_size, words_size, step.values_sized);
       replaced_sized = omega (arith, replaced_size, words_size, step.replaced_sized);

@@ -1,0 +1,19 @@
+use Rattle.std.proofs.Common.{◌*◌, length, ◌∙◌, ap, arith}
+use Rattle.pm_region.specs.Memory.{current_words}
+use Rattle.bp_tree.proofs.RegionWords.{length_now}
+use Rattle.bp_cow.proofs.CopyLaws.{length-part}
+use Rattle.bp_cow.proofs.SlotLaws.{part_at}
+use Rattle.bp_cow.proofs.copies.words_of.Goals as goal
+
+pub overflow_mul-block : goal.overflow_mul-block
+overflow_mul-block g c = omega (arith, c.requires, length_now (g.R.Region.memory c.args.region.now), c.words-words.ensures, c.words-words.type_inv)
+
+pub load_words-requires : goal.load_words-requires
+load_words-requires g c = omega (arith, c.requires, length_now (g.R.Region.memory c.args.region.now))
+
+pub returns-clause-size : goal.returns-clause-size
+returns-clause-size g c =
+    ap length c.load_words.ensures ∙ length-part (512 * c.args.block) 512 (current_words (g.R.Region.memory c.args.region.now)) (omega (arith, c.requires))
+
+pub returns-clause-words : goal.returns-clause-words
+returns-clause-words g c slot low = part_at (current_words (g.R.Region.memory c.args.region.now)) c.load_words.result.now (512 * c.args.block) 512 slot low c.load_words.ensures

@@ -1,0 +1,16 @@
+-- The names of a listing, whose bytes stand in a row.
+use Rattle.std.specs.Prelude.{ℕ, ◌+◌, ◌≤◌, List, All, map, length, take, drop}
+use Rattle.bp_limits.specs.Limits.{max_name}
+use Rattle.bp_layout.specs.declared.fields.Kind.{Kind}
+use Rattle.bp_layout.specs.declared.listing.Listed.{Listed}
+
+-- a name with its kind, those of its bytes that there are
+abbrev pub name_in : List ℕ → Listed → Kind × List ℕ
+name_in bytes entry = (entry.kind, take entry.len (drop entry.first bytes))
+
+abbrev pub names_in : List ℕ → List Listed → List (Kind × List ℕ)
+names_in bytes entries = map (name_in bytes) entries
+
+-- all bytes of each name are there, and no name is longer than names are
+abbrev pub AreWithin : List ℕ → List Listed → Type 0
+AreWithin bytes entries = All (λ entry. (entry.first + entry.len ≤ length bytes) × (entry.len ≤ max_name)) entries

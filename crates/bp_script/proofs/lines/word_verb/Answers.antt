@@ -1,0 +1,13 @@
+use Rattle.std.proofs.Common.{◌≡◌, arith, codes, refl}
+use Rattle.std.proofs.lemmas.Slice.Eq.{text_from_reads}
+use Rattle.bp_script.proofs.lines.word_verb.Goals as goal
+
+pub returns-in-create : goal.returns-in-create
+returns-in-create c =
+    let same : c.args.verb.now ≡ codes "create" = text_from_reads c.args.verb.now (codes "create") (omega arith) (omega arith) in
+    λ word. rw same refl
+
+pub returns-in-unlink : goal.returns-in-unlink
+returns-in-unlink c =
+    let same : c.args.verb.now ≡ codes "unlink" = text_from_reads c.args.verb.now (codes "unlink") (omega arith) (omega arith) in
+    λ word. rw same refl

@@ -58,7 +58,8 @@ may_have_changed TooLong answer = false
 
 -- A command was done and replied to, but for the file, which is to be saved where the outcome is a sync.
 pub record Does (old : Memory) (command : Command) (outcome : Outcome) (answer : Answer) (new : Memory) : Type 0 where
-  pub line : (saved : Image) → Line (state old saved) command (reply_of outcome answer) (state new (to_save command old saved))
+  pub line : (saved : Image)
+      → Line (state old saved) command (reply_of outcome answer) (state new (to_save command old saved))
   pub size : length new.base ≡ length old.base
   pub capacity : new.capacity ≡ old.capacity
   pub is_sync : outcome ≡ Synced → command ≡ sync

@@ -22,7 +22,8 @@ pub record Passes (text before after : List ℕ) (taken now : Option (List ℕ))
 
 -- what waited still waits, and no file has changed, or a sink took it all
 abbrev pub Clears : List ℕ → List ℕ → Option (List ℕ) → Option (List ℕ) → View → View → Type 0
-Clears before after taken now files files_now = ((after ≡ before) × (now ≡ taken) × (files_now ≡ files)) ⊎ ((after ≡ []) × Appends taken now before)
+Clears before after taken now files files_now =
+    ((after ≡ before) × (now ≡ taken) × (files_now ≡ files)) ⊎ ((after ≡ []) × Appends taken now before)
 
 -- A line was done whose reply is still to be told, behind what waits.
 pub record IsDone (command : Command) (before : List ℕ) (old new : Moment) : Type 0 where
@@ -52,8 +53,8 @@ pub record IsUnsaved (command : Command) (before : List ℕ) (old new : Moment) 
   pub fails : FailsLine old command new
   pub taken : Appends old.taken new.taken before
 
--- What a line answers over what waits before and after it: 0 where its reply was added, 4 where the sink failed, 5 where a sync
--- couldn't save.
+-- What a line answers over what waits before and after it: 0 where its reply was added, 4 where the sink failed, 5
+-- where a sync couldn't save.
 pub record LineGathers (status : ℕ) (command : Command) (before after : List ℕ) (old new : Moment) : Type 0 where
   pub whole : status ≡ 0 → IsAnswered command before after old new
   pub cut : status ≡ 4 → IsUntold command before old new ⊎ IsUnheard before old new
@@ -66,8 +67,8 @@ pub record LineGathers (status : ℕ) (command : Command) (before after : List �
 abbrev pub reached_at : Memory → Moment → Moment
 reached_at memory now = record now { memory = memory }
 
--- An outcome of a memory that was reached. It is the volume's own, but where a reply was cut behind which more than so many bytes of
--- replies may have waited: then it is the one behind that reply's line.
+-- An outcome of a memory that was reached. It is the volume's own, but where a reply was cut behind which more than so
+-- many bytes of replies may have waited: then it is the one behind that reply's line.
 pub record Reaches (status most : ℕ) (outcome : Moment → Type 0) (new : Moment) : Type 0 where
   pub memory : Memory
   pub same : (status ≡ 4 → most ≡ 0) → memory ≡ new.memory

@@ -11,7 +11,7 @@ ghost use Rattle.bp_script.specs.Commands.{command_of};
 ghost use Rattle.bp_session.specs.Acting.{CrashesTo, Does, HasCrashed, may_have_changed, reply_of};
 ghost use Rattle.bp_session.specs.Files.{IsReady};
 ghost use Rattle.bp_session.specs.Gathering.{Clears, LineGathers};
-ghost use Rattle.bp_session.specs.Serving.{DoesLine, moment, where_saved};
+ghost use Rattle.bp_session.specs.Serving.{DoesLine, moment, saved_if};
 ghost use Rattle.bp_session.specs.declared.outcome.Outcome.TheVariants.{Logged};
 ghost use Rattle.bp_session.specs.Work.{answer_in, line_in, waiting_in};
 
@@ -100,9 +100,9 @@ fn count_log<R: Region>(region: &R) -> Outcome
     }
 }
 
-/// Does what the line of the buffers asks for, over a volume alone. The answer of a call stands in the buffers' reply. At
-/// `Outcome::Synced` all is written back, and a file that is to hold it is to be saved. The volume's log is to have no more
-/// room than the memory of the buffers.
+/// Does what the line of the buffers asks for, over a volume alone. The answer of a call stands in the buffers' reply.
+/// At `Outcome::Synced` all is written back, and a file that is to hold it is to be saved. The volume's log is to have
+/// no more room than the memory of the buffers.
 pub fn act<R: Region>(alloc: Global, volume: &mut Volume<R>, buffers: &mut LineBuffers) -> Outcome
     requires { volume.old.capacity ≤ log_events }
     ensures does { Does volume.old (command_of (line_in buffers.old)) result (answer_in buffers.new) volume.new }
@@ -157,8 +157,9 @@ fn stays_saved(is_saved: bool, outcome: Outcome, reply: &Reply) -> bool
     is_saved && !may_change(outcome, reply)
 }
 
-/// Does what the line asks for, and saves the words of a sync to the attached file, behind the replies that wait, unless it is
-/// taken to hold them. An error is the status: 4 where the sink failed before a sync could save, and 5 where the files did.
+/// Does what the line asks for, and saves the words of a sync to the attached file, behind the replies that wait,
+/// unless it is taken to hold them. An error is the status: 4 where the sink failed before a sync could save, and 5
+/// where the files did.
 pub(crate) fn act_and_save<R: Region, K: Sink, F: Files>(
     alloc: Global,
     volume: &mut Volume<R>,
@@ -170,15 +171,15 @@ pub(crate) fn act_and_save<R: Region, K: Sink, F: Files>(
     requires ready { IsReady volume.old.base (F.view files.old) }
     requires roomy { volume.old.capacity ≤ log_events }
     ensures does { IfOk result (λ outcome. DoesLine
-        (where_saved is_saved.old (moment volume.old (F.view files.old) (K.taken out.old) (K.faults out.old)))
+        (saved_if is_saved.old (moment volume.old (F.view files.old) (K.taken out.old) (K.faults out.old)))
         (command_of (line_in buffers.old)) (reply_of outcome (answer_in buffers.new))
-        (where_saved is_saved.new (moment volume.new (F.view files.new) (K.taken out.new) (K.faults out.new)))) }
-    ensures clears { OnOk result (Clears (waiting_in buffers.old) (waiting_in buffers.new) (K.taken out.old) (K.taken out.new)
-        (F.view files.old) (F.view files.new)) }
+        (saved_if is_saved.new (moment volume.new (F.view files.new) (K.taken out.new) (K.faults out.new)))) }
+    ensures clears { OnOk result (Clears (waiting_in buffers.old) (waiting_in buffers.new)
+        (K.taken out.old) (K.taken out.new) (F.view files.old) (F.view files.new)) }
     ensures stops { IfErr result (λ status. LineGathers status (command_of (line_in buffers.old))
         (waiting_in buffers.old) (waiting_in buffers.new)
-        (where_saved is_saved.old (moment volume.old (F.view files.old) (K.taken out.old) (K.faults out.old)))
-        (where_saved is_saved.new (moment volume.new (F.view files.new) (K.taken out.new) (K.faults out.new)))) }
+        (saved_if is_saved.old (moment volume.old (F.view files.old) (K.taken out.old) (K.faults out.old)))
+        (saved_if is_saved.new (moment volume.new (F.view files.new) (K.taken out.new) (K.faults out.new)))) }
     ensures some { IfErr result (λ status. ¬ (status ≡ 0)) }
     ensures heard { IfErr result (λ status. waiting_in buffers.old ≡ [] → status ≡ 5) }
     ensures synced { OnOk result (command_of (line_in buffers.old) ≡ sync → (F.view files.new).is_flushed ≡ true) }

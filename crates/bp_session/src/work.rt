@@ -89,8 +89,9 @@ impl LineBuffers {
     }
 }
 
-/// A line as far as it was read, a piece of the source, and what it takes to answer a line. Serving takes no other memory, but
-/// for listings. It knows whether the attached file is taken to hold the words as they are, so that a sync writes no block then.
+/// A line as far as it was read, a piece of the source, and what it takes to answer a line. Serving takes no other
+/// memory, but for listings. It knows whether the attached file is taken to hold the words as they are, so that a sync
+/// writes no block then.
 #[derive(Drop)]
 pub struct Work {
     pub(crate) buffers: LineBuffers,
@@ -103,7 +104,8 @@ impl Work {
     ghost use Rattle.bp_session.specs.Work.{held_line, is_saved_in, line_of};
     ghost use Rattle.std.specs.Prelude.{false, take, true, option_map};
 
-    /// Room for lines of 140,000 bytes, with the empty line in it. Nothing is taken of a file. It fails for want of memory alone.
+    /// Room for lines of 140,000 bytes, with the empty line in it. Nothing is taken of a file. It fails for want of
+    /// memory alone.
     pub fn new(alloc: Global) -> Result<Self, AllocError>
         ensures line { IfOk result (λ work. held_line work ≡ []) }
         ensures saved { IfOk result (λ work. is_saved_in work ≡ false) }

@@ -119,8 +119,10 @@ pub fn run<S: Source, K: Sink, F: Files>(
 
     // All other words that are taken. Want of memory may come before they are read.
     ensures others { ¬ (result ≡ 2) → Does (map (λ word. word.now) words.now) result
-        (λ name. outside (S.left src.old) (S.faults src.old) (K.taken out.old) (K.faults out.old) (F.view files.old) name)
-        (λ name. outside (S.left src.new) (S.faults src.new) (K.taken out.new) (K.faults out.new) (F.view files.new) name)
+        (λ name. outside (S.left src.old) (S.faults src.old) (K.taken out.old) (K.faults out.old)
+        (F.view files.old) name)
+        (λ name. outside (S.left src.new) (S.faults src.new) (K.taken out.new) (K.faults out.new)
+        (F.view files.new) name)
         ⊎ ((result ≡ 8) × (src.new ≡ src.old) × (out.new ≡ out.old) × (files.new ≡ files.old)) }
 {
     plain_words_are_taken();

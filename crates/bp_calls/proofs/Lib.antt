@@ -47,3 +47,4 @@ pub mod NewNames
 pub mod WrittenStands
 pub mod RunCommits
 pub mod WriteBelow
+pub mod RowLaws

@@ -1,7 +1,6 @@
 -- What an entry of a directory names.
-use Rattle.std.proofs.Common.{◌≡◌, ◌≢◌, ℕ, zero, suc, ◌+◌, ◌*◌, ◌/◌, ◌<◌, ◌≤◌, [], ◌∷◌, ◌++◌, length, Bool, true, false, ◌==◌, Option, None, Some, filter, filter_map, not, append-nil, refl, sym, ◌∙◌, ap, subst, arith}
+use Rattle.std.proofs.Common.{◌≡◌, ◌≢◌, ℕ, zero, suc, ◌+◌, ◌*◌, ◌/◌, ◌<◌, ◌≤◌, [], ◌∷◌, ◌++◌, length, Bool, true, false, ◌==◌, Option, None, Some, filter, filter_map, not, refl, sym, ◌∙◌, ap, subst, arith}
 use Rattle.std.specs.List.{range_with_len, cons_option}
-use Rattle.std.proofs.lemmas.Bool.{eqb-true}
 use Rattle.std.proofs.lemmas.List.FromFn.{length-map-range_with_len}
 use Rattle.bp_layout.specs.Words.{Image, block_count}
 use Rattle.bp_layout.specs.Tree.{IsSound}
@@ -83,30 +82,29 @@ module _ (image : Image) (wf : IsWellFormed image) where
             let kinds : (1 ≤ kind_of image (suc j)) × (kind_of image (suc j) ≤ 2) = wf.kinds j (subst (IsReached image) at names_reached) in
             rw at (record { low = omega arith; high = omega (arith, high, at); few = subst (λ k. k < 1048576) at (few_inode (inumber_in image root slot) high); least = kinds.0; most = kinds.1 })
 
--- ---- one more entry
+-- ---- the entries of some slots and of those behind them
 
-seen-more : (f : ℕ → Option (Kind × Name)) (first count n : ℕ) → first + count ≡ n → filter_map f (range_with_len first (count + 1)) ≡ filter_map f (range_with_len first count) ++ cons_option (f n) []
-seen-more f first zero n at = let same : first ≡ n = omega arith in ap (λ k. cons_option (f k) []) same
-seen-more f first (suc count) n at =
-    let rest : filter_map f (range_with_len (first + 1) (count + 1)) ≡ filter_map f (range_with_len (first + 1) count) ++ cons_option (f n) [] = seen-more f (first + 1) count n (omega arith) in
-    let next : suc count + 1 ≡ suc (count + 1) = omega arith in
-    rw next (go (f first) rest)
+pub seen-parts : (f : ℕ → Option (Kind × Name)) (first count more next : ℕ) → first + count ≡ next →
+    filter_map f (range_with_len first (count + more)) ≡ filter_map f (range_with_len first count) ++ filter_map f (range_with_len next more)
+seen-parts f first zero more next at =
+    let same : first ≡ next = omega arith in
+    let none : 0 + more ≡ more = omega arith in
+    rw none (ap (λ k. filter_map f (range_with_len k more)) same)
+seen-parts f first (suc count) more next at =
+    let whole : suc count + more ≡ suc (count + more) = omega arith in
+    rw whole (go (f first) (seen-parts f (first + 1) count more next (omega arith)))
   where
-    go : (o : Option (Kind × Name)) → filter_map f (range_with_len (first + 1) (count + 1)) ≡ filter_map f (range_with_len (first + 1) count) ++ cons_option (f n) [] →
-        cons_option o (filter_map f (range_with_len (first + 1) (count + 1))) ≡ cons_option o (filter_map f (range_with_len (first + 1) count)) ++ cons_option (f n) []
+    go : (o : Option (Kind × Name)) → filter_map f (range_with_len (first + 1) (count + more)) ≡ filter_map f (range_with_len (first + 1) count) ++ filter_map f (range_with_len next more) →
+        cons_option o (filter_map f (range_with_len (first + 1) (count + more))) ≡ cons_option o (filter_map f (range_with_len (first + 1) count)) ++ filter_map f (range_with_len next more)
     go None rest = rest
     go (Some x) rest = ap (λ xs. x ∷ xs) rest
 
-module _ (image : Image) (i slot : ℕ) where
-  pub entries_seen-empty : inumber_at image i slot ≡ 0 → entries_seen image i (slot + 1) ≡ entries_seen image i slot
-  entries_seen-empty none = seen-more (entry_seen image i) 0 slot slot (omega arith) ∙ rw none (append-nil (entries_seen image i slot))
-
-  pub entries_seen-one : (other : inumber_at image i slot ≢ 0) → entries_seen image i (slot + 1) ≡ entries_seen image i slot ++ (kind_seen (kind_of image (inumber_at image i slot)), name_at image i slot) ∷ []
-  entries_seen-one other = seen-more (entry_seen image i) 0 slot slot (omega arith) ∙ go (inumber_at image i slot == 0) refl
-    where
-      go : (b : Bool) → (inumber_at image i slot == 0) ≡ b → entries_seen image i slot ++ cons_option (entry_seen image i slot) [] ≡ entries_seen image i slot ++ (kind_seen (kind_of image (inumber_at image i slot)), name_at image i slot) ∷ []
-      go true at = absurd (other (eqb-true _ _ at))
-      go false at = rw at refl
+pub seen-none : (f : ℕ → Option (Kind × Name)) (first count : ℕ) → ((k : ℕ) → k < count → f (first + k) ≡ None) → filter_map f (range_with_len first count) ≡ []
+seen-none f first zero none = refl
+seen-none f first (suc count) none =
+    let here : first + 0 ≡ first = omega arith in
+    let rest : filter_map f (range_with_len (first + 1) count) ≡ [] = seen-none f (first + 1) count (λ k low. let at : first + 1 + k ≡ first + (k + 1) = omega arith in ap f at ∙ none (k + 1) (omega (arith, low))) in
+    rw (ap f (sym here) ∙ none 0 (omega arith)) rest
 
 -- a directory's count is the number of its entries
 pub length-seen : (image : Image) (i : ℕ) → length (entries_seen image i (entry_count image i)) ≡ name_count image (root_of image i) (size_of image i)

@@ -1,5 +1,5 @@
 -- What calls that change nothing tell of an inode.
-use Rattle.std.specs.Prelude.{ℕ, List, Bool, ◌==◌, Option, None, Some, if◌then◌else◌}
+use Rattle.std.specs.Prelude.{ℕ, List, ◌==◌, Option, None, Some, if◌then◌else◌}
 use Rattle.std.specs.List.{filter_map, range_with_len}
 use Rattle.std.specs.List.Sorted.{IsPermutation, IsSortedBy}
 use Rattle.bp_dirs.specs.Names.{name_count}

@@ -16,3 +16,5 @@ pub mod Growth
 pub mod Entries
 pub mod TouchedAcross
 pub mod TouchedBelow
+pub mod Rows
+pub mod ContentPaths

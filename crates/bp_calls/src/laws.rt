@@ -1,7 +1,8 @@
 //! Laws of the paths of words, of free blocks, and of what calls make of the plain tree. Each is the contract of a
 //! function that does nothing.
 
-ghost use Rattle.std.specs.Prelude.{◌≡◌, ℕ, ◌*◌, ◌<◌, List, [], length};
+ghost use Rattle.std.specs.Prelude.{◌≡◌, ℕ, List, [], length};
+ghost use Rattle.bp_calls.specs.ContentPaths.{HasContentWord, KeepsHeights, WholePathExists};
 ghost use Rattle.bp_calls.specs.Created.{EntersName, GainsName};
 ghost use Rattle.bp_calls.specs.Removed.{IsFoundAt, LosesName};
 ghost use Rattle.bp_calls.specs.Resized.{GetsSize, ResizesFile};
@@ -14,21 +15,18 @@ ghost use Rattle.bp_layout.specs.Directory.{Name, inumber_at, name_at};
 ghost use Rattle.bp_layout.specs.Free.{AreFreeBlocks, HasFree};
 ghost use Rattle.bp_layout.specs.Inode.{kind_of, root_of, size_of};
 ghost use Rattle.bp_layout.specs.Lookup.{Path};
-ghost use Rattle.bp_layout.specs.Need.{Change, content_path, existing_from, height_after, is_there_after};
-ghost use Rattle.bp_layout.specs.Reached.{IsReached};
-ghost use Rattle.bp_layout.specs.Tree.{IsFull};
+ghost use Rattle.bp_layout.specs.Need.{Change};
 ghost use Rattle.bp_layout.specs.WellFormed.{IsWellFormed};
-ghost use Rattle.bp_layout.specs.Words.{block_count, height_of};
+ghost use Rattle.bp_layout.specs.Words.{block_count};
 
 use bp_free::Blocks;
 
-/// Where a change keeps the heights of the inode file and of a tree without a null, the whole path of each content word of
-/// the tree exists.
+/// Where a change keeps the heights of the inode file and of a tree without a null, the whole path of each content word
+/// of the tree exists.
 pub fn content_paths_exist(image: &[u64])
     requires { IsWellFormed image.now }
-    ensures { (change : Change) (t k : ℕ) → IsReached image.now t → IsFull image.now (root_of image.now t) (size_of image.now t) → 8 * k < size_of image.now t
-        → height_after image.now change 0 ≡ height_of (root_of image.now 0) → height_after image.now change t ≡ height_of (root_of image.now t)
-        → existing_from (is_there_after image.now change) [] (content_path image.now change t k) ≡ content_path image.now change t k }
+    ensures { (change : Change) (t k : ℕ) → HasContentWord image.now t k → KeepsHeights image.now change t
+        → WholePathExists image.now change t k }
 {}
 
 /// An image has one number of free blocks.
@@ -47,7 +45,8 @@ pub fn set_has_the_free(image: &[u64], blocks: &Blocks)
 /// A directory into which a name came gains it in the plain tree, at each path that finds the directory.
 pub fn entered_names_are_gained(old: &[u64], new: &[u64])
     requires { IsWellFormed old.now }
-    ensures { (i : ℕ) (name : Name) (kind : Kind) → EntersName i name kind old.now new.now → GainsName i name kind old.now new.now }
+    ensures { (i : ℕ) (name : Name) (kind : Kind) → EntersName i name kind old.now new.now
+        → GainsName i name kind old.now new.now }
 {}
 
 /// A directory of which an entry was emptied loses the entry's name in the plain tree, at each path that finds the
@@ -79,8 +78,8 @@ pub fn resized_files_get_their_size(old: &[u64], new: &[u64])
     ensures { (i size : ℕ) → ResizesFile i size old.now new.now → GetsSize i size old.now new.now }
 {}
 
-/// A file into which bytes were written has them in the plain tree, at each path that finds it: in place of those that it
-/// had there, and behind zeros where they begin past its end.
+/// A file into which bytes were written has them in the plain tree, at each path that finds it: in place of those that
+/// it had there, and behind zeros where they begin past its end.
 pub fn written_files_get_their_bytes(old: &[u64], new: &[u64])
     requires { IsWellFormed old.now }
     ensures { (i off : ℕ) (bytes : List ℕ) → WritesFile i off bytes old.now new.now →

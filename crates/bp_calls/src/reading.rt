@@ -1,29 +1,27 @@
 //! Calls that change nothing.
 
-ghost use Rattle.std.specs.Prelude.{◌≡◌, ◌≤◌, IfOk, drop, length, take};
-ghost use Rattle.bp_calls.specs.Asked.{ListsNames, bytes_of, entries_seen, stat_of};
-ghost use Rattle.bp_layout.specs.Directory.{entry_count};
+ghost use Rattle.std.specs.Prelude.{◌≡◌, ◌≤◌, drop, length, take};
+ghost use Rattle.bp_calls.specs.Asked.{bytes_of, stat_of};
 ghost use Rattle.bp_layout.specs.Inode.{kind_of};
 ghost use Rattle.bp_layout.specs.Reached.{IsReached};
 ghost use Rattle.bp_layout.specs.WellFormed.{IsWellFormed};
 ghost use Rattle.pm_region.specs.Memory.{current_words};
 
 use crate::entering::tree_of;
-use bp_dirs::{count, entry_unless_empty};
+use bp_dirs::count;
 use bp_inodes::get;
-use bp_layout::{Entry, Kind, Listing, Stat};
-use bp_limits::ENTRY_SIZE;
+use bp_layout::{Kind, Stat};
 use bp_tree::Tree;
 use pm_region::Region;
-use std::alloc::{AllocError, Global};
 
-/// Reads bytes of a file from an offset on, as many as `into` has room for and the file has there, and says how many these
-/// are. There are none at and past the end of the file. The rest of `into` stays as it was.
+/// Reads bytes of a file from an offset on, as many as `into` has room for and the file has there, and says how many
+/// these are. There are none at and past the end of the file. The rest of `into` stays as it was.
 pub fn read<R: Region>(region: &R, i: u32, off: u64, into: &mut [u8]) -> usize
     requires well_formed { IsWellFormed (current_words (R.memory region.now)) }
     requires reached { IsReached (current_words (R.memory region.now)) i }
     requires file { kind_of (current_words (R.memory region.now)) i ≡ 1 }
-    ensures bytes { take result into.new ≡ take (length into.old) (drop off (bytes_of (current_words (R.memory region.now)) i)) }
+    ensures bytes { take result into.new ≡
+        take (length into.old) (drop off (bytes_of (current_words (R.memory region.now)) i)) }
     ensures fits { result ≤ length into.new }
     ensures rest { drop result into.new ≡ drop result into.old }
 {
@@ -48,39 +46,4 @@ pub fn stat<R: Region>(region: &R, i: u32) -> Stat
             count: count(region, tree),
         },
     }
-}
-
-/// The kinds and names of the entries of directory `i` that name an inode, in the order of their slots.
-fn entries<R: Region>(alloc: Global, region: &R, i: u32) -> Result<Listing, AllocError>
-    requires well_formed { IsWellFormed (current_words (R.memory region.now)) }
-    requires reached { IsReached (current_words (R.memory region.now)) i }
-    requires directory { kind_of (current_words (R.memory region.now)) i ≡ 2 }
-    ensures { let words = current_words (R.memory region.now) in
-        IfOk result (λ listing. listing ≡ entries_seen words i (entry_count words i)) }
-{
-    let tree = tree_of(region, i);
-    let mut listing = Listing::with_capacity(alloc, count(region, tree) as usize)?;
-    for slot in 0..tree.size / ENTRY_SIZE {
-        if let Some(Entry { inumber, name }) = entry_unless_empty(region, tree, slot) {
-            let kind = get(region, inumber as u32).kind;
-            listing.push(kind, name.as_slice())?;
-        }
-    }
-    Ok(listing)
-}
-
-/// The names in directory `i` with their kinds, in the order of their bytes.
-///
-/// # Errors
-///
-/// Where there is no memory for them.
-pub fn list<R: Region>(alloc: Global, region: &R, i: u32) -> Result<Listing, AllocError>
-    requires well_formed { IsWellFormed (current_words (R.memory region.now)) }
-    requires reached { IsReached (current_words (R.memory region.now)) i }
-    requires directory { kind_of (current_words (R.memory region.now)) i ≡ 2 }
-    ensures { IfOk result (λ names. ListsNames (current_words (R.memory region.now)) i names) }
-{
-    let mut listing = entries(alloc, region, i)?;
-    listing.sort();
-    Ok(listing)
 }

@@ -52,13 +52,15 @@ pub(crate) fn need_onto<R: Region>(region: &R, to_move: &Move<'_>, slot: u64) ->
     need_cover(region, &touched_inumbers(region, to_move, slot))
 }
 
-/// Moves a name onto another one, by one commit of both inumbers. What had that name comes back: its blocks and its inode.
+/// Moves a name onto another one, by one commit of both inumbers. What had that name comes back: its blocks and its
+/// inode.
 pub(crate) fn rename_onto<R: Region>(parts: &mut Parts<R>, to_move: &Move<'_>, slot: u64)
     requires can { CanRename (current_words (R.memory parts.old.region)) to_move.now }
     requires onto { to_move.now.to_slot ≡ Some slot }
     requires exact { AreExact (current_words (R.memory parts.old.region)) parts.old.blocks parts.old.inodes }
     requires enough { need (current_words (R.memory parts.old.region))
-        (replaces to_move.now.from_dir to_move.now.from_slot to_move.now.to_dir slot) ≤ length (members parts.old.blocks) }
+        (replaces to_move.now.from_dir to_move.now.from_slot to_move.now.to_dir slot)
+        ≤ length (members parts.old.blocks) }
     requires room { call_room ≤ room_in (R.memory parts.old.region) }
     ensures performs { Performs (R.memory parts.old.region) (R.memory parts.new.region)
         (replaces to_move.now.from_dir to_move.now.from_slot to_move.now.to_dir slot)

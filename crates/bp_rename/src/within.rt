@@ -90,7 +90,8 @@ pub(crate) fn rename_within<R: Region>(parts: &mut Parts<R>, to_move: &Move<'_>)
     requires here { to_move.now.from_dir ≡ to_move.now.to_dir }
     requires exact { AreExact (current_words (R.memory parts.old.region)) parts.old.blocks parts.old.inodes }
     requires enough { need (current_words (R.memory parts.old.region))
-        (respells to_move.now.from_dir to_move.now.from_slot (length to_move.now.name.now)) ≤ length (members parts.old.blocks) }
+        (respells to_move.now.from_dir to_move.now.from_slot (length to_move.now.name.now))
+        ≤ length (members parts.old.blocks) }
     requires room { call_room ≤ room_in (R.memory parts.old.region) }
     ensures performs { Performs (R.memory parts.old.region) (R.memory parts.new.region)
         (respells to_move.now.from_dir to_move.now.from_slot (length to_move.now.name.now)) (RenamesEntry to_move.now) }

@@ -1,6 +1,6 @@
 //! The directories of an image, one after the other.
 
-ghost use Rattle.std.specs.Prelude.{◌≡◌, ◌+◌, ◌*◌, ◌/◌, ◌<◌, ◌≤◌, length, vec_capacity, OnOk, IfErr};
+ghost use Rattle.std.specs.Prelude.{◌≡◌, ◌+◌, ◌*◌, ◌/◌, ◌%◌, ◌<◌, ◌≤◌, min, length, vec_capacity, OnOk, IfErr};
 ghost use Rattle.bp_layout.specs.Checks.{Fails};
 ghost use Rattle.bp_layout.specs.Directory.{inumber_in};
 ghost use Rattle.bp_layout.specs.Tree.{IsFull, IsSound};
@@ -13,10 +13,11 @@ ghost use Rattle.pm_region.specs.Memory.{current_words};
 
 use crate::pending::make_room;
 use crate::trees::enter;
+use bp_dirs::entry_place;
 use bp_free::{Blocks, Inodes};
 use bp_inodes::{get, inode_file};
 use bp_limits::{ENTRY_SIZE, INODE_SIZE};
-use bp_spelling::{NameFault, Spelled, check_names, next_place};
+use bp_spelling::{NameFault, Spelled, check_names, named_in_row};
 use bp_tree::Tree;
 use bp_walk::CheckFault;
 use pm_region::Region;
@@ -51,7 +52,8 @@ fn read_entry<R: Region>(
     todo: &mut Inodes,
 ) -> Result<(), CheckFault>
     requires ready { IsOpen (current_words (R.memory region.now)) }
-    requires inside { IsInside (current_words (R.memory region.now)) blocks.old inodes.old todo.old directory slot.number }
+    requires inside { let words = current_words (R.memory region.now) in
+        IsInside words blocks.old inodes.old todo.old directory slot.number }
     requires live { slot.number < directory.tree.size / entry_size }
     requires place { slot.place ≡ entry_place_in (current_words (R.memory region.now)) directory.tree.root slot.number }
     requires named { slot.named ≡ inumber_in (current_words (R.memory region.now)) directory.tree.root slot.number }
@@ -79,6 +81,44 @@ fn read_entry<R: Region>(
     enter(region, inode, blocks, todo)
 }
 
+/// Reads the entries of a leaf of a directory whose names are right: those from a slot on.
+fn read_leaf<R: Region>(
+    region: &R,
+    directory: Directory,
+    first: u64,
+    blocks: &mut Blocks,
+    inodes: &mut Inodes,
+    todo: &mut Inodes,
+) -> Result<(), CheckFault>
+    requires ready { IsOpen (current_words (R.memory region.now)) }
+    requires inside { IsInside (current_words (R.memory region.now)) blocks.old inodes.old todo.old directory first }
+    requires starts { first % 16 ≡ 0 }
+    requires live { first < directory.tree.size / entry_size }
+    ensures inside { let words = current_words (R.memory region.now) in
+        let end = min (first + 16) (directory.tree.size / entry_size) in
+        OnOk result (IsInside words blocks.new inodes.new todo.new directory end) }
+    ensures work { OnOk result (work inodes.new todo.new ≤ work inodes.old todo.old) }
+    ensures fault { IfErr result (λ f. Fails (current_words (R.memory region.now)) f.check f.place) }
+    ensures block_room { length blocks.new ≡ length blocks.old }
+    ensures inode_room { length inodes.new ≡ length inodes.old }
+    ensures todo_room { length todo.new ≡ length todo.old }
+{
+    let place = entry_place(region, directory.tree, first, 0);
+    let count = (directory.tree.size / ENTRY_SIZE - first).min(16) as u32;
+    let named = named_in_row(region, place, count);
+    for k in 0..count {
+        let slot = Slot {
+            number: first + k as u64,
+            place: place + 32 * k,
+            named: named[k as usize],
+        };
+        if let Err(fault) = read_entry(region, directory, slot, blocks, inodes, todo) {
+            return Err(fault);
+        }
+    }
+    Ok(())
+}
+
 /// Reads the entries of a directory whose names are right.
 fn read_entries<R: Region>(
     region: &R,
@@ -97,16 +137,8 @@ fn read_entries<R: Region>(
     ensures inode_room { length inodes.new ≡ length inodes.old }
     ensures todo_room { length todo.new ≡ length todo.old }
 {
-    let tree = directory.tree;
-    let mut place = 0;
-    for number in 0..tree.size / ENTRY_SIZE {
-        place = next_place(region, tree, number, place);
-        let slot = Slot {
-            number,
-            place,
-            named: region.load(place),
-        };
-        if let Err(fault) = read_entry(region, directory, slot, blocks, inodes, todo) {
+    for leaf in 0..(directory.tree.size / ENTRY_SIZE).div_ceil(16) {
+        if let Err(fault) = read_leaf(region, directory, 16 * leaf, blocks, inodes, todo) {
             return Err(fault);
         }
     }

@@ -1,14 +1,14 @@
 -- Hexadecimal digits: their values, and the bytes of their pairs.
-use Rattle.std.proofs.Common.{◌≡◌, ◌⊎◌, ℕ, ◌+◌, ◌*◌, ◌%◌, ◌<◌, ◌≤◌, List, ◌==◌, length, take, drop, slice_index, slice_set, Bool, true, Option, Some, None, Ok, Err, refl, sym, ap, arith, inl, inr}
+use Rattle.std.proofs.Common.{◌≡◌, ◌⊎◌, ℕ, ◌+◌, ◌*◌, ◌%◌, ◌<◌, ◌≤◌, List, length, take, drop, slice_index, slice_set, Option, Some, None, Ok, Err, refl, sym, ap, arith, inl, inr, [], slice_index_or, Bool, true, ◌/◌, ◌==◌}
 use Rattle.std.specs.Option.{unwrap_or}
 use Rattle.std.specs.Result.{result_ok}
 use Rattle.std.proofs.lemmas.Bool.{cases_lt, eqb-true}
 use Rattle.hex.specs.Hex.{decode_pairs, digit_or_error, hex_digit_value, pair_value, value_at}
 use Rattle.hex.specs.declared.error.FromHexError.{FromHexError}
 use Rattle.hex.specs.declared.error.FromHexError.TheVariants.{InvalidHexCharacter}
-use Rattle.hex.proofs.Pairs.{decode_err, decode_step, prepend}
 use Rattle.bp_script.specs.declared.digits.TheConstants.{DIGIT_VALUES}
 use Rattle.bp_script.proofs.EachByte.{all_below, from_all_below}
+use Rattle.hex.proofs.Pairs.{decode_err, decode_step, prepend}
 
 -- the value of a digit, or 16
 abbrev pub value_or_none : ℕ → ℕ
@@ -16,16 +16,19 @@ value_or_none digit = unwrap_or (hex_digit_value digit) 16
 
 -- ---- the table of values
 
+abbrev pub tabled : ℕ → ℕ
+tabled digit = slice_index (slice_index_or DIGIT_VALUES (digit / 8) []) (digit % 8)
+
 agrees : ℕ → Bool
-agrees digit = slice_index DIGIT_VALUES digit == value_or_none digit
+agrees digit = tabled digit == value_or_none digit
 
 all_agree : all_below agrees 256 ≡ true
 unfolding all_below agrees
 all_agree = refl
 
-pub table_is : (digit : ℕ) → digit < 256 → slice_index DIGIT_VALUES digit ≡ value_or_none digit
+pub table_is : (digit : ℕ) → digit < 256 → tabled digit ≡ value_or_none digit
 unfolding agrees
-table_is digit byte = eqb-true (slice_index DIGIT_VALUES digit) (value_or_none digit) (from_all_below agrees 256 digit all_agree byte)
+table_is digit byte = eqb-true (tabled digit) (value_or_none digit) (from_all_below agrees 256 digit all_agree byte)
 
 -- ---- pairs of digits
 

@@ -300,3 +300,39 @@ pub run_decoded : (w h l : List ℕ) → length w ≡ 32 → h ≡ map value_or_
 run_decoded w h l long is_h is_l =
     let small = mask_l-mod (map (top 7) (zip2 bit_or (zip2 at_most (replicate 16 16) (map value_or_none (evens w))) (zip2 at_most (replicate 16 16) (map value_or_none (odds w))))) 64 (omega arith) in
     rw (is_h, is_l) (decoded_is w (omega (arith, long)) ∙ ap bytes (woven w long) ∙ by_mask (evens w) (odds w) _ refl (sym small))
+
+-- ---- the same of a short run
+
+abbrev pub few_evens : List ℕ → List ℕ
+few_evens w = pick_l 0 w (0 ∷ 2 ∷ 4 ∷ 6 ∷ 8 ∷ 10 ∷ 12 ∷ 14 ∷ [])
+
+abbrev pub few_odds : List ℕ → List ℕ
+few_odds w = pick_l 0 w (1 ∷ 3 ∷ 5 ∷ 7 ∷ 9 ∷ 11 ∷ 13 ∷ 15 ∷ [])
+
+few_woven : (w : List ℕ) → length w ≡ 16 → w ≡ weave (few_evens w) (few_odds w)
+unfolding weave
+few_woven w long = sym (pick_l_whole 0 w 16 long)
+
+few_decoded : (w h l : List ℕ) → length w ≡ 16 → h ≡ map value_or_none (few_evens w) → l ≡ map value_or_none (few_odds w)
+    → result_ok (decode_of w)
+    ≡ (if nat_eq (mask_l (map (top 7) (zip2 bit_or (zip2 at_most (replicate 8 16) h) (zip2 at_most (replicate 8 16) l))) % 2 ^ 64) 0
+    then Some (zip2 (λ a b. (a + b) % 256) (zip2 (λ a b. (a * b) % 256) h (replicate 8 16)) l) else None)
+few_decoded w h l long is_h is_l =
+    let small = mask_l-mod (map (top 7) (zip2 bit_or (zip2 at_most (replicate 8 16) (map value_or_none (few_evens w))) (zip2 at_most (replicate 8 16) (map value_or_none (few_odds w))))) 64 (omega arith) in
+    rw (is_h, is_l) (decoded_is w (omega (arith, long)) ∙ ap bytes (few_woven w long) ∙ by_mask (few_evens w) (few_odds w) _ refl (sym small))
+
+put_whole : (xs ys : List ℕ) → length xs ≡ length ys → put_chunk 0 xs ys ≡ ys
+put_whole [] [] same = refl
+put_whole [] (y ∷ ys) same = absurd (omega (arith, same))
+put_whole (x ∷ xs) [] same = absurd (omega (arith, same))
+put_whole (x ∷ xs) (y ∷ ys) same = ap (λ rest. y ∷ rest) (put_whole xs ys (omega (arith, same)))
+
+-- in memory of just their length
+pub few_stored : (w h l out : List ℕ) → length w ≡ 16 → length out ≡ 8 → h ≡ map value_or_none (few_evens w) → l ≡ map value_or_none (few_odds w)
+    → result_ok (decode_of w)
+    ≡ (if nat_eq (mask_l (map (top 7) (zip2 bit_or (zip2 at_most (replicate 8 16) h) (zip2 at_most (replicate 8 16) l))) % 2 ^ 64) 0
+    then Some (put_chunk 0 out (zip2 (λ a b. (a + b) % 256) (zip2 (λ a b. (a * b) % 256) h (replicate 8 16)) l)) else None)
+few_stored w h l out long room is_h is_l =
+    let bytes = zip2 (λ a b. (a + b) % 256) (zip2 (λ a b. (a * b) % 256) h (replicate 8 16)) l in
+    let eight : length bytes ≡ 8 = rw (is_h, is_l) refl in
+    rw (put_whole out bytes (omega (arith, room, eight))) (few_decoded w h l long is_h is_l)

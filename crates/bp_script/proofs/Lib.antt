@@ -9,3 +9,4 @@ pub mod Numbers
 pub mod PlainPath
 pub mod Rows
 pub mod Splitting
+pub mod WrittenPieces

@@ -1,5 +1,5 @@
 -- The text of a name, and how long it is.
-use Rattle.std.proofs.Common.{◌≡◌, ℕ, ◌*◌, ◌+◌, ◌≤◌, List, [], ◌∷◌, ◌++◌, length, Bool, true, false, not, if◌then◌else◌, refl, sym, ◌∙◌, ap, arith, length-append, true≢false, nat_lt}
+use Rattle.std.proofs.Common.{◌≡◌, ℕ, ◌*◌, ◌≤◌, List, [], ◌∷◌, ◌++◌, length, Bool, true, false, not, if◌then◌else◌, refl, sym, ◌∙◌, ap, arith, length-append, true≢false, nat_lt}
 use Rattle.std.proofs.lemmas.Bool.Decides.{nat_tests}
 use borrow.Author.Tests.{ltb-true, ltb-false}
 use Rattle.percent_encoding.specs.declared.ascii_set.AsciiSet.{AsciiSet}
@@ -66,7 +66,6 @@ length-percent_encode set (b ∷ bytes) = go (should_percent_encode set b) refl 
     go true e rest = omega (arith, rest, ap length (percent_encode_escaped set b bytes e), length-append (percent_encode_byte b) (percent_encode set bytes), three b)
     go false e rest = omega (arith, rest, ap length (percent_encode_kept set b bytes e))
 
--- what was written and a further piece fit
-pub piece_of_name_fits : (name text piece rest left : List ℕ) → text ++ left ≡ percent_encode ESCAPED name → left ≡ piece ++ rest → length name ≤ 240 → length text + length piece ≤ 720
-piece_of_name_fits name text piece rest left whole cut short =
-    omega (arith, length-percent_encode ESCAPED name, ap length whole, length-append text left, ap length cut, length-append piece rest, short)
+-- the text of a name is three times as long at most
+pub name_text_fits : (name : List ℕ) → length name ≤ 240 → length (name_text name) ≤ 720
+name_text_fits name short = omega (arith, short, length-percent_encode ESCAPED name, ap length (percent_encode-name name))

@@ -11,25 +11,49 @@ use std::simd::prelude::*;
 /// How many bytes are done at a time.
 const LANES: usize = 16;
 
+/// How many bytes are done at a time where there are fewer.
+const FEW_LANES: usize = 8;
+
 /// What stands for a byte that is no digit: more than the value of any digit.
 const NO_DIGIT: u8 = 16;
 
 /// The bit that tells a letter of lower case from the same one of upper case.
 const LOWER_CASE: u8 = 32;
 
-/// The value of each digit of either case, and `NO_DIGIT` at each other byte.
-const DIGIT_VALUES: [u8; 256] = [
-    16, 16, 16, 16, 16, 16, 16, 16, 16, 16, 16, 16, 16, 16, 16, 16, 16, 16, 16, 16, 16, 16, 16, 16,
-    16, 16, 16, 16, 16, 16, 16, 16, 16, 16, 16, 16, 16, 16, 16, 16, 16, 16, 16, 16, 16, 16, 16, 16,
-    0, 1, 2, 3, 4, 5, 6, 7, 8, 9, 16, 16, 16, 16, 16, 16, 16, 10, 11, 12, 13, 14, 15, 16, 16, 16,
-    16, 16, 16, 16, 16, 16, 16, 16, 16, 16, 16, 16, 16, 16, 16, 16, 16, 16, 16, 16, 16, 16, 16, 10,
-    11, 12, 13, 14, 15, 16, 16, 16, 16, 16, 16, 16, 16, 16, 16, 16, 16, 16, 16, 16, 16, 16, 16, 16,
-    16, 16, 16, 16, 16, 16, 16, 16, 16, 16, 16, 16, 16, 16, 16, 16, 16, 16, 16, 16, 16, 16, 16, 16,
-    16, 16, 16, 16, 16, 16, 16, 16, 16, 16, 16, 16, 16, 16, 16, 16, 16, 16, 16, 16, 16, 16, 16, 16,
-    16, 16, 16, 16, 16, 16, 16, 16, 16, 16, 16, 16, 16, 16, 16, 16, 16, 16, 16, 16, 16, 16, 16, 16,
-    16, 16, 16, 16, 16, 16, 16, 16, 16, 16, 16, 16, 16, 16, 16, 16, 16, 16, 16, 16, 16, 16, 16, 16,
-    16, 16, 16, 16, 16, 16, 16, 16, 16, 16, 16, 16, 16, 16, 16, 16, 16, 16, 16, 16, 16, 16, 16, 16,
-    16, 16, 16, 16, 16, 16, 16, 16, 16, 16, 16, 16, 16, 16,
+/// The value of each digit of either case, and `NO_DIGIT` at each other byte: eight bytes in a row.
+const DIGIT_VALUES: [[u8; 8]; 32] = [
+    [16, 16, 16, 16, 16, 16, 16, 16],
+    [16, 16, 16, 16, 16, 16, 16, 16],
+    [16, 16, 16, 16, 16, 16, 16, 16],
+    [16, 16, 16, 16, 16, 16, 16, 16],
+    [16, 16, 16, 16, 16, 16, 16, 16],
+    [16, 16, 16, 16, 16, 16, 16, 16],
+    [0, 1, 2, 3, 4, 5, 6, 7],
+    [8, 9, 16, 16, 16, 16, 16, 16],
+    [16, 10, 11, 12, 13, 14, 15, 16],
+    [16, 16, 16, 16, 16, 16, 16, 16],
+    [16, 16, 16, 16, 16, 16, 16, 16],
+    [16, 16, 16, 16, 16, 16, 16, 16],
+    [16, 10, 11, 12, 13, 14, 15, 16],
+    [16, 16, 16, 16, 16, 16, 16, 16],
+    [16, 16, 16, 16, 16, 16, 16, 16],
+    [16, 16, 16, 16, 16, 16, 16, 16],
+    [16, 16, 16, 16, 16, 16, 16, 16],
+    [16, 16, 16, 16, 16, 16, 16, 16],
+    [16, 16, 16, 16, 16, 16, 16, 16],
+    [16, 16, 16, 16, 16, 16, 16, 16],
+    [16, 16, 16, 16, 16, 16, 16, 16],
+    [16, 16, 16, 16, 16, 16, 16, 16],
+    [16, 16, 16, 16, 16, 16, 16, 16],
+    [16, 16, 16, 16, 16, 16, 16, 16],
+    [16, 16, 16, 16, 16, 16, 16, 16],
+    [16, 16, 16, 16, 16, 16, 16, 16],
+    [16, 16, 16, 16, 16, 16, 16, 16],
+    [16, 16, 16, 16, 16, 16, 16, 16],
+    [16, 16, 16, 16, 16, 16, 16, 16],
+    [16, 16, 16, 16, 16, 16, 16, 16],
+    [16, 16, 16, 16, 16, 16, 16, 16],
+    [16, 16, 16, 16, 16, 16, 16, 16],
 ];
 
 /// Decodes pairs of digits of either case, and tells whether all of them are digits.
@@ -40,7 +64,7 @@ pub(crate) fn decode_digits(digits: &[u8], into: &mut [u8]) -> bool
     let whole = into.len() / LANES * LANES;
     let (long, short) = digits.split_at(2 * whole);
     let (front, back) = into.split_at_mut(whole);
-    decode_runs(long, front) && decode_pairs(short, back)
+    decode_runs(long, front) && decode_few(short, back)
 }
 
 /// The same for whole runs of digits.
@@ -76,18 +100,48 @@ fn decode_run(digits: &[u8]) -> (u8x16, bool)
 }
 
 /// The values of digits of either case, or `NO_DIGIT`.
-fn values_of(digits: u8x16) -> u8x16
-    ensures { result ≡ map (λ digit. unwrap_or (hex_digit_value digit) NO_DIGIT) digits }
+fn values_of<const N: usize>(digits: Simd<u8, N>) -> Simd<u8, N>
+    ensures { result ≡ map (λ digit. unwrap_or (hex_digit_value digit) NO_DIGIT) digits.entry }
 {
-    let number = digits - u8x16::splat(b'0');
-    let letter = (digits | u8x16::splat(LOWER_CASE)) - u8x16::splat(b'a');
+    let number = digits - Simd::splat(b'0');
+    let letter = (digits | Simd::splat(LOWER_CASE)) - Simd::splat(b'a');
     let of_letter = letter
-        .simd_lt(u8x16::splat(6))
-        .select(letter + u8x16::splat(10), u8x16::splat(NO_DIGIT));
-    number.simd_lt(u8x16::splat(10)).select(number, of_letter)
+        .simd_lt(Simd::splat(6))
+        .select(letter + Simd::splat(10), Simd::splat(NO_DIGIT));
+    number.simd_lt(Simd::splat(10)).select(number, of_letter)
 }
 
-/// The same for few digits.
+/// The same as `decode_digits` for few digits.
+fn decode_few(digits: &[u8], into: &mut [u8]) -> bool
+    requires { length digits.now ≡ 2 * length into.old }
+    ensures { result_ok (decode_of digits.now) ≡ (if result then Some into.new else None) }
+{
+    if into.len() < FEW_LANES {
+        return decode_pairs(digits, into);
+    }
+    let (first, rest) = digits.split_at(2 * FEW_LANES);
+    let (front, back) = into.split_at_mut(FEW_LANES);
+    decode_short_run(first, front) && decode_pairs(rest, back)
+}
+
+/// The same for a short run of digits.
+fn decode_short_run(digits: &[u8], into: &mut [u8]) -> bool
+    requires digits { length digits.now ≡ 2 * FEW_LANES }
+    requires into { length into.old ≡ FEW_LANES }
+    ensures { result_ok (decode_of digits.now) ≡ (if result then Some into.new else None) }
+{
+    let first = u8x8::from_slice(digits);
+    let second = u8x8::from_slice(&digits[FEW_LANES..]);
+    let (high, low) = first.deinterleave(second);
+    let high = values_of(high);
+    let low = values_of(low);
+    let none = u8x8::splat(NO_DIGIT);
+    let foreign = high.simd_ge(none) | low.simd_ge(none);
+    (high * u8x8::splat(16) + low).copy_to_slice(into);
+    foreign.to_bitmask() == 0
+}
+
+/// The same pair by pair.
 fn decode_pairs(digits: &[u8], into: &mut [u8]) -> bool
     requires { length digits.now ≡ 2 * length into.old }
     ensures { result_ok (decode_of digits.now) ≡ (if result then Some into.new else None) }
@@ -114,7 +168,7 @@ fn greatest(first: u8, second: u8, third: u8) -> u8
 fn value_of(digit: u8) -> u8
     ensures { result ≡ unwrap_or (hex_digit_value digit) NO_DIGIT }
 {
-    DIGIT_VALUES[digit as usize]
+    DIGIT_VALUES[digit as usize / 8][digit as usize % 8]
 }
 
 /// Writes each byte as two digits of lower case.

@@ -535,7 +535,10 @@ fn digits_of(word: &[u8]) -> &[u8]
     ensures bytes { result_ok (decode_of result.now) ≡ bytes_of word.now }
     ensures len { length result.now ≤ length word.now }
 {
-    if word == b"-".as_slice() { &[] } else { word }
+    match word {
+        b"-" => &[],
+        _ => word,
+    }
 }
 
 /// The number that a word stands for: one to twenty decimal digits, with a value below 2^64.
@@ -543,8 +546,35 @@ fn number(word: &[u8]) -> Option<u64>
     ensures { result ≡ number_of word.now }
 {
     if word.is_empty() || word.len() > MOST_DIGITS {
-        return None;
+        None
+    } else if word.len() < MOST_DIGITS {
+        short_number(word)
+    } else {
+        long_number(word)
     }
+}
+
+/// The same for so few digits that any of them are a number below 2^64.
+fn short_number(word: &[u8]) -> Option<u64>
+    requires some { 1 ≤ length word.now }
+    requires short { length word.now < MOST_DIGITS }
+    ensures { result ≡ number_of word.now }
+{
+    let mut value: u64 = 0;
+    for &byte in word {
+        if !byte.is_ascii_digit() {
+            return None;
+        }
+        value = value * 10 + (byte - b'0') as u64;
+    }
+    Some(value)
+}
+
+/// The same for as many digits as there may be.
+fn long_number(word: &[u8]) -> Option<u64>
+    requires { length word.now ≡ MOST_DIGITS }
+    ensures { result ≡ number_of word.now }
+{
     let mut value: u64 = 0;
     for &byte in word {
         if !byte.is_ascii_digit() {

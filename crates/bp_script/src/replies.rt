@@ -4,11 +4,10 @@ ghost use Rattle.bp_limits.specs.Limits.{max_name, max_read, max_text};
 ghost use Rattle.bp_plain.specs.Seen.{refusal_of};
 ghost use Rattle.bp_plain.specs.SeenAnswers.{answer_seen};
 ghost use Rattle.bp_script.specs.Sayings.{FitsReply, IsLine, said_text};
-ghost use Rattle.bp_script.specs.Texts.{answer_text, data_text, entry_text, kept_text, kind_letter, log_text, name_text, refusal_text};
-ghost use Rattle.std.specs.Prelude.{drop, length, take, ◌*◌, ◌++◌, ◌≡◌, ◌≤◌};
+ghost use Rattle.bp_script.specs.Texts.{answer_text, data_text, entry_text, is_escaped, kept_text, kind_letter, log_text, name_text, refusal_text};
+ghost use Rattle.std.specs.Prelude.{IsTrue, codes, drop, length, take, ◌*◌, ◌+◌, ◌++◌, ◌≡◌, ◌≤◌};
 
 use crate::pieces::{put, put_digits, write_pair, write_pieces};
-use arrayvec::ArrayVec;
 use bp_layout::Kind;
 use bp_plain::{Answer, FsError};
 use percent_encoding::{AsciiSet, CONTROLS, ascii_set, percent_encode};
@@ -189,48 +188,73 @@ fn say_refused(error: FsError, into: &mut [u8]) -> usize
 }
 
 /// Writes the line of a name.
+#[tactic(auto, using(crate::proofs::NameText::name_text_fits))]
 fn say_name(kind: Kind, name: &[u8], into: &mut [u8]) -> usize
     requires room { max_text ≤ length into.old }
     requires short { length name.now ≤ max_name }
     ensures whole { into.new ≡ entry_text (kind, name.now) ++ drop result into.old }
     ensures len { result ≡ length (entry_text (kind, name.now)) }
 {
-    let text = escaped(name);
-    write_pieces(
-        into,
-        &[
-            b"entry ",
-            letter_of(kind).as_bytes(),
-            b" ",
-            text.as_slice(),
-            b"\n",
-        ],
-    )
+    let end = put(into, 0, name_front(kind).as_bytes());
+    let end = put_name(into, end, name);
+    put(into, end, b"\n")
 }
 
-/// The letter of a kind.
-fn letter_of(kind: Kind) -> &'static str
-    ensures { result.now ≡ kind_letter kind }
+/// What stands before a name in its line.
+fn name_front(kind: Kind) -> &'static str
+    ensures { result.now ≡ codes "entry " ++ kind_letter kind ++ codes " " }
 {
     match kind {
-        Kind::File => "f",
-        Kind::Dir => "d",
+        Kind::File => "entry f ",
+        Kind::Dir => "entry d ",
     }
 }
 
-/// The text of a name.
-fn escaped(name: &[u8]) -> ArrayVec<u8, 720>
-    requires { length name.now ≤ max_name }
-    ensures { result.items ≡ name_text name.now }
+/// Writes the text of a name at a place of a buffer, and tells where it ends.
+fn put_name(into: &mut [u8], at: usize, name: &[u8]) -> usize
+    requires { at + length (name_text name.now) ≤ length into.old }
+    ensures text { into.new ≡
+        take at into.old ++ name_text name.now ++ drop (at + length (name_text name.now)) into.old }
+    ensures end { result ≡ at + length (name_text name.now) }
 {
-    let mut text = ArrayVec::new();
-    for piece in percent_encode(name, ESCAPED) {
-        match text.try_extend_from_slice(piece.as_bytes()) {
-            Ok(()) => {}
-            Err(_) => unreachable!(),
-        }
+    // Few names have a byte to escape, and the others are copied in one go.
+    if is_plain(name) {
+        put(into, at, name)
+    } else {
+        put_escaped(into, at, name)
     }
-    text
+}
+
+/// Whether a name has no byte to escape. It looks at all bytes, so that it can look at many at once.
+fn is_plain(name: &[u8]) -> bool
+    ensures { IsTrue result → name_text name.now ≡ name.now }
+{
+    let mut plain = true;
+    for byte in name {
+        plain &= !is_escaped(*byte);
+    }
+    plain
+}
+
+/// Whether a byte of a name is escaped.
+fn is_escaped(byte: u8) -> bool
+    ensures { result ≡ is_escaped byte }
+{
+    (byte <= b' ') | (byte >= 127) | (byte == b'%') | (byte == b'/')
+}
+
+/// Writes the text of a name run by run, as [`put_name`] does.
+fn put_escaped(into: &mut [u8], at: usize, name: &[u8]) -> usize
+    requires { at + length (name_text name.now) ≤ length into.old }
+    ensures text { into.new ≡
+        take at into.old ++ name_text name.now ++ drop (at + length (name_text name.now)) into.old }
+    ensures end { result ≡ at + length (name_text name.now) }
+{
+    let mut end = at;
+    for piece in percent_encode(name, ESCAPED) {
+        end = put(into, end, piece.as_bytes());
+    }
+    end
 }
 
 /// Writes the line of bytes of a file.

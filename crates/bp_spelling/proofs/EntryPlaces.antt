@@ -63,6 +63,13 @@ module _ (image : Image) (root size slot : ℕ) (full : IsFull image root size) 
       let present : node image root (height_of root) (slot / 16) ≢ 0 = full _ _ (leaf_pointer root size slot live) in
       present (omega (arith, place-is, none))
 
+-- sixteen entries share a block
+pub row_place : (image : Image) (root first k : ℕ) → first % 16 ≡ 0 → k < 16 → entry_place_in image root (first + k) ≡ entry_place_in image root first + 32 * k
+row_place image root first k start low =
+    let leaf : (32 * (first + k) + 0) / 512 ≡ (32 * first + 0) / 512 = omega (arith, start, low) in
+    let at : (32 * (first + k) + 0) % 512 ≡ (32 * first + 0) % 512 + 32 * k = omega (arith, start, low) in
+    ap₂ (λ l s. 512 * node image root (height_of root) l + s) leaf at ∙ omega arith
+
 -- an entry ends before the image does
 pub place_fits : (image : Image) (root size slot : ℕ) → IsSound image root size → IsFull image root size → slot < size / 256 → entry_place_in image root slot + 32 ≤ length image
 place_fits image root size slot sound full live = omega (arith, place-is image root size slot full live, leaf_in_range image root size slot sound live)

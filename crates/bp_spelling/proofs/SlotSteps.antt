@@ -7,20 +7,13 @@ use Rattle.std.proofs.lemmas.List.{map-append, take_more_set}
 use Rattle.std.proofs.lemmas.List.Elements.{All-push}
 use Rattle.bp_layout.specs.Words.{Image}
 use Rattle.bp_layout.specs.Directory.{IsName, inumber_in, name_in}
+use Rattle.bp_spelling.specs.Gathered.{IsGathered}
 use Rattle.bp_spelling.specs.Names.{entry_place_in}
 use Rattle.bp_spelling.specs.declared.entry.Spelled.{Spelled}
 use Rattle.bp_spelling.specs.Hashes.{IsSpelled, places_of}
 use Rattle.bp_spelling.specs.Places.{used_places}
 use Rattle.bp_spelling.specs.Tables.{IsPresent}
 use Rattle.bp_spelling.proofs.UsedPlaces.{empty_slot, used_slot}
-
--- so many entries were written down, those below a slot
-pub record IsGathered (image : Image) (root end slot : ℕ) (entries : List Spelled) (count : ℕ) : Type 0 where
-  pub few : count ≤ slot
-  pub gathered : places_of (take count entries) ++ used_places image root (range_with_len slot (end - slot)) ≡ used_places image root (range_with_len 0 end)
-  pub hashed : All (IsSpelled image) (take count entries)
-  pub present : All IsPresent (take count entries)
-  pub forms : (k : ℕ) → k < slot → inumber_in image root k ≢ 0 → IsName (name_in image root k)
 
 next_slot : (slot end : ℕ) → slot < end → range_with_len slot (end - slot) ≡ slot ∷ range_with_len (slot + 1) (end - (slot + 1))
 next_slot slot end below = let n : end - slot ≡ suc (end - (slot + 1)) = omega (arith, below) in ap (range_with_len slot) n

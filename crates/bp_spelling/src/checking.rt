@@ -17,8 +17,8 @@ use crate::table::{REACH, Stop, check_by_table};
 use bp_tree::Tree;
 use pm_region::Region;
 
-/// What [`check_by_table`] tells of the first entries, so many, by a table in the memory behind them that is at most half
-/// full, where there is room for one.
+/// What [`check_by_table`] tells of the first entries, so many, by a table in the memory behind them that is at most
+/// half full, where there is room for one.
 fn try_table<R: Region>(region: &R, entries: &mut [Spelled], count: usize) -> Result<(), Stop>
     requires count { count ≤ length entries.old }
     requires spelled { All (IsSpelled (current_words (R.memory region.now))) (take count entries.old) }
@@ -37,9 +37,9 @@ fn try_table<R: Region>(region: &R, entries: &mut [Spelled], count: usize) -> Re
     check_by_table(region, found, &mut table[..2 * count + REACH + 1])
 }
 
-/// Checks the names of a directory's entries that name an inode. `entries` is memory for as many as the directory has. It
-/// takes time linear in them where that has room for three times as many and some more, and few hashes fall together; else
-/// it sorts them.
+/// Checks the names of a directory's entries that name an inode. `entries` is memory for as many as the directory has.
+/// It takes time linear in them where that has room for three times as many and some more, and few hashes fall together;
+/// else it sorts them.
 ///
 /// # Errors
 ///

@@ -1,9 +1,10 @@
 //! The entries of a directory, by their places.
 
-ghost use Rattle.std.specs.Prelude.{◌≡◌, ◌/◌, ◌≤◌, length, take, All, IfOk, OnOk, IfErr};
+ghost use Rattle.std.specs.Prelude.{◌≡◌, ◌+◌, ◌/◌, ◌%◌, ◌<◌, ◌≤◌, min, length, take, All, IfOk, OnOk, IfErr};
 ghost use Rattle.bp_layout.specs.Directory.{slots};
 ghost use Rattle.bp_layout.specs.Tree.{IsSound, IsFull};
 ghost use Rattle.bp_limits.specs.Limits.{entry_size};
+ghost use Rattle.bp_spelling.specs.Gathered.{IsGathered};
 ghost use Rattle.bp_spelling.specs.Hashes.{IsSpelled, places_of};
 ghost use Rattle.bp_spelling.specs.Places.{used_places, HaveForms, IsMisspelled};
 ghost use Rattle.bp_spelling.specs.Tables.{IsPresent};
@@ -12,10 +13,54 @@ ghost use Rattle.pm_region.specs.Memory.{current_words};
 use crate::entry::Spelled;
 use crate::form::is_name;
 use crate::hashing::hash_name;
-use crate::places::next_place;
+use crate::rows::named_in_row;
+use bp_dirs::entry_place;
 use bp_limits::ENTRY_SIZE;
 use bp_tree::Tree;
 use pm_region::Region;
+
+/// Writes down the entries of a leaf, those from a slot on, behind so many that were written down before, and says how
+/// many there are then.
+fn gather_leaf<R: Region>(
+    region: &R,
+    tree: Tree,
+    first: u64,
+    entries: &mut [Spelled],
+    before: usize,
+) -> Result<usize, u32>
+    requires sound { IsSound (current_words (R.memory region.now)) tree.root tree.size }
+    requires full { IsFull (current_words (R.memory region.now)) tree.root tree.size }
+    requires starts { first % 16 ≡ 0 }
+    requires live { first < tree.size / entry_size }
+    requires room { tree.size / entry_size ≤ length entries.old }
+    requires before { let words = current_words (R.memory region.now) in
+        IsGathered words tree.root (tree.size / entry_size) first entries.old before }
+    ensures gathered { let words = current_words (R.memory region.now) in
+        let end = tree.size / entry_size in
+        IfOk result (λ count. IsGathered words tree.root end (min (first + 16) end) entries.new count) }
+    ensures err { IfErr result (IsMisspelled (current_words (R.memory region.now)) tree.root tree.size) }
+    ensures room { length entries.new ≡ length entries.old }
+{
+    let _words = region.words();
+    let row = entry_place(region, tree, first, 0);
+    let slots = (tree.size / ENTRY_SIZE - first).min(16) as u32;
+    let named = named_in_row(region, row, slots);
+    let mut count = before;
+    for k in 0..slots {
+        let place = row + 32 * k;
+        if named[k as usize] != 0 {
+            if !is_name(region, place) {
+                return Err(place + 1);
+            }
+            entries[count] = Spelled {
+                hash: hash_name(region, place),
+                place,
+            };
+            count += 1;
+        }
+    }
+    Ok(count)
+}
 
 /// Writes down the entries that name an inode, with the hashes of their names, and says how many there are.
 ///
@@ -40,21 +85,12 @@ pub(crate) fn gather<R: Region>(
     ensures err { IfErr result (IsMisspelled (current_words (R.memory region.now)) tree.root tree.size) }
     ensures room { length entries.new ≡ length entries.old }
 {
-    let _words = region.words();
     let mut count = 0;
-    let mut place = 0;
-    for slot in 0..tree.size / ENTRY_SIZE {
-        place = next_place(region, tree, slot, place);
-        if region.load(place) != 0 {
-            if !is_name(region, place) {
-                return Err(place + 1);
-            }
-            entries[count] = Spelled {
-                hash: hash_name(region, place),
-                place,
-            };
-            count += 1;
-        }
+    for leaf in 0..(tree.size / ENTRY_SIZE).div_ceil(16) {
+        count = match gather_leaf(region, tree, 16 * leaf, entries, count) {
+            Ok(count) => count,
+            Err(place) => return Err(place),
+        };
     }
     Ok(count)
 }

@@ -9,7 +9,7 @@ mod form;
 mod gathering;
 mod hashing;
 mod name_words;
-mod places;
+mod rows;
 mod table;
 #[cfg(test)]
 mod tests;
@@ -17,4 +17,4 @@ mod tests;
 pub use checking::check_names;
 pub use entry::Spelled;
 pub use fault::NameFault;
-pub use places::next_place;
+pub use rows::named_in_row;

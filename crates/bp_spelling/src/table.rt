@@ -59,8 +59,8 @@ fn put<R: Region>(region: &R, table: &mut [Spelled], entry: Spelled) -> Result<(
     Err(Clash::Full)
 }
 
-/// Puts entries into a table, whatever stands in it: an error where one has the name of another, or where the table does
-/// not tell. It takes time linear in the entries and the cells.
+/// Puts entries into a table, whatever stands in it: an error where one has the name of another, or where the table
+/// does not tell. It takes time linear in the entries and the cells.
 pub(crate) fn check_by_table<R: Region>(
     region: &R,
     entries: &[Spelled],

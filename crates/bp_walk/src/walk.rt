@@ -94,7 +94,8 @@ fn live_slots(size: u64, top: Node) -> u32
     ((rest - 1) / span(top.level) + 1).min(512) as u32
 }
 
-/// Whether all of these pointers are null. It looks at each, which takes less time than to stop at the first that isn't.
+/// Whether all of these pointers are null. It looks at each, which takes less time than to stop at the first that
+/// isn't.
 fn are_null(pointers: &[u64]) -> bool
     ensures { result ≡ true → (i : ℕ) → i < length pointers.now → slice_index pointers.now i ≡ 0 }
 {

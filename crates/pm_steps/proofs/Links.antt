@@ -5,11 +5,11 @@ use Rattle.std.proofs.lemmas.List.{length-set, get_or-set_same, get_or-set_other
 use Rattle.std.proofs.Math.Nat.{mod-lt}
 use Rattle.std.proofs.lemmas.List.Folds.{list_any_at}
 use Rattle.std.proofs.lemmas.Bool.{cases_eq, ne_eqb}
-use Rattle.pm_steps.specs.WordSet.{is_noted, IsLast, IsLinked}
+use Rattle.pm_steps.specs.WordSet.{is_noted, remainders, IsLast, IsLinked}
 
-pub linked_none : (heads : List ℕ) → IsLinked [] [] heads
-linked_none heads = record {
-  few = omega arith;
+pub linked_none : (heads : List ℕ) → length heads ≡ remainders → IsLinked [] [] heads
+linked_none heads sized = record {
+  sized = sized;
   each = refl;
   heads_last = λ remainder low k below. absurd (omega arith);
   before_last = λ i low. absurd (omega arith);
@@ -38,9 +38,9 @@ last_more words word divisor remainder bound entry few last = λ k below leaves.
       ap (λ n. n % divisor) (get_front words word entry (omega (arith, found.1))) ∙ found.2,
     )
 
-pub linked_note : (words before heads : List ℕ) (word : ℕ) → IsLinked words before heads → length words < length heads → IsLinked (words ++ word ∷ []) (before ++ get_or heads (word % length heads) 0 ∷ []) (set heads (word % length heads) (length words))
-linked_note words before heads word linked room = record {
-  few = omega (arith, count, same_room, room);
+pub linked_note : (words before heads : List ℕ) (word : ℕ) → IsLinked words before heads → IsLinked (words ++ word ∷ []) (before ++ get_or heads (word % length heads) 0 ∷ []) (set heads (word % length heads) (length words))
+linked_note words before heads word linked = record {
+  sized = same_room ∙ linked.sized;
   each = omega (arith, count, length-append before (get_or heads (word % length heads) 0 ∷ []), linked.each);
   heads_last = λ remainder low. rw same_room (heads_new remainder (omega (arith, low, same_room)));
   before_last = λ i low. rw same_room (before_new i (omega (arith, low, count)));
@@ -53,7 +53,7 @@ linked_note words before heads word linked room = record {
     same_room = length-set heads (word % length heads) (length words)
 
     here_low : word % length heads < length heads
-    here_low = mod-lt word (omega (arith, room))
+    here_low = mod-lt word (omega (arith, linked.sized))
 
     heads_new : (remainder : ℕ) → remainder < length heads → IsLast (words ++ word ∷ []) (length heads) remainder (length (words ++ word ∷ [])) (get_or (set heads (word % length heads) (length words)) remainder 0)
     heads_new remainder low = elim (cases_eq (word % length heads) remainder) [

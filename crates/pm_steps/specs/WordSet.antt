@@ -17,10 +17,14 @@ IsLast words divisor remainder bound entry =
     (k : ℕ) → k < bound → slice_index words k % divisor ≡ remainder →
     (k ≤ entry) × (entry < bound) × (slice_index words entry % divisor ≡ remainder)
 
+-- how many remainders there are, by which words are found
+abbrev pub remainders : ℕ
+remainders = 16384
+
 -- for each remainder the last entry that leaves it, and for each entry the one before it with the same remainder, as far as
 -- there are some
 pub record IsLinked (words before heads : List ℕ) : Type 0 where
-  pub few : length words ≤ length heads
+  pub sized : length heads ≡ remainders
   pub each : length before ≡ length words
   pub heads_last : (remainder : ℕ) → remainder < length heads →
       IsLast words (length heads) remainder (length words) (slice_index heads remainder)

@@ -73,7 +73,9 @@ impl<'a, R: Region> Machine<'a, R> {
         requires { length self.old.backs.now.back < length (R.memory self.old.region.now).events }
         ensures same_region { self.new.region.now ≡ self.old.region.now }
         ensures same_backs { self.new.backs.ghost_name ≡ self.old.backs.ghost_name }
-        ensures executed { self.new.backs.now ≡ record self.old.backs.now { back = self.old.backs.now.back ++ false ∷ [] } }
+        ensures executed { self.new.backs.now ≡ record self.old.backs.now {
+          back = self.old.backs.now.back ++ false ∷ [];
+        } }
     {
         self.backs.push();
     }

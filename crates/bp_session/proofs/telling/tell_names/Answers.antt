@@ -12,7 +12,7 @@ loop-i-init g c = record { passes = passes_nothing _ _; faults = refl }
 
 pub loop-i-preserved : goal.loop-i-preserved
 loop-i-preserved g c = record {
-  passes = rw (listed entry_text c.args.listing.now c.loop-i.i _ c.at.ensures.entry) (passes_then _ _ _ _ _ _ _ _ c.loop-i.invariant.passes c.in_ok-tell.ensures.all);
+  passes = rw (listed entry_text c.args.listing.now c.loop-i.i _ c.at-kind.ensures.entry) (passes_then _ _ _ _ _ _ _ _ c.loop-i.invariant.passes c.in_ok-tell.ensures.all);
   faults = c.in_ok-tell.ensures.cause.same ∙ c.loop-i.invariant.faults;
 }
 
@@ -20,7 +20,7 @@ pub returns-in_err-tell-clause-some : goal.returns-in_err-tell-clause-some
 returns-in_err-tell-clause-some g c =
     let p = err_from_is_err_and c.from_residual.result c.from_residual.ensures.1 in
     let cut = c.in_err-tell.ensures.some in
-    rw p.1 (rw (around entry_text c.args.listing.now c.loop-i.i _ (codes "end\n") c.at.ensures.entry) (part_before _ _ _ _ _ _ _ _ c.loop-i.invariant.passes cut))
+    rw p.1 (rw (around entry_text c.args.listing.now c.loop-i.i _ (codes "end\n") c.at-kind.ensures.entry) (part_before _ _ _ _ _ _ _ _ c.loop-i.invariant.passes cut))
 
 pub returns-clause-all : goal.returns-clause-all
 returns-clause-all g c =

@@ -1,11 +1,10 @@
-use Rattle.std.proofs.Common.{◌≡◌, ◌≢◌, ◌-◌, ◌/◌, ◌%◌}
+use Rattle.std.proofs.Common.{◌≡◌, ◌*◌, ◌/◌, min, length}
 use Rattle.pm_region.specs.Memory.{current_words}
-use Rattle.bp_spelling.specs.Names.{entry_place_in}
-use Rattle.bp_spelling.proofs.SlotSteps.{IsGathered}
+use Rattle.bp_spelling.specs.Gathered.{IsGathered}
 use Rattle.bp_spelling.proofs.gathering.gather.Given as goal
 
-abbrev pub invariant-loop-slot : goal.invariant-loop-slot
-invariant-loop-slot g l = record {
-  so_far : IsGathered (current_words (g.R.Region.memory l.region)) l.tree.root (l.tree.size / 256) l.slot l.entries l.count;
-  before : l.slot % 16 ≢ 0 → l.place ≡ entry_place_in (current_words (g.R.Region.memory l.region)) l.tree.root (l.slot - 1);
+abbrev pub invariant-loop-leaf : goal.invariant-loop-leaf
+invariant-loop-leaf g l = record {
+  so_far : IsGathered (current_words (g.R.Region.memory l.region)) l.tree.root (l.tree.size / 256) (min (16 * l.leaf) (l.tree.size / 256)) l.entries l.count;
+  room : length l.entries ≡ length l.fn.entries;
 }

@@ -8,15 +8,13 @@ invariant_of-self c =
     let words = c.self.inside.words.items in
     let before = c.self.inside.before.items in
     let heads = c.self.inside.heads.items in
-    let asked = rw (← c.self.view_is) at c.requires in
-    let room : length words < length heads = grind (arith, common_steps) in
-    let linked = linked_note words before heads c.args.word c.self.invariant.linked room in
+    let linked = linked_note words before heads c.args.word c.self.invariant.linked in
     let words_are : c.push-2.new.self.items ≡ words ++ c.args.word ∷ [] = grind (arith, common_steps) in
     let before_are : c.push.new.self.items ≡ before ++ get_or heads (c.args.word % length heads) 0 ∷ [] = grind (arith, common_steps) in
-    let divisor_is : c.len.result ≡ length heads = grind (arith, common_steps) in
-    let count_is : c.len-2.result ≡ length words = grind (arith, common_steps) in
+    let remainder_is : c.remainder_of-remainder.result ≡ c.args.word % length heads = grind (arith, common_steps) in
+    let count_is : c.len.result ≡ length words = grind (arith, common_steps) in
     record {
-      linked = rw (words_are, before_are, divisor_is, count_is) linked;
+      linked = rw (words_are, before_are, remainder_is, count_is) linked;
       words_reserved = grind (arith, common_steps);
       before_reserved = grind (arith, common_steps);
     }

@@ -1,0 +1,99 @@
+//! The names in a directory.
+
+ghost use Rattle.std.specs.Prelude.{◌++◌, ◌≡◌, ℕ, IfOk, OnOk, [], drop, length};
+ghost use Rattle.std.specs.List.{cons_option, filter_map, range_with_len};
+ghost use Rattle.bp_calls.specs.Asked.{ListsNames, entries_seen, entry_seen};
+ghost use Rattle.bp_calls.specs.Rows.{AreEntries, IsEntry};
+ghost use Rattle.bp_dirs.specs.EntryAt.{HasWords, IsRow};
+ghost use Rattle.bp_layout.specs.Directory.{entry_count};
+ghost use Rattle.bp_layout.specs.Inode.{kind_of, root_of};
+ghost use Rattle.bp_layout.specs.Reached.{IsReached};
+ghost use Rattle.bp_layout.specs.WellFormed.{IsWellFormed};
+ghost use Rattle.bp_limits.specs.Limits.{max_name};
+ghost use Rattle.bp_tree.specs.Bytes.{stored_bytes};
+ghost use Rattle.pm_region.specs.Memory.{current_words};
+
+use crate::entering::tree_of;
+use bp_dirs::count;
+use bp_inodes::get;
+use bp_layout::Listing;
+use bp_limits::{ENTRY_SIZE, MAX_NAME};
+use bp_tree::{leaf_words, unpack};
+use pm_region::Region;
+use std::alloc::{AllocError, Global};
+
+/// The names in directory `i` with their kinds, in the order of their bytes.
+///
+/// # Errors
+///
+/// Where there is no memory for them.
+pub fn list<R: Region>(alloc: Global, region: &R, i: u32) -> Result<Listing, AllocError>
+    requires well_formed { IsWellFormed (current_words (R.memory region.now)) }
+    requires reached { IsReached (current_words (R.memory region.now)) i }
+    requires directory { kind_of (current_words (R.memory region.now)) i ≡ 2 }
+    ensures { IfOk result (λ names. ListsNames (current_words (R.memory region.now)) i names) }
+{
+    let mut listing = entries(alloc, region, i)?;
+    listing.sort();
+    Ok(listing)
+}
+
+/// The kinds and names of the entries of directory `i` that name an inode, in the order of their slots.
+fn entries<R: Region>(alloc: Global, region: &R, i: u32) -> Result<Listing, AllocError>
+    requires well_formed { IsWellFormed (current_words (R.memory region.now)) }
+    requires reached { IsReached (current_words (R.memory region.now)) i }
+    requires directory { kind_of (current_words (R.memory region.now)) i ≡ 2 }
+    ensures { let image = current_words (R.memory region.now) in
+        IfOk result (λ listing. listing ≡ entries_seen image i (entry_count image i)) }
+{
+    let tree = tree_of(region, i);
+    let slots = tree.size / ENTRY_SIZE;
+    let mut listing = Listing::with_capacity(alloc, count(region, tree) as usize)?;
+    for leaf in 0..slots.div_ceil(16) {
+        if let Some(words) = leaf_words(region, tree, leaf) {
+            let count = (slots - 16 * leaf).min(16) as usize;
+            list_row(region, &words[..32 * count], &mut listing)?;
+        }
+    }
+    Ok(listing)
+}
+
+/// Adds the kinds and names of those entries of a directory in a row that name an inode.
+fn list_row<R: Region>(region: &R, words: &[u64], listing: &mut Listing) -> Result<(), AllocError>
+    requires well_formed { IsWellFormed (current_words (R.memory region.now)) }
+    requires entries { AreEntries (current_words (R.memory region.now)) words.now }
+    ensures { let image = current_words (R.memory region.now) in
+        (i first count : ℕ) → IsRow image (root_of image i) first count words.now
+        → OnOk result (listing.new ≡ listing.old ++ filter_map (entry_seen image i) (range_with_len first count)) }
+{
+    for index in 0..words.len() / 32 {
+        list_entry(region, &words[32 * index..32 * index + 32], listing)?;
+    }
+    Ok(())
+}
+
+/// Adds the kind and the name of an entry of a directory, where it names an inode.
+fn list_entry<R: Region>(region: &R, words: &[u64], listing: &mut Listing) -> Result<(), AllocError>
+    requires well_formed { IsWellFormed (current_words (R.memory region.now)) }
+    requires entry { IsEntry (current_words (R.memory region.now)) words.now }
+    ensures { let image = current_words (R.memory region.now) in
+        (i slot : ℕ) → HasWords image (root_of image i) slot words.now
+        → OnOk result (listing.new ≡ listing.old ++ cons_option (entry_seen image i slot) []) }
+{
+    if words[0] == 0 {
+        return Ok(());
+    }
+    let name = name_bytes(words);
+    let kind = get(region, words[0] as u32).kind;
+    listing.push(kind, &name[..words[1] as usize])
+}
+
+/// The bytes of the words in which the name of an entry stands, as many as there are.
+fn name_bytes(words: &[u64]) -> [u8; MAX_NAME]
+    requires { length words.now ≡ 32 }
+    ensures { result ≡ stored_bytes (drop 2 words.now) 0 max_name }
+{
+    let mut name = [0; MAX_NAME];
+    unpack(&words[2..], &mut name);
+    name
+}

@@ -1,0 +1,27 @@
+use Rattle.std.proofs.Common.{ℕ, ◌+◌, ◌*◌, ◌<◌, length, slice_index, slice_set, sym, ◌∙◌, ap, arith, inl, inr}
+use Rattle.std.proofs.lemmas.Bool.{cases_eq}
+use Rattle.std.proofs.lemmas.List.{get_or-set_same, get_or-set_other, length-set}
+use Rattle.pm_region.specs.Memory.{current_words}
+use Rattle.bp_tree.proofs.RegionWords.{length_now}
+use Rattle.bp_layout.specs.Words.{word}
+use Rattle.bp_spelling.proofs.rows.named_in_row.Goals as goal
+
+pub overflow_add-place : goal.overflow_add-place
+overflow_add-place g c = omega (arith, length_now (g.R.Region.memory c.args.region.now), c.requires.within, c.loop-k-test.true)
+
+pub load-requires : goal.load-requires
+load-requires g c = omega (arith, length_now (g.R.Region.memory c.args.region.now), c.requires.within, c.loop-k-test.true)
+
+pub loop-k-preserved : goal.loop-k-preserved
+loop-k-preserved g c =
+    let image = current_words (g.R.Region.memory c.args.region.now) in
+    let k = c.loop-k.k in
+    let named = c.loop-k.named in
+    let inside : k < length named = omega (arith, c.requires.few, c.loop-k-test.true, c.loop-k.invariant.long) in
+    record {
+      long = length-set named k c.load.result ∙ c.loop-k.invariant.long;
+      read = λ i low. elim (cases_eq i k) [
+        | inl here ↦ ap (slice_index (slice_set named k c.load.result)) here ∙ get_or-set_same named k c.load.result 0 inside ∙ c.load.ensures ∙ ap (λ (n : ℕ). word image (c.args.place + 32 * n)) (sym here)
+        | inr apart ↦ get_or-set_other named k i c.load.result 0 apart ∙ c.loop-k.invariant.read i (omega (arith, low, apart))
+      ];
+    }

@@ -1,0 +1,17 @@
+-- What is written down of a directory's entries.
+use Rattle.std.specs.Prelude.{◌≡◌, ◌≢◌, ℕ, ◌-◌, ◌<◌, ◌≤◌, List, ◌++◌, take, All}
+use Rattle.std.specs.List.{range_with_len}
+use Rattle.bp_layout.specs.Words.{Image}
+use Rattle.bp_layout.specs.Directory.{IsName, inumber_in, name_in}
+use Rattle.bp_spelling.specs.declared.entry.Spelled.{Spelled}
+use Rattle.bp_spelling.specs.Hashes.{IsSpelled, places_of}
+use Rattle.bp_spelling.specs.Places.{used_places}
+use Rattle.bp_spelling.specs.Tables.{IsPresent}
+
+-- so many entries were written down, those below a slot
+pub record IsGathered (image : Image) (root end slot : ℕ) (entries : List Spelled) (count : ℕ) : Type 0 where
+  pub few : count ≤ slot
+  pub gathered : places_of (take count entries) ++ used_places image root (range_with_len slot (end - slot)) ≡ used_places image root (range_with_len 0 end)
+  pub hashed : All (IsSpelled image) (take count entries)
+  pub present : All IsPresent (take count entries)
+  pub forms : (k : ℕ) → k < slot → inumber_in image root k ≢ 0 → IsName (name_in image root k)

@@ -1,8 +1,9 @@
 -- One line, by its case.
 use Rattle.std.proofs.Common.{zero, suc, refl, sym, ◌∙◌, ap, arith, ◌≡◌, ◌≤◌, ◌<◌, ◌+◌, ◌*◌, ℕ, List, [], ◌∷◌, ◌++◌, length, take, true, false, inl, inr}
-use Rattle.std.specs.Prelude.{None, Some, nat_lt, slice_get, if◌then◌else◌}
-use Rattle.pm_epochs.proofs.CrashLaws.{barriers-append, length-words_after, marks-append}
+use Rattle.std.specs.Prelude.{Bool, None, Option, Some, ◌&&◌, is_none, nat_lt, not, slice_get, if◌then◌else◌}
+use Rattle.pm_epochs.proofs.CrashLaws.{barriers-append, length-words_after, marks-append, words_after-append}
 use Rattle.pm_epochs.specs.declared.event.Event.{Event}
+use Rattle.pm_epochs.specs.declared.event.Event.TheVariants.{Mark}
 use Rattle.pm_epochs.specs.Log.{barriers, marks}
 use Rattle.pm_epochs.specs.Replay.{Cut, IsRight, kept_calls, kept_stores}
 use Rattle.pm_region.specs.Memory.{Memory, crashed, current_words, drained, with_room, room_in}
@@ -11,9 +12,18 @@ use Rattle.bp_layout.specs.Bytes.{image_bytes}
 use Rattle.bp_layout.specs.Free.{HasFree}
 use Rattle.bp_scan.specs.Totals.{HasLive}
 use Rattle.bp_io.specs.Files.{View}
-use Rattle.bp_plain.specs.Calls.{Call, Answer}
+use Rattle.bp_plain.specs.Calls.{Call, Answer, Refusal}
+use Rattle.bp_plain.specs.Calls.Call.{create, mkdir, unlink, rmdir, list, stat, read, write, truncate, rename}
+use Rattle.bp_plain.specs.Calls.Answer.{done as carried_out}
+use Rattle.bp_plain.specs.Plain.{answer as plain_answer, changes, is_changing, plain, refusal}
+use Rattle.bp_plain.specs.PlainTree.{FileTree}
+use Rattle.bp_plain.proofs.Existence.{stands_for, tree_of}
+use Rattle.bp_layout.specs.Same.{Same}
+use Rattle.pm_region.specs.Safe.{IsSafe}
+use Rattle.bp_volume.specs.Step.{Steps}
+use Rattle.bp_volume.specs.Step.Steps.{no_room, no_listing, unchanged, changed}
 use Rattle.bp_limits.specs.Limits.{call_room, max_line, max_mask}
-use Rattle.bp_volume.specs.FileCall.{FileCall}
+use Rattle.bp_volume.specs.FileCall.{FileCall, has_changed}
 use Rattle.std.proofs.lemmas.Bool.{le-ltb, lt-ltb}
 use Rattle.bp_replay.specs.Wanted.{Wanted, cut_for, mask_places, wanted_by}
 use Rattle.bp_replay.specs.declared.cut.Cut.{Cut as Asked}
@@ -22,8 +32,8 @@ use Rattle.bp_replay.specs.Storm.{storm_cut}
 use Rattle.bp_script.specs.Commands.{Command, command_of, in_grammar, mask_in}
 use Rattle.bp_script.specs.Commands.Command.{file_call, sync, space, crash, storm, log, bad_syntax, too_long}
 use Rattle.bp_script.specs.Texts.LineReply.{synced}
-use Rattle.bp_session.specs.Files.{Holds, HoldsBytes}
-use Rattle.bp_session.specs.Acting.{CrashesTo, Does, HasCrashed, reply_of, state, to_save}
+use Rattle.bp_session.specs.Files.{Holds, HoldsAs, HoldsBytes}
+use Rattle.bp_session.specs.Acting.{CrashesTo, Does, HasCrashed, is_done, may_have_changed, reply_of, state, to_save}
 use Rattle.bp_session.specs.Serving.{Acts, SyncFails}
 use Rattle.bp_session.specs.Session.{Crashes, Line, State}
 use Rattle.bp_session.specs.declared.outcome.Outcome.{Outcome}
@@ -53,16 +63,64 @@ capacity-file_call old call answer new done = ap (λ (m : Memory). m.capacity) d
 pub size-file_call : (old : Memory) (call : Call) (answer : Answer) (new : Memory) → FileCall old call answer new → length new.base ≡ length old.base
 size-file_call old call answer new done = ap (λ (m : Memory). length m.base) done.adds ∙ size-with_room call_room old
 
+-- ---- what leaves the words as they are
+
+-- a change of the tree is answered by no more than that it was carried out
+done_changes : (tree : FileTree) (call : Call) → changes tree call ≡ true → plain_answer tree call ≡ carried_out
+done_changes tree (create text) e = refl
+done_changes tree (mkdir text) e = refl
+done_changes tree (unlink text) e = refl
+done_changes tree (rmdir text) e = refl
+done_changes tree (list text) e = absurd (let no : false ≡ true = e in cc)
+done_changes tree (stat text) e = absurd (let no : false ≡ true = e in cc)
+done_changes tree (read text off len) e = absurd (let no : false ≡ true = e in cc)
+done_changes tree (write text off new) e = refl
+done_changes tree (truncate text size) e = refl
+done_changes tree (rename from to) e = refl
+
+done_changing : (tree : FileTree) (call : Call) → is_changing tree call ≡ true → (plain tree call).0 ≡ carried_out
+done_changing tree call e = go (refusal tree call) refl
+  where
+    go : (why : Option Refusal) → refusal tree call ≡ why → (plain tree call).0 ≡ carried_out
+    go None is = rw is (done_changes tree call (let both : (is_none (refusal tree call) && changes tree call) ≡ true = e in rw is at both))
+    go (Some why) is = absurd (let both : (is_none (refusal tree call) && changes tree call) ≡ true = e in let no : false ≡ true = rw is at both in cc)
+
+not_changed : (image new : Image) (tree : FileTree) (call : Call) (told : Answer) → is_done told ≡ false → Steps image tree call told new → has_changed tree call told ≡ false
+not_changed image new tree call told other (no_room changing needs less) = rw changing refl
+not_changed image new tree call told other (no_listing allowed) = and_false _
+  where
+    and_false : (b : Bool) → (b && false) ≡ false
+    and_false true = refl
+    and_false false = refl
+not_changed image new tree call told other (unchanged still) = rw still refl
+not_changed image new tree call told other (changed changing fits stands) = absurd (let no : true ≡ false = rw (done_changing tree call changing) at other in cc)
+
+words-marked : (memory : Memory) → current_words (record memory { events = memory.events ++ Mark ∷ [] }) ≡ current_words memory
+words-marked memory = words_after-append memory.base memory.events (Mark ∷ [])
+
+words-with_room : (wanted : ℕ) (memory : Memory) → current_words (with_room wanted memory) ≡ current_words memory
+words-with_room wanted memory = elim (nat_lt (room_in memory) wanted) as (λ full. current_words (if full then drained memory else memory) ≡ current_words memory) [ true ↦ refl | false ↦ refl ]
+
+pub words-call : (old new : Memory) (call : Call) (told : Answer) → IsSafe Same old → FileCall old call told new → is_done told ≡ false → current_words new ≡ current_words old
+words-call old new call told safe does other =
+    let well = safe.well.new_well_formed in
+    let tree = tree_of (current_words old) well in
+    let stands = stands_for (current_words old) well in
+    let none = does.silent tree stands (not_changed _ _ tree call told other (does.step tree stands)) in
+    let adds : new ≡ record (with_room call_room old) { events = (with_room call_room old).events ++ Mark ∷ [] } = rw none at does.adds in
+    ap current_words adds ∙ words-marked (with_room call_room old) ∙ words-with_room call_room old
+
 -- ---- what a line did
 
-pub does_call : (old new : Memory) (call : Call) (answer : Answer) → FileCall old call answer new → Does old (file_call call) Answered answer new
-does_call old new call answer done = record {
+pub does_call : (old new : Memory) (call : Call) (answer : Answer) → IsSafe Same old → FileCall old call answer new → Does old (file_call call) Answered answer new
+does_call old new call answer safe done = record {
   line = λ saved. record { answer = answer; told = refl; does = done; saved = refl };
   size = size-file_call old call answer new done;
   capacity = capacity-file_call old call answer new done;
   is_sync = λ e. absurd (let no : ◌≡◌ {A = Outcome} Answered Synced = e in cc);
   synced = λ e. absurd (let no : file_call call ≡ sync = e in cc);
   others = λ _ saved. refl;
+  words = λ other. words-call old new call answer safe done other;
 }
 
 pub does_sync : (old new : Memory) (answer : Answer) → new ≡ drained old → Does old sync Synced answer new
@@ -73,6 +131,7 @@ does_sync old new answer done = record {
   is_sync = λ _. refl;
   synced = λ _. refl;
   others = λ other. absurd (other refl);
+  words = λ _. ap current_words done;
 }
 
 pub does_space : (memory : Memory) (free live : ℕ) (answer : Answer) → HasFree (current_words memory) free → HasLive (current_words memory) live → Does memory space (Counted free live) answer memory
@@ -83,6 +142,7 @@ does_space memory free live answer has_free has_live = record {
   is_sync = λ e. absurd (let no : ◌≡◌ {A = Outcome} (Counted free live) Synced = e in cc);
   synced = λ e. absurd (let no : space ≡ sync = e in cc);
   others = λ _ saved. refl;
+  words = λ _. refl;
 }
 
 -- a crash to a cut, by whatever command
@@ -100,6 +160,7 @@ module _ (old new : Memory) (cut : Cut) (outcome : Outcome) (answer : Answer) wh
     is_sync = λ e. absurd (let no : ◌≡◌ {A = Outcome} (Kept (kept_calls old.events cut) (marks old.events)) Synced = sym does.told ∙ e in cc);
     synced = λ e. absurd (other e);
     others = λ _ saved. same saved;
+    words = λ e. absurd (let no : true ≡ false = rw does.told at e in cc);
   }
 
 pub does_crash : (old new : Memory) (wanted : Wanted) (outcome : Outcome) (answer : Answer) → CrashesTo old (cut_for old.events wanted) outcome new → Does old (crash wanted) outcome answer new
@@ -112,6 +173,7 @@ does_crash old new wanted outcome answer (inr does) = record {
   is_sync = λ e. absurd (let no : ◌≡◌ {A = Outcome} BadChoice Synced = sym does.told ∙ e in cc);
   synced = λ e. absurd (let no : crash wanted ≡ sync = e in cc);
   others = λ _ saved. refl;
+  words = λ _. ap current_words does.same;
 }
 
 -- a mask has a place for each bit of its bytes, of two digits each
@@ -132,6 +194,7 @@ does_log memory outcome answer is = record {
   is_sync = λ e. absurd (let no : ◌≡◌ {A = Outcome} (Logged (length memory.events) (barriers memory.events) (marks memory.events)) Synced = sym is ∙ e in cc);
   synced = λ e. absurd (let no : log ≡ sync = e in cc);
   others = λ _ saved. refl;
+  words = λ _. refl;
 }
 
 -- a cut that the log allows is crashed to
@@ -162,6 +225,7 @@ does_syntax memory answer = record {
   is_sync = λ e. absurd (let no : ◌≡◌ {A = Outcome} BadSyntax Synced = e in cc);
   synced = λ e. absurd (let no : bad_syntax ≡ sync = e in cc);
   others = λ _ saved. refl;
+  words = λ _. refl;
 }
 
 pub does_long : (memory : Memory) (answer : Answer) → Does memory too_long TooLong answer memory
@@ -172,20 +236,36 @@ does_long memory answer = record {
   is_sync = λ e. absurd (let no : ◌≡◌ {A = Outcome} TooLong Synced = e in cc);
   synced = λ e. absurd (let no : too_long ≡ sync = e in cc);
   others = λ _ saved. refl;
+  words = λ _. refl;
 }
 
 module _ (old new : Memory) (command : Command) (answer : Answer) where
-  pub acts_done : (outcome : Outcome) (saved : Image) (holds : Image → Type 0) → Does old command outcome answer new → ¬ (outcome ≡ Synced) → holds saved → Acts (state old saved) new holds command (reply_of outcome answer)
-  acts_done outcome saved holds does other file = record { after = to_save command old saved; line = does.line saved; file = rw (does.others other saved) file }
+  pub acts_done : (outcome : Outcome) (is_saved : Bool) (files : View) (name : List ℕ) (saved : Image) → Does old command outcome answer new → ¬ (outcome ≡ Synced) → HoldsAs is_saved files (current_words old) name saved
+      → Acts (state old saved) new (HoldsAs (is_saved && not (may_have_changed outcome answer)) files (current_words new) name) command (reply_of outcome answer)
+  acts_done outcome is_saved files name saved does other held = record {
+    after = to_save command old saved;
+    line = does.line saved;
+    file = rw (does.others other saved) (record { file = held.file; current = go is_saved (may_have_changed outcome answer) refl refl });
+  }
+    where
+      go : (flag touched : Bool) → is_saved ≡ flag → may_have_changed outcome answer ≡ touched → (flag && not touched) ≡ true → Holds files name (current_words new)
+      go true true is may e = absurd (let no : false ≡ true = e in cc)
+      go true false is may e = rw (does.words may) (held.current is)
+      go false touched is may e = absurd (let no : false ≡ true = e in cc)
 
   pub synced_memory : Does old command Synced answer new → new ≡ drained old
   synced_memory does = let line = rw (does.is_sync refl) at (does.line old.base) in ap (λ (s : State). s.memory) line.done
 
-  pub acts_synced : (saved : Image) (holds : Image → Type 0) → Does old command Synced answer new → holds (current_words old) → Acts (state old saved) new holds command synced
-  acts_synced saved holds does file = let is = does.is_sync refl in rw is (record { after = current_words old; line = rw is at (does.line saved); file = file })
+  pub words_synced : {is_saved : Bool} {files : View} {name : List ℕ} {saved : Image} → Does old command Synced answer new → HoldsAs is_saved files (current_words old) name saved → HoldsAs is_saved files (current_words new) name saved
+  words_synced does held = rw (does.words refl) held
 
-  pub fails_synced : (saved : Image) (partly : Image → Image → Type 0) → Does old command Synced answer new → partly saved (current_words old) → SyncFails (state old saved) new partly command
-  fails_synced saved partly does file = record { is = does.is_sync refl; drained = synced_memory does; file = file }
+  pub acts_synced : (files : View) (name : List ℕ) (saved : Image) → Does old command Synced answer new → Holds files name (current_words new) → Acts (state old saved) new (HoldsAs true files (current_words new) name) command synced
+  acts_synced files name saved does file =
+      let is = does.is_sync refl in
+      rw is (record { after = current_words old; line = rw is at (does.line saved); file = record { file = rw (does.words refl) at file; current = λ _. file } })
+
+  pub fails_synced : (saved : Image) (partly : Image → Image → Type 0) → Does old command Synced answer new → partly saved (current_words new) → SyncFails (state old saved) new partly command
+  fails_synced saved partly does file = record { is = does.is_sync refl; drained = synced_memory does; file = rw (does.words refl) at file }
 
 -- ---- an image as bytes
 

@@ -13,11 +13,11 @@ use Rattle.bp_layout.specs.Words.{Image}
 use Rattle.bp_script.specs.Commands.{Command, command_of}
 use Rattle.bp_script.specs.Texts.{LineReply, reply_text}
 use Rattle.bp_session.specs.Acting.{state}
-use Rattle.bp_session.specs.Files.{Holds, HoldsPartly}
+use Rattle.bp_session.specs.Files.{Holds, HoldsAs, HoldsPartly}
 use Rattle.bp_session.specs.Lines.{commands_from}
 use Rattle.bp_session.specs.Outside.{IsFirstFault, counts}
 use Rattle.bp_session.specs.Session.{State}
-use Rattle.bp_session.specs.Serving.{Acts, DoesCut, FailsLine, Keeps, LineOutcome, Moment, PieceOutcome, Stops, SyncFails, moment}
+use Rattle.bp_session.specs.Serving.{Acts, DoesCut, FailsLine, HoldsAt, Input, Keeps, LineOutcome, Moment, PieceOutcome, ServeOutcome, Serves, ServesAll, Stops, SyncFails, moment}
 use Rattle.bp_session.specs.Taking.{TakesPart}
 use Rattle.bp_session.specs.Gathering.{Clears, IsDone, IsUnheard, IsUntold, LineGathers, Passes, Reaches}
 use Rattle.bp_session.proofs.GatheringLaws.{handed_behind, part_behind, passed_part, passes_behind, taken_behind, with_nothing, with_waiting}
@@ -35,6 +35,11 @@ added reply a b w t u v f g (inr sent) passes =
     let two : Appends u (with_waiting v b) reply = subst (λ (s : Option (List ℕ)). Appends s (with_waiting v b) reply) (with_nothing u) (passes_behind reply [] b u v one) in
     Appends-trans (with_waiting t a) u (with_waiting v b) [] reply (handed_behind a t u sent.1) two
 
+-- of a line's file only what it holds
+acts_alone : {old : State} {memory : Memory} {command : Command} {reply : LineReply} (is_saved : Bool) (files : View) (words : Image) (name : List ℕ)
+    → Acts old memory (HoldsAs is_saved files words name) command reply → Acts old memory (Holds files name) command reply
+acts_alone is_saved files words name acts = record { after = acts.after; line = acts.line; file = acts.file.file }
+
 -- a sync that couldn't save, behind what was handed over
 stops_handed : (old : State) (memory : Memory) (partly : Image → Image → Type 0) (command : Command) (more : List Command) (t u : Option (List ℕ)) → SyncFails old memory partly command → Appends t u []
     → Stops old memory partly (command ∷ more) t u
@@ -49,12 +54,12 @@ stops_handed old memory partly command more t u fails took = record {
 }
 
 -- what waited is handed over
-piece_handed : (held : List ℕ) (memory : Memory) (files : View) (t u : Option (List ℕ)) (faults : ℕ) → Appends t u [] → PieceOutcome 0 held [] held (moment memory files t faults) (moment memory files u faults)
-piece_handed held memory files t u faults took = record {
+piece_handed : (held : List ℕ) (now : Moment) (u : Option (List ℕ)) → Appends now.taken u [] → PieceOutcome 0 held [] held now (record now { taken = u })
+piece_handed held now u took = record {
   whole = λ _ name saved file. record { commands = []; lines = λ rest. refl; after = saved; file = file; told = record { replies = []; session = refl; taken = rw text_none took } };
   cut = λ e. absurd (omega (arith, e));
   stopped = λ e. absurd (omega (arith, e));
-  keeps_files = record { size = refl; capacity = refl; attached = still_attached files; flushed = λ _ e. e };
+  keeps_files = record { size = refl; capacity = refl; attached = still_attached now.files; flushed = λ _ e. e };
   first = no_fault 0 _ _ (λ e. omega (arith, e)) (λ e. omega (arith, e)) (λ e. omega (arith, e)) refl refl refl;
   one_of = inl refl;
 }
@@ -75,7 +80,7 @@ MayCut start most now waits ask = (taken : Option (List ℕ)) → TakesPart wait
 
 -- Lines of an input were served, whose last replies wait.
 pub record Waits (start : Moment) (most : ℕ) (held input keeps waits : List ℕ) (now : Moment) : Type 0 where
-  pub piece : PieceOutcome 0 held input keeps start (moment now.memory now.files (with_waiting now.taken waits) now.faults)
+  pub piece : PieceOutcome 0 held input keeps start (record now { taken = with_waiting now.taken waits })
   pub may : MayCut start most now waits (λ rest. commands_from held (input ++ rest))
   pub few : most ≡ 0 → waits ≡ []
 
@@ -94,7 +99,7 @@ module _ (start : Moment) (most : ℕ) (held input middle a : List ℕ) (now : M
   keeps_then_size new same = same ∙ one.piece.keeps_files.size
 
   -- the reply of the next line is cut
-  cut_new : (memory : Memory) (files : View) (reply : LineReply) (n : ℕ) (taken : Option (List ℕ)) → ((name : List ℕ) (saved : Image) → Holds now.files name saved → Acts (state now.memory saved) memory (Holds files name) (command_of middle) reply)
+  cut_new : (memory : Memory) (files : View) (reply : LineReply) (n : ℕ) (taken : Option (List ℕ)) → ((name : List ℕ) (saved : Image) → HoldsAt now name saved → Acts (state now.memory saved) memory (Holds files name) (command_of middle) reply)
       → n < length (reply_text reply) → Appends (with_waiting now.taken a) taken (take n (reply_text reply)) → (rest : List ℕ)
       → DoesCut start (moment memory files taken 0) (commands_from held ((input ++ 10 ∷ []) ++ rest))
   cut_new memory files reply n taken does low took rest name saved holds =
@@ -114,14 +119,20 @@ module _ (start : Moment) (most : ℕ) (held input middle a : List ℕ) (now : M
         cut = λ rest. rw (append_assoc input (10 ∷ []) rest) (old.cut (10 ∷ rest));
       })
 
-  module _ (memory : Memory) (files : View) (size : length memory.base ≡ length now.memory.base) (capacity : memory.capacity ≡ now.memory.capacity) (done : IsDone (command_of middle) a now memory files) where
+  module _ (new : Moment) (size : length new.memory.base ≡ length now.memory.base) (capacity : new.memory.capacity ≡ now.memory.capacity) (done : IsDone (command_of middle) a now new) where
+    abbrev memory : Memory
+    memory = new.memory
+
+    abbrev files : View
+    files = new.files
+
     reached_new : (n : ℕ) (taken : Option (List ℕ)) → n < length (reply_text done.reply) → Appends (with_waiting now.taken a) taken (take n (reply_text done.reply)) → Reached start most memory files taken (λ rest. commands_from held ((input ++ 10 ∷ []) ++ rest))
     reached_new n taken low took = record {
       memory = memory;
       same = λ _. refl;
       size = size ∙ one.piece.keeps_files.size;
       capacity = capacity ∙ one.piece.keeps_files.capacity;
-      cut = cut_new memory files done.reply n taken done.does low took;
+      cut = cut_new memory files done.reply n taken (λ name saved holds. acts_alone _ _ _ _ (done.does name saved holds)) low took;
     }
 
     -- behind what still waits
@@ -171,12 +182,12 @@ module _ (start : Moment) (most : ℕ) (held input middle a : List ℕ) (now : M
         let answered = line.whole refl in
         record {
           piece =
-              piece_then 0 held input middle (10 ∷ []) [] start (moment now.memory now.files (with_waiting now.taken a) now.faults) (moment new.memory new.files (with_waiting new.taken b) new.faults) one.piece
+              piece_then 0 held input middle (10 ∷ []) [] start (record now { taken = with_waiting now.taken a }) (record new { taken = with_waiting new.taken b }) one.piece
               (piece_newline 0 middle _ _
               (line_whole _ _ _ (λ name saved file. serves_one _ _ _ _ _ _ _ (answered.done.does name saved file) (added (reply_text answered.done.reply) a b answered.done.waits now.taken answered.done.taken new.taken now.files new.files answered.done.clears answered.passes))
               (record { size = line.keeps.size; capacity = line.keeps.capacity; attached = line.keeps.attached; flushed = line.keeps.flushed })
               (line.first.no_sink (inl refl)) (line.first.no_files (λ e. omega (arith, e)))));
-          may = λ taken part. reached_part new.memory new.files line.keeps.size line.keeps.capacity answered.done taken (passed_part (reply_text answered.done.reply) answered.done.waits b answered.done.taken new.taken taken answered.passes part);
+          may = λ taken part. reached_part new line.keeps.size line.keeps.capacity answered.done taken (passed_part (reply_text answered.done.reply) answered.done.waits b answered.done.taken new.taken taken answered.passes part);
           few = few;
         }
 
@@ -184,7 +195,7 @@ module _ (start : Moment) (most : ℕ) (held input middle a : List ℕ) (now : M
     cut_reached b line = go (line.cut refl)
       where
         go : IsUntold (command_of middle) a now new ⊎ IsUnheard a now new → Reached start most new.memory new.files new.taken (λ rest. commands_from held ((input ++ 10 ∷ []) ++ rest))
-        go (inl untold) = reached_part new.memory new.files line.keeps.size line.keeps.capacity untold.done new.taken untold.part
+        go (inl untold) = reached_part new line.keeps.size line.keeps.capacity untold.done new.taken untold.part
         go (inr unheard) = cut_old new.memory new.files new.taken unheard.files unheard.part
 
     cut_ends : (b keeps : List ℕ) → LineGathers 4 (command_of middle) a b now new → Reaches 4 most (PieceOutcome 4 held (input ++ 10 ∷ []) keeps start) new
@@ -247,13 +258,13 @@ module _ (start : Moment) (most : ℕ) (held input middle a : List ℕ) (now : M
   }
 
   -- what waits is handed over
-  pub waits_handed : (taken : Option (List ℕ)) → Appends now.taken taken a → PieceOutcome 0 held input middle start (moment now.memory now.files taken now.faults)
+  pub waits_handed : (taken : Option (List ℕ)) → Appends now.taken taken a → PieceOutcome 0 held input middle start (record now { taken = taken })
   waits_handed taken took =
-      subst (λ (l : List ℕ). PieceOutcome 0 held l middle start (moment now.memory now.files taken now.faults)) (append-nil input)
-      (piece_then 0 held input middle [] middle _ _ _ one.piece (piece_handed middle now.memory now.files _ taken now.faults (handed_behind a now.taken taken took)))
+      subst (λ (l : List ℕ). PieceOutcome 0 held l middle start (record now { taken = taken })) (append-nil input)
+      (piece_then 0 held input middle [] middle _ _ _ one.piece (piece_handed middle (record now { taken = with_waiting now.taken a }) taken (handed_behind a now.taken taken took)))
 
   -- .. or the sink fails
-  pub waits_cut : (taken : Option (List ℕ)) (faults : ℕ) (keeps : List ℕ) → TakesPart a now.taken taken → Rose now.faults faults → Reaches 4 most (PieceOutcome 4 held input keeps start) (moment now.memory now.files taken faults)
+  pub waits_cut : (taken : Option (List ℕ)) (faults : ℕ) (keeps : List ℕ) → TakesPart a now.taken taken → Rose now.faults faults → Reaches 4 most (PieceOutcome 4 held input keeps start) (record now { taken = taken; faults = faults })
   waits_cut taken faults keeps part rose =
       let reached = one.may taken part in
       record {
@@ -272,7 +283,7 @@ module _ (start : Moment) (most : ℕ) (held input middle a : List ℕ) (now : M
 -- ---- what a line came to
 
 module _ (command : Command) (a b : List ℕ) (old new : Moment) (size : length new.memory.base ≡ length old.memory.base) (capacity : new.memory.capacity ≡ old.memory.capacity) (attached : StaysAttached old.files new.files) where
-  pub line_told : (flushed : old.files.is_flushed ≡ true → new.files.is_flushed ≡ true) (done : IsDone command a old new.memory new.files) → Passes (reply_text done.reply) done.waits b done.taken new.taken
+  pub line_told : (flushed : old.files.is_flushed ≡ true → new.files.is_flushed ≡ true) (done : IsDone command a old new) → Passes (reply_text done.reply) done.waits b done.taken new.taken
       → new.faults ≡ old.faults → new.files.faults ≡ old.files.faults → LineGathers 0 command a b old new
   line_told flushed done passes sink files = record {
     whole = λ _. record { done = done; passes = passes };
@@ -293,14 +304,14 @@ module _ (command : Command) (a b : List ℕ) (old new : Moment) (size : length 
     one_of = inr (inl refl);
   }
 
-  pub line_untold : (flushed : old.files.is_flushed ≡ true → new.files.is_flushed ≡ true) (done : IsDone command a old new.memory new.files) → TakesPart (done.waits ++ reply_text done.reply) done.taken new.taken
+  pub line_untold : (flushed : old.files.is_flushed ≡ true → new.files.is_flushed ≡ true) (done : IsDone command a old new) → TakesPart (done.waits ++ reply_text done.reply) done.taken new.taken
       → Rose old.faults new.faults → new.files.faults ≡ old.files.faults → LineGathers 4 command a b old new
   line_untold flushed done part = line_cut_off flushed (inl (record { done = done; part = part }))
 
   pub line_unheard : TakesPart a old.taken new.taken → new.files ≡ old.files → Rose old.faults new.faults → LineGathers 4 command a b old new
   line_unheard part same rose = line_cut_off (λ e. ap (λ (v : View). v.is_flushed) same ∙ e) (inr (record { part = part; files = same })) rose (ap (λ (v : View). v.faults) same)
 
-  pub line_unsaved : FailsLine old.memory old.files command new.memory new.files → Appends old.taken new.taken a → new.faults ≡ old.faults → Rose old.files.faults new.files.faults → LineGathers 5 command a b old new
+  pub line_unsaved : FailsLine old command new → Appends old.taken new.taken a → new.faults ≡ old.faults → Rose old.files.faults new.files.faults → LineGathers 5 command a b old new
   line_unsaved fails took sink rose = record {
     whole = λ e. absurd (omega (arith, e));
     cut = λ e. absurd (omega (arith, e));
@@ -313,7 +324,7 @@ module _ (command : Command) (a b : List ℕ) (old new : Moment) (size : length 
 -- ---- a line alone
 
 module _ (command : Command) (old new : Moment) where
-  told_alone : (done : IsDone command [] old new.memory new.files) (taken : Option (List ℕ)) → TakesPart (done.waits ++ reply_text done.reply) done.taken taken → TakesPart (reply_text done.reply) old.taken taken
+  told_alone : (done : IsDone command [] old new) (taken : Option (List ℕ)) → TakesPart (done.waits ++ reply_text done.reply) done.taken taken → TakesPart (reply_text done.reply) old.taken taken
   told_alone done taken part = go done.clears
     where
       go : Clears [] done.waits old.taken done.taken old.files new.files → TakesPart (reply_text done.reply) old.taken taken
@@ -337,7 +348,7 @@ module _ (command : Command) (old new : Moment) where
       go : IsUntold command [] old new ⊎ IsUnheard [] old new → LineOutcome 4 (command ∷ []) old new
       go (inl untold) =
           let part = told_alone untold.done new.taken untold.part in
-          line_cut _ _ _ (λ name saved file. cuts_line _ _ _ _ [] _ part.0 _ _ (untold.done.does name saved file) part.1 part.2) line.keeps (line.first.sink refl) (line.first.no_files (λ e. omega (arith, e)))
+          line_cut _ _ _ (λ name saved file. cuts_line _ _ _ _ [] _ part.0 _ _ (acts_alone _ _ _ _ (untold.done.does name saved file)) part.1 part.2) line.keeps (line.first.sink refl) (line.first.no_files (λ e. omega (arith, e)))
       go (inr unheard) = absurd (not_part [] old.taken new.taken refl unheard.part)
 
   alone_stopped : (b : List ℕ) → LineGathers 5 command [] b old new → LineOutcome 5 (command ∷ []) old new
@@ -356,12 +367,52 @@ module _ (command : Command) (old new : Moment) where
 -- ---- pieces
 
 -- where no reply was cut, the memory that was reached is the volume's
-pub reached_own : (status most : ℕ) (outcome : Moment → Type 0) (memory : Memory) (files : View) (taken : Option (List ℕ)) (faults : ℕ) → (status ≡ 4 → most ≡ 0) → Reaches status most outcome (moment memory files taken faults)
-    → outcome (moment memory files taken faults)
-reached_own status most outcome memory files taken faults own reaches = subst (λ (m : Memory). outcome (moment m files taken faults)) (reaches.same own) reaches.is
+pub reached_own : (status most : ℕ) (outcome : Moment → Type 0) (now : Moment) → (status ≡ 4 → most ≡ 0) → Reaches status most outcome now → outcome now
+reached_own status most outcome now own reaches = subst (λ (m : Memory). outcome (record now { memory = m })) (reaches.same own) reaches.is
 
-pub reaches_all : (status most : ℕ) (outcome : Moment → Type 0) (memory : Memory) (files : View) (taken : Option (List ℕ)) (faults : ℕ) → outcome (moment memory files taken faults) → Reaches status most outcome (moment memory files taken faults)
-reaches_all status most outcome memory files taken faults is = record { memory = memory; same = λ _. refl; is = is }
+pub reaches_all : (status most : ℕ) (outcome : Moment → Type 0) (now : Moment) → outcome now → Reaches status most outcome now
+reaches_all status most outcome now is = record { memory = now.memory; same = λ _. refl; is = is }
 
 pub reaches_then : (status most : ℕ) (first second : Moment → Type 0) (new : Moment) → ((now : Moment) → first now → second now) → Reaches status most first new → Reaches status most second new
 reaches_then status most first second new f reaches = record { memory = reaches.memory; same = reaches.same; is = f _ reaches.is }
+
+-- ---- what is taken of a file
+
+-- a moment at which the file need not be taken to hold the words
+module _ (old : State) (memory : Memory) (is_saved : Bool) (files : View) (words : Image) (name : List ℕ) where
+  all_alone : (commands : List Command) (t u : Option (List ℕ)) → ServesAll old memory (HoldsAs is_saved files words name) commands t u → ServesAll old memory (HoldsAs false files words name) commands t u
+  all_alone commands t u all = record { after = all.after; file = record { file = all.file.file; current = λ e. absurd (never e) }; told = all.told }
+    where
+      never : false ≡ true → ⊥
+      never e = cc
+
+  part_alone : (held input keeps : List ℕ) (t u : Option (List ℕ)) → Serves old memory (HoldsAs is_saved files words name) held input keeps t u → Serves old memory (HoldsAs false files words name) held input keeps t u
+  part_alone held input keeps t u part = record { commands = part.commands; lines = part.lines; after = part.after; file = record { file = part.file.file; current = λ e. absurd (never e) }; told = part.told }
+    where
+      never : false ≡ true → ⊥
+      never e = cc
+
+pub line_forgets : (status : ℕ) (commands : List Command) (old new : Moment) → LineOutcome status commands old new → LineOutcome status commands old (record new { is_saved = false })
+line_forgets status commands old new line = record {
+  whole = λ e name saved file. all_alone _ _ _ _ _ _ _ _ _ (line.whole e name saved file);
+  cut = line.cut;
+  stopped = line.stopped;
+  keeps = record { size = line.keeps.size; capacity = line.keeps.capacity; attached = line.keeps.attached; flushed = line.keeps.flushed };
+  first = line.first;
+  one_of = line.one_of;
+}
+
+pub serve_forgets : (status : ℕ) (before after : Input) (old new : Moment) → ServeOutcome status before after old new → ServeOutcome status before after old (record new { is_saved = false })
+serve_forgets status before after old new served = record {
+  whole = λ e. let all = served.whole e in (all.0, all.1, all.2, all.3, λ name saved file. all_alone _ _ _ _ _ _ _ _ _ (all.4 name saved file));
+  part = λ e. let part = served.part e in (part.0, part.1, part.2, λ name saved file. part_alone _ _ _ _ _ _ _ _ _ _ _ (part.3 name saved file));
+  long = λ e.
+      let long = served.long e in
+      (long.0, long.1, long.2, long.3, long.4, long.5, long.6, λ name saved file. part_alone _ _ _ _ _ _ _ _ _ _ _ (long.7 name saved file));
+  cut = served.cut;
+  stopped = served.stopped;
+  keeps = record { size = served.keeps.size; capacity = served.keeps.capacity; attached = served.keeps.attached; flushed = served.keeps.flushed };
+  first = served.first;
+  complete = served.complete;
+  one_of = served.one_of;
+}

@@ -1,10 +1,11 @@
 -- What a line came to.
-use Rattle.std.specs.Prelude.{◌≡◌, ◌⊎◌, length}
+use Rattle.std.specs.Prelude.{◌≡◌, ◌⊎◌, Bool, true, false, length}
 use Rattle.pm_epochs.specs.Log.{marks}
 use Rattle.pm_epochs.specs.Replay.{Cut, IsRight, kept_calls}
 use Rattle.pm_region.specs.Memory.{Memory, crashed, current_words}
 use Rattle.bp_layout.specs.Words.{Image}
 use Rattle.bp_plain.specs.Calls.{Answer}
+use Rattle.bp_plain.specs.Calls.Answer.{done}
 use Rattle.bp_script.specs.Commands.{Command}
 use Rattle.bp_script.specs.Commands.Command.{file_call, sync, space, crash, storm, log, bad_syntax, too_long}
 use Rattle.bp_script.specs.Texts.{LineReply}
@@ -39,14 +40,32 @@ to_save log memory saved = saved
 to_save bad_syntax memory saved = saved
 to_save too_long memory saved = saved
 
+-- the call tells nothing but that it was carried out, as each call does that changes the tree
+abbrev pub is_done : Answer → Bool
+is_done done = true
+is_done _ = false
+
+-- a line that may have changed the words: such a call, or a crash
+abbrev pub may_have_changed : Outcome → Answer → Bool
+may_have_changed Answered answer = is_done answer
+may_have_changed Synced answer = false
+may_have_changed (Counted free live) answer = false
+may_have_changed (Kept c n) answer = true
+may_have_changed (Logged events barriers calls) answer = false
+may_have_changed BadChoice answer = false
+may_have_changed BadSyntax answer = false
+may_have_changed TooLong answer = false
+
 -- A command was done and replied to, but for the file, which is to be saved where the outcome is a sync.
 pub record Does (old : Memory) (command : Command) (outcome : Outcome) (answer : Answer) (new : Memory) : Type 0 where
-  pub line : (saved : Image) → Line (state old saved) command (reply_of outcome answer) (state new (to_save command old saved))
+  pub line : (saved : Image)
+      → Line (state old saved) command (reply_of outcome answer) (state new (to_save command old saved))
   pub size : length new.base ≡ length old.base
   pub capacity : new.capacity ≡ old.capacity
   pub is_sync : outcome ≡ Synced → command ≡ sync
   pub synced : command ≡ sync → outcome ≡ Synced
   pub others : ¬ (outcome ≡ Synced) → (saved : Image) → to_save command old saved ≡ saved
+  pub words : may_have_changed outcome answer ≡ false → current_words new ≡ current_words old
 
 -- A crash to this cut: the calls that are kept are counted, and the memory is what it leaves.
 pub record HasCrashed (old : Memory) (cut : Cut) (outcome : Outcome) (new : Memory) : Type 0 where

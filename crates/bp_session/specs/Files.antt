@@ -1,5 +1,5 @@
 -- Which words a file holds.
-use Rattle.std.specs.Prelude.{◌≡◌, ◌⊎◌, ℕ, List, None, Some, ⊤, true, is_some, length, take, drop, ◌++◌, ◌*◌, ◌<◌, ◌^◌}
+use Rattle.std.specs.Prelude.{◌≡◌, ◌⊎◌, ℕ, List, None, Some, ⊤, Bool, true, is_some, length, take, drop, ◌++◌, ◌*◌, ◌<◌, ◌^◌}
 use Rattle.bp_limits.specs.Limits.{block_size, block_words}
 use Rattle.bp_io.specs.Files.{Known, Tells, View, block_of}
 use Rattle.bp_layout.specs.Words.{Image, word}
@@ -35,7 +35,8 @@ pub record HasImage (known : Known) (image : Image) : Type 0 where
 -- where it is told, the file of a name is there and each of its blocks is that of one list of bytes or of the other
 pub record IsMixed (found first second : List ℕ) : Type 0 where
   pub size : length found ≡ length first
-  pub blocks : (i : ℕ) → block_size * i < length found → (block_of found i ≡ block_of first i) ⊎ (block_of found i ≡ block_of second i)
+  pub blocks : (i : ℕ) → block_size * i < length found → (block_of found i ≡ block_of first i)
+      ⊎ (block_of found i ≡ block_of second i)
 
 abbrev pub HasBlocksOf : Known → List ℕ → List ℕ → Type 0
 HasBlocksOf None first second = ⊤
@@ -50,13 +51,20 @@ pub record HoldsBytes (files : View) (name bytes : List ℕ) : Type 0 where
 
 -- Where its bytes are told they stay told, and where they are not they stay untold.
 abbrev pub StaysTold : View → View → Type 0
-StaysTold old new = (name was : List ℕ) → HoldsBytes old name was → is_some (new.contents name) ≡ is_some (old.contents name)
+StaysTold old new = (name was : List ℕ) → HoldsBytes old name was
+    → is_some (new.contents name) ≡ is_some (old.contents name)
 
 -- The file of this name is attached, has these blocks and holds these words.
 pub record Holds (files : View) (name : List ℕ) (image : Image) : Type 0 where
   pub attached : files.is_attached name ≡ true
   pub size : length image ≡ block_words * files.blocks
   pub bytes : HasBytes (files.contents name) (image_bytes image)
+
+-- It holds the first words, and where it is taken to hold the others, it does. Where its bytes are told, both are the
+-- same then.
+pub record HoldsAs (is_saved : Bool) (files : View) (words : Image) (name : List ℕ) (image : Image) : Type 0 where
+  pub file : Holds files name image
+  pub current : is_saved ≡ true → Holds files name words
 
 -- It is attached, and each of its blocks is that of the first words or of the second.
 pub record HoldsPartly (files : View) (name : List ℕ) (first second : Image) : Type 0 where
@@ -74,6 +82,7 @@ pub record IsReady (base : Image) (files : View) : Type 0 where
   pub attached : (name : List ℕ) × (files.is_attached name ≡ true)
   pub may_write : files.may_write ≡ true
 
--- the first blocks of a file that is being saved are those of the second list of bytes, the others still those of the first
+-- the first blocks of a file that is being saved are those of the second list of bytes, the others still those of the
+-- first
 abbrev pub partly_saved : List ℕ → List ℕ → ℕ → List ℕ
 partly_saved first second i = take (block_size * i) second ++ drop (block_size * i) first

@@ -22,24 +22,25 @@ pub record Passes (text before after : List ℕ) (taken now : Option (List ℕ))
 
 -- what waited still waits, and no file has changed, or a sink took it all
 abbrev pub Clears : List ℕ → List ℕ → Option (List ℕ) → Option (List ℕ) → View → View → Type 0
-Clears before after taken now files files_now = ((after ≡ before) × (now ≡ taken) × (files_now ≡ files)) ⊎ ((after ≡ []) × Appends taken now before)
+Clears before after taken now files files_now =
+    ((after ≡ before) × (now ≡ taken) × (files_now ≡ files)) ⊎ ((after ≡ []) × Appends taken now before)
 
 -- A line was done whose reply is still to be told, behind what waits.
-pub record IsDone (command : Command) (before : List ℕ) (old : Moment) (memory : Memory) (files : View) : Type 0 where
+pub record IsDone (command : Command) (before : List ℕ) (old new : Moment) : Type 0 where
   pub reply : LineReply
-  pub does : DoesLine old.memory old.files command reply memory files
+  pub does : DoesLine old command reply new
   pub waits : List ℕ
   pub taken : Option (List ℕ)
-  pub clears : Clears before waits old.taken taken old.files files
+  pub clears : Clears before waits old.taken taken old.files new.files
 
 -- .. and its reply was added.
 pub record IsAnswered (command : Command) (before after : List ℕ) (old new : Moment) : Type 0 where
-  pub done : IsDone command before old new.memory new.files
+  pub done : IsDone command before old new
   pub passes : Passes (reply_text done.reply) done.waits after done.taken new.taken
 
 -- .. and the sink failed as its reply was added.
 pub record IsUntold (command : Command) (before : List ℕ) (old new : Moment) : Type 0 where
-  pub done : IsDone command before old new.memory new.files
+  pub done : IsDone command before old new
   pub part : TakesPart (done.waits ++ reply_text done.reply) done.taken new.taken
 
 -- The sink failed before a sync could save: it took a proper front of what waited.
@@ -49,11 +50,11 @@ pub record IsUnheard (before : List ℕ) (old new : Moment) : Type 0 where
 
 -- A sync couldn't save, behind all that waited.
 pub record IsUnsaved (command : Command) (before : List ℕ) (old new : Moment) : Type 0 where
-  pub fails : FailsLine old.memory old.files command new.memory new.files
+  pub fails : FailsLine old command new
   pub taken : Appends old.taken new.taken before
 
--- What a line answers over what waits before and after it: 0 where its reply was added, 4 where the sink failed, 5 where a sync
--- couldn't save.
+-- What a line answers over what waits before and after it: 0 where its reply was added, 4 where the sink failed, 5
+-- where a sync couldn't save.
 pub record LineGathers (status : ℕ) (command : Command) (before after : List ℕ) (old new : Moment) : Type 0 where
   pub whole : status ≡ 0 → IsAnswered command before after old new
   pub cut : status ≡ 4 → IsUntold command before old new ⊎ IsUnheard before old new
@@ -64,10 +65,10 @@ pub record LineGathers (status : ℕ) (command : Command) (before after : List �
 
 -- at the moment, but with this memory
 abbrev pub reached_at : Memory → Moment → Moment
-reached_at memory now = moment memory now.files now.taken now.faults
+reached_at memory now = record now { memory = memory }
 
--- An outcome of a memory that was reached. It is the volume's own, but where a reply was cut behind which more than so many bytes of
--- replies may have waited: then it is the one behind that reply's line.
+-- An outcome of a memory that was reached. It is the volume's own, but where a reply was cut behind which more than so
+-- many bytes of replies may have waited: then it is the one behind that reply's line.
 pub record Reaches (status most : ℕ) (outcome : Moment → Type 0) (new : Moment) : Type 0 where
   pub memory : Memory
   pub same : (status ≡ 4 → most ≡ 0) → memory ≡ new.memory

@@ -15,8 +15,8 @@ pub record Faults : Type 0 where
 abbrev pub counts : ℕ → ℕ → View → Faults
 counts source sink files = record { source = source; sink = sink; files = files.faults }
 
--- What is told of the outside at a moment: what the source has left, what the sink took, what is known of FILE, whether all that
--- was written is known to be flushed, and how often each of the three has failed.
+-- What is told of the outside at a moment: what the source has left, what the sink took, what is known of FILE, whether
+-- all that was written is known to be flushed, and how often each of the three has failed.
 pub record Outside : Type 0 where
   pub left : Option (List ℕ)
   pub taken : Option (List ℕ)
@@ -26,7 +26,13 @@ pub record Outside : Type 0 where
 
 abbrev pub outside : Option (List ℕ) → ℕ → Option (List ℕ) → ℕ → View → List ℕ → Outside
 outside left source taken sink files name =
-    record { left = left; taken = taken; file = files.contents name; is_flushed = files.is_flushed; faults = counts source sink files }
+    record {
+      left = left;
+      taken = taken;
+      file = files.contents name;
+      is_flushed = files.is_flushed;
+      faults = counts source sink files;
+    }
 
 abbrev pub SourceFailed : Outside → Outside → Type 0
 SourceFailed before after = Rose before.faults.source after.faults.source
@@ -41,8 +47,8 @@ FilesFailed before after = Rose before.faults.files after.faults.files
 abbrev pub IsQuiet : ℕ → Type 0
 IsQuiet status = (status ≡ 0) ⊎ (status ≡ 3) ⊎ (status ≡ 5) ⊎ (status ≡ 6) ⊎ (status ≡ 8)
 
--- The first fault ends a program, and the status tells it: the source failed at 3 alone, the files at 5 alone, and the sink at 4,
--- or as it was told the line of 1, 2 or 7.
+-- The first fault ends a program, and the status tells it: the source failed at 3 alone, the files at 5 alone, and the
+-- sink at 4, or as it was told the line of 1, 2 or 7.
 pub record IsFirstFault (status : ℕ) (before after : Faults) : Type 0 where
   pub source : status ≡ 3 → Rose before.source after.source
   pub sink : status ≡ 4 → Rose before.sink after.sink
@@ -67,4 +73,5 @@ pub record Prints (text : List ℕ) (taken taken_now : Option (List ℕ)) (fault
   pub all : ¬ Rose faults faults_now → Appends taken taken_now text
 
 abbrev pub TellsLine : Notice → Outside → Outside → Type 0
-TellsLine notice before after = Prints (notice_text notice) before.taken after.taken before.faults.sink after.faults.sink
+TellsLine notice before after =
+    Prints (notice_text notice) before.taken after.taken before.faults.sink after.faults.sink

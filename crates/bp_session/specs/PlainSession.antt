@@ -18,11 +18,12 @@ use Rattle.bp_script.specs.Commands.Command.{file_call, sync, space, crash, stor
 use Rattle.bp_script.specs.Texts.{LineReply}
 use Rattle.bp_script.specs.Texts.LineReply.{answered, synced, space_of, kept_of, log_of, bad_choice, syntax, long}
 
--- A call on a plain tree. Besides the tree's own answer there are two: a call that changes the tree may find no room, and a listing
--- may find no memory; neither does anything.
+-- A call on a plain tree. Besides the tree's own answer there are two: a call that changes the tree may find no room,
+-- and a listing may find no memory; neither does anything.
 pub data PlainCall (tree : FileTree) : Call → Answer → FileTree → Type 0 where
   plainly : {call : Call} → PlainCall tree call (plain tree call).0 (plain tree call).1
-  no_room : {call : Call} {needed free : ℕ} → is_changing tree call ≡ true → PlainCall tree call (refused (no_space needed free)) tree
+  no_room : {call : Call} {needed free : ℕ} → is_changing tree call ≡ true
+      → PlainCall tree call (refused (no_space needed free)) tree
   no_listing : {text : List ℕ} → refusal tree (list text) ≡ None → PlainCall tree (list text) (refused no_memory) tree
 
 -- The tree that is certain, and the trees after each call since, the last one last.
@@ -103,7 +104,8 @@ pub record PlainLog (old : Plain) (reply : LineReply) (new : Plain) : Type 0 whe
 abbrev pub PlainCrash : Plain → Wanted → LineReply → Plain → Type 0
 PlainCrash old all reply new = PlainCrashes old (length old.since) reply new
 PlainCrash old nothing reply new = PlainCrashesToNothing old reply new
-PlainCrash old (at moment epoch mask) reply new = PlainTells old bad_choice reply new ⊎ PlainCrashesSomewhere old reply new
+PlainCrash old (at moment epoch mask) reply new =
+    PlainTells old bad_choice reply new ⊎ PlainCrashesSomewhere old reply new
 
 abbrev pub PlainLine : Plain → Command → LineReply → Plain → Type 0
 PlainLine old (file_call call) reply new = PlainCalls old call reply new
@@ -119,25 +121,31 @@ abbrev pub PlainSession : Plain → List Command → List LineReply → Plain �
 PlainSession old [] [] new = new ≡ old
 PlainSession old [] (reply ∷ replies) new = ⊥
 PlainSession old (command ∷ commands) [] new = ⊥
-PlainSession old (command ∷ commands) (reply ∷ replies) new = (middle : Plain) × PlainLine old command reply middle × PlainSession middle commands replies new
+PlainSession old (command ∷ commands) (reply ∷ replies) new =
+    (middle : Plain) × PlainLine old command reply middle × PlainSession middle commands replies new
 
--- The words now stand for the tree now, and after a crash at any moment they stand for the tree after the calls that it keeps.
+-- The words now stand for the tree now, and after a crash at any moment they stand for the tree after the calls that it
+-- keeps.
 pub record Follows (memory : Memory) (p : Plain) : Type 0 where
   pub now : Stands (current_words memory) (tree_now p)
   pub calls : marks memory.events ≡ length p.since
   pub after : (count : ℕ) → Stands (after_calls memory.base memory.events count) (after_crash p count)
-  pub crash : (cut : Cut) → IsRight memory.events cut → Stands (replay memory.base memory.events cut) (after_crash p (kept_calls memory.events cut))
+  pub crash : (cut : Cut) → IsRight memory.events cut
+      → Stands (replay memory.base memory.events cut) (after_crash p (kept_calls memory.events cut))
 
 -- ---- a session
 
 -- These are a plain tree's replies to these commands, and the words then follow it.
-pub record IsPlainly (tree : FileTree) (commands : List Command) (replies : List LineReply) (memory : Memory) : Type 0 where
+pub record IsPlainly (tree : FileTree) (commands : List Command) (replies : List LineReply)
+    (memory : Memory) : Type 0 where
   pub plain : Plain
   pub session : PlainSession (fresh tree) commands replies plain
   pub follows : Follows memory plain
 
--- The first of a session's commands lead to a state of its own, which the rest goes on from, and are a plain tree's too.
-pub record IsFront (tree : FileTree) (old : State) (first rest : List Command) (replies : List LineReply) (new : State) : Type 0 where
+-- The first of a session's commands lead to a state of its own, which the rest goes on from, and are a plain tree's
+-- too.
+pub record IsFront (tree : FileTree) (old : State) (first rest : List Command) (replies : List LineReply)
+    (new : State) : Type 0 where
   pub middle : State
   pub front : List LineReply
   pub behind : List LineReply
@@ -147,6 +155,7 @@ pub record IsFront (tree : FileTree) (old : State) (first rest : List Command) (
   pub plainly : IsPlainly tree first front middle.memory
 
 -- A session is a plain tree's, at its end and behind each of its lines.
-pub record FollowsTree (tree : FileTree) (old : State) (commands : List Command) (replies : List LineReply) (new : State) : Type 0 where
+pub record FollowsTree (tree : FileTree) (old : State) (commands : List Command) (replies : List LineReply)
+    (new : State) : Type 0 where
   pub whole : IsPlainly tree commands replies new.memory
   pub fronts : (first rest : List Command) → commands ≡ first ++ rest → IsFront tree old first rest replies new

@@ -1,5 +1,5 @@
 -- What serving some of an input does, from one moment to another.
-use Rattle.std.specs.Prelude.{◌≡◌, ◌≤◌, ◌⊎◌, ℕ, ◌<◌, List, [], ◌∷◌, ◌++◌, Some, true, length, take, Option}
+use Rattle.std.specs.Prelude.{◌≡◌, ◌≤◌, ◌⊎◌, ℕ, ◌<◌, List, [], ◌∷◌, ◌++◌, Some, Bool, true, false, length, take, Option}
 use Rattle.std.specs.Io.KnownBytes.{Appends, Consumes, IsAtEnd}
 use Rattle.bp_io.specs.Causes.{Rose}
 use Rattle.bp_io.specs.Files.{StaysAttached, View}
@@ -11,19 +11,21 @@ use Rattle.bp_script.specs.Commands.Command.{sync}
 use Rattle.bp_script.specs.Texts.{LineReply, reply_text}
 use Rattle.bp_session.specs.Lines.{commands_from, text_of}
 use Rattle.bp_session.specs.Acting.{state}
-use Rattle.bp_session.specs.Files.{Holds, HoldsPartly}
+use Rattle.bp_session.specs.Files.{Holds, HoldsAs, HoldsPartly}
 use Rattle.bp_session.specs.Outside.{IsFirstFault, counts}
 use Rattle.bp_session.specs.Session.{State, Line, Session}
 use Rattle.bp_session.specs.Pieces.{piece_size}
 
 -- A command was done, with this reply.
-pub record Acts (old : State) (memory : Memory) (holds : Image → Type 0) (command : Command) (reply : LineReply) : Type 0 where
+pub record Acts (old : State) (memory : Memory) (holds : Image → Type 0) (command : Command)
+    (reply : LineReply) : Type 0 where
   pub after : Image
   pub line : Line old command reply (state memory after)
   pub file : holds after
 
 -- A sync drained, and couldn't save.
-pub record SyncFails (old : State) (memory : Memory) (holds_partly : Image → Image → Type 0) (command : Command) : Type 0 where
+pub record SyncFails (old : State) (memory : Memory) (holds_partly : Image → Image → Type 0)
+    (command : Command) : Type 0 where
   pub is : command ≡ sync
   pub drained : memory ≡ drained old.memory
   pub file : holds_partly old.saved (current_words old.memory)
@@ -35,7 +37,8 @@ pub record Told (old new : State) (commands : List Command) (before now : Option
   pub taken : Appends before now (text_of replies)
 
 -- The lines that this input ends were answered. What is held of a line before and after says where lines begin and end.
-pub record Serves (old : State) (memory : Memory) (holds : Image → Type 0) (held input keeps : List ℕ) (before now : Option (List ℕ)) : Type 0 where
+pub record Serves (old : State) (memory : Memory) (holds : Image → Type 0) (held input keeps : List ℕ)
+    (before now : Option (List ℕ)) : Type 0 where
   pub commands : List Command
   pub lines : (rest : List ℕ) → commands_from held (input ++ rest) ≡ commands ++ commands_from keeps rest
   pub after : Image
@@ -43,13 +46,16 @@ pub record Serves (old : State) (memory : Memory) (holds : Image → Type 0) (he
   pub told : Told old (state memory after) commands before now
 
 -- All these commands were answered.
-pub record ServesAll (old : State) (memory : Memory) (holds : Image → Type 0) (commands : List Command) (before now : Option (List ℕ)) : Type 0 where
+pub record ServesAll (old : State) (memory : Memory) (holds : Image → Type 0) (commands : List Command)
+    (before now : Option (List ℕ)) : Type 0 where
   pub after : Image
   pub file : holds after
   pub told : Told old (state memory after) commands before now
 
--- The first of these commands were answered, and then one more was done whose reply was taken in part: less than all of it.
-pub record Cuts (old : State) (memory : Memory) (holds : Image → Type 0) (commands : List Command) (before now : Option (List ℕ)) : Type 0 where
+-- The first of these commands were answered, and then one more was done whose reply was taken in part: less than all of
+-- it.
+pub record Cuts (old : State) (memory : Memory) (holds : Image → Type 0) (commands : List Command)
+    (before now : Option (List ℕ)) : Type 0 where
   pub front : List Command
   pub last : Command
   pub more : List Command
@@ -66,7 +72,8 @@ pub record Cuts (old : State) (memory : Memory) (holds : Image → Type 0) (comm
   pub taken : Appends before now (text_of replies ++ take count (reply_text reply))
 
 -- The first of these commands were answered, and then a sync drained and couldn't save.
-pub record Stops (old : State) (memory : Memory) (holds_partly : Image → Image → Type 0) (commands : List Command) (before now : Option (List ℕ)) : Type 0 where
+pub record Stops (old : State) (memory : Memory) (holds_partly : Image → Image → Type 0) (commands : List Command)
+    (before now : Option (List ℕ)) : Type 0 where
   pub front : List Command
   pub last : Command
   pub more : List Command
@@ -77,15 +84,26 @@ pub record Stops (old : State) (memory : Memory) (holds_partly : Image → Image
 
 -- ---- what is told from one moment to another
 
--- The region, the files and the sink, as they are told at a moment.
+-- The region, the files and the sink, as they are told at a moment, and whether the attached file is taken to hold the
+-- words as they are.
 pub record Moment : Type 0 where
   pub memory : Memory
   pub files : View
   pub taken : Option (List ℕ)
   pub faults : ℕ
+  pub is_saved : Bool
 
 abbrev pub moment : Memory → View → Option (List ℕ) → ℕ → Moment
-moment memory files taken faults = record { memory = memory; files = files; taken = taken; faults = faults }
+moment memory files taken faults =
+    record { memory = memory; files = files; taken = taken; faults = faults; is_saved = false }
+
+-- the same moment, where the attached file is taken to hold the words as they are if so
+abbrev pub saved_if : Bool → Moment → Moment
+saved_if is_saved now = record now { is_saved = is_saved }
+
+-- the file of this name holds these words, and where it is taken to hold the words as they are, it does
+abbrev pub HoldsAt : Moment → List ℕ → Image → Type 0
+HoldsAt now name image = HoldsAs now.is_saved now.files (current_words now.memory) name image
 
 -- What a source has left, and how often it has failed.
 pub record Input : Type 0 where
@@ -96,36 +114,37 @@ abbrev pub told : Option (List ℕ) → ℕ → Input
 told left faults = record { left = left; faults = faults }
 
 -- The attached file holds these words, and the command was done.
-abbrev pub DoesLine : Memory → View → Command → LineReply → Memory → View → Type 0
-DoesLine old files command reply new now = (name : List ℕ) (saved : Image) → Holds files name saved →
-    Acts (state old saved) new (Holds now name) command reply
+abbrev pub DoesLine : Moment → Command → LineReply → Moment → Type 0
+DoesLine old command reply new = (name : List ℕ) (saved : Image) → HoldsAt old name saved →
+    Acts (state old.memory saved) new.memory (HoldsAt new name) command reply
 
 -- .. and a sync couldn't save.
-abbrev pub FailsLine : Memory → View → Command → Memory → View → Type 0
-FailsLine old files command new now = (name : List ℕ) (saved : Image) → Holds files name saved →
-    SyncFails (state old saved) new (HoldsPartly now name) command
+abbrev pub FailsLine : Moment → Command → Moment → Type 0
+FailsLine old command new = (name : List ℕ) (saved : Image) → HoldsAt old name saved →
+    SyncFails (state old.memory saved) new.memory (HoldsPartly new.files name) command
 
 -- .. and the lines that this input ends were answered.
 abbrev pub DoesPart : List ℕ → List ℕ → List ℕ → Moment → Moment → Type 0
-DoesPart held input keeps old new = (name : List ℕ) (saved : Image) → Holds old.files name saved →
-    Serves (state old.memory saved) new.memory (Holds new.files name) held input keeps old.taken new.taken
+DoesPart held input keeps old new = (name : List ℕ) (saved : Image) → HoldsAt old name saved →
+    Serves (state old.memory saved) new.memory (HoldsAt new name) held input keeps old.taken new.taken
 
 -- .. and all these commands were answered.
 abbrev pub DoesAll : Moment → Moment → List Command → Type 0
-DoesAll old new commands = (name : List ℕ) (saved : Image) → Holds old.files name saved →
-    ServesAll (state old.memory saved) new.memory (Holds new.files name) commands old.taken new.taken
+DoesAll old new commands = (name : List ℕ) (saved : Image) → HoldsAt old name saved →
+    ServesAll (state old.memory saved) new.memory (HoldsAt new name) commands old.taken new.taken
 
 -- .. and the reply to one of these commands was cut.
 abbrev pub DoesCut : Moment → Moment → List Command → Type 0
-DoesCut old new commands = (name : List ℕ) (saved : Image) → Holds old.files name saved →
+DoesCut old new commands = (name : List ℕ) (saved : Image) → HoldsAt old name saved →
     Cuts (state old.memory saved) new.memory (Holds new.files name) commands old.taken new.taken
 
 -- .. and a sync among these commands couldn't save.
 abbrev pub DoesStop : Moment → Moment → List Command → Type 0
-DoesStop old new commands = (name : List ℕ) (saved : Image) → Holds old.files name saved →
+DoesStop old new commands = (name : List ℕ) (saved : Image) → HoldsAt old name saved →
     Stops (state old.memory saved) new.memory (HoldsPartly new.files name) commands old.taken new.taken
 
--- The region keeps its size and the room of its log, the same file is attached, and what was flushed before is flushed where no sync failed.
+-- The region keeps its size and the room of its log, the same file is attached, and what was flushed before is flushed
+-- where no sync failed.
 pub record Keeps (status : ℕ) (old new : Moment) : Type 0 where
   pub size : length new.memory.base ≡ length old.memory.base
   pub capacity : new.memory.capacity ≡ old.memory.capacity
@@ -141,7 +160,8 @@ pub record LineOutcome (status : ℕ) (commands : List Command) (old new : Momen
   pub first : IsFirstFault status (counts 0 old.faults old.files) (counts 0 new.faults new.files)
   pub one_of : (status ≡ 0) ⊎ (status ≡ 4) ⊎ (status ≡ 5)
 
--- What serving a piece of an input answers, after what was held of a line: a line that a fault ends is whole, whatever follows.
+-- What serving a piece of an input answers, after what was held of a line: a line that a fault ends is whole, whatever
+-- follows.
 pub record PieceOutcome (status : ℕ) (held input keeps : List ℕ) (old new : Moment) : Type 0 where
   pub whole : status ≡ 0 → DoesPart held input keeps old new
   pub cut : status ≡ 4 → (rest : List ℕ) → DoesCut old new (commands_from held (input ++ rest))
@@ -150,22 +170,29 @@ pub record PieceOutcome (status : ℕ) (held input keeps : List ℕ) (old new : 
   pub first : IsFirstFault status (counts 0 old.faults old.files) (counts 0 new.faults new.files)
   pub one_of : (status ≡ 0) ⊎ (status ≡ 4) ⊎ (status ≡ 5)
 
--- P holds of the commands of lines that were read whole: of what every input asks for that begins with this one, or the source
--- is at its end and P holds of what this input asks for.
+-- P holds of the commands of lines that were read whole: of what every input asks for that begins with this one, or the
+-- source is at its end and P holds of what this input asks for.
 abbrev pub OfLines : Option (List ℕ) → List ℕ → (List Command → Type 0) → Type 0
-OfLines left input P = ((rest : List ℕ) → P (commands_from [] (input ++ rest))) ⊎ (IsAtEnd left × P (commands_from [] input))
+OfLines left input P =
+    ((rest : List ℕ) → P (commands_from [] (input ++ rest))) ⊎ (IsAtEnd left × P (commands_from [] input))
 
--- What serving a source answers: as above; 3 where the source failed, and 6 where the most bytes were taken and one read gave more.
+-- What serving a source answers: as above; 3 where the source failed, and 6 where the most bytes were taken and one
+-- read gave more.
 pub record ServeOutcome (status : ℕ) (before after : Input) (old new : Moment) : Type 0 where
   pub whole : status ≡ 0 → (input : List ℕ) × Consumes before.left after.left input × IsAtEnd after.left
       × (length input ≤ max_input) × DoesAll old new (commands_from [] input)
-  pub part : status ≡ 3 → (input : List ℕ) × (keeps : List ℕ) × Consumes before.left after.left input × DoesPart [] input keeps old new
-  pub long : status ≡ 6 → (input : List ℕ) × (more : List ℕ) × (keeps : List ℕ) × Consumes before.left after.left (input ++ more) × (length input ≡ max_input)
+  pub part : status ≡ 3 → (input : List ℕ) × (keeps : List ℕ) × Consumes before.left after.left input
+      × DoesPart [] input keeps old new
+  pub long : status ≡ 6 → (input : List ℕ) × (more : List ℕ) × (keeps : List ℕ)
+      × Consumes before.left after.left (input ++ more) × (length input ≡ max_input)
       × (1 ≤ length more) × (length more ≤ piece_size) × DoesPart [] input keeps old new
-  pub cut : status ≡ 4 → (input : List ℕ) × Consumes before.left after.left input × OfLines after.left input (DoesCut old new)
-  pub stopped : status ≡ 5 → (input : List ℕ) × Consumes before.left after.left input × OfLines after.left input (DoesStop old new)
+  pub cut : status ≡ 4 → (input : List ℕ) × Consumes before.left after.left input
+      × OfLines after.left input (DoesCut old new)
+  pub stopped : status ≡ 5 → (input : List ℕ) × Consumes before.left after.left input
+      × OfLines after.left input (DoesStop old new)
   pub keeps : Keeps status old new
   pub first : IsFirstFault status (counts before.faults old.faults old.files) (counts after.faults new.faults new.files)
-  pub complete : (input : List ℕ) → before.left ≡ Some input → length input ≤ max_input → ¬ Rose before.faults after.faults
+  pub complete : (input : List ℕ) → before.left ≡ Some input → length input ≤ max_input
+      → ¬ Rose before.faults after.faults
       → ¬ Rose old.faults new.faults → ¬ Rose old.files.faults new.files.faults → status ≡ 0
   pub one_of : (status ≡ 0) ⊎ (status ≡ 3) ⊎ (status ≡ 4) ⊎ (status ≡ 5) ⊎ (status ≡ 6)

@@ -74,7 +74,8 @@ abbrev pub Line : State → Command → LineReply → State → Type 0
 Line old (file_call call) reply new = AnswersCall old call reply new
 Line old sync reply new = Syncs old reply new
 Line old space reply new = TellsSpace old reply new
-Line old (crash wanted) reply new = let cut = cut_for old.memory.events wanted in Crashes old cut reply new ⊎ RefusesCut old cut reply new
+Line old (crash wanted) reply new =
+    let cut = cut_for old.memory.events wanted in Crashes old cut reply new ⊎ RefusesCut old cut reply new
 Line old (storm seed) reply new = Crashes old (storm_cut old.memory.events seed) reply new
 Line old log reply new = Tells old (log_reply old) reply new
 Line old bad_syntax reply new = Tells old syntax reply new
@@ -86,4 +87,5 @@ abbrev pub Session : State → List Command → List LineReply → State → Typ
 Session old [] [] new = new ≡ old
 Session old [] (reply ∷ replies) new = ⊥
 Session old (command ∷ commands) [] new = ⊥
-Session old (command ∷ commands) (reply ∷ replies) new = (middle : State) × Line old command reply middle × Session middle commands replies new
+Session old (command ∷ commands) (reply ∷ replies) new =
+    (middle : State) × Line old command reply middle × Session middle commands replies new

@@ -1,6 +1,6 @@
 //! What one line does.
 
-ghost use Rattle.std.specs.Prelude.{◌≡◌, ◌≤◌, [], IfErr, IfOk, OnOk, length, true};
+ghost use Rattle.std.specs.Prelude.{◌&&◌, ◌≡◌, ◌≤◌, [], IfErr, IfOk, OnOk, length, not, true};
 ghost use Rattle.pm_epochs.specs.Log.{barriers, marks};
 ghost use Rattle.bp_io.specs.Files.{StaysAttached};
 ghost use Rattle.bp_limits.specs.Limits.{log_events, max_mask};
@@ -8,18 +8,19 @@ ghost use Rattle.bp_replay.specs.Storm.{storm_cut};
 ghost use Rattle.bp_replay.specs.Wanted.{cut_for, mask_places, wanted_by};
 ghost use Rattle.bp_script.specs.Commands.Command.{sync};
 ghost use Rattle.bp_script.specs.Commands.{command_of};
-ghost use Rattle.bp_session.specs.Acting.{CrashesTo, Does, HasCrashed, reply_of};
+ghost use Rattle.bp_session.specs.Acting.{CrashesTo, Does, HasCrashed, may_have_changed, reply_of};
 ghost use Rattle.bp_session.specs.Files.{IsReady};
 ghost use Rattle.bp_session.specs.Gathering.{Clears, LineGathers};
-ghost use Rattle.bp_session.specs.Serving.{DoesLine, moment};
+ghost use Rattle.bp_session.specs.Serving.{DoesLine, moment, saved_if};
 ghost use Rattle.bp_session.specs.declared.outcome.Outcome.TheVariants.{Logged};
 ghost use Rattle.bp_session.specs.Work.{answer_in, line_in, waiting_in};
 
 use crate::outcome::Outcome;
-use crate::saving::save;
+use crate::saving::save_unless_saved;
 use crate::work::LineBuffers;
 use bp_io::{Failed, Files, Sink};
 use bp_limits::MAX_LINE;
+use bp_plain::{Answer, Reply};
 use bp_replay::{Cut, choice_of, storm};
 use bp_script::{Line, Syntax};
 use bp_volume::Volume;
@@ -99,9 +100,9 @@ fn count_log<R: Region>(region: &R) -> Outcome
     }
 }
 
-/// Does what the line of the buffers asks for, over a volume alone. The answer of a call stands in the buffers' reply. At
-/// `Outcome::Synced` all is written back, and a file that is to hold it is to be saved. The volume's log is to have no more
-/// room than the memory of the buffers.
+/// Does what the line of the buffers asks for, over a volume alone. The answer of a call stands in the buffers' reply.
+/// At `Outcome::Synced` all is written back, and a file that is to hold it is to be saved. The volume's log is to have
+/// no more room than the memory of the buffers.
 pub fn act<R: Region>(alloc: Global, volume: &mut Volume<R>, buffers: &mut LineBuffers) -> Outcome
     requires { volume.old.capacity ≤ log_events }
     ensures does { Does volume.old (command_of (line_in buffers.old)) result (answer_in buffers.new) volume.new }
@@ -113,6 +114,8 @@ pub fn act<R: Region>(alloc: Global, volume: &mut Volume<R>, buffers: &mut LineB
     }
     match buffers.decoded.line(&buffers.line) {
         Ok(Line::Call(call)) => {
+            // Its words are a file system.
+            let _region = volume.region();
             volume.apply(alloc, &call, &mut buffers.reply);
             Outcome::Answered
         }
@@ -136,25 +139,47 @@ pub fn act<R: Region>(alloc: Global, volume: &mut Volume<R>, buffers: &mut LineB
     }
 }
 
-/// Does what the line asks for, and saves the words of a sync to the attached file, behind the replies that wait. An error is
-/// the status: 4 where the sink failed before a sync could save, and 5 where the files did.
+// Whether a line may have changed the words.
+fn may_change(outcome: Outcome, reply: &Reply) -> bool
+    ensures { result ≡ may_have_changed outcome reply.now.answer }
+{
+    match outcome {
+        Outcome::Answered => matches!(reply.answer(), Answer::Done),
+        Outcome::Kept { .. } => true,
+        _ => false,
+    }
+}
+
+// Whether a file that held the words as they were before a line that is no sync holds them as they are behind it.
+fn stays_saved(is_saved: bool, outcome: Outcome, reply: &Reply) -> bool
+    ensures { result ≡ (is_saved && not (may_have_changed outcome reply.now.answer)) }
+{
+    is_saved && !may_change(outcome, reply)
+}
+
+/// Does what the line asks for, and saves the words of a sync to the attached file, behind the replies that wait,
+/// unless it is taken to hold them. An error is the status: 4 where the sink failed before a sync could save, and 5
+/// where the files did.
 pub(crate) fn act_and_save<R: Region, K: Sink, F: Files>(
     alloc: Global,
     volume: &mut Volume<R>,
     buffers: &mut LineBuffers,
+    is_saved: &mut bool,
     out: &mut K,
     files: &mut F,
 ) -> Result<Outcome, u8>
     requires ready { IsReady volume.old.base (F.view files.old) }
     requires roomy { volume.old.capacity ≤ log_events }
-    ensures does { IfOk result (λ outcome. DoesLine volume.old (F.view files.old) (command_of (line_in buffers.old))
-        (reply_of outcome (answer_in buffers.new)) volume.new (F.view files.new)) }
-    ensures clears { OnOk result (Clears (waiting_in buffers.old) (waiting_in buffers.new) (K.taken out.old) (K.taken out.new)
-        (F.view files.old) (F.view files.new)) }
+    ensures does { IfOk result (λ outcome. DoesLine
+        (saved_if is_saved.old (moment volume.old (F.view files.old) (K.taken out.old) (K.faults out.old)))
+        (command_of (line_in buffers.old)) (reply_of outcome (answer_in buffers.new))
+        (saved_if is_saved.new (moment volume.new (F.view files.new) (K.taken out.new) (K.faults out.new)))) }
+    ensures clears { OnOk result (Clears (waiting_in buffers.old) (waiting_in buffers.new)
+        (K.taken out.old) (K.taken out.new) (F.view files.old) (F.view files.new)) }
     ensures stops { IfErr result (λ status. LineGathers status (command_of (line_in buffers.old))
         (waiting_in buffers.old) (waiting_in buffers.new)
-        (moment volume.old (F.view files.old) (K.taken out.old) (K.faults out.old))
-        (moment volume.new (F.view files.new) (K.taken out.new) (K.faults out.new))) }
+        (saved_if is_saved.old (moment volume.old (F.view files.old) (K.taken out.old) (K.faults out.old)))
+        (saved_if is_saved.new (moment volume.new (F.view files.new) (K.taken out.new) (K.faults out.new)))) }
     ensures some { IfErr result (λ status. ¬ (status ≡ 0)) }
     ensures heard { IfErr result (λ status. waiting_in buffers.old ≡ [] → status ≡ 5) }
     ensures synced { OnOk result (command_of (line_in buffers.old) ≡ sync → (F.view files.new).is_flushed ≡ true) }
@@ -168,12 +193,18 @@ pub(crate) fn act_and_save<R: Region, K: Sink, F: Files>(
 {
     match act(alloc, volume, buffers) {
         Outcome::Synced => match buffers.replies.hand_over(out) {
-            Ok(()) => match save(volume.region(), files) {
-                Ok(()) => Ok(Outcome::Synced),
+            Ok(()) => match save_unless_saved(volume.region(), *is_saved, files) {
+                Ok(()) => {
+                    *is_saved = true;
+                    Ok(Outcome::Synced)
+                }
                 Err(Failed) => Err(5),
             },
             Err(Failed) => Err(4),
         },
-        outcome => Ok(outcome),
+        outcome => {
+            *is_saved = stays_saved(*is_saved, outcome, &buffers.reply);
+            Ok(outcome)
+        }
     }
 }

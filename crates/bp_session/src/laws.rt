@@ -12,8 +12,8 @@ ghost use Rattle.bp_script.specs.Texts.{LineReply};
 ghost use Rattle.bp_session.specs.Session.{State, Session};
 ghost use Rattle.bp_session.specs.PlainSession.{Plain, PlainSession, Follows, fresh, after_crash};
 
-/// A session over an image that stands for a tree is one of that plain tree: the replies are the plain tree's, and at the
-/// session's end every right choice leaves an image that stands for the tree after the calls that it keeps.
+/// A session over an image that stands for a tree is one of that plain tree: the replies are the plain tree's, and at
+/// the session's end every right choice leaves an image that stands for the tree after the calls that it keeps.
 pub fn sessions_are_plain()
     ensures { (old new : State) (tree : FileTree) (commands : List Command) (replies : List LineReply) →
         old.memory.events ≡ [] → Stands old.memory.base tree → Session old commands replies new →

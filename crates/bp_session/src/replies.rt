@@ -65,7 +65,8 @@ impl Replies {
         most: usize,
         out: &mut K,
     ) -> Result<(), Failed>
-        ensures all { OnOk result (Passes [] (waiting self.old) (waiting self.new) (K.taken out.old) (K.taken out.new)) }
+        ensures all { OnOk result (Passes [] (waiting self.old) (waiting self.new)
+            (K.taken out.old) (K.taken out.new)) }
         ensures some { OnErr result (TakesPart (waiting self.old) (K.taken out.old) (K.taken out.new)) }
         ensures few { OnOk result (length (waiting self.new) ≤ most) }
         ensures cause { HasCause (K.faults out.old) (K.faults out.new) result }
@@ -88,8 +89,10 @@ impl Replies {
     /// Adds a line of a reply. What waited before is handed over first where it is much.
     pub(crate) fn tell<K: Sink>(&mut self, said: &Said<'_>, out: &mut K) -> Result<(), Failed>
         requires { FitsReply said.now }
-        ensures all { OnOk result (Passes (said_text said.now) (waiting self.old) (waiting self.new) (K.taken out.old) (K.taken out.new)) }
-        ensures some { OnErr result (TakesPart (waiting self.old ++ said_text said.now) (K.taken out.old) (K.taken out.new)) }
+        ensures all { OnOk result (Passes (said_text said.now) (waiting self.old) (waiting self.new)
+            (K.taken out.old) (K.taken out.new)) }
+        ensures some { OnErr result (TakesPart (waiting self.old ++ said_text said.now)
+            (K.taken out.old) (K.taken out.new)) }
         ensures cause { HasCause (K.faults out.old) (K.faults out.new) result }
     {
         self.hand_over_above(GATHERED, out)?;

@@ -1,10 +1,11 @@
 //! A file takes the words of a region.
 
 ghost use Rattle.std.specs.Prelude.{◌≡◌, List, ℕ, OnOk, OnErr, true};
+ghost use Rattle.bp_layout.specs.Words.{Image};
 ghost use Rattle.bp_io.specs.Causes.{HasCause};
 ghost use Rattle.bp_io.specs.Files.{KeepsFiles, StaysAttached};
 ghost use Rattle.bp_layout.specs.Bytes.{image_bytes};
-ghost use Rattle.bp_session.specs.Files.{HoldsBytes, HasBlocksOf, IsReady, StaysTold};
+ghost use Rattle.bp_session.specs.Files.{HasBlocksOf, Holds, HoldsAs, HoldsBytes, HoldsPartly, IsReady, StaysTold};
 ghost use Rattle.pm_region.specs.Memory.{current_words};
 
 use crate::blocks::read_block;
@@ -59,5 +60,28 @@ pub fn save<R: Region, F: Files>(region: &R, files: &mut F) -> Result<(), Failed
     match write_blocks(region, files) {
         Ok(()) => flush(files),
         Err(Failed) => Err(Failed),
+    }
+}
+
+/// Saves the words as `save` does, but writes no block where the attached file is taken to hold them.
+pub fn save_unless_saved<R: Region, F: Files>(
+    region: &R,
+    is_saved: bool,
+    files: &mut F,
+) -> Result<(), Failed>
+    requires { IsReady (R.memory region.now).base (F.view files.old) }
+    ensures saved { OnOk result ((name : List ℕ) (was : Image) →
+        HoldsAs is_saved (F.view files.old) (current_words (R.memory region.now)) name was →
+        Holds (F.view files.new) name (current_words (R.memory region.now))) }
+    ensures partly { OnErr result ((name : List ℕ) (was : Image) → Holds (F.view files.old) name was →
+        HoldsPartly (F.view files.new) name was (current_words (R.memory region.now))) }
+    ensures flushed { OnOk result ((F.view files.new).is_flushed ≡ true) }
+    ensures attached { StaysAttached (F.view files.old) (F.view files.new) }
+    ensures cause { HasCause (F.view files.old).faults (F.view files.new).faults result }
+{
+    if is_saved {
+        flush(files)
+    } else {
+        save(region, files)
     }
 }

@@ -12,13 +12,13 @@ ghost use Rattle.bp_session.specs.Files.{IsReady};
 ghost use Rattle.bp_session.specs.Lines.{commands_from};
 ghost use Rattle.bp_session.specs.Gathering.{LineGathers, Reaches};
 ghost use Rattle.bp_session.specs.Pieces.{gathered_size, piece_size};
-ghost use Rattle.bp_session.specs.Serving.{LineOutcome, PieceOutcome, ServeOutcome, moment, told};
-ghost use Rattle.bp_session.specs.Work.{held_line, held_replies, line_in, read_piece, waiting_in};
+ghost use Rattle.bp_session.specs.Serving.{LineOutcome, PieceOutcome, ServeOutcome, moment, saved_if, told};
+ghost use Rattle.bp_session.specs.Work.{held_line, held_replies, is_saved_in, read_piece};
 
 use crate::acting::act_and_save;
 use crate::replies::GATHERED;
 use crate::telling::tell_by;
-use crate::work::{LineBuffers, Work};
+use crate::work::Work;
 use bp_io::{Failed, Files, Sink, Source};
 use bp_limits::MAX_INPUT;
 use bp_volume::Volume;
@@ -26,27 +26,34 @@ use memchr::memchr;
 use pm_region::Region;
 use std::alloc::Global;
 
-// Serves the line of the buffers. Where more replies than so many bytes then wait, they are handed over.
+// Serves the line that is held. Where more replies than so many bytes then wait, they are handed over.
 fn answer_line<R: Region, K: Sink, F: Files>(
     alloc: Global,
     volume: &mut Volume<R>,
-    buffers: &mut LineBuffers,
+    work: &mut Work,
     most: usize,
     out: &mut K,
     files: &mut F,
 ) -> u8
     requires ready { IsReady volume.old.base (F.view files.old) }
     requires roomy { volume.old.capacity ≤ log_events }
-    ensures outcome { LineGathers result (command_of (line_in buffers.old)) (waiting_in buffers.old) (waiting_in buffers.new)
-        (moment volume.old (F.view files.old) (K.taken out.old) (K.faults out.old))
-        (moment volume.new (F.view files.new) (K.taken out.new) (K.faults out.new)) }
-    ensures few { result ≡ 0 → length (waiting_in buffers.new) ≤ most }
-    ensures synced { waiting_in buffers.old ≡ [] → ¬ (result ≡ 5) → command_of (line_in buffers.old) ≡ sync →
+    ensures outcome { LineGathers result (command_of (held_line work.old))
+        (held_replies work.old) (held_replies work.new)
+        (saved_if (is_saved_in work.old) (moment volume.old (F.view files.old) (K.taken out.old) (K.faults out.old)))
+        (saved_if (is_saved_in work.new) (moment volume.new (F.view files.new) (K.taken out.new) (K.faults out.new))) }
+    ensures few { result ≡ 0 → length (held_replies work.new) ≤ most }
+    ensures synced { held_replies work.old ≡ [] → ¬ (result ≡ 5) → command_of (held_line work.old) ≡ sync →
         (F.view files.new).is_flushed ≡ true }
     ensures ready { IsReady volume.new.base (F.view files.new) }
-    ensures line { line_in buffers.new ≡ line_in buffers.old }
+    ensures line { held_line work.new ≡ held_line work.old }
+    ensures piece { read_piece work.new ≡ read_piece work.old }
 {
-    match act_and_save(alloc, volume, buffers, out, files) {
+    let Work {
+        buffers,
+        is_saved,
+        ..
+    } = work;
+    match act_and_save(alloc, volume, buffers, is_saved, out, files) {
         Ok(outcome) => match tell_by(outcome, &buffers.reply, &mut buffers.replies, most, out) {
             Ok(()) => 0,
             Err(Failed) => 4,
@@ -55,8 +62,32 @@ fn answer_line<R: Region, K: Sink, F: Files>(
     }
 }
 
-/// Serves the line that the work holds, and answers the status: 0 where its reply was taken whole, 4 where the sink failed, 5
-/// where a sync could not save. A file is to be attached that has the volume's blocks and may be written.
+// Serves the line that is held, and hands its reply over.
+fn answer_alone<R: Region, K: Sink, F: Files>(
+    alloc: Global,
+    volume: &mut Volume<R>,
+    work: &mut Work,
+    out: &mut K,
+    files: &mut F,
+) -> u8
+    requires ready { IsReady volume.old.base (F.view files.old) }
+    requires roomy { volume.old.capacity ≤ log_events }
+    ensures outcome { LineOutcome result (command_of (held_line work.old) ∷ [])
+        (saved_if (is_saved_in work.old) (moment volume.old (F.view files.old) (K.taken out.old) (K.faults out.old)))
+        (saved_if (is_saved_in work.new) (moment volume.new (F.view files.new) (K.taken out.new) (K.faults out.new))) }
+    ensures synced { ¬ (result ≡ 5) → command_of (held_line work.old) ≡ sync → (F.view files.new).is_flushed ≡ true }
+    ensures ready { IsReady volume.new.base (F.view files.new) }
+    ensures capacity { volume.new.capacity ≡ volume.old.capacity }
+    ensures line { held_line work.new ≡ held_line work.old }
+    ensures piece { read_piece work.new ≡ read_piece work.old }
+{
+    work.buffers.replies.clear();
+    answer_line(alloc, volume, work, 0, out, files)
+}
+
+/// Serves the line that the work holds, and answers the status: 0 where its reply was taken whole, 4 where the sink
+/// failed, 5 where a sync could not save. A file is to be attached that has the volume's blocks and may be written.
+/// Nothing is taken of what it holds.
 pub fn serve_line<R: Region, K: Sink, F: Files>(
     alloc: Global,
     volume: &mut Volume<R>,
@@ -75,11 +106,12 @@ pub fn serve_line<R: Region, K: Sink, F: Files>(
     ensures line { held_line work.new ≡ held_line work.old }
     ensures piece { read_piece work.new ≡ read_piece work.old }
 {
-    work.buffers.replies.clear();
-    answer_line(alloc, volume, &mut work.buffers, 0, out, files)
+    work.is_saved = false;
+    answer_alone(alloc, volume, work, out, files)
 }
 
-// Serves the line that a newline ends, and begins the next. Where more replies than so many bytes then wait, they are handed over.
+// Serves the line that a newline ends, and begins the next. Where more replies than so many bytes then wait, they are
+// handed over.
 fn end_line<R: Region, K: Sink, F: Files>(
     alloc: Global,
     volume: &mut Volume<R>,
@@ -90,15 +122,16 @@ fn end_line<R: Region, K: Sink, F: Files>(
 ) -> u8
     requires ready { IsReady volume.old.base (F.view files.old) }
     requires roomy { volume.old.capacity ≤ log_events }
-    ensures outcome { LineGathers result (command_of (held_line work.old)) (held_replies work.old) (held_replies work.new)
-        (moment volume.old (F.view files.old) (K.taken out.old) (K.faults out.old))
-        (moment volume.new (F.view files.new) (K.taken out.new) (K.faults out.new)) }
+    ensures outcome { LineGathers result (command_of (held_line work.old))
+        (held_replies work.old) (held_replies work.new)
+        (saved_if (is_saved_in work.old) (moment volume.old (F.view files.old) (K.taken out.old) (K.faults out.old)))
+        (saved_if (is_saved_in work.new) (moment volume.new (F.view files.new) (K.taken out.new) (K.faults out.new))) }
     ensures few { result ≡ 0 → length (held_replies work.new) ≤ most }
     ensures ready { IsReady volume.new.base (F.view files.new) }
     ensures line { held_line work.new ≡ [] }
     ensures piece { read_piece work.new ≡ read_piece work.old }
 {
-    let status = answer_line(alloc, volume, &mut work.buffers, most, out, files);
+    let status = answer_line(alloc, volume, work, most, out, files);
     work.buffers.line.clear();
     status
 }
@@ -108,12 +141,14 @@ fn take_run(work: &mut Work, from: usize, to: usize)
     requires order { from ≤ to }
     requires inside { to ≤ piece_size }
     requires quiet { Nowhere (Passes (is_byte 10) (read_piece work.old)) from to }
-    ensures same { (rest : List ℕ) → commands_from (held_line work.old) (slice_range (read_piece work.old) from to ++ rest)
+    ensures same { (rest : List ℕ) →
+        commands_from (held_line work.old) (slice_range (read_piece work.old) from to ++ rest)
         ≡ commands_from (held_line work.new) rest }
     ensures piece { read_piece work.new ≡ read_piece work.old }
     ensures replies { held_replies work.new ≡ held_replies work.old }
+    ensures saved { is_saved_in work.new ≡ is_saved_in work.old }
 {
-    let Work { buffers, piece } = work;
+    let Work { buffers, piece, .. } = work;
     buffers.add(&piece[from..to]);
 }
 
@@ -142,9 +177,10 @@ fn take_piece<R: Region, K: Sink, F: Files>(
     requires ready { IsReady volume.old.base (F.view files.old) }
     requires roomy { volume.old.capacity ≤ log_events }
     requires inside { count ≤ piece_size }
-    ensures outcome { Reaches result most (PieceOutcome result (held_line work.old) (take count (read_piece work.old)) (held_line work.new)
-        (moment volume.old (F.view files.old) (K.taken out.old) (K.faults out.old)))
-        (moment volume.new (F.view files.new) (K.taken out.new) (K.faults out.new)) }
+    ensures outcome { Reaches result most
+        (PieceOutcome result (held_line work.old) (take count (read_piece work.old)) (held_line work.new)
+        (saved_if (is_saved_in work.old) (moment volume.old (F.view files.old) (K.taken out.old) (K.faults out.old))))
+        (saved_if (is_saved_in work.new) (moment volume.new (F.view files.new) (K.taken out.new) (K.faults out.new))) }
     ensures ready { IsReady volume.new.base (F.view files.new) }
     ensures capacity { volume.new.capacity ≡ volume.old.capacity }
 {
@@ -176,13 +212,13 @@ fn finish<R: Region, K: Sink, F: Files>(
     requires ready { IsReady volume.old.base (F.view files.old) }
     requires roomy { volume.old.capacity ≤ log_events }
     ensures { LineOutcome result (commands_from (held_line work.old) [])
-        (moment volume.old (F.view files.old) (K.taken out.old) (K.faults out.old))
-        (moment volume.new (F.view files.new) (K.taken out.new) (K.faults out.new)) }
+        (saved_if (is_saved_in work.old) (moment volume.old (F.view files.old) (K.taken out.old) (K.faults out.old)))
+        (saved_if (is_saved_in work.new) (moment volume.new (F.view files.new) (K.taken out.new) (K.faults out.new))) }
 {
     if work.buffers.line.is_empty() {
         return 0;
     }
-    serve_line(alloc, volume, work, out, files)
+    answer_alone(alloc, volume, work, out, files)
 }
 
 // Reads a piece of the input.
@@ -209,8 +245,8 @@ fn serve_by<R: Region, S: Source, K: Sink, F: Files>(
     requires roomy { volume.old.capacity ≤ log_events }
     ensures outcome { Reaches result most
         (ServeOutcome result (told (S.left src.old) (S.faults src.old)) (told (S.left src.new) (S.faults src.new))
-        (moment volume.old (F.view files.old) (K.taken out.old) (K.faults out.old)))
-        (moment volume.new (F.view files.new) (K.taken out.new) (K.faults out.new)) }
+        (saved_if (is_saved_in work.old) (moment volume.old (F.view files.old) (K.taken out.old) (K.faults out.old))))
+        (saved_if (is_saved_in work.new) (moment volume.new (F.view files.new) (K.taken out.new) (K.faults out.new))) }
     ensures ready { IsReady volume.new.base (F.view files.new) }
     ensures capacity { volume.new.capacity ≡ volume.old.capacity }
 {
@@ -237,8 +273,8 @@ fn serve_by<R: Region, S: Source, K: Sink, F: Files>(
     finish(alloc, volume, work, out, files)
 }
 
-/// Answers each line of a source, in whatever pieces it comes. No line that the work held before is served. Each reply is
-/// handed to the sink before the next line is served.
+/// Answers each line of a source, in whatever pieces it comes. No line that the work held before is served. Each reply
+/// is handed to the sink before the next line is served.
 pub fn serve<R: Region, S: Source, K: Sink, F: Files>(
     alloc: Global,
     volume: &mut Volume<R>,
@@ -249,18 +285,20 @@ pub fn serve<R: Region, S: Source, K: Sink, F: Files>(
 ) -> u8
     requires ready { IsReady volume.old.base (F.view files.old) }
     requires roomy { volume.old.capacity ≤ log_events }
-    ensures outcome { ServeOutcome result (told (S.left src.old) (S.faults src.old)) (told (S.left src.new) (S.faults src.new))
+    ensures outcome { ServeOutcome result
+        (told (S.left src.old) (S.faults src.old)) (told (S.left src.new) (S.faults src.new))
         (moment volume.old (F.view files.old) (K.taken out.old) (K.faults out.old))
         (moment volume.new (F.view files.new) (K.taken out.new) (K.faults out.new)) }
     ensures ready { IsReady volume.new.base (F.view files.new) }
     ensures capacity { volume.new.capacity ≡ volume.old.capacity }
 {
+    work.is_saved = false;
     serve_by(alloc, volume, work, 0, src, out, files)
 }
 
-/// Answers each line of a source, as `serve` does, but for when replies are handed to the sink: they are gathered while more
-/// lines of one read follow, and handed over before the next read, before a sync saves, and at the end. Where the sink failed,
-/// the volume may be ahead of the line whose reply was cut; no file is.
+/// Answers each line of a source, as `serve` does, but for when replies are handed to the sink: they are gathered while
+/// more lines of one read follow, and handed over before the next read, before a sync saves, and at the end. Where the
+/// sink failed, the volume may be ahead of the line whose reply was cut; no file is.
 pub fn serve_gathered<R: Region, S: Source, K: Sink, F: Files>(
     alloc: Global,
     volume: &mut Volume<R>,
@@ -273,8 +311,8 @@ pub fn serve_gathered<R: Region, S: Source, K: Sink, F: Files>(
     requires roomy { volume.old.capacity ≤ log_events }
     ensures outcome { Reaches result gathered_size
         (ServeOutcome result (told (S.left src.old) (S.faults src.old)) (told (S.left src.new) (S.faults src.new))
-        (moment volume.old (F.view files.old) (K.taken out.old) (K.faults out.old)))
-        (moment volume.new (F.view files.new) (K.taken out.new) (K.faults out.new)) }
+        (saved_if (is_saved_in work.old) (moment volume.old (F.view files.old) (K.taken out.old) (K.faults out.old))))
+        (saved_if (is_saved_in work.new) (moment volume.new (F.view files.new) (K.taken out.new) (K.faults out.new))) }
     ensures ready { IsReady volume.new.base (F.view files.new) }
     ensures capacity { volume.new.capacity ≡ volume.old.capacity }
 {

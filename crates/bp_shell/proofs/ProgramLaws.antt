@@ -1,6 +1,6 @@
 -- Outcomes of the programs, from those of their parts.
 use Rattle.std.proofs.Common.{refl, sym, ◌∙◌, ap, arith, ◌≡◌, ◌<◌, ◌≤◌, ℕ, List, [], ◌∷◌, ◌++◌, length, take, inl, inr, true}
-use Rattle.std.specs.Prelude.{Option, Some, ◌⊎◌}
+use Rattle.std.specs.Prelude.{Bool, Option, Some, ◌⊎◌}
 use Rattle.std.specs.Io.KnownBytes.{Appends}
 use Rattle.pm_region.specs.Memory.{Memory, current_words, drained}
 use Rattle.bp_io.specs.Causes.{Rose}
@@ -11,12 +11,12 @@ use Rattle.bp_script.specs.Sayings.{notice_text}
 use Rattle.bp_script.specs.declared.notices.Notice.{Notice}
 use Rattle.bp_script.specs.declared.notices.Notice.TheVariants.{NoFile}
 use Rattle.bp_shell.specs.Checking.{CheckOutcome, Checks}
-use Rattle.bp_session.specs.Files.{HasBlocksOf, HasBytes, Holds, HoldsPartly, IsAbsent}
+use Rattle.bp_session.specs.Files.{HasBlocksOf, HasBytes, Holds, HoldsAs, HoldsPartly, IsAbsent}
 use Rattle.bp_shell.specs.Formatting.{HasPartly, new_image}
 use Rattle.bp_shell.specs.Opening.{HoldsFileSystem, RefusesFile, start}
 use Rattle.bp_session.specs.Outside.{Faults, IsFirstFault, IsIdle, IsQuiet, IsUntouched, Outside, Prints, TellsLine, counts, outside}
 use Rattle.bp_shell.specs.Running.{FormatOutcome, RunOutcome, Runs, RunsCut, RunsLong, RunsPart, RunsStopped, RunsUnsaved, format_text}
-use Rattle.bp_session.specs.Serving.{Input, Moment, ServeOutcome}
+use Rattle.bp_session.specs.Serving.{HoldsAt, Input, Moment, ServeOutcome}
 use Rattle.bp_session.proofs.OutcomeLaws.{files_fault, first_then, no_device_fault, no_fault, sink_fault}
 use Rattle.bp_shell.proofs.RunningLaws.{check_complete, complete, runs_cut, runs_long, runs_part, runs_stopped, runs_unsaved, runs_whole}
 
@@ -87,20 +87,32 @@ module _ (before after : Outside) (untouched : IsUntouched before after) (flushe
       (λ e. absurd (omega (arith, e))) (λ e. absurd (omega (arith, e))) (λ _. record { untouched = untouched; taken = taken }) (λ _ e. flushed ∙ e)
       (no_fault 8 _ _ (λ e. omega (arith, e)) (λ e. omega (arith, e)) (λ e. omega (arith, e)) source sink files) (inr (inr (inr (inr (inr (inr (inr refl)))))))
 
+-- a file that was just read holds the words as they are
+pub read_now : (now : Moment) (name : List ℕ) (image : Image) → now.memory ≡ (start image).memory → Holds now.files name image → HoldsAt now name image
+read_now now name image same file = record { file = file; current = λ _. rw same file }
+
+-- a save behind a sync leaves the words from before it
+pub saved_drained : (is_saved flag : Bool) (files now : View) (name : List ℕ) (memory end : Memory) (was : Image) → (HoldsAs flag files (current_words end) name was → Holds now name (current_words end))
+    → end ≡ drained memory → flag ≡ is_saved → HoldsAs is_saved files (current_words memory) name was → HasBytes (now.contents name) (image_bytes (current_words memory))
+saved_drained is_saved flag files now name memory end was saves done same held =
+    let file = saves (rw (same, done) held) in
+    let words : HasBytes (now.contents name) (image_bytes (current_words (drained memory))) = rw done at file.bytes in
+    words
+
 -- from the moment at which FILE is mounted
-module _ (i j : Input) (files : View) (a b : Moment) (name : List ℕ) (image : Image) (found : HoldsFileSystem (files.contents name) image) (same : a.memory ≡ (start image).memory) (holds : Holds a.files name image)
+module _ (i j : Input) (files : View) (a b : Moment) (name : List ℕ) (image : Image) (found : HoldsFileSystem (files.contents name) image) (same : a.memory ≡ (start image).memory) (holds : HoldsAt a name image)
     (flushed : a.files.is_flushed ≡ files.is_flushed) (calm : a.files.faults ≡ files.faults) where
   pub run_served : (status : ℕ) → ¬ (status ≡ 0) → ServeOutcome status i j a b → RunOutcome status (outside i.left i.faults a.taken a.faults files name) (outside j.left j.faults b.taken b.faults b.files name)
   run_served status other served =
       let before = outside i.left i.faults a.taken a.faults files name in
       let after = outside j.left j.faults b.taken b.faults b.files name in
       run_outcome status before after (λ e. absurd (other e)) (λ e. absurd (never 1 (λ z. omega (arith, z)) (λ z. omega (arith, z)) (λ z. omega (arith, z)) (λ z. omega (arith, z)) (λ z. omega (arith, z)) e served.one_of))
-      (λ e. let part = served.part e in let one = part.3 name image holds in runs_part before after image a.memory b.memory found same part.0 part.1 (Holds b.files name) (λ k file. file.bytes) part.2 one)
+      (λ e. let part = served.part e in let one = part.3 name image holds in runs_part before after image a.memory b.memory found same part.0 part.1 (HoldsAt b name) (λ k held. held.file.bytes) part.2 one)
       (λ e. let cut = served.cut e in runs_cut before after image a.memory b.memory found same cut.0 (Holds b.files name) (λ k file. file.bytes) cut.1
       (elim cut.2 [ inl all ↦ inl (λ rest. all rest name image holds) | inr last ↦ inr (last.0, last.1 name image holds) ]))
       (λ e. let stop = served.stopped e in inr (inl (runs_stopped before after image a.memory b.memory found same stop.0 (HoldsPartly b.files name) (λ k l file. file.bytes) stop.1
       (elim stop.2 [ inl all ↦ inl (λ rest. all rest name image holds) | inr last ↦ inr (last.0, last.1 name image holds) ]))))
-      (λ e. let long = served.long e in runs_long before after image a.memory b.memory found same long.0 long.1 long.2 (Holds b.files name) (λ k file. file.bytes) long.3 long.4 long.5 long.6 (long.7 name image holds))
+      (λ e. let long = served.long e in runs_long before after image a.memory b.memory found same long.0 long.1 long.2 (HoldsAt b name) (λ k held. held.file.bytes) long.3 long.4 long.5 long.6 (long.7 name image holds))
       (λ e. absurd (never 7 (λ z. omega (arith, z)) (λ z. omega (arith, z)) (λ z. omega (arith, z)) (λ z. omega (arith, z)) (λ z. omega (arith, z)) e served.one_of))
       (λ e. absurd (never 8 (λ z. omega (arith, z)) (λ z. omega (arith, z)) (λ z. omega (arith, z)) (λ z. omega (arith, z)) (λ z. omega (arith, z)) e served.one_of))
       (λ five e. served.keeps.flushed five (flushed ∙ e))
@@ -128,7 +140,7 @@ module _ (i j : Input) (files : View) (a b : Moment) (name : List ℕ) (image : 
         let before = outside i.left i.faults a.taken a.faults files name in
         let after = outside j.left j.faults b.taken b.faults now name in
         let all = served.whole refl in
-        run_outcome 0 before after (λ _. runs_whole before after image a.memory b.memory found same all.0 (Holds b.files name) all.1 all.2 all.3 (all.4 name image holds) saved done)
+        run_outcome 0 before after (λ _. runs_whole before after image a.memory b.memory found same all.0 (HoldsAt b name) all.1 all.2 all.3 (all.4 name image holds) saved done)
         (λ e. absurd (omega (arith, e))) (λ e. absurd (omega (arith, e))) (λ e. absurd (omega (arith, e))) (λ e. absurd (omega (arith, e))) (λ e. absurd (omega (arith, e))) (λ e. absurd (omega (arith, e))) (λ e. absurd (omega (arith, e)))
         (λ _ _. done)
         (no_fault 0 _ _ (λ e. omega (arith, e)) (λ e. omega (arith, e)) (λ e. omega (arith, e)) (served.first.no_source (λ e. omega (arith, e))) (served.first.no_sink (inl refl))
@@ -143,7 +155,7 @@ module _ (i j : Input) (files : View) (a b : Moment) (name : List ℕ) (image : 
         let all = served.whole refl in
         let told = all.4 name image holds in
         run_outcome 5 before after (λ e. absurd (omega (arith, e))) (λ e. absurd (omega (arith, e))) (λ e. absurd (omega (arith, e))) (λ e. absurd (omega (arith, e)))
-        (λ _. inr (inr (runs_unsaved before after image a.memory memory found same all.0 b.memory (Holds b.files name) all.1 all.2 all.3 told done (partly told.after told.file))))
+        (λ _. inr (inr (runs_unsaved before after image a.memory memory found same all.0 b.memory (HoldsAt b name) all.1 all.2 all.3 told done (partly told.after told.file.file))))
         (λ e. absurd (omega (arith, e))) (λ e. absurd (omega (arith, e))) (λ e. absurd (omega (arith, e))) (λ other. absurd (other refl))
         (first_then 5 (counts i.faults a.faults files) (counts j.faults b.faults b.files) (counts j.faults b.faults now) (served.first.no_source (λ e. omega (arith, e))) (served.first.no_sink (inl refl))
         (served.first.no_files (λ e. omega (arith, e)) ∙ calm) (files_fault _ _ refl refl rose))

@@ -30,16 +30,20 @@ pub record Checks (known : Known) (notice : Notice) : Type 0 where
   pub found : HoldsFileSystem known image
   pub clean : IsClean image notice
 
--- Where FILE is told to have the bytes of a well-formed image, and nothing fails, the status is 0, or 8 for want of memory.
+-- Where FILE is told to have the bytes of a well-formed image, and nothing fails, the status is 0, or 8 for want of
+-- memory.
 abbrev pub IsCheckComplete : ℕ → Outside → Outside → Type 0
-IsCheckComplete status before after = (image : Image) → before.file ≡ Some (Some (image_bytes image)) → AreWordsOf64Bits image
+IsCheckComplete status before after =
+    (image : Image) → before.file ≡ Some (Some (image_bytes image)) → AreWordsOf64Bits image
     → IsWellFormed image → ¬ SinkFailed before after → ¬ FilesFailed before after → (status ≡ 0) ⊎ (status ≡ 8)
 
 -- What `check FILE` answers, and when. It reads no input, and FILE stays as it is.
 pub record CheckOutcome (status : ℕ) (before after : Outside) : Type 0 where
-  pub whole : status ≡ 0 → (notice : Notice) × Checks before.file notice × Appends before.taken after.taken (notice_text notice)
+  pub whole : status ≡ 0 → (notice : Notice) × Checks before.file notice
+      × Appends before.taken after.taken (notice_text notice)
   pub missing : status ≡ 1 → IsAbsent before.file × TellsLine NoFile before after
-  pub sink : status ≡ 4 → (notice : Notice) × Checks before.file notice × TakesPart (notice_text notice) before.taken after.taken
+  pub sink : status ≡ 4 → (notice : Notice) × Checks before.file notice
+      × TakesPart (notice_text notice) before.taken after.taken
   pub files : status ≡ 5 → after.taken ≡ before.taken
   pub refused : status ≡ 7 → (notice : Notice) × RefusesFile before.file notice × TellsLine notice before after
   pub memory : status ≡ 8 → after.taken ≡ before.taken

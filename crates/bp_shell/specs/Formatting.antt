@@ -9,8 +9,8 @@ use Rattle.bp_layout.specs.Format.{formatted}
 abbrev pub new_image : ℕ → Image
 new_image blocks = formatted (replicate (block_words * blocks) 0) blocks
 
--- The file has its old length or the wanted one, and each of its blocks is the old file's, or that one filled up with zeros, or that
--- of the wanted bytes.
+-- The file has its old length or the wanted one, and each of its blocks is the old file's, or that one filled up with
+-- zeros, or that of the wanted bytes.
 pub record IsPartly (old wanted found : List ℕ) : Type 0 where
   pub size : (length found ≡ length old) ⊎ (length found ≡ length wanted)
   pub blocks : (i : ℕ) → block_size * i < length found → (block_of found i ≡ block_of old i)
@@ -21,7 +21,8 @@ abbrev pub bytes_of : Option (List ℕ) → List ℕ
 bytes_of None = []
 bytes_of (Some bytes) = bytes
 
--- The same of a file, where it is told: it is so before and after, or neither. One that is missing at first may still be, or was made.
+-- The same of a file, where it is told: it is so before and after, or neither. One that is missing at first may still
+-- be, or was made.
 abbrev pub HasPartly : Known → List ℕ → Known → Type 0
 HasPartly None wanted now = now ≡ None
 HasPartly (Some was) wanted None = ⊥

@@ -31,14 +31,20 @@ pub record FindsImage (was : Known) (name : List ℕ) (count : ℕ) (files : Vie
   pub at_least : min_blocks ≤ count
   pub at_most : count ≤ max_blocks
 
--- Why a file is refused, by the line that says so: it has no image's length; or it has one, and word 0 is not the mark of a file
--- system, word 1 is not its number of blocks, or both are right and this check of the format fails at this word.
+-- Why a file is refused, by the line that says so: it has no image's length; or it has one, and word 0 is not the mark
+-- of a file system, word 1 is not its number of blocks, or both are right and this check of the format fails at this
+-- word.
 pub data RefusesFile (known : Known) : Notice → Type 0 where
-  by_length : {len : ℕ} → HasLength known len → len ≢ wanted_length len → RefusesFile known (BadSize len (wanted_length len))
-  not_formatted : {image : Image} → HasSized known image → word image super_magic ≢ magic → RefusesFile known NotFormatted
-  by_count : {image : Image} → HasSized known image → word image super_magic ≡ magic → word image super_blocks ≢ block_count image →
-      RefusesFile known (BadSize (block_size * block_count image) (min (block_size * word image super_blocks) (2 ^ 64 - 1)))
-  damaged : {image : Image} {check place : ℕ} → HasSized known image → word image super_magic ≡ magic → word image super_blocks ≡ block_count image →
+  by_length : {len : ℕ} → HasLength known len → len ≢ wanted_length len
+      → RefusesFile known (BadSize len (wanted_length len))
+  not_formatted : {image : Image} → HasSized known image → word image super_magic ≢ magic
+      → RefusesFile known NotFormatted
+  by_count : {image : Image} → HasSized known image → word image super_magic ≡ magic
+      → word image super_blocks ≢ block_count image →
+      RefusesFile known (BadSize (block_size * block_count image)
+      (min (block_size * word image super_blocks) (2 ^ 64 - 1)))
+  damaged : {image : Image} {check place : ℕ} → HasSized known image → word image super_magic ≡ magic
+      → word image super_blocks ≡ block_count image →
       Fails image check place → RefusesFile known (Damaged check place)
 
 -- the state with which a run begins

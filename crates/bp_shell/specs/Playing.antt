@@ -32,16 +32,20 @@ abbrev pub turns_text : ℕ → ℕ → List ℕ
 turns_text count ok = codes "turns " ++ decimal count ++ codes "\nok " ++ decimal ok ++ codes "\nrefused"
 
 abbrev pub crashes_text : ℕ → ℕ → ℕ → List ℕ
-crashes_text crashes kept total = codes "\ncrashes " ++ decimal crashes ++ codes " kept " ++ decimal kept ++ codes " of " ++ decimal total ++ codes "\n"
+crashes_text crashes kept total =
+    codes "\ncrashes " ++ decimal crashes ++ codes " kept " ++ decimal kept ++ codes " of " ++ decimal total
+    ++ codes "\n"
 
 abbrev pub tree_text : Totals → ℕ → List ℕ
 tree_text totals free =
-    codes "tree " ++ decimal totals.files ++ codes " " ++ decimal totals.dirs ++ codes " " ++ decimal totals.bytes ++ codes " space " ++ decimal free ++ codes " " ++ decimal totals.live ++ codes "\n"
+    codes "tree " ++ decimal totals.files ++ codes " " ++ decimal totals.dirs ++ codes " " ++ decimal totals.bytes
+    ++ codes " space " ++ decimal free ++ codes " " ++ decimal totals.live ++ codes "\n"
 
 -- the turns, those that were carried out, those that were refused, the storms, and what is held at the end
 abbrev pub play_text : ℕ → Summary → Totals → ℕ → List ℕ
 play_text count summary totals free =
-    turns_text count summary.ok ++ spaced summary.refused ++ crashes_text summary.crashes summary.kept summary.of ++ tree_text totals free
+    turns_text count summary.ok ++ spaced summary.refused ++ crashes_text summary.crashes summary.kept summary.of
+    ++ tree_text totals free
 
 -- ---- a play
 
@@ -61,13 +65,16 @@ pub record PlaysFile (known : Known) (seed count : ℕ) (text : List ℕ) : Type
   pub free : ℕ
   pub ends : EndsPlay (start image).memory seed count summary totals free
   pub told : text ≡ play_text count summary totals free
-  pub plainly : (tree : FileTree) → Stands image tree → FollowsTree tree (start image) (turns seed count) ends.plays.replies (state ends.new image)
+  pub plainly : (tree : FileTree) → Stands image tree
+      → FollowsTree tree (start image) (turns seed count) ends.plays.replies (state ends.new image)
 
 -- What `play FILE --seed S --count C` answers, and when. It reads no input, and FILE stays as it is.
 pub record PlayOutcome (status seed count : ℕ) (before after : Outside) : Type 0 where
-  pub whole : status ≡ 0 → (text : List ℕ) × PlaysFile before.file seed count text × Appends before.taken after.taken text
+  pub whole : status ≡ 0 → (text : List ℕ) × PlaysFile before.file seed count text
+      × Appends before.taken after.taken text
   pub missing : status ≡ 1 → IsAbsent before.file × TellsLine NoFile before after
-  pub sink : status ≡ 4 → (text : List ℕ) × PlaysFile before.file seed count text × TakesPart text before.taken after.taken
+  pub sink : status ≡ 4 → (text : List ℕ) × PlaysFile before.file seed count text
+      × TakesPart text before.taken after.taken
   pub files : status ≡ 5 → after.taken ≡ before.taken
   pub refused : status ≡ 7 → (notice : Notice) × RefusesFile before.file notice × TellsLine notice before after
   pub memory : status ≡ 8 → after.taken ≡ before.taken

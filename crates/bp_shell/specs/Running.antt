@@ -64,7 +64,8 @@ pub record RunsPart (before after : Outside) : Type 0 where
   pub keeps : List ℕ
   pub memory : Memory
   pub serves : Serves (start begins.image) memory (Saves after) [] begins.input keeps before.taken after.taken
-  pub plainly : FollowsTree begins.tree (start begins.image) serves.commands serves.told.replies (state memory serves.after)
+  pub plainly : FollowsTree begins.tree (start begins.image) serves.commands serves.told.replies
+      (state memory serves.after)
 
 -- The most bytes were taken, and the read that ended there gave more.
 pub record RunsLong (before after : Outside) : Type 0 where
@@ -78,12 +79,15 @@ pub record RunsLong (before after : Outside) : Type 0 where
   pub keeps : List ℕ
   pub memory : Memory
   pub serves : Serves (start begins.image) memory (Saves after) [] served keeps before.taken after.taken
-  pub plainly : FollowsTree begins.tree (start begins.image) serves.commands serves.told.replies (state memory serves.after)
+  pub plainly : FollowsTree begins.tree (start begins.image) serves.commands serves.told.replies
+      (state memory serves.after)
 
 -- The reply to one of these commands was cut, and FILE is as at the last sync.
-pub record CutsPlainly (image : Image) (tree : FileTree) (memory : Memory) (before after : Outside) (commands : List Command) : Type 0 where
+pub record CutsPlainly (image : Image) (tree : FileTree) (memory : Memory) (before after : Outside)
+    (commands : List Command) : Type 0 where
   pub cuts : Cuts (start image) memory (Saves after) commands before.taken after.taken
-  pub plainly : FollowsTree tree (start image) (cuts.front ++ cuts.last ∷ []) (cuts.replies ++ cuts.reply ∷ []) (state memory cuts.after)
+  pub plainly : FollowsTree tree (start image) (cuts.front ++ cuts.last ∷ [])
+      (cuts.replies ++ cuts.reply ∷ []) (state memory cuts.after)
 
 -- A reply was not taken whole. Its line was read whole, or ended the input.
 pub record RunsCut (before after : Outside) : Type 0 where
@@ -91,8 +95,10 @@ pub record RunsCut (before after : Outside) : Type 0 where
   pub memory : Memory
   pub cuts : OfLines after.left begins.input (CutsPlainly begins.image begins.tree memory before after)
 
--- One of these commands, a sync, drained and couldn't save: each block of FILE is the one that was saved before, or the one now.
-pub record StopsPlainly (image : Image) (tree : FileTree) (memory : Memory) (before after : Outside) (commands : List Command) : Type 0 where
+-- One of these commands, a sync, drained and couldn't save: each block of FILE is the one that was saved before, or the
+-- one now.
+pub record StopsPlainly (image : Image) (tree : FileTree) (memory : Memory) (before after : Outside)
+    (commands : List Command) : Type 0 where
   pub stops : Stops (start image) memory (SavesPartly after) commands before.taken after.taken
   pub plainly : FollowsTree tree (start image) stops.front stops.told.replies stops.middle
 
@@ -113,10 +119,11 @@ pub record RunsUnsaved (before after : Outside) : Type 0 where
   pub fails : SyncFails middle memory (SavesPartly after) sync
   pub plainly : FollowsTree begins.tree (start begins.image) (commands_from [] begins.input) told.replies middle
 
--- Where FILE is told to have the bytes of a well-formed image, the source has no more than the most bytes, and nothing fails, the
--- status is 0, or 8 for want of memory.
+-- Where FILE is told to have the bytes of a well-formed image, the source has no more than the most bytes, and nothing
+-- fails, the status is 0, or 8 for want of memory.
 abbrev pub IsComplete : ℕ → Outside → Outside → Type 0
-IsComplete status before after = (image : Image) (input : List ℕ) → before.file ≡ Some (Some (image_bytes image)) → AreWordsOf64Bits image
+IsComplete status before after =
+    (image : Image) (input : List ℕ) → before.file ≡ Some (Some (image_bytes image)) → AreWordsOf64Bits image
     → IsWellFormed image → before.left ≡ Some input → length input ≤ max_input
     → ¬ SourceFailed before after → ¬ SinkFailed before after → ¬ FilesFailed before after → (status ≡ 0) ⊎ (status ≡ 8)
 
@@ -128,12 +135,14 @@ pub record RunOutcome (status : ℕ) (before after : Outside) : Type 0 where
   pub sink : status ≡ 4 → RunsCut before after
   pub files : status ≡ 5 → IsIdle before after ⊎ RunsStopped before after ⊎ RunsUnsaved before after
   pub long : status ≡ 6 → RunsLong before after
-  pub refused : status ≡ 7 → (notice : Notice) × RefusesFile before.file notice × IsUntouched before after × TellsLine notice before after
+  pub refused : status ≡ 7 → (notice : Notice) × RefusesFile before.file notice × IsUntouched before after
+      × TellsLine notice before after
   pub memory : status ≡ 8 → IsIdle before after
   pub flushed : ¬ (status ≡ 5) → before.is_flushed ≡ true → after.is_flushed ≡ true
   pub first : IsFirstFault status before.faults after.faults
   pub complete : IsComplete status before after
-  pub one_of : (status ≡ 0) ⊎ (status ≡ 1) ⊎ (status ≡ 3) ⊎ (status ≡ 4) ⊎ (status ≡ 5) ⊎ (status ≡ 6) ⊎ (status ≡ 7) ⊎ (status ≡ 8)
+  pub one_of : (status ≡ 0) ⊎ (status ≡ 1) ⊎ (status ≡ 3) ⊎ (status ≡ 4) ⊎ (status ≡ 5) ⊎ (status ≡ 6) ⊎ (status ≡ 7)
+      ⊎ (status ≡ 8)
 
 -- ---- `format FILE --blocks N`
 
@@ -146,7 +155,8 @@ pub record FormatOutcome (status blocks : ℕ) (before after : Outside) : Type 0
   pub whole : status ≡ 0 → Saves after (new_image blocks) × Appends before.taken after.taken (format_text blocks)
   pub sink : status ≡ 4 → Saves after (new_image blocks) × TakesPart (format_text blocks) before.taken after.taken
   pub flushed : (status ≡ 0) ⊎ (status ≡ 4) → after.is_flushed ≡ true
-  pub files : status ≡ 5 → HasPartly before.file (image_bytes (new_image blocks)) after.file × (after.taken ≡ before.taken)
+  pub files : status ≡ 5 → HasPartly before.file (image_bytes (new_image blocks)) after.file
+      × (after.taken ≡ before.taken)
   pub memory : status ≡ 8 → (after.file ≡ before.file) × (after.taken ≡ before.taken)
   pub unread : after.left ≡ before.left
   pub first : IsFirstFault status before.faults after.faults

@@ -83,8 +83,8 @@ fn examine<F: Files>(alloc: Global, name: &str, files: &mut F) -> Result<Notice,
     }
 }
 
-/// Says whether the file of a name is a file system, and what it holds. It answers the status: 0 where it is one, 1 where it is
-/// not there, 4 where the sink failed, 5 where the files did, 7 where it is refused, 8 for want of memory.
+/// Says whether the file of a name is a file system, and what it holds. It answers the status: 0 where it is one, 1
+/// where it is not there, 4 where the sink failed, 5 where the files did, 7 where it is refused, 8 for want of memory.
 pub(crate) fn check_file<K: Sink, F: Files>(
     alloc: Global,
     name: &str,

@@ -71,8 +71,8 @@ fn write_image<R: Region, F: Files>(
     }
 }
 
-/// Makes the file of a name a file system of so many blocks, and says so. It answers the status: 0, 4 where the sink failed, 5
-/// where the files did, 8 for want of memory.
+/// Makes the file of a name a file system of so many blocks, and says so. It answers the status: 0, 4 where the sink
+/// failed, 5 where the files did, 8 for want of memory.
 pub fn format_file<K: Sink, F: Files>(
     alloc: Global,
     name: &str,

@@ -69,7 +69,8 @@ pub(crate) fn stop_of(fault: MountFault) -> Stop
 // Attaches the file of a name, and answers how many blocks its image has. No file is made.
 fn find_image<F: Files>(name: &str, access: Access, files: &mut F) -> Result<u32, Stop>
     requires { makes access ≡ false }
-    ensures found { IfOk result (λ count. FindsImage ((F.view files.old).contents name.now) name.now count (F.view files.new)) }
+    ensures found { IfOk result
+        (λ count. FindsImage ((F.view files.old).contents name.now) name.now count (F.view files.new)) }
     ensures may_write { OnOk result ((F.view files.new).may_write ≡ may_change access) }
     ensures reason { IfErr result (IsReason ((F.view files.old).contents name.now)) }
     ensures cause { HasStopCause (F.view files.old).faults (F.view files.new).faults result }
@@ -147,10 +148,11 @@ fn mount(alloc: Global, region: RawRegion) -> Result<Volume<RawRegion>, Stop>
 ///
 /// # Errors
 ///
-/// `Missing` where the file is not there; `Outside` where the files failed; `Refused` where it is no file system; `Memory`
-/// where there is no memory for the volume.
+/// `Missing` where the file is not there; `Outside` where the files failed; `Refused` where it is no file system;
+/// `Memory` where there is no memory for the volume.
 pub fn open<F: Files>(alloc: Global, name: &str, files: &mut F) -> Result<Volume<RawRegion>, Stop>
-    ensures opened { IfOk result (λ volume. (image : Image) × HoldsFileSystem ((F.view files.old).contents name.now) image
+    ensures opened { IfOk result (λ volume. (image : Image)
+        × HoldsFileSystem ((F.view files.old).contents name.now) image
         × (volume ≡ (start image).memory) × Holds (F.view files.new) name.now image) }
     ensures ready { IfOk result (λ volume. IsReady volume.base (F.view files.new)) }
     ensures capacity { IfOk result (λ volume. volume.capacity ≡ log_events) }
@@ -171,8 +173,8 @@ pub(crate) fn open_to_read<F: Files>(
     name: &str,
     files: &mut F,
 ) -> Result<Volume<RawRegion>, Stop>
-    ensures opened { IfOk result (λ volume. (image : Image) × HoldsFileSystem ((F.view files.old).contents name.now) image
-        × (volume ≡ (start image).memory)) }
+    ensures opened { IfOk result (λ volume. (image : Image)
+        × HoldsFileSystem ((F.view files.old).contents name.now) image × (volume ≡ (start image).memory)) }
     ensures reason { IfErr result (IsReason ((F.view files.old).contents name.now)) }
     ensures cause { HasStopCause (F.view files.old).faults (F.view files.new).faults result }
     ensures file { (F.view files.new).contents name.now ≡ (F.view files.old).contents name.now }

@@ -86,7 +86,8 @@ fn write_tree(text: &mut String, totals: &Totals, free: u32) -> Result<(), Alloc
 
 // The five lines of a play.
 fn text_of(alloc: Global, count: u32, played: &Played) -> Result<String, AllocError>
-    ensures { IfOk result (λ text. text.bytes.items ≡ play_text count played.now.summary played.now.totals played.now.free) }
+    ensures { IfOk result (λ text. text.bytes.items ≡
+        play_text count played.now.summary played.now.totals played.now.free) }
 {
     let mut text = String::new(alloc);
     write_summary(&mut text, count, &played.summary)?;
@@ -123,9 +124,9 @@ fn perform<F: Files>(
     }
 }
 
-/// Plays so many turns over the file of a name, which is read alone: what they change is kept in memory, and forgotten. It
-/// answers the status: 0 where its five lines were taken, 1 where the file is not there, 4 where the sink failed, 5 where the
-/// files did, 7 where the file is refused, 8 for want of memory.
+/// Plays so many turns over the file of a name, which is read alone: what they change is kept in memory, and forgotten.
+/// It answers the status: 0 where its five lines were taken, 1 where the file is not there, 4 where the sink failed, 5
+/// where the files did, 7 where the file is refused, 8 for want of memory.
 pub(crate) fn play_file<K: Sink, F: Files>(
     alloc: Global,
     name: &str,

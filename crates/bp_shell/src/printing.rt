@@ -24,7 +24,8 @@ pub(crate) fn print<K: Sink>(notice: &Notice, out: &mut K) -> Result<(), Failed>
 
 /// Prints a line as far as the sink takes it.
 pub(crate) fn tell_notice<K: Sink>(notice: &Notice, out: &mut K)
-    ensures { Prints (notice_text notice.now) (K.taken out.old) (K.taken out.new) (K.faults out.old) (K.faults out.new) }
+    ensures { Prints (notice_text notice.now) (K.taken out.old) (K.taken out.new)
+        (K.faults out.old) (K.faults out.new) }
 {
     let _ = print(notice, out);
 }

@@ -18,7 +18,7 @@ use bp_command::laws::plain_words_are_taken;
 use bp_command::{Program, WordsFault, read_words};
 use bp_io::{Failed, Files, Sink, Source};
 use bp_script::Notice;
-use bp_session::saving::save;
+use bp_session::saving::save_unless_saved;
 use bp_session::{Work, serve_gathered};
 use std::alloc::Global;
 
@@ -52,12 +52,14 @@ fn run_file<S: Source, K: Sink, F: Files>(
         Ok(work) => work,
         Err(_) => return 8,
     };
+    // It was just read.
+    work.take_as_saved();
     let status = serve_gathered(alloc, &mut volume, &mut work, src, out, files);
     if status != 0 {
         return status;
     }
     volume.sync();
-    match save(volume.region(), files) {
+    match save_unless_saved(volume.region(), work.is_saved(), files) {
         Ok(()) => 0,
         Err(Failed) => 5,
     }
@@ -117,8 +119,10 @@ pub fn run<S: Source, K: Sink, F: Files>(
 
     // All other words that are taken. Want of memory may come before they are read.
     ensures others { ¬ (result ≡ 2) → Does (map (λ word. word.now) words.now) result
-        (λ name. outside (S.left src.old) (S.faults src.old) (K.taken out.old) (K.faults out.old) (F.view files.old) name)
-        (λ name. outside (S.left src.new) (S.faults src.new) (K.taken out.new) (K.faults out.new) (F.view files.new) name)
+        (λ name. outside (S.left src.old) (S.faults src.old) (K.taken out.old) (K.faults out.old)
+        (F.view files.old) name)
+        (λ name. outside (S.left src.new) (S.faults src.new) (K.taken out.new) (K.faults out.new)
+        (F.view files.new) name)
         ⊎ ((result ≡ 8) × (src.new ≡ src.old) × (out.new ≡ out.old) × (files.new ≡ files.old)) }
 {
     plain_words_are_taken();

@@ -18,4 +18,4 @@ returns-then-is_empty g c =
 pub returns : goal.returns
 returns g c =
     let some : 0 < length c.args.work.now.buffers.line.items = search rules in
-    rw (last c.args.work.now.buffers.line.items some) c.serve_line.ensures.outcome
+    rw (last c.args.work.now.buffers.line.items some) c.answer_alone.ensures.outcome

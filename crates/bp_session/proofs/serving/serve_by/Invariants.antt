@@ -1,6 +1,6 @@
 use Rattle.std.proofs.Common.{[], ◌-◌, ◌≡◌, ◌≤◌, ℕ, List, length}
 use Rattle.std.specs.Io.KnownBytes.{Consumes}
-use Rattle.bp_session.specs.Serving.{PieceOutcome, moment}
+use Rattle.bp_session.specs.Serving.{PieceOutcome, moment, saved_if}
 use Rattle.bp_session.proofs.serving.serve_by.Given as goal
 
 -- What was read so far was served.
@@ -9,8 +9,8 @@ invariant-loop-count g l =
     record {
       served : (input : List ℕ) × Consumes (g.S.Source.left l.fn.src) (g.S.Source.left l.src) input × (length input ≡ l.taken)
           × PieceOutcome 0 [] input l.work.buffers.line.items
-          (moment l.fn.volume (g.F.Files.view l.fn.files) (g.K.Sink.taken l.fn.out) (g.K.Sink.faults l.fn.out))
-          (moment l.volume (g.F.Files.view l.files) (g.K.Sink.taken l.out) (g.K.Sink.faults l.out));
+          (saved_if l.fn.work.is_saved (moment l.fn.volume (g.F.Files.view l.fn.files) (g.K.Sink.taken l.fn.out) (g.K.Sink.faults l.fn.out)))
+          (saved_if l.work.is_saved (moment l.volume (g.F.Files.view l.files) (g.K.Sink.taken l.out) (g.K.Sink.faults l.out)));
       source : g.S.Source.faults l.src ≡ g.S.Source.faults l.fn.src;
       taken : l.taken ≤ 1073741824;
     }

@@ -47,8 +47,8 @@ fn give_top(blocks: &mut Blocks, top: u32, cut: u64)
     }
 }
 
-/// Gives back the blocks of a tree that hold no byte below `cut`, a size in bytes: all of them where that is 0. The size
-/// of `tree` is the one that it had before, and the words of its blocks are still as they were then.
+/// Gives back the blocks of a tree that hold no byte below `cut`, a size in bytes: all of them where that is 0. The
+/// size of `tree` is the one that it had before, and the words of its blocks are still as they were then.
 pub fn give_back<R: Region>(region: &R, tree: Tree, cut: u64, blocks: &mut Blocks)
     requires sound { IsSound (current_words (R.memory region.now)) tree.root tree.size }
     requires room { length blocks.old ≡ block_count (current_words (R.memory region.now)) }

@@ -138,8 +138,8 @@ fn write_below<R: Region>(
 ///
 /// # Errors
 ///
-/// `NoSpace` exactly where fewer blocks are free than it needs: those for bytes past the size, and those that are copied
-/// for bytes below it. Nothing has changed then.
+/// `NoSpace` exactly where fewer blocks are free than it needs: those for bytes past the size, and those that are
+/// copied for bytes below it. Nothing has changed then.
 pub fn write<R: Region>(parts: &mut Parts<R>, i: u32, off: u64, bytes: &[u8]) -> Result<(), NoSpace>
     requires can { CanWrite (R.memory parts.old.region) parts.old.blocks parts.old.inodes i off bytes.now }
     ensures performs { OnOk result (Performs (R.memory parts.old.region) (R.memory parts.new.region)

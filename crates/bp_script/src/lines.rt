@@ -181,8 +181,8 @@ impl Decoded {
         })
     }
 
-    /// What three words and the text behind the third one's space ask for. A space in that text is no digit of any kind, so
-    /// where there is one the line is none of the table, as it must be: it has more words than four.
+    /// What three words and the text behind the third one's space ask for. A space in that text is no digit of any
+    /// kind, so where there is one the line is none of the table, as it must be: it has more words than four.
     fn long(
         &mut self,
         verb: &[u8],
@@ -195,7 +195,8 @@ impl Decoded {
         requires some_second { 0 < length second.now }
         requires rest { length rest.now ≤ decoded_room self.old }
         ensures* keeps_room { sem 𝓛 (KeepsRoom self.entry) }
-        ensures meaning { line_asks result ≡ decoded (asked_by (verb.now ∷ first.now ∷ second.now ∷ words_of rest.now)) }
+        ensures meaning { line_asks result ≡
+            decoded (asked_by (verb.now ∷ first.now ∷ second.now ∷ words_of rest.now)) }
     {
         if rest.is_empty() {
             return Err(Syntax);

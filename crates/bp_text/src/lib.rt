@@ -1,4 +1,5 @@
-//! Where a byte first stands in a text, for texts that are mostly short or have it near: the words of a line, the names of a path.
+//! Where a byte first stands in a text, for texts that are mostly short or have it near:
+//! the words of a line, the names of a path.
 #![tactic(auto)]
 
 ghost use Rattle.std.specs.Prelude.{◌≡◌, ◌≤◌, ◌==◌, ◌||◌, length, position};
@@ -17,18 +18,17 @@ const NEAR: usize = 128;
 pub fn first_of(byte: u8, text: &[u8]) -> Option<usize>
     ensures { result ≡ position (λ b. b == byte) text.now }
 {
-    let near = text.len().min(NEAR);
     let mut at = 0;
-    while LANES <= near - at {
+    while at < NEAR && LANES <= text.len() - at {
         match first_in_block(byte, byte, &text[at..]) {
             Some(place) => return Some(at + place),
             None => at += LANES,
         }
     }
-    if near < NEAR {
-        first_in_rest(byte, byte, text, at)
-    } else {
+    if LANES <= text.len() - at {
         first_far(byte, text, at)
+    } else {
+        first_in_rest(byte, byte, text, at)
     }
 }
 

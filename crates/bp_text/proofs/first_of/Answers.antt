@@ -17,12 +17,12 @@ loop-at-preserved c =
       quiet = none_behind p c.args.text.now 0 c.loop-at.at 16 (omega arith) c.loop-at.invariant.quiet c.in-None.ensures;
     }
 
-pub returns-then-near-lt-NEAR : goal.returns-then-near-lt-NEAR
-returns-then-near-lt-NEAR c =
-    let p = is_byte2 c.args.byte c.args.byte in
-    one_is_position c.args.byte c.args.text.now _ (further p c.args.text.now c.loop-at.at (length c.args.text.now) _ c.loop-at.invariant.quiet c.first_in_rest.ensures)
-
-pub returns-else-near-lt-NEAR : goal.returns-else-near-lt-NEAR
-returns-else-near-lt-NEAR c =
+pub returns-then-text-at-ge-LANES-2 : goal.returns-then-text-at-ge-LANES-2
+returns-then-text-at-ge-LANES-2 c =
     let p = is_byte2 c.args.byte c.args.byte in
     one_is_position c.args.byte c.args.text.now _ (further p c.args.text.now c.loop-at.at (length c.args.text.now) _ c.loop-at.invariant.quiet c.first_far.ensures)
+
+pub returns-else-text-at-ge-LANES-2 : goal.returns-else-text-at-ge-LANES-2
+returns-else-text-at-ge-LANES-2 c =
+    let p = is_byte2 c.args.byte c.args.byte in
+    one_is_position c.args.byte c.args.text.now _ (further p c.args.text.now c.loop-at.at (length c.args.text.now) _ c.loop-at.invariant.quiet c.first_in_rest.ensures)

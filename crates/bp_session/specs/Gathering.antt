@@ -6,7 +6,7 @@ use Rattle.pm_region.specs.Memory.{Memory}
 use Rattle.bp_script.specs.Commands.{Command}
 use Rattle.bp_script.specs.Texts.{LineReply, reply_text}
 use Rattle.bp_session.specs.Outside.{IsFirstFault, counts}
-use Rattle.bp_session.specs.Serving.{DoesLine, FailsLine, Keeps, Moment, moment}
+use Rattle.bp_session.specs.Serving.{DoesLine, FailsLine, Keeps, Moment}
 use Rattle.bp_session.specs.Taking.{TakesPart}
 use Rattle.bp_session.specs.declared.replies.Replies.{Replies}
 

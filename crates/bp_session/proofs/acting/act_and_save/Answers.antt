@@ -1,5 +1,4 @@
-use Rattle.std.proofs.Common.{refl, ◌∙◌, inl}
-use Rattle.pm_region.specs.Memory.{current_words}
+use Rattle.std.proofs.Common.{refl, inl}
 use Rattle.bp_session.specs.Files.{HoldsPartly}
 use Rattle.bp_session.proofs.ActingLaws.{acts_done, acts_synced, fails_synced, words_synced}
 use Rattle.bp_session.proofs.AheadLaws.{line_unheard, line_unsaved}

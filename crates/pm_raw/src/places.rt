@@ -65,7 +65,7 @@ impl Places {
         requires { length self.old.items < self.old.room }
         ensures { self.new ≡ record { items = self.old.items ++ place ∷ []; room = self.old.room } }
     {
-        let _ = self.places.push(place);
+        self.places.push_reserved(place);
     }
 }
 

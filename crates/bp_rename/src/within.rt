@@ -41,7 +41,7 @@ fn respelled(name: &[u8]) -> [u8; MAX_NAME + 8]
     ensures { IsRespelled name.now result }
 {
     let mut bytes = [0; MAX_NAME + 8];
-    for at in 0..bytes.len() {
+    for at in 0..8 + name.len() {
         bytes[at] = respelled_byte(name, at);
     }
     bytes

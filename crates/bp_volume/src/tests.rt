@@ -41,8 +41,8 @@ fn a_new_volume_is_used(rt: HostRuntime) -> Result<(), Fail> {
     let names = volume.list(rt.alloc(), b"/")?;
     assert_eq!(rt; names.len(), 2);
     assert_eq!(rt; names.at(0).0, Kind::File);
-    assert_eq!(rt; names.at(0).1.as_slice(), b"a".as_slice());
-    assert_eq!(rt; names.at(1).1.as_slice(), b"b".as_slice());
+    assert_eq!(rt; names.at(0).1, b"a".as_slice());
+    assert_eq!(rt; names.at(1).1, b"b".as_slice());
     volume.sync();
     assert_eq!(rt; volume.region().event_count(), 0);
     Ok(())

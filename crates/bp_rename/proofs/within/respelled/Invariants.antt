@@ -1,4 +1,4 @@
-use Rattle.std.proofs.Common.{◌≡◌, ℕ, ◌+◌, ◌<◌, length}
+use Rattle.std.proofs.Common.{◌≡◌, ℕ, ◌+◌, ◌<◌, ◌≤◌, length}
 use Rattle.std.specs.List.{slice_index}
 use Rattle.bp_limits.specs.Limits.{max_name}
 use Rattle.bp_rename.specs.Respelled.{respelled_byte}
@@ -8,4 +8,5 @@ abbrev pub invariant-loop-at : goal.invariant-loop-at
 invariant-loop-at l = record {
   whole : length l.bytes ≡ max_name + 8;
   done : (k : ℕ) → k < l.at → slice_index l.bytes k ≡ respelled_byte l.name k;
+  zeros : (k : ℕ) → l.at ≤ k → slice_index l.bytes k ≡ 0;
 }

@@ -27,8 +27,8 @@ abbrev pub word_path : Image → ℕ → ℕ → WordPath
 word_path image t k = tree_path (height_of (root_of image 0)) t (suc (height_of (root_of image t))) k
 
 module _ (image : Image) (touched : Touched) (t k u l one two : ℕ) (is : TouchesTwo touched (tree_path (height_of (root_of image 0)) t (suc (height_of (root_of image t))) k) (tree_path (height_of (root_of image 0)) u (suc (height_of (root_of image u))) l) one two) where
-  pub two_count : length touched.words.items ≡ 2
-  two_count = sym (length-map touched.words.items (λ word. word.0.items)) ∙ ap (λ (ps : List WordPath). length ps) is.paths
+  pub two_count : length touched.words.now ≡ 2
+  two_count = sym (length-map touched.words.now (λ word. word.0.items)) ∙ ap (λ (ps : List WordPath). length ps) is.paths
 
   pub no_leaves : (job_of touched).leaves ≡ 0
   no_leaves = ap leaves_of is.none
@@ -97,12 +97,12 @@ module _ (image : Image) (touched : Touched) (t k u l one two : ℕ) (is : Touch
         roots zero = no_root
         roots (suc i) = not_root
 
-        paths : (i : ℕ) → i < length touched.words.items → path_of (word_paths touched) i ≡ tree_path (height_of (root_of image 0)) (pick t u i) (suc (height_of (root_of image (pick t u i)))) (pick k l i)
+        paths : (i : ℕ) → i < length touched.words.now → path_of (word_paths touched) i ≡ tree_path (height_of (root_of image 0)) (pick t u i) (suc (height_of (root_of image (pick t u i)))) (pick k l i)
         paths zero here = ap (λ ps. path_of ps 0) is.paths
         paths (suc zero) here = ap (λ ps. path_of ps 1) is.paths
         paths (suc (suc i)) here = absurd (omega (arith, here, two_count))
 
-        aparts : (i j : ℕ) → i < length touched.words.items → j < length touched.words.items → pick t u i ≡ pick t u j → pick k l i ≡ pick k l j → i ≡ j
+        aparts : (i j : ℕ) → i < length touched.words.now → j < length touched.words.now → pick t u i ≡ pick t u j → pick k l i ≡ pick k l j → i ≡ j
         aparts zero zero here there e f = refl
         aparts zero (suc j) here there e f = absurd (apart e f)
         aparts (suc i) zero here there e f = absurd (apart (sym e) (sym f))

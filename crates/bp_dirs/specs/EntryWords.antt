@@ -1,17 +1,10 @@
--- Entries whose leaf has been found, and names as words.
+-- Entries and names as the words in which they stand.
 use Rattle.std.specs.Prelude.{◌≡◌, ℕ, ◌+◌, ◌-◌, ◌*◌, ◌/◌, ◌%◌, ◌<◌, ◌≤◌, List, length, slice_index, take, drop}
 use Rattle.bp_layout.specs.Words.{Image, height_of}
 use Rattle.bp_layout.specs.Tree.{node, IsSound}
 use Rattle.bp_layout.specs.Directory.{Name, word_in}
 use Rattle.pm_words.specs.Bytes.{word_of}
-use Rattle.bp_dirs.specs.declared.entry_at.EntryAt.{EntryAt}
 use Rattle.bp_dirs.specs.declared.leaf.Leaf.{Leaf}
-
--- the slot lies below the size, and the block is the one with its entry
-pub record IsEntryAt (image : Image) (at : EntryAt) : Type 0 where
-  pub sound : IsSound image at.tree.root at.tree.size
-  pub live : at.slot < at.tree.size / 256
-  pub block : at.block ≡ node image at.tree.root (height_of at.tree.root) (at.slot / 16)
 
 -- all words of the entry in a slot
 pub record HasWords (image : Image) (root slot : ℕ) (words : List ℕ) : Type 0 where

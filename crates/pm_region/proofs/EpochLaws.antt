@@ -26,6 +26,14 @@ epoch_start-low (suc epoch) (Store word value ∷ events) = let rest = epoch_sta
 epoch_start-low (suc epoch) (Barrier ∷ events) = let rest = epoch_start-low epoch events in omega arith
 epoch_start-low (suc epoch) (Mark ∷ events) = let rest = epoch_start-low (suc epoch) events in omega arith
 
+-- so many barriers stand before it
+pub epoch_start-at_least : (epoch : ℕ) (events : List Event) → epoch ≤ barriers events → epoch ≤ epoch_start epoch events
+epoch_start-at_least zero events begun = omega arith
+epoch_start-at_least (suc epoch) [] begun = absurd (omega arith)
+epoch_start-at_least (suc epoch) (Store word value ∷ events) begun = let rest = epoch_start-at_least (suc epoch) events begun in omega arith
+epoch_start-at_least (suc epoch) (Barrier ∷ events) begun = let rest = epoch_start-at_least epoch events (omega arith) in omega arith
+epoch_start-at_least (suc epoch) (Mark ∷ events) begun = let rest = epoch_start-at_least (suc epoch) events begun in omega arith
+
 -- an epoch that begins in a front of a log begins there in the log
 pub epoch_start-front : (n epoch : ℕ) (events : List Event) → epoch ≤ barriers (take n events) → epoch_start epoch (take n events) ≡ epoch_start epoch events
 epoch_start-front n zero events begun = refl

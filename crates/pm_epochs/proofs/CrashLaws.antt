@@ -182,9 +182,6 @@ module _ (Same : Likeness) (base : List ℕ) (events : List Event) (word value :
   no_marks : marks events ≡ 0 → marks (events ++ Barrier ∷ []) ≡ 0
   no_marks none = omega (arith, marks-append events (Barrier ∷ []))
 
-  after_none : after_calls base (events ++ commit word value ++ Mark ∷ []) 0 ≡ base
-  after_none = refl
-
   after_one : marks events ≡ 0 → after_calls base (events ++ commit word value ++ Mark ∷ []) 1 ≡ words_after base (events ++ commit word value)
   after_one none =
       let one : 1 ≡ marks (events ++ commit word value) + 1 = omega (arith, marks-append events (commit word value)) in

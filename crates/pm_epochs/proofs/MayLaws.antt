@@ -69,13 +69,6 @@ module _ (May : ℕ → ℕ → Type 0) where
   pub EachMay-stored : (words : List ℕ) (events : List Event) → StoresMay May events → EachMay May words (words_after words events)
   EachMay-stored words events may = EachMay-words_after words words events may (EachMay-none words)
 
-  -- where the words of before may stand too, each word is one that may stand
-  pub each_stands : (old new : List ℕ) → ((word : ℕ) → May word (get_or old word 0)) → EachMay May old new → (word : ℕ) → May word (get_or new word 0)
-  each_stands old new here all word = elim (all.each word) [
-    | inl same ↦ rw same (here word)
-    | inr may ↦ may
-  ]
-
   -- a word at which nothing may be stored is as before
   pub same_where_none : (old new : List ℕ) → EachMay May old new → (word : ℕ) → ((value : ℕ) → May word value → ⊥) → get_or new word 0 ≡ get_or old word 0
   same_where_none old new all word none = elim (all.each word) [

@@ -1,13 +1,11 @@
--- Stores of values that may stand at their words, one after another, and closed by a barrier or a commit.
-use Rattle.std.proofs.Common.{◌≡◌, ℕ, ◌+◌, ◌≤◌, List, [], ◌∷◌, ◌++◌, get_or, arith}
+-- Stores of values that may stand at their words, one after another.
+use Rattle.std.proofs.Common.{◌≡◌, ℕ, ◌+◌, ◌≤◌, [], ◌∷◌, ◌++◌, get_or, arith}
 use Rattle.pm_epochs.specs.declared.event.Event.TheVariants.{Store, Barrier}
-use Rattle.pm_epochs.specs.Crash.{Likeness, IsPartialEquivalence, commit}
 use Rattle.pm_epochs.specs.May.{EachMay}
-use Rattle.pm_epochs.proofs.CrashLaws.{quiet-barrier, IsClosed-barrier}
-use Rattle.pm_epochs.proofs.MayLaws.{StoresMay-append, StoresMay-weaker, EachMay-stored, same_where_none, quiet_may}
-use Rattle.pm_epochs.proofs.PieceLaws.{IsPiece-append, IsPiece-more, IsPiece-none, IsPiece-store, IsPiece-barrier, IsPiece-commit}
+use Rattle.pm_epochs.proofs.MayLaws.{StoresMay-append, StoresMay-weaker, EachMay-stored, same_where_none}
+use Rattle.pm_epochs.proofs.PieceLaws.{IsPiece-append, IsPiece-more, IsPiece-none, IsPiece-store, IsPiece-barrier}
 use Rattle.pm_region.specs.Memory.{Memory, current_words, room_in, Adds}
-use Rattle.pm_region.specs.Safe.{AddsMay, AddsQuiet, AddsCommit}
+use Rattle.pm_region.specs.Safe.{AddsMay}
 use Rattle.pm_region.proofs.MemoryLaws.{adds_none, adds_both, current_words-adds, room_in-piece}
 
 -- more values may stand
@@ -63,26 +61,3 @@ module _ (May : ℕ → ℕ → Type 0) where
 
     pub room_after_may : (new : Memory) → AddsMay May most_barriers most_stores old new → room_in old ≤ room_in new + (most_barriers + most_stores)
     room_after_may new part = room_in-piece most_barriers most_stores old new part.added part.adds part.piece
-
--- Stores that nobody sees: whatever values that may stand do stand, the words are like the old ones.
-module _ (Same : Likeness) (equivalence : IsPartialEquivalence Same) (May : ℕ → ℕ → Type 0) (most_barriers most_stores : ℕ) (old middle : Memory) where
-  -- closed by a barrier they are quiet
-  pub quiet_stores : (new : Memory) → ((image : List ℕ) → EachMay May (current_words old) image → Same (current_words old) image) → AddsMay May most_barriers most_stores old middle → Adds middle new (Barrier ∷ []) →
-      AddsQuiet Same (most_barriers + 1) most_stores old new
-  quiet_stores new unseen part ends = record {
-    added = part.added ++ Barrier ∷ [];
-    adds = adds_both old middle new part.added (Barrier ∷ []) part.adds ends;
-    quiet = quiet-barrier Same (current_words old) part.added (quiet_may Same equivalence May (current_words old) part.added unseen part.may);
-    closed = IsClosed-barrier part.added [] tt;
-    piece = IsPiece-more _ _ _ _ _ (omega arith) (omega arith) (IsPiece-append most_barriers most_stores 1 0 part.added (Barrier ∷ []) part.piece IsPiece-barrier);
-  }
-
-  -- or a commit, which begins with a barrier
-  pub commit_stores : (new : Memory) (word value : ℕ) → ((image : List ℕ) → EachMay May (current_words old) image → Same (current_words old) image) → AddsMay May most_barriers most_stores old middle →
-      Adds middle new (commit word value) → AddsCommit Same word value (most_barriers + 2) (most_stores + 1) old new
-  commit_stores new word value unseen part adds = record {
-    prepared = part.added;
-    adds = adds_both old middle new part.added (commit word value) part.adds adds;
-    quiet = quiet_may Same equivalence May (current_words old) part.added unseen part.may;
-    piece = IsPiece-append most_barriers most_stores 2 1 part.added (commit word value) part.piece (IsPiece-commit word value);
-  }

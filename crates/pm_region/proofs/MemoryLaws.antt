@@ -1,14 +1,13 @@
 -- Memories to whose logs events are added, and memories that are drained.
-use Rattle.std.proofs.Common.{◌≡◌, ℕ, zero, suc, ◌+◌, ◌-◌, ◌<◌, ◌≤◌, true, false, Bool, List, [], ◌∷◌, ◌++◌, length, take, drop, get_or, set, refl, sym, ◌∙◌, ap, arith, add-one}
+use Rattle.std.proofs.Common.{◌≡◌, ℕ, zero, suc, ◌+◌, ◌-◌, ◌<◌, ◌≤◌, true, false, List, [], ◌∷◌, ◌++◌, length, take, drop, get_or, set, refl, sym, ◌∙◌, ap, arith, add-one}
 use Rattle.std.specs.Prelude.{nat_lt, if◌then◌else◌}
-use Rattle.std.proofs.lemmas.Bool.{ltb-false}
 use Rattle.std.proofs.lemmas.List.{append_assoc, append-nil, length-append, length-take-le, length-drop, take-append-drop, drop_more, set-append_right}
 use Rattle.pm_epochs.specs.declared.event.Event.{Event}
 use Rattle.pm_epochs.specs.declared.event.Event.TheVariants.{Store}
 use Rattle.pm_epochs.specs.Log.{words_after, IsPiece}
 use Rattle.pm_epochs.proofs.CrashLaws.{words_after-append, length-words_after}
 use Rattle.pm_epochs.proofs.PieceLaws.{length-piece}
-use Rattle.pm_region.specs.Memory.{Memory, current_words, room_in, Adds, events_between, drained, with_room, stores_from, with_values}
+use Rattle.pm_region.specs.Memory.{Memory, current_words, room_in, Adds, drained, with_room, stores_from, with_values}
 
 pub adds_none : (memory : Memory) → Adds memory memory []
 adds_none memory = ap (λ es. record memory { events = es }) (sym (append-nil memory.events))
@@ -32,14 +31,6 @@ module _ (old new : Memory) (more : List Event) where
   pub room_in-adds : Adds old new more → room_in new ≡ room_in old - length more
   room_in-adds added = ap room_in added ∙ omega (arith, length-append old.events more)
 
-  -- the events that are added are those behind the old log
-  pub events_between-adds : Adds old new more → events_between old new ≡ more
-  events_between-adds added = ap (events_between old) added ∙ drop_front old.events
-    where
-      drop_front : (front : List Event) → drop (length front) (front ++ more) ≡ more
-      drop_front [] = refl
-      drop_front (event ∷ front) = drop_front front
-
 -- there are as many words as at the last drain
 pub length-current_words : (memory : Memory) → length (current_words memory) ≡ length memory.base
 length-current_words memory = length-words_after memory.base memory.events
@@ -55,13 +46,6 @@ current_words-with_room wanted memory = elim (nat_lt (room_in memory) wanted) as
   | true ↦ refl
   | false ↦ refl
 ]
-
-pub room_in-with_room : (wanted : ℕ) (memory : Memory) → wanted ≤ memory.capacity → wanted ≤ room_in (with_room wanted memory)
-room_in-with_room wanted memory fits = go (nat_lt (room_in memory) wanted) refl
-  where
-    go : (full : Bool) → nat_lt (room_in memory) wanted ≡ full → wanted ≤ room_in (if full then drained memory else memory)
-    go true e = omega arith
-    go false e = omega (arith, ltb-false _ _ e)
 
 -- ## Stores in a row
 

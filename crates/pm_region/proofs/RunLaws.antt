@@ -1,10 +1,9 @@
--- What a run of stores, of these values at the words from one on, leaves; and that it is a part of a preparation.
+-- What a run of stores, of these values at the words from one on, leaves; and that its values may stand there.
 use Rattle.std.proofs.Common.{◌≡◌, ℕ, zero, suc, ◌+◌, ◌<◌, ◌≤◌, ◌⊎◌, inl, inr, List, [], ◌∷◌, length, set, get_or, refl, sym, ◌∙◌, subst, arith}
 use Rattle.std.proofs.lemmas.List.{get_or-set_same, get_or-set_other, length-set}
-use Rattle.pm_epochs.specs.Log.{words_after, IsPiece}
+use Rattle.pm_epochs.specs.Log.{words_after}
 use Rattle.pm_epochs.specs.May.{StoresMay}
-use Rattle.pm_region.specs.Memory.{Memory, Adds, stores_from}
-use Rattle.pm_region.specs.Safe.{AddsMay}
+use Rattle.pm_region.specs.Memory.{stores_from}
 
 -- a word outside is as before
 pub run-outside : (word : ℕ) (values words : List ℕ) (place : ℕ) → (place < word) ⊎ (word + length values ≤ place) → get_or (words_after words (stores_from word values)) place 0 ≡ get_or words place 0
@@ -36,13 +35,3 @@ module _ (May : ℕ → ℕ → Type 0) where
             let there : word + suc i ≡ (word + 1) + i = omega arith in
             subst (λ (w : ℕ). May w (get_or values i 0)) there (may (suc i) (omega arith))),
       )
-
-  IsPiece-run : (word : ℕ) (values : List ℕ) → IsPiece 0 (length values) (stores_from word values)
-  IsPiece-run word [] = record { unmarked = refl; few_barriers = omega arith; few_stores = omega arith }
-  IsPiece-run word (value ∷ values) =
-      let rest = IsPiece-run (word + 1) values in
-      record { unmarked = rest.unmarked; few_barriers = rest.few_barriers; few_stores = omega (arith, rest.few_stores) }
-
-  -- a run of values that may stand at their words
-  pub may_run : (old new : Memory) (word : ℕ) (values : List ℕ) → ((i : ℕ) → i < length values → May (word + i) (get_or values i 0)) → Adds old new (stores_from word values) → AddsMay May 0 (length values) old new
-  may_run old new word values may adds = record { added = stores_from word values; adds = adds; may = StoresMay-run word values may; piece = IsPiece-run word values }

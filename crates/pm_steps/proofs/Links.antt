@@ -1,19 +1,9 @@
 -- A set of words stays linked, and a word is found by the links.
-use Rattle.std.proofs.Common.{◌≡◌, ℕ, suc, ◌+◌, ◌<◌, ◌≤◌, ◌%◌, inl, inr, true, false, List, [], ◌∷◌, ◌++◌, length, set, get_or, refl, sym, ◌∙◌, ap, subst, arith, length-append, ◌≢◌, eq-eqb}
-use Rattle.std.specs.Prelude.{◌==◌}
+use Rattle.std.proofs.Common.{◌≡◌, ℕ, suc, ◌+◌, ◌<◌, ◌≤◌, ◌%◌, inl, inr, false, List, [], ◌∷◌, ◌++◌, length, set, get_or, refl, sym, ◌∙◌, ap, subst, arith, length-append, ◌≢◌}
 use Rattle.std.proofs.lemmas.List.{length-set, get_or-set_same, get_or-set_other, get_or_append_left, get_or_push}
 use Rattle.std.proofs.Math.Nat.{mod-lt}
-use Rattle.std.proofs.lemmas.List.Folds.{list_any_at}
 use Rattle.std.proofs.lemmas.Bool.{cases_eq, cases_lt, ne_eqb}
-use Rattle.pm_steps.specs.WordSet.{is_noted, remainders, IsLast, IsLinked}
-
-pub linked_none : (heads : List ℕ) → length heads ≡ remainders → IsLinked [] [] heads
-linked_none heads sized = record {
-  sized = sized;
-  each = refl;
-  heads_last = λ remainder low k below. absurd (omega arith);
-  before_last = λ i low. absurd (omega arith);
-}
+use Rattle.pm_steps.specs.WordSet.{is_noted, IsLast, IsLinked}
 
 -- a bound within the old words sees no word behind them
 last_more : (words : List ℕ) (word divisor remainder bound entry : ℕ) → bound ≤ length words → IsLast words divisor remainder bound entry → IsLast (words ++ word ∷ []) divisor remainder bound entry
@@ -75,25 +65,11 @@ linked_note words before heads word linked = record {
 
 -- ## A search
 
-pub noted_at : (words : List ℕ) (word k : ℕ) → k < length words → get_or words k 0 ≡ word → is_noted words word ≡ true
-noted_at words word k low is = list_any_at (λ other. other == word) words k 0 low (eq-eqb (get_or words k 0) word is)
-
 pub noted_nowhere : (words : List ℕ) (word : ℕ) → ((k : ℕ) → k < length words → get_or words k 0 ≡ word → ⊥) → is_noted words word ≡ false
 noted_nowhere [] word none = refl
 noted_nowhere (other ∷ words) word none =
     let differ : other ≢ word = none 0 (omega arith) in
     rw (ne_eqb other word differ) (noted_nowhere words word (λ k low is. none (suc k) (omega arith) is))
-
--- from one entry to the one before it
-pub none_from : (words : List ℕ) (divisor bound entry word : ℕ) → IsLast words divisor (word % divisor) bound entry → get_or words entry 0 ≢ word
-    → ((k : ℕ) → bound ≤ k → k < length words → get_or words k 0 ≡ word → ⊥) → (k : ℕ) → entry ≤ k → k < length words → get_or words k 0 ≡ word → ⊥
-none_from words divisor bound entry word last differ none k low high is = elim (cases_lt k bound) [
-  | inr past ↦ none k past high is
-  | inl less ↦
-      let found = last k less (ap (λ w. w % divisor) is) in
-      let same : entry ≡ k = omega (arith, found.0, low) in
-      differ (ap (λ j. get_or words j 0) same ∙ is)
-]
 
 -- with no entry left
 pub none_left : (words : List ℕ) (divisor bound entry word : ℕ) → IsLast words divisor (word % divisor) bound entry

@@ -188,10 +188,7 @@ pub(crate) fn read_directory<R: Region>(
     ensures entry_room { vec_capacity entries.old ≤ vec_capacity entries.new }
 {
     let words = get(region, inode);
-    let tree = Tree {
-        root: words.root,
-        size: words.size,
-    };
+    let tree = Tree::of(&words);
     if let Err(fault) = read_names(region, tree, entries) {
         return Err(fault);
     }

@@ -54,7 +54,7 @@ pub(crate) fn enter_inode_file<R: Region>(region: &R, blocks: &mut Blocks) -> Re
             place: SUPER_SIZE,
         });
     }
-    take_tree(region, SUPER_ROOT, file.root, file.size, false, blocks)
+    take_tree(region, SUPER_ROOT, file, false, blocks)
 }
 
 /// Reads the words of an inode.
@@ -129,9 +129,8 @@ pub(crate) fn enter<R: Region>(
     if let Err(fault) = check_words(inode, words) {
         return Err(fault);
     }
-    let tree = words.tree;
     let holes = words.kind != DIRECTORY;
-    if let Err(fault) = take_tree(region, words.place + 1, tree.root, tree.size, holes, blocks) {
+    if let Err(fault) = take_tree(region, words.place + 1, words.tree, holes, blocks) {
         return Err(fault);
     }
     if !holes {

@@ -49,7 +49,7 @@ fn claim_pointed(
     ensures place { IfErr result (λ f. f.place ≡ place) }
     ensures room { length blocks.new ≡ length blocks.old }
 {
-    let block = pointer >> 12;
+    let block = pm_words::block_of(pointer);
     if block >= blocks.room() as u64 {
         return Err(CheckFault { check: 3, place });
     }
@@ -187,15 +187,14 @@ fn take_below<R: Region>(
 }
 
 /// Takes the blocks of a tree out of the set of blocks that no tree has yet. `at` is the word of the region at which the
-/// root word stands, which the word of the size (in bytes) follows; where `holes` is false no pointer may be null, as in a
-/// directory and in the inode file. A pointer is live where a byte that it covers is below the size.
+/// root word stands, which the word of the size follows; where `holes` is false no pointer may be null, as in a directory
+/// and in the inode file. A pointer is live where a byte that it covers is below the size.
 ///
 /// The answer is an error exactly where a check fails in the tree; the set has then lost some blocks, and is of no use.
 pub fn take_tree<R: Region>(
     region: &R,
     at: u32,
-    root: u64,
-    size: u64,
+    tree: Tree,
     holes: bool,
     blocks: &mut Blocks,
 ) -> Result<(), CheckFault>
@@ -204,36 +203,36 @@ pub fn take_tree<R: Region>(
     requires room { length blocks.old ≡ block_count (current_words (R.memory region.now)) }
     requires not_first { has blocks.old 0 ≡ false }
     requires place { at + 1 < length (current_words (R.memory region.now)) }
-    requires root { word (current_words (R.memory region.now)) at ≡ root }
+    requires root { word (current_words (R.memory region.now)) at ≡ tree.root }
     ensures ok { let words = current_words (R.memory region.now) in
-        OnOk result (TakesTree words at root size holes blocks.old blocks.new) }
+        OnOk result (TakesTree words at tree.root tree.size holes blocks.old blocks.new) }
     ensures err { let words = current_words (R.memory region.now) in
-        IfErr result (λ f. FailsTree words at root size holes blocks.old f.check f.place) }
+        IfErr result (λ f. FailsTree words at tree.root tree.size holes blocks.old f.check f.place) }
     ensures room { length blocks.new ≡ length blocks.old }
 {
-    if size == 0 {
+    if tree.size == 0 {
         return Ok(());
     }
-    let height = (root & 7) as u32;
+    let height = tree.height();
     if height > MAX_HEIGHT {
         return Err(CheckFault {
             check: 1,
             place: at,
         });
     }
-    if (root / 8) % 512 != 0 {
+    if (tree.root / 8) % 512 != 0 {
         return Err(CheckFault {
             check: 2,
             place: at,
         });
     }
-    if size > span(height + 1) {
+    if tree.size > span(height + 1) {
         return Err(CheckFault {
             check: 11,
             place: at + 1,
         });
     }
-    let block = match claim_pointed(root, at, holes, blocks) {
+    let block = match claim_pointed(tree.root, at, holes, blocks) {
         Ok(block) => block,
         Err(fault) => return Err(fault),
     };
@@ -246,5 +245,5 @@ pub fn take_tree<R: Region>(
         index: 0,
         block,
     };
-    take_below(region, Tree { root, size }, holes, top, blocks)
+    take_below(region, tree, holes, top, blocks)
 }

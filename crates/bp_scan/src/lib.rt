@@ -19,6 +19,7 @@ mod totalling;
 mod totals;
 mod trees;
 
+pub use bp_layout::Check;
 pub use fault::MountFault;
 pub use length::image_length;
 pub use pending::Pending;

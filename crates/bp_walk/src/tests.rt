@@ -5,6 +5,7 @@ ghost use Rattle.pm_region.specs.Memory.{current_words};
 
 use super::*;
 use bp_free::Blocks;
+use bp_layout::Check;
 use bp_tree::Tree;
 use pm_region::ListRegion;
 use std::alloc::{AllocError, Global};
@@ -52,7 +53,7 @@ fn tells_a_hole_of_a_directory(rt: HostRuntime) -> Result<(), Fail> {
     let mut blocks = Blocks::new(rt.alloc(), 8)?;
     blocks.fill(1, 8);
     let fault = CheckFault {
-        check: 5,
+        check: Check::Hole,
         place: 1537,
     };
     assert_eq!(rt; take_tree(&region, 2, TREE, false, &mut blocks), Err(fault));

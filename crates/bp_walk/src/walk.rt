@@ -11,6 +11,7 @@ ghost use Rattle.bp_walk.specs.Pointed.{ClaimsPointed, RefusesPointed};
 ghost use Rattle.bp_walk.specs.Walk.{WalksBelow, FailsBelow, TakesTree, FailsTree};
 
 use bp_free::Blocks;
+use bp_layout::Check;
 use bp_limits::MAX_HEIGHT;
 use bp_tree::Tree;
 use pm_region::Region;
@@ -21,8 +22,8 @@ const LINE: usize = 8;
 /// A check of the format that fails, and where.
 #[derive(Clone, Copy, Debug, PartialEq, Eq)]
 pub struct CheckFault {
-    /// Its number in `docs/format.md`. In a tree fail 1 height, 2 pointer bits, 3 range, 4 block twice, 5 hole and 11 capacity.
-    pub check: u8,
+    /// Which one it is. In a tree fail `Height`, `PointerBits`, `Range`, `BlockTwice`, `Hole` and `Capacity`.
+    pub check: Check,
     /// The word of the region at which the check fails.
     pub place: u32,
 }
@@ -51,18 +52,27 @@ fn claim_pointed(
 {
     let block = pm_words::block_of(pointer);
     if block >= blocks.room() as u64 {
-        return Err(CheckFault { check: 3, place });
+        return Err(CheckFault {
+            check: Check::Range,
+            place,
+        });
     }
     let block = block as u32;
     if block == 0 {
         return if holes {
             Ok(0)
         } else {
-            Err(CheckFault { check: 5, place })
+            Err(CheckFault {
+                check: Check::Hole,
+                place,
+            })
         };
     }
     if !blocks.is_free(block) {
-        return Err(CheckFault { check: 4, place });
+        return Err(CheckFault {
+            check: Check::BlockTwice,
+            place,
+        });
     }
     blocks.claim(block);
     Ok(block)
@@ -162,7 +172,10 @@ fn take_below<R: Region>(
             continue;
         }
         if pointer & 4095 != 0 {
-            return Err(CheckFault { check: 2, place });
+            return Err(CheckFault {
+                check: Check::PointerBits,
+                place,
+            });
         }
         let block = match claim_pointed(pointer, place, holes, blocks) {
             Ok(block) => block,
@@ -216,19 +229,19 @@ pub fn take_tree<R: Region>(
     let height = tree.height();
     if height > MAX_HEIGHT {
         return Err(CheckFault {
-            check: 1,
+            check: Check::Height,
             place: at,
         });
     }
     if (tree.root / 8) % 512 != 0 {
         return Err(CheckFault {
-            check: 2,
+            check: Check::PointerBits,
             place: at,
         });
     }
     if tree.size > span(height + 1) {
         return Err(CheckFault {
-            check: 11,
+            check: Check::Capacity,
             place: at + 1,
         });
     }

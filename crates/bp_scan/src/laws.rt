@@ -13,8 +13,8 @@ ghost use Rattle.bp_scan.specs.Progress.{IsMidway};
 
 use bp_free::{Blocks, Inodes};
 
-/// Where no directory is left to be read the image is well formed, and the two sets have just the free blocks and the free
-/// inodes.
+/// Where no directory is left to be read the image is well formed, and the two sets have just the free blocks and the
+/// free inodes.
 pub fn nothing_is_left(image: &[u64], blocks: &Blocks, inodes: &Inodes, todo: &Inodes)
     requires formatted { IsFormatted image.now }
     requires inode_blocks { size_of image.now 0 % block_size ≡ 0 }

@@ -1,6 +1,6 @@
 //! The pointers of a tree, from the root word down.
 
-ghost use Rattle.std.specs.Prelude.{◌≡◌, ◌≢◌, ℕ, suc, ◌+◌, ◌*◌, ◌<◌, ◌≤◌, ◌^◌, true, false, length, slice_index, OnOk, IfOk, IfErr};
+ghost use Rattle.std.specs.Prelude.{◌≡◌, ◌≢◌, ℕ, suc, ◌+◌, ◌*◌, ◌<◌, ◌≤◌, true, false, length, slice_index, OnOk, IfOk, IfErr};
 ghost use Rattle.bp_free.specs.Set.{has};
 ghost use Rattle.bp_layout.specs.Words.{word, block_count, height_of};
 ghost use Rattle.bp_limits.specs.Limits.{max_blocks, max_height};
@@ -37,7 +37,8 @@ fn span(level: u32) -> u64
     pm_words::span(level - 1)
 }
 
-/// Takes the block that a pointer names out of the set, and answers with its number: 0 where the pointer is null and may be.
+/// Takes the block that a pointer names out of the set, and answers with its number: 0 where the pointer is null and
+/// may be.
 fn claim_pointed(
     pointer: u64,
     place: u32,
@@ -199,9 +200,9 @@ fn take_below<R: Region>(
     Ok(())
 }
 
-/// Takes the blocks of a tree out of the set of blocks that no tree has yet. `at` is the word of the region at which the
-/// root word stands, which the word of the size follows; where `holes` is false no pointer may be null, as in a directory
-/// and in the inode file. A pointer is live where a byte that it covers is below the size.
+/// Takes the blocks of a tree out of the set of blocks that no tree has yet. `at` is the word of the region at which
+/// the root word stands, which the word of the size follows; where `holes` is false no pointer may be null, as in a
+/// directory and in the inode file. A pointer is live where a byte that it covers is below the size.
 ///
 /// The answer is an error exactly where a check fails in the tree; the set has then lost some blocks, and is of no use.
 pub fn take_tree<R: Region>(

@@ -13,7 +13,7 @@ use Rattle.bp_layout.specs.declared.fields.Kind.{Kind}
 use Rattle.bp_layout.specs.WellFormed.{IsWellFormed}
 use Rattle.bp_layout.proofs.Finding.{map-same}
 use Rattle.bp_tree.specs.Bytes.{stored_byte, stored_bytes}
-use Rattle.bp_dirs.specs.EntryAt.{HasWords, IsRow}
+use Rattle.bp_dirs.specs.EntryWords.{HasWords, IsRow}
 use Rattle.bp_dirs.proofs.EntryWords.{name_in-words}
 use Rattle.bp_calls.specs.Asked.{kind_seen, entry_seen, entries_seen}
 use Rattle.bp_calls.specs.Rows.{IsEntry}

@@ -1,6 +1,6 @@
 -- The words of entries of a directory that is reached.
 use Rattle.std.specs.Prelude.{◌≡◌, ◌+◌, ◌<◌, ◌≤◌, ℕ, List}
-use Rattle.bp_dirs.specs.EntryAt.{HasWords, IsRow}
+use Rattle.bp_dirs.specs.EntryWords.{HasWords, IsRow}
 use Rattle.bp_layout.specs.Words.{Image}
 use Rattle.bp_layout.specs.Directory.{entry_count}
 use Rattle.bp_layout.specs.Inode.{kind_of, root_of}

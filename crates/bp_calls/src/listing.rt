@@ -4,7 +4,7 @@ ghost use Rattle.std.specs.Prelude.{◌++◌, ◌≡◌, ℕ, IfOk, OnOk, [], dr
 ghost use Rattle.std.specs.List.{cons_option, filter_map, range_with_len};
 ghost use Rattle.bp_calls.specs.Asked.{ListsNames, entries_seen, entry_seen};
 ghost use Rattle.bp_calls.specs.Rows.{AreEntries, IsEntry};
-ghost use Rattle.bp_dirs.specs.EntryAt.{HasWords, IsRow};
+ghost use Rattle.bp_dirs.specs.EntryWords.{HasWords, IsRow};
 ghost use Rattle.bp_layout.specs.Directory.{entry_count};
 ghost use Rattle.bp_layout.specs.Inode.{kind_of, root_of};
 ghost use Rattle.bp_layout.specs.Reached.{IsReached};

@@ -7,7 +7,8 @@ ghost use Rattle.bp_command.specs.Programs.{Asks, IsNamed, Program, Requests};
 /// The command takes the plain words of a program, and they ask for no other.
 pub fn plain_words_are_taken()
     ensures taken { (words : List (List ℕ)) (program : Program) → Asks words program → IsTaken words }
-    ensures requested { (words : List (List ℕ)) (program other : Program) → Asks words program → Requests words other → other ≡ program }
+    ensures requested { (words : List (List ℕ)) (program other : Program) → Asks words program →
+        Requests words other → other ≡ program }
 {}
 
 /// Words that the command takes name a program's subcommand, and give it its values.

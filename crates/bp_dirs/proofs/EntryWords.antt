@@ -1,14 +1,14 @@
 -- Where the words and bytes of an entry stand.
-use Rattle.std.proofs.Common.{◌≡◌, ◌≢◌, ℕ, zero, suc, ◌+◌, ◌-◌, ◌*◌, ◌/◌, ◌%◌, ◌<◌, ◌≤◌, List, length, drop, slice_index, slice_range, refl, sym, ◌∙◌, ap, ap₂, arith}
-use Rattle.std.proofs.lemmas.List.{get_or-drop, get_or-take, length-drop, length-take}
+use Rattle.std.proofs.Common.{◌≡◌, ◌≢◌, ℕ, ◌+◌, ◌*◌, ◌/◌, ◌%◌, ◌<◌, ◌≤◌, List, length, slice_index, slice_range, refl, sym, ◌∙◌, ap, ap₂, arith}
 use Rattle.bp_layout.specs.Words.{Image, block_count, height_of, slot_word, word, byte_of}
 use Rattle.bp_layout.specs.Tree.{node, byte, content_word, IsSound, IsLivePointer}
 use Rattle.bp_layout.specs.Directory.{word_in, name_in}
 use Rattle.bp_layout.specs.Fields.{name_byte, name_of}
 use Rattle.bp_layout.proofs.Finding.{map-same}
-use Rattle.bp_dirs.specs.EntryAt.{HasWords, IsLeaf, IsRow}
+use Rattle.bp_dirs.specs.EntryWords.{HasWords, IsLeaf, IsRow}
 use Rattle.bp_dirs.specs.declared.leaf.Leaf.{Leaf}
-use Rattle.bp_layout.proofs.TreeLaws.{word_at-suc}
+use Rattle.bp_layout.proofs.TreeLaws.{slot_word-at, word_at-suc}
+use Rattle.bp_tree.proofs.LoadedWords.{length-loaded, loaded_word}
 
 pub word_in-at : (image : Image) (root slot f : ℕ) → f < 32 →
     word_in image root slot f ≡ slot_word image (node image root (height_of root) (slot / 16)) (32 * (slot % 16) + f)
@@ -53,28 +53,17 @@ null_leaf image leaf slot is none low high =
 pub leaf_block_in_range : (image : Image) (leaf : Leaf) → IsLeaf image leaf → leaf.block < block_count image
 leaf_block_in_range image leaf is = omega (arith, is.block, leaf_in_range image leaf.tree.root leaf.tree.size leaf.first is.sound (omega (arith, is.live, is.some)))
 
-slot_in-block : (image : Image) (block slot : ℕ) → block ≢ 0 → slot_word image block slot ≡ word image (512 * block + slot)
-slot_in-block image zero slot some = absurd (some refl)
-slot_in-block image (suc block) slot some = refl
-
-in_range : (words : List ℕ) (first end k : ℕ) → first + k < end → slice_index (slice_range words first end) k ≡ slice_index words (first + k)
-in_range words first end k inside = get_or-take (end - first) (drop first words) k 0 (omega (arith, inside)) ∙ get_or-drop first words k 0
-
-length-range : (words : List ℕ) (first count : ℕ) → first + count ≤ length words → length (slice_range words first (first + count)) ≡ count
-length-range words first count inside = omega (arith, inside, length-take (first + count - first) (drop first words), length-drop first words)
-
 pub row_of : (image : Image) (leaf : Leaf) (words : List ℕ) → IsLeaf image leaf → leaf.block ≢ 0 → 512 * leaf.block + 32 * leaf.count ≤ length image →
     words ≡ slice_range image (512 * leaf.block) (512 * leaf.block + 32 * leaf.count) → IsRow image leaf.tree.root leaf.first leaf.count words
-row_of image leaf words is some inside are = record {
-  long = ap length are ∙ length-range image (512 * leaf.block) (32 * leaf.count) inside;
+row_of image leaf words is some inside run = record {
+  long = length-loaded image words (512 * leaf.block) (32 * leaf.count) run inside;
   each = λ index field low within.
       let leaf_is : (leaf.first + index) / 16 ≡ leaf.first / 16 = omega (arith, is.starts, is.few, low) in
       let slot_is : (leaf.first + index) % 16 ≡ index = omega (arith, is.starts, is.few, low) in
       let at : 512 * leaf.block + (32 * index + field) ≡ 512 * leaf.block + (32 * ((leaf.first + index) % 16) + field) = omega (arith, slot_is) in
-      ap (λ ws. slice_index ws (32 * index + field)) are
-      ∙ in_range image (512 * leaf.block) (512 * leaf.block + 32 * leaf.count) (32 * index + field) (omega (arith, low, within))
+      loaded_word image words (512 * leaf.block) (32 * leaf.count) run (32 * index + field) (omega (arith, low, within))
       ∙ ap (word image) at
-      ∙ sym (slot_in-block image leaf.block (32 * ((leaf.first + index) % 16) + field) some)
+      ∙ sym (slot_word-at image leaf.block (32 * ((leaf.first + index) % 16) + field) some)
       ∙ ap (λ b. slot_word image b (32 * ((leaf.first + index) % 16) + field)) (is.block ∙ ap (node image leaf.tree.root (height_of leaf.tree.root)) (sym leaf_is))
       ∙ sym (word_in-at image leaf.tree.root (leaf.first + index) field within);
 }
@@ -83,8 +72,8 @@ row_of image leaf words is some inside are = record {
 pub entry_of : (image : Image) (root first count index : ℕ) (words : List ℕ) → IsRow image root first count words → index < count →
     HasWords image root (first + index) (slice_range words (32 * index) (32 * index + 32))
 entry_of image root first count index words is low = record {
-  long = length-range words (32 * index) 32 (omega (arith, is.long, low));
-  each = λ field within. in_range words (32 * index) (32 * index + 32) field (omega (arith, within)) ∙ is.each index field low within;
+  long = length-loaded words (slice_range words (32 * index) (32 * index + 32)) (32 * index) 32 refl (omega (arith, is.long, low));
+  each = λ field within. loaded_word words (slice_range words (32 * index) (32 * index + 32)) (32 * index) 32 refl field within ∙ is.each index field low within;
 }
 
 -- the first word of one of the entries

@@ -1,4 +1,4 @@
-pub mod EntryAt
+pub mod EntryWords
 pub mod Names
 pub mod Spots
 pub mod Written

@@ -1,20 +1,18 @@
 //! What stands in a directory.
 
-ghost use Rattle.std.specs.Prelude.{◌≡◌, ◌≢◌, ◌+◌, ◌*◌, ◌/◌, ◌%◌, ◌<◌, ◌≤◌, ◌↔◌, length, IsTrue, IfNone, IfSome};
+ghost use Rattle.std.specs.Prelude.{◌≡◌, ◌≢◌, ◌+◌, ◌*◌, ◌/◌, ◌%◌, ◌<◌, ◌≤◌, ◌↔◌, length, IsTrue, IfSome};
 ghost use Rattle.bp_layout.specs.Words.{height_of};
 ghost use Rattle.bp_layout.specs.Tree.{node, IsSound, IsFull};
-ghost use Rattle.bp_layout.specs.Directory.{word_in, inumber_in, name_in, empty_slot_in, slot_named_in};
+ghost use Rattle.bp_layout.specs.Directory.{inumber_in, empty_slot_in, slot_named_in};
 ghost use Rattle.bp_limits.specs.Limits.{max_name};
 ghost use Rattle.pm_region.specs.Memory.{current_words};
-ghost use Rattle.bp_dirs.specs.Names.{HasNameLength, name_count};
+ghost use Rattle.bp_dirs.specs.Names.{name_count};
 ghost use Rattle.bp_dirs.specs.Spots.{FreeIs, found_slot, named_slot};
 
-use crate::entry_at::EntryAt;
 use crate::leaf::{leaf_count, leaf_from};
 use crate::name_words::last_word;
 use crate::spot::{Found, Spot};
-use bp_layout::Entry;
-use bp_tree::{Tree, content_place, content_word, leaf_block};
+use bp_tree::{Tree, content_place, content_word};
 use pm_region::Region;
 
 /// The number of the inode that the entry in a slot names, 0 where the entry is empty.
@@ -114,46 +112,6 @@ pub fn is_empty<R: Region>(region: &R, tree: Tree) -> bool
         }
     }
     true
-}
-
-/// The entry in a slot: the number of the inode that it names, and the name.
-pub fn entry<R: Region>(region: &R, tree: Tree, slot: u64) -> Entry
-    requires sound { IsSound (current_words (R.memory region.now)) tree.root tree.size }
-    requires live { slot < tree.size / 256 }
-    requires least { 1 ≤ word_in (current_words (R.memory region.now)) tree.root slot 1 }
-    requires most { word_in (current_words (R.memory region.now)) tree.root slot 1 ≤ max_name }
-    ensures inumber { result.inumber ≡ inumber_in (current_words (R.memory region.now)) tree.root slot }
-    ensures name { result.name.items ≡ name_in (current_words (R.memory region.now)) tree.root slot }
-{
-    let at = EntryAt {
-        tree,
-        slot,
-        block: leaf_block(region, tree, slot / 16),
-    };
-    Entry::read(&at.words(region))
-}
-
-/// The entry in a slot, as [`entry`] gives it, None where it is empty. One walk finds its leaf.
-pub fn entry_unless_empty<R: Region>(region: &R, tree: Tree, slot: u64) -> Option<Entry>
-    requires sound { IsSound (current_words (R.memory region.now)) tree.root tree.size }
-    requires live { slot < tree.size / 256 }
-    requires length { HasNameLength (current_words (R.memory region.now)) tree.root slot }
-    ensures none { IfNone result (inumber_in (current_words (R.memory region.now)) tree.root slot ≡ 0) }
-    ensures some { IfSome result (λ entry. entry.inumber ≢ 0) }
-    ensures inumber { IfSome result
-        (λ entry. entry.inumber ≡ inumber_in (current_words (R.memory region.now)) tree.root slot) }
-    ensures name { IfSome result
-        (λ entry. entry.name.items ≡ name_in (current_words (R.memory region.now)) tree.root slot) }
-{
-    let at = EntryAt {
-        tree,
-        slot,
-        block: leaf_block(region, tree, slot / 16),
-    };
-    if at.word(region, 0) == 0 {
-        return None;
-    }
-    Some(Entry::read(&at.words(region)))
 }
 
 /// The word of the region at which a word of the entry in a slot stands.

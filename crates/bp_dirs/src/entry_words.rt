@@ -3,7 +3,7 @@
 ghost use Rattle.std.specs.Prelude.{◌≡◌, ℕ, ◌≤◌, length};
 ghost use Rattle.bp_layout.specs.Words.{Image};
 ghost use Rattle.bp_layout.specs.Directory.{is_named_in};
-ghost use Rattle.bp_dirs.specs.EntryAt.{HasWords, last_part, part_word};
+ghost use Rattle.bp_dirs.specs.EntryWords.{HasWords, last_part, part_word};
 ghost use Rattle.bp_limits.specs.Limits.{max_name};
 
 use crate::name_words::{last_part, whole_word};

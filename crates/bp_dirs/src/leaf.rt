@@ -5,7 +5,7 @@ ghost use Rattle.std.specs.List.{range_with_len};
 ghost use Rattle.bp_layout.specs.Tree.{IsSound};
 ghost use Rattle.bp_layout.specs.Directory.{inumber_in, is_named_in};
 ghost use Rattle.pm_region.specs.Memory.{current_words};
-ghost use Rattle.bp_dirs.specs.EntryAt.{IsLeaf, IsRow, last_part, part_word};
+ghost use Rattle.bp_dirs.specs.EntryWords.{IsLeaf, IsRow, last_part, part_word};
 ghost use Rattle.bp_dirs.specs.Spots.{found_slot};
 ghost use Rattle.bp_limits.specs.Limits.{max_name};
 
@@ -17,6 +17,7 @@ use pm_region::Region;
 /// Slots in a row whose entries share a block.
 #[derive(Clone, Copy)]
 pub(crate) struct Leaf {
+    /// The directory.
     pub tree: Tree,
     /// The first slot.
     pub first: u64,
@@ -57,7 +58,8 @@ impl Leaf {
     fn words<'a, R: Region>(&self, region: &'a R) -> &'a [u64]
         requires leaf { IsLeaf (current_words (R.memory region.now)) self.now }
         requires present { self.now.block ≢ 0 }
-        ensures { IsRow (current_words (R.memory region.now)) self.now.tree.root self.now.first self.now.count result.now }
+        ensures { IsRow (current_words (R.memory region.now))
+            self.now.tree.root self.now.first self.now.count result.now }
     {
         // Words are counted in 32 bits, so that the place of one fits.
         let _words = region.words();
@@ -69,7 +71,8 @@ impl Leaf {
         requires leaf { IsLeaf (current_words (R.memory region.now)) self.now }
         requires short { length name.now ≤ max_name }
         requires last { last ≡ part_word name.now (last_part name.now) }
-        ensures slot { found_slot result ≡ find (is_named_in (current_words (R.memory region.now)) self.now.tree.root name.now)
+        ensures slot { found_slot result ≡ find
+            (is_named_in (current_words (R.memory region.now)) self.now.tree.root name.now)
             (range_with_len self.now.first self.now.count) }
         ensures inumber { IfSome result
             (λ found. found.inumber ≡ inumber_in (current_words (R.memory region.now)) self.now.tree.root found.slot) }

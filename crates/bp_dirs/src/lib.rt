@@ -5,7 +5,6 @@
 #![tactic(auto)]
 
 mod directory;
-mod entry_at;
 mod entry_words;
 mod leaf;
 mod name_words;
@@ -13,8 +12,7 @@ mod spot;
 mod writing;
 
 pub use directory::{
-    count, entry, entry_place, entry_unless_empty, find, find_entry, find_or_free, free_slot,
-    inumber, is_empty,
+    count, entry_place, find, find_entry, find_or_free, free_slot, inumber, is_empty,
 };
 pub use spot::{Found, Spot};
 pub use writing::{put_entry, put_name};

@@ -2,7 +2,7 @@
 //! zeros above them.
 
 ghost use Rattle.std.specs.Prelude.{◌≡◌, ◌+◌, ◌-◌, ◌*◌, ◌/◌, ◌≤◌, length};
-ghost use Rattle.bp_dirs.specs.EntryAt.{part_word, last_part};
+ghost use Rattle.bp_dirs.specs.EntryWords.{part_word, last_part};
 ghost use Rattle.pm_words.specs.Bytes.{word_of};
 
 use pm_words::read_word;

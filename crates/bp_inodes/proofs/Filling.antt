@@ -1,5 +1,5 @@
 -- The stores of a new inode.
-use Rattle.std.proofs.Common.{◌≡◌, ℕ, ◌+◌, ◌*◌, ◌/◌, ◌%◌, ◌<◌, ◌≤◌, [], ◌∷◌, length, sym, ◌∙◌, subst, arith}
+use Rattle.std.proofs.Common.{◌≡◌, ℕ, ◌+◌, ◌*◌, ◌/◌, ◌<◌, ◌≤◌, [], ◌∷◌, length, sym, ◌∙◌, subst, arith}
 use Rattle.pm_epochs.specs.declared.event.Event.TheVariants.{Store}
 use Rattle.pm_epochs.specs.May.{AnyAt}
 use Rattle.pm_region.specs.Memory.{Memory, current_words, Adds}
@@ -7,7 +7,7 @@ use Rattle.pm_region.specs.Safe.{AddsMay}
 use Rattle.pm_region.proofs.MayLaws.{may_one, may_store}
 use Rattle.pm_region.proofs.MemoryLaws.{length-current_words}
 use Rattle.bp_layout.specs.Free.{IsFreeInode}
-use Rattle.bp_layout.specs.Inode.{ContentStandsAt, root_of, inode_count}
+use Rattle.bp_layout.specs.Inode.{ContentStandsAt, root_of}
 use Rattle.bp_layout.specs.Reached.IsReached.{inode_file}
 use Rattle.bp_layout.specs.Tree.{node}
 use Rattle.bp_layout.specs.WellFormed.{IsWellFormed}

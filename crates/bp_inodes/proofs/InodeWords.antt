@@ -1,10 +1,10 @@
 -- Where the words of an inode stand.
-use Rattle.std.proofs.Common.{◌≡◌, ◌≢◌, ℕ, zero, suc, ◌+◌, ◌-◌, ◌*◌, ◌/◌, ◌%◌, ◌<◌, ◌≤◌, List, length, take, drop, slice_index, slice_range, refl, sym, ◌∙◌, ap, ap₂, arith}
-use Rattle.std.proofs.lemmas.List.{get_or-drop, get_or-take}
+use Rattle.std.proofs.Common.{◌≡◌, ◌≢◌, ℕ, zero, suc, ◌+◌, ◌*◌, ◌/◌, ◌%◌, ◌<◌, ◌≤◌, List, length, slice_index, slice_range, refl, sym, ◌∙◌, ap, ap₂, arith}
 use Rattle.bp_layout.specs.Words.{Image, block_count, height_of, slot_word, word}
 use Rattle.bp_layout.specs.Tree.{node, IsSound, IsLivePointer}
 use Rattle.bp_layout.specs.Inode.{inode_word, inode_count, kind_of, root_of, size_of}
-use Rattle.bp_layout.proofs.TreeLaws.{word_at-suc}
+use Rattle.bp_layout.proofs.TreeLaws.{slot_word-at, word_at-suc}
+use Rattle.bp_tree.proofs.LoadedWords.{loaded_word}
 
 -- the leaf with an inode that is there is live
 pub leaf_pointer : (image : Image) (i : ℕ) → i < inode_count image → IsLivePointer (root_of image 0) (size_of image 0) (height_of (root_of image 0)) (i / 64)
@@ -43,20 +43,13 @@ in_block image i some least none =
     let word : inode_word image i 0 ≡ 0 = inode_word-at image i 0 (omega arith) ∙ ap (λ b. slot_word image b (8 * (i % 64) + 0)) none in
     omega (arith, word, kind_word-of image i some, least)
 
-slot_in-block : (image : Image) (block slot : ℕ) → block ≢ 0 → slot_word image block slot ≡ word image (512 * block + slot)
-slot_in-block image zero slot some = absurd (some refl)
-slot_in-block image (suc block) slot some = refl
-
-word_in-range : (image : Image) (first end k : ℕ) → first + k < end → slice_index (slice_range image first end) k ≡ word image (first + k)
-word_in-range image first end k inside = get_or-take (end - first) (drop first image) k 0 (omega (arith, inside)) ∙ get_or-drop first image k 0
-
 -- a word of those that were loaded from the place of an inode that has a kind
-pub loaded : (image : Image) (i f root block first : ℕ) (words : List ℕ) → f < 3 → 1 ≤ i → 1 ≤ kind_of image i → root ≡ root_of image 0 →
+pub loaded_field : (image : Image) (i f root block first : ℕ) (words : List ℕ) → f < 3 → 1 ≤ i → 1 ≤ kind_of image i → root ≡ root_of image 0 →
     block ≡ node image root (height_of root) (i / 64) → first ≡ 512 * block + 8 * (i % 64) → words ≡ slice_range image first (first + 3) → slice_index words f ≡ inode_word image i f
-loaded image i f root block first words within some least root_is block_is first_is words_are =
+loaded_field image i f root block first words within some least root_is block_is first_is words_are =
     let node_is : block ≡ node image (root_of image 0) (height_of (root_of image 0)) (i / 64) = block_is ∙ ap (λ r. node image r (height_of r) (i / 64)) root_is in
     let at : first + f ≡ 512 * block + (8 * (i % 64) + f) = omega (arith, first_is) in
-    ap (λ ws. slice_index ws f) words_are ∙ word_in-range image first (first + 3) f (omega (arith, within)) ∙ ap (word image) at
-    ∙ sym (slot_in-block image block (8 * (i % 64) + f) (λ none. in_block image i some least (sym node_is ∙ none)))
+    loaded_word image words first 3 words_are f within ∙ ap (word image) at
+    ∙ sym (slot_word-at image block (8 * (i % 64) + f) (λ none. in_block image i some least (sym node_is ∙ none)))
     ∙ ap (λ b. slot_word image b (8 * (i % 64) + f)) node_is
     ∙ sym (inode_word-at image i f (omega (arith, within)))

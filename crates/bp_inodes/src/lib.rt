@@ -57,7 +57,8 @@ pub fn get<R: Region>(region: &R, i: u32) -> Inode
 pub fn place<R: Region>(region: &R, i: u32, field: u32) -> u32
     requires sound { let words = current_words (R.memory region.now) in
         IsSound words (root_of words 0) (size_of words 0) }
-    requires full { let words = current_words (R.memory region.now) in IsFull words (root_of words 0) (size_of words 0) }
+    requires full { let words = current_words (R.memory region.now) in
+        IsFull words (root_of words 0) (size_of words 0) }
     requires there { i < inode_count (current_words (R.memory region.now)) }
     requires field { field < 8 }
     ensures place { ContentStandsAt (current_words (R.memory region.now)) 0 (8 * i + field) result }

@@ -18,5 +18,6 @@ pub mod FewLeaves
 pub mod WordBytes
 pub mod NameBytes
 pub mod SameLaws
+pub mod Parts
 pub mod Pieces
 pub mod ListedLaws

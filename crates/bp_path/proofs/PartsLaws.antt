@@ -1,75 +1,12 @@
--- The parts of a text round each `/`.
-use Rattle.std.proofs.Common.{◌≡◌, ◌≢◌, ℕ, zero, suc, ◌+◌, ◌-◌, ◌<◌, ◌≤◌, Bool, true, false, ◌&&◌, ◌==◌, List, [], ◌∷◌, ◌++◌, length, take, drop, slice_index, position, nat_lt, Option, None, Some, refl, sym, ◌∙◌, ap, arith}
-use Rattle.std.specs.List.{list_all, position_or_len}
-use Rattle.std.proofs.lemmas.Bool.{eqb-true, eqb-false, ltb-false}
+-- The names of a path's text, from its first to its last.
+use Rattle.std.proofs.Common.{◌≡◌, ◌≢◌, ℕ, zero, suc, ◌+◌, ◌-◌, ◌<◌, ◌≤◌, Bool, true, false, ◌&&◌, ◌==◌, List, [], ◌∷◌, ◌++◌, length, take, drop, slice_index, position, None, Some, refl, sym, ◌∙◌, ap, arith}
+use Rattle.std.specs.List.{list_all}
 use Rattle.std.proofs.lemmas.List.Folds.{list_all-append}
-use Rattle.std.proofs.lemmas.List.Sums.{fails_before_first}
-use Rattle.std.proofs.lemmas.List.{get_or-drop, length-drop, take-append-drop, drop_more, length-take, get_or-take}
+use Rattle.std.proofs.lemmas.List.{get_or-drop, length-drop}
 use Rattle.std.proofs.Math.Bool.{and-true}
-use Rattle.std.proofs.lemmas.List.Quantifiers.{position-Some}
-use Rattle.bp_layout.specs.PathText.{is_name, onto_first, parts}
+use Rattle.bp_layout.specs.PathText.{is_name, parts}
+use Rattle.bp_layout.proofs.Parts.{cut_at, first_part, only_part, parts-append, parts-one, parts-some}
 use Rattle.bp_path.specs.Names.{names_in}
-
-onto_first-append : (b : ℕ) (xs ys : List (List ℕ)) → xs ≢ [] → onto_first b (xs ++ ys) ≡ onto_first b xs ++ ys
-onto_first-append b [] ys some = absurd (some refl)
-onto_first-append b (x ∷ xs) ys some = refl
-
-parts-some : (text : List ℕ) → parts text ≢ []
-parts-some [] e = absurd (cc)
-parts-some (b ∷ text) e = go (b == 47) refl
-  where
-    go : (t : Bool) → (b == 47) ≡ t → ⊥
-    go true at = let none : [] ∷ parts text ≡ [] = rw at at e in absurd (cc)
-    go false at = onto (parts text) (rw at at e)
-      where
-        onto : (ps : List (List ℕ)) → onto_first b ps ≡ [] → ⊥
-        onto [] is = absurd (cc)
-        onto (p ∷ ps) is = absurd (cc)
-
--- a `/` parts
-pub parts-append : (front rest : List ℕ) → parts (front ++ 47 ∷ rest) ≡ parts front ++ parts rest
-parts-append [] rest = refl
-parts-append (b ∷ front) rest = go (parts-append front rest) (b == 47) refl
-  where
-    go : parts (front ++ 47 ∷ rest) ≡ parts front ++ parts rest → (t : Bool) → (b == 47) ≡ t → parts ((b ∷ front) ++ 47 ∷ rest) ≡ parts (b ∷ front) ++ parts rest
-    go same true at = rw (at, same) refl
-    go same false at = rw (at, same) (onto_first-append b (parts front) (parts rest) (parts-some front))
-
--- a text without one is one part
-pub parts-one : (text : List ℕ) → ((k : ℕ) → k < length text → slice_index text k ≢ 47) → parts text ≡ text ∷ []
-parts-one [] none = refl
-parts-one (b ∷ text) none = go (parts-one text (λ k h. none (suc k) (omega (arith, h)))) (b == 47) refl
-  where
-    go : parts text ≡ text ∷ [] → (t : Bool) → (b == 47) ≡ t → parts (b ∷ text) ≡ (b ∷ text) ∷ []
-    go same true at = absurd (none 0 (omega arith) (eqb-true b 47 at))
-    go same false at = rw (at, same) refl
-
--- a text round a `/` in it
-cut_at : (text : List ℕ) (end : ℕ) → end < length text → slice_index text end ≡ 47 → text ≡ take end text ++ 47 ∷ drop (end + 1) text
-cut_at text end inside slash =
-    sym (take-append-drop end text) ∙ ap (λ rest. take end text ++ rest) (drop_more text end 0 inside ∙ ap (λ b. b ∷ drop (end + 1) text) slash)
-
--- the parts of a text up to its first `/` and behind it
-pub first_part : (text : List ℕ) (end : ℕ) → position (λ b. b == 47) text ≡ Some end → parts text ≡ take end text ∷ parts (drop (end + 1) text)
-first_part text end found =
-    let here : (end < length text) × ((slice_index text end == 47) ≡ true) × ((k : ℕ) → k < end → (slice_index text k == 47) ≡ false) = position-Some (λ b. b == 47) text end 0 found in
-    let front : parts (take end text) ≡ take end text ∷ [] =
-    parts-one (take end text) (λ k h. let low : k < end = omega (arith, h, length-take end text) in
-    rw (get_or-take end text k 0 low) (eqb-false _ _ (here.2 k low))) in
-    ap parts (cut_at text end here.0 (eqb-true _ _ here.1)) ∙ parts-append (take end text) (drop (end + 1) text) ∙ ap (λ ps. ps ++ parts (drop (end + 1) text)) front
-
--- where there is none
-pub no_slash : (text : List ℕ) → position (λ b. b == 47) text ≡ None → (k : ℕ) → k < length text → (slice_index text k == 47) ≡ false
-no_slash text none k low = fails_before_first (λ b. b == 47) text k 0 (omega (arith, low, all_before (nat_lt (position_or_len (λ b. b == 47) text) (length text)) refl))
-  where
-    all_before : (t : Bool) → nat_lt (position_or_len (λ b. b == 47) text) (length text) ≡ t → length text ≤ position_or_len (λ b. b == 47) text
-    all_before true at = let some : ◌≡◌ {A = Option ℕ} (Some (position_or_len (λ b. b == 47) text)) None = rw at at none in absurd (cc)
-    all_before false at = ltb-false _ _ at
-
-pub only_part : (text : List ℕ) → position (λ b. b == 47) text ≡ None → parts text ≡ text ∷ []
-only_part text none = parts-one text (λ k h. eqb-false _ _ (no_slash text none k h))
-
--- ---- names
 
 pub and_parts : (a b : Bool) → (a && b) ≡ true → (a ≡ true) × (b ≡ true)
 and_parts true b both = (refl, both)
@@ -128,10 +65,6 @@ all_behind text end found name = ap (list_all is_name) (first_part text end foun
 
 pub all_one : (text : List ℕ) → position (λ b. b == 47) text ≡ None → list_all is_name (parts text) ≡ is_name text
 all_one text none = ap (list_all is_name) (only_part text none) ∙ and-true (is_name text)
-
-pub none_left : (o : Option ℕ) → ((x : ℕ) → o ≡ Some x → ⊥) → o ≡ None
-none_left None not_some = refl
-none_left (Some x) not_some = absurd (not_some x refl)
 
 pub empty_text : (text : List ℕ) → names_in text ≡ [] → length text ≡ 0
 empty_text [] none = refl

@@ -9,7 +9,8 @@ use Rattle.std.proofs.lemmas.List.Sums.{fails_before_first, position_or_len_is}
 use Rattle.memchr.specs.Find.{IsLastByte, is_byte}
 use Rattle.bp_limits.specs.Limits.{max_name}
 use Rattle.bp_layout.specs.PathText.{is_name, onto_first, parts}
-use Rattle.bp_path.proofs.PartsLaws.{and_parts, parts-one, parts_one_more}
+use Rattle.bp_layout.proofs.Parts.{parts-one}
+use Rattle.bp_path.proofs.PartsLaws.{and_parts, parts_one_more}
 
 module _ (p : ℕ → Bool) where
   all_pass : (xs : List ℕ) → ((k : ℕ) → k < length xs → p (slice_index xs k) ≡ true) → list_all p xs ≡ true

@@ -65,10 +65,7 @@ pub fn step<R: Region>(region: &R, dir: u32, name: &[u8]) -> Result<Place, WalkF
         IfErr result (λ fault. (rest : List (List ℕ)) → walk_from words dir (name.now ∷ rest) ≡ fault_of fault) }
 {
     let inode = get(region, dir);
-    let tree = Tree {
-        root: inode.root,
-        size: inode.size,
-    };
+    let tree = Tree::of(&inode);
     match inode.kind {
         Kind::File => Err(WalkFault::NotDir),
         Kind::Dir => match find_entry(region, tree, name) {

@@ -177,7 +177,8 @@ impl Plain {
         _off: u64,
         _len: usize,
     ) -> Result<Option<FsError>, AllocError>
-        ensures { IfOk result (λ found. option_map refusal_of found ≡ plain.refusal self.now (read text.now _off _len)) }
+        ensures { IfOk result (λ found.
+            option_map refusal_of found ≡ plain.refusal self.now (read text.now _off _len)) }
     {
         match parse(alloc, text)? {
             None => Ok(Some(FsError::BadPath)),
@@ -192,7 +193,8 @@ impl Plain {
         off: u64,
         new: &[u8],
     ) -> Result<Option<FsError>, AllocError>
-        ensures { IfOk result (λ found. option_map refusal_of found ≡ plain.refusal self.now (write text.now off new.now)) }
+        ensures { IfOk result (λ found.
+            option_map refusal_of found ≡ plain.refusal self.now (write text.now off new.now)) }
     {
         match parse(alloc, text)? {
             None => Ok(Some(FsError::BadPath)),
@@ -462,7 +464,8 @@ fn kind_of(node: &Node) -> Kind
 
 // The name of an entry of a directory, where a path is that of one.
 fn name_below<'a>(dir: &[Name], path: &'a [Name]) -> Option<&'a Name>
-    ensures { option_map (λ name. name.now.items) result ≡ plain.only_name (rest_below (names_of dir.now) (names_of path.now)) }
+    ensures { option_map (λ name. name.now.items) result
+        ≡ plain.only_name (rest_below (names_of dir.now) (names_of path.now)) }
 {
     match path.strip_prefix(dir) {
         Some(rest) => only(rest),

@@ -1,7 +1,8 @@
 -- The places of a mask, and those up to the last true one.
-use Rattle.std.proofs.Common.{◌≡◌, ℕ, zero, suc, ◌+◌, ◌*◌, ◌/◌, ◌%◌, ◌^◌, ◌<◌, Bool, true, false, cond, Some, List, [], ◌∷◌, ◌++◌, length, take, get_or, refl, sym, ◌∙◌, ap, arith, add-one}
+use Rattle.std.proofs.Common.{◌≡◌, ℕ, zero, suc, ◌+◌, ◌*◌, ◌/◌, ◌%◌, ◌^◌, ◌<◌, Bool, true, false, cond, Some, List, [], ◌∷◌, ◌++◌, length, take, get_or, refl, sym, ◌∙◌, ap, arith}
 use Rattle.std.specs.List.{slice_get}
-use Rattle.std.proofs.lemmas.List.{length-take, take_all}
+use Rattle.std.proofs.lemmas.List.{length-take, take_all, take_more}
+use Rattle.std.proofs.lemmas.Option.{slice_get_within, get_or_from_slice_get}
 use Rattle.bp_replay.specs.Wanted.{bit, bits, behind_true, trimmed}
 
 pub length-bits : (bytes : List ℕ) → length (bits bytes) ≡ 8 * length bytes
@@ -58,22 +59,14 @@ length-trimmed-more places true = length-trimmed-true places
 length-trimmed-more places false = ap length (trimmed-false places)
 
 -- the places below an index, and that one
-take_suc : (places : List Bool) (i : ℕ) (place : Bool) → slice_get places i ≡ Some place → take (suc i) places ≡ take i places ++ place ∷ []
-take_suc [] i place is = cc
-take_suc (first ∷ places) zero place is = let same : first ≡ place = cc in ap (λ p. p ∷ []) same
-take_suc (first ∷ places) (suc i) place is = ap (λ ps. first ∷ ps) (take_suc places i place is)
-
 pub take_next : (places : List Bool) (i : ℕ) (place : Bool) → slice_get places i ≡ Some place → take (i + 1) places ≡ take i places ++ place ∷ []
-take_next places i place is = rw add-one (take_suc places i place is)
-
-index_low : (places : List Bool) (i : ℕ) (place : Bool) → slice_get places i ≡ Some place → i < length places
-index_low [] i place is = cc
-index_low (first ∷ places) zero place is = omega arith
-index_low (first ∷ places) (suc i) place is = omega (arith, index_low places i place is)
+take_next places i place is =
+    take_more places i place (slice_get_within places i place is)
+    ∙ ap (λ p. take i places ++ p ∷ []) (get_or_from_slice_get places i place place is)
 
 pub length-trimmed-next : (places : List Bool) (i : ℕ) (place : Bool) → slice_get places i ≡ Some place → length (trimmed (take (i + 1) places)) ≡ cond place (i + 1) (length (trimmed (take i places)))
 length-trimmed-next places i place is =
-    let low = index_low places i place is in
+    let low = slice_get_within places i place is in
     let count : length (take i places) ≡ i = omega (arith, length-take i places) in
     ap (λ ps. length (trimmed ps)) (take_next places i place is) ∙ length-trimmed-more (take i places) place ∙ ap (λ n. cond place (n + 1) (length (trimmed (take i places)))) count
 

@@ -11,11 +11,12 @@ use Rattle.pm_epochs.specs.Replay.{IsRight, replay, epoch_of, place_of}
 use Rattle.pm_steps.specs.WordSet.{is_noted}
 use Rattle.pm_steps.specs.Machine.{is_some_store, IsInOrder, start, Runs, in_log_order}
 use Rattle.pm_steps.proofs.Order.{store_is}
-use Rattle.pm_steps.proofs.Cuts.{right_open, ComesFirst-behind}
+use Rattle.pm_steps.proofs.Cuts.{right_open}
+use Rattle.pm_steps.proofs.FirstLaws.{none, nothing_there, same_word, ComesFirst-behind}
 use Rattle.pm_steps.proofs.Reaching.{reached_in_log_order}
 use Rattle.bp_replay.specs.Generator.{next_state, drawn}
 use Rattle.bp_replay.specs.Storm.{goes_back, waiting_behind, storm_flags, storm_moment, storm_epoch, flags_of_storm, storm_cut, draw_at, IsOdd, IsStoreAt, MayGo}
-use Rattle.bp_replay.proofs.Storms.{in_order_storm, none, none_later, nothing_there, same_word, storm_first}
+use Rattle.bp_replay.proofs.Storms.{in_order_storm, none_later, storm_first}
 
 in_order_flags : (events : List Event) (seed : ℕ) → IsInOrder events (flags_of_storm events seed)
 in_order_flags events seed = in_order_storm (next_state (next_state seed)) (storm_epoch (take (storm_moment events seed) events) seed) (storm_moment events seed) events

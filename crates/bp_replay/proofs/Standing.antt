@@ -4,14 +4,14 @@ use Rattle.std.specs.List.{slice_get}
 use Rattle.std.proofs.lemmas.List.{append-nil, length-take}
 use Rattle.pm_epochs.specs.declared.event.Event.{Event}
 use Rattle.pm_epochs.specs.declared.event.Event.TheVariants.{Store, Barrier, Mark}
-use Rattle.pm_epochs.specs.Log.{barriers, epoch_stores}
+use Rattle.pm_epochs.specs.Log.{barriers}
 use Rattle.pm_epochs.specs.Replay.{Cut, IsRight}
 use Rattle.pm_region.specs.Epochs.{epoch_start}
 use Rattle.pm_steps.specs.Machine.{open_epoch, epoch_flags, cut_of}
 use Rattle.pm_steps.proofs.Scan.{open_epoch-none, epoch_flags-none}
 use Rattle.pm_steps.proofs.Cuts.{right_open}
 use Rattle.bp_replay.specs.Generator.{next_state}
-use Rattle.bp_replay.specs.Storm.{goes_back, waiting_behind, storm_flags, from_epoch}
+use Rattle.bp_replay.specs.Storm.{goes_back, waiting_behind, storm_flags}
 use Rattle.bp_replay.proofs.Storms.{length-storm_flags, in_order_storm}
 
 -- ## Event by event
@@ -143,6 +143,9 @@ stands_on (Mark ∷ events) false state waiting cut = stands_on events false sta
 
 -- ## Behind the epochs before the storm's
 
+abbrev from_epoch : ℕ → List Event → List Event
+from_epoch epoch events = drop (epoch_start epoch events) events
+
 open_behind : (state epoch : ℕ) (events : List Event) → epoch ≤ barriers events → open_epoch events (storm_flags state epoch [] events) ≡ epoch + open_epoch (from_epoch epoch events) (storm_flags state 0 [] (from_epoch epoch events))
 open_behind state zero events begun = omega arith
 open_behind state (suc epoch) [] begun = absurd (omega arith)
@@ -203,12 +206,12 @@ stands_open state moment epoch events own taken begun own_is =
 
 -- ## The ends of the loop
 
-pub stands_first : (state start moment : ℕ) (first : Cut) (events : List Event) → moment ≡ first.moment → first.moment ≤ length events → first.epoch ≤ barriers (take first.moment events) → drop start (take first.moment events) ≡ from_epoch first.epoch (take first.moment events) → first.mask ≡ []
+pub stands_first : (state start moment : ℕ) (first : Cut) (events : List Event) → moment ≡ first.moment → first.moment ≤ length events → first.epoch ≤ barriers (take first.moment events) → start ≡ epoch_start first.epoch (take first.moment events) → first.mask ≡ []
     → stands (drop start (take moment events)) false true state [] first ≡ cut_of events (storm_flags state first.epoch [] (take first.moment events))
 stands_first state start moment first events moment_is taken begun start_is mask_is =
     ap (λ m. stands (drop start (take m events)) false true state [] first) moment_is
     ∙ ap (λ m. stands (drop start (take first.moment events)) false true state [] (record { moment = first.moment; epoch = first.epoch; mask = m })) mask_is
-    ∙ stands_open state first.moment first.epoch events (drop start (take first.moment events)) taken begun start_is
+    ∙ stands_open state first.moment first.epoch events (drop start (take first.moment events)) taken begun (ap (λ n. drop n (take first.moment events)) start_is)
 
 pub stands_end : (events : List Event) (i : ℕ) (waits draws : Bool) (state : ℕ) (waiting : List ℕ) (cut : Cut) → length events ≤ i → stands (drop i events) waits draws state waiting cut ≡ cut
 stands_end [] zero waits draws state waiting cut low = refl
@@ -230,43 +233,3 @@ stands_barrier waits draws state waiting cut events moment i low is waits_is =
 
 pub right_drawn : (state epoch moment : ℕ) (events : List Event) → IsRight events (cut_of events (storm_flags state epoch [] (take moment events)))
 right_drawn state epoch moment events = right_open events (storm_flags state epoch [] (take moment events)) (in_order_storm state epoch moment events)
-
--- ## Where an epoch begins
-
-pub start_is_from : (epoch n : ℕ) (events : List Event) → epoch ≤ barriers (take n events) → drop (epoch_start epoch events) (take n events) ≡ from_epoch epoch (take n events)
-start_is_from zero n events begun = refl
-start_is_from (suc epoch) zero events begun = absurd (omega arith)
-start_is_from (suc epoch) (suc n) [] begun = refl
-start_is_from (suc epoch) (suc n) (Store word value ∷ events) begun = start_is_from (suc epoch) n events begun
-start_is_from (suc epoch) (suc n) (Barrier ∷ events) begun = start_is_from epoch n events (omega arith)
-start_is_from (suc epoch) (suc n) (Mark ∷ events) begun = start_is_from (suc epoch) n events begun
-
-pub start_is_low : (epoch : ℕ) (events : List Event) → epoch ≤ barriers events → epoch ≤ epoch_start epoch events
-start_is_low zero events begun = omega arith
-start_is_low (suc epoch) [] begun = absurd (omega arith)
-start_is_low (suc epoch) (Store word value ∷ events) begun = let rest = start_is_low (suc epoch) events begun in omega arith
-start_is_low (suc epoch) (Barrier ∷ events) begun = let rest = start_is_low epoch events (omega arith) in omega arith
-start_is_low (suc epoch) (Mark ∷ events) begun = let rest = start_is_low (suc epoch) events begun in omega arith
-
-pub start_is_taken : (epoch n : ℕ) (events : List Event) → epoch ≤ barriers (take n events) → epoch_start epoch events ≤ n
-start_is_taken zero n events begun = omega arith
-start_is_taken (suc epoch) zero events begun = absurd (omega arith)
-start_is_taken (suc epoch) (suc n) [] begun = omega arith
-start_is_taken (suc epoch) (suc n) (Store word value ∷ events) begun = let rest = start_is_taken (suc epoch) n events begun in omega arith
-start_is_taken (suc epoch) (suc n) (Barrier ∷ events) begun = let rest = start_is_taken epoch n events (omega arith) in omega arith
-start_is_taken (suc epoch) (suc n) (Mark ∷ events) begun = let rest = start_is_taken (suc epoch) n events begun in omega arith
-
-pub barriers_taken : (n : ℕ) (events : List Event) → barriers (take n events) ≤ barriers events
-barriers_taken zero events = omega arith
-barriers_taken (suc n) [] = omega arith
-barriers_taken (suc n) (Store word value ∷ events) = barriers_taken n events
-barriers_taken (suc n) (Barrier ∷ events) = let rest = barriers_taken n events in omega arith
-barriers_taken (suc n) (Mark ∷ events) = barriers_taken n events
-
-pub stores_from_start : (epoch n : ℕ) (events : List Event) → epoch ≤ barriers (take n events) → epoch_stores epoch (take n events) ≡ epoch_stores 0 (drop (epoch_start epoch events) (take n events))
-stores_from_start zero n events begun = refl
-stores_from_start (suc epoch) zero events begun = absurd (omega arith)
-stores_from_start (suc epoch) (suc n) [] begun = refl
-stores_from_start (suc epoch) (suc n) (Store word value ∷ events) begun = stores_from_start (suc epoch) n events begun
-stores_from_start (suc epoch) (suc n) (Barrier ∷ events) begun = stores_from_start epoch n events (omega arith)
-stores_from_start (suc epoch) (suc n) (Mark ∷ events) begun = stores_from_start (suc epoch) n events begun

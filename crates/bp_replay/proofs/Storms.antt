@@ -1,8 +1,9 @@
 -- What a storm writes back may be written back: what must come first did.
-use Rattle.std.proofs.Common.{◌≡◌, ◌≢◌, ℕ, zero, suc, ◌<◌, ◌≤◌, inl, inr, Bool, true, false, not, ◌&&◌, ◌||◌, Some, List, [], ◌∷◌, ◌++◌, length, take, drop, replicate, refl, sym, ◌∙◌, ap, subst, arith, eq-eqb, length-append}
+use Rattle.std.proofs.Common.{◌≡◌, ℕ, zero, suc, ◌<◌, ◌≤◌, inl, inr, Bool, true, false, not, ◌&&◌, ◌||◌, Some, List, [], ◌∷◌, ◌++◌, length, take, drop, replicate, refl, sym, ◌∙◌, ap, subst, arith, eq-eqb, length-append}
 use Rattle.std.specs.List.{slice_get}
 use Rattle.std.proofs.lemmas.List.{length-replicate, take-append-drop, take-append-le}
 use Rattle.std.proofs.lemmas.List.Folds.{list_any-append}
+use Rattle.std.proofs.lemmas.Option.{slice_get_within}
 use Rattle.std.specs.Prelude.{◌==◌, ◌%◌}
 use Rattle.pm_epochs.specs.declared.event.Event.{Event}
 use Rattle.pm_epochs.specs.declared.event.Event.TheVariants.{Store, Barrier, Mark}
@@ -11,7 +12,7 @@ use Rattle.pm_epochs.specs.Replay.{epoch_of}
 use Rattle.pm_steps.specs.WordSet.{is_noted}
 use Rattle.pm_steps.specs.Machine.{is_some_store, ComesFirst, IsInOrder}
 use Rattle.pm_steps.proofs.Order.{store_is}
-use Rattle.pm_steps.proofs.Reaching.{ComesFirst-tail}
+use Rattle.pm_steps.proofs.FirstLaws.{none, nothing_there, same_word, not_a_store, comes_first_at, ComesFirst-tail}
 use Rattle.bp_replay.specs.Generator.{next_state, drawn}
 use Rattle.bp_replay.specs.Storm.{goes_back, waiting_behind, storm_flags}
 
@@ -24,12 +25,6 @@ length-storm_flags state zero waiting (Barrier ∷ events) = ap suc (length-repl
 length-storm_flags state (suc epoch) waiting (Store word value ∷ events) = ap suc (length-storm_flags state (suc epoch) waiting events)
 length-storm_flags state (suc epoch) waiting (Barrier ∷ events) = ap suc (length-storm_flags state epoch waiting events)
 length-storm_flags state epoch waiting (Mark ∷ events) = ap suc (length-storm_flags state epoch waiting events)
-
-pub none : {A : Type 0} → Some false ≡ Some true → A
-none is = absurd (let no : Some false ≢ Some true = λ e. cc in no is)
-
-pub nothing_there : {A : Type 0} (i : ℕ) → slice_get {X = Bool} [] i ≡ Some true → A
-nothing_there i is = absurd (let no : (slice_get {X = Bool} [] i ≡ Some true) → ⊥ = λ e. cc in no is)
 
 pub none_later : {A : Type 0} (count i : ℕ) → slice_get (replicate count false) i ≡ Some true → A
 none_later zero i is = nothing_there i is
@@ -58,9 +53,6 @@ early state waiting (Barrier ∷ events) zero is = refl
 early state waiting (Barrier ∷ events) (suc i) is = none_later (length events) i is
 early state waiting (Mark ∷ events) zero is = refl
 early state waiting (Mark ∷ events) (suc i) is = early state waiting events i is
-
-pub same_word : (place value word other : ℕ) → Some (Store place value) ≡ Some (Store word other) → place ≡ word
-same_word place value word other is = cc
 
 and_not : (a b : Bool) → (a && not b) ≡ true → b ≡ false
 and_not true true is = cc
@@ -113,9 +105,6 @@ before_back false state waiting word value events later is comes =
           cc
     ]
 
-not_a_store : {A : Type 0} (event : Event) (word value : ℕ) → ((word value : ℕ) → event ≢ Store word value) → Some event ≡ Some (Store word value) → A
-not_a_store event word value other is = absurd (other word value (let e : event ≡ Store word value = cc in e))
-
 pub storm_first : (state epoch : ℕ) (waiting : List ℕ) (events : List Event) (earlier later : ℕ) → slice_get (storm_flags state epoch waiting events) later ≡ Some true → ComesFirst events earlier later → slice_get (storm_flags state epoch waiting events) earlier ≡ Some true
 storm_first state epoch waiting events earlier zero is comes = absurd (omega (arith, comes.before))
 storm_first state epoch waiting [] earlier (suc later) is comes = nothing_there (suc later) is
@@ -145,11 +134,6 @@ get_front [] rest i low = absurd (omega arith)
 get_front (event ∷ front) rest zero low = refl
 get_front (event ∷ front) rest (suc i) low = get_front front rest i (omega arith)
 
-index_low : (events : List Event) (i : ℕ) (event : Event) → slice_get events i ≡ Some event → i < length events
-index_low [] i event is = cc
-index_low (first ∷ events) zero event is = omega arith
-index_low (first ∷ events) (suc i) event is = omega (arith, index_low events i event is)
-
 epoch_of_front : (front rest : List Event) (i : ℕ) → i ≤ length front → epoch_of (front ++ rest) i ≡ epoch_of front i
 epoch_of_front front rest i low = ap barriers (take-append-le i front rest low)
 
@@ -158,24 +142,14 @@ in_order_front front rest back order = record {
   few = omega (arith, order.few, length-append front rest);
   stores = λ i is.
       let store = store_is (slice_get front i) (order.stores i is) in
-      rw (get_front front rest i (index_low front i (Store store.0 store.1) store.2)) (order.stores i is);
+      rw (get_front front rest i (slice_get_within front i (Store store.0 store.1) store.2)) (order.stores i is);
   first = λ earlier later is comes.
       let store = store_is (slice_get front later) (order.stores later is) in
-      let low : later < length front = index_low front later (Store store.0 store.1) store.2 in
+      let low : later < length front = slice_get_within front later (Store store.0 store.1) store.2 in
       let lower : earlier < length front = omega (arith, low, comes.before) in
-      order.first earlier later is (record {
-        before = comes.before;
-        first_word = comes.first_word;
-        first_value = comes.first_value;
-        word = comes.word;
-        value = comes.value;
-        first_is = sym (get_front front rest earlier lower) ∙ comes.first_is;
-        second_is = sym (get_front front rest later low) ∙ comes.second_is;
-        must = elim comes.must [
-          | inl less ↦ inl (omega (arith, less, epoch_of_front front rest earlier (omega (arith, lower)), epoch_of_front front rest later (omega (arith, low))))
-          | inr same ↦ inr same
-        ];
-      });
+      order.first earlier later is (comes_first_at (front ++ rest) front earlier later earlier later comes comes.before
+      (sym (get_front front rest earlier lower)) (sym (get_front front rest later low))
+      (λ less. omega (arith, less, epoch_of_front front rest earlier (omega (arith, lower)), epoch_of_front front rest later (omega (arith, low)))));
 }
 
 pub in_order_storm : (state epoch moment : ℕ) (events : List Event) → IsInOrder events (storm_flags state epoch [] (take moment events))

@@ -48,14 +48,6 @@ flags_of_storm events seed = flags_from (take (storm_moment events seed) events)
 abbrev pub storm_cut : List Event → ℕ → Cut
 storm_cut events seed = cut_of events (flags_of_storm events seed)
 
--- the events of an epoch, and those of later ones
-abbrev pub from_epoch : ℕ → List Event → List Event
-from_epoch zero events = events
-from_epoch (suc epoch) [] = []
-from_epoch (suc epoch) (Store word value ∷ events) = from_epoch (suc epoch) events
-from_epoch (suc epoch) (Barrier ∷ events) = from_epoch epoch events
-from_epoch (suc epoch) (Mark ∷ events) = from_epoch (suc epoch) events
-
 -- ## The rule by which stores are written back
 
 -- the number that is drawn behind so many others

@@ -27,9 +27,13 @@ mask_places (At moment epoch mask) = 8 * length mask.now
 abbrev pub bit : ℕ → ℕ → Bool
 bit byte place = byte / place % 2 == 1
 
--- the bits of bytes, the lowest of the first byte first
+-- the bits of a byte, the lowest first
+abbrev pub bits_of : ℕ → List Bool
+bits_of byte = bit byte 1 ∷ bit byte 2 ∷ bit byte 4 ∷ bit byte 8 ∷ bit byte 16 ∷ bit byte 32 ∷ bit byte 64 ∷ bit byte 128 ∷ []
+
+-- the bits of bytes, those of the first byte first
 abbrev pub bits : List ℕ → List Bool
-bits bytes = flat_map (λ byte. bit byte 1 ∷ bit byte 2 ∷ bit byte 4 ∷ bit byte 8 ∷ bit byte 16 ∷ bit byte 32 ∷ bit byte 64 ∷ bit byte 128 ∷ []) bytes
+bits bytes = flat_map bits_of bytes
 
 -- without the places behind the last true one
 abbrev pub behind_true : Bool → List Bool → List Bool

@@ -1,10 +1,11 @@
-ghost use Rattle.std.specs.Prelude.{◌≡◌, ◌<◌, ◌≤◌, [], length, take, drop};
+ghost use Rattle.std.specs.Prelude.{◌≡◌, ◌<◌, ◌≤◌, [], length, take};
 ghost use Rattle.pm_region.specs.Memory.{Memory};
+ghost use Rattle.pm_region.specs.Epochs.{epoch_start};
 ghost use Rattle.pm_epochs.specs.Log.{barriers};
 ghost use Rattle.pm_epochs.specs.Replay.{IsRight};
 ghost use Rattle.pm_steps.specs.Machine.{cut_of};
 ghost use Rattle.bp_replay.specs.Generator.{next_state, drawn};
-ghost use Rattle.bp_replay.specs.Storm.{goes_back, waiting_behind, storm_flags, storm_cut, from_epoch};
+ghost use Rattle.bp_replay.specs.Storm.{goes_back, waiting_behind, storm_flags, storm_cut};
 
 use super::generator::Generator;
 use pm_epochs::{Choice, Event};
@@ -45,8 +46,8 @@ fn choose_drawn<R: Region>(
     requires begun { choice.old.cut.epoch ≤ barriers (take choice.old.cut.moment (R.memory region.now).events) }
     requires low { choice.old.cut.epoch ≤ start }
     requires high { start ≤ choice.old.cut.moment }
-    requires start { let taken = take choice.old.cut.moment (R.memory region.now).events in
-        drop start taken ≡ from_epoch choice.old.cut.epoch taken }
+    requires start { start ≡
+        epoch_start choice.old.cut.epoch (take choice.old.cut.moment (R.memory region.now).events) }
     requires mask { choice.old.cut.mask ≡ [] }
     requires waiting { backs.old.waiting ≡ [] }
     requires backs { choice.old.cut.moment ≤ backs.old.room }

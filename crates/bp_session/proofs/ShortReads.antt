@@ -6,7 +6,7 @@ use Rattle.std.proofs.lemmas.Bool.{leb-true}
 use Rattle.bp_limits.specs.Limits.{max_read}
 use Rattle.bp_plain.specs.Calls.{Call}
 use Rattle.bp_plain.specs.Calls.Call.{create, mkdir, unlink, rmdir, list, stat, read, write, truncate, rename}
-use Rattle.bp_volume.specs.Seen.{IsShortCall}
+use Rattle.bp_plain.specs.Seen.{IsShortCall}
 use Rattle.bp_replay.specs.Wanted.Wanted.{all, nothing}
 use Rattle.bp_script.specs.Commands.{Command, in_grammar, words_of, command_by_words, word_command, whole_crash, masked_crash, storm_command, path_command, pair_command, long_command, bare_command, read_command, write_command, truncate_command, number_of, bytes_of, decoded, is_empty_word}
 use Rattle.bp_script.specs.Commands.Command.{file_call, sync, space, crash, storm, log, bad_syntax, too_long}

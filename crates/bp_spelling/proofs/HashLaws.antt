@@ -24,29 +24,29 @@ module _ (image : Image) (place : ℕ) where
   unfolding hash_state
   hash_first = refl
 
-  pub hash_next : (part : ℕ) → mixed (hash_state image place part) (word image (place + 2 + part) % 256 ^ min 8 (word image (place + 1) - 8 * part)) ≡ hash_state image place (part + 1)
+  pub hash_next : (index : ℕ) → mixed (hash_state image place index) (word image (place + 2 + index) % 256 ^ min 8 (word image (place + 1) - 8 * index)) ≡ hash_state image place (index + 1)
   unfolding hash_state
-  hash_next part =
-      let at : place + 2 + part ≡ place + 1 + suc part = omega arith in
-      let next : suc part ≡ part + 1 = omega arith in
-      ap (λ p. mixed (hash_state image place part) (word image p % 256 ^ min 8 (word image (place + 1) - 8 * part))) at ∙ ap (hash_state image place) next
+  hash_next index =
+      let at : place + 2 + index ≡ place + 1 + suc index = omega arith in
+      let next : suc index ≡ index + 1 = omega arith in
+      ap (λ p. mixed (hash_state image place index) (word image p % 256 ^ min 8 (word image (place + 1) - 8 * index))) at ∙ ap (hash_state image place) next
 
-  pub hash_all : (part : ℕ) → word image (place + 1) ≤ 240 → part ≡ div_ceil (word image (place + 1)) 8 → hash_state image place part / 2 ^ 32 ≡ name_hash image place
+  pub hash_all : (index : ℕ) → word image (place + 1) ≤ 240 → index ≡ div_ceil (word image (place + 1)) 8 → hash_state image place index / 2 ^ 32 ≡ name_hash image place
   unfolding name_hash
-  hash_all part short all =
-      let few : part ≡ min 30 (div_ceil (word image (place + 1)) 8) = omega (arith, short, all) in
+  hash_all index short all =
+      let few : index ≡ min 30 (div_ceil (word image (place + 1)) 8) = omega (arith, short, all) in
       ap (λ n. hash_state image place n / 2 ^ 32) few
 
   -- a word with eight bytes of the name, and one with the last few
-  pub hash_whole : (part value : ℕ) → value ≡ word image (place + 2 + part) → value < 18446744073709551616 → part < word image (place + 1) / 8 →
-      mixed (hash_state image place part) value ≡ hash_state image place (part + 1)
-  hash_whole part value stands fits low =
-      let all : min 8 (word image (place + 1) - 8 * part) ≡ 8 = omega (arith, low) in
-      let uncut : value ≡ word image (place + 2 + part) % 256 ^ 8 = omega (arith, stands, fits) in
-      ap (mixed (hash_state image place part)) (uncut ∙ sym (ap (λ n. word image (place + 2 + part) % 256 ^ n) all)) ∙ hash_next part
+  pub hash_whole : (index value : ℕ) → value ≡ word image (place + 2 + index) → value < 18446744073709551616 → index < word image (place + 1) / 8 →
+      mixed (hash_state image place index) value ≡ hash_state image place (index + 1)
+  hash_whole index value stands fits low =
+      let all : min 8 (word image (place + 1) - 8 * index) ≡ 8 = omega (arith, low) in
+      let uncut : value ≡ word image (place + 2 + index) % 256 ^ 8 = omega (arith, stands, fits) in
+      ap (mixed (hash_state image place index)) (uncut ∙ sym (ap (λ n. word image (place + 2 + index) % 256 ^ n) all)) ∙ hash_next index
 
-  pub hash_rest : (part value : ℕ) → value ≡ word image (place + 2 + part) % 256 ^ min 8 (word image (place + 1) % 8) → part ≡ word image (place + 1) / 8 →
-      mixed (hash_state image place part) value ≡ hash_state image place (part + 1)
-  hash_rest part value cut last =
-      let few : word image (place + 1) % 8 ≡ word image (place + 1) - 8 * part = omega (arith, last) in
-      ap (mixed (hash_state image place part)) (cut ∙ ap (λ n. word image (place + 2 + part) % 256 ^ min 8 n) few) ∙ hash_next part
+  pub hash_rest : (index value : ℕ) → value ≡ word image (place + 2 + index) % 256 ^ min 8 (word image (place + 1) % 8) → index ≡ word image (place + 1) / 8 →
+      mixed (hash_state image place index) value ≡ hash_state image place (index + 1)
+  hash_rest index value cut last =
+      let few : word image (place + 1) % 8 ≡ word image (place + 1) - 8 * index = omega (arith, last) in
+      ap (mixed (hash_state image place index)) (cut ∙ ap (λ n. word image (place + 2 + index) % 256 ^ min 8 n) few) ∙ hash_next index

@@ -10,4 +10,4 @@ pub mod PastEnd
 pub mod SlotSteps
 pub mod UsedPlaces
 pub mod TableLaws
-pub mod WordRuns
+pub mod FirstWords

@@ -1,5 +1,5 @@
 -- The bytes of words and of leaves, in the order of their places.
-use Rattle.std.proofs.Common.{◌≡◌, ◌≢◌, ℕ, ◌+◌, ◌*◌, ◌/◌, ◌%◌, ◌<◌, ◌≤◌, replicate, refl, sym, ◌∙◌, ap, ap₂, arith}
+use Rattle.std.proofs.Common.{◌≡◌, ◌≢◌, ℕ, ◌+◌, ◌*◌, ◌/◌, ◌%◌, ◌<◌, ◌≤◌, replicate, slice_range, refl, sym, ◌∙◌, ap, ap₂, arith}
 use Rattle.std.specs.Int.{w64, to_le_bytes}
 use Rattle.std.specs.List.{between}
 use Rattle.std.proofs.lemmas.List.{get_or-replicate, length-replicate}
@@ -9,6 +9,7 @@ use Rattle.bp_layout.specs.Tree.{node, byte, content_word}
 use Rattle.bp_layout.proofs.TreeLaws.{word_at-suc, slot_word-at}
 use Rattle.bp_layout.proofs.WordBytes.{to_le-byte}
 use Rattle.bp_tree.specs.Bytes.{stored_byte, stored_bytes, content_part}
+use Rattle.bp_tree.proofs.LoadedWords.{loaded_word}
 use Rattle.bp_tree.proofs.Ranges.{from_elements, same_values}
 
 -- some of the bytes of a word
@@ -65,16 +66,15 @@ leaf_part image root offset n leaf present is within =
     ∙ ap (λ w. byte_of w ((offset + i) % 8)) (sym (slot_word-at image leaf ((offset + i) / 8 % 512) present))
     ∙ sym (in_leaf image root (offset + i) leaf (is ∙ ap (node image root (height_of root)) (sym same))))
 
--- the bytes of words that stand in a row
-pub run_part : (image words : Image) (first count n : ℕ) → words ≡ between first (first + count) image → n ≤ 8 * count →
+-- the bytes of words that are loaded in one go
+pub run_part : (image words : Image) (first count n : ℕ) → words ≡ slice_range image first (first + count) → n ≤ 8 * count →
     stored_bytes words 0 n ≡ stored_bytes image (8 * first) n
-run_part image words first count n is within =
+run_part image words first count n run within =
     same_values (stored_byte words) (stored_byte image) 0 (8 * first) n
     (λ i low.
     let here : (8 * first + i) / 8 ≡ first + (0 + i) / 8 = omega arith in
     let column : (8 * first + i) % 8 ≡ (0 + i) % 8 = omega arith in
-    ap (λ ws. byte_of (word ws ((0 + i) / 8)) ((0 + i) % 8)) is
-    ∙ ap (λ w. byte_of w ((0 + i) % 8)) (get_or-between image first (first + count) ((0 + i) / 8) 0 (omega (arith, low, within)))
+    ap (λ w. byte_of w ((0 + i) % 8)) (loaded_word image words first count run ((0 + i) / 8) (omega (arith, low, within)))
     ∙ ap₂ (λ p k. byte_of (word image p) k) (sym here) (sym column))
 
 -- a content word, by the leaf that it stands in

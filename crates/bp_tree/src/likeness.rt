@@ -36,7 +36,8 @@ pub fn quiet_for_trees()
     ensures links { (base : List ℕ) (links : List (ℕ × ℕ)) → AnyOf Same base base links
         → IsQuiet Same base (links_of links ++ Barrier ∷ []) }
     ensures commits { (base : List ℕ) (prepared : List Event) (word value : ℕ) → IsQuiet Same base prepared
-        → Same (words_after base (prepared ++ commit word value)) base → IsQuiet Same base (prepared ++ commit word value) }
+        → Same (words_after base (prepared ++ commit word value)) base
+        → IsQuiet Same base (prepared ++ commit word value) }
 {
     quiet_pieces::<SameTree>();
     quiet_where_nobody_looks::<SameTree>();

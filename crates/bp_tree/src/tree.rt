@@ -1,3 +1,5 @@
+//! A tree, and the block and the content word that have a number in it.
+
 ghost use Rattle.std.specs.Prelude.{◌≡◌, ◌≢◌, ◌+◌, ◌-◌, ◌*◌, ◌/◌, ◌%◌, ◌<◌, ◌≤◌, suc, length};
 ghost use Rattle.bp_layout.specs.Words.{block_count, block_of, height_of, slot_word};
 ghost use Rattle.bp_layout.specs.Tree.{node, content_word, covered, IsSound};

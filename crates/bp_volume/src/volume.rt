@@ -13,13 +13,13 @@ ghost use Rattle.pm_region.specs.Safe.{IsSafe};
 ghost use Rattle.bp_limits.specs.Limits.{max_read};
 ghost use Rattle.bp_plain.specs.Calls.Call.{create, list, mkdir, read, rename, rmdir, stat, truncate, unlink, write};
 ghost use Rattle.bp_plain.specs.PlainTree.{empty_tree};
-ghost use Rattle.bp_plain.specs.Seen.{call_of};
+ghost use Rattle.bp_plain.specs.Seen.{IsShortCall, call_of};
 ghost use Rattle.bp_plain.specs.Stands.{Stands};
 ghost use Rattle.bp_scan.specs.Faults.{IsFault};
 ghost use Rattle.bp_scan.specs.Totals.{HasLive, HasTotals};
 ghost use Rattle.bp_volume.specs.FileCall.{FileCall};
 ghost use Rattle.bp_volume.specs.Laid.{formatted_memory};
-ghost use Rattle.bp_volume.specs.Seen.{IsShortCall, list_answer_of, read_answer, stat_answer_of, unit_answer};
+ghost use Rattle.bp_volume.specs.Seen.{list_answer_of, read_answer, stat_answer_of, unit_answer};
 
 use crate::asking::{list_at, read_at, stat_at};
 use crate::creating::create_at;

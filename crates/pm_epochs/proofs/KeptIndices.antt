@@ -1,13 +1,13 @@
 -- The stores that a cut keeps are those at the indices that it keeps.
-use Rattle.std.proofs.Common.{◌≡◌, ℕ, zero, suc, ◌+◌, ◌<◌, ◌≤◌, Bool, true, false, List, [], ◌∷◌, length, take, get_or, refl, sym, ◌∙◌, ap, arith}
-use Rattle.std.specs.Prelude.{cond, ◌&&◌, ◌||◌, nat_eq, nat_lt, Option, Some, filter, filter_map, slice_get, slice_index_or}
+use Rattle.std.proofs.Common.{◌≡◌, ℕ, zero, suc, ◌+◌, ◌<◌, Bool, true, false, List, [], ◌∷◌, length, take, refl, sym, ◌∙◌, ap, arith}
+use Rattle.std.specs.Prelude.{cond, ◌&&◌, nat_lt, Option, Some, filter, filter_map, slice_get}
 use Rattle.std.specs.List.{range_with_len}
 use Rattle.std.proofs.lemmas.List.{length-take, get_or-take, take-take}
-use Rattle.std.proofs.Math.Dec.{leb-suc-zero, leb-suc-suc, leb-zero, eqb-zero-suc, eqb-suc-zero, eqb-suc-suc}
+use Rattle.std.proofs.Math.Dec.{leb-suc-zero, leb-suc-suc, leb-zero, eqb-suc-zero, eqb-suc-suc}
 use Rattle.pm_epochs.specs.declared.event.Event.{Event}
 use Rattle.pm_epochs.specs.declared.event.Event.TheVariants.{Store, Barrier, Mark}
-use Rattle.pm_epochs.specs.Log.{barriers, epoch_stores}
-use Rattle.pm_epochs.specs.Replay.{Cut, stores_of, kept_stores, is_store, is_store_at, epoch_of, place_of, is_back, is_kept, kept_indices, events_at}
+use Rattle.pm_epochs.specs.Log.{epoch_stores}
+use Rattle.pm_epochs.specs.Replay.{Cut, stores_of, kept_stores, is_store_at, epoch_of, place_of, is_back, is_kept, kept_indices, events_at}
 
 -- the events at the indices that a test picks, counted from the list's front
 picked : (ℕ → Bool) → List Event → List Event

@@ -18,7 +18,8 @@ pub record IsPartialEquivalence (Same : Likeness) : Type 0 where
 
 -- a crash at any moment leaves what the kept calls had made
 pub record CrashRight (Same : Likeness) (base : List ℕ) (events : List Event) : Type 0 where
-  pub each : (cut : Cut) → IsRight events cut → Same (replay base events cut) (after_calls base events (kept_calls events cut))
+  pub each : (cut : Cut) → IsRight events cut →
+      Same (replay base events cut) (after_calls base events (kept_calls events cut))
 
 -- a crash at any moment leaves what was there before
 pub record IsQuiet (Same : Likeness) (base : List ℕ) (events : List Event) : Type 0 where

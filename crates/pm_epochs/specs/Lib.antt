@@ -1,5 +1,4 @@
 pub mod Log
 pub mod Replay
-pub mod Keeping
 pub mod Crash
 pub mod May

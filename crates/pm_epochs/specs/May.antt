@@ -28,4 +28,5 @@ links_of (link ∷ links) = Store link.0 link.1 ∷ links_of links
 -- whichever of the links are done over these words, the base is like what they make
 abbrev pub AnyOf : Likeness → List ℕ → List ℕ → List (ℕ × ℕ) → Type 0
 AnyOf Same base words [] = Same base words
-AnyOf Same base words (link ∷ links) = AnyOf Same base words links × AnyOf Same base (slice_set words link.0 link.1) links
+AnyOf Same base words (link ∷ links) =
+    AnyOf Same base words links × AnyOf Same base (slice_set words link.0 link.1) links

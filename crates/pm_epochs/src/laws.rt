@@ -58,7 +58,8 @@ pub fn quiet_whichever_is_kept<L: Likeness>()
 /// A quiet preparation with one store alone in its epoch is quiet where that leaves words like those before.
 pub fn quiet_commit<L: Likeness>()
     ensures { (base : List ℕ) (prepared : List Event) (word value : ℕ) → IsQuiet L.same base prepared →
-        L.same (words_after base (prepared ++ commit word value)) base → IsQuiet L.same base (prepared ++ commit word value) }
+        let events = prepared ++ commit word value in
+        L.same (words_after base events) base → IsQuiet L.same base events }
 {}
 
 /// A log that is right and closed may go on with one that is right over the words that the first leaves.

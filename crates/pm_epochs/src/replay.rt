@@ -1,7 +1,7 @@
-ghost use Rattle.std.specs.Prelude.{◌≡◌, ℕ, ◌<◌, ◌≤◌, ◌↔◌, [], ◌∷◌, ◌++◌, IsOk, IfOk, MatchOption, List, slice_index, length};
+ghost use Rattle.std.specs.Prelude.{◌≡◌, ℕ, ◌+◌, ◌-◌, ◌<◌, ◌≤◌, ◌↔◌, not, ◌&&◌, if◌then◌else◌, [], ◌∷◌, ◌++◌, IsOk, IfOk};
+ghost use Rattle.std.specs.Prelude.{MatchOption, List, slice_index, length};
 ghost use Rattle.pm_epochs.specs.Log.{word_after, barriers, marks, epoch_stores};
-ghost use Rattle.pm_epochs.specs.Replay.{IsRight, stores_of, replay, marks_of, kept_calls as kept_calls_of};
-ghost use Rattle.pm_epochs.specs.Keeping.{keeps, epoch_behind, mask_behind};
+ghost use Rattle.pm_epochs.specs.Replay.{IsRight, is_store, stores_of, replay, marks_of, kept_calls as kept_calls_of};
 
 use super::choice::{BadChoice, Choice};
 use super::event::Event;
@@ -25,11 +25,15 @@ pub struct Keeper<'a> {
 }
 
 impl Keeper<'_> {
-    /// Takes the next event, and says whether it is a store that is kept.
+    /// Takes the next event, and says whether it is a store that is kept. What is kept of a log that goes on with the event
+    /// is the event, where it is kept, and then what is kept of the rest. Its calls are counted up to a store that is lost.
     pub fn keeps(&mut self, event: Event) -> bool
-        ensures kept { result ≡ keeps self.old.epoch self.old.mask.now event }
-        ensures epoch { self.new.epoch ≡ epoch_behind self.old.epoch event }
-        ensures mask { self.new.mask.now ≡ mask_behind self.old.epoch self.old.mask.now event }
+        ensures stores { (rest : List Event) → stores_of self.old.epoch self.old.mask.now (event ∷ rest) ≡
+            (if result then event ∷ [] else []) ++ stores_of self.new.epoch self.new.mask.now rest }
+        ensures marks { (rest : List Event) → marks_of self.old.epoch self.old.mask.now (event ∷ rest) ≡
+            (if is_store event && not result then 0
+            else marks (event ∷ []) + marks_of self.new.epoch self.new.mask.now rest) }
+        ensures epoch { self.new.epoch ≡ self.old.epoch - barriers (event ∷ []) }
     {
         match event {
             Event::Store { .. } => {
@@ -90,15 +94,12 @@ fn word_of(base: u64, events: &[Event], epoch: usize, mask: &[bool], word: u32) 
     let mut keeper = Keeper { epoch, mask };
     let mut now = base;
     for event in events {
-        let kept = keeper.keeps(*event);
-        match *event {
-            Event::Store { word: place, value } => {
-                if kept && place == word {
+        if keeper.keeps(*event) {
+            if let Event::Store { word: place, value } = *event {
+                if place == word {
                     now = value;
                 }
             }
-            Event::Barrier => {}
-            Event::Mark => {}
         }
     }
     now

@@ -31,7 +31,8 @@ events_between old new = drop (length old.events) new.events
 
 -- with all written back; the count of drains stays at its last value
 abbrev pub drained : Memory → Memory
-drained memory = record memory { base = current_words memory; events = []; drains = min (memory.drains + 1) (2 ^ 64 - 1) }
+drained memory =
+    record memory { base = current_words memory; events = []; drains = min (memory.drains + 1) (2 ^ 64 - 1) }
 
 -- with what a crash leaves, of which nothing is known but the words; the log is empty
 abbrev pub crashed : Memory → Cut → Memory

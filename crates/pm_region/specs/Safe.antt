@@ -30,7 +30,7 @@ pub record AddsQuiet (Same : Likeness) (most_barriers most_stores : ℕ) (old ne
 
 -- A call up to its mark: a quiet preparation, and then one store alone in its epoch, of this value at this word. The
 -- counts are those of both.
-pub record AddsCommit (Same : Likeness) (word value : ℕ) (most_barriers most_stores : ℕ) (old new : Memory) : Type 0 where
+pub record AddsCommit (Same : Likeness) (word value most_barriers most_stores : ℕ) (old new : Memory) : Type 0 where
   pub prepared : List Event
   pub adds : Adds old new (prepared ++ commit word value)
   pub quiet : IsQuiet Same (current_words old) prepared

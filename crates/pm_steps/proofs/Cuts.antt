@@ -1,5 +1,5 @@
 -- The cut at which a machine stands keeps the stores that are back.
-use Rattle.std.proofs.Common.{◌≡◌, ℕ, zero, suc, ◌<◌, ◌≤◌, inl, inr, Bool, true, false, Some, List, [], ◌∷◌, length, take, refl, sym, ◌∙◌, ap, arith}
+use Rattle.std.proofs.Common.{◌≡◌, ℕ, zero, suc, ◌≤◌, inl, Bool, true, false, Some, List, [], ◌∷◌, length, take, refl, sym, ◌∙◌, ap, arith}
 use Rattle.std.specs.List.{slice_get, items_where_true}
 use Rattle.pm_epochs.specs.declared.event.Event.{Event}
 use Rattle.pm_epochs.specs.declared.event.Event.TheVariants.{Store, Barrier, Mark}
@@ -7,27 +7,11 @@ use Rattle.pm_epochs.specs.Log.{words_after, barriers, epoch_stores}
 use Rattle.pm_epochs.specs.Replay.{IsRight, stores_of, kept_stores, marks_of, replay, kept_calls, after_calls, epoch_of}
 use Rattle.pm_epochs.proofs.Cuts.{stores_of_none, kept_stores_right}
 use Rattle.pm_epochs.specs.Crash.{Likeness, CrashRight}
-use Rattle.pm_steps.specs.Machine.{State, Step, start, Runs, is_some_store, ComesFirst, IsInOrder, open_epoch, epoch_flags, waiting_marks, cut_of}
+use Rattle.pm_steps.specs.Machine.{State, Step, start, Runs, is_some_store, IsInOrder, open_epoch, epoch_flags, waiting_marks, cut_of}
+use Rattle.pm_steps.proofs.FirstLaws.{ComesFirst-behind}
 use Rattle.pm_steps.proofs.Order.{store_is, IsReached, reached}
 
 -- ## The order of the events behind one
-
-barriers_behind : (event : Event) (events : List Event) (earlier later : ℕ) → epoch_of events earlier < epoch_of events later → epoch_of (event ∷ events) (suc earlier) < epoch_of (event ∷ events) (suc later)
-barriers_behind (Store word value) events earlier later less = less
-barriers_behind Barrier events earlier later less = omega arith
-barriers_behind Mark events earlier later less = less
-
-pub ComesFirst-behind : (event : Event) (events : List Event) (earlier later : ℕ) → ComesFirst events earlier later → ComesFirst (event ∷ events) (suc earlier) (suc later)
-ComesFirst-behind event events earlier later comes = record {
-  before = omega (arith, comes.before);
-  first_word = comes.first_word;
-  first_value = comes.first_value;
-  word = comes.word;
-  value = comes.value;
-  first_is = comes.first_is;
-  second_is = comes.second_is;
-  must = elim comes.must [ inl less ↦ inl (barriers_behind event events earlier later less) | inr same ↦ inr same ];
-}
 
 IsInOrder-tail : (event : Event) (events : List Event) (flag : Bool) (back : List Bool) → IsInOrder (event ∷ events) (flag ∷ back) → IsInOrder events back
 IsInOrder-tail event events flag back order = record {

@@ -1,10 +1,10 @@
 -- A set of words stays linked, and a word is found by the links.
-use Rattle.std.proofs.Common.{◌≡◌, ℕ, zero, suc, ◌+◌, ◌<◌, ◌≤◌, ◌%◌, ◌⊎◌, inl, inr, true, false, List, [], ◌∷◌, ◌++◌, length, set, get_or, refl, sym, ◌∙◌, ap, subst, arith, length-append, ◌≢◌, eq-eqb}
+use Rattle.std.proofs.Common.{◌≡◌, ℕ, suc, ◌+◌, ◌<◌, ◌≤◌, ◌%◌, inl, inr, true, false, List, [], ◌∷◌, ◌++◌, length, set, get_or, refl, sym, ◌∙◌, ap, subst, arith, length-append, ◌≢◌, eq-eqb}
 use Rattle.std.specs.Prelude.{◌==◌}
-use Rattle.std.proofs.lemmas.List.{length-set, get_or-set_same, get_or-set_other}
+use Rattle.std.proofs.lemmas.List.{length-set, get_or-set_same, get_or-set_other, get_or_append_left, get_or_push}
 use Rattle.std.proofs.Math.Nat.{mod-lt}
 use Rattle.std.proofs.lemmas.List.Folds.{list_any_at}
-use Rattle.std.proofs.lemmas.Bool.{cases_eq, ne_eqb}
+use Rattle.std.proofs.lemmas.Bool.{cases_eq, cases_lt, ne_eqb}
 use Rattle.pm_steps.specs.WordSet.{is_noted, remainders, IsLast, IsLinked}
 
 pub linked_none : (heads : List ℕ) → length heads ≡ remainders → IsLinked [] [] heads
@@ -15,27 +15,13 @@ linked_none heads sized = record {
   before_last = λ i low. absurd (omega arith);
 }
 
-get_front : (front : List ℕ) (last k : ℕ) → k < length front → get_or (front ++ last ∷ []) k 0 ≡ get_or front k 0
-get_front [] last k low = absurd (omega arith)
-get_front (first ∷ front) last zero low = refl
-get_front (first ∷ front) last (suc k) low = get_front front last k (omega arith)
-
-get_last : (front : List ℕ) (last : ℕ) → get_or (front ++ last ∷ []) (length front) 0 ≡ last
-get_last [] last = refl
-get_last (first ∷ front) last = get_last front last
-
-below_or_at : (k n : ℕ) → k < n + 1 → (k < n) ⊎ (k ≡ n)
-below_or_at k zero low = inr (omega arith)
-below_or_at zero (suc n) low = inl (omega arith)
-below_or_at (suc k) (suc n) low = elim (below_or_at k n (omega arith)) [ inl less ↦ inl (omega arith) | inr same ↦ inr (omega arith) ]
-
 -- a bound within the old words sees no word behind them
 last_more : (words : List ℕ) (word divisor remainder bound entry : ℕ) → bound ≤ length words → IsLast words divisor remainder bound entry → IsLast (words ++ word ∷ []) divisor remainder bound entry
 last_more words word divisor remainder bound entry few last = λ k below leaves.
-    let found = last k below (ap (λ n. n % divisor) (sym (get_front words word k (omega arith))) ∙ leaves) in (
+    let found = last k below (ap (λ n. n % divisor) (sym (get_or_append_left words (word ∷ []) 0 k (omega arith))) ∙ leaves) in (
       found.0,
       found.1,
-      ap (λ n. n % divisor) (get_front words word entry (omega (arith, found.1))) ∙ found.2,
+      ap (λ n. n % divisor) (get_or_append_left words (word ∷ []) 0 entry (omega (arith, found.1))) ∙ found.2,
     )
 
 pub linked_note : (words before heads : List ℕ) (word : ℕ) → IsLinked words before heads → IsLinked (words ++ word ∷ []) (before ++ get_or heads (word % length heads) 0 ∷ []) (set heads (word % length heads) (length words))
@@ -60,29 +46,31 @@ linked_note words before heads word linked = record {
       | inl same ↦
           subst (λ e. IsLast (words ++ word ∷ []) (length heads) remainder (length (words ++ word ∷ [])) e)
           (sym (ap (λ r. get_or (set heads (word % length heads) (length words)) r 0) (sym same) ∙ get_or-set_same heads (word % length heads) (length words) 0 here_low))
-          (λ k below leaves. (omega (arith, count, below), omega (arith, count), ap (λ w. w % length heads) (get_last words word) ∙ same))
+          (λ k below leaves. (omega (arith, count, below), omega (arith, count), ap (λ w. w % length heads) (get_or_push words word 0 (length words) refl) ∙ same))
       | inr differ ↦
           subst (λ e. IsLast (words ++ word ∷ []) (length heads) remainder (length (words ++ word ∷ [])) e)
           (sym (get_or-set_other heads (word % length heads) remainder (length words) 0 (λ e. differ (sym e))))
-          (λ k below leaves. elim (below_or_at k (length words) (omega (arith, below, count))) [
+          (λ k below leaves. elim (cases_lt k (length words)) [
             | inl less ↦
                 let found = last_more words word (length heads) remainder (length words) (get_or heads remainder 0) (omega arith) (linked.heads_last remainder low) k less leaves in
                 (found.0, omega (arith, found.1, count), found.2)
-            | inr at_end ↦
-                absurd (differ (sym (ap (λ w. w % length heads) (get_last words word)) ∙ ap (λ j. get_or (words ++ word ∷ []) j 0 % length heads) (sym at_end) ∙ leaves))
+            | inr past ↦
+                let at_end : k ≡ length words = omega (arith, past, below, count) in
+                absurd (differ (sym (ap (λ w. w % length heads) (get_or_push words word 0 (length words) refl)) ∙ ap (λ j. get_or (words ++ word ∷ []) j 0 % length heads) (sym at_end) ∙ leaves))
           ])
     ]
 
     before_new : (i : ℕ) → i < length words + 1 → IsLast (words ++ word ∷ []) (length heads) (get_or (words ++ word ∷ []) i 0 % length heads) i (get_or (before ++ get_or heads (word % length heads) 0 ∷ []) i 0)
-    before_new i low = elim (below_or_at i (length words) low) [
+    before_new i low = elim (cases_lt i (length words)) [
       | inl less ↦
-          let word_is = get_front words word i less in
-          let before_is = get_front before (get_or heads (word % length heads) 0) i (omega (arith, less, linked.each)) in
+          let word_is = get_or_append_left words (word ∷ []) 0 i less in
+          let before_is = get_or_append_left before (get_or heads (word % length heads) 0 ∷ []) 0 i (omega (arith, less, linked.each)) in
           rw (word_is, before_is) (last_more words word (length heads) (get_or words i 0 % length heads) i (get_or before i 0) (omega (arith, less)) (linked.before_last i less))
-      | inr at_end ↦
-          let last_is = ap (λ j. get_or (before ++ get_or heads (word % length heads) 0 ∷ []) j 0) (sym linked.each) ∙ get_last before (get_or heads (word % length heads) 0) in
+      | inr past ↦
+          let at_end : i ≡ length words = omega (arith, past, low) in
+          let last_is = ap (λ j. get_or (before ++ get_or heads (word % length heads) 0 ∷ []) j 0) (sym linked.each) ∙ get_or_push before (get_or heads (word % length heads) 0) 0 (length before) refl in
           subst (λ j. IsLast (words ++ word ∷ []) (length heads) (get_or (words ++ word ∷ []) j 0 % length heads) j (get_or (before ++ get_or heads (word % length heads) 0 ∷ []) j 0)) (sym at_end)
-          (rw (get_last words word, last_is) (last_more words word (length heads) (word % length heads) (length words) (get_or heads (word % length heads) 0) (omega arith) (linked.heads_last (word % length heads) here_low)))
+          (rw (get_or_push words word 0 (length words) refl, last_is) (last_more words word (length heads) (word % length heads) (length words) (get_or heads (word % length heads) 0) (omega arith) (linked.heads_last (word % length heads) here_low)))
     ]
 
 -- ## A search
@@ -96,17 +84,12 @@ noted_nowhere (other ∷ words) word none =
     let differ : other ≢ word = none 0 (omega arith) in
     rw (ne_eqb other word differ) (noted_nowhere words word (λ k low is. none (suc k) (omega arith) is))
 
-at_least_or_below : (bound k : ℕ) → (bound ≤ k) ⊎ (k < bound)
-at_least_or_below zero k = inl (omega arith)
-at_least_or_below (suc bound) zero = inr (omega arith)
-at_least_or_below (suc bound) (suc k) = elim (at_least_or_below bound k) [ inl more ↦ inl (omega arith) | inr less ↦ inr (omega arith) ]
-
 -- from one entry to the one before it
 pub none_from : (words : List ℕ) (divisor bound entry word : ℕ) → IsLast words divisor (word % divisor) bound entry → get_or words entry 0 ≢ word
     → ((k : ℕ) → bound ≤ k → k < length words → get_or words k 0 ≡ word → ⊥) → (k : ℕ) → entry ≤ k → k < length words → get_or words k 0 ≡ word → ⊥
-none_from words divisor bound entry word last differ none k low high is = elim (at_least_or_below bound k) [
-  | inl past ↦ none k past high is
-  | inr less ↦
+none_from words divisor bound entry word last differ none k low high is = elim (cases_lt k bound) [
+  | inr past ↦ none k past high is
+  | inl less ↦
       let found = last k less (ap (λ w. w % divisor) is) in
       let same : entry ≡ k = omega (arith, found.0, low) in
       differ (ap (λ j. get_or words j 0) same ∙ is)
@@ -116,7 +99,7 @@ none_from words divisor bound entry word last differ none k low high is = elim (
 pub none_left : (words : List ℕ) (divisor bound entry word : ℕ) → IsLast words divisor (word % divisor) bound entry
     → (entry < bound → get_or words entry 0 % divisor ≡ word % divisor → ⊥)
     → ((k : ℕ) → bound ≤ k → k < length words → get_or words k 0 ≡ word → ⊥) → is_noted words word ≡ false
-none_left words divisor bound entry word last gone none = noted_nowhere words word (λ k high is. elim (at_least_or_below bound k) [
-  | inl past ↦ none k past high is
-  | inr less ↦ let found = last k less (ap (λ w. w % divisor) is) in gone found.1 found.2
+none_left words divisor bound entry word last gone none = noted_nowhere words word (λ k high is. elim (cases_lt k bound) [
+  | inr past ↦ none k past high is
+  | inl less ↦ let found = last k less (ap (λ w. w % divisor) is) in gone found.1 found.2
 ])

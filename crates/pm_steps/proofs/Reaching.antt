@@ -1,6 +1,6 @@
 -- Each right cut is reached: the stores that it keeps are written back in the order of the log, and with each of
 -- them those of its word before it.
-use Rattle.std.proofs.Common.{◌≡◌, ◌≢◌, ℕ, zero, suc, ◌+◌, ◌<◌, ◌≤◌, inl, inr, Bool, true, false, Some, List, [], ◌∷◌, ◌++◌, length, set, replicate, refl, sym, ◌∙◌, ap, subst, arith, eqb, cond, eq-eqb}
+use Rattle.std.proofs.Common.{◌≡◌, ℕ, zero, suc, ◌+◌, ◌<◌, ◌≤◌, inl, inr, Bool, true, false, Some, List, [], ◌∷◌, ◌++◌, length, set, replicate, refl, sym, ◌∙◌, ap, subst, arith, eqb, cond, eq-eqb}
 use Rattle.std.specs.List.{slice_get, items_where_true}
 use Rattle.std.proofs.lemmas.List.{append_assoc, length-replicate, replicate-append-replicate, set_comm, set-set}
 use Rattle.std.proofs.lemmas.Bool.{cases_eq, ne_eqb}
@@ -11,6 +11,7 @@ use Rattle.pm_epochs.specs.Replay.{Cut, IsRight, stores_of, replay, epoch_of}
 use Rattle.pm_epochs.proofs.Cuts.{kept_stores_right}
 use Rattle.pm_steps.specs.Machine.{State, start, Step, is_some_store, ComesFirst, IsInOrder, IsReady, written, state_after, Runs, write_backs, in_log_order, cut_of}
 use Rattle.pm_steps.specs.Machine.Step.{Execute, WriteBack}
+use Rattle.pm_steps.proofs.FirstLaws.{none, nothing_there, same_word, not_a_store, ComesFirst-tail}
 use Rattle.pm_steps.proofs.Order.{store_is, reached}
 use Rattle.pm_steps.proofs.Cuts.{run_replay}
 
@@ -177,7 +178,7 @@ length-wanted (suc epoch) mask (Barrier ∷ events) = ap suc (length-wanted epoc
 length-wanted epoch mask (Mark ∷ events) = ap suc (length-wanted epoch mask events)
 
 wanted_store : (epoch : ℕ) (mask : List Bool) (events : List Event) (i : ℕ) → slice_get (wanted epoch mask events) i ≡ Some true → is_some_store (slice_get events i) ≡ true
-wanted_store epoch mask [] i is = absurd (let no : (slice_get {X = Bool} [] i ≡ Some true) → ⊥ = λ e. cc in no is)
+wanted_store epoch mask [] i is = nothing_there i is
 wanted_store zero [] (Store place value ∷ events) zero is = refl
 wanted_store zero [] (Store place value ∷ events) (suc i) is = wanted_store zero [] events i is
 wanted_store zero (true ∷ mask) (Store place value ∷ events) zero is = refl
@@ -186,11 +187,11 @@ wanted_store zero (false ∷ mask) (Store place value ∷ events) zero is = refl
 wanted_store zero (false ∷ mask) (Store place value ∷ events) (suc i) is = wanted_store zero mask events i is
 wanted_store (suc epoch) mask (Store place value ∷ events) zero is = refl
 wanted_store (suc epoch) mask (Store place value ∷ events) (suc i) is = wanted_store (suc epoch) mask events i is
-wanted_store zero mask (Barrier ∷ events) zero is = absurd (let no : Some false ≢ Some true = λ e. cc in no is)
+wanted_store zero mask (Barrier ∷ events) zero is = none is
 wanted_store zero mask (Barrier ∷ events) (suc i) is = wanted_store zero [] events i is
-wanted_store (suc epoch) mask (Barrier ∷ events) zero is = absurd (let no : Some false ≢ Some true = λ e. cc in no is)
+wanted_store (suc epoch) mask (Barrier ∷ events) zero is = none is
 wanted_store (suc epoch) mask (Barrier ∷ events) (suc i) is = wanted_store epoch mask events i is
-wanted_store epoch mask (Mark ∷ events) zero is = absurd (let no : Some false ≢ Some true = λ e. cc in no is)
+wanted_store epoch mask (Mark ∷ events) zero is = none is
 wanted_store epoch mask (Mark ∷ events) (suc i) is = wanted_store epoch mask events i is
 
 -- nothing is wanted where no epoch and no mask are left
@@ -205,7 +206,7 @@ none_wanted (Mark ∷ events) (suc i) is = none_wanted events i is
 
 -- what is wanted of the first epoch lies before the first barrier
 wanted_early : (mask : List Bool) (events : List Event) (i : ℕ) → slice_get (wanted 0 mask events) i ≡ Some true → epoch_of events i ≡ 0
-wanted_early mask [] i is = absurd (let no : (slice_get {X = Bool} [] i ≡ Some true) → ⊥ = λ e. cc in no is)
+wanted_early mask [] i is = nothing_there i is
 wanted_early mask (Store place value ∷ events) zero is = refl
 wanted_early [] (Store place value ∷ events) (suc i) is = wanted_early [] events i is
 wanted_early (true ∷ mask) (Store place value ∷ events) (suc i) is = wanted_early mask events i is
@@ -215,49 +216,25 @@ wanted_early mask (Barrier ∷ events) (suc i) is = absurd (none_wanted events i
 wanted_early mask (Mark ∷ events) zero is = refl
 wanted_early mask (Mark ∷ events) (suc i) is = wanted_early mask events i is
 
-same_event : (place value word other : ℕ) → Some (Store place value) ≡ Some (Store word other) → place ≡ word
-same_event place value word other is = cc
-
 cond_same : (b : Bool) → cond b true true ≡ true
 cond_same true = refl
 cond_same false = refl
 
 -- a store to the word that is wanted is kept, or one behind it is
 wanted_kept : (word other : ℕ) (mask : List Bool) (events : List Event) (i : ℕ) → slice_get (wanted 0 mask events) i ≡ Some true → slice_get events i ≡ Some (Store word other) → is_kept_later word mask events ≡ true
-wanted_kept word other mask [] i is store = absurd (let no : (slice_get {X = Bool} [] i ≡ Some true) → ⊥ = λ e. cc in no is)
-wanted_kept word other [] (Store place value ∷ events) zero is store = absurd (let no : Some false ≢ Some true = λ e. cc in no is)
+wanted_kept word other mask [] i is store = nothing_there i is
+wanted_kept word other [] (Store place value ∷ events) zero is store = none is
 wanted_kept word other [] (Store place value ∷ events) (suc i) is store = absurd (none_wanted events i is)
-wanted_kept word other (true ∷ mask) (Store place value ∷ events) zero is store = rw (eq-eqb place word (same_event place value word other store))
+wanted_kept word other (true ∷ mask) (Store place value ∷ events) zero is store = rw (eq-eqb place word (same_word place value word other store))
 wanted_kept word other (true ∷ mask) (Store place value ∷ events) (suc i) is store = rw (wanted_kept word other mask events i is store) (cond_same (eqb place word))
-wanted_kept word other (false ∷ mask) (Store place value ∷ events) zero is store = subst (λ w. is_kept_later w mask events ≡ true) (same_event place value word other store) (let e : is_kept_later place mask events ≡ true = cc in e)
+wanted_kept word other (false ∷ mask) (Store place value ∷ events) zero is store = subst (λ w. is_kept_later w mask events ≡ true) (same_word place value word other store) (let e : is_kept_later place mask events ≡ true = cc in e)
 wanted_kept word other (false ∷ mask) (Store place value ∷ events) (suc i) is store = wanted_kept word other mask events i is store
-wanted_kept word other mask (Barrier ∷ events) zero is store = absurd (let no : Some false ≢ Some true = λ e. cc in no is)
+wanted_kept word other mask (Barrier ∷ events) zero is store = none is
 wanted_kept word other mask (Barrier ∷ events) (suc i) is store = absurd (none_wanted events i is)
-wanted_kept word other mask (Mark ∷ events) zero is store = absurd (let no : Some false ≢ Some true = λ e. cc in no is)
+wanted_kept word other mask (Mark ∷ events) zero is store = none is
 wanted_kept word other mask (Mark ∷ events) (suc i) is store = wanted_kept word other mask events i is store
 
 -- ## They are in order
-
--- what comes first behind an event
-pub ComesFirst-tail : (event : Event) (events : List Event) (earlier later : ℕ) → ComesFirst (event ∷ events) (suc earlier) (suc later) → ComesFirst events earlier later
-ComesFirst-tail event events earlier later comes = record {
-  before = omega (arith, comes.before);
-  first_word = comes.first_word;
-  first_value = comes.first_value;
-  word = comes.word;
-  value = comes.value;
-  first_is = comes.first_is;
-  second_is = comes.second_is;
-  must = elim comes.must [ inl less ↦ inl (less_behind event events earlier later less) | inr same ↦ inr same ];
-}
-  where
-    less_behind : (event : Event) (events : List Event) (earlier later : ℕ) → epoch_of (event ∷ events) (suc earlier) < epoch_of (event ∷ events) (suc later) → epoch_of events earlier < epoch_of events later
-    less_behind (Store word value) events earlier later less = less
-    less_behind Barrier events earlier later less = omega arith
-    less_behind Mark events earlier later less = less
-
-not_a_store : {A : Type 0} (event : Event) (word value : ℕ) → ((word value : ℕ) → event ≢ Store word value) → Some event ≡ Some (Store word value) → A
-not_a_store event word value other is = absurd (other word value (let e : event ≡ Store word value = cc in e))
 
 -- the first store of a log that has to come before one that is wanted
 wanted_first : (place value : ℕ) (keep : Bool) (mask : List Bool) (events : List Event) (later : ℕ) → slice_get (wanted 0 mask events) later ≡ Some true → ComesFirst (Store place value ∷ events) 0 (suc later) → is_kept_later place mask events ≡ true
@@ -266,13 +243,13 @@ wanted_first place value keep mask events later is comes =
       | inl less ↦ absurd (omega (arith, less, wanted_early mask events later is))
       | inr same ↦
           let first_is = comes.first_is in
-          let place_is : place ≡ comes.first_word = same_event place value comes.first_word comes.first_value first_is in
+          let place_is : place ≡ comes.first_word = same_word place value comes.first_word comes.first_value first_is in
           wanted_kept place comes.value mask events later is (subst (λ w. slice_get events later ≡ Some (Store w comes.value)) (sym (place_is ∙ same)) comes.second_is)
     ]
 
 wanted_in_order : (epoch : ℕ) (mask : List Bool) (events : List Event) (earlier later : ℕ) → slice_get (wanted epoch mask events) later ≡ Some true → ComesFirst events earlier later → slice_get (wanted epoch mask events) earlier ≡ Some true
 wanted_in_order epoch mask events earlier zero is comes = absurd (omega (arith, comes.before))
-wanted_in_order epoch mask [] earlier (suc later) is comes = absurd (let no : (slice_get {X = Bool} [] (suc later) ≡ Some true) → ⊥ = λ e. cc in no is)
+wanted_in_order epoch mask [] earlier (suc later) is comes = nothing_there (suc later) is
 wanted_in_order zero [] (Store place value ∷ events) zero (suc later) is comes = absurd (none_wanted events later is)
 wanted_in_order zero [] (Store place value ∷ events) (suc earlier) (suc later) is comes = absurd (none_wanted events later is)
 wanted_in_order zero (true ∷ mask) (Store place value ∷ events) zero (suc later) is comes = refl

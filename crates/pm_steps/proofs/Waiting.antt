@@ -1,7 +1,8 @@
 -- The stores that must come first, from the first one that is not back on.
-use Rattle.std.proofs.Common.{◌≡◌, ℕ, zero, suc, ◌<◌, ◌≤◌, ◌⊎◌, inl, inr, Bool, true, Option, Some, None, List, [], ◌∷◌, refl, sym, ◌∙◌, ap, arith}
+use Rattle.std.proofs.Common.{◌≡◌, ℕ, zero, suc, ◌<◌, ◌≤◌, inl, inr, Bool, true, Option, Some, None, List, [], ◌∷◌, refl, sym, ◌∙◌, ap, arith}
 use Rattle.std.specs.Prelude.{MatchOption}
 use Rattle.std.specs.List.{slice_get}
+use Rattle.std.proofs.lemmas.Bool.{cases_lt}
 use Rattle.pm_epochs.specs.declared.event.Event.{Event}
 use Rattle.pm_epochs.specs.declared.event.Event.TheVariants.{Store, Barrier, Mark}
 use Rattle.pm_epochs.specs.Replay.{epoch_of}
@@ -17,15 +18,10 @@ epoch_of-le (Store word value ∷ events) (suc i) (suc j) low = epoch_of-le even
 epoch_of-le (Barrier ∷ events) (suc i) (suc j) low = let more = epoch_of-le events i j (omega arith) in omega arith
 epoch_of-le (Mark ∷ events) (suc i) (suc j) low = epoch_of-le events i j (omega arith)
 
-below_or_not : (i low : ℕ) → (i < low) ⊎ (low ≤ i)
-below_or_not i zero = inr (omega arith)
-below_or_not zero (suc low) = inl (omega arith)
-below_or_not (suc i) (suc low) = elim (below_or_not i low) [ inl less ↦ inl (omega arith) | inr more ↦ inr (omega arith) ]
-
 module _ (events : List Event) (back : List Bool) (which low word value : ℕ) (is : slice_get events which ≡ Some (Store word value)) (below : IsBackBelow events back low) (same_epoch : epoch_of events low ≡ epoch_of events which) where
   -- with no barrier from there on, only the stores to the same word must
   came : (to : ℕ) → AllToBack events back word low to → (earlier : ℕ) → earlier < to → ComesFirst events earlier which → slice_get back earlier ≡ Some true
-  came to all earlier before comes = elim (below_or_not earlier low) [
+  came to all earlier before comes = elim (cases_lt earlier low) [
     | inl less ↦ below.each earlier less (ap is_some_store comes.first_is)
     | inr past ↦ elim comes.must [
       | inl sooner ↦ absurd (omega (arith, epoch_of-le events low earlier past, same_epoch, sooner))

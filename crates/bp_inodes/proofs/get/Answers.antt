@@ -2,7 +2,7 @@ use Rattle.std.proofs.Common.{◌≡◌, ◌∙◌, slice_index, refl, sym, arit
 use Rattle.bp_layout.specs.Inode.{inode_word}
 use Rattle.pm_region.specs.Memory.{current_words}
 use Rattle.bp_tree.proofs.RegionWords.{length_now}
-use Rattle.bp_inodes.proofs.InodeWords.{long_enough, loaded, kind_word-of, root_word-of, size_word-of}
+use Rattle.bp_inodes.proofs.InodeWords.{long_enough, loaded_field, kind_word-of, root_word-of, size_word-of}
 use Rattle.bp_inodes.proofs.get.Goals as goal
 
 pub inode_file-inodes-requires : goal.inode_file-inodes-requires
@@ -24,7 +24,7 @@ pub read-requires-clause-least : goal.read-requires-clause-least
 read-requires-clause-least g c =
     let image = current_words (g.R.Region.memory c.args.region.now) in
     let word : slice_index c.load_words-words.result.now 0 ≡ inode_word image c.args.i 0 =
-    loaded image c.args.i 0 c.inode_file-inodes.result.root c.leaf_block-block.result _ c.load_words-words.result.now (omega arith)
+    loaded_field image c.args.i 0 c.inode_file-inodes.result.root c.leaf_block-block.result _ c.load_words-words.result.now (omega arith)
     c.requires.some c.requires.least c.inode_file-inodes.ensures.root c.leaf_block-block.ensures.node refl c.load_words-words.ensures in
     omega (arith, word, kind_word-of image c.args.i c.requires.some, c.requires.least)
 
@@ -32,7 +32,7 @@ pub read-requires-clause-most : goal.read-requires-clause-most
 read-requires-clause-most g c =
     let image = current_words (g.R.Region.memory c.args.region.now) in
     let word : slice_index c.load_words-words.result.now 0 ≡ inode_word image c.args.i 0 =
-    loaded image c.args.i 0 c.inode_file-inodes.result.root c.leaf_block-block.result _ c.load_words-words.result.now (omega arith)
+    loaded_field image c.args.i 0 c.inode_file-inodes.result.root c.leaf_block-block.result _ c.load_words-words.result.now (omega arith)
     c.requires.some c.requires.least c.inode_file-inodes.ensures.root c.leaf_block-block.ensures.node refl c.load_words-words.ensures in
     omega (arith, word, kind_word-of image c.args.i c.requires.some, c.requires.most)
 
@@ -40,7 +40,7 @@ pub returns-clause-kind : goal.returns-clause-kind
 returns-clause-kind g c =
     let image = current_words (g.R.Region.memory c.args.region.now) in
     let word : slice_index c.load_words-words.result.now 0 ≡ inode_word image c.args.i 0 =
-    loaded image c.args.i 0 c.inode_file-inodes.result.root c.leaf_block-block.result _ c.load_words-words.result.now (omega arith)
+    loaded_field image c.args.i 0 c.inode_file-inodes.result.root c.leaf_block-block.result _ c.load_words-words.result.now (omega arith)
     c.requires.some c.requires.least c.inode_file-inodes.ensures.root c.leaf_block-block.ensures.node refl c.load_words-words.ensures in
     c.read.ensures.kind ∙ word ∙ sym (kind_word-of image c.args.i c.requires.some)
 
@@ -48,7 +48,7 @@ pub returns-clause-root : goal.returns-clause-root
 returns-clause-root g c =
     let image = current_words (g.R.Region.memory c.args.region.now) in
     let word : slice_index c.load_words-words.result.now 1 ≡ inode_word image c.args.i 1 =
-    loaded image c.args.i 1 c.inode_file-inodes.result.root c.leaf_block-block.result _ c.load_words-words.result.now (omega arith)
+    loaded_field image c.args.i 1 c.inode_file-inodes.result.root c.leaf_block-block.result _ c.load_words-words.result.now (omega arith)
     c.requires.some c.requires.least c.inode_file-inodes.ensures.root c.leaf_block-block.ensures.node refl c.load_words-words.ensures in
     c.read.ensures.root ∙ word ∙ sym (root_word-of image c.args.i c.requires.some)
 
@@ -56,6 +56,6 @@ pub returns-clause-size : goal.returns-clause-size
 returns-clause-size g c =
     let image = current_words (g.R.Region.memory c.args.region.now) in
     let word : slice_index c.load_words-words.result.now 2 ≡ inode_word image c.args.i 2 =
-    loaded image c.args.i 2 c.inode_file-inodes.result.root c.leaf_block-block.result _ c.load_words-words.result.now (omega arith)
+    loaded_field image c.args.i 2 c.inode_file-inodes.result.root c.leaf_block-block.result _ c.load_words-words.result.now (omega arith)
     c.requires.some c.requires.least c.inode_file-inodes.ensures.root c.leaf_block-block.ensures.node refl c.load_words-words.ensures in
     c.read.ensures.size ∙ word ∙ sym (size_word-of image c.args.i c.requires.some)

@@ -1,5 +1,5 @@
 use Rattle.std.proofs.Common.{◌+◌, ◌*◌, ◌-◌, ◌%◌, ◌^◌, ◌≤◌, ◌<◌, min, true, length, sym, ◌∙◌, ap, arith, refl}
-use Rattle.bp_dirs.specs.EntryAt.{part_word}
+use Rattle.bp_dirs.specs.EntryWords.{part_word}
 use Rattle.bp_dirs.proofs.PartLaws.{SameBelow, is_named-bytes, is_named-empty, is_named-unlike, is_named-other, part_small, same_word, same_more, spelled_out, whole_of}
 use Rattle.bp_dirs.proofs.entry_words.is_named.Goals as goal
 

@@ -1,6 +1,6 @@
 use Rattle.std.proofs.Common.{ℕ, ◌*◌}
 use Rattle.bp_layout.specs.Words.{Image}
-use Rattle.bp_dirs.specs.EntryAt.{HasWords}
+use Rattle.bp_dirs.specs.EntryWords.{HasWords}
 use Rattle.bp_dirs.proofs.PartLaws.{SameBelow}
 use Rattle.bp_dirs.proofs.entry_words.is_named.Given as goal
 

@@ -1,7 +1,8 @@
 use Rattle.std.proofs.Common.{◌+◌, sym, ◌∙◌, eq-eqb}
 use Rattle.std.proofs.lemmas.Bool.{ne_eqb}
 use Rattle.std.proofs.lemmas.List.{take_rest}
-use Rattle.bp_path.proofs.PartsLaws.{not_all, all_behind, all_one, none_left}
+use Rattle.bp_layout.proofs.Parts.{none_left}
+use Rattle.bp_path.proofs.PartsLaws.{not_all, all_behind, all_one}
 use Rattle.bp_path.proofs.PlainBytes.{no_names, no_slash_found, plain_front, plain_whole, slash_found, zero_found}
 use Rattle.bp_path.proofs.names.are_names.Goals as goal
 

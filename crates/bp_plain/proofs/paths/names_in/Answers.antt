@@ -1,6 +1,7 @@
 use Rattle.std.proofs.Common.{◌+◌, sym, ◌∙◌}
 use Rattle.std.proofs.lemmas.List.{take_rest}
-use Rattle.bp_plain.proofs.Parts.{ends, ends_badly, goes_on, none_left, stops}
+use Rattle.bp_layout.proofs.Parts.{none_left}
+use Rattle.bp_plain.proofs.Parts.{ends, ends_badly, goes_on, stops}
 use Rattle.bp_plain.proofs.paths.names_in.Goals as goal
 
 pub returns-in-None : goal.returns-in-None

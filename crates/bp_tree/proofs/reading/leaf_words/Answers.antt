@@ -1,8 +1,8 @@
-use Rattle.std.proofs.Common.{◌+◌, ◌*◌, sym, ◌∙◌, ap, arith}
-use Rattle.std.proofs.lemmas.List.Edits.{get_or-between}
+use Rattle.std.proofs.Common.{◌*◌, sym, ◌∙◌, ap, arith}
 use Rattle.bp_layout.proofs.TreeLaws.{slot_word-at}
 use Rattle.bp_layout.specs.Words.{slot_word}
 use Rattle.pm_region.specs.Memory.{current_words}
+use Rattle.bp_tree.proofs.LoadedWords.{loaded_word}
 use Rattle.bp_tree.proofs.RegionWords.{length_now}
 use Rattle.bp_tree.proofs.StoredBytes.{leaf_word}
 use Rattle.bp_tree.proofs.reading.leaf_words.Goals as goal
@@ -26,6 +26,6 @@ pub returns-else-block-eq0-clause-words : goal.returns-else-block-eq0-clause-wor
 returns-else-block-eq0-clause-words g c i low =
     let image = current_words (g.R.Region.memory c.args.region.now) in
     let block = c.leaf_block-block.result in
-    rw c.load_words.ensures (get_or-between image (512 * block) (512 * block + 512) i 0 (omega (arith, low)))
+    loaded_word image c.load_words.result.now (512 * block) 512 c.load_words.ensures i low
     ∙ sym (slot_word-at image block i c.if-block-eq0.false)
     ∙ leaf_word image c.args.tree.root c.args.leaf block i low c.leaf_block-block.ensures.node

@@ -1,6 +1,6 @@
-use Rattle.std.proofs.Common.{◌+◌, ◌∙◌, length, arith}
-use Rattle.std.proofs.lemmas.List.Edits.{length-between}
+use Rattle.std.proofs.Common.{◌∙◌, length, arith}
 use Rattle.pm_region.specs.Memory.{current_words}
+use Rattle.bp_tree.proofs.LoadedWords.{length-loaded}
 use Rattle.bp_tree.proofs.RegionWords.{length_now}
 use Rattle.bp_tree.proofs.StoredBytes.{run_part}
 use Rattle.bp_tree.proofs.reading.read_words.Goals as goal
@@ -14,7 +14,8 @@ load_words-requires g c = omega (arith, length_now (g.R.Region.memory c.args.reg
 pub unpack-requires : goal.unpack-requires
 unpack-requires g c =
     let image = current_words (g.R.Region.memory c.args.region.now) in
-    rw c.load_words.ensures (omega (arith, c.requires, c.div_ceil.ensures, length-between image c.args.word (c.args.word + c.div_ceil.result) (omega (arith, c.requires, c.div_ceil.ensures))))
+    let all = length-loaded image c.load_words.result.now c.args.word c.div_ceil.result c.load_words.ensures (omega (arith, c.requires, c.div_ceil.ensures)) in
+    omega (arith, c.div_ceil.ensures, all)
 
 pub returns : goal.returns
 returns g c =

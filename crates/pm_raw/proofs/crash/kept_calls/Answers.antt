@@ -1,7 +1,8 @@
 use Rattle.std.proofs.Common.{◌∙◌, ap, arith, drop, length, take}
 use Rattle.pm_epochs.specs.Log.{marks}
 use Rattle.pm_epochs.specs.Replay.{marks_of}
-use Rattle.pm_raw.proofs.EpochLaws.{epoch_start-low, marks-from, marks-low, marks-split, marks_of-low}
+use Rattle.pm_region.proofs.EpochLaws.{epoch_start-low}
+use Rattle.pm_raw.proofs.EpochLaws.{marks-from, marks-low, marks-split, marks_of-low}
 use Rattle.pm_raw.proofs.PlaceLaws.{marks-below, marks-places}
 use Rattle.pm_raw.proofs.crash.kept_calls.Goals as goal
 

@@ -3,7 +3,7 @@ use Rattle.std.proofs.lemmas.List.{length-take-le}
 use Rattle.pm_epochs.specs.Log.{barriers, epoch_stores}
 use Rattle.pm_epochs.specs.Replay.{IsRight}
 use Rattle.pm_region.specs.Epochs.{epoch_start}
-use Rattle.pm_raw.proofs.EpochLaws.{barriers-front, epoch_start-taken, stores-at}
+use Rattle.pm_region.proofs.EpochLaws.{barriers-front, epoch_start-taken, stores-at}
 use Rattle.pm_raw.proofs.PlaceLaws.{barriers-below}
 use Rattle.pm_raw.proofs.crash.start_of.Goals as goal
 use Rattle.pm_raw.proofs.crash.start_of.Goals.{then-moment-len-via-then-moment-len, then-moment-len-via-else-moment-len+then-epoch-before}
@@ -51,7 +51,7 @@ behind-requires c =
     omega (
       arith,
       c.start_of_epoch-start.ensures,
-      epoch_start-taken moment c.epoch-epoch.result log fits begun,
+      epoch_start-taken moment c.epoch-epoch.result log begun,
       ap length c.front.ensures,
       length-take-le moment log fits,
     )
@@ -109,6 +109,5 @@ pub returns-clause-taken : goal.returns-clause-taken
 returns-clause-taken c =
     let log = c.args.log.now in
     let moment = c.moment-moment.result in
-    let fits : moment ≤ length log = omega (arith, c.if-moment-len.false, c.len.ensures) in
     let begun : c.epoch-epoch.result ≤ barriers (take moment log) = omega (arith, c.if-epoch-before.false, c.before-else-moment-len.ensures, barriers-below log c.args.barrier_places.now.items moment c.requires.places) in
-    omega (arith, c.start_of_epoch-start.ensures, epoch_start-taken moment c.epoch-epoch.result log fits begun, c.moment-moment.ensures)
+    omega (arith, c.start_of_epoch-start.ensures, epoch_start-taken moment c.epoch-epoch.result log begun, c.moment-moment.ensures)

@@ -1,7 +1,7 @@
 use Rattle.std.proofs.Common.{◌≡◌, ◌-◌, ◌<◌, suc, length, ap, arith}
 use Rattle.pm_epochs.specs.Log.{barriers}
 use Rattle.pm_region.specs.Epochs.{epoch_start}
-use Rattle.pm_raw.proofs.EpochLaws.{epoch_start-low}
+use Rattle.pm_region.proofs.EpochLaws.{epoch_start-low}
 use Rattle.pm_raw.proofs.PlaceLaws.{barriers-places, start-behind}
 use Rattle.pm_raw.proofs.crash.start_of_epoch.Goals as goal
 

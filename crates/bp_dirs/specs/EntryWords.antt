@@ -1,0 +1,34 @@
+-- Entries and names as the words in which they stand.
+use Rattle.std.specs.Prelude.{◌≡◌, ℕ, ◌+◌, ◌-◌, ◌*◌, ◌/◌, ◌%◌, ◌<◌, ◌≤◌, List, length, slice_index, take, drop}
+use Rattle.bp_layout.specs.Words.{Image, height_of}
+use Rattle.bp_layout.specs.Tree.{node, IsSound}
+use Rattle.bp_layout.specs.Directory.{Name, word_in}
+use Rattle.pm_words.specs.Bytes.{word_of}
+use Rattle.bp_dirs.specs.declared.leaf.Leaf.{Leaf}
+
+-- all words of the entry in a slot
+pub record HasWords (image : Image) (root slot : ℕ) (words : List ℕ) : Type 0 where
+  pub long : length words ≡ 32
+  pub each : (field : ℕ) → field < 32 → slice_index words field ≡ word_in image root slot field
+
+-- all words of so many entries in a row, the first of them in this slot
+pub record IsRow (image : Image) (root first count : ℕ) (words : List ℕ) : Type 0 where
+  pub long : length words ≡ 32 * count
+  pub each : (index field : ℕ) → index < count → field < 32 → slice_index words (32 * index + field) ≡ word_in image root (first + index) field
+
+-- slots in a row, from the first of a leaf on, and the block with their entries
+pub record IsLeaf (image : Image) (leaf : Leaf) : Type 0 where
+  pub sound : IsSound image leaf.tree.root leaf.tree.size
+  pub starts : leaf.first % 16 ≡ 0
+  pub some : 0 < leaf.count
+  pub few : leaf.count ≤ 16
+  pub live : leaf.first + leaf.count ≤ leaf.tree.size / 256
+  pub block : leaf.block ≡ node image leaf.tree.root (height_of leaf.tree.root) (leaf.first / 16)
+
+-- the eight bytes of a name that stand in a word, fewer in the last
+abbrev pub part_word : Name → ℕ → ℕ
+part_word name part = word_of (take 8 (drop (8 * part) name))
+
+-- how many whole words stand before the last
+abbrev pub last_part : Name → ℕ
+last_part name = (length name - 1) / 8

@@ -132,7 +132,7 @@ module _ (old middle : Memory) (blocks inodes after : Set) (n off : ℕ) (bytes 
   size_long = length-digits (suc (height_of (root_of mid 0))) (8 * suc n + 2)
 
   -- the only word
-  only_word : (P : WordPath → Type 0) → P (inode_path (height_of (root_of mid 0)) (suc n) 2) → (j : ℕ) → j < length touched.words.items → P (path_of (word_paths touched) j)
+  only_word : (P : WordPath → Type 0) → P (inode_path (height_of (root_of mid 0)) (suc n) 2) → (j : ℕ) → j < length touched.words.now → P (path_of (word_paths touched) j)
   only_word P has j low =
       let first : j ≡ 0 = omega (arith, low, across_words old blocks inodes n off bytes touched across) in
       subst (λ k. P (path_of (word_paths touched) k)) (sym first) (subst P (sym path_is) has)

@@ -132,7 +132,7 @@ module _ (old : Memory) (blocks inodes : Set) (n off : ℕ) (bytes : List ℕ) (
   pub across_inside : LeadsInside image touched
   across_inside = leaf_inside (height_of (root_of image 0)) (suc n) touched across.touches.run across_run across_shape image wf refl inside inode_sound
 
-  pub across_words : length touched.words.items ≡ 1
+  pub across_words : length touched.words.now ≡ 1
   across_words = one_word (height_of (root_of image 0)) (suc n) touched across.touches.run across_run
 
   -- few nodes are made and few blocks copied

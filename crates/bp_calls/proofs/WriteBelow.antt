@@ -37,7 +37,7 @@ use Rattle.bp_calls.proofs.RunCommits.{IsRunOf, commit_exact, commit_writes_file
 -- The run is all that is touched.
 record IsRunAlone (image : Image) (i : ℕ) (touched : Touched) (run : Run) : Type 0 where
   pub one : touched.run ≡ Some run
-  pub no_words : touched.words.items ≡ []
+  pub no_words : touched.words.now ≡ []
   pub of : IsRunOf image i run
 
 -- what a commit of the run asks
@@ -53,7 +53,7 @@ module _ (old : Memory) (blocks inodes : Set) (n : ℕ) (touched : Touched) (run
   wf : IsWellFormed image
   wf = asks.well_formed
 
-  none : length touched.words.items ≡ 0
+  none : length touched.words.now ≡ 0
   none = ap (λ ws. length ws) is.no_words
 
   leaves : leaves_of touched.run ≡ run_leaves run

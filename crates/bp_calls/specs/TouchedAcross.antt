@@ -1,5 +1,6 @@
 -- What a write across the size of a file touches.
-use Rattle.std.specs.Prelude.{◌≡◌, ℕ, ◌+◌, ◌-◌, ◌<◌, List, [], ◌∷◌, length, take, Some}
+use Rattle.std.specs.Prelude.{◌≡◌, ℕ, ◌+◌, ◌-◌, ◌<◌, List, [], ◌∷◌, length, take, map, Some}
+use Rattle.arrayvec.specs.ArrayVec.{ArrayVec}
 use Rattle.bp_cow.specs.Touched.{word_paths, word_values}
 use Rattle.bp_cow.specs.declared.touched.Run.{Run}
 use Rattle.bp_cow.specs.declared.touched.Touched.{Touched}
@@ -10,6 +11,11 @@ use Rattle.bp_layout.specs.WordPaths.{inode_path}
 use Rattle.bp_layout.specs.Words.{Image, height_of}
 use Rattle.bp_calls.specs.CanWrite.{CanWrite}
 use Rattle.pm_region.specs.Memory.{Memory, current_words}
+
+-- the word of the size of inode i alone, with the value that it is given
+pub record IsSized (image : Image) (i end : ℕ) (words : List (ArrayVec ℕ × ℕ)) : Type 0 where
+  pub path : map (λ word. word.0.items) words ≡ inode_path (height_of (root_of image 0)) i 2 ∷ []
+  pub value : map (λ word. word.1) words ≡ end ∷ []
 
 -- These bytes from an offset on, as a run in the tree of inode i once it is high enough for an end, and the word of its size, which gets that end.
 pub record TouchesAcross (image : Image) (i off end : ℕ) (bytes : List ℕ) (touched : Touched) : Type 0 where

@@ -13,7 +13,7 @@ use Rattle.pm_region.specs.Memory.{Memory, current_words}
 pub record TouchesBelow (image : Image) (i off : ℕ) (bytes : List ℕ) (touched : Touched) : Type 0 where
   pub run : Run
   pub one : touched.run ≡ Some run
-  pub no_words : touched.words.items ≡ []
+  pub no_words : touched.words.now ≡ []
   pub root : run.root.items ≡ inode_path (height_of (root_of image 0)) i 1
   pub height : run.height ≡ height_of (root_of image i)
   pub from : run.off ≡ off

@@ -17,7 +17,6 @@ mod across;
 
 use crate::entering::tree_of;
 use crate::writing::across::write_across;
-use arrayvec::ArrayVec;
 use bp_append::{need_prep, prep};
 use bp_cow::{Run, Touched, commit, need_cover};
 use bp_free::{NoSpace, Parts};
@@ -96,7 +95,7 @@ fn touched_below<'a, R: Region>(
         bytes,
     };
     Touched {
-        words: ArrayVec::new(),
+        words: &[],
         run: Some(run),
     }
 }

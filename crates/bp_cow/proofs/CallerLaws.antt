@@ -18,7 +18,7 @@ module _ (old : Image) (wf : IsWellFormed old) (touched : Touched) (shape : IsTo
   forest = wf_forest old wf
 
   -- one word
-  module _ (none : touched.run ≡ None) (one : length touched.words.items ≡ 1) (t k : ℕ) (reached : IsReached old t) (below : 8 * k < size_of old t) (no_root : t ≡ 0 → k % 8 ≢ 1)
+  module _ (none : touched.run ≡ None) (one : length touched.words.now ≡ 1) (t k : ℕ) (reached : IsReached old t) (below : 8 * k < size_of old t) (no_root : t ≡ 0 → k % 8 ≢ 1)
       (is : trail_of (path_of (word_paths touched) 0) (length (path_of (word_paths touched) 0)) ≡ tree_trail (height_of (word old 2)) t (suc (height_of (root_of old t))) k) where
     pub word_can : CanCommit old (size_of old) touched free
     word_can = record {
@@ -33,7 +33,7 @@ module _ (old : Image) (wf : IsWellFormed old) (touched : Touched) (shape : IsTo
       beside = λ run i j e here low high same. no_run run (sym none ∙ e);
     }
       where
-        first : (i : ℕ) → i < length touched.words.items → i ≡ 0
+        first : (i : ℕ) → i < length touched.words.now → i ≡ 0
         first i here = omega (arith, here, one)
 
         no_run : (run : Run) → None ≡ Some run → ⊥
@@ -60,7 +60,7 @@ module _ (old : Image) (wf : IsWellFormed old) (touched : Touched) (shape : IsTo
             (subst (λ d. IsTreePointer old (size_of old) (trail_of (path_of (word_paths touched) 0) d)) whole (subst (λ n. IsTreePointer old (size_of old) (trail_of (path_of (word_paths touched) n) (length (path_of (word_paths touched) n)))) e pointer))
 
   -- a run alone
-  pub run_can : (run : Run) → touched.run ≡ Some run → length touched.words.items ≡ 0 → IsRunIn old (size_of old) run → CanCommit old (size_of old) touched free
+  pub run_can : (run : Run) → touched.run ≡ Some run → length touched.words.now ≡ 0 → IsRunIn old (size_of old) run → CanCommit old (size_of old) touched free
   run_can run some none in_tree = record {
     shape = shape;
     forest = forest;

@@ -38,7 +38,7 @@ pub record CommitsCopies (bound : ℕ → ℕ) (touched : Touched) (old new : Me
   pub taken : Set
   pub count : length (members blocks) ≡ length (members taken) + copied (job_of touched) cover
   pub size : length taken ≡ length blocks
-  pub commit : AddsCopyCommit (has blocks) (has taken) (place_on (current_words old) (trail_of (end_path touched 0) cover)) (513 * copied (job_of touched) cover + length touched.words.items + 1) old new
+  pub commit : AddsCopyCommit (has blocks) (has taken) (place_on (current_words old) (trail_of (end_path touched 0) cover)) (513 * copied (job_of touched) cover + length touched.words.now + 1) old new
   pub words : IsCommitted (current_words old) (current_words new) (IsTreePointer (current_words old) bound) (IsTurned (job_of touched) cover) (after_commit (current_words old) (job_of touched))
   pub exact : IsExactSet (current_words new) (IsTreePointer (current_words old) bound) (has blocks_after)
 
@@ -145,7 +145,7 @@ module _ (bound : ℕ → ℕ) (touched : Touched) (first last : Memory) (blocks
         prepared = [];
         adds = subst (λ p. Adds first last (commit p (only_value touched (word old found.place)))) (sym at.place) adds;
         quiet = quiet_none Same old (same_self old wf);
-        piece = IsPiece-more 2 1 2 (513 * copied (job_of touched) found.len + length touched.words.items + 1) _ (omega arith) (omega arith) (IsPiece-commit _ _);
+        piece = IsPiece-more 2 1 2 (513 * copied (job_of touched) found.len + length touched.words.now + 1) _ (omega arith) (omega arith) (IsPiece-commit _ _);
       };
       only = tt;
       each = λ b was gone. absurd (clash (has blocks b) was gone);
@@ -177,7 +177,7 @@ module _ (bound : ℕ → ℕ) (touched : Touched) (first last : Memory) (blocks
         taken = taken;
         count = omega (arith, done.count, same);
         size = done.size;
-        commit = subst (λ p. AddsCopyCommit (has blocks) (has taken) p (513 * copied (job_of touched) found.len + length touched.words.items + 1) first last) (sym at.place)
+        commit = subst (λ p. AddsCopyCommit (has blocks) (has taken) p (513 * copied (job_of touched) found.len + length touched.words.now + 1) first last) (sym at.place)
             (looser (has blocks) (has taken) found.place _ _ first last (omega (arith, same)) done.commit);
         words = committed_same (current_words first) (current_words last) (IsTreePointer (current_words first) bound) (IsAnew (job_of touched) found.len (ways (job_of touched)) found.len) (IsTurned (job_of touched) found.len) _
             (λ q n. record { copies = short; anew = n }) (λ q t. t.anew)

@@ -97,7 +97,7 @@ module _ (bound : ℕ → ℕ) (touched : Touched) (old new : Memory) (blocks af
       }
 
   abbrev taken : List ℕ
-  taken = copies (has blocks) (has done.taken) (place_on image (trail_of (end_path touched 0) done.cover)) (513 * copied (job_of touched) done.cover + length touched.words.items + 1) old new done.commit was_free
+  taken = copies (has blocks) (has done.taken) (place_on image (trail_of (end_path touched 0) done.cover)) (513 * copied (job_of touched) done.cover + length touched.words.now + 1) old new done.commit was_free
 
   -- the sets are told up to the number of blocks
   told : (set : Set) → length set ≡ length blocks → ((b : ℕ) → has set b ≡ true → has blocks b ≡ true) → length (members set) ≡ length (numbers_below (block_count image) (has set))
@@ -109,7 +109,7 @@ module _ (bound : ℕ → ℕ) (touched : Touched) (old new : Memory) (blocks af
 
   number-is : length taken ≡ copied_count image touched
   number-is =
-      copies_counted (has blocks) (has done.taken) (place_on image (trail_of (end_path touched 0) done.cover)) (513 * copied (job_of touched) done.cover + length touched.words.items + 1) old new done.commit was_free
+      copies_counted (has blocks) (has done.taken) (place_on image (trail_of (end_path touched 0) done.cover)) (513 * copied (job_of touched) done.cover + length touched.words.now + 1) old new done.commit was_free
       (length (members blocks)) (length (members done.taken)) (copied (job_of touched) done.cover) (told blocks refl (λ b is. is)) (told done.taken done.size done.commit.fewer) done.count
       ∙ copied-is
 
@@ -145,8 +145,8 @@ module _ (bound : ℕ → ℕ) (touched : Touched) (old new : Memory) (blocks af
   at : place_on image (trail_of first done.cover) ≡ cover_word image touched
   at = ap (λ k. place_on image (trail_of first k)) cover-is ∙ sym (cover_address touched can.shape image)
 
-  most : 513 * copied (job_of touched) done.cover + length touched.words.items + 1 ≡ commit_stores image touched
-  most = ap (λ c. 513 * c + length touched.words.items + 1) copied-is
+  most : 513 * copied (job_of touched) done.cover + length touched.words.now + 1 ≡ commit_stores image touched
+  most = ap (λ c. 513 * c + length touched.words.now + 1) copied-is
 
   pub commits_touched : CommitsTouched bound touched old new blocks after
   commits_touched = record {
@@ -159,10 +159,10 @@ module _ (bound : ℕ → ℕ) (touched : Touched) (old new : Memory) (blocks af
           (subst (λ m. IsPiece 2 m (done.commit.commit.prepared ++ commit (place_on image (trail_of first done.cover)) done.commit.value)) most done.commit.commit.piece);
     };
     taken = taken;
-    takes = copies_taken (has blocks) (has done.taken) (place_on image (trail_of first done.cover)) (513 * copied (job_of touched) done.cover + length touched.words.items + 1) old new done.commit was_free;
+    takes = copies_taken (has blocks) (has done.taken) (place_on image (trail_of first done.cover)) (513 * copied (job_of touched) done.cover + length touched.words.now + 1) old new done.commit was_free;
     number = number-is;
     from = each-of (λ b. has blocks b ≡ true) taken
-        (λ b one. (of_copy (has blocks) (has done.taken) (place_on image (trail_of first done.cover)) (513 * copied (job_of touched) done.cover + length touched.words.items + 1) old new done.commit was_free b one).0);
+        (λ b one. (of_copy (has blocks) (has done.taken) (place_on image (trail_of first done.cover)) (513 * copied (job_of touched) done.cover + length touched.words.now + 1) old new done.commit was_free b one).0);
     stays = stays-is;
     words = subst (λ k. IsCommitted image (current_words new) (IsTreePointer image bound) (IsTurned (job_of touched) k) (after_commit image (job_of touched))) cover-is done.words;
     exact = exact-unheld (current_words new) (IsTreePointer image bound) (IsReached image) bound (has after)

@@ -74,7 +74,7 @@ alike-all touched shape n alike path has = go (has-either (run_paths touched.run
         let at = run-number run (run.off / 8) (suc ((run_end run - 1) / 8 - run.off / 8)) path one in
         let first : end_path touched 0 ≡ run_path run (run.off / 8) = ap (λ r. end_path_of r (word_paths touched) 0) e in
         let last : end_path touched 1 ≡ run_path run ((run_end run - 1) / 8) = ap (λ r. end_path_of r (word_paths touched) 1) e in
-        let two : 1 < ends touched = subst (λ r. 1 < ends_of r (length touched.words.items)) (sym e) (omega arith) in
+        let two : 1 < ends touched = subst (λ r. 1 < ends_of r (length touched.words.now)) (sym e) (omega arith) in
         let high : at.0 ≤ (run_end run - 1) / 8 = omega (arith, at.1, at.2, some) in
         let long : n ≤ length run.root.items + suc run.height = omega (arith, subst (λ p. n ≤ length p) first (alike.long 0 (omega (arith, two))), length-run_path run (run.off / 8)) in
         let few : (run_end run - 1) / 8 < 512 ^ suc run.height = rw pow-suc (omega (arith, covers, some)) in
@@ -82,13 +82,13 @@ alike-all touched shape n alike path has = go (has-either (run_paths touched.run
         subst (λ p. (n ≤ length p) × (trail_of p n ≡ trail_of (end_path touched 0) n)) (sym at.3)
         (omega (arith, long, length-run_path run at.0), between-run run (run.off / 8) at.0 ((run_end run - 1) / 8) n at.1 high few long same ∙ ap (λ p. trail_of p n) (sym first))
 
-    of_word : (i : ℕ) → i < length touched.words.items → (run : Option Run) → touched.run ≡ run → (n ≤ length (path_of (word_paths touched) i)) × (trail_of (path_of (word_paths touched) i) n ≡ trail_of (end_path touched 0) n)
+    of_word : (i : ℕ) → i < length touched.words.now → (run : Option Run) → touched.run ≡ run → (n ≤ length (path_of (word_paths touched) i)) × (trail_of (path_of (word_paths touched) i) n ≡ trail_of (end_path touched 0) n)
     of_word i here None e =
-        let at : i < ends touched = subst (λ r. i < ends_of r (length touched.words.items)) (sym e) here in
+        let at : i < ends touched = subst (λ r. i < ends_of r (length touched.words.now)) (sym e) here in
         let is : end_path touched i ≡ path_of (word_paths touched) i = ap (λ r. end_path_of r (word_paths touched) i) e in
         (subst (λ p. n ≤ length p) is (alike.long i at), ap (λ p. trail_of p n) (sym is) ∙ alike.same i at)
     of_word i here (Some run) e =
-        let at : suc (suc i) < ends touched = subst (λ r. suc (suc i) < ends_of r (length touched.words.items)) (sym e) (omega (arith, here)) in
+        let at : suc (suc i) < ends touched = subst (λ r. suc (suc i) < ends_of r (length touched.words.now)) (sym e) (omega (arith, here)) in
         let is : end_path touched (suc (suc i)) ≡ path_of (word_paths touched) i = ap (λ r. end_path_of r (word_paths touched) (suc (suc i))) e in
         (subst (λ p. n ≤ length p) is (alike.long (suc (suc i)) at), ap (λ p. trail_of p n) (sym is) ∙ alike.same (suc (suc i)) at)
 
@@ -97,7 +97,7 @@ alike-all touched shape n alike path has = go (has-either (run_paths touched.run
     go (inr two) =
         let at = index-of (word_paths touched) path two in
         subst (λ p. (n ≤ length p) × (trail_of p n ≡ trail_of (end_path touched 0) n)) at.2
-        (of_word at.0 (omega (arith, at.1, length-map touched.words.items (λ word. word.0.items))) touched.run refl)
+        (of_word at.0 (omega (arith, at.1, length-map touched.words.now (λ word. word.0.items))) touched.run refl)
 
 module _ (touched : Touched) (shape : IsTouched touched) where
   abbrev job : Job
@@ -112,10 +112,10 @@ module _ (touched : Touched) (shape : IsTouched touched) where
     pub long : length path ≡ length (job.way i) + 1
     pub same : take (length (job.way i)) path ≡ job.way i
 
-  words-count : length (word_paths touched) ≡ length touched.words.items
-  words-count = length-map touched.words.items (λ word. word.0.items)
+  words-count : length (word_paths touched) ≡ length touched.words.now
+  words-count = length-map touched.words.now (λ word. word.0.items)
 
-  word-is : (i : ℕ) → i < length touched.words.items → IsWayOf (job.leaves + i) (path_of (word_paths touched) i)
+  word-is : (i : ℕ) → i < length touched.words.now → IsWayOf (job.leaves + i) (path_of (word_paths touched) i)
   word-is i here =
       let path = path_of (word_paths touched) i in
       let way : job.way (job.leaves + i) ≡ above path = word-way touched i in
@@ -141,7 +141,7 @@ module _ (touched : Touched) (shape : IsTouched touched) where
 
   -- by cases: a word of the run, or another word
   pub paths-by : (P : List ℕ → Type 0) → ((run : Run) (k : ℕ) → touched.run ≡ Some run → run.off / 8 ≤ k → k ≤ (run_end run - 1) / 8 → P (run_path run k)) →
-      ((i : ℕ) → i < length touched.words.items → P (path_of (word_paths touched) i)) → (path : List ℕ) → Has (all_paths touched) path → P path
+      ((i : ℕ) → i < length touched.words.now → P (path_of (word_paths touched) i)) → (path : List ℕ) → Has (all_paths touched) path → P path
   paths-by P of_run of_word path has = go (has-either (run_paths touched.run) (word_paths touched) path has)
     where
       in_run : (run : Option Run) → touched.run ≡ run → Has (run_paths run) path → P path
@@ -155,7 +155,7 @@ module _ (touched : Touched) (shape : IsTouched touched) where
       go (inl one) = in_run touched.run refl one
       go (inr two) = let at = index-of (word_paths touched) path two in subst P at.2 (of_word at.0 (omega (arith, at.1, words-count)))
 
-  pub has-word : (i : ℕ) → i < length touched.words.items → Has (all_paths touched) (path_of (word_paths touched) i)
+  pub has-word : (i : ℕ) → i < length touched.words.now → Has (all_paths touched) (path_of (word_paths touched) i)
   has-word i here = has-behind (run_paths touched.run) (word_paths touched) _ (has-index (word_paths touched) i (omega (arith, here, words-count)))
 
   pub has-of-run : (run : Run) (k : ℕ) → touched.run ≡ Some run → run.off / 8 ≤ k → k ≤ (run_end run - 1) / 8 → Has (all_paths touched) (run_path run k)
@@ -193,7 +193,7 @@ module _ (touched : Touched) (shape : IsTouched touched) where
       go : (i < job.leaves) ⊎ (job.leaves ≤ i) → HasPath i
       go (inl low) = leaf touched.run refl low
       go (inr past) =
-          let few : i - job.leaves < length touched.words.items = omega (arith, here, past) in
+          let few : i - job.leaves < length touched.words.now = omega (arith, here, past) in
           let back : job.leaves + (i - job.leaves) ≡ i = omega (arith, past) in
           record { path = path_of (word_paths touched) (i - job.leaves); has = has-word (i - job.leaves) few; is = subst (λ n. IsWayOf n (path_of (word_paths touched) (i - job.leaves))) back (word-is (i - job.leaves) few) }
 

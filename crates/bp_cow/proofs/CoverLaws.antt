@@ -26,7 +26,7 @@ run-slots run k d is low = go (cases_lt d (length run.root.items))
 pub end-slots : (touched : Touched) → IsTouched touched → (i d : ℕ) → i < ends touched → d < length (end_path touched i) → slice_index (end_path touched i) d < 512
 end-slots touched is i d here low = go touched.run i is.run here low
   where
-    go : (run : Option Run) (i : ℕ) → HasRun run → i < ends_of run (length touched.words.items) → d < length (end_path_of run (word_paths touched) i) → slice_index (end_path_of run (word_paths touched) i) d < 512
+    go : (run : Option Run) (i : ℕ) → HasRun run → i < ends_of run (length touched.words.now) → d < length (end_path_of run (word_paths touched) i) → slice_index (end_path_of run (word_paths touched) i) d < 512
     go None i has here low = is.slots i d here low
     go (Some run) zero has here low = run-slots run (run.off / 8) d has low
     go (Some run) (suc zero) has here low = run-slots run ((run_end run - 1) / 8) d has low
@@ -36,13 +36,13 @@ pub some-ends : (touched : Touched) → IsTouched touched → 0 < ends touched
 some-ends touched is = go touched.run refl
   where
     go : (run : Option Run) → touched.run ≡ run → 0 < ends touched
-    go None e = let some : 0 < 0 + length touched.words.items = rw e at is.some in rw e (omega (arith, some))
+    go None e = let some : 0 < 0 + length touched.words.now = rw e at is.some in rw e (omega (arith, some))
     go (Some run) e = rw e (omega arith)
 
 pub end-short : (touched : Touched) → IsTouched touched → (i : ℕ) → i < ends touched → length (end_path touched i) ≤ 12
 end-short touched is i here = go touched.run i is.run here
   where
-    go : (run : Option Run) (i : ℕ) → HasRun run → i < ends_of run (length touched.words.items) → length (end_path_of run (word_paths touched) i) ≤ 12
+    go : (run : Option Run) (i : ℕ) → HasRun run → i < ends_of run (length touched.words.now) → length (end_path_of run (word_paths touched) i) ≤ 12
     go None i has here = is.short i here
     go (Some run) zero has here = omega (arith, length-run_path run (run.off / 8), has.short)
     go (Some run) (suc zero) has here = omega (arith, length-run_path run ((run_end run - 1) / 8), has.short)

@@ -90,7 +90,7 @@ module _ (touched : Touched) (shape : IsTouched touched) where
       at : (run : Option Run) → touched.run ≡ run → (i : ℕ) → Has (all_paths touched) (end_path_of run (word_paths touched) i) → Has (all_paths touched) (end_path touched i)
       at run e i has = subst (λ r. Has (all_paths touched) (end_path_of r (word_paths touched) i)) (sym e) has
 
-      go : (run : Option Run) → touched.run ≡ run → (i : ℕ) → i < ends_of run (length touched.words.items) → Has (all_paths touched) (end_path touched i)
+      go : (run : Option Run) → touched.run ≡ run → (i : ℕ) → i < ends_of run (length touched.words.now) → Has (all_paths touched) (end_path touched i)
       go None e i here = at None e i (has-word touched shape i here)
       go (Some run) e zero here =
           let some : 0 < length run.bytes.now = (subst HasRun e shape.run).some in

@@ -119,7 +119,7 @@ module _ (touched : Touched) (shape : IsTouched touched) (run : Run) (one : touc
       let near : (first + (run_leaves run - 1)) / 512 - first / 512 ≤ 1 = omega (arith, few) in
       subst (λ n. turned_upto (job_of touched) from n ≤ 38) count (omega (arith, all, near, few))
 
-  words-upto : (m : ℕ) → m ≤ length touched.words.items → turned_upto (job_of touched) from (run_leaves run + m) ≤ turned_upto (job_of touched) from (run_leaves run) + 11 * m
+  words-upto : (m : ℕ) → m ≤ length touched.words.now → turned_upto (job_of touched) from (run_leaves run + m) ≤ turned_upto (job_of touched) from (run_leaves run) + 11 * m
   words-upto zero low = let e : run_leaves run + 0 ≡ run_leaves run = omega arith in rw e (omega arith)
   words-upto (suc m) low =
       let e : run_leaves run + suc m ≡ suc (run_leaves run + m) = omega arith in
@@ -127,25 +127,25 @@ module _ (touched : Touched) (shape : IsTouched touched) (run : Run) (one : touc
       let short : length ((job_of touched).way (run_leaves run + m)) ≤ 11 = way-short touched shape (run_leaves run + m) (omega (arith, low, leaves-are)) in
       rw e (omega (arith, words-upto m (omega (arith, low)), all, short))
 
-  pub all-few : turned_upto (job_of touched) from (ways (job_of touched)) ≤ 38 + 11 * length touched.words.items
+  pub all-few : turned_upto (job_of touched) from (ways (job_of touched)) ≤ 38 + 11 * length touched.words.now
   all-few =
-      let whole : ways (job_of touched) ≡ run_leaves run + length touched.words.items = ap (λ n. n + length touched.words.items) leaves-are in
-      rw whole (omega (arith, words-upto (length touched.words.items) (omega arith), run-few (omega arith)))
+      let whole : ways (job_of touched) ≡ run_leaves run + length touched.words.now = ap (λ n. n + length touched.words.now) leaves-are in
+      rw whole (omega (arith, words-upto (length touched.words.now) (omega arith), run-few (omega arith)))
 
 -- A run of few leaves, with some words beside it, copies so many blocks at most.
-pub run_copies : (image : Image) (touched : Touched) → IsTouched touched → NoneBegins (all_paths touched) → (run : Run) → touched.run ≡ Some run → run_leaves run ≤ 17 → copied_count image touched ≤ 39 + 11 * length touched.words.items
+pub run_copies : (image : Image) (touched : Touched) → IsTouched touched → NoneBegins (all_paths touched) → (run : Run) → touched.run ≡ Some run → run_leaves run ≤ 17 → copied_count image touched ≤ 39 + 11 * length touched.words.now
 run_copies image touched shape apart run one few =
-    subst (λ n. n ≤ 39 + 11 * length touched.words.items) (count_is touched shape image apart (length (commit_cover image touched)) (cover_has touched shape image))
+    subst (λ n. n ≤ 39 + 11 * length touched.words.now) (count_is touched shape image apart (length (commit_cover image touched)) (cover_has touched shape image))
     (go (nat_le (length (commit_cover image touched)) (length ((job_of touched).way 0))) refl)
   where
-    all : turned_upto (job_of touched) (length (commit_cover image touched)) (ways (job_of touched)) ≤ 38 + 11 * length touched.words.items
+    all : turned_upto (job_of touched) (length (commit_cover image touched)) (ways (job_of touched)) ≤ 38 + 11 * length touched.words.now
     all = all-few touched shape run one few (length (commit_cover image touched))
 
-    go : (x : Bool) → nat_le (length (commit_cover image touched)) (length ((job_of touched).way 0)) ≡ x → copied (job_of touched) (length (commit_cover image touched)) ≤ 39 + 11 * length touched.words.items
+    go : (x : Bool) → nat_le (length (commit_cover image touched)) (length ((job_of touched).way 0)) ≡ x → copied (job_of touched) (length (commit_cover image touched)) ≤ 39 + 11 * length touched.words.now
     go true e = rw e (omega (arith, all))
     go false e = rw e (omega arith)
 
 -- the same where they can be committed
 pub few_copies : (image : Image) (bound : ℕ → ℕ) (touched : Touched) (free : ℕ → Bool) (wf : IsWellFormed image) (can : CanCommit image bound touched free) (run : Run) → touched.run ≡ Some run → run_leaves run ≤ 17 →
-    copied_count image touched ≤ 39 + 11 * length touched.words.items
+    copied_count image touched ≤ 39 + 11 * length touched.words.now
 few_copies image bound touched free wf can run one few = run_copies image touched can.shape (none-begins image bound touched free wf can) run one few

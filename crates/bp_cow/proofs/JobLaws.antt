@@ -114,20 +114,20 @@ module _ (old : Image) (bound : ℕ → ℕ) (touched : Touched) (free : ℕ →
   paths = word_paths touched
 
   -- by cases: a leaf of the run, or a word
-  pub ways-by : (P : List ℕ → Type 0) → ((run : Run) (j : ℕ) → touched.run ≡ Some run → j < run_leaves run → P (run_way run j)) → ((i : ℕ) → i < length touched.words.items → P (above (path_of paths i))) →
+  pub ways-by : (P : List ℕ → Type 0) → ((run : Run) (j : ℕ) → touched.run ≡ Some run → j < run_leaves run → P (run_way run j)) → ((i : ℕ) → i < length touched.words.now → P (above (path_of paths i))) →
       (i : ℕ) → i < ways (job_of touched) → P ((job_of touched).way i)
   ways-by P leaf at_word i here = go touched.run refl
     where
       go : (run : Option Run) → touched.run ≡ run → P (way_of touched.run paths i)
       go None e =
-          let some : i < 0 + length touched.words.items = rw e at here in
+          let some : i < 0 + length touched.words.now = rw e at here in
           rw e (at_word i (omega (arith, some)))
       go (Some run) e = split (cases_lt i (run_leaves run))
         where
           split : (i < run_leaves run) ⊎ (run_leaves run ≤ i) → P (way_of touched.run paths i)
           split (inl low) = rw e (rw (way-leaf run paths i low) (leaf run i e low))
           split (inr past) =
-              let some : i < run_leaves run + length touched.words.items = rw e at here in
+              let some : i < run_leaves run + length touched.words.now = rw e at here in
               rw e (rw (way-word (Some run) paths i past) (at_word (i - run_leaves run) (omega (arith, some, past))))
 
   pub is-run : (run : Run) → touched.run ≡ Some run → IsRun run
@@ -156,7 +156,7 @@ module _ (old : Image) (bound : ℕ → ℕ) (touched : Touched) (free : ℕ →
       let less : d < length (path_of paths i) - 1 = omega (arith, low, length-above (path_of paths i)) in
       subst (λ n. n < 512) (sym (get_or-take (length (path_of paths i) - 1) (path_of paths i) d 0 less)) (can.shape.slots i d here (omega (arith, less))))
 
-  pub word-trail : (i : ℕ) → i < length touched.words.items → word_trail (job_of touched) i ≡ trail_of (path_of paths i) (length (path_of paths i))
+  pub word-trail : (i : ℕ) → i < length touched.words.now → word_trail (job_of touched) i ≡ trail_of (path_of paths i) (length (path_of paths i))
   word-trail i here =
       ap (λ p. last_slot (path_of paths i) ∷ trail_of p (length p)) (word-way touched i) ∙ whole-word (path_of paths i) (can.shape.words i here)
 
@@ -188,7 +188,7 @@ module _ (old : Image) (bound : ℕ → ℕ) (touched : Touched) (free : ℕ →
       where
         go : (run : Option Run) → touched.run ≡ run → trail_of ((job_of touched).way 0) d ≡ trail_of first d
         go None e =
-            let some : 0 < 0 + length touched.words.items = subst (λ r. 0 < leaves_of r + length touched.words.items) e can.shape.some in
+            let some : 0 < 0 + length touched.words.now = subst (λ r. 0 < leaves_of r + length touched.words.now) e can.shape.some in
             let way : (job_of touched).way 0 ≡ above (path_of paths 0) = ap (λ r. way_of r paths 0) e ∙ way-word None paths 0 (omega arith) in
             let len : 1 ≤ length (path_of paths 0) = can.shape.words 0 (omega (arith, some)) in
             let less : d < length (path_of paths 0) = omega (arith, subst (λ p. d ≤ length p) way low, length-above (path_of paths 0), len) in
@@ -202,20 +202,20 @@ module _ (old : Image) (bound : ℕ → ℕ) (touched : Touched) (free : ℕ →
     first-pointer d low = subst (IsTreePointer old bound) (first-front d low) (ways-fronts 0 some-ways d low)
 
     -- a word's path, among the paths that tell
-    end-word : (i : ℕ) → i < length touched.words.items → (n ≤ length (path_of paths i)) × (trail_of (path_of paths i) n ≡ trail_of first n)
+    end-word : (i : ℕ) → i < length touched.words.now → (n ≤ length (path_of paths i)) × (trail_of (path_of paths i) n ≡ trail_of first n)
     end-word i here = go touched.run refl
       where
         go : (run : Option Run) → touched.run ≡ run → (n ≤ length (path_of paths i)) × (trail_of (path_of paths i) n ≡ trail_of first n)
         go None e =
-            let at : i < ends touched = subst (λ r. i < ends_of r (length touched.words.items)) (sym e) here in
+            let at : i < ends touched = subst (λ r. i < ends_of r (length touched.words.now)) (sym e) here in
             let is : end_path touched i ≡ path_of paths i = ap (λ r. end_path_of r paths i) e in
             (subst (λ p. n ≤ length p) is (alike.long i at), ap (λ p. trail_of p n) (sym is) ∙ alike.same i at)
         go (Some run) e =
-            let at : suc (suc i) < ends touched = subst (λ r. suc (suc i) < ends_of r (length touched.words.items)) (sym e) (omega (arith, here)) in
+            let at : suc (suc i) < ends touched = subst (λ r. suc (suc i) < ends_of r (length touched.words.now)) (sym e) (omega (arith, here)) in
             let is : end_path touched (suc (suc i)) ≡ path_of paths i = ap (λ r. end_path_of r paths (suc (suc i))) e in
             (subst (λ p. n ≤ length p) is (alike.long (suc (suc i)) at), ap (λ p. trail_of p n) (sym is) ∙ alike.same (suc (suc i)) at)
 
-    begin-word : (i : ℕ) → i < length touched.words.items → (n ≤ length (above (path_of paths i))) × (trail_of (above (path_of paths i)) n ≡ trail_of first n)
+    begin-word : (i : ℕ) → i < length touched.words.now → (n ≤ length (above (path_of paths i))) × (trail_of (above (path_of paths i)) n ≡ trail_of first n)
     begin-word i here = go (cases_eq n (length (path_of paths i)))
       where
         both : (n ≤ length (path_of paths i)) × (trail_of (path_of paths i) n ≡ trail_of first n)
@@ -238,7 +238,7 @@ module _ (old : Image) (bound : ℕ → ℕ) (touched : Touched) (free : ℕ →
 
         ends_same : trail_of (run_path run (run.off / 8)) n ≡ trail_of (run_path run ((run_end run - 1) / 8)) n
         ends_same =
-            let at : 1 < ends touched = subst (λ r. 1 < ends_of r (length touched.words.items)) (sym e) (omega arith) in
+            let at : 1 < ends touched = subst (λ r. 1 < ends_of r (length touched.words.now)) (sym e) (omega arith) in
             ap (λ p. trail_of p n) (sym is_first) ∙ sym (alike.same 1 at) ∙ ap (λ p. trail_of p n) is_last
 
         long : n ≤ length (run_way run j)
@@ -309,7 +309,7 @@ module _ (old : Image) (bound : ℕ → ℕ) (touched : Touched) (free : ℕ →
     where
       go : (run : Option Run) → touched.run ≡ run → length (end_path touched 0) ≡ length ((job_of touched).way 0) + 1
       go None e =
-          let some : 0 < 0 + length touched.words.items = subst (λ r. 0 < leaves_of r + length touched.words.items) e can.shape.some in
+          let some : 0 < 0 + length touched.words.now = subst (λ r. 0 < leaves_of r + length touched.words.now) e can.shape.some in
           let way : (job_of touched).way 0 ≡ above (path_of paths 0) = ap (λ r. way_of r paths 0) e ∙ way-word None paths 0 (omega arith) in
           let len : 1 ≤ length (path_of paths 0) = can.shape.words 0 (omega (arith, some)) in
           ap (λ r. length (end_path_of r paths 0)) e ∙ omega (arith, len, length-above (path_of paths 0)) ∙ ap (λ (p : List ℕ). length p + 1) (sym way)
@@ -352,13 +352,13 @@ module _ (old : Image) (bound : ℕ → ℕ) (touched : Touched) (free : ℕ →
     -- what is known where there is no run, and where there is one
     pub record IsOneWord : Type 0 where
       pub none : touched.run ≡ None
-      pub words : length touched.words.items ≡ 1
+      pub words : length touched.words.now ≡ 1
       pub trail : word_trail (job_of touched) 0 ≡ slot ∷ up
       pub leaves : (job_of touched).leaves ≡ 0
 
     pub record IsOneOfRun (run : Run) : Type 0 where
       pub is : touched.run ≡ Some run
-      pub words : length touched.words.items ≡ 0
+      pub words : length touched.words.now ≡ 0
       pub leaves : (job_of touched).leaves ≡ 1
       pub one : run.off / 8 ≡ (run_end run - 1) / 8
       pub last : slot ≡ run.off / 8 % 512
@@ -372,8 +372,8 @@ module _ (old : Image) (bound : ℕ → ℕ) (touched : Touched) (free : ℕ →
       leaves = ap leaves_of none;
     }
       where
-        some : 0 < length touched.words.items
-        some = let all : 0 < 0 + length touched.words.items = subst (λ r. 0 < leaves_of r + length touched.words.items) none can.shape.some in omega (arith, all)
+        some : 0 < length touched.words.now
+        some = let all : 0 < 0 + length touched.words.now = subst (λ r. 0 < leaves_of r + length touched.words.now) none can.shape.some in omega (arith, all)
 
         first_is : end_path touched 0 ≡ path_of paths 0
         first_is = ap (λ r. end_path_of r paths 0) none
@@ -384,11 +384,11 @@ module _ (old : Image) (bound : ℕ → ℕ) (touched : Touched) (free : ℕ →
         size : length (path_of paths 0) ≡ suc m
         size = omega (arith, subst (λ p. length p ≡ m) way_is long, length-above (path_of paths 0), can.shape.words 0 some)
 
-        same : (i : ℕ) → i < length touched.words.items → i ≡ 0
+        same : (i : ℕ) → i < length touched.words.now → i ≡ 0
         same i here = go (cases_eq (length (path_of paths i)) (suc m))
           where
             at : i < ends touched
-            at = subst (λ r. i < ends_of r (length touched.words.items)) (sym none) here
+            at = subst (λ r. i < ends_of r (length touched.words.now)) (sym none) here
 
             is : end_path touched i ≡ path_of paths i
             is = ap (λ r. end_path_of r paths i) none
@@ -402,10 +402,10 @@ module _ (old : Image) (bound : ℕ → ℕ) (touched : Touched) (free : ℕ →
                 let low : suc m < length (path_of paths i) = omega (arith, n, subst (λ p. suc m ≤ length p) is (alike.long i at)) in
                 absurd (can.contents 0 some (subst (IsTreePointer old bound) begins (can.pointers i (suc m) here low)))
 
-        at_most : length touched.words.items ≤ 1
-        at_most = go (cases_lt 1 (length touched.words.items))
+        at_most : length touched.words.now ≤ 1
+        at_most = go (cases_lt 1 (length touched.words.now))
           where
-            go : (1 < length touched.words.items) ⊎ (length touched.words.items ≤ 1) → length touched.words.items ≤ 1
+            go : (1 < length touched.words.now) ⊎ (length touched.words.now ≤ 1) → length touched.words.now ≤ 1
             go (inr few) = few
             go (inl more) = absurd (omega (arith, same 1 more))
 
@@ -445,25 +445,25 @@ module _ (old : Image) (bound : ℕ → ℕ) (touched : Touched) (free : ℕ →
 
         one : run.off / 8 ≡ (run_end run - 1) / 8
         one =
-            let at : 1 < ends touched = subst (λ r. 1 < ends_of r (length touched.words.items)) (sym e) (omega arith) in
+            let at : 1 < ends touched = subst (λ r. 1 < ends_of r (length touched.words.now)) (sym e) (omega arith) in
             let some : 0 < length run.bytes.now = (is-run run e).some in
             let full : length (run_path run (run.off / 8)) ≡ suc m = omega (arith, length-run_path run (run.off / 8), size) in
             same-run_path run (run.off / 8) ((run_end run - 1) / 8) (few (run.off / 8) (omega (arith, some))) (few ((run_end run - 1) / 8) (omega arith))
             (ap (trail_of (run_path run (run.off / 8))) full ∙ ap (λ p. trail_of p (suc m)) (sym first_is) ∙ sym (alike.same 1 at) ∙ ap (λ p. trail_of p (suc m)) last_is ∙ ap (trail_of (run_path run ((run_end run - 1) / 8))) (sym full))
 
-        none_left : length touched.words.items ≡ 0
-        none_left = go (cases_eq (length touched.words.items) 0)
+        none_left : length touched.words.now ≡ 0
+        none_left = go (cases_eq (length touched.words.now) 0)
           where
-            begins : 0 < length touched.words.items → (suc m ≤ length (path_of paths 0)) × (trail_of (path_of paths 0) (suc m) ≡ trail_of (run_path run (run.off / 8)) (suc m))
+            begins : 0 < length touched.words.now → (suc m ≤ length (path_of paths 0)) × (trail_of (path_of paths 0) (suc m) ≡ trail_of (run_path run (run.off / 8)) (suc m))
             begins here =
-                let at : 2 < ends touched = subst (λ r. 2 < ends_of r (length touched.words.items)) (sym e) (omega (arith, here)) in
+                let at : 2 < ends touched = subst (λ r. 2 < ends_of r (length touched.words.now)) (sym e) (omega (arith, here)) in
                 let is : end_path touched 2 ≡ path_of paths 0 = ap (λ r. end_path_of r paths 2) e in
                 (subst (λ p. suc m ≤ length p) is (alike.long 2 at), ap (λ p. trail_of p (suc m)) (sym is) ∙ alike.same 2 at ∙ ap (λ p. trail_of p (suc m)) first_is)
 
             full : length (run_path run (run.off / 8)) ≡ suc m
             full = omega (arith, length-run_path run (run.off / 8), size)
 
-            none : (here : 0 < length touched.words.items) → (length (path_of paths 0) ≡ suc m) ⊎ (length (path_of paths 0) ≡ suc m → ⊥) → ⊥
+            none : (here : 0 < length touched.words.now) → (length (path_of paths 0) ≡ suc m) ⊎ (length (path_of paths 0) ≡ suc m → ⊥) → ⊥
             none here (inl whole_word) =
                 let some : 0 < length run.bytes.now = (is-run run e).some in
                 can.beside run 0 (run.off / 8) e here (omega arith) (omega (arith, some)) (ap (trail_of (path_of paths 0)) whole_word ∙ (begins here).1 ∙ ap (trail_of (run_path run (run.off / 8))) (sym full))
@@ -474,7 +474,7 @@ module _ (old : Image) (bound : ℕ → ℕ) (touched : Touched) (free : ℕ →
                 (subst (λ q. IsTreePointer old bound (slice_index (run_path run (run.off / 8)) m ∷ q))
                 (sym (ap (trail_of (run_way run 0)) (ap (λ (p : List ℕ). length p) (sym way_is) ∙ long) ∙ front-run_way run 0 (run.off / 8) m (omega arith) (omega (arith, size, length-run_way run 0)))) pointed)
 
-            go : (length touched.words.items ≡ 0) ⊎ (length touched.words.items ≡ 0 → ⊥) → length touched.words.items ≡ 0
+            go : (length touched.words.now ≡ 0) ⊎ (length touched.words.now ≡ 0 → ⊥) → length touched.words.now ≡ 0
             go (inl is) = is
             go (inr some) = absurd (none (omega (arith, some)) (cases_eq (length (path_of paths 0)) (suc m)))
 
@@ -487,7 +487,7 @@ module _ (old : Image) (bound : ℕ → ℕ) (touched : Touched) (free : ℕ →
         go : (run : Option Run) → touched.run ≡ run → ⊥
         go None e =
             let word_one = one-word e in
-            let some : 0 < length touched.words.items = omega (arith, word_one.words) in
+            let some : 0 < length touched.words.now = omega (arith, word_one.words) in
             can.contents 0 some (subst (IsTreePointer old bound) (sym word_one.trail ∙ word-trail 0 some) one)
         go (Some run) e =
             let run_one = one-of-run run e in

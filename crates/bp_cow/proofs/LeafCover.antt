@@ -74,8 +74,8 @@ under_full image root size zero k full live = tt
 under_full image root size (suc d) k full live = full d (k / 512) (live_above root size d k live)
 
 module _ (height i : ℕ) (touched : Touched) (run : Run) (is : IsSizedRun height i touched run) where
-  pub one_word : length touched.words.items ≡ 1
-  one_word = sym (length-map touched.words.items (λ word. word.0.items)) ∙ ap (λ (ps : List WordPath). length ps) is.sized
+  pub one_word : length touched.words.now ≡ 1
+  one_word = sym (length-map touched.words.now (λ word. word.0.items)) ∙ ap (λ (ps : List WordPath). length ps) is.sized
 
   size_path : path_of (word_paths touched) 0 ≡ inode_path height i 2
   size_path = ap (λ ps. path_of ps 0) is.sized
@@ -103,7 +103,7 @@ module _ (height i : ℕ) (touched : Touched) (run : Run) (is : IsSizedRun heigh
       size_long : length (inode_path height i 2) ≡ suc height
       size_long = length-digits (suc height) (8 * i + 2)
 
-      by_word : (P : WordPath → Type 0) → P (inode_path height i 2) → (j : ℕ) → j < length touched.words.items → P (path_of (word_paths touched) j)
+      by_word : (P : WordPath → Type 0) → P (inode_path height i 2) → (j : ℕ) → j < length touched.words.now → P (path_of (word_paths touched) j)
       by_word P has j here = let first : j ≡ 0 = omega (arith, here, one_word) in subst (λ k. P (path_of (word_paths touched) k)) (sym first) (subst P (sym size_path) has)
 
   module _ (shape : IsTouched touched) where
@@ -111,7 +111,7 @@ module _ (height i : ℕ) (touched : Touched) (run : Run) (is : IsSizedRun heigh
     some_ends = some-ends touched shape
 
     ends_are : ends touched ≡ 3
-    ends_are = ap (λ r. ends_of r (length touched.words.items)) is.one ∙ ap (λ n. 2 + n) one_word
+    ends_are = ap (λ r. ends_of r (length touched.words.now)) is.one ∙ ap (λ n. 2 + n) one_word
 
     by_end : (P : WordPath → Type 0) → ((k : ℕ) → P (run_path run k)) → P (inode_path height i 2) → (j : ℕ) → j < ends touched → P (end_path touched j)
     by_end P of_run of_word zero here = subst P (ap (λ r. end_path_of r (word_paths touched) 0) (sym is.one)) (of_run (run.off / 8))
@@ -211,7 +211,7 @@ module _ (height i : ℕ) (touched : Touched) (run : Run) (is : IsSizedRun heigh
                 inject : (a b : Run) → Some a ≡ Some b → a ≡ b
                 inject a b f = cc
 
-            of_word : (j : ℕ) → j < length touched.words.items → Kind (path_of (word_paths touched) j)
+            of_word : (j : ℕ) → j < length touched.words.now → Kind (path_of (word_paths touched) j)
             of_word j here =
                 let at : j ≡ 0 = omega (arith, here, one_word) in
                 subst (λ k. Kind (path_of (word_paths touched) k)) (sym at) (subst Kind (sym size_path) (inl (length-digits (suc height) (8 * i + 2), refl)))

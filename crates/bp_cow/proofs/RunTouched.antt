@@ -56,7 +56,7 @@ module _ (image : Image) (i off len : ℕ) (below : off + len ≤ size_of image 
 
 -- ---- the run of such a write
 
-module _ (image : Image) (touched : Touched) (run : Run) (i : ℕ) (one : touched.run ≡ Some run) (none : touched.words.items ≡ []) (root : run.root.items ≡ inode_path (height_of (root_of image 0)) (suc i) 1)
+module _ (image : Image) (touched : Touched) (run : Run) (i : ℕ) (one : touched.run ≡ Some run) (none : touched.words.now ≡ []) (root : run.root.items ≡ inode_path (height_of (root_of image 0)) (suc i) 1)
     (height : run.height ≡ height_of (root_of image (suc i))) (some : 0 < length run.bytes.now) (below : run_end run ≤ size_of image (suc i)) where
   abbrev write : Change
   write = writes (suc i) run.off (length run.bytes.now)

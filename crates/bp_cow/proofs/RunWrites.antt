@@ -42,7 +42,7 @@ root_path_trail height n path is =
 -- The run lies in the tree of a file, under a bound that only this file has above its size. The touched words beside it are that of the file's size, or there is none.
 pub record IsFileRun (old : Image) (bound : ℕ → ℕ) (touched : Touched) (run : Run) (n : ℕ) : Type 0 where
   pub one : touched.run ≡ Some run
-  pub words : (i : ℕ) → i < length touched.words.items → touched_trail touched i ≡ tree_trail (height_of (word old 2)) 0 (suc (height_of (root_of old 0))) (8 * suc n + 2)
+  pub words : (i : ℕ) → i < length touched.words.now → touched_trail touched i ≡ tree_trail (height_of (word old 2)) 0 (suc (height_of (root_of old 0))) (8 * suc n + 2)
   pub reached : IsReached old (suc n)
   pub is_file : kind_of old (suc n) ≡ 1
   pub root : run.root.items ≡ inode_path (height_of (root_of old 0)) (suc n) 1
@@ -59,7 +59,7 @@ long_along base (suc depth) index = omega (arith, long_along base depth (index /
 module _ (old new : Image) (bound : ℕ → ℕ) (wf : IsWellFormed old) (touched : Touched) (free : ℕ → Bool) (can : CanCommit old bound touched free) (run : Run) (n : ℕ) (is : IsFileRun old bound touched run n)
     (turned : Trail → Type 0) (stage : IsCommitted old new (IsTreePointer old bound) turned (after_commit old (job_of touched))) where
   -- where the size is touched it is the one that is given
-  pub sized_size : (i : ℕ) → i < length touched.words.items → size_of new (suc n) ≡ (job_of touched).value i
+  pub sized_size : (i : ℕ) → i < length touched.words.now → size_of new (suc n) ≡ (job_of touched).value i
   sized_size i here =
       size_after old new bound can.forest turned (job_of touched) stage n is.reached ∙ ap (after_commit old (job_of touched)) (sym (is.words i here)) ∙ after-word old bound touched free wf can i here
 
@@ -97,7 +97,7 @@ module _ (old new : Image) (bound : ℕ → ℕ) (wf : IsWellFormed old) (touche
 
   -- a word on another trail than those that are touched stays
   kept_apart : (t k : ℕ) →
-      (0 < length touched.words.items → tree_trail (height_of (word old 2)) t (suc (height_of (root_of old t))) k ≡ tree_trail (height_of (word old 2)) 0 (suc (height_of (root_of old 0))) (8 * suc n + 2) → ⊥) →
+      (0 < length touched.words.now → tree_trail (height_of (word old 2)) t (suc (height_of (root_of old t))) k ≡ tree_trail (height_of (word old 2)) 0 (suc (height_of (root_of old 0))) (8 * suc n + 2) → ⊥) →
       ((l : ℕ) → run.off / 8 ≤ l → l ≤ (run_end run - 1) / 8 → tree_trail (height_of (word old 2)) t (suc (height_of (root_of old t))) k ≡ tree_trail (height_of (word old 2)) (suc n) (suc (height_of (root_of old (suc n)))) l → ⊥) →
       after_commit old (job_of touched) (tree_trail (height_of (word old 2)) t (suc (height_of (root_of old t))) k) ≡ content_word old (root_of old t) k
   kept_apart t k no_size other =
@@ -142,7 +142,7 @@ module _ (old new : Image) (bound : ℕ → ℕ) (wf : IsWellFormed old) (touche
       ∙ kept 0 (8 * suc m + 2) inode_file (omega (arith, inside)) (λ e. omega (arith, e)) (λ _ e. other (omega (arith, e)))
 
   -- and where it is not, the one that it was
-  pub plain_size : length touched.words.items ≡ 0 → size_of new (suc n) ≡ size_of old (suc n)
+  pub plain_size : length touched.words.now ≡ 0 → size_of new (suc n) ≡ size_of old (suc n)
   plain_size none =
       size_after old new bound can.forest turned (job_of touched) stage n is.reached
       ∙ kept_apart 0 (8 * suc n + 2) (λ some _. omega (arith, some, none)) (λ l first last same. apart_trees n (8 * suc n + 2) l same)
@@ -213,7 +213,7 @@ module _ (old new : Image) (bound : ℕ → ℕ) (wf : IsWellFormed old) (touche
 
 -- ---- a run alone
 
-module _ (old new : Image) (wf : IsWellFormed old) (touched : Touched) (free : ℕ → Bool) (can : CanCommit old (size_of old) touched free) (run : Run) (n : ℕ) (one : touched.run ≡ Some run) (none : length touched.words.items ≡ 0)
+module _ (old new : Image) (wf : IsWellFormed old) (touched : Touched) (free : ℕ → Bool) (can : CanCommit old (size_of old) touched free) (run : Run) (n : ℕ) (one : touched.run ≡ Some run) (none : length touched.words.now ≡ 0)
     (reached : IsReached old (suc n)) (is_file : kind_of old (suc n) ≡ 1) (root : run.root.items ≡ inode_path (height_of (root_of old 0)) (suc n) 1) (height : run.height ≡ height_of (root_of old (suc n))) (some : 0 < length run.bytes.now)
     (below : run_end run ≤ size_of old (suc n)) (small : (i : ℕ) → slice_index run.bytes.now i < 256) (turned : Trail → Type 0)
     (stage : IsCommitted old new (IsTreePointer old (size_of old)) turned (after_commit old (job_of touched))) where

@@ -60,7 +60,7 @@ module _ (old : Image) (bound : ℕ → ℕ) (touched : Touched) (free : ℕ →
   path i = path_of (word_paths touched) i
 
   -- a word has the value that it is given
-  pub after-word : (i : ℕ) → i < length touched.words.items → after_commit old (job_of touched) (trail_of (path i) (length (path i))) ≡ (job_of touched).value i
+  pub after-word : (i : ℕ) → i < length touched.words.now → after_commit old (job_of touched) (trail_of (path i) (length (path i))) ≡ (job_of touched).value i
   after-word i here =
       let is : word_trail (job_of touched) i ≡ trail_of (path i) (length (path i)) = word-trail old bound touched free wf can i here in
       let given = value-of (job_of touched) (job_of touched).words i here (λ k few same. can.apart i k here few (sym is ∙ same ∙ word-trail old bound touched free wf can k few)) in
@@ -91,7 +91,7 @@ module _ (old : Image) (bound : ℕ → ℕ) (touched : Touched) (free : ℕ →
           (sym (leaf-end old bound touched free wf can run e j few) ∙ same ∙ leaf-end old bound touched free wf can run e l small)
 
   -- each other word is as it was
-  pub after-others : (slot : ℕ) (p : Trail) → slot < 512 → ((i : ℕ) → i < length touched.words.items → slot ∷ p ≢ trail_of (path i) (length (path i))) →
+  pub after-others : (slot : ℕ) (p : Trail) → slot < 512 → ((i : ℕ) → i < length touched.words.now → slot ∷ p ≢ trail_of (path i) (length (path i))) →
       ((run : Run) (k : ℕ) → touched.run ≡ Some run → run.off / 8 ≤ k → k ≤ (run_end run - 1) / 8 → slot ∷ p ≢ trail_of (run_path run k) (length (run_path run k))) →
       after_commit old (job_of touched) (slot ∷ p) ≡ word_on old (slot ∷ p)
   after-others slot p low no_word no_run = ap (λ v. unwrap_or v (laid_on old (job_of touched) (slot ∷ p))) none ∙ go touched.run refl

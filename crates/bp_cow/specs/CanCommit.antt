@@ -29,11 +29,11 @@ pub record CanCommit (old : Image) (bound : ℕ → ℕ) (touched : Touched) (fr
   pub forest : IsForest old bound
   pub sizes : (t : ℕ) → IsReached old t → size_of old t ≤ bound t
   pub exact : AreUnheld old (IsReached old) bound free
-  pub pointers : (i d : ℕ) → i < length touched.words.items → d < length (path_of (word_paths touched) i) →
+  pub pointers : (i d : ℕ) → i < length touched.words.now → d < length (path_of (word_paths touched) i) →
       IsTreePointer old bound (trail_of (path_of (word_paths touched) i) d)
-  pub contents : (i : ℕ) → i < length touched.words.items → ¬ IsTreePointer old bound (touched_trail touched i)
+  pub contents : (i : ℕ) → i < length touched.words.now → ¬ IsTreePointer old bound (touched_trail touched i)
   pub run : HasRunIn old bound touched.run
   -- the paths are different, and none is that of a word of the run
-  pub apart : (i k : ℕ) → i < length touched.words.items → k < length touched.words.items → touched_trail touched i ≡ touched_trail touched k → i ≡ k
-  pub beside : (run : Run) (i k : ℕ) → touched.run ≡ Some run → i < length touched.words.items → run.off / 8 ≤ k → k ≤ (run_end run - 1) / 8 →
+  pub apart : (i k : ℕ) → i < length touched.words.now → k < length touched.words.now → touched_trail touched i ≡ touched_trail touched k → i ≡ k
+  pub beside : (run : Run) (i k : ℕ) → touched.run ≡ Some run → i < length touched.words.now → run.off / 8 ≤ k → k ≤ (run_end run - 1) / 8 →
       touched_trail touched i ≢ end_trail (run_path run k)

@@ -20,7 +20,7 @@ use Rattle.bp_cow.specs.declared.touched.Touched.{Touched}
 
 -- the stores that a commit makes at most: those of the words of each copy and of the pointer to it, of the touched words, and the last one
 abbrev pub commit_stores : Image → Touched → ℕ
-commit_stores image touched = (block_words + 1) * copied_count image touched + length touched.words.items + 1
+commit_stores image touched = (block_words + 1) * copied_count image touched + length touched.words.now + 1
 
 -- as many blocks are free as it copies, and the log has room for its stores and for the barriers around the last one
 abbrev pub HasBlocks : Memory → Touched → Set → Type 0

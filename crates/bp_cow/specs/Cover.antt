@@ -23,7 +23,7 @@ abbrev pub end_path : Touched → ℕ → WordPath
 end_path touched i = end_path_of touched.run (word_paths touched) i
 
 abbrev pub ends : Touched → ℕ
-ends touched = ends_of touched.run (length touched.words.items)
+ends touched = ends_of touched.run (length touched.words.now)
 
 -- all of them begin with the same slots, so many
 pub record BeginAlike (touched : Touched) (count : ℕ) : Type 0 where

@@ -16,6 +16,7 @@ impl Touched<'_> {
     /// How many paths tell with what all touched paths begin: those of the first and of the last word of the run, and
     /// those of the words.
     fn ends(&self) -> usize
+        requires { IsTouched self.now }
         ensures { result ≡ ends self.now }
     {
         match &self.run {

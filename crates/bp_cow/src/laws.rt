@@ -82,7 +82,7 @@ pub fn what_can_be_committed_has_a_cover(image: &[u64], touched: &Touched<'_>)
 pub fn touched_words_have_their_values(image: &[u64], touched: &Touched<'_>)
     requires { IsWellFormed image.now }
     ensures words { (bound : ℕ → ℕ) (free : ℕ → Bool) (i : ℕ) → CanCommit image.now bound touched.now free →
-        i < length touched.now.words.items →
+        i < length touched.now.words.now →
         after_commit image.now (job_of touched.now) (touched_trail touched.now i) ≡ (job_of touched.now).value i }
     ensures run { (bound : ℕ → ℕ) (free : ℕ → Bool) (run : Run) (k : ℕ) →
         CanCommit image.now bound touched.now free → touched.now.run ≡ Some run →
@@ -91,7 +91,7 @@ pub fn touched_words_have_their_values(image: &[u64], touched: &Touched<'_>)
         run_word run k (word_on image.now (end_trail (run_path run k))) }
     ensures others { (bound : ℕ → ℕ) (free : ℕ → Bool) (slot : ℕ) (p : Trail) →
         CanCommit image.now bound touched.now free → slot < block_words →
-        ((i : ℕ) → i < length touched.now.words.items → slot ∷ p ≢ touched_trail touched.now i) →
+        ((i : ℕ) → i < length touched.now.words.now → slot ∷ p ≢ touched_trail touched.now i) →
         ((run : Run) (k : ℕ) → touched.now.run ≡ Some run → run.off / 8 ≤ k → k ≤ (run_end run - 1) / 8 →
         slot ∷ p ≢ end_trail (run_path run k)) →
         after_commit image.now (job_of touched.now) (slot ∷ p) ≡ word_on image.now (slot ∷ p) }
@@ -136,12 +136,12 @@ pub fn a_word_or_a_run_can_be_committed(image: &[u64], touched: &Touched<'_>)
     requires well_formed { IsWellFormed image.now }
     requires touched { IsTouched touched.now }
     ensures word { (free : ℕ → Bool) (t k : ℕ) → AreFreeBlocks image.now free → touched.now.run ≡ None →
-        length touched.now.words.items ≡ 1 →
+        length touched.now.words.now ≡ 1 →
         IsReached image.now t → 8 * k < size_of image.now t → (t ≡ 0 → k % 8 ≢ 1) →
         touched_trail touched.now 0 ≡
         tree_trail (height_of (word image.now super_root)) t (suc (height_of (root_of image.now t))) k →
         CanCommit image.now (size_of image.now) touched.now free }
     ensures run { (free : ℕ → Bool) (run : Run) → AreFreeBlocks image.now free → touched.now.run ≡ Some run →
-        length touched.now.words.items ≡ 0 →
+        length touched.now.words.now ≡ 0 →
         IsRunIn image.now (size_of image.now) run → CanCommit image.now (size_of image.now) touched.now free }
 {}

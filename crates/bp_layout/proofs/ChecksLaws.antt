@@ -7,6 +7,7 @@ use Rattle.bp_layout.specs.Reached.{IsReached}
 use Rattle.bp_layout.specs.Reached.IsReached.{inode_file as the_inode_file, root_directory as the_root_directory, named as by_name}
 use Rattle.bp_layout.specs.WellFormed.{IsWellFormed}
 use Rattle.bp_layout.specs.Checks.{IsFound, Fails, pointer_place, entry_place}
+use Rattle.bp_layout.specs.declared.check.Check.{Check}
 use Rattle.bp_layout.specs.Checks.IsFound.{inode_file, root_directory, named}
 use Rattle.bp_layout.specs.Checks.Fails.{height, root_bits, pointer_bits, range, twice, hole, inode_file_size, inumber, root_named, inode_twice, kind, root_kind, directory_size, capacity, name_form, name_twice}
 
@@ -26,7 +27,7 @@ pub same_entry : (image : Image) (i s k r : ℕ) → i ≡ k → s ≡ r → ent
 same_entry image i s k r a b = ap (λ (x : ℕ). entry_place image x s 0) a ∙ ap (λ (x : ℕ). entry_place image k x 0) b
 
 -- the word and its fault cannot both be
-pub none_fails : (image : Image) → IsWellFormed image → (c p : ℕ) → Fails image c p → ⊥
+pub none_fails : (image : Image) → IsWellFormed image → (c : Check) (p : ℕ) → Fails image c p → ⊥
 none_fails image wf _ _ (height {t = t} at high) =
     let low : height_of (root_of image t) ≤ 3 = (wf.sound t (found_reached image t at.found)).low (some_bytes _ _ 0 0 at.live) in omega (arith, high, low)
 none_fails image wf _ _ (root_bits {t = t} at bits) = bits ((wf.sound t (found_reached image t at.found)).root_bits (some_bytes _ _ 0 0 at.live))

@@ -10,6 +10,7 @@ use Rattle.bp_layout.specs.Reached.IsReached.{inode_file as the_inode_file, root
 use Rattle.bp_layout.specs.WellFormed.{IsWellFormed}
 use Rattle.bp_layout.specs.Checks.{IsFormatted, NoneFails, IsFound, IsPointer, IsEntry, IsFollowed, Passes, ContentFollowed, pointer_place, entry_place, size_place}
 use Rattle.bp_layout.specs.Checks.IsFound.{inode_file, root_directory, named}
+use Rattle.bp_layout.specs.declared.check.Check.TheVariants.{Height, PointerBits, Range, BlockTwice, Hole, InodeFileSize, Inumber, InodeTwice, Kind, DirectorySize, Capacity, NameForm, NameTwice}
 use Rattle.bp_layout.specs.Checks.Fails.{height, root_bits, pointer_bits, range, twice, hole, inode_file_size, inumber, root_named, inode_twice, kind, root_kind, directory_size, capacity, name_form, name_twice}
 use Rattle.bp_layout.proofs.TreeLaws.{live_above, live_pointer_word, live_content, word_at-suc}
 use Rattle.bp_layout.proofs.OnePlace.{SamePointer, same_block, low_slot}
@@ -38,7 +39,7 @@ same_slot s r row column = omega arith
 
 module _ (image : Image) (none : NoneFails image) where
   fits : (t : ℕ) → IsFound image t → size_of image t ≤ covered (suc (height_of (root_of image t)))
-  fits t found = not_less _ _ (λ large. none.none 11 (size_place image t) (capacity found large refl))
+  fits t found = not_less _ _ (λ large. none.none Capacity (size_place image t) (capacity found large refl))
 
   root_live : (t : ℕ) → 0 < size_of image t → IsLivePointer (root_of image t) (size_of image t) 0 0
   root_live t some = record { level = height_of (root_of image t); height = omega arith; live = omega (arith, some) }
@@ -47,16 +48,16 @@ module _ (image : Image) (none : NoneFails image) where
   root_pointer t found some = record { found = found; live = root_live t some; followed = tt; at = refl }
 
   low_root : (t : ℕ) → IsFound image t → 0 < size_of image t → height_of (root_of image t) ≤ 3
-  low_root t found some = not_less _ _ (λ high. none.none 1 _ (height (root_pointer t found some) high))
+  low_root t found some = not_less _ _ (λ high. none.none Height _ (height (root_pointer t found some) high))
 
   bits_root : (t : ℕ) → IsFound image t → 0 < size_of image t → root_of image t / 8 % 512 ≡ 0
-  bits_root t found some = is_equal _ _ (λ odd. none.none 2 _ (root_bits (root_pointer t found some) odd))
+  bits_root t found some = is_equal _ _ (λ odd. none.none PointerBits _ (root_bits (root_pointer t found some) odd))
 
   passes : (t d k : ℕ) → IsPointer image t d k (pointer_place image t d k) → Passes image (root_of image t) d k
   passes t zero k at =
       let some : 0 < size_of image t = omega (arith, at.live.live) in
-      (omega (arith, low_root t at.found some, bits_root t at.found some), less _ _ (λ high. none.none 3 _ (range at high)))
-  passes t (suc d) k at = (is_equal _ _ (λ odd. none.none 2 _ (pointer_bits at odd)), less _ _ (λ high. none.none 3 _ (range at high)))
+      (omega (arith, low_root t at.found some, bits_root t at.found some), less _ _ (λ high. none.none Range _ (range at high)))
+  passes t (suc d) k at = (is_equal _ _ (λ odd. none.none PointerBits _ (pointer_bits at odd)), less _ _ (λ high. none.none Range _ (range at high)))
 
   -- each live pointer is followed, but below a null
   followed : (t d k : ℕ) → IsFound image t → IsLivePointer (root_of image t) (size_of image t) d k →
@@ -85,14 +86,14 @@ module _ (image : Image) (none : NoneFails image) where
       go (inr null) = absurd (present (ap block_of null))
 
   some_inodes : 4096 ≤ size_of image 0
-  some_inodes = not_less _ _ (λ small. none.none 6 3 (inode_file_size (inr small)))
+  some_inodes = not_less _ _ (λ small. none.none InodeFileSize 3 (inode_file_size (inr small)))
 
   tells : TellsBlocks image (IsFound image)
   tells = record {
     some = some_inodes;
     first = inode_file;
     fits = fits;
-    places = λ t d k u e l p q s z at also present same. is_equal p q (λ ne. none.none 4 p (twice at also ne present same));
+    places = λ t d k u e l p q s z at also present same. is_equal p q (λ ne. none.none BlockTwice p (twice at also ne present same));
   }
 
   once : (t d k u e l : ℕ) → IsFound image t → IsFound image u → IsLivePointer (root_of image t) (size_of image t) d k → IsLivePointer (root_of image u) (size_of image u) e l →
@@ -118,17 +119,17 @@ module _ (image : Image) (none : NoneFails image) where
 
       low : (d k : ℕ) → IsLivePointer (root_of image t) (size_of image t) d k → IsFollowed image (root_of image t) (size_of image t) d k ⊎ (word_at image (root_of image t) d k ≡ 0) →
           node image (root_of image t) d k < block_count image
-      low d k live (inl f) = less _ _ (λ high. none.none 3 _ (range (record { found = found; live = live; followed = f; at = refl }) high))
+      low d k live (inl f) = less _ _ (λ high. none.none Range _ (range (record { found = found; live = live; followed = f; at = refl }) high))
       low d k live (inr null) = omega (arith, null, some)
 
   -- the inode file and the directories have no null
   full : (t : ℕ) → IsFound image t → (t ≡ 0) ⊎ (kind_of image t ≡ 2) → IsFull image (root_of image t) (size_of image t)
-  full t found which zero k live null = none.none 5 _ (hole (record { found = found; live = live; followed = tt; at = refl }) which null)
+  full t found which zero k live null = none.none Hole _ (hole (record { found = found; live = live; followed = tt; at = refl }) which null)
   full t found which (suc d) k live null =
       let above : IsLivePointer (root_of image t) (size_of image t) d (k / 512) = live_above _ _ d k (live_pointer_word _ _ (suc d) k live) in
       let present : node image (root_of image t) d (k / 512) ≢ 0 = full t found which d (k / 512) above in
       let at : IsPointer image t d (k / 512) (pointer_place image t d (k / 512)) = pointer_at t d (k / 512) found above present in
-      none.none 5 _ (hole (record { found = found; live = live; followed = (fits t found, at.followed, passes t d (k / 512) at, present); at = refl }) which null)
+      none.none Hole _ (hole (record { found = found; live = live; followed = (fits t found, at.followed, passes t d (k / 512) at, present); at = refl }) which null)
 
   -- so their content is followed
   content : (t k : ℕ) → IsFound image t → (t ≡ 0) ⊎ (kind_of image t ≡ 2) → 8 * k < size_of image t → ContentFollowed image t k
@@ -167,7 +168,7 @@ module _ (image : Image) (none : NoneFails image) where
       (all.0, same_slot s r all.2 same.1)
 
   in_file : (i s j : ℕ) → IsFound image i → EntryNames image i s j → j < inode_count image
-  in_file i s j found names = less _ _ (λ high. none.none 7 _ (inumber (entry i s j found names) high))
+  in_file i s j found names = less _ _ (λ high. none.none Inumber _ (inumber (entry i s j found names) high))
 
   pub found_all : (t : ℕ) → IsReached image t → IsFound image t
   found_all _ the_inode_file = inode_file
@@ -191,24 +192,24 @@ module _ (image : Image) (none : NoneFails image) where
         all.0;
     full_inode_file = full 0 inode_file (inl refl);
     full_directories = λ i r directory. full i (found_all i r) (inr directory);
-    inode_blocks = is_equal _ _ (λ odd. none.none 6 3 (inode_file_size (inl odd)));
+    inode_blocks = is_equal _ _ (λ odd. none.none InodeFileSize 3 (inode_file_size (inl odd)));
     some_inodes = some_inodes;
     inumbers = λ i s j r n. in_file i s j (found_all i r) n;
-    not_root = λ i s j r n one. none.none 8 _ (root_named (subst (λ x. IsEntry image i s x (entry_place image i s 0)) one (entry i s j (found_all i r) n)));
+    not_root = λ i s j r n one. none.none InodeTwice _ (root_named (subst (λ x. IsEntry image i s x (entry_place image i s 0)) one (entry i s j (found_all i r) n)));
     named_once = λ i s k q j r p n m.
         one_entry i s j k q j (found_all i r) (found_all k p) n m
-        (is_equal _ _ (λ ne. none.none 8 _ (inode_twice (entry i s j (found_all i r) n) (entry k q j (found_all k p) m) ne)));
+        (is_equal _ _ (λ ne. none.none InodeTwice _ (inode_twice (entry i s j (found_all i r) n) (entry k q j (found_all k p) m) ne)));
     kinds = λ i r. kinds i (found_all (suc i) r) (cases_eq (kind_of image (suc i)) 1) (cases_eq (kind_of image (suc i)) 2);
-    root_kind = is_equal _ _ (λ other. none.none 9 _ (root_kind root_found other refl));
-    directory_sizes = λ i r directory. is_equal _ _ (λ odd. none.none 10 _ (directory_size (found_all i r) directory odd refl));
-    names = λ i s j r n. stable_name _ (λ bad. none.none 12 _ (name_form (entry i s j (found_all i r) n) bad));
+    root_kind = is_equal _ _ (λ other. none.none Kind _ (root_kind root_found other refl));
+    directory_sizes = λ i r directory. is_equal _ _ (λ odd. none.none DirectorySize _ (directory_size (found_all i r) directory odd refl));
+    names = λ i s j r n. stable_name _ (λ bad. none.none NameForm _ (name_form (entry i s j (found_all i r) n) bad));
     names_once = λ i s q j k r n m same.
         (one_entry i s j i q k (found_all i r) (found_all i r) n m
-        (is_equal _ _ (λ ne. none.none 13 _ (name_twice (entry i s j (found_all i r) n) (entry i q k (found_all i r) m) ne same)))).1;
+        (is_equal _ _ (λ ne. none.none NameTwice _ (name_twice (entry i s j (found_all i r) n) (entry i q k (found_all i r) m) ne same)))).1;
   }
     where
       kinds : (i : ℕ) → IsFound image (suc i) → (kind_of image (suc i) ≡ 1) ⊎ (kind_of image (suc i) ≡ 1 → ⊥) → (kind_of image (suc i) ≡ 2) ⊎ (kind_of image (suc i) ≡ 2 → ⊥) →
           (1 ≤ kind_of image (suc i)) × (kind_of image (suc i) ≤ 2)
       kinds i found (inl e) f = (omega (arith, e), omega (arith, e))
       kinds i found (inr e) (inl f) = (omega (arith, f), omega (arith, f))
-      kinds i found (inr e) (inr f) = absurd (none.none 9 _ (kind found e f refl))
+      kinds i found (inr e) (inr f) = absurd (none.none Kind _ (kind found e f refl))

@@ -5,6 +5,24 @@ use Rattle.bp_limits.specs.Limits.{magic, max_height, min_blocks, max_blocks}
 use Rattle.bp_layout.specs.Tree.{word_at, node, place_of, covered, IsLivePointer}
 use Rattle.bp_layout.specs.Inode.{kind_of, root_of, size_of, inode_count}
 use Rattle.bp_layout.specs.Directory.{EntryNames, IsName, name_at}
+use Rattle.bp_layout.specs.declared.check.Check.{Check}
+use Rattle.bp_layout.specs.declared.check.Check.TheVariants.{Height, PointerBits, Range, BlockTwice, Hole, InodeFileSize, Inumber, InodeTwice, Kind, DirectorySize, Capacity, NameForm, NameTwice}
+
+-- the number of a check in the list of docs/format.md
+abbrev pub number_of : Check → ℕ
+number_of Height = 1
+number_of PointerBits = 2
+number_of Range = 3
+number_of BlockTwice = 4
+number_of Hole = 5
+number_of InodeFileSize = 6
+number_of Inumber = 7
+number_of InodeTwice = 8
+number_of Kind = 9
+number_of DirectorySize = 10
+number_of Capacity = 11
+number_of NameForm = 12
+number_of NameTwice = 13
 
 -- the pointer at a depth and number is in form and in range
 abbrev pub Passes : Image → ℕ → ℕ → ℕ → Type 0
@@ -60,28 +78,29 @@ pub record IsEntry (image : Image) (i slot j place : ℕ) : Type 0 where
   pub followed : ContentFollowed image i (32 * slot)
   pub at : entry_place image i slot 0 ≡ place
 
-pub data Fails (image : Image) : ℕ → ℕ → Type 0 where
-  height : {t p : ℕ} → IsPointer image t 0 0 p → max_height < height_of (root_of image t) → Fails image 1 p
-  root_bits : {t p : ℕ} → IsPointer image t 0 0 p → root_of image t / 8 % 512 ≢ 0 → Fails image 2 p
-  pointer_bits : {t d k p : ℕ} → IsPointer image t (suc d) k p → word_at image (root_of image t) (suc d) k % 4096 ≢ 0 → Fails image 2 p
-  range : {t d k p : ℕ} → IsPointer image t d k p → block_count image ≤ node image (root_of image t) d k → Fails image 3 p
+-- this check fails at this place
+pub data Fails (image : Image) : Check → ℕ → Type 0 where
+  height : {t p : ℕ} → IsPointer image t 0 0 p → max_height < height_of (root_of image t) → Fails image Height p
+  root_bits : {t p : ℕ} → IsPointer image t 0 0 p → root_of image t / 8 % 512 ≢ 0 → Fails image PointerBits p
+  pointer_bits : {t d k p : ℕ} → IsPointer image t (suc d) k p → word_at image (root_of image t) (suc d) k % 4096 ≢ 0 → Fails image PointerBits p
+  range : {t d k p : ℕ} → IsPointer image t d k p → block_count image ≤ node image (root_of image t) d k → Fails image Range p
   twice : {t d k p u e l q : ℕ} → IsPointer image t d k p → IsPointer image u e l q → p ≢ q →
-      node image (root_of image t) d k ≢ 0 → node image (root_of image t) d k ≡ node image (root_of image u) e l → Fails image 4 p
-  hole : {t d k p : ℕ} → IsPointer image t d k p → (t ≡ 0) ⊎ (kind_of image t ≡ 2) → node image (root_of image t) d k ≡ 0 → Fails image 5 p
-  inode_file_size : (size_of image 0 % 4096 ≢ 0) ⊎ (size_of image 0 < 4096) → Fails image 6 3
-  inumber : {i s j p : ℕ} → IsEntry image i s j p → inode_count image ≤ j → Fails image 7 p
-  root_named : {i s p : ℕ} → IsEntry image i s 1 p → Fails image 8 p
-  inode_twice : {i s j p k r q : ℕ} → IsEntry image i s j p → IsEntry image k r j q → p ≢ q → Fails image 8 p
-  kind : {i p : ℕ} → IsFound image (suc i) → kind_of image (suc i) ≢ 1 → kind_of image (suc i) ≢ 2 → inode_place image (suc i) 0 ≡ p → Fails image 9 p
-  root_kind : {p : ℕ} → IsFound image 1 → kind_of image 1 ≢ 2 → inode_place image 1 0 ≡ p → Fails image 9 p
-  directory_size : {i p : ℕ} → IsFound image i → kind_of image i ≡ 2 → size_of image i % 256 ≢ 0 → size_place image i ≡ p → Fails image 10 p
-  capacity : {t p : ℕ} → IsFound image t → covered (suc (height_of (root_of image t))) < size_of image t → size_place image t ≡ p → Fails image 11 p
-  name_form : {i s j p : ℕ} → IsEntry image i s j p → (IsName (name_at image i s) → ⊥) → Fails image 12 (p + 1)
-  name_twice : {i s j p r k q : ℕ} → IsEntry image i s j p → IsEntry image i r k q → p ≢ q → name_at image i s ≡ name_at image i r → Fails image 13 p
+      node image (root_of image t) d k ≢ 0 → node image (root_of image t) d k ≡ node image (root_of image u) e l → Fails image BlockTwice p
+  hole : {t d k p : ℕ} → IsPointer image t d k p → (t ≡ 0) ⊎ (kind_of image t ≡ 2) → node image (root_of image t) d k ≡ 0 → Fails image Hole p
+  inode_file_size : (size_of image 0 % 4096 ≢ 0) ⊎ (size_of image 0 < 4096) → Fails image InodeFileSize 3
+  inumber : {i s j p : ℕ} → IsEntry image i s j p → inode_count image ≤ j → Fails image Inumber p
+  root_named : {i s p : ℕ} → IsEntry image i s 1 p → Fails image InodeTwice p
+  inode_twice : {i s j p k r q : ℕ} → IsEntry image i s j p → IsEntry image k r j q → p ≢ q → Fails image InodeTwice p
+  kind : {i p : ℕ} → IsFound image (suc i) → kind_of image (suc i) ≢ 1 → kind_of image (suc i) ≢ 2 → inode_place image (suc i) 0 ≡ p → Fails image Kind p
+  root_kind : {p : ℕ} → IsFound image 1 → kind_of image 1 ≢ 2 → inode_place image 1 0 ≡ p → Fails image Kind p
+  directory_size : {i p : ℕ} → IsFound image i → kind_of image i ≡ 2 → size_of image i % 256 ≢ 0 → size_place image i ≡ p → Fails image DirectorySize p
+  capacity : {t p : ℕ} → IsFound image t → covered (suc (height_of (root_of image t))) < size_of image t → size_place image t ≡ p → Fails image Capacity p
+  name_form : {i s j p : ℕ} → IsEntry image i s j p → (IsName (name_at image i s) → ⊥) → Fails image NameForm (p + 1)
+  name_twice : {i s j p r k q : ℕ} → IsEntry image i s j p → IsEntry image i r k q → p ≢ q → name_at image i s ≡ name_at image i r → Fails image NameTwice p
 
 -- no check fails at any place
 pub record NoneFails (image : Image) : Type 0 where
-  pub none : (c p : ℕ) → Fails image c p → ⊥
+  pub none : (c : Check) (p : ℕ) → Fails image c p → ⊥
 
 -- whole blocks, as many as the superblock says, under the mark of a format
 pub record IsFormatted (image : Image) : Type 0 where

@@ -1,12 +1,14 @@
 //! What the words of an image mean, and the types of what stands in them.
 #![tactic(auto)]
 
+mod check;
 mod entry;
 mod fields;
 pub mod image_laws;
 pub mod laws;
 mod listing;
 
+pub use check::Check;
 pub use entry::{Entry, name_word};
 pub use fields::{BadPointer, Inode, Kind, Name, RootWord, Stat, Super, pointer, pointer_word};
 pub use listing::Listing;

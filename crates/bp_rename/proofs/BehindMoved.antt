@@ -189,7 +189,7 @@ module _ (old middle : Memory) (move : Move) (blocks inodes after : Set) (can : 
   pub behind_can : CanCommit (current_words middle) (sizes_with (current_words middle) touched) touched (has after)
   behind_can = words_can mid (sizes_with mid touched) forest touched (pick 0 i) (pick (8 * j + 2) (32 * s + 0)) are (λ t reached. low t) (has after) unheld
 
-  count : length touched.words.items ≡ 2
+  count : length touched.words.now ≡ 2
   count = two_count mid touched 0 (8 * j + 2) i (32 * s + 0) (size_of image j + 256) 0 is_mid
 
   -- ---- the copies
@@ -273,7 +273,7 @@ module _ (old middle : Memory) (move : Move) (blocks inodes after : Set) (can : 
         told zero = inr (refl, refl)
         told (suc k) = inl (refl, refl)
 
-    value : (k : ℕ) → k < length touched.words.items →
+    value : (k : ℕ) → k < length touched.words.now →
         after_commit mid (job_of touched) (tree_trail (height_of (word mid 2)) (pick 0 i k) (suc (height_of (root_of mid (pick 0 i k)))) (pick (8 * j + 2) (32 * s + 0) k)) ≡ (job_of touched).value k
     value = words_value mid (sizes_with mid touched) forest touched (pick 0 i) (pick (8 * j + 2) (32 * s + 0)) are (has after) behind_formed behind_can
 

@@ -37,14 +37,14 @@ use Rattle.bp_cow.proofs.Values.{after-others, after-word}
 -- Content words alone are touched: each in a reached tree below a size that counts, no root word, and no two alike.
 pub record AreContent (image : Image) (bound : ℕ → ℕ) (touched : Touched) (tree number : ℕ → ℕ) : Type 0 where
   pub none : touched.run ≡ None
-  pub some : 1 ≤ length touched.words.items
-  pub few : length touched.words.items ≤ 32
-  pub reached : (i : ℕ) → i < length touched.words.items → IsReached image (tree i)
-  pub below : (i : ℕ) → i < length touched.words.items → 8 * number i < bound (tree i)
-  pub no_root : (i : ℕ) → i < length touched.words.items → tree i ≡ 0 → number i % 8 ≢ 1
-  pub path : (i : ℕ) → i < length touched.words.items →
+  pub some : 1 ≤ length touched.words.now
+  pub few : length touched.words.now ≤ 32
+  pub reached : (i : ℕ) → i < length touched.words.now → IsReached image (tree i)
+  pub below : (i : ℕ) → i < length touched.words.now → 8 * number i < bound (tree i)
+  pub no_root : (i : ℕ) → i < length touched.words.now → tree i ≡ 0 → number i % 8 ≢ 1
+  pub path : (i : ℕ) → i < length touched.words.now →
       path_of (word_paths touched) i ≡ tree_path (height_of (root_of image 0)) (tree i) (suc (height_of (root_of image (tree i)))) (number i)
-  pub apart : (i k : ℕ) → i < length touched.words.items → k < length touched.words.items → tree i ≡ tree k → number i ≡ number k → i ≡ k
+  pub apart : (i k : ℕ) → i < length touched.words.now → k < length touched.words.now → tree i ≡ tree k → number i ≡ number k → i ≡ k
 
 long_along : (base : Trail) (depth index : ℕ) → length (along base depth index) ≡ depth + length base
 long_along base zero index = omega arith
@@ -112,7 +112,7 @@ module _ (image : Image) (bound : ℕ → ℕ) (forest : IsForest image bound) w
 
 module _ (image : Image) (bound : ℕ → ℕ) (forest : IsForest image bound) (touched : Touched) (tree number : ℕ → ℕ) (are : AreContent image bound touched tree number) where
   abbrev count : ℕ
-  count = length touched.words.items
+  count = length touched.words.now
 
   abbrev trail : ℕ → ℕ → Trail
   trail t k = tree_trail (height_of (word image 2)) t (suc (height_of (root_of image t))) k
@@ -138,23 +138,23 @@ module _ (image : Image) (bound : ℕ → ℕ) (forest : IsForest image bound) (
         some = omega (arith, are.some);
       }
 
-  pub words_trail : (i : ℕ) → i < length touched.words.items → touched_trail touched i ≡ tree_trail (height_of (word image 2)) (tree i) (suc (height_of (root_of image (tree i)))) (number i)
+  pub words_trail : (i : ℕ) → i < length touched.words.now → touched_trail touched i ≡ tree_trail (height_of (word image 2)) (tree i) (suc (height_of (root_of image (tree i)))) (number i)
   words_trail i here =
       ap (λ (p : WordPath). trail_of p (length p)) (are.path i here) ∙ content_trail (height_of (root_of image 0)) (tree i) (suc (height_of (root_of image (tree i)))) (number i)
 
-  whole : (i : ℕ) → i < length touched.words.items → length (path_of (word_paths touched) i) ≡ suc (length (path_of (word_paths touched) i) - 1)
+  whole : (i : ℕ) → i < length touched.words.now → length (path_of (word_paths touched) i) ≡ suc (length (path_of (word_paths touched) i) - 1)
   whole i here = omega (arith, words_shape.words i here)
 
-  at : (i : ℕ) → i < length touched.words.items →
+  at : (i : ℕ) → i < length touched.words.now →
       trail_of (path_of (word_paths touched) i) (suc (length (path_of (word_paths touched) i) - 1)) ≡ tree_trail (height_of (word image 2)) (tree i) (suc (height_of (root_of image (tree i)))) (number i)
   at i here = ap (trail_of (path_of (word_paths touched) i)) (sym (whole i here)) ∙ words_trail i here
 
   -- each proper front of a path is a pointer, and no path is one
-  pub words_fronts : (i d : ℕ) → i < length touched.words.items → d < length (path_of (word_paths touched) i) → IsTreePointer image bound (trail_of (path_of (word_paths touched) i) d)
+  pub words_fronts : (i d : ℕ) → i < length touched.words.now → d < length (path_of (word_paths touched) i) → IsTreePointer image bound (trail_of (path_of (word_paths touched) i) d)
   words_fronts i d here deep =
       content_fronts image bound forest (path_of (word_paths touched) i) (length (path_of (word_paths touched) i) - 1) (tree i) (number i) (are.reached i here) (are.below i here) (at i here) d (omega (arith, deep))
 
-  words_no_pointer : (i : ℕ) → i < length touched.words.items → IsTreePointer image bound (touched_trail touched i) → ⊥
+  words_no_pointer : (i : ℕ) → i < length touched.words.now → IsTreePointer image bound (touched_trail touched i) → ⊥
   words_no_pointer i here pointer =
       content_no_pointer image bound forest (path_of (word_paths touched) i) (length (path_of (word_paths touched) i) - 1) (tree i) (number i) (are.reached i here) (are.below i here) (at i here) (are.no_root i here)
       (subst (λ d. IsTreePointer image bound (trail_of (path_of (word_paths touched) i) d)) (whole i here) pointer)
@@ -206,12 +206,12 @@ module _ (image : Image) (bound : ℕ → ℕ) (forest : IsForest image bound) (
 
   module _ (free : ℕ → Bool) (wf : IsWellFormed image) (can : CanCommit image bound touched free) where
     -- a touched word has its value
-    pub words_value : (i : ℕ) → i < length touched.words.items →
+    pub words_value : (i : ℕ) → i < length touched.words.now →
         after_commit image (job_of touched) (tree_trail (height_of (word image 2)) (tree i) (suc (height_of (root_of image (tree i)))) (number i)) ≡ (job_of touched).value i
     words_value i here = ap (after_commit image (job_of touched)) (sym (words_trail i here)) ∙ after-word image bound touched free wf can i here
 
     -- another word stays
-    pub words_kept : (t k : ℕ) → IsReached image t → 8 * k < bound t → ((i : ℕ) → i < length touched.words.items → t ≡ tree i → k ≡ number i → ⊥) →
+    pub words_kept : (t k : ℕ) → IsReached image t → 8 * k < bound t → ((i : ℕ) → i < length touched.words.now → t ≡ tree i → k ≡ number i → ⊥) →
         after_commit image (job_of touched) (tree_trail (height_of (word image 2)) t (suc (height_of (root_of image t))) k) ≡ content_word image (root_of image t) k
     words_kept t k reached low other =
         after-others image bound touched free wf can (k % 512) (along (root_trail (height_of (word image 2)) t) (height_of (root_of image t)) (k / 512)) (omega arith)
@@ -224,7 +224,7 @@ module _ (image : Image) (bound : ℕ → ℕ) (forest : IsForest image bound) (
     -- Where no size grows past what counts, the commit is told on content words.
     module _ (new : Image) (turned : Trail → Type 0) (stage : IsCommitted image new (IsTreePointer image bound) turned (after_commit image (job_of touched))) where
       -- a size that is not touched stays
-      pub size_kept : (t : ℕ) → IsReached image t → ((i : ℕ) → i < length touched.words.items → tree i ≡ 0 → number i ≡ 8 * t + 2 → ⊥) → size_of new t ≡ size_of image t
+      pub size_kept : (t : ℕ) → IsReached image t → ((i : ℕ) → i < length touched.words.now → tree i ≡ 0 → number i ≡ 8 * t + 2 → ⊥) → size_of new t ≡ size_of image t
       size_kept zero reached other = stage.superblock 3 (omega arith) (λ e. omega (arith, e))
       size_kept (suc n) reached other =
           let inside : 64 * suc n + 64 ≤ bound 0 = forest.in_file n reached in
@@ -232,7 +232,7 @@ module _ (image : Image) (bound : ℕ → ℕ) (forest : IsForest image bound) (
           ∙ words_kept 0 (8 * suc n + 2) inode_file (omega (arith, inside)) (λ i here e f. other i here (sym e) (sym f))
 
       -- a size that is touched has its value
-      pub size_given : (n i : ℕ) → IsReached image (suc n) → i < length touched.words.items → tree i ≡ 0 → number i ≡ 8 * suc n + 2 → size_of new (suc n) ≡ (job_of touched).value i
+      pub size_given : (n i : ℕ) → IsReached image (suc n) → i < length touched.words.now → tree i ≡ 0 → number i ≡ 8 * suc n + 2 → size_of new (suc n) ≡ (job_of touched).value i
       size_given n i reached here e f =
           size_after image new bound forest turned (job_of touched) stage n reached
           ∙ sym (subst₂ (λ t k. after_commit image (job_of touched) (tree_trail (height_of (word image 2)) t (suc (height_of (root_of image t))) k) ≡ after_commit image (job_of touched) (tree_trail (height_of (word image 2)) 0 (suc (height_of (root_of image 0))) (8 * suc n + 2))) (sym e) (sym f) refl)
@@ -240,7 +240,7 @@ module _ (image : Image) (bound : ℕ → ℕ) (forest : IsForest image bound) (
 
       pub words_only : (Changed : ℕ → ℕ → Type 0) → ((t : ℕ) → IsReached image t → size_of new t ≤ bound t) →
           IsFull image (root_of image 0) (bound 0) → ((i : ℕ) → IsReached image i → kind_of image i ≡ 2 → IsFull image (root_of image i) (bound i)) →
-          ((i : ℕ) → i < length touched.words.items → Changed (tree i) (number i)) →
+          ((i : ℕ) → i < length touched.words.now → Changed (tree i) (number i)) →
           CommitsOnly image new (changes_of image (job_of touched)) Changed
       words_only Changed low file directories told = record {
         commits = committed_commits image new bound forest turned (job_of touched) stage can.sizes low file directories;

@@ -91,7 +91,7 @@ module _ (old third mid : Memory) (move : Move) (s entry : ℕ) (can : CanRename
   pub into_ready : CanCommit (current_words mid) (size_of (current_words mid)) touched (has blocks)
   into_ready = words_can (current_words mid) (size_of (current_words mid)) (wf_forest (current_words mid) formed) touched (pick move.to_dir move.from_dir) (pick (32 * s + 0) (32 * move.from_slot + 0)) are (λ t q. omega arith) (has blocks) exact_mid.free_blocks
 
-  count : length touched.words.items ≡ 2
+  count : length touched.words.now ≡ 2
   count = two_count (current_words mid) touched move.to_dir (32 * s + 0) move.from_dir (32 * move.from_slot + 0) (moved_inode (current_words old) move) 0 is_mid
 
   leaves : (job_of touched).leaves ≡ 0
@@ -143,7 +143,7 @@ module _ (old third mid : Memory) (move : Move) (s entry : ℕ) (can : CanRename
         told zero = inr (refl, refl)
         told (suc i) = inl (refl, refl)
 
-    value : (i : ℕ) → i < length touched.words.items →
+    value : (i : ℕ) → i < length touched.words.now →
         after_commit (current_words mid) (job_of touched) (tree_trail (height_of (word (current_words mid) 2)) (pick move.to_dir move.from_dir i) (suc (height_of (root_of (current_words mid) (pick move.to_dir move.from_dir i)))) (pick (32 * s + 0) (32 * move.from_slot + 0) i)) ≡
         (job_of touched).value i
     value = words_value (current_words mid) (size_of (current_words mid)) (wf_forest (current_words mid) formed) touched (pick move.to_dir move.from_dir) (pick (32 * s + 0) (32 * move.from_slot + 0)) are (has blocks) formed into_ready

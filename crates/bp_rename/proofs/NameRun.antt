@@ -34,7 +34,7 @@ use Rattle.bp_rename.proofs.ContentWords.{same_word}
 
 -- ---- what is asked
 
-module _ (image : Image) (wf : IsWellFormed image) (n : ℕ) (reached : IsReached image (suc n)) (touched : Touched) (run : Run) (one : touched.run ≡ Some run) (none : length touched.words.items ≡ 0)
+module _ (image : Image) (wf : IsWellFormed image) (n : ℕ) (reached : IsReached image (suc n)) (touched : Touched) (run : Run) (one : touched.run ≡ Some run) (none : length touched.words.now ≡ 0)
     (of : IsRunOf image (suc n) run) where
   leaves : leaves_of touched.run ≡ run_leaves run
   leaves = ap leaves_of one

@@ -51,7 +51,7 @@ module _ (memory : Memory) (move : Move) (r : ℕ) (can : CanRename (current_wor
   pub ready : CanCommit (current_words memory) (size_of (current_words memory)) touched (has blocks)
   ready = onto_commit (current_words memory) move r can onto touched is (has blocks) exact.free_blocks
 
-  count : length touched.words.items ≡ 2
+  count : length touched.words.now ≡ 2
   count = two_count (current_words memory) touched move.from_dir (32 * move.from_slot + 0) move.to_dir (32 * r + 0) 0 (moved_inode (current_words memory) move) is
 
   leaves : (job_of touched).leaves ≡ 0
@@ -69,7 +69,7 @@ module _ (old new : Memory) (move : Move) (r : ℕ) (can : CanRename (current_wo
   commits : CanCommit (current_words old) (size_of (current_words old)) touched (has blocks)
   commits = ready old move r can onto touched is blocks inodes exact room
 
-  some_words : length touched.words.items ≡ 2
+  some_words : length touched.words.now ≡ 2
   some_words = count old move r can onto touched is blocks inodes exact room
 
   apart_from_file : (i : ℕ) → pick move.from_dir move.to_dir i ≡ 0 → ⊥
@@ -101,7 +101,7 @@ module _ (old new : Memory) (move : Move) (r : ℕ) (can : CanRename (current_wo
       told zero = inl (refl, refl)
       told (suc i) = inr (refl, refl)
 
-  value : (i : ℕ) → i < length touched.words.items →
+  value : (i : ℕ) → i < length touched.words.now →
       after_commit (current_words old) (job_of touched) (tree_trail (height_of (word (current_words old) 2)) (pick move.from_dir move.to_dir i) (suc (height_of (root_of (current_words old) (pick move.from_dir move.to_dir i)))) (pick (32 * move.from_slot + 0) (32 * r + 0) i)) ≡
       (job_of touched).value i
   value = words_value (current_words old) (size_of (current_words old)) (wf_forest (current_words old) can.well_formed) touched (pick move.from_dir move.to_dir) (pick (32 * move.from_slot + 0) (32 * r + 0))

@@ -18,7 +18,7 @@ small_front n xs small at = go (cases_lt at n)
     go (inl low) = rw (get_or-take n xs at 0 low) (small at)
     go (inr past) = let none : slice_index (take n xs) at ≡ 0 = get_or_past (take n xs) at 0 (omega (arith, past, length-take n xs)) in omega (arith, none)
 
-pub touches_name : {touched : Touched} {run : Run} → (image : Image) (i slot : ℕ) (name : Name) (bytes : List ℕ) → touched.run ≡ Some run → touched.words.items ≡ [] →
+pub touches_name : {touched : Touched} {run : Run} → (image : Image) (i slot : ℕ) (name : Name) (bytes : List ℕ) → touched.run ≡ Some run → touched.words.now ≡ [] →
     run.root.items ≡ inode_path (height_of (root_of image 0)) i 1 → run.height ≡ height_of (root_of image i) → run.off ≡ 256 * slot + 8 →
     run.bytes.now ≡ take (respelled_length name) bytes → length bytes ≡ max_name + 8 → length name ≤ max_name → IsRespelled name bytes → ((at : ℕ) → slice_index bytes at < 256) →
     TouchesName image i slot name touched

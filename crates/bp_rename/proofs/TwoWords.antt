@@ -1,6 +1,7 @@
 -- Two content words that are committed together.
 use Rattle.std.proofs.Common.{◌≡◌, ◌≢◌, ℕ, zero, suc, ◌*◌, ◌%◌, ◌<◌, ◌≤◌, List, [], ◌∷◌, ◌++◌, length, Bool, true, false, slice_index, refl, sym, ◌∙◌, ap, subst, arith, inl, inr}
-use Rattle.std.specs.Prelude.{nat_le}
+use Rattle.std.specs.Prelude.{map, nat_le, None}
+use Rattle.arrayvec.specs.ArrayVec.{ArrayVec}
 use Rattle.std.proofs.lemmas.List.{length-map}
 use Rattle.bp_layout.specs.Inode.{root_of}
 use Rattle.bp_layout.specs.Members.{Has}
@@ -14,7 +15,7 @@ use Rattle.bp_cow.specs.declared.touched.Touched.{Touched}
 use Rattle.bp_cow.proofs.CommitTaking.{turned_few}
 use Rattle.bp_cow.proofs.CoverOf.{cover_has, count_is}
 use Rattle.bp_cow.proofs.RunLaws.{way-short}
-use Rattle.bp_rename.specs.TouchesTwo.{TouchesTwo}
+use Rattle.bp_rename.specs.TouchesTwo.{AreTwo, TouchesTwo}
 use Rattle.bp_rename.proofs.ContentWords.{AreContent}
 
 -- the first for 0, and else the second
@@ -22,13 +23,22 @@ abbrev pub pick : ℕ → ℕ → ℕ → ℕ
 pick a b zero = a
 pick a b (suc i) = b
 
+-- what is touched by two words and no run
+pub touches_two : {first second : WordPath} {one two : ℕ} → (touched : Touched) (words : List (ArrayVec ℕ × ℕ)) → touched.words.now ≡ words → touched.run ≡ None → AreTwo words first second one two →
+    TouchesTwo touched first second one two
+touches_two touched words e none are = record {
+  none = none;
+  paths = ap (λ (ws : List (ArrayVec ℕ × ℕ)). map (λ word. word.0.items) ws) e ∙ are.paths;
+  values = ap (λ (ws : List (ArrayVec ℕ × ℕ)). map (λ word. word.1) ws) e ∙ are.values;
+}
+
 -- the path of a content word
 abbrev pub word_path : Image → ℕ → ℕ → WordPath
 word_path image t k = tree_path (height_of (root_of image 0)) t (suc (height_of (root_of image t))) k
 
 module _ (image : Image) (touched : Touched) (t k u l one two : ℕ) (is : TouchesTwo touched (tree_path (height_of (root_of image 0)) t (suc (height_of (root_of image t))) k) (tree_path (height_of (root_of image 0)) u (suc (height_of (root_of image u))) l) one two) where
-  pub two_count : length touched.words.items ≡ 2
-  two_count = sym (length-map touched.words.items (λ word. word.0.items)) ∙ ap (λ (ps : List WordPath). length ps) is.paths
+  pub two_count : length touched.words.now ≡ 2
+  two_count = sym (length-map touched.words.now (λ word. word.0.items)) ∙ ap (λ (ps : List WordPath). length ps) is.paths
 
   pub no_leaves : (job_of touched).leaves ≡ 0
   no_leaves = ap leaves_of is.none
@@ -97,12 +107,12 @@ module _ (image : Image) (touched : Touched) (t k u l one two : ℕ) (is : Touch
         roots zero = no_root
         roots (suc i) = not_root
 
-        paths : (i : ℕ) → i < length touched.words.items → path_of (word_paths touched) i ≡ tree_path (height_of (root_of image 0)) (pick t u i) (suc (height_of (root_of image (pick t u i)))) (pick k l i)
+        paths : (i : ℕ) → i < length touched.words.now → path_of (word_paths touched) i ≡ tree_path (height_of (root_of image 0)) (pick t u i) (suc (height_of (root_of image (pick t u i)))) (pick k l i)
         paths zero here = ap (λ ps. path_of ps 0) is.paths
         paths (suc zero) here = ap (λ ps. path_of ps 1) is.paths
         paths (suc (suc i)) here = absurd (omega (arith, here, two_count))
 
-        aparts : (i j : ℕ) → i < length touched.words.items → j < length touched.words.items → pick t u i ≡ pick t u j → pick k l i ≡ pick k l j → i ≡ j
+        aparts : (i j : ℕ) → i < length touched.words.now → j < length touched.words.now → pick t u i ≡ pick t u j → pick k l i ≡ pick k l j → i ≡ j
         aparts zero zero here there e f = refl
         aparts zero (suc j) here there e f = absurd (apart e f)
         aparts (suc i) zero here there e f = absurd (apart (sym e) (sym f))

@@ -56,7 +56,7 @@ module _ (image : Image) (n s j : ℕ) (name : Name) (can : CanRespell image (su
     below = omega (arith, name_end, few_words, can.names.in_size);
   }
 
-  pub no_words : length touched.words.items ≡ 0
+  pub no_words : length touched.words.now ≡ 0
   no_words = ap (λ ws. length ws) is.no_words
 
   pub within_shape : IsTouched touched

@@ -23,7 +23,7 @@ respelled_length name = 8 + 8 * ((length name + 7) / 8)
 pub record TouchesName (image : Image) (i slot : ℕ) (name : Name) (touched : Touched) : Type 0 where
   pub run : Run
   pub one : touched.run ≡ Some run
-  pub no_words : touched.words.items ≡ []
+  pub no_words : touched.words.now ≡ []
   pub root : run.root.items ≡ inode_path (height_of (root_of image 0)) i 1
   pub height : run.height ≡ height_of (root_of image i)
   pub from : run.off ≡ entry_size * slot + 8

@@ -1,5 +1,6 @@
 -- Two touched words.
-use Rattle.std.specs.Prelude.{◌≡◌, ℕ, suc, ◌+◌, ◌*◌, [], ◌∷◌, None}
+use Rattle.std.specs.Prelude.{◌≡◌, ℕ, suc, ◌+◌, ◌*◌, List, [], ◌∷◌, map, None}
+use Rattle.arrayvec.specs.ArrayVec.{ArrayVec}
 use Rattle.bp_cow.specs.Touched.{word_paths, word_values}
 use Rattle.bp_cow.specs.declared.touched.Touched.{Touched}
 use Rattle.bp_layout.specs.Inode.{root_of}
@@ -13,6 +14,11 @@ inumber_path image i slot = tree_path (height_of (root_of image 0)) i (suc (heig
 -- the path of the size word of an inode
 abbrev pub size_path : Image → ℕ → WordPath
 size_path image i = inode_path (height_of (root_of image 0)) i 2
+
+-- two words, in this order, by their paths and with the values that they are given
+pub record AreTwo (words : List (ArrayVec ℕ × ℕ)) (first second : WordPath) (one two : ℕ) : Type 0 where
+  pub paths : map (λ word. word.0.items) words ≡ first ∷ second ∷ []
+  pub values : map (λ word. word.1) words ≡ one ∷ two ∷ []
 
 -- These words alone are touched, in this order, and get these values.
 pub record TouchesTwo (touched : Touched) (first second : WordPath) (one two : ℕ) : Type 0 where

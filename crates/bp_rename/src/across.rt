@@ -8,25 +8,26 @@ ghost use Rattle.bp_layout.specs.Need.Change.{moves};
 ghost use Rattle.bp_limits.specs.Limits.{call_room};
 ghost use Rattle.bp_rename.specs.CanRename.{CanRename, moved_inode};
 ghost use Rattle.bp_rename.specs.RenamesEntry.{RenamesEntry};
-ghost use Rattle.bp_rename.specs.TouchesTwo.{TouchesTwo, inumber_path};
+ghost use Rattle.bp_rename.specs.TouchesTwo.{AreTwo, inumber_path};
 ghost use Rattle.bp_shapes.specs.Sets.{AreExact};
 ghost use Rattle.bp_tree.specs.Performs.{Performs};
 ghost use Rattle.pm_region.specs.Memory.{current_words, room_in};
 
 use crate::behind::{move_behind, need_behind};
 use crate::moving::Move;
-use crate::touching::{entry_path, two_words};
+use crate::touching::{entry_path, touched_two};
 use bp_calls::tree_of;
-use bp_cow::{Touched, commit, need_cover};
+use bp_cow::{commit, need_cover};
 use bp_dirs::{entry_place, inumber, put_name};
 use bp_free::Parts;
+use bp_tree::Slots;
 use pm_region::Region;
 
-/// What is touched: the inumber of an empty entry of the new directory, and that of the entry that moves.
-fn touched_into<R: Region>(region: &R, to_move: &Move<'_>, slot: u64) -> Touched<'static>
+/// The words that are touched: the inumber of an empty entry of the new directory, and that of the entry that moves.
+fn words_into<R: Region>(region: &R, to_move: &Move<'_>, slot: u64) -> [(Slots, u64); 2]
     requires can { CanRename (current_words (R.memory region.now)) to_move.now }
     requires found { empty_slot (current_words (R.memory region.now)) to_move.now.to_dir ≡ Some slot }
-    ensures { TouchesTwo result
+    ensures { AreTwo result
         (inumber_path (current_words (R.memory region.now)) to_move.now.to_dir slot)
         (inumber_path (current_words (R.memory region.now)) to_move.now.from_dir to_move.now.from_slot)
         (moved_inode (current_words (R.memory region.now)) to_move.now) 0 }
@@ -35,7 +36,7 @@ fn touched_into<R: Region>(region: &R, to_move: &Move<'_>, slot: u64) -> Touched
     let inode = inumber(region, source, to_move.from_slot);
     let entered = entry_path(region, to_move.to_dir, slot);
     let emptied = entry_path(region, to_move.from_dir, to_move.from_slot);
-    two_words((entered, inode), (emptied, 0))
+    [(entered, inode), (emptied, 0)]
 }
 
 /// How many blocks a name needs that moves into an empty entry.
@@ -46,7 +47,7 @@ fn need_into<R: Region>(region: &R, to_move: &Move<'_>, slot: u64) -> u32
     ensures { result ≡ need (current_words (R.memory region.now))
         (moves to_move.now.from_dir to_move.now.from_slot to_move.now.to_dir) }
 {
-    need_cover(region, &touched_into(region, to_move, slot))
+    need_cover(region, &touched_two(&words_into(region, to_move, slot)))
 }
 
 /// Moves a name into an empty entry: it is written there, where nobody sees it, and then one commit gives both inumbers.
@@ -65,7 +66,8 @@ fn move_into<R: Region>(parts: &mut Parts<R>, to_move: &Move<'_>, slot: u64)
 {
     let target = tree_of(&parts.region, to_move.to_dir);
     let entry = entry_place(&parts.region, target, slot, 0);
-    let touched = touched_into(&parts.region, to_move, slot);
+    let words = words_into(&parts.region, to_move, slot);
+    let touched = touched_two(&words);
     put_name(&mut parts.region, entry, to_move.name);
     parts.region.barrier();
     commit(parts, &touched);

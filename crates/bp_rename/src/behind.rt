@@ -9,26 +9,27 @@ ghost use Rattle.bp_layout.specs.Need.Change.{moves};
 ghost use Rattle.bp_limits.specs.Limits.{call_room, entry_size};
 ghost use Rattle.bp_rename.specs.CanRename.{CanRename};
 ghost use Rattle.bp_rename.specs.RenamesEntry.{RenamesEntry};
-ghost use Rattle.bp_rename.specs.TouchesTwo.{TouchesTwo, inumber_path, size_path};
+ghost use Rattle.bp_rename.specs.TouchesTwo.{AreTwo, inumber_path, size_path};
 ghost use Rattle.bp_shapes.specs.Sets.{AreExact};
 ghost use Rattle.bp_tree.specs.Performs.{Performs};
 ghost use Rattle.pm_region.specs.Memory.{current_words, room_in};
 
 use crate::moving::Move;
-use crate::touching::{entry_path, two_words};
+use crate::touching::{entry_path, touched_two};
 use bp_append::need_prep;
 use bp_calls::{put_behind, size_path, tree_of};
-use bp_cow::{Touched, commit, need_cover};
+use bp_cow::{commit, need_cover};
 use bp_dirs::inumber;
 use bp_free::Parts;
 use bp_limits::ENTRY_SIZE;
+use bp_tree::Slots;
 use pm_region::Region;
 
-/// What is touched: the size of the new directory, which will take in one entry more, and the inumber of the entry that
-/// moves.
-fn touched_behind<R: Region>(region: &R, to_move: &Move<'_>) -> Touched<'static>
+/// The words that are touched: the size of the new directory, which will take in one entry more, and the inumber of the
+/// entry that moves.
+fn words_behind<R: Region>(region: &R, to_move: &Move<'_>) -> [(Slots, u64); 2]
     requires can { CanRename (current_words (R.memory region.now)) to_move.now }
-    ensures { TouchesTwo result
+    ensures { AreTwo result
         (size_path (current_words (R.memory region.now)) to_move.now.to_dir)
         (inumber_path (current_words (R.memory region.now)) to_move.now.from_dir to_move.now.from_slot)
         (size_of (current_words (R.memory region.now)) to_move.now.to_dir + entry_size) 0 }
@@ -36,7 +37,7 @@ fn touched_behind<R: Region>(region: &R, to_move: &Move<'_>) -> Touched<'static>
     let target = tree_of(region, to_move.to_dir);
     let sized = size_path(region, to_move.to_dir);
     let emptied = entry_path(region, to_move.from_dir, to_move.from_slot);
-    two_words((sized, target.size + ENTRY_SIZE), (emptied, 0))
+    [(sized, target.size + ENTRY_SIZE), (emptied, 0)]
 }
 
 /// How many blocks a name needs that moves behind the last entry of its new directory.
@@ -49,7 +50,7 @@ pub(crate) fn need_behind<R: Region>(region: &R, to_move: &Move<'_>) -> u32
 {
     let target = tree_of(region, to_move.to_dir);
     let behind = need_prep(region, target, target.size, target.size + ENTRY_SIZE);
-    behind + need_cover(region, &touched_behind(region, to_move))
+    behind + need_cover(region, &touched_two(&words_behind(region, to_move)))
 }
 
 /// Moves a name behind the last entry of its new directory: an entry is put there, where nobody sees it, and then one
@@ -70,7 +71,8 @@ pub(crate) fn move_behind<R: Region>(parts: &mut Parts<R>, to_move: &Move<'_>)
     let source = tree_of(&parts.region, to_move.from_dir);
     let inode = inumber(&parts.region, source, to_move.from_slot) as u32;
     let target = tree_of(&parts.region, to_move.to_dir);
-    let touched = touched_behind(&parts.region, to_move);
+    let words = words_behind(&parts.region, to_move);
+    let touched = touched_two(&words);
     put_behind(parts, to_move.to_dir, target, inode, to_move.name);
     commit(parts, &touched);
 }

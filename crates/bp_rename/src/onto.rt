@@ -10,27 +10,23 @@ ghost use Rattle.bp_changes.specs.Effects.{MovesEntry};
 ghost use Rattle.bp_shapes.specs.Sets.{AreExact};
 ghost use Rattle.bp_tree.specs.Performs.{Performs};
 ghost use Rattle.pm_region.specs.Memory.{current_words, room_in};
-ghost use Rattle.bp_rename.specs.TouchesTwo.{TouchesTwo, inumber_path};
+ghost use Rattle.bp_rename.specs.TouchesTwo.{AreTwo, inumber_path};
 
 use crate::moving::Move;
-use crate::touching::{entry_path, two_words};
+use crate::touching::{entry_path, touched_two};
 use bp_calls::{give_back, tree_of};
-use bp_cow::{Touched, commit, need_cover};
+use bp_cow::{commit, need_cover};
 use bp_dirs::inumber;
 use bp_free::Parts;
 use bp_inodes::get;
-use bp_tree::Tree;
+use bp_tree::{Slots, Tree};
 use pm_region::Region;
 
-/// What is touched: the inumber of the entry that moves, and that of the entry in a slot of the new directory.
-pub(crate) fn touched_inumbers<R: Region>(
-    region: &R,
-    to_move: &Move<'_>,
-    slot: u64,
-) -> Touched<'static>
+/// The words that are touched: the inumber of the entry that moves, and that of the entry in a slot of the new directory.
+fn words_onto<R: Region>(region: &R, to_move: &Move<'_>, slot: u64) -> [(Slots, u64); 2]
     requires can { CanRename (current_words (R.memory region.now)) to_move.now }
     requires onto { to_move.now.to_slot ≡ Some slot }
-    ensures { TouchesTwo result
+    ensures { AreTwo result
         (inumber_path (current_words (R.memory region.now)) to_move.now.from_dir to_move.now.from_slot)
         (inumber_path (current_words (R.memory region.now)) to_move.now.to_dir slot)
         0 (moved_inode (current_words (R.memory region.now)) to_move.now) }
@@ -39,7 +35,7 @@ pub(crate) fn touched_inumbers<R: Region>(
     let inode = inumber(region, source, to_move.from_slot);
     let emptied = entry_path(region, to_move.from_dir, to_move.from_slot);
     let entered = entry_path(region, to_move.to_dir, slot);
-    two_words((emptied, 0), (entered, inode))
+    [(emptied, 0), (entered, inode)]
 }
 
 /// How many blocks a name needs that moves onto another one.
@@ -49,7 +45,7 @@ pub(crate) fn need_onto<R: Region>(region: &R, to_move: &Move<'_>, slot: u64) ->
     ensures { result ≡ need (current_words (R.memory region.now))
         (replaces to_move.now.from_dir to_move.now.from_slot to_move.now.to_dir slot) }
 {
-    need_cover(region, &touched_inumbers(region, to_move, slot))
+    need_cover(region, &touched_two(&words_onto(region, to_move, slot)))
 }
 
 /// Moves a name onto another one, by one commit of both inumbers. What had that name comes back: its blocks and its
@@ -70,7 +66,8 @@ pub(crate) fn rename_onto<R: Region>(parts: &mut Parts<R>, to_move: &Move<'_>, s
 {
     let target = tree_of(&parts.region, to_move.to_dir);
     let replaced = inumber(&parts.region, target, slot) as u32;
-    let touched = touched_inumbers(&parts.region, to_move, slot);
+    let words = words_onto(&parts.region, to_move, slot);
+    let touched = touched_two(&words);
     commit(parts, &touched);
     // Nobody reaches the inode any more, but its words still lead to its blocks.
     let inode = get(&parts.region, replaced);

@@ -1,16 +1,14 @@
 //! The words that a rename touches.
 
-ghost use Rattle.std.specs.Prelude.{◌≡◌, suc, ◌+◌, ◌*◌, ◌<◌, ◌≤◌};
+ghost use Rattle.std.specs.Prelude.{◌≡◌, suc, ◌+◌, ◌*◌, ◌<◌, ◌≤◌, None};
 ghost use Rattle.bp_layout.specs.Directory.{entry_count};
 ghost use Rattle.bp_layout.specs.Inode.{root_of, size_of};
 ghost use Rattle.bp_layout.specs.Reached.{IsReached};
 ghost use Rattle.bp_layout.specs.WellFormed.{IsWellFormed};
 ghost use Rattle.bp_layout.specs.WordPaths.{tree_path};
 ghost use Rattle.bp_layout.specs.Words.{height_of};
-ghost use Rattle.bp_rename.specs.TouchesTwo.{TouchesTwo};
 ghost use Rattle.pm_region.specs.Memory.{current_words};
 
-use arrayvec::ArrayVec;
 use bp_calls::{root_path, tree_of};
 use bp_cow::Touched;
 use bp_limits::ENTRY_SIZE;
@@ -34,12 +32,10 @@ pub(crate) fn entry_path<R: Region>(region: &R, dir: u32, slot: u64) -> Slots
     }
 }
 
-/// Two touched words, by their paths, with the values that they are given.
-pub(crate) fn two_words(first: (Slots, u64), second: (Slots, u64)) -> Touched<'static>
-    ensures { TouchesTwo result first.0.items second.0.items first.1 second.1 }
+/// What is touched by two words and no run.
+pub(crate) fn touched_two(words: &[(Slots, u64); 2]) -> Touched<'_>
+    ensures words { result.words.now ≡ words.now }
+    ensures none { result.run ≡ None }
 {
-    let mut words = ArrayVec::new();
-    words.push(first);
-    words.push(second);
     Touched { words, run: None }
 }

@@ -13,7 +13,6 @@ ghost use Rattle.bp_tree.specs.Performs.{Performs};
 ghost use Rattle.pm_region.specs.Memory.{current_words, room_in};
 
 use crate::moving::Move;
-use arrayvec::ArrayVec;
 use bp_calls::{root_path, tree_of};
 use bp_cow::{Run, Touched, commit, need_cover};
 use bp_free::Parts;
@@ -66,7 +65,7 @@ fn touched_name<'a, R: Region>(
         bytes: &bytes[..8 + 8 * to_move.name.len().div_ceil(8)],
     };
     Touched {
-        words: ArrayVec::new(),
+        words: &[],
         run: Some(run),
     }
 }

@@ -7,6 +7,7 @@ use Rattle.bp_layout.specs.Words.{Image, block_count}
 use Rattle.bp_layout.specs.Tree.{IsSound, IsFull}
 use Rattle.bp_layout.specs.Inode.{kind_of, root_of, size_of}
 use Rattle.bp_layout.specs.Checks.{Fails}
+use Rattle.bp_layout.specs.declared.check.Check.{Check}
 use Rattle.bp_spelling.specs.Names.{AreNames}
 use Rattle.bp_walk.proofs.TakenLaws.{known, length_without, has_without}
 use Rattle.bp_scan.specs.Misspelled.{FailsNames}
@@ -46,7 +47,7 @@ module _ (image : Image) (ready : IsOpen image) (blocks inodes todo : Set) (dire
   pub begun_few : directory.tree.size / 256 ≤ 16 * block_count image
   begun_few = subst (λ (x : ℕ). x / 256 ≤ 16 * block_count image) (sym size) (here_few image ready blocks inodes todo directory.inode 0 at.reading at.entered at.kind)
 
-  pub begun_names_fail : (c p : ℕ) → FailsNames image directory.tree.root directory.tree.size c p → Fails image c p
+  pub begun_names_fail : (c : Check) (p : ℕ) → FailsNames image directory.tree.root directory.tree.size c p → Fails image c p
   begun_names_fail c p fails =
       names_fail image ready blocks inodes todo directory.inode 0 at.reading at.entered at.kind c p (along (λ x y. FailsNames image x y c p) _ _ _ _ root size fails)
 

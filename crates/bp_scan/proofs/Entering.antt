@@ -8,6 +8,8 @@ use Rattle.bp_layout.specs.Inode.{kind_of, root_of, size_of, inode_count}
 use Rattle.bp_layout.specs.Directory.{IsName, name_at, EntryNames}
 use Rattle.bp_layout.specs.Checks.{IsFound, IsPointer, Fails, root_place, size_place, pointer_place, entry_place}
 use Rattle.bp_layout.specs.Checks.Fails.{height, root_bits, pointer_bits, range, twice, hole, capacity}
+use Rattle.bp_layout.specs.declared.check.Check.{Check}
+use Rattle.bp_layout.specs.declared.check.Check.TheVariants.{BlockTwice}
 use Rattle.bp_layout.proofs.TreeLaws.{word_at-zero}
 use Rattle.bp_layout.proofs.OnePlace.{IsAbove, above_pointer, inode_block, low_slot}
 use Rattle.bp_layout.proofs.OnePlace.IsAbove.{pointer_above, inode_above}
@@ -70,7 +72,7 @@ module _ (image : Image) (E : ℕ → Type 0) (all left : Set) (blocks : HasAllB
   seen_block b present in_range gone = takes.named b (blocks.all b (omega (arith, present)) in_range) gone
 
   repeats : (t d k p : ℕ) → IsPointer image t d k p → node image (root_of image t) d k ≢ 0 → node image (root_of image t) d k < block_count image → has left (node image (root_of image t) d k) ≡ false →
-      ((u e l q : ℕ) → E u → IsPointer image u e l q → p ≢ q) → Fails image 4 p
+      ((u e l q : ℕ) → E u → IsPointer image u e l q → p ≢ q) → Fails image BlockTwice p
   repeats t d k p at present in_range gone fresh =
       let n : NamesBlock image (IsSeen image E) (node image (root_of image t) d k) = seen_block _ present in_range gone in
       let w : block_at image n.place ≡ node image (root_of image n.is.tree) n.is.depth n.is.index = ap block_of (pointer_word image n.is.tree n.is.depth n.is.index n.place n.is.pointer) in
@@ -91,7 +93,7 @@ module _ (image : Image) (E : ℕ → Type 0) (all left : Set) (blocks : HasAllB
     root_node : node image (root_of image t) 0 0 ≡ block_of (root_of image t)
     root_node = ap block_of (word_at-zero image (root_of image t) 0)
 
-    pub fails_tree : (c p : ℕ) → FailsTree image (root_place image t) (root_of image t) (size_of image t) holes left c p → Fails image c p
+    pub fails_tree : (c : Check) (p : ℕ) → FailsTree image (root_place image t) (root_of image t) (size_of image t) holes left c p → Fails image c p
     fails_tree _ _ (tree_height some high) = height (root_pointer image t found some) high
     fails_tree _ _ (tree_bits some odd) = root_bits (root_pointer image t found some) odd
     fails_tree _ _ (root_range some high) = range (root_pointer image t found some) (subst (λ (x : ℕ). block_count image ≤ x) (sym root_node) high)
@@ -116,7 +118,7 @@ module _ (image : Image) (E : ℕ → Type 0) (all left : Set) (blocks : HasAllB
             still (inl is) = is
             still (inr gone) = absurd (clash there (has_less left (block_of (root_of image t)) x low gone))
 
-        go : (c p : ℕ) → FailsBelow image 0 (root_of image t) (size_of image t) holes (block_of (root_of image t)) (without left (block_of (root_of image t))) c p → Fails image c p
+        go : (c : Check) (p : ℕ) → FailsBelow image 0 (root_of image t) (size_of image t) holes (block_of (root_of image t)) (without left (block_of (root_of image t))) c p → Fails image c p
         go _ p (bits {d = d} {k = k} is odd) = pointer_bits (to_deep image t d k p found is) odd
         go _ p (below_range {d = d} {k = k} is high) = range (to_deep image t d k p found is) high
         go _ p (below_hole {d = d} {k = k} is none null) = hole (to_deep image t d k p found is) (which none) null
@@ -129,7 +131,7 @@ module _ (image : Image) (E : ℕ → Type 0) (all left : Set) (blocks : HasAllB
             not_root : p ≢ root_place image t
             not_root same = clash there (ap (λ x. has left (x / 512)) same ∙ root_outside t (root_place image t) first (root_pointer image t found some))
 
-            which_one : (node image (root_of image t) (suc d) k ≡ block_of (root_of image t)) ⊎ (node image (root_of image t) (suc d) k ≡ block_of (root_of image t) → ⊥) → Fails image 4 p
+            which_one : (node image (root_of image t) (suc d) k ≡ block_of (root_of image t)) ⊎ (node image (root_of image t) (suc d) k ≡ block_of (root_of image t) → ⊥) → Fails image BlockTwice p
             which_one (inl same) = twice (to_deep image t d k p found is) (root_pointer image t found some) not_root present (same ∙ sym root_node)
             which_one (inr other) =
                 repeats t (suc d) k p (to_deep image t d k p found is) present in_range (sym (has_other left (block_of (root_of image t)) (node image (root_of image t) (suc d) k) other) ∙ gone) (fresh_deep p there)

@@ -9,6 +9,8 @@ use Rattle.bp_layout.specs.Tree.{node, IsSound, IsFull}
 use Rattle.bp_layout.specs.Inode.{kind_of, root_of, size_of, inode_count}
 use Rattle.bp_layout.specs.Directory.{EntryNames, inumber_at, inumber_in}
 use Rattle.bp_layout.specs.Checks.{Fails, entry_place}
+use Rattle.bp_layout.specs.declared.check.Check.{Check}
+use Rattle.bp_layout.specs.declared.check.Check.TheVariants.{InodeTwice, Inumber}
 use Rattle.bp_spelling.specs.Names.{AreNames, IsUsed}
 use Rattle.bp_walk.proofs.TakenLaws.{known, clash, length_without, has_less}
 use Rattle.bp_scan.specs.Progress.{IsUnderWay}
@@ -72,17 +74,17 @@ module _ (image : Image) (ready : IsOpen image) (blocks inodes todo : Set) (dire
     }
 
     module _ (some : j ≢ 0) where
-      pub fails_high : (p : ℕ) → p ≡ 512 * node image directory.tree.root (height_of directory.tree.root) ((32 * slot + 0) / 512) + (32 * slot + 0) % 512 → inode_count image ≤ j → Fails image 7 p
+      pub fails_high : (p : ℕ) → p ≡ 512 * node image directory.tree.root (height_of directory.tree.root) ((32 * slot + 0) / 512) + (32 * slot + 0) % 512 → inode_count image ≤ j → Fails image Inumber p
       fails_high p at high = too_high image ready blocks inodes todo d slot reading inside.at.entered inside.at.kind slot j p (entry_names some) (stands p at) high
 
       module _ (low : j < inode_count image) where
         pub in_room : j < length inodes
         in_room = let few : inode_count image ≤ length inodes = inodes_few image ready blocks inodes todo d slot reading in omega (arith, few, low)
 
-        pub fails_again : (p : ℕ) → p ≡ 512 * node image directory.tree.root (height_of directory.tree.root) ((32 * slot + 0) / 512) + (32 * slot + 0) % 512 → has inodes j ≡ false → Fails image 8 p
+        pub fails_again : (p : ℕ) → p ≡ 512 * node image directory.tree.root (height_of directory.tree.root) ((32 * slot + 0) / 512) + (32 * slot + 0) % 512 → has inodes j ≡ false → Fails image InodeTwice p
         fails_again p at gone = not_new image ready blocks inodes todo d slot reading inside.at.entered inside.at.kind j p (entry_names some) (stands p at) low gone
 
-        pub fails_in_inode : has inodes j ≡ true → (c p : ℕ) → FailsInode image j blocks c p → Fails image c p
+        pub fails_in_inode : has inodes j ≡ true → (c : Check) (p : ℕ) → FailsInode image j blocks c p → Fails image c p
         fails_in_inode new c p fails =
             inode_fails image ready blocks inodes todo d slot reading j c p (omega (arith, some)) (here_found image ready blocks inodes todo d slot reading inside.at.entered inside.at.kind slot j (entry_names some) low) new fails
 

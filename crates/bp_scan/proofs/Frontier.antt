@@ -7,6 +7,7 @@ use Rattle.bp_layout.specs.Inode.{kind_of, root_of, size_of, inode_count}
 use Rattle.bp_layout.specs.Checks.{IsFound, IsPointer, Fails, Passes, pointer_place}
 use Rattle.bp_layout.specs.Checks.IsFound.{inode_file, root_directory, named}
 use Rattle.bp_layout.specs.Checks.Fails.{height, root_bits, pointer_bits, range, twice, hole, inode_file_size, inumber, root_named, inode_twice, kind, root_kind, directory_size, capacity, name_form, name_twice}
+use Rattle.bp_layout.specs.declared.check.Check.{Check}
 use Rattle.bp_layout.proofs.ChecksLaws.{same_entry, found_reached}
 use Rattle.bp_layout.specs.Checks.{NoneFails, IsFormatted}
 use Rattle.bp_layout.specs.Free.{IsFreeInode, AreFreeBlocks, AreFreeInodes}
@@ -40,7 +41,7 @@ module _ (image : Image) (E : ℕ → Type 0) (D : ℕ → ℕ → Type 0) (star
       let there : block_at image q ≡ node image (root_of image u) e l = ap block_of (pointer_word image u e l q also) in
       scanned.takes.once p q (seen t d k p at) (seen u e l q also) (λ null. present (sym here ∙ null)) (here ∙ same ∙ sym there)
 
-  none : (c p : ℕ) → Fails image c p → ⊥
+  none : (c : Check) (p : ℕ) → Fails image c p → ⊥
   none _ _ (height {t = t} {p = p} at high) = let low : Passes image (root_of image t) 0 0 = passes t 0 0 p at in omega (arith, low.0, high)
   none _ _ (root_bits {t = t} {p = p} at bits) = let low : Passes image (root_of image t) 0 0 = passes t 0 0 p at in omega (arith, low.0, bits)
   none _ _ (pointer_bits {t = t} {d = d} {k = k} {p = p} at bits) = bits (passes t (suc d) k p at).0

@@ -4,6 +4,7 @@ use Rattle.bp_layout.specs.Words.{Image, word, block_count, height_of}
 use Rattle.bp_layout.specs.Tree.{node}
 use Rattle.bp_layout.specs.Inode.{inode_word, root_of, ContentStandsAt}
 use Rattle.bp_layout.specs.Checks.{inode_place, size_place}
+use Rattle.bp_layout.specs.declared.check.Check.{Check}
 use Rattle.bp_walk.proofs.Places.{word_below}
 use Rattle.bp_scan.specs.Inodes.{AreWords, IsRight, IsWrong, EntersInode, FailsInode}
 use Rattle.bp_scan.specs.Inodes.FailsInode.{words, tree}
@@ -58,10 +59,10 @@ pub moved : (P : ℕ → ℕ → ℕ → Type 0) (a b c x y z : ℕ) → a ≡ x
 moved P a b c x y z e f g h = subst (λ (u : ℕ). P u b c) (sym e) (subst (λ (v : ℕ). P x v c) (sym f) (subst (λ (w : ℕ). P x y w) (sym g) h))
 
 module _ (image : Image) (i : ℕ) (at : InodeWords) (are : AreWords image i at) where
-  pub fails_words : (old : Set) (c p : ℕ) → IsWrong i at.kind at.tree.size at.place c p → FailsInode image i old c p
+  pub fails_words : (old : Set) (c : Check) (p : ℕ) → IsWrong i at.kind at.tree.size at.place c p → FailsInode image i old c p
   fails_words old c p wrong = words (moved (λ x y z. IsWrong i x y z c p) _ _ _ _ _ _ are.kind are.size are.place wrong)
 
-  pub fails_below : (old : Set) (holes : Bool) (c p : ℕ) → (holes ≡ false → at.kind ≡ 2) → FailsTree image (at.place + 1) at.tree.root at.tree.size holes old c p → FailsInode image i old c p
+  pub fails_below : (old : Set) (holes : Bool) (c : Check) (p : ℕ) → (holes ≡ false → at.kind ≡ 2) → FailsTree image (at.place + 1) at.tree.root at.tree.size holes old c p → FailsInode image i old c p
   fails_below old holes c p which fails =
       tree holes (λ closed. are.kind ∙ which closed) (moved (λ x y z. FailsTree image x y z holes old c p) _ _ _ _ _ _ are.root_place are.root are.size fails)
 

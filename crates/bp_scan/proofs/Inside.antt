@@ -7,6 +7,8 @@ use Rattle.bp_layout.specs.Inode.{kind_of, root_of, size_of, inode_count}
 use Rattle.bp_layout.specs.Directory.{EntryNames, inumber_at}
 use Rattle.bp_layout.specs.Checks.{IsFound, IsEntry, Fails, entry_place}
 use Rattle.bp_layout.specs.Checks.Fails.{inumber, root_named, name_form, name_twice}
+use Rattle.bp_layout.specs.declared.check.Check.{Check}
+use Rattle.bp_layout.specs.declared.check.Check.TheVariants.{InodeTwice, Inumber}
 use Rattle.bp_spelling.specs.Names.{IsUsed, AreWrong}
 use Rattle.bp_spelling.specs.Names.AreWrong.{form, twice}
 use Rattle.bp_spelling.specs.declared.fault.NameFault.{NameFault}
@@ -62,7 +64,7 @@ module _ (image : Image) (ready : IsOpen image) (blocks inodes todo : Set) (curr
       go (inl there) = absurd (clash new (reading.midway.under_way.todo_entered j there).0.1)
       go (inr gone) = gone
 
-  pub inode_fails : (j c p : ℕ) → 1 ≤ j → IsFound image j → has inodes j ≡ true → FailsInode image j blocks c p → Fails image c p
+  pub inode_fails : (j : ℕ) (c : Check) (p : ℕ) → 1 ≤ j → IsFound image j → has inodes j ≡ true → FailsInode image j blocks c p → Fails image c p
   inode_fails j c p some found new fails = fails_inode image E D reading.midway.all blocks reading.midway.whole ready.some_inodes first scanned j some found (λ e. clash new e.1) c p fails
 
   module _ (entered : IsEntered image inodes current) (kind : kind_of image current ≡ 2) where
@@ -81,19 +83,19 @@ module _ (image : Image) (ready : IsOpen image) (blocks inodes todo : Set) (curr
     here_entry : (r j p : ℕ) → EntryNames image current r j → entry_place image current r 0 ≡ p → IsEntry image current r j p
     here_entry r j p names at = subst (IsEntry image current r j) at (entry_seen image E D reading.midway.all blocks ready.some_inodes first scanned current r j entered names)
 
-    pub too_high : (r j p : ℕ) → EntryNames image current r j → entry_place image current r 0 ≡ p → inode_count image ≤ j → Fails image 7 p
+    pub too_high : (r j p : ℕ) → EntryNames image current r j → entry_place image current r 0 ≡ p → inode_count image ≤ j → Fails image Inumber p
     too_high r j p names at high = inumber (here_entry r j p names at) high
 
     -- another entry named it, or it is the root
-    pub not_new : (j p : ℕ) → EntryNames image current slot j → entry_place image current slot 0 ≡ p → j < inode_count image → has inodes j ≡ false → Fails image 8 p
+    pub not_new : (j p : ℕ) → EntryNames image current slot j → entry_place image current slot 0 ≡ p → j < inode_count image → has inodes j ≡ false → Fails image InodeTwice p
     not_new zero p names at low gone = absurd (names.not_empty refl)
     not_new (suc zero) p names at low gone = root_named (here_entry slot 1 p names at)
-    not_new (suc (suc j)) p names at low gone = subst (Fails image 8) at (by (reading.midway.under_way.named (suc (suc j)) (omega arith) (low, gone)))
+    not_new (suc (suc j)) p names at low gone = subst (Fails image InodeTwice) at (by (reading.midway.under_way.named (suc (suc j)) (omega arith) (low, gone)))
       where
-        by : NamedBy image inodes todo current slot (suc (suc j)) → Fails image 8 (entry_place image current slot 0)
+        by : NamedBy image inodes todo current slot (suc (suc j)) → Fails image InodeTwice (entry_place image current slot 0)
         by n = go n.done
           where
-            go : IsDone image inodes todo current slot n.directory n.entry → Fails image 8 (entry_place image current slot 0)
+            go : IsDone image inodes todo current slot n.directory n.entry → Fails image InodeTwice (entry_place image current slot 0)
             go (inl d) =
                 named_before image E D reading.midway.all blocks ready.some_inodes first scanned current slot n.directory n.entry (suc (suc j)) entered d.0 names n.names (λ same other. d.3 (sym same))
             go (inr d) =
@@ -111,5 +113,5 @@ module _ (image : Image) (ready : IsOpen image) (blocks inodes todo : Set) (curr
         one : entry_place image current r 0 ≡ entry_place image current q 0 → (current ≡ current) × (r ≡ q)
         one place = one_entry image E D reading.midway.all blocks ready.some_inodes first scanned current r _ current q _ entered entered (used_names r used) (used_names q also) place
 
-    pub names_fail : (c p : ℕ) → FailsNames image (root_of image current) (size_of image current) c p → Fails image c p
+    pub names_fail : (c : Check) (p : ℕ) → FailsNames image (root_of image current) (size_of image current) c p → Fails image c p
     names_fail c p fails = subst (λ check. Fails image check p) fails.check (subst (Fails image (check_of fails.fault)) fails.place (fault_fails fails.fault fails.wrong))

@@ -11,6 +11,7 @@ use Rattle.bp_layout.proofs.TreeLaws.{live_above, live_pointer_word, live_conten
 use Rattle.bp_layout.proofs.OnePlace.{SamePointer, same_block, low_slot}
 use Rattle.bp_layout.specs.Checks.{Fails}
 use Rattle.bp_layout.specs.Checks.Fails.{inode_twice}
+use Rattle.bp_layout.specs.declared.check.Check.TheVariants.{InodeTwice}
 use Rattle.bp_layout.proofs.OncePointer.{once_pointer}
 use Rattle.bp_scan.specs.Scanned.{IsChecked, IsScanned}
 use Rattle.bp_scan.proofs.Entering.{tells_of}
@@ -107,9 +108,9 @@ one_entry image E D all left some first scanned i s j k r h entered also n m pla
     present : (i s j : ℕ) → E i → EntryNames image i s j → node image (root_of image i) (height_of (root_of image i)) ((32 * s + 0) / 512) ≢ 0
     present i s j e n = is_full image E D all left some first scanned i e (inr n.directory) (height_of (root_of image i)) ((32 * s + 0) / 512) (live i s j n)
 
--- check 8 at the entry at hand, where another entry named the inode
+-- the check InodeTwice at the entry at hand, where another entry named the inode
 pub named_before : (image : Image) (E : ℕ → Type 0) (D : ℕ → ℕ → Type 0) (all left : Set) → 4096 ≤ size_of image 0 → E 0 → IsScanned image E D all left → (i s k r j : ℕ) → E i → E k →
-    EntryNames image i s j → EntryNames image k r j → ((i ≡ k) → (s ≡ r) → ⊥) → Fails image 8 (entry_place image i s 0)
+    EntryNames image i s j → EntryNames image k r j → ((i ≡ k) → (s ≡ r) → ⊥) → Fails image InodeTwice (entry_place image i s 0)
 named_before image E D all left some first scanned i s k r j entered also n m other =
     inode_twice (entry_seen image E D all left some first scanned i s j entered n) (entry_seen image E D all left some first scanned k r j also m)
     (λ same. let both : (i ≡ k) × (s ≡ r) = one_entry image E D all left some first scanned i s j k r j entered also n m same in other both.0 both.1)

@@ -11,6 +11,8 @@ use Rattle.bp_layout.specs.Inode.{kind_of, root_of, size_of, inode_count}
 use Rattle.bp_layout.specs.Checks.{IsFound, Fails}
 use Rattle.bp_layout.specs.Checks.IsFound.{inode_file, root_directory}
 use Rattle.bp_layout.specs.Checks.Fails.{inode_file_size}
+use Rattle.bp_layout.specs.declared.check.Check.{Check}
+use Rattle.bp_layout.specs.declared.check.Check.TheVariants.{InodeFileSize}
 use Rattle.bp_walk.specs.Walk.{TakesTree, FailsTree}
 use Rattle.bp_walk.proofs.TakenLaws.{clash}
 use Rattle.bp_scan.specs.Scanned.{HasAllBlocks}
@@ -30,13 +32,13 @@ file_entered image all new root size root_is size_is takes =
     enter image (λ t. ⊥) (λ i s. ⊥) all all new 0 false (nothing_seen image all) inode_file (record { kinds = λ i same. absurd (omega (arith, same)); sizes = λ kind. absurd (omega (arith, kind)) }) (λ which. refl)
     (moved (λ x y z. TakesTree image x y z false all new) _ _ _ 2 root size refl (sym root_is) (sym size_is) takes)
 
-pub file_fails : (image : Image) (all : Set) (root size c p : ℕ) → HasAllBlocks image all → 4096 ≤ size_of image 0 → root ≡ root_of image 0 → size ≡ size_of image 0 →
+pub file_fails : (image : Image) (all : Set) (root size : ℕ) (c : Check) (p : ℕ) → HasAllBlocks image all → 4096 ≤ size_of image 0 → root ≡ root_of image 0 → size ≡ size_of image 0 →
     FailsTree image 2 root size false all c p → Fails image c p
 file_fails image all root size c p whole some root_is size_is fails =
     fails_tree image (λ t. ⊥) all all whole (nothing_seen image all).takes some (λ t never. absurd never) 0 (λ other. absurd (other refl)) inode_file (λ other. absurd (other refl)) (λ never. never) (λ same u never. never) false (λ closed. inl refl) c p
     (moved (λ x y z. FailsTree image x y z false all c p) _ _ _ 2 root size refl (sym root_is) (sym size_is) fails)
 
-pub sizes_fail : (image : Image) (size : ℕ) → size ≡ size_of image 0 → (size % 4096 ≡ 0 → ⊥) ⊎ ((size % 4096 ≡ 0) × (size < 4096)) → Fails image 6 3
+pub sizes_fail : (image : Image) (size : ℕ) → size ≡ size_of image 0 → (size % 4096 ≡ 0 → ⊥) ⊎ ((size % 4096 ≡ 0) × (size < 4096)) → Fails image InodeFileSize 3
 sizes_fail image size size_is (inl odd) = inode_file_size (inl (subst (λ (x : ℕ). x % 4096 ≢ 0) size_is odd))
 sizes_fail image size size_is (inr small) = inode_file_size (inr (subst (λ (x : ℕ). x < 4096) size_is small.1))
 
@@ -69,7 +71,7 @@ module _ (image : Image) (ready : IsOpen image) (all left : Set) (whole : HasAll
   not_root (inl never) = never
   not_root (inr same) = omega (arith, same)
 
-  pub root_fails : (c p : ℕ) → FailsInode image 1 left c p → Fails image c p
+  pub root_fails : (c : Check) (p : ℕ) → FailsInode image 1 left c p → Fails image c p
   root_fails c p fails = fails_inode image File NoEntry all left whole ready.some_inodes (inr refl) file 1 (omega arith) root_found not_root c p fails
 
   pub reading_starts : (new none inodes todo later : Set) → none ≡ empty (64 * block_count image) → Fills 2 (inode_count image) none inodes → todo ≡ empty (64 * block_count image) →

@@ -4,6 +4,8 @@ use Rattle.bp_free.specs.Set.{Set, with}
 use Rattle.bp_layout.specs.Words.{Image, word}
 use Rattle.bp_layout.specs.Inode.{kind_of, root_of, size_of}
 use Rattle.bp_layout.specs.Checks.{inode_place, root_place, size_place}
+use Rattle.bp_layout.specs.declared.check.Check.{Check}
+use Rattle.bp_layout.specs.declared.check.Check.TheVariants.{DirectorySize, Kind}
 use Rattle.bp_walk.specs.Walk.{TakesTree, FailsTree}
 use Rattle.bp_scan.specs.declared.trees.InodeWords.{InodeWords}
 
@@ -26,10 +28,10 @@ pub record IsRight (i kind size : ℕ) : Type 0 where
   pub entries : kind ≡ 2 → size % 256 ≡ 0
 
 -- the check that the words of an inode fail, where the first stands at a place
-pub data IsWrong (i kind size place : ℕ) : ℕ → ℕ → Type 0 where
-  no_kind : kind ≢ 1 → kind ≢ 2 → IsWrong i kind size place 9 place
-  root_file : i ≡ 1 → kind ≢ 2 → IsWrong i kind size place 9 place
-  part_of_entry : kind ≡ 2 → size % 256 ≢ 0 → IsWrong i kind size place 10 (place + 2)
+pub data IsWrong (i kind size place : ℕ) : Check → ℕ → Type 0 where
+  no_kind : kind ≢ 1 → kind ≢ 2 → IsWrong i kind size place Kind place
+  root_file : i ≡ 1 → kind ≢ 2 → IsWrong i kind size place Kind place
+  part_of_entry : kind ≡ 2 → size % 256 ≢ 0 → IsWrong i kind size place DirectorySize (place + 2)
 
 -- inode i is right, its blocks left the set, and it is to do where it is a directory
 pub record EntersInode (image : Image) (i : ℕ) (old new todo later : Set) : Type 0 where
@@ -41,7 +43,7 @@ pub record EntersInode (image : Image) (i : ℕ) (old new todo later : Set) : Ty
   pub file : kind_of image i ≢ 2 → later ≡ todo
 
 -- the check that inode i or its tree fails
-pub data FailsInode (image : Image) (i : ℕ) (old : Set) : ℕ → ℕ → Type 0 where
-  words : {c p : ℕ} → IsWrong i (kind_of image i) (size_of image i) (inode_place image i 0) c p → FailsInode image i old c p
-  tree : {c p : ℕ} (holes : Bool) → (holes ≡ false → kind_of image i ≡ 2) → FailsTree image (root_place image i) (root_of image i) (size_of image i) holes old c p →
+pub data FailsInode (image : Image) (i : ℕ) (old : Set) : Check → ℕ → Type 0 where
+  words : {c : Check} {p : ℕ} → IsWrong i (kind_of image i) (size_of image i) (inode_place image i 0) c p → FailsInode image i old c p
+  tree : {c : Check} {p : ℕ} (holes : Bool) → (holes ≡ false → kind_of image i ≡ 2) → FailsTree image (root_place image i) (root_of image i) (size_of image i) holes old c p →
       FailsInode image i old c p

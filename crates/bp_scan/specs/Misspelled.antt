@@ -1,21 +1,23 @@
 -- The checks that the names of a directory fail.
 use Rattle.std.specs.Prelude.{◌≡◌, ℕ}
 use Rattle.bp_layout.specs.Words.{Image}
+use Rattle.bp_layout.specs.declared.check.Check.{Check}
+use Rattle.bp_layout.specs.declared.check.Check.TheVariants.{NameForm, NameTwice}
 use Rattle.bp_spelling.specs.Names.{AreWrong}
 use Rattle.bp_spelling.specs.declared.fault.NameFault.{NameFault}
 use Rattle.bp_spelling.specs.declared.fault.NameFault.TheVariants.{Form, Twice}
 
--- the number of the check that a fault fails, and the word at which it does
-abbrev pub check_of : NameFault → ℕ
-check_of (Form place) = 12
-check_of (Twice place) = 13
+-- the check that a fault fails, and the word at which it does
+abbrev pub check_of : NameFault → Check
+check_of (Form place) = NameForm
+check_of (Twice place) = NameTwice
 
 abbrev pub place_of : NameFault → ℕ
 place_of (Form place) = place
 place_of (Twice place) = place
 
 -- a fault of the names fails this check at this word
-pub record FailsNames (image : Image) (root size c p : ℕ) : Type 0 where
+pub record FailsNames (image : Image) (root size : ℕ) (c : Check) (p : ℕ) : Type 0 where
   pub fault : NameFault
   pub wrong : AreWrong image root size fault
   pub check : check_of fault ≡ c

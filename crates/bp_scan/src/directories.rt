@@ -16,6 +16,7 @@ use crate::trees::enter;
 use bp_dirs::entry_place;
 use bp_free::{Blocks, Inodes};
 use bp_inodes::{get, inode_file};
+use bp_layout::Check;
 use bp_limits::{ENTRY_SIZE, INODE_SIZE};
 use bp_spelling::{NameFault, Spelled, check_names, named_in_row};
 use bp_tree::Tree;
@@ -71,11 +72,17 @@ fn read_entry<R: Region>(
     }
     let place = slot.place;
     if named >= inode_file(region).size / INODE_SIZE {
-        return Err(CheckFault { check: 7, place });
+        return Err(CheckFault {
+            check: Check::Inumber,
+            place,
+        });
     }
     let inode = named as u32;
     if !inodes.is_free(inode) {
-        return Err(CheckFault { check: 8, place });
+        return Err(CheckFault {
+            check: Check::InodeTwice,
+            place,
+        });
     }
     inodes.claim(inode);
     enter(region, inode, blocks, todo)
@@ -162,8 +169,14 @@ fn read_names<R: Region>(
     make_room(entries, (tree.size / ENTRY_SIZE) as usize);
     match check_names(region, tree, &mut entries[..]) {
         Ok(()) => Ok(()),
-        Err(NameFault::Form { place }) => Err(CheckFault { check: 12, place }),
-        Err(NameFault::Twice { place }) => Err(CheckFault { check: 13, place }),
+        Err(NameFault::Form { place }) => Err(CheckFault {
+            check: Check::NameForm,
+            place,
+        }),
+        Err(NameFault::Twice { place }) => Err(CheckFault {
+            check: Check::NameTwice,
+            place,
+        }),
     }
 }
 
@@ -188,10 +201,7 @@ pub(crate) fn read_directory<R: Region>(
     ensures entry_room { vec_capacity entries.old ≤ vec_capacity entries.new }
 {
     let words = get(region, inode);
-    let tree = Tree {
-        root: words.root,
-        size: words.size,
-    };
+    let tree = Tree::of(&words);
     if let Err(fault) = read_names(region, tree, entries) {
         return Err(fault);
     }

@@ -1,5 +1,6 @@
 //! Why an image is no file system.
 
+use bp_layout::Check;
 use thiserror::Error;
 
 /// Why no volume is made of an image.
@@ -17,10 +18,10 @@ pub enum MountFault {
         wanted: u64,
     },
     /// A check of the format fails.
-    #[error("damaged: check {check} fails at word {place}")]
+    #[error("damaged: check {} fails at word {place}", .check.number())]
     Damaged {
-        /// Its number in `docs/format.md`, 1 to 13.
-        check: u8,
+        /// Which one it is.
+        check: Check,
         /// The word of the region at which it fails.
         place: u32,
     },

@@ -4,6 +4,7 @@ ghost use Rattle.std.specs.Prelude.{◌≡◌, ℕ, ◌%◌, ◌<◌, ◌≤◌,
 ghost use Rattle.bp_free.specs.Set.{has};
 ghost use Rattle.bp_limits.specs.Limits.{block_size};
 ghost use Rattle.bp_layout.specs.Checks.{Fails, IsFormatted, IsFound, root_place};
+ghost use Rattle.bp_layout.specs.declared.check.Check.{Check};
 ghost use Rattle.bp_layout.specs.Free.{AreFreeBlocks, AreFreeInodes};
 ghost use Rattle.bp_layout.specs.Inode.{inode_count, kind_of, root_of, size_of};
 ghost use Rattle.bp_layout.specs.WellFormed.{IsWellFormed};
@@ -12,8 +13,8 @@ ghost use Rattle.bp_scan.specs.Progress.{IsMidway};
 
 use bp_free::{Blocks, Inodes};
 
-/// Where no directory is left to be read the image is well formed, and the two sets have just the free blocks and the free
-/// inodes.
+/// Where no directory is left to be read the image is well formed, and the two sets have just the free blocks and the
+/// free inodes.
 pub fn nothing_is_left(image: &[u64], blocks: &Blocks, inodes: &Inodes, todo: &Inodes)
     requires formatted { IsFormatted image.now }
     requires inode_blocks { size_of image.now 0 % block_size ≡ 0 }
@@ -44,7 +45,8 @@ pub fn fault_of_a_tree(
     requires new { has inodes.now inode ≡ true }
     requires found { IsFound image.now inode }
     requires kind { holes ≡ false → kind_of image.now inode ≡ 2 }
-    ensures { (check place : ℕ) →
-        FailsTree image.now (root_place image.now inode) (root_of image.now inode) (size_of image.now inode) holes blocks.now check place →
+    ensures { (check : Check) (place : ℕ) →
+        FailsTree image.now (root_place image.now inode) (root_of image.now inode) (size_of image.now inode)
+        holes blocks.now check place →
         Fails image.now check place }
 {}

@@ -1,9 +1,9 @@
-//! The scan of an image at mount: whether it is a file system, what is wrong where it is none, and which blocks and inodes
-//! are free.
+//! The scan of an image at mount: whether it is a file system, what is wrong where it is none, and which blocks and
+//! inodes are free.
 //!
 //! A scan starts with the set of all blocks but the first and of all inodes from 2 on. It takes the blocks of each tree
-//! that it enters out of the first set, each inode that an entry names out of the second, and keeps the directories that
-//! are still to be read in a third.
+//! that it enters out of the first set, each inode that an entry names out of the second, and keeps the directories
+//! that are still to be read in a third.
 #![tactic(auto)]
 
 mod directories;
@@ -19,6 +19,7 @@ mod totalling;
 mod totals;
 mod trees;
 
+pub use bp_layout::Check;
 pub use fault::MountFault;
 pub use length::image_length;
 pub use pending::Pending;

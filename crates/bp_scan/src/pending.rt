@@ -10,8 +10,8 @@ use std::marker::Model;
 /// How many cells are left over where the entries of the greatest directory have three each.
 const SPARE: usize = 256;
 
-/// Memory for scans: the directories that are still to be read, and the entries of the one at hand. Contracts see it as the
-/// number of inodes that it was made for.
+/// Memory for scans: the directories that are still to be read, and the entries of the one at hand. Contracts see it as
+/// the number of inodes that it was made for.
 #[derive(Drop)]
 pub struct Pending {
     pub(crate) todo: Inodes,

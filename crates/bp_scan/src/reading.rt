@@ -108,8 +108,8 @@ fn read_with<R: Region>(
     read_directories(region, blocks, inodes, todo, entries)
 }
 
-/// Reads all trees of an image that is formatted: puts its free blocks and inodes into two sets that are empty. The answer is
-/// an error exactly where a check fails; the sets are then of no use.
+/// Reads all trees of an image that is formatted: puts its free blocks and inodes into two sets that are empty. The
+/// answer is an error exactly where a check fails; the sets are then of no use.
 pub(crate) fn read_trees<R: Region>(
     region: &R,
     blocks: &mut Blocks,

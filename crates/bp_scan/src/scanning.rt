@@ -24,7 +24,8 @@ use pm_region::Region;
 ///
 /// # Errors
 ///
-/// `NotFormatted` exactly where word 0 is not the mark; `BadSize` exactly where it is, and word 1 is not the number of blocks.
+/// `NotFormatted` exactly where word 0 is not the mark; `BadSize` exactly where it is, and word 1 is not the number of
+/// blocks.
 fn check_superblock<R: Region>(region: &R) -> Result<(), MountFault>
     requires whole { let words = current_words (R.memory region.now) in length words ≡ 512 * block_count words }
     requires least { min_blocks ≤ block_count (current_words (R.memory region.now)) }
@@ -46,15 +47,15 @@ fn check_superblock<R: Region>(region: &R) -> Result<(), MountFault>
     Ok(())
 }
 
-/// Reads the whole image in a region of 8 to 16,384 blocks of 512 words: puts the free blocks and the free inodes into the
-/// sets, whatever they had, and tells what the image holds in all. It takes time linear in the words that are in use but for
-/// the sort of each directory's names.
+/// Reads the whole image in a region of 8 to 16,384 blocks of 512 words: puts the free blocks and the free inodes into
+/// the sets, whatever they had, and tells what the image holds in all. It takes time linear in the words that are in
+/// use but for the sort of each directory's names.
 ///
 /// # Errors
 ///
-/// `NotFormatted` exactly where word 0 is not the mark of a format; `BadSize` exactly where it is, and word 1 is not the number
-/// of blocks; `Damaged` exactly where both are right and a check of the format fails, with one that fails and where. The sets
-/// are then empty. It is never `Memory`.
+/// `NotFormatted` exactly where word 0 is not the mark of a format; `BadSize` exactly where it is, and word 1 is not the
+/// number of blocks; `Damaged` exactly where both are right and a check of the format fails, with one that fails and
+/// where. The sets are then empty. It is never `Memory`.
 pub fn scan<R: Region>(
     region: &R,
     blocks: &mut Blocks,

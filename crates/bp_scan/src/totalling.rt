@@ -1,6 +1,6 @@
 //! The totals of an image whose free blocks and inodes are known.
 
-ghost use Rattle.std.specs.Prelude.{◌≡◌, ℕ, ◌+◌, ◌*◌, ◌<◌, ◌≤◌, ◌^◌, false, length};
+ghost use Rattle.std.specs.Prelude.{◌≡◌, ℕ, ◌+◌, ◌*◌, ◌<◌, ◌≤◌, false, length};
 ghost use Rattle.bp_free.specs.Set.{has};
 ghost use Rattle.bp_layout.specs.Free.{AreFreeBlocks, AreFreeInodes};
 ghost use Rattle.bp_layout.specs.Inode.{inode_count};
@@ -8,7 +8,7 @@ ghost use Rattle.bp_layout.specs.Reached.{IsReached};
 ghost use Rattle.bp_layout.specs.WellFormed.{IsWellFormed};
 ghost use Rattle.bp_layout.specs.Words.{block_count};
 ghost use Rattle.bp_scan.specs.Counted.{HasCounted};
-ghost use Rattle.bp_scan.specs.Totals.{HasLive, HasTotals};
+ghost use Rattle.bp_scan.specs.Totals.{HasTotals};
 ghost use Rattle.pm_region.specs.Memory.{current_words};
 
 use crate::totals::Totals;

@@ -13,6 +13,7 @@ ghost use Rattle.pm_region.specs.Memory.{current_words};
 
 use bp_free::{Blocks, Inodes};
 use bp_inodes::{inode_file, place};
+use bp_layout::Check;
 use bp_limits::{BLOCK_SIZE, ENTRY_SIZE, SUPER_ROOT, SUPER_SIZE};
 use bp_tree::Tree;
 use bp_walk::{CheckFault, take_tree};
@@ -50,11 +51,11 @@ pub(crate) fn enter_inode_file<R: Region>(region: &R, blocks: &mut Blocks) -> Re
     let file = inode_file(region);
     if file.size % BLOCK_SIZE != 0 || file.size < BLOCK_SIZE {
         return Err(CheckFault {
-            check: 6,
+            check: Check::InodeFileSize,
             place: SUPER_SIZE,
         });
     }
-    take_tree(region, SUPER_ROOT, file.root, file.size, false, blocks)
+    take_tree(region, SUPER_ROOT, file, false, blocks)
 }
 
 /// Reads the words of an inode.
@@ -88,12 +89,12 @@ fn check_words(inode: u32, words: InodeWords) -> Result<(), CheckFault>
     match words.kind {
         DIRECTORY if words.tree.size % ENTRY_SIZE == 0 => Ok(()),
         DIRECTORY => Err(CheckFault {
-            check: 10,
+            check: Check::DirectorySize,
             place: words.place + 2,
         }),
         FILE if inode != ROOT => Ok(()),
         _ => Err(CheckFault {
-            check: 9,
+            check: Check::Kind,
             place: words.place,
         }),
     }
@@ -129,9 +130,8 @@ pub(crate) fn enter<R: Region>(
     if let Err(fault) = check_words(inode, words) {
         return Err(fault);
     }
-    let tree = words.tree;
     let holes = words.kind != DIRECTORY;
-    if let Err(fault) = take_tree(region, words.place + 1, tree.root, tree.size, holes, blocks) {
+    if let Err(fault) = take_tree(region, words.place + 1, words.tree, holes, blocks) {
         return Err(fault);
     }
     if !holes {

@@ -7,6 +7,7 @@ use Rattle.bp_session.proofs.SavingLaws.{stays_attached, still_attached}
 use Rattle.bp_layout.specs.Bytes.{image_bytes}
 use Rattle.bp_free.specs.Set.{Set, has, members}
 use Rattle.bp_layout.specs.Free.{AreFreeBlocks, HasFree, numbers_below}
+use Rattle.bp_layout.specs.Checks.{number_of}
 use Rattle.bp_layout.specs.Words.{Image, block_count}
 use Rattle.bp_scan.specs.Faults.{IsFault}
 use Rattle.bp_scan.specs.Length.{wanted_length}
@@ -118,7 +119,7 @@ has_length (Some (Some bytes)) n answers = sym answers
 pub stop_kinds : (fault : MountFault) → ((notice : Notice) × (stop_by fault ≡ Refused notice)) ⊎ (stop_by fault ≡ Memory)
 stop_kinds f.NotFormatted = inl (NotFormatted, refl)
 stop_kinds (f.BadSize found wanted) = inl (BadSize found wanted, refl)
-stop_kinds (f.Damaged check place) = inl (Damaged check place, refl)
+stop_kinds (f.Damaged check place) = inl (Damaged (number_of check) place, refl)
 stop_kinds f.Memory = inr refl
 
 pub no_refusal : (notice : Notice) → ◌≡◌ {A = Stop} Memory (Refused notice) → ⊥
@@ -130,7 +131,7 @@ same_notice first second e = cc
 pub stop_refused : (fault : MountFault) (image : Image) (known : Known) (notice : Notice) → IsFault image fault → HasSized known image → stop_by fault ≡ Refused notice → RefusesFile known notice
 stop_refused f.NotFormatted image known told why has e = rw (← same_notice NotFormatted told e) (not_formatted has why)
 stop_refused (f.BadSize found wanted) image known told why has e = rw (← same_notice (BadSize found wanted) told e, why.2, why.3) (by_count has why.0 why.1)
-stop_refused (f.Damaged check place) image known told why has e = rw (← same_notice (Damaged check place) told e) (damaged has why.0 why.1 why.2)
+stop_refused (f.Damaged check place) image known told why has e = rw (← same_notice (Damaged (number_of check) place) told e) (damaged has why.0 why.1 why.2)
 stop_refused f.Memory image known told why has e = absurd why
 
 pub stop_refused_length : (fault : MountFault) (known : Known) (len : ℕ) (notice : Notice) → HasLength known len → (fault ≡ f.BadSize len (wanted_length len)) × (len ≢ wanted_length len) → stop_by fault ≡ Refused notice → RefusesFile known notice

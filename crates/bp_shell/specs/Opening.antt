@@ -3,7 +3,8 @@ use Rattle.std.specs.Prelude.{◌≡◌, ◌≢◌, ◌≤◌, ℕ, ◌-◌, ◌
 use Rattle.bp_io.specs.Files.{Known, View}
 use Rattle.bp_layout.specs.Words.{Image, word, block_count}
 use Rattle.bp_limits.specs.Limits.{block_size, block_words, log_events, magic, max_blocks, min_blocks, super_blocks, super_magic}
-use Rattle.bp_layout.specs.Checks.{Fails}
+use Rattle.bp_layout.specs.Checks.{Fails, number_of}
+use Rattle.bp_layout.specs.declared.check.Check.{Check}
 use Rattle.bp_layout.specs.WellFormed.{IsWellFormed}
 use Rattle.bp_scan.specs.Length.{wanted_length}
 use Rattle.bp_script.specs.declared.notices.Notice.{Notice}
@@ -32,7 +33,7 @@ pub record FindsImage (was : Known) (name : List ℕ) (count : ℕ) (files : Vie
   pub at_most : count ≤ max_blocks
 
 -- Why a file is refused, by the line that says so: it has no image's length; or it has one, and word 0 is not the mark
--- of a file system, word 1 is not its number of blocks, or both are right and this check of the format fails at this
+-- of a file system, word 1 is not its number of blocks, or both are right and the check with this number fails at this
 -- word.
 pub data RefusesFile (known : Known) : Notice → Type 0 where
   by_length : {len : ℕ} → HasLength known len → len ≢ wanted_length len
@@ -43,9 +44,9 @@ pub data RefusesFile (known : Known) : Notice → Type 0 where
       → word image super_blocks ≢ block_count image →
       RefusesFile known (BadSize (block_size * block_count image)
       (min (block_size * word image super_blocks) (2 ^ 64 - 1)))
-  damaged : {image : Image} {check place : ℕ} → HasSized known image → word image super_magic ≡ magic
+  damaged : {image : Image} {check : Check} {place : ℕ} → HasSized known image → word image super_magic ≡ magic
       → word image super_blocks ≡ block_count image →
-      Fails image check place → RefusesFile known (Damaged check place)
+      Fails image check place → RefusesFile known (Damaged (number_of check) place)
 
 -- the state with which a run begins
 abbrev pub start : Image → State

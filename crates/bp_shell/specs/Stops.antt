@@ -2,6 +2,7 @@
 use Rattle.std.specs.Prelude.{◌≡◌, ℕ, IfErr, OnOk, Result}
 use Rattle.bp_io.specs.Causes.{Rose}
 use Rattle.bp_io.specs.Files.{Known}
+use Rattle.bp_layout.specs.Checks.{number_of}
 use Rattle.bp_scan.specs.declared.fault.MountFault.{MountFault}
 use Rattle.bp_scan.specs.declared.fault.MountFault.TheVariants as fault
 use Rattle.bp_script.specs.declared.notices.Notice.{Notice}
@@ -15,7 +16,7 @@ use Rattle.bp_shell.specs.declared.stop.Stop.TheVariants.{Missing, Outside, Refu
 abbrev pub stop_by : MountFault → Stop
 stop_by fault.NotFormatted = Refused NotFormatted
 stop_by (fault.BadSize found wanted) = Refused (BadSize found wanted)
-stop_by (fault.Damaged check place) = Refused (Damaged check place)
+stop_by (fault.Damaged check place) = Refused (Damaged (number_of check) place)
 stop_by fault.Memory = Memory
 
 -- the file is missing, or is refused for this reason, only where that is so

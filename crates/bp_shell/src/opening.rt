@@ -61,7 +61,10 @@ pub(crate) fn stop_of(fault: MountFault) -> Stop
     match fault {
         MountFault::NotFormatted => Stop::Refused(Notice::NotFormatted),
         MountFault::BadSize { found, wanted } => Stop::Refused(Notice::BadSize { found, wanted }),
-        MountFault::Damaged { check, place } => Stop::Refused(Notice::Damaged { check, place }),
+        MountFault::Damaged { check, place } => Stop::Refused(Notice::Damaged {
+            check: check.number(),
+            place,
+        }),
         MountFault::Memory => Stop::Memory,
     }
 }

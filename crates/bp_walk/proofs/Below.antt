@@ -6,6 +6,8 @@ use Rattle.bp_free.specs.Set.{Set, has, without}
 use Rattle.bp_layout.specs.Words.{Image, word, block_count, block_of, height_of}
 use Rattle.bp_layout.specs.Tree.{word_at, node, place_of, covered, IsLivePointer}
 use Rattle.bp_layout.specs.Checks.{IsFollowed, Passes}
+use Rattle.bp_layout.specs.declared.check.Check.{Check}
+use Rattle.bp_layout.specs.declared.check.Check.TheVariants.{BlockTwice}
 use Rattle.bp_layout.proofs.TreeLaws.{live_above, live_pointer_word}
 use Rattle.bp_walk.specs.Taken.{block_at, NamesBlock, Takes}
 use Rattle.bp_walk.specs.Walk.{IsUnder, IsPlace, IsBelow, WalksBelow, FailsBelow}
@@ -223,21 +225,21 @@ module _ (image : Image) (at root size : ℕ) (holes : Bool) where
 
     -- a pointer that repeats a block
     repeats : (d' k' p : ℕ) → IsPlace image at root size (suc d') k' p → node image root (suc d') k' ≢ 0 → node image root (suc d') k' < block_count image →
-        has now (node image root (suc d') k') ≡ false → ((q : ℕ) → Stands q → p ≢ q) → (p / 512 ≡ b) ⊎ (has old (p / 512) ≡ true) → FailsBelow image at root size holes b old 4 p
+        has now (node image root (suc d') k') ≡ false → ((q : ℕ) → Stands q → p ≢ q) → (p / 512 ≡ b) ⊎ (has old (p / 512) ≡ true) → FailsBelow image at root size holes b old BlockTwice p
     repeats d' k' p is present in_range gone fresh where_p = go (known (has old (node image root (suc d') k')))
       where
-        with_place : (q slot e l : ℕ) → slot < s → IsUnder (suc d) (512 * k + slot) e l → IsPlace image at root size e l q → block_at image q ≡ node image root (suc d') k' → p ≢ q → FailsBelow image at root size holes b old 4 p
+        with_place : (q slot e l : ℕ) → slot < s → IsUnder (suc d) (512 * k + slot) e l → IsPlace image at root size e l q → block_at image q ≡ node image root (suc d') k' → p ≢ q → FailsBelow image at root size holes b old BlockTwice p
         with_place q slot _ _ lower here also same other = twice is also other present (sym same ∙ place_word image at root size d (512 * k + slot) q also)
         with_place q slot _ l lower (under {e = e} u) also same other = twice is also other present (sym same ∙ place_word image at root size e l q also)
 
-        go : (has old (node image root (suc d') k') ≡ true) ⊎ (has old (node image root (suc d') k') ≡ false) → FailsBelow image at root size holes b old 4 p
+        go : (has old (node image root (suc d') k') ≡ true) ⊎ (has old (node image root (suc d') k') ≡ false) → FailsBelow image at root size holes b old BlockTwice p
         go (inr not_in) = taken is present in_range not_in where_p
         go (inl was) =
             let n : NamesBlock image (IsBelow image at root size d k s) (node image root (suc d') k') = walks.takes.named (node image root (suc d') k') was gone in
             with_place n.place n.is.slot n.is.depth n.is.index n.is.low n.is.under n.is.is n.named (fresh n.place (stands_at n.place n.is.slot n.is.depth n.is.index n.is.low n.is.under n.is.is))
 
     pub repeats_here : node image root (suc d) (512 * k + s) ≢ 0 → node image root (suc d) (512 * k + s) < block_count image → has now (node image root (suc d) (512 * k + s)) ≡ false →
-        FailsBelow image at root size holes b old 4 (512 * b + s)
+        FailsBelow image at root size holes b old BlockTwice (512 * b + s)
     repeats_here present in_range gone = repeats d (512 * k + s) (512 * b + s) child present in_range gone fresh_row (inl (in_row b s (512 * b + s) low refl))
 
     -- a fault below the child, told of the walk below the node
@@ -269,7 +271,7 @@ module _ (image : Image) (at root size : ℕ) (holes : Bool) where
       fresh_child : (p : ℕ) → has now (p / 512) ≡ true → p ≢ 512 * b + s
       fresh_child p there same = clash (before b (ap (has now) (sym (in_row b s p low (sym same))) ∙ there)) out
 
-      pub fails_below : (check p : ℕ) → FailsBelow image at root size holes c (without now c) check p → FailsBelow image at root size holes b old check p
+      pub fails_below : (check : Check) (p : ℕ) → FailsBelow image at root size holes c (without now c) check p → FailsBelow image at root size holes b old check p
       fails_below _ p (bits is odd) = bits is odd
       fails_below _ p (range is high) = range is high
       fails_below _ p (hole is none gap) = hole is none gap
@@ -279,7 +281,7 @@ module _ (image : Image) (at root size : ℕ) (holes : Bool) where
           there : has now (p / 512) ≡ true
           there = in_now p where_p
 
-          go : (node image root (suc e) l ≡ c) ⊎ (node image root (suc e) l ≡ c → ⊥) → FailsBelow image at root size holes b old 4 p
+          go : (node image root (suc e) l ≡ c) ⊎ (node image root (suc e) l ≡ c → ⊥) → FailsBelow image at root size holes b old BlockTwice p
           go (inl same) = twice is child (fresh_child p there) present (same ∙ sym child_named)
           go (inr other) = repeats e l p is present in_range (sym (has_other now c (node image root (suc e) l) other) ∙ gone) (λ q at_q. fresh_deep p q there at_q) (inr (before (p / 512) there))
 

@@ -1,13 +1,12 @@
 -- The word at the place of a pointer.
 use Rattle.std.proofs.Common.{◌≡◌, ◌≢◌, ℕ, zero, suc, ◌+◌, ◌-◌, ◌*◌, ◌/◌, ◌%◌, ◌<◌, ◌≤◌, List, length, get_or, take, drop, refl, sym, ◌∙◌, ap, arith}
-use Rattle.std.specs.List.{slice_range}
-use Rattle.std.proofs.lemmas.List.{get_or-take, get_or-drop, length-take, length-drop}
 use Rattle.bp_layout.specs.Words.{Image, word, height_of}
 use Rattle.bp_layout.specs.Tree.{word_at, node, place_of}
 use Rattle.bp_layout.specs.Inode.{root_of}
 use Rattle.bp_layout.specs.Checks.{IsFound, IsPointer, root_place}
 use Rattle.bp_layout.proofs.TreeLaws.{word_at-zero, word_at-suc, slot_word-at}
 use Rattle.bp_layout.proofs.OnePlace.{inode_block}
+use Rattle.bp_tree.proofs.LoadedWords.{length-loaded, loaded_word}
 
 pub word_below : (image : Image) (at root d k : ℕ) → node image root d (k / 512) ≢ 0 → word image (place_of image at root (suc d) k) ≡ word_at image root (suc d) k
 word_below image at root d k present = sym (slot_word-at image (node image root d (k / 512)) (k % 512) present) ∙ sym (word_at-suc image root d k)
@@ -20,23 +19,12 @@ pub pointer_word : (image : Image) (t d k p : ℕ) → IsPointer image t d k p �
 pointer_word image t zero k p at = ap (word image) (sym at.at) ∙ root_word image t at.found ∙ sym (word_at-zero image (root_of image t) k)
 pointer_word image t (suc d) k p at = ap (word image) (sym at.at) ∙ word_below image (root_place image t) (root_of image t) d k at.followed.3
 
--- a word of a run that was read
-pub loaded : (image words : List ℕ) (first count slot : ℕ) → words ≡ slice_range image first (first + count) → slot < count → get_or words slot 0 ≡ word image (first + slot)
-loaded image words first count slot run low =
-    ap (λ xs. get_or xs slot 0) run
-    ∙ get_or-take (first + count - first) (drop first image) slot 0 (omega (arith, low))
-    ∙ get_or-drop first image slot 0
-
-pub loaded_length : (image words : List ℕ) (first count : ℕ) → words ≡ slice_range image first (first + count) → first + count ≤ length image → length words ≡ count
-loaded_length image words first count run low =
-    ap length run ∙ omega (arith, low, length-take {A = ℕ} (first + count - first) (drop first image), length-drop {A = ℕ} first image)
-
 -- eight numbers in a row that are 0 are so in the list that they are taken from
 pub zero_there : (xs : List ℕ) (first i : ℕ) → first ≤ i → i < first + 8 → first + 8 ≤ length xs →
     ((k : ℕ) → k < length (take (first + 8 - first) (drop first xs)) → get_or (take (first + 8 - first) (drop first xs)) k 0 ≡ 0) → get_or xs i 0 ≡ 0
 zero_there xs first i late low within zeros =
     let at : first + (i - first) ≡ i = omega (arith, late) in
-    let inside : i - first < first + 8 - first = omega (arith, late, low) in
-    let long = loaded_length xs (take (first + 8 - first) (drop first xs)) first 8 refl within in
-    sym (ap (λ k. get_or xs k 0) at) ∙ sym (get_or-drop first xs (i - first) 0) ∙ sym (get_or-take (first + 8 - first) (drop first xs) (i - first) 0 inside)
+    let eight = take (first + 8 - first) (drop first xs) in
+    let long = length-loaded xs eight first 8 refl within in
+    sym (ap (λ k. get_or xs k 0) at) ∙ sym (loaded_word xs eight first 8 refl (i - first) (omega (arith, late, low)))
     ∙ zeros (i - first) (omega (arith, late, low, long))

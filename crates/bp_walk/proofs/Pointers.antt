@@ -6,6 +6,7 @@ use Rattle.bp_free.specs.Set.{Set, has, without}
 use Rattle.bp_layout.specs.Words.{Image, word, block_count, block_of, height_of}
 use Rattle.bp_layout.specs.Tree.{word_at, node, covered}
 use Rattle.bp_layout.specs.Checks.{Passes}
+use Rattle.bp_layout.specs.declared.check.Check.{Check}
 use Rattle.bp_walk.specs.Taken.{block_at, Takes}
 use Rattle.bp_walk.specs.Pointed.{ClaimsPointed, RefusesPointed}
 use Rattle.bp_walk.specs.Pointed.RefusesPointed.{too_high, is_null, has_left}
@@ -67,7 +68,7 @@ module _ (image : Image) (root size : ℕ) (holes : Bool) (d k b s : ℕ) (old n
   room_now : length now ≡ block_count image
   room_now = walks.takes.room ∙ room
 
-  pub refused_below : (check : ℕ) → RefusesPointed pointer holes now check → FailsBelow image 0 root size holes b old check (512 * b + s)
+  pub refused_below : (check : Check) → RefusesPointed pointer holes now check → FailsBelow image 0 root size holes b old check (512 * b + s)
   refused_below _ (too_high high) = range child (omega (arith, pointed, room_now, high))
   refused_below _ (is_null none closed) = hole child closed (sym pointed ∙ none)
   refused_below _ (has_left present in_range gone) =
@@ -92,7 +93,7 @@ module _ (image : Image) (root size : ℕ) (holes : Bool) (d k b s : ℕ) (old n
     pub claimed_present : pointer % 4096 ≡ 0 → (pointer ≡ 0 → holes ≡ false) → block ≢ 0
     claimed_present bits full none = clash (claims.null none).0 (full (omega (arith, bits, claims.named, none)))
 
-    pub claimed_fails : (check p : ℕ) → block ≢ 0 → FailsBelow image 0 root size holes block mid check p → FailsBelow image 0 root size holes b old check p
+    pub claimed_fails : (check : Check) (p : ℕ) → block ≢ 0 → FailsBelow image 0 root size holes block mid check p → FailsBelow image 0 root size holes b old check p
     claimed_fails check p some fails =
         fails_below image 0 root size holes d k b s old now named low out child walks block claimed_node claims.in_range (claims.present some).0 check p
         (subst (λ set. FailsBelow image 0 root size holes block set check p) (claims.present some).1 fails)
@@ -121,13 +122,13 @@ module _ (image : Image) (root size : ℕ) (holes : Bool) (d k b : ℕ) (old now
       (nulls (s + n) (omega arith) (omega arith)))
 
 -- the root word is refused
-pub refused_root : (image : Image) (at root size : ℕ) (holes : Bool) (old : Set) (check : ℕ) → length old ≡ block_count image → 0 < size → size ≤ covered (suc (height_of root)) →
+pub refused_root : (image : Image) (at root size : ℕ) (holes : Bool) (old : Set) (check : Check) → length old ≡ block_count image → 0 < size → size ≤ covered (suc (height_of root)) →
     RefusesPointed root holes old check → FailsTree image at root size holes old check at
 refused_root image at root size holes old _ room some fits (too_high high) = root_range some (omega (arith, room, high))
 refused_root image at root size holes old _ room some fits (is_null none closed) = root_hole some closed none
 refused_root image at root size holes old _ room some fits (has_left present in_range gone) = root_taken some fits present (omega (arith, room, in_range)) gone
 
-pub claimed_root_fails : (image : Image) (at root size : ℕ) (holes : Bool) (old mid : Set) (block check p : ℕ) → length old ≡ block_count image → 0 < size → ClaimsPointed root holes old mid block →
+pub claimed_root_fails : (image : Image) (at root size : ℕ) (holes : Bool) (old mid : Set) (block : ℕ) (check : Check) (p : ℕ) → length old ≡ block_count image → 0 < size → ClaimsPointed root holes old mid block →
     block ≢ 0 → FailsBelow image 0 root size holes block mid check p → FailsTree image at root size holes old check p
 claimed_root_fails image at root size holes old mid block check p room some claims present fails =
     let named : block_of root ≡ block = claims.named in

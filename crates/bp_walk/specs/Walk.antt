@@ -4,6 +4,8 @@ use Rattle.bp_free.specs.Set.{Set, has, without}
 use Rattle.bp_layout.specs.Words.{Image, block_count, block_of, height_of}
 use Rattle.bp_layout.specs.Tree.{word_at, node, place_of, covered, IsLivePointer}
 use Rattle.bp_layout.specs.Checks.{IsFollowed, Passes}
+use Rattle.bp_layout.specs.declared.check.Check.{Check}
+use Rattle.bp_layout.specs.declared.check.Check.TheVariants.{BlockTwice, Capacity, Height, Hole, PointerBits, Range}
 use Rattle.bp_walk.specs.Taken.{Takes}
 
 -- pointer l at depth e is below pointer k at depth d, or is it
@@ -38,14 +40,14 @@ pub record WalksBelow (image : Image) (at root size : ℕ) (holes : Bool) (d k s
 
 -- A check that fails below a node, whose own block is `block`. A block that two pointers name is told in two ways: both pointers are below the node, or
 -- the block had left the set before. In the second the pointer itself stands in a block that had not, so it is none of those that were walked over.
-pub data FailsBelow (image : Image) (at root size : ℕ) (holes : Bool) (block : ℕ) (old : Set) : ℕ → ℕ → Type 0 where
-  bits : {d k p : ℕ} → IsPlace image at root size (suc d) k p → word_at image root (suc d) k % 4096 ≢ 0 → FailsBelow image at root size holes block old 2 p
-  range : {d k p : ℕ} → IsPlace image at root size (suc d) k p → block_count image ≤ node image root (suc d) k → FailsBelow image at root size holes block old 3 p
-  hole : {d k p : ℕ} → IsPlace image at root size (suc d) k p → holes ≡ false → node image root (suc d) k ≡ 0 → FailsBelow image at root size holes block old 5 p
+pub data FailsBelow (image : Image) (at root size : ℕ) (holes : Bool) (block : ℕ) (old : Set) : Check → ℕ → Type 0 where
+  bits : {d k p : ℕ} → IsPlace image at root size (suc d) k p → word_at image root (suc d) k % 4096 ≢ 0 → FailsBelow image at root size holes block old PointerBits p
+  range : {d k p : ℕ} → IsPlace image at root size (suc d) k p → block_count image ≤ node image root (suc d) k → FailsBelow image at root size holes block old Range p
+  hole : {d k p : ℕ} → IsPlace image at root size (suc d) k p → holes ≡ false → node image root (suc d) k ≡ 0 → FailsBelow image at root size holes block old Hole p
   taken : {d k p : ℕ} → IsPlace image at root size (suc d) k p → node image root (suc d) k ≢ 0 → node image root (suc d) k < block_count image → has old (node image root (suc d) k) ≡ false →
-      (p / 512 ≡ block) ⊎ (has old (p / 512) ≡ true) → FailsBelow image at root size holes block old 4 p
+      (p / 512 ≡ block) ⊎ (has old (p / 512) ≡ true) → FailsBelow image at root size holes block old BlockTwice p
   twice : {d k e l p q : ℕ} → IsPlace image at root size (suc d) k p → IsPlace image at root size (suc e) l q → p ≢ q → node image root (suc d) k ≢ 0 →
-      node image root (suc d) k ≡ node image root (suc e) l → FailsBelow image at root size holes block old 4 p
+      node image root (suc d) k ≡ node image root (suc e) l → FailsBelow image at root size holes block old BlockTwice p
 
 -- the place of a pointer of the tree
 pub record IsTreePlace (image : Image) (at root size place : ℕ) : Type 0 where
@@ -60,12 +62,13 @@ pub record TakesTree (image : Image) (at root size : ℕ) (holes : Bool) (old ne
   pub passing : (d k : ℕ) → IsLivePointer root size d k → IsFollowed image root size d k → Passes image root d k × (holes ≡ false → node image root d k ≢ 0)
 
 -- a check that fails in the tree
-pub data FailsTree (image : Image) (at root size : ℕ) (holes : Bool) (old : Set) : ℕ → ℕ → Type 0 where
-  height : 0 < size → 3 < height_of root → FailsTree image at root size holes old 1 at
-  root_bits : 0 < size → root / 8 % 512 ≢ 0 → FailsTree image at root size holes old 2 at
-  root_range : 0 < size → block_count image ≤ block_of root → FailsTree image at root size holes old 3 at
-  root_hole : 0 < size → holes ≡ false → block_of root ≡ 0 → FailsTree image at root size holes old 5 at
-  root_taken : 0 < size → size ≤ covered (suc (height_of root)) → block_of root ≢ 0 → block_of root < block_count image → has old (block_of root) ≡ false → FailsTree image at root size holes old 4 at
-  capacity : covered (suc (height_of root)) < size → FailsTree image at root size holes old 11 (at + 1)
-  below : {c p : ℕ} → 0 < size → block_of root ≢ 0 → block_of root < block_count image → has old (block_of root) ≡ true →
+pub data FailsTree (image : Image) (at root size : ℕ) (holes : Bool) (old : Set) : Check → ℕ → Type 0 where
+  height : 0 < size → 3 < height_of root → FailsTree image at root size holes old Height at
+  root_bits : 0 < size → root / 8 % 512 ≢ 0 → FailsTree image at root size holes old PointerBits at
+  root_range : 0 < size → block_count image ≤ block_of root → FailsTree image at root size holes old Range at
+  root_hole : 0 < size → holes ≡ false → block_of root ≡ 0 → FailsTree image at root size holes old Hole at
+  root_taken : 0 < size → size ≤ covered (suc (height_of root)) → block_of root ≢ 0 → block_of root < block_count image →
+      has old (block_of root) ≡ false → FailsTree image at root size holes old BlockTwice at
+  capacity : covered (suc (height_of root)) < size → FailsTree image at root size holes old Capacity (at + 1)
+  below : {c : Check} {p : ℕ} → 0 < size → block_of root ≢ 0 → block_of root < block_count image → has old (block_of root) ≡ true →
       FailsBelow image 0 root size holes (block_of root) (without old (block_of root)) c p → FailsTree image at root size holes old c p

@@ -5,21 +5,24 @@ ghost use Rattle.pm_region.specs.Memory.{current_words};
 
 use super::*;
 use bp_free::Blocks;
+use bp_layout::Check;
+use bp_tree::Tree;
 use pm_region::ListRegion;
 use std::alloc::{AllocError, Global};
 use std::test::Fail;
 
-const ROOT: u64 = 0x3001;
-
-const SIZE: u64 = 8200;
+const TREE: Tree = Tree {
+    root: 0x3001,
+    size: 8200,
+};
 
 fn lay_out(image: &mut [u64])
     requires { length image.old ≡ 4096 }
     ensures whole { length image.new ≡ 4096 }
     ensures root { slice_index image.new 2 ≡ 0x3001 }
 {
-    image[2] = ROOT;
-    image[3] = SIZE;
+    image[2] = TREE.root;
+    image[3] = TREE.size;
     image[1536] = 0x4000;
     image[1538] = 0x5000;
 }
@@ -39,10 +42,7 @@ fn takes_the_blocks_of_a_tree(rt: HostRuntime) -> Result<(), Fail> {
     let region = sample(rt.alloc())?;
     let mut blocks = Blocks::new(rt.alloc(), 8)?;
     blocks.fill(1, 8);
-    assert_eq!(rt;
-        take_tree(&region, 2, ROOT, SIZE, true, &mut blocks),
-        Ok(())
-    );
+    assert_eq!(rt; take_tree(&region, 2, TREE, true, &mut blocks), Ok(()));
     assert_eq!(rt; blocks.count(), 4);
     Ok(())
 }
@@ -53,12 +53,9 @@ fn tells_a_hole_of_a_directory(rt: HostRuntime) -> Result<(), Fail> {
     let mut blocks = Blocks::new(rt.alloc(), 8)?;
     blocks.fill(1, 8);
     let fault = CheckFault {
-        check: 5,
+        check: Check::Hole,
         place: 1537,
     };
-    assert_eq!(rt;
-        take_tree(&region, 2, ROOT, SIZE, false, &mut blocks),
-        Err(fault)
-    );
+    assert_eq!(rt; take_tree(&region, 2, TREE, false, &mut blocks), Err(fault));
     Ok(())
 }

@@ -1,6 +1,6 @@
 //! The pointers of a tree, from the root word down.
 
-ghost use Rattle.std.specs.Prelude.{◌≡◌, ◌≢◌, ℕ, suc, ◌+◌, ◌*◌, ◌<◌, ◌≤◌, ◌^◌, true, false, length, slice_index, OnOk, IfOk, IfErr};
+ghost use Rattle.std.specs.Prelude.{◌≡◌, ◌≢◌, ℕ, suc, ◌+◌, ◌*◌, ◌<◌, ◌≤◌, true, false, length, slice_index, OnOk, IfOk, IfErr};
 ghost use Rattle.bp_free.specs.Set.{has};
 ghost use Rattle.bp_layout.specs.Words.{word, block_count, height_of};
 ghost use Rattle.bp_limits.specs.Limits.{max_blocks, max_height};
@@ -11,6 +11,7 @@ ghost use Rattle.bp_walk.specs.Pointed.{ClaimsPointed, RefusesPointed};
 ghost use Rattle.bp_walk.specs.Walk.{WalksBelow, FailsBelow, TakesTree, FailsTree};
 
 use bp_free::Blocks;
+use bp_layout::Check;
 use bp_limits::MAX_HEIGHT;
 use bp_tree::Tree;
 use pm_region::Region;
@@ -21,8 +22,8 @@ const LINE: usize = 8;
 /// A check of the format that fails, and where.
 #[derive(Clone, Copy, Debug, PartialEq, Eq)]
 pub struct CheckFault {
-    /// Its number in `docs/format.md`. In a tree fail 1 height, 2 pointer bits, 3 range, 4 block twice, 5 hole and 11 capacity.
-    pub check: u8,
+    /// Which one it is. In a tree fail `Height`, `PointerBits`, `Range`, `BlockTwice`, `Hole` and `Capacity`.
+    pub check: Check,
     /// The word of the region at which the check fails.
     pub place: u32,
 }
@@ -36,7 +37,8 @@ fn span(level: u32) -> u64
     pm_words::span(level - 1)
 }
 
-/// Takes the block that a pointer names out of the set, and answers with its number: 0 where the pointer is null and may be.
+/// Takes the block that a pointer names out of the set, and answers with its number: 0 where the pointer is null and
+/// may be.
 fn claim_pointed(
     pointer: u64,
     place: u32,
@@ -49,20 +51,29 @@ fn claim_pointed(
     ensures place { IfErr result (λ f. f.place ≡ place) }
     ensures room { length blocks.new ≡ length blocks.old }
 {
-    let block = pointer >> 12;
+    let block = pm_words::block_of(pointer);
     if block >= blocks.room() as u64 {
-        return Err(CheckFault { check: 3, place });
+        return Err(CheckFault {
+            check: Check::Range,
+            place,
+        });
     }
     let block = block as u32;
     if block == 0 {
         return if holes {
             Ok(0)
         } else {
-            Err(CheckFault { check: 5, place })
+            Err(CheckFault {
+                check: Check::Hole,
+                place,
+            })
         };
     }
     if !blocks.is_free(block) {
-        return Err(CheckFault { check: 4, place });
+        return Err(CheckFault {
+            check: Check::BlockTwice,
+            place,
+        });
     }
     blocks.claim(block);
     Ok(block)
@@ -162,7 +173,10 @@ fn take_below<R: Region>(
             continue;
         }
         if pointer & 4095 != 0 {
-            return Err(CheckFault { check: 2, place });
+            return Err(CheckFault {
+                check: Check::PointerBits,
+                place,
+            });
         }
         let block = match claim_pointed(pointer, place, holes, blocks) {
             Ok(block) => block,
@@ -186,16 +200,15 @@ fn take_below<R: Region>(
     Ok(())
 }
 
-/// Takes the blocks of a tree out of the set of blocks that no tree has yet. `at` is the word of the region at which the
-/// root word stands, which the word of the size (in bytes) follows; where `holes` is false no pointer may be null, as in a
+/// Takes the blocks of a tree out of the set of blocks that no tree has yet. `at` is the word of the region at which
+/// the root word stands, which the word of the size follows; where `holes` is false no pointer may be null, as in a
 /// directory and in the inode file. A pointer is live where a byte that it covers is below the size.
 ///
 /// The answer is an error exactly where a check fails in the tree; the set has then lost some blocks, and is of no use.
 pub fn take_tree<R: Region>(
     region: &R,
     at: u32,
-    root: u64,
-    size: u64,
+    tree: Tree,
     holes: bool,
     blocks: &mut Blocks,
 ) -> Result<(), CheckFault>
@@ -204,36 +217,36 @@ pub fn take_tree<R: Region>(
     requires room { length blocks.old ≡ block_count (current_words (R.memory region.now)) }
     requires not_first { has blocks.old 0 ≡ false }
     requires place { at + 1 < length (current_words (R.memory region.now)) }
-    requires root { word (current_words (R.memory region.now)) at ≡ root }
+    requires root { word (current_words (R.memory region.now)) at ≡ tree.root }
     ensures ok { let words = current_words (R.memory region.now) in
-        OnOk result (TakesTree words at root size holes blocks.old blocks.new) }
+        OnOk result (TakesTree words at tree.root tree.size holes blocks.old blocks.new) }
     ensures err { let words = current_words (R.memory region.now) in
-        IfErr result (λ f. FailsTree words at root size holes blocks.old f.check f.place) }
+        IfErr result (λ f. FailsTree words at tree.root tree.size holes blocks.old f.check f.place) }
     ensures room { length blocks.new ≡ length blocks.old }
 {
-    if size == 0 {
+    if tree.size == 0 {
         return Ok(());
     }
-    let height = (root & 7) as u32;
+    let height = tree.height();
     if height > MAX_HEIGHT {
         return Err(CheckFault {
-            check: 1,
+            check: Check::Height,
             place: at,
         });
     }
-    if (root / 8) % 512 != 0 {
+    if (tree.root / 8) % 512 != 0 {
         return Err(CheckFault {
-            check: 2,
+            check: Check::PointerBits,
             place: at,
         });
     }
-    if size > span(height + 1) {
+    if tree.size > span(height + 1) {
         return Err(CheckFault {
-            check: 11,
+            check: Check::Capacity,
             place: at + 1,
         });
     }
-    let block = match claim_pointed(root, at, holes, blocks) {
+    let block = match claim_pointed(tree.root, at, holes, blocks) {
         Ok(block) => block,
         Err(fault) => return Err(fault),
     };
@@ -246,5 +259,5 @@ pub fn take_tree<R: Region>(
         index: 0,
         block,
     };
-    take_below(region, Tree { root, size }, holes, top, blocks)
+    take_below(region, tree, holes, top, blocks)
 }

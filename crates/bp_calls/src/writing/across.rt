@@ -4,7 +4,7 @@
 ghost use Rattle.std.specs.Prelude.{◌≡◌, ◌+◌, ◌<◌, ◌≤◌, length, IfErr, OnErr, OnOk};
 ghost use Rattle.bp_calls.specs.CanWrite.{CanWrite};
 ghost use Rattle.bp_calls.specs.Space.{LacksSpace};
-ghost use Rattle.bp_calls.specs.TouchedAcross.{TouchesAcross};
+ghost use Rattle.bp_calls.specs.TouchedAcross.{IsSized, TouchesAcross};
 ghost use Rattle.bp_calls.specs.WritesFile.{WritesFile};
 ghost use Rattle.bp_layout.specs.Inode.{root_of, size_of};
 ghost use Rattle.bp_layout.specs.Need.Change.{writes};
@@ -14,11 +14,10 @@ ghost use Rattle.pm_region.specs.Memory.{current_words};
 
 use crate::entering::tree_of;
 use crate::writing::{root_path, size_path};
-use arrayvec::ArrayVec;
 use bp_append::{height_with, need_prep, prep};
 use bp_cow::{Run, Touched, commit, need_cover};
 use bp_free::{NoSpace, Parts};
-use bp_tree::Tree;
+use bp_tree::{Slots, Tree};
 use pm_region::Region;
 
 /// What is touched by bytes that end past the size of a file: those below its size, in its tree once it is high enough
@@ -29,15 +28,15 @@ fn touched_across<'a, R: Region>(
     tree: Tree,
     off: u64,
     below: &'a [u8],
+    sized: &'a [(Slots, u64); 1],
     end: u64,
 ) -> Touched<'a>
     requires some { 4 ≤ length (current_words (R.memory region.now)) }
     requires root { tree.root ≡ root_of (current_words (R.memory region.now)) i }
     requires size { tree.size ≡ size_of (current_words (R.memory region.now)) i }
+    requires sized { IsSized (current_words (R.memory region.now)) i end sized.now }
     ensures { TouchesAcross (current_words (R.memory region.now)) i off end below.now result }
 {
-    let mut words = ArrayVec::new();
-    words.push((size_path(region, i), end));
     let run = Run {
         root: root_path(region, i),
         height: height_with(tree, end),
@@ -45,7 +44,7 @@ fn touched_across<'a, R: Region>(
         bytes: below,
     };
     Touched {
-        words,
+        words: sized,
         run: Some(run),
     }
 }
@@ -76,7 +75,8 @@ pub(crate) fn write_across<R: Region>(
     let end = off + bytes.len() as u64;
     let (below, beyond) = bytes.split_at((tree.size - off) as usize);
     let root = root_path(&parts.region, i);
-    let touched = touched_across(&parts.region, i, tree, off, below, end);
+    let sized = [(size_path(&parts.region, i), end)];
+    let touched = touched_across(&parts.region, i, tree, off, below, &sized, end);
     let behind = need_prep(&parts.region, tree, tree.size, end);
     let need = behind + need_cover(&parts.region, &touched);
     let free = parts.blocks.count();

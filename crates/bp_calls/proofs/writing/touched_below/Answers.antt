@@ -7,7 +7,7 @@ pub returns : goal.returns
 returns g c = record {
   run = record { root = c.root_path.result; height = _; off = c.args.off; bytes = c.args.bytes };
   one = refl;
-  no_words = c.new.ensures;
+  no_words = refl;
   root = c.root_path.ensures;
   height = and_mask c.args.tree.root 3 ∙ ap height_of c.requires.root;
   from = refl;

@@ -8,6 +8,7 @@ use Rattle.bp_calls.proofs.Rooms.{room_after, row_in_range}
 use Rattle.bp_rename.proofs.EntryPaths.{directory_some}
 use Rattle.bp_rename.proofs.IntoLaws.{mid_formed}
 use Rattle.bp_rename.proofs.IntoMoved.{into_copies, into_exact, into_fits, into_performs, into_ready, into_room}
+use Rattle.bp_rename.proofs.TwoWords.{touches_two}
 use Rattle.bp_rename.proofs.across.move_into.Goals as goal
 
 pub entry_place-entry-requires-clause-live : goal.entry_place-entry-requires-clause-live
@@ -52,24 +53,26 @@ barrier-requires g c =
 
 pub commit-requires : goal.commit-requires
 commit-requires g c κs inside =
+    let touches = touches_two c.touched_two-touched.result c.words_into-words.result c.touched_two-touched.ensures.words c.touched_two-touched.ensures.none c.words_into-words.ensures in
     let old : Memory = g.R.Region.memory c.args.parts.now.region in
     let third : Memory = g.R.Region.memory c.put_name.new.region in
     let mid : Memory = g.R.Region.memory c.barrier.new.self in
     let move = c.args.to_move.now in
     let stands = entry_stands (current_words old) move.to_dir c.args.slot c.entry_place-entry.result c.tree_of-target.result.root c.tree_of-target.ensures.root c.entry_place-entry.ensures.place c.entry_place-entry.ensures.present in
     let ready = into_ready old third mid move c.args.slot c.entry_place-entry.result c.requires.can c.requires.new c.requires.other c.requires.found stands c.put_name.ensures.stores c.put_name.ensures.name c.barrier.ensures
-    c.touched_into-touched.result c.touched_into-touched.ensures c.args.parts.now.blocks c.args.parts.now.inodes c.requires.exact c.requires.room in
+    c.touched_two-touched.result touches c.args.parts.now.blocks c.args.parts.now.inodes c.requires.exact c.requires.room in
     let room = into_room old third mid move c.args.slot c.entry_place-entry.result c.requires.can c.requires.new c.requires.other c.requires.found stands c.put_name.ensures.stores c.put_name.ensures.name c.barrier.ensures
-    c.touched_into-touched.result c.touched_into-touched.ensures c.args.parts.now.blocks c.args.parts.now.inodes c.requires.exact c.requires.room in
+    c.touched_two-touched.result touches c.args.parts.now.blocks c.args.parts.now.inodes c.requires.exact c.requires.room in
     let count = into_copies old third mid move c.args.slot c.entry_place-entry.result c.requires.can c.requires.new c.requires.other c.requires.found stands c.put_name.ensures.stores c.put_name.ensures.name c.barrier.ensures
-    c.touched_into-touched.result c.touched_into-touched.ensures c.args.parts.now.blocks c.args.parts.now.inodes c.requires.exact c.requires.room in
+    c.touched_two-touched.result touches c.args.parts.now.blocks c.args.parts.now.inodes c.requires.exact c.requires.room in
     let formed = mid_formed old third mid move c.args.slot c.entry_place-entry.result c.requires.can c.requires.new c.requires.other c.requires.found stands c.put_name.ensures.stores c.put_name.ensures.name c.barrier.ensures in
     let fits = into_fits old third mid move c.args.slot c.entry_place-entry.result c.requires.can c.requires.new c.requires.other c.requires.found stands c.put_name.ensures.stores c.put_name.ensures.name c.barrier.ensures
-    c.touched_into-touched.result c.touched_into-touched.ensures c.args.parts.now.blocks c.args.parts.now.inodes c.requires.exact c.requires.room in
+    c.touched_two-touched.result touches c.args.parts.now.blocks c.args.parts.now.inodes c.requires.exact c.requires.room in
     (inside, (formed, (ready, (fits, (omega (arith, count, c.requires.enough), room)))))
 
 pub returns-clause-performs : goal.returns-clause-performs
 returns-clause-performs g c =
+    let touches = touches_two c.touched_two-touched.result c.words_into-words.result c.touched_two-touched.ensures.words c.touched_two-touched.ensures.none c.words_into-words.ensures in
     let old : Memory = g.R.Region.memory c.args.parts.now.region in
     let third : Memory = g.R.Region.memory c.put_name.new.region in
     let mid : Memory = g.R.Region.memory c.barrier.new.self in
@@ -77,11 +80,12 @@ returns-clause-performs g c =
     let move = c.args.to_move.now in
     let stands = entry_stands (current_words old) move.to_dir c.args.slot c.entry_place-entry.result c.tree_of-target.result.root c.tree_of-target.ensures.root c.entry_place-entry.ensures.place c.entry_place-entry.ensures.present in
     into_performs old third mid move c.args.slot c.entry_place-entry.result c.requires.can c.requires.new c.requires.other c.requires.found stands c.put_name.ensures.stores c.put_name.ensures.name c.barrier.ensures
-    c.touched_into-touched.result c.touched_into-touched.ensures c.args.parts.now.blocks c.args.parts.now.inodes c.requires.exact c.requires.room
+    c.touched_two-touched.result touches c.args.parts.now.blocks c.args.parts.now.inodes c.requires.exact c.requires.room
     new c.commit.new.parts.blocks c.commit.ensures.commits c.commit.ensures.size
 
 pub returns-clause-exact : goal.returns-clause-exact
 returns-clause-exact g c =
+    let touches = touches_two c.touched_two-touched.result c.words_into-words.result c.touched_two-touched.ensures.words c.touched_two-touched.ensures.none c.words_into-words.ensures in
     let old : Memory = g.R.Region.memory c.args.parts.now.region in
     let third : Memory = g.R.Region.memory c.put_name.new.region in
     let mid : Memory = g.R.Region.memory c.barrier.new.self in
@@ -90,5 +94,5 @@ returns-clause-exact g c =
     let stands = entry_stands (current_words old) move.to_dir c.args.slot c.entry_place-entry.result c.tree_of-target.result.root c.tree_of-target.ensures.root c.entry_place-entry.ensures.place c.entry_place-entry.ensures.present in
     rw c.commit.ensures.inodes
     (into_exact old third mid move c.args.slot c.entry_place-entry.result c.requires.can c.requires.new c.requires.other c.requires.found stands c.put_name.ensures.stores c.put_name.ensures.name c.barrier.ensures
-    c.touched_into-touched.result c.touched_into-touched.ensures c.args.parts.now.blocks c.args.parts.now.inodes c.requires.exact c.requires.room
+    c.touched_two-touched.result touches c.args.parts.now.blocks c.args.parts.now.inodes c.requires.exact c.requires.room
     new c.commit.new.parts.blocks c.commit.ensures.commits c.commit.ensures.size)

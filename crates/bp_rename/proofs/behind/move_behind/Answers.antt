@@ -5,6 +5,7 @@ use Rattle.pm_region.specs.Memory.{Memory, current_words}
 use Rattle.bp_calls.specs.Entries.{PutsBehind}
 use Rattle.bp_rename.specs.CanRename.{moved_inode}
 use Rattle.bp_rename.proofs.BehindMoved.{behind_can, behind_exact, behind_fits, behind_formed, behind_performs, behind_room, behind_some, can_put, moved_few}
+use Rattle.bp_rename.proofs.TwoWords.{touches_two}
 use Rattle.bp_rename.proofs.behind.move_behind.Goals as goal
 
 pub inumber-inode-requires-clause-live : goal.inumber-inode-requires-clause-live
@@ -21,11 +22,13 @@ overflow_cast-inode g c =
 
 pub put_behind-requires-clause-can : goal.put_behind-requires-clause-can
 put_behind-requires-clause-can g c =
+    let touches = touches_two c.touched_two-touched.result c.words_behind-words.result c.touched_two-touched.ensures.words c.touched_two-touched.ensures.none c.words_behind-words.ensures in
     can_put (g.R.Region.memory c.args.parts.now.region) c.args.to_move.now c.args.parts.now.blocks c.args.parts.now.inodes c.requires.can c.requires.other c.requires.new c.requires.none
-    c.touched_behind-touched.result c.touched_behind-touched.ensures c.requires.exact c.requires.enough c.requires.room
+    c.touched_two-touched.result touches c.requires.exact c.requires.enough c.requires.room
 
 pub commit-requires : goal.commit-requires
 commit-requires g c κs inside =
+    let touches = touches_two c.touched_two-touched.result c.words_behind-words.result c.touched_two-touched.ensures.words c.touched_two-touched.ensures.none c.words_behind-words.ensures in
     let old : Memory = g.R.Region.memory c.args.parts.now.region in
     let mid : Memory = g.R.Region.memory c.put_behind.new.parts.region in
     let move = c.args.to_move.now in
@@ -33,19 +36,20 @@ commit-requires g c κs inside =
     c.inumber-inode.ensures ∙ ap (λ root. inumber_in (current_words old) root move.from_slot) c.tree_of-source.ensures.root in
     let puts = subst (λ x. PutsBehind old mid (members c.args.parts.now.blocks) (members c.put_behind.new.parts.blocks) move.to_dir x move.name.now) named c.put_behind.ensures.puts in
     let formed = behind_formed old mid move c.args.parts.now.blocks c.args.parts.now.inodes c.put_behind.new.parts.blocks c.requires.can c.requires.new c.requires.other c.requires.none c.requires.exact c.requires.room puts c.put_behind.ensures.blocks
-    c.touched_behind-touched.result c.touched_behind-touched.ensures in
+    c.touched_two-touched.result touches in
     let can = behind_can old mid move c.args.parts.now.blocks c.args.parts.now.inodes c.put_behind.new.parts.blocks c.requires.can c.requires.new c.requires.other c.requires.none c.requires.exact c.requires.room puts c.put_behind.ensures.blocks
-    c.touched_behind-touched.result c.touched_behind-touched.ensures in
+    c.touched_two-touched.result touches in
     let fits = behind_fits old mid move c.args.parts.now.blocks c.args.parts.now.inodes c.put_behind.new.parts.blocks c.requires.can c.requires.new c.requires.other c.requires.none c.requires.exact c.requires.room puts c.put_behind.ensures.blocks
-    c.touched_behind-touched.result c.touched_behind-touched.ensures in
+    c.touched_two-touched.result touches in
     let some = behind_some old mid move c.args.parts.now.blocks c.args.parts.now.inodes c.put_behind.new.parts.blocks c.requires.can c.requires.new c.requires.other c.requires.none c.requires.exact c.requires.room puts c.put_behind.ensures.blocks
-    c.touched_behind-touched.result c.touched_behind-touched.ensures c.requires.enough in
+    c.touched_two-touched.result touches c.requires.enough in
     let room = behind_room old mid move c.args.parts.now.blocks c.args.parts.now.inodes c.put_behind.new.parts.blocks c.requires.can c.requires.new c.requires.other c.requires.none c.requires.exact c.requires.room puts c.put_behind.ensures.blocks
-    c.touched_behind-touched.result c.touched_behind-touched.ensures in
+    c.touched_two-touched.result touches in
     (inside, (formed, (can, (fits, (some, room)))))
 
 pub returns-clause-performs : goal.returns-clause-performs
 returns-clause-performs g c =
+    let touches = touches_two c.touched_two-touched.result c.words_behind-words.result c.touched_two-touched.ensures.words c.touched_two-touched.ensures.none c.words_behind-words.ensures in
     let old : Memory = g.R.Region.memory c.args.parts.now.region in
     let mid : Memory = g.R.Region.memory c.put_behind.new.parts.region in
     let move = c.args.to_move.now in
@@ -53,11 +57,12 @@ returns-clause-performs g c =
     c.inumber-inode.ensures ∙ ap (λ root. inumber_in (current_words old) root move.from_slot) c.tree_of-source.ensures.root in
     let puts = subst (λ x. PutsBehind old mid (members c.args.parts.now.blocks) (members c.put_behind.new.parts.blocks) move.to_dir x move.name.now) named c.put_behind.ensures.puts in
     behind_performs old mid move c.args.parts.now.blocks c.args.parts.now.inodes c.put_behind.new.parts.blocks c.requires.can c.requires.new c.requires.other c.requires.none c.requires.exact c.requires.room puts c.put_behind.ensures.blocks
-    c.touched_behind-touched.result c.touched_behind-touched.ensures
+    c.touched_two-touched.result touches
     (g.R.Region.memory c.commit.new.parts.region) c.commit.new.parts.blocks c.commit.ensures.commits
 
 pub returns-clause-exact : goal.returns-clause-exact
 returns-clause-exact g c =
+    let touches = touches_two c.touched_two-touched.result c.words_behind-words.result c.touched_two-touched.ensures.words c.touched_two-touched.ensures.none c.words_behind-words.ensures in
     let old : Memory = g.R.Region.memory c.args.parts.now.region in
     let mid : Memory = g.R.Region.memory c.put_behind.new.parts.region in
     let move = c.args.to_move.now in
@@ -66,5 +71,5 @@ returns-clause-exact g c =
     let puts = subst (λ x. PutsBehind old mid (members c.args.parts.now.blocks) (members c.put_behind.new.parts.blocks) move.to_dir x move.name.now) named c.put_behind.ensures.puts in
     rw (c.commit.ensures.inodes, c.put_behind.ensures.inodes)
     (behind_exact old mid move c.args.parts.now.blocks c.args.parts.now.inodes c.put_behind.new.parts.blocks c.requires.can c.requires.new c.requires.other c.requires.none c.requires.exact c.requires.room puts c.put_behind.ensures.blocks
-    c.touched_behind-touched.result c.touched_behind-touched.ensures
+    c.touched_two-touched.result touches
     (g.R.Region.memory c.commit.new.parts.region) c.commit.new.parts.blocks c.commit.ensures.commits c.commit.ensures.size)

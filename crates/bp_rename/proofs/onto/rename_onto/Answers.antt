@@ -4,6 +4,7 @@ use Rattle.pm_region.specs.Memory.{Memory, current_words}
 use Rattle.bp_rename.proofs.OntoDone.{has_room, inode_in_room, inode_taken, inode_there, kind_some, onto_exact, onto_gives, onto_performs, onto_well_formed, ready}
 use Rattle.bp_rename.proofs.OntoLaws.{onto_need, replaced, replaced_few, replaced_some}
 use Rattle.bp_layout.specs.Reached.IsReached.{inode_file}
+use Rattle.bp_rename.proofs.TwoWords.{touches_two}
 use Rattle.bp_rename.proofs.onto.rename_onto.Goals as goal
 
 pub inumber-replaced-requires-clause-live : goal.inumber-replaced-requires-clause-live
@@ -21,21 +22,23 @@ overflow_cast-replaced g c =
 
 pub commit-requires : goal.commit-requires
 commit-requires g c κs within =
+    let touches = touches_two c.touched_two-touched.result c.words_onto-words.result c.touched_two-touched.ensures.words c.touched_two-touched.ensures.none c.words_onto-words.ensures in
     let old : Memory = g.R.Region.memory c.args.parts.now.region in
     let can = ready old c.args.to_move.now c.args.slot c.requires.can c.requires.onto
-    c.touched_inumbers-touched.result c.touched_inumbers-touched.ensures c.args.parts.now.blocks c.args.parts.now.inodes c.requires.exact c.requires.room in
+    c.touched_two-touched.result touches c.args.parts.now.blocks c.args.parts.now.inodes c.requires.exact c.requires.room in
     let room = has_room old c.args.to_move.now c.args.slot c.requires.can c.requires.onto
-    c.touched_inumbers-touched.result c.touched_inumbers-touched.ensures c.args.parts.now.blocks c.args.parts.now.inodes c.requires.exact c.requires.room in
+    c.touched_two-touched.result touches c.args.parts.now.blocks c.args.parts.now.inodes c.requires.exact c.requires.room in
     let count = onto_need (current_words old) c.args.to_move.now c.args.slot c.requires.can c.requires.onto
-    c.touched_inumbers-touched.result c.touched_inumbers-touched.ensures in
+    c.touched_two-touched.result touches in
     (within, (c.requires.can.well_formed, (can, (omega (arith, c.requires.exact.block_room), (omega (arith, count, c.requires.enough), room)))))
 
 pub get-inode-requires-clause-sound : goal.get-inode-requires-clause-sound
 get-inode-requires-clause-sound g c =
+    let touches = touches_two c.touched_two-touched.result c.words_onto-words.result c.touched_two-touched.ensures.words c.touched_two-touched.ensures.none c.words_onto-words.ensures in
     let old : Memory = g.R.Region.memory c.args.parts.now.region in
     let new : Memory = g.R.Region.memory c.commit.new.parts.region in
     let formed = onto_well_formed old new c.args.to_move.now c.args.slot c.requires.can c.requires.onto
-    c.touched_inumbers-touched.result c.touched_inumbers-touched.ensures c.args.parts.now.blocks c.args.parts.now.inodes c.commit.new.parts.blocks c.requires.exact c.requires.room c.commit.ensures.commits c.commit.ensures.size in
+    c.touched_two-touched.result touches c.args.parts.now.blocks c.args.parts.now.inodes c.commit.new.parts.blocks c.requires.exact c.requires.room c.commit.ensures.commits c.commit.ensures.size in
     formed.sound 0 inode_file
 
 pub get-inode-requires-clause-some : goal.get-inode-requires-clause-some
@@ -48,81 +51,90 @@ get-inode-requires-clause-some g c =
 
 pub get-inode-requires-clause-there : goal.get-inode-requires-clause-there
 get-inode-requires-clause-there g c =
+    let touches = touches_two c.touched_two-touched.result c.words_onto-words.result c.touched_two-touched.ensures.words c.touched_two-touched.ensures.none c.words_onto-words.ensures in
     let old : Memory = g.R.Region.memory c.args.parts.now.region in
     let new : Memory = g.R.Region.memory c.commit.new.parts.region in
     let named : c.inumber-replaced.result ≡ inumber_at (current_words old) c.args.to_move.now.to_dir c.args.slot =
     c.inumber-replaced.ensures ∙ ap (λ root. inumber_in (current_words old) root c.args.slot) c.tree_of-target.ensures.root in
     rw named (inode_there old new c.args.to_move.now c.args.slot c.requires.can c.requires.onto
-    c.touched_inumbers-touched.result c.touched_inumbers-touched.ensures c.args.parts.now.blocks c.args.parts.now.inodes c.commit.new.parts.blocks c.requires.exact c.requires.room c.commit.ensures.commits c.commit.ensures.size)
+    c.touched_two-touched.result touches c.args.parts.now.blocks c.args.parts.now.inodes c.commit.new.parts.blocks c.requires.exact c.requires.room c.commit.ensures.commits c.commit.ensures.size)
 
 pub get-inode-requires-clause-least : goal.get-inode-requires-clause-least
 get-inode-requires-clause-least g c =
+    let touches = touches_two c.touched_two-touched.result c.words_onto-words.result c.touched_two-touched.ensures.words c.touched_two-touched.ensures.none c.words_onto-words.ensures in
     let old : Memory = g.R.Region.memory c.args.parts.now.region in
     let new : Memory = g.R.Region.memory c.commit.new.parts.region in
     let named : c.inumber-replaced.result ≡ inumber_at (current_words old) c.args.to_move.now.to_dir c.args.slot =
     c.inumber-replaced.ensures ∙ ap (λ root. inumber_in (current_words old) root c.args.slot) c.tree_of-target.ensures.root in
     rw named (kind_some old new c.args.to_move.now c.args.slot c.requires.can c.requires.onto
-    c.touched_inumbers-touched.result c.touched_inumbers-touched.ensures c.args.parts.now.blocks c.args.parts.now.inodes c.commit.new.parts.blocks c.requires.exact c.requires.room c.commit.ensures.commits c.commit.ensures.size).0
+    c.touched_two-touched.result touches c.args.parts.now.blocks c.args.parts.now.inodes c.commit.new.parts.blocks c.requires.exact c.requires.room c.commit.ensures.commits c.commit.ensures.size).0
 
 pub get-inode-requires-clause-most : goal.get-inode-requires-clause-most
 get-inode-requires-clause-most g c =
+    let touches = touches_two c.touched_two-touched.result c.words_onto-words.result c.touched_two-touched.ensures.words c.touched_two-touched.ensures.none c.words_onto-words.ensures in
     let old : Memory = g.R.Region.memory c.args.parts.now.region in
     let new : Memory = g.R.Region.memory c.commit.new.parts.region in
     let named : c.inumber-replaced.result ≡ inumber_at (current_words old) c.args.to_move.now.to_dir c.args.slot =
     c.inumber-replaced.ensures ∙ ap (λ root. inumber_in (current_words old) root c.args.slot) c.tree_of-target.ensures.root in
     rw named (kind_some old new c.args.to_move.now c.args.slot c.requires.can c.requires.onto
-    c.touched_inumbers-touched.result c.touched_inumbers-touched.ensures c.args.parts.now.blocks c.args.parts.now.inodes c.commit.new.parts.blocks c.requires.exact c.requires.room c.commit.ensures.commits c.commit.ensures.size).1
+    c.touched_two-touched.result touches c.args.parts.now.blocks c.args.parts.now.inodes c.commit.new.parts.blocks c.requires.exact c.requires.room c.commit.ensures.commits c.commit.ensures.size).1
 
 pub give_back-requires-clause-sound : goal.give_back-requires-clause-sound
 give_back-requires-clause-sound g c =
+    let touches = touches_two c.touched_two-touched.result c.words_onto-words.result c.touched_two-touched.ensures.words c.touched_two-touched.ensures.none c.words_onto-words.ensures in
     let old : Memory = g.R.Region.memory c.args.parts.now.region in
     let new : Memory = g.R.Region.memory c.commit.new.parts.region in
     let named : c.inumber-replaced.result ≡ inumber_at (current_words old) c.args.to_move.now.to_dir c.args.slot =
     c.inumber-replaced.ensures ∙ ap (λ root. inumber_in (current_words old) root c.args.slot) c.tree_of-target.ensures.root in
     rw (c.get-inode.ensures.root, c.get-inode.ensures.size, named) (onto_gives old new c.args.to_move.now c.args.slot c.requires.can c.requires.onto
-    c.touched_inumbers-touched.result c.touched_inumbers-touched.ensures c.args.parts.now.blocks c.args.parts.now.inodes c.commit.new.parts.blocks c.requires.exact c.requires.room c.commit.ensures.commits c.commit.ensures.size).sound
+    c.touched_two-touched.result touches c.args.parts.now.blocks c.args.parts.now.inodes c.commit.new.parts.blocks c.requires.exact c.requires.room c.commit.ensures.commits c.commit.ensures.size).sound
 
 pub give_back-requires-clause-taken : goal.give_back-requires-clause-taken
 give_back-requires-clause-taken g c =
+    let touches = touches_two c.touched_two-touched.result c.words_onto-words.result c.touched_two-touched.ensures.words c.touched_two-touched.ensures.none c.words_onto-words.ensures in
     let old : Memory = g.R.Region.memory c.args.parts.now.region in
     let new : Memory = g.R.Region.memory c.commit.new.parts.region in
     let named : c.inumber-replaced.result ≡ inumber_at (current_words old) c.args.to_move.now.to_dir c.args.slot =
     c.inumber-replaced.ensures ∙ ap (λ root. inumber_in (current_words old) root c.args.slot) c.tree_of-target.ensures.root in
     rw (c.get-inode.ensures.root, c.get-inode.ensures.size, named) (onto_gives old new c.args.to_move.now c.args.slot c.requires.can c.requires.onto
-    c.touched_inumbers-touched.result c.touched_inumbers-touched.ensures c.args.parts.now.blocks c.args.parts.now.inodes c.commit.new.parts.blocks c.requires.exact c.requires.room c.commit.ensures.commits c.commit.ensures.size).taken
+    c.touched_two-touched.result touches c.args.parts.now.blocks c.args.parts.now.inodes c.commit.new.parts.blocks c.requires.exact c.requires.room c.commit.ensures.commits c.commit.ensures.size).taken
 
 pub give-requires-clause-in_range : goal.give-requires-clause-in_range
 give-requires-clause-in_range g c =
+    let touches = touches_two c.touched_two-touched.result c.words_onto-words.result c.touched_two-touched.ensures.words c.touched_two-touched.ensures.none c.words_onto-words.ensures in
     let old : Memory = g.R.Region.memory c.args.parts.now.region in
     let named : c.inumber-replaced.result ≡ inumber_at (current_words old) c.args.to_move.now.to_dir c.args.slot =
     c.inumber-replaced.ensures ∙ ap (λ root. inumber_in (current_words old) root c.args.slot) c.tree_of-target.ensures.root in
     let new : Memory = g.R.Region.memory c.commit.new.parts.region in
     rw (c.commit.ensures.inodes, named) (inode_in_room old new c.args.to_move.now c.args.slot c.requires.can c.requires.onto
-    c.touched_inumbers-touched.result c.touched_inumbers-touched.ensures c.args.parts.now.blocks c.args.parts.now.inodes c.commit.new.parts.blocks c.requires.exact c.requires.room c.commit.ensures.commits c.commit.ensures.size)
+    c.touched_two-touched.result touches c.args.parts.now.blocks c.args.parts.now.inodes c.commit.new.parts.blocks c.requires.exact c.requires.room c.commit.ensures.commits c.commit.ensures.size)
 
 pub give-requires-clause-taken : goal.give-requires-clause-taken
 give-requires-clause-taken g c =
+    let touches = touches_two c.touched_two-touched.result c.words_onto-words.result c.touched_two-touched.ensures.words c.touched_two-touched.ensures.none c.words_onto-words.ensures in
     let old : Memory = g.R.Region.memory c.args.parts.now.region in
     let named : c.inumber-replaced.result ≡ inumber_at (current_words old) c.args.to_move.now.to_dir c.args.slot =
     c.inumber-replaced.ensures ∙ ap (λ root. inumber_in (current_words old) root c.args.slot) c.tree_of-target.ensures.root in
     let new : Memory = g.R.Region.memory c.commit.new.parts.region in
     rw (c.commit.ensures.inodes, named) (inode_taken old new c.args.to_move.now c.args.slot c.requires.can c.requires.onto
-    c.touched_inumbers-touched.result c.touched_inumbers-touched.ensures c.args.parts.now.blocks c.args.parts.now.inodes c.commit.new.parts.blocks c.requires.exact c.requires.room c.commit.ensures.commits c.commit.ensures.size)
+    c.touched_two-touched.result touches c.args.parts.now.blocks c.args.parts.now.inodes c.commit.new.parts.blocks c.requires.exact c.requires.room c.commit.ensures.commits c.commit.ensures.size)
 
 pub returns-clause-performs : goal.returns-clause-performs
 returns-clause-performs g c =
+    let touches = touches_two c.touched_two-touched.result c.words_onto-words.result c.touched_two-touched.ensures.words c.touched_two-touched.ensures.none c.words_onto-words.ensures in
     let old : Memory = g.R.Region.memory c.args.parts.now.region in
     let new : Memory = g.R.Region.memory c.commit.new.parts.region in
     onto_performs old new c.args.to_move.now c.args.slot c.requires.can c.requires.onto
-    c.touched_inumbers-touched.result c.touched_inumbers-touched.ensures c.args.parts.now.blocks c.args.parts.now.inodes c.commit.new.parts.blocks c.requires.exact c.requires.room c.commit.ensures.commits c.commit.ensures.size
+    c.touched_two-touched.result touches c.args.parts.now.blocks c.args.parts.now.inodes c.commit.new.parts.blocks c.requires.exact c.requires.room c.commit.ensures.commits c.commit.ensures.size
 
 pub returns-clause-exact : goal.returns-clause-exact
 returns-clause-exact g c =
+    let touches = touches_two c.touched_two-touched.result c.words_onto-words.result c.touched_two-touched.ensures.words c.touched_two-touched.ensures.none c.words_onto-words.ensures in
     let old : Memory = g.R.Region.memory c.args.parts.now.region in
     let new : Memory = g.R.Region.memory c.commit.new.parts.region in
     let named : c.inumber-replaced.result ≡ inumber_at (current_words old) c.args.to_move.now.to_dir c.args.slot =
     c.inumber-replaced.ensures ∙ ap (λ root. inumber_in (current_words old) root c.args.slot) c.tree_of-target.ensures.root in
     rw (c.give.ensures, c.commit.ensures.inodes, named)
     (onto_exact old new c.args.to_move.now c.args.slot c.requires.can c.requires.onto
-    c.touched_inumbers-touched.result c.touched_inumbers-touched.ensures c.args.parts.now.blocks c.args.parts.now.inodes c.commit.new.parts.blocks c.requires.exact c.requires.room c.commit.ensures.commits c.commit.ensures.size c.give_back.new.blocks
+    c.touched_two-touched.result touches c.args.parts.now.blocks c.args.parts.now.inodes c.commit.new.parts.blocks c.requires.exact c.requires.room c.commit.ensures.commits c.commit.ensures.size c.give_back.new.blocks
     (rw (c.get-inode.ensures.root, c.get-inode.ensures.size, named) at c.give_back.ensures))

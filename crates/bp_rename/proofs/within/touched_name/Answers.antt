@@ -10,5 +10,5 @@ pub returns : goal.returns
 returns g c =
     let count : 8 + 8 * c.div_ceil.result ≡ respelled_length c.args.to_move.now.name.now = omega (arith, c.div_ceil.ensures) in
     touches_name (current_words (g.R.Region.memory c.args.region.now)) c.args.to_move.now.from_dir c.args.to_move.now.from_slot c.args.to_move.now.name.now c.args.bytes.now
-    refl c.new.ensures c.root_path.ensures (and_mask c.tree_of-tree.result.root 3 ∙ ap height_of c.tree_of-tree.ensures.root) (omega arith)
+    refl refl c.root_path.ensures (and_mask c.tree_of-tree.result.root 3 ∙ ap height_of c.tree_of-tree.ensures.root) (omega arith)
     (ap (λ n. take n c.args.bytes.now) count) (omega (arith, c.told-bytes)) c.requires.can.name.short c.requires.bytes c.fits-bytes

@@ -1,4 +1,4 @@
-use Rattle.std.proofs.Common.{◌*◌, ◌/◌, ◌≤◌, arith}
+use Rattle.std.proofs.Common.{◌*◌, ◌/◌, ◌≤◌, ◌∙◌, arith}
 use Rattle.bp_layout.specs.Words.{block_count}
 use Rattle.pm_region.specs.Memory.{current_words}
 use Rattle.bp_walk.proofs.Pointers.{on_ok_then}
@@ -13,25 +13,25 @@ get-words-requires-clause-sound g c =
 pub read_names-requires-clause-sound : goal.read_names-requires-clause-sound
 read_names-requires-clause-sound g c =
     begun_sound (current_words (g.R.Region.memory c.args.region.now)) c.requires.ready c.args.blocks.now c.args.inodes.now c.args.todo.now
-    (record { inode = c.args.inode; tree = record { root = c.get-words.result.root; size = c.get-words.result.size } }) c.requires.begun c.get-words.ensures.root c.get-words.ensures.size
+    (record { inode = c.args.inode; tree = c.of-tree.result }) c.requires.begun (c.of-tree.ensures.root ∙ c.get-words.ensures.root) (c.of-tree.ensures.size ∙ c.get-words.ensures.size)
 
 pub read_names-requires-clause-full : goal.read_names-requires-clause-full
 read_names-requires-clause-full g c =
     begun_full (current_words (g.R.Region.memory c.args.region.now)) c.requires.ready c.args.blocks.now c.args.inodes.now c.args.todo.now
-    (record { inode = c.args.inode; tree = record { root = c.get-words.result.root; size = c.get-words.result.size } }) c.requires.begun c.get-words.ensures.root c.get-words.ensures.size
+    (record { inode = c.args.inode; tree = c.of-tree.result }) c.requires.begun (c.of-tree.ensures.root ∙ c.get-words.ensures.root) (c.of-tree.ensures.size ∙ c.get-words.ensures.size)
 
 pub read_names-requires-clause-room : goal.read_names-requires-clause-room
 read_names-requires-clause-room g c =
     let image = current_words (g.R.Region.memory c.args.region.now) in
-    let few : c.get-words.result.size / 256 ≤ 16 * block_count image =
+    let few : c.of-tree.result.size / 256 ≤ 16 * block_count image =
     begun_few image c.requires.ready c.args.blocks.now c.args.inodes.now c.args.todo.now
-    (record { inode = c.args.inode; tree = record { root = c.get-words.result.root; size = c.get-words.result.size } }) c.requires.begun c.get-words.ensures.root c.get-words.ensures.size in
+    (record { inode = c.args.inode; tree = c.of-tree.result }) c.requires.begun (c.of-tree.ensures.root ∙ c.get-words.ensures.root) (c.of-tree.ensures.size ∙ c.get-words.ensures.size) in
     omega (arith, few, c.requires.entries)
 
 pub returns-in-Err-clause-fault : goal.returns-in-Err-clause-fault
 returns-in-Err-clause-fault g c =
     begun_names_fail (current_words (g.R.Region.memory c.args.region.now)) c.requires.ready c.args.blocks.now c.args.inodes.now c.args.todo.now
-    (record { inode = c.args.inode; tree = record { root = c.get-words.result.root; size = c.get-words.result.size } }) c.requires.begun c.get-words.ensures.root c.get-words.ensures.size
+    (record { inode = c.args.inode; tree = c.of-tree.result }) c.requires.begun (c.of-tree.ensures.root ∙ c.get-words.ensures.root) (c.of-tree.ensures.size ∙ c.get-words.ensures.size)
     c.in-Err.fault.check c.in-Err.fault.place c.in-Err.ensures.err
 
 pub returns-clause-done : goal.returns-clause-done
@@ -39,4 +39,4 @@ returns-clause-done g c =
     let image = current_words (g.R.Region.memory c.args.region.now) in
     on_ok_then c.read_entries.result (λ inside.
     finished image c.read_entries.new.blocks c.read_entries.new.inodes c.read_entries.new.todo
-    (record { inode = c.args.inode; tree = record { root = c.get-words.result.root; size = c.get-words.result.size } }) inside) c.read_entries.ensures.inside
+    (record { inode = c.args.inode; tree = c.of-tree.result }) inside) c.read_entries.ensures.inside

@@ -5,12 +5,12 @@ use Rattle.bp_layout.specs.Words.{word, block_count, height_of}
 use Rattle.bp_layout.specs.Tree.{node, covered, IsLivePointer}
 use Rattle.bp_layout.specs.Checks.{IsFollowed, Passes}
 use Rattle.pm_region.specs.Memory.{current_words}
+use Rattle.bp_tree.proofs.LoadedWords.{length-loaded, loaded_word}
 use Rattle.bp_tree.proofs.RegionWords.{length_now}
 use Rattle.bp_walk.specs.Walk.{WalksBelow, IsPlace}
 use Rattle.bp_walk.specs.Walk.FailsBelow.{bits}
 use Rattle.bp_walk.proofs.Below.{rest, small_number, covered_most, child_below, child_of, child_word}
 use Rattle.bp_walk.proofs.Pointers.{claimed_room, claimed_less, claimed_out, claimed_node, claimed_passes, claimed_step, claimed_leaf, claimed_present, claimed_fails, null_steps, refused_below, within_blocks}
-use Rattle.bp_walk.proofs.Places.{loaded, loaded_length}
 use Rattle.bp_walk.proofs.LiveSlots.{covered_some}
 use Rattle.bp_walk.proofs.walk.+take_below.Goals.{else-pointer-eq0-via-then-pointer-eq0+else-holes, else-pointer-eq0-via-else-pointer-eq0}
 use Rattle.bp_walk.proofs.walk.+take_below.Goals as goal
@@ -31,14 +31,14 @@ loop-slot-preserved-then-holes g t c =
     let words = c.load_words-pointers.result.now in
     let some : block < block_count image = subst (λ x. x < block_count image) c.requires.block (within_blocks image c.args.tree.root c.args.top.depth c.args.top.index c.requires.passes) in
     let inside : 512 * block + live ≤ length image = omega (arith, some, c.live_slots-live.ensures.most, c.requires.whole) in
-    let long : length words ≡ live = loaded_length image words (512 * block) live c.load_words-pointers.ensures inside in
+    let long : length words ≡ live = length-loaded image words (512 * block) live c.load_words-pointers.ensures inside in
     let end : slot + (next - slot) ≡ next = omega (arith, c.past_nulls-slot.ensures.further) in
     let below : (r : ℕ) → r < slot + (next - slot) → r < live = λ r low. omega (arith, low, end, long, c.past_nulls-slot.ensures.most) in
     let places : (r : ℕ) → slot ≤ r → r < slot + (next - slot) → IsPlace image 0 c.args.tree.root c.args.tree.size (suc c.args.top.depth) (512 * c.args.top.index + r) (512 * block + r) =
     λ r order low. child_of image c.args.tree.root c.args.tree.size c.args.top.depth c.args.top.index r block c.args.top.level (omega (arith, below r low, c.live_slots-live.ensures.most)) c.requires.above c.requires.height
     (c.live_slots-live.ensures.live r (below r low)) c.requires.fits c.requires.followed c.requires.passes c.requires.block c.requires.present in
     let null : (r : ℕ) → slot ≤ r → r < slot + (next - slot) → word image (512 * block + r) ≡ 0 =
-    λ r order low. sym (loaded image words (512 * block) live r c.load_words-pointers.ensures (below r low)) ∙ elim (cases_eq r slot) [
+    λ r order low. sym (loaded_word image words (512 * block) live c.load_words-pointers.ensures r (below r low)) ∙ elim (cases_eq r slot) [
       | inl here ↦ ap (λ k. get_or words k 0) here ∙ c.if-pointer-eq0.true
       | inr apart ↦ c.past_nulls-slot.ensures.nulls r (omega (arith, order, apart)) (omega (arith, low, end))
     ] in
@@ -53,7 +53,7 @@ pub returns-then-pointer-ne0-clause-err : goal.returns-then-pointer-ne0-clause-e
 returns-then-pointer-ne0-clause-err g t c =
     let image = current_words (g.R.Region.memory c.args.region.now) in
     let pointer : ℕ = get_or c.load_words-pointers.result.now c.loop-slot.slot 0 in
-    let read : pointer ≡ word image (512 * c.args.top.block + c.loop-slot.slot) = loaded image c.load_words-pointers.result.now (512 * c.args.top.block) c.live_slots-live.result c.loop-slot.slot c.load_words-pointers.ensures c.loop-slot-test.true in
+    let read : pointer ≡ word image (512 * c.args.top.block + c.loop-slot.slot) = loaded_word image c.load_words-pointers.result.now (512 * c.args.top.block) c.live_slots-live.result c.load_words-pointers.ensures c.loop-slot.slot c.loop-slot-test.true in
     let low : c.loop-slot.slot < 512 = omega (arith, c.loop-slot-test.true, c.live_slots-live.ensures.most) in
     let child : IsPlace image 0 c.args.tree.root c.args.tree.size (suc c.args.top.depth) (512 * c.args.top.index + c.loop-slot.slot) (512 * c.args.top.block + c.loop-slot.slot) =
     child_of image c.args.tree.root c.args.tree.size c.args.top.depth c.args.top.index c.loop-slot.slot c.args.top.block c.args.top.level low c.requires.above c.requires.height
@@ -65,7 +65,7 @@ pub returns-in-Err-clause-err : goal.returns-in-Err-clause-err
 returns-in-Err-clause-err g t c =
     let image = current_words (g.R.Region.memory c.args.region.now) in
     let pointer : ℕ = get_or c.load_words-pointers.result.now c.loop-slot.slot 0 in
-    let read : pointer ≡ word image (512 * c.args.top.block + c.loop-slot.slot) = loaded image c.load_words-pointers.result.now (512 * c.args.top.block) c.live_slots-live.result c.loop-slot.slot c.load_words-pointers.ensures c.loop-slot-test.true in
+    let read : pointer ≡ word image (512 * c.args.top.block + c.loop-slot.slot) = loaded_word image c.load_words-pointers.result.now (512 * c.args.top.block) c.live_slots-live.result c.load_words-pointers.ensures c.loop-slot.slot c.loop-slot-test.true in
     let low : c.loop-slot.slot < 512 = omega (arith, c.loop-slot-test.true, c.live_slots-live.ensures.most) in
     let child : IsPlace image 0 c.args.tree.root c.args.tree.size (suc c.args.top.depth) (512 * c.args.top.index + c.loop-slot.slot) (512 * c.args.top.block + c.loop-slot.slot) =
     child_of image c.args.tree.root c.args.tree.size c.args.top.depth c.args.top.index c.loop-slot.slot c.args.top.block c.args.top.level low c.requires.above c.requires.height
@@ -76,7 +76,7 @@ pub loop-slot-preserved-then-top-eq1 : goal.loop-slot-preserved-then-top-eq1
 loop-slot-preserved-then-top-eq1 g t c =
     let image = current_words (g.R.Region.memory c.args.region.now) in
     let pointer : ℕ = get_or c.load_words-pointers.result.now c.loop-slot.slot 0 in
-    let read : pointer ≡ word image (512 * c.args.top.block + c.loop-slot.slot) = loaded image c.load_words-pointers.result.now (512 * c.args.top.block) c.live_slots-live.result c.loop-slot.slot c.load_words-pointers.ensures c.loop-slot-test.true in
+    let read : pointer ≡ word image (512 * c.args.top.block + c.loop-slot.slot) = loaded_word image c.load_words-pointers.result.now (512 * c.args.top.block) c.live_slots-live.result c.load_words-pointers.ensures c.loop-slot.slot c.loop-slot-test.true in
     let low : c.loop-slot.slot < 512 = omega (arith, c.loop-slot-test.true, c.live_slots-live.ensures.most) in
     let child : IsPlace image 0 c.args.tree.root c.args.tree.size (suc c.args.top.depth) (512 * c.args.top.index + c.loop-slot.slot) (512 * c.args.top.block + c.loop-slot.slot) =
     child_of image c.args.tree.root c.args.tree.size c.args.top.depth c.args.top.index c.loop-slot.slot c.args.top.block c.args.top.level low c.requires.above c.requires.height
@@ -102,7 +102,7 @@ pub take_below-requires : goal.take_below-requires
 take_below-requires g t c κs within =
     let image = current_words (g.R.Region.memory c.args.region.now) in
     let pointer : ℕ = get_or c.load_words-pointers.result.now c.loop-slot.slot 0 in
-    let read : pointer ≡ word image (512 * c.args.top.block + c.loop-slot.slot) = loaded image c.load_words-pointers.result.now (512 * c.args.top.block) c.live_slots-live.result c.loop-slot.slot c.load_words-pointers.ensures c.loop-slot-test.true in
+    let read : pointer ≡ word image (512 * c.args.top.block + c.loop-slot.slot) = loaded_word image c.load_words-pointers.result.now (512 * c.args.top.block) c.live_slots-live.result c.load_words-pointers.ensures c.loop-slot.slot c.loop-slot-test.true in
     let low : c.loop-slot.slot < 512 = omega (arith, c.loop-slot-test.true, c.live_slots-live.ensures.most) in
     let child : IsPlace image 0 c.args.tree.root c.args.tree.size (suc c.args.top.depth) (512 * c.args.top.index + c.loop-slot.slot) (512 * c.args.top.block + c.loop-slot.slot) =
     child_of image c.args.tree.root c.args.tree.size c.args.top.depth c.args.top.index c.loop-slot.slot c.args.top.block c.args.top.level low c.requires.above c.requires.height
@@ -121,7 +121,7 @@ pub returns-in-Err-take_below-clause-err : goal.returns-in-Err-take_below-clause
 returns-in-Err-take_below-clause-err g t c =
     let image = current_words (g.R.Region.memory c.args.region.now) in
     let pointer : ℕ = get_or c.load_words-pointers.result.now c.loop-slot.slot 0 in
-    let read : pointer ≡ word image (512 * c.args.top.block + c.loop-slot.slot) = loaded image c.load_words-pointers.result.now (512 * c.args.top.block) c.live_slots-live.result c.loop-slot.slot c.load_words-pointers.ensures c.loop-slot-test.true in
+    let read : pointer ≡ word image (512 * c.args.top.block + c.loop-slot.slot) = loaded_word image c.load_words-pointers.result.now (512 * c.args.top.block) c.live_slots-live.result c.load_words-pointers.ensures c.loop-slot.slot c.loop-slot-test.true in
     let low : c.loop-slot.slot < 512 = omega (arith, c.loop-slot-test.true, c.live_slots-live.ensures.most) in
     let child : IsPlace image 0 c.args.tree.root c.args.tree.size (suc c.args.top.depth) (512 * c.args.top.index + c.loop-slot.slot) (512 * c.args.top.block + c.loop-slot.slot) =
     child_of image c.args.tree.root c.args.tree.size c.args.top.depth c.args.top.index c.loop-slot.slot c.args.top.block c.args.top.level low c.requires.above c.requires.height
@@ -138,7 +138,7 @@ pub loop-slot-preserved : goal.loop-slot-preserved
 loop-slot-preserved g t c =
     let image = current_words (g.R.Region.memory c.args.region.now) in
     let pointer : ℕ = get_or c.load_words-pointers.result.now c.loop-slot.slot 0 in
-    let read : pointer ≡ word image (512 * c.args.top.block + c.loop-slot.slot) = loaded image c.load_words-pointers.result.now (512 * c.args.top.block) c.live_slots-live.result c.loop-slot.slot c.load_words-pointers.ensures c.loop-slot-test.true in
+    let read : pointer ≡ word image (512 * c.args.top.block + c.loop-slot.slot) = loaded_word image c.load_words-pointers.result.now (512 * c.args.top.block) c.live_slots-live.result c.load_words-pointers.ensures c.loop-slot.slot c.loop-slot-test.true in
     let low : c.loop-slot.slot < 512 = omega (arith, c.loop-slot-test.true, c.live_slots-live.ensures.most) in
     let child : IsPlace image 0 c.args.tree.root c.args.tree.size (suc c.args.top.depth) (512 * c.args.top.index + c.loop-slot.slot) (512 * c.args.top.block + c.loop-slot.slot) =
     child_of image c.args.tree.root c.args.tree.size c.args.top.depth c.args.top.index c.loop-slot.slot c.args.top.block c.args.top.level low c.requires.above c.requires.height

@@ -1,6 +1,6 @@
 use Rattle.pm_region.specs.Memory.{current_words}
 use Rattle.bp_rename.proofs.OntoLaws.{replaced}
-use Rattle.bp_rename.proofs.onto.touched_inumbers.Goals as goal
+use Rattle.bp_rename.proofs.onto.words_onto.Goals as goal
 
 pub entry_path-entered-requires-clause-live : goal.entry_path-entered-requires-clause-live
 entry_path-entered-requires-clause-live g c =

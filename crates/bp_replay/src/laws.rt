@@ -1,3 +1,5 @@
+//! What holds of all crashes that a script asks for, each law as a function that does nothing.
+
 ghost use Rattle.std.specs.Prelude.{◌≡◌, ◌<◌, ◌↔◌, ℕ, List, [], Some, true, false, slice_get};
 ghost use Rattle.pm_epochs.specs.declared.event.Event.{Event};
 ghost use Rattle.pm_epochs.specs.Log.{words_after, marks};

@@ -1,3 +1,5 @@
+//! What holds of all runs, each law as a function that does nothing.
+
 ghost use Rattle.std.specs.Prelude.{◌≡◌, ℕ, Bool, List};
 ghost use Rattle.pm_epochs.specs.declared.event.Event.{Event};
 ghost use Rattle.pm_epochs.specs.Crash.{CrashRight};

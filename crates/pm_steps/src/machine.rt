@@ -1,3 +1,5 @@
+//! The processor and the engine that writes back, over a region's log.
+
 ghost use Rattle.std.specs.Prelude.{◌≡◌, ℕ, ◌<◌, ◌≤◌, ◌↔◌, [], ◌∷◌, ◌++◌, IsOk, OnOk, IfErr, OnErr, MatchOption, length, slice_get, slice_index, slice_set, Some, true, false};
 ghost use Rattle.pm_region.specs.Memory.{Memory};
 ghost use Rattle.pm_epochs.specs.Log.{marks};

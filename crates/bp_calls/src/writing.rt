@@ -18,7 +18,7 @@ mod across;
 use crate::entering::tree_of;
 use crate::writing::across::write_across;
 use bp_append::{need_prep, prep};
-use bp_cow::{Run, Touched, commit, need_cover};
+use bp_cow::{Run, Touched, commit_at, copies_below, find_cover};
 use bp_free::{NoSpace, Parts};
 use bp_inodes::{inode_file, place};
 use bp_inplace::commit_word;
@@ -123,12 +123,13 @@ fn write_below<R: Region>(
 {
     let tree = tree_of(&parts.region, i);
     let touched = touched_below(&parts.region, i, tree, off, bytes);
-    let copies = need_cover(&parts.region, &touched);
+    let cover = find_cover(&parts.region, &touched);
+    let copies = copies_below(&touched, cover);
     let free = parts.blocks.count();
     if free < copies {
         return Err(NoSpace { need: copies, free });
     }
-    commit(parts, &touched);
+    commit_at(parts, &touched, cover);
     Ok(())
 }
 

@@ -17,7 +17,7 @@ use Rattle.bp_shapes.specs.Trail.{Trail, word_on, block_on, place_on, trail_of}
 use Rattle.bp_layout.proofs.SameLaws.{same_self}
 use Rattle.bp_shapes.proofs.ExactSets.{unheld_exact}
 use Rattle.bp_cow.specs.declared.touched.Touched.{Touched}
-use Rattle.bp_cow.specs.declared.covering.Found.{Found}
+use Rattle.bp_cow.specs.declared.covering.FoundCover.{FoundCover}
 use Rattle.bp_cow.specs.Adds.{AddsCopyCommit}
 use Rattle.bp_cow.specs.Job.{Job, ways, copies, copied, IsAnew, IsTurned}
 use Rattle.bp_cow.specs.Plan.{Plan}
@@ -89,7 +89,7 @@ looser start taken place most all old new few done = record {
 -- ---- the cover is the only touched word
 
 module _ (bound : ℕ → ℕ) (touched : Touched) (first last : Memory) (blocks : Set) (wf : IsWellFormed (current_words first)) (can : CanCommit (current_words first) bound touched (has blocks))
-    (found : Found) (at : IsAt (current_words first) touched found) (longest : CoverHas (current_words first) touched found.len) (past : length ((job_of touched).way 0) < found.len)
+    (found : FoundCover) (at : IsAt (current_words first) touched found) (longest : CoverHas (current_words first) touched found.len) (past : length ((job_of touched).way 0) < found.len)
     (adds : Adds first last (commit found.place (only_value touched (word (current_words first) found.place)))) where
   abbrev old : Image
   old = current_words first
@@ -162,7 +162,7 @@ module _ (bound : ℕ → ℕ) (touched : Touched) (first last : Memory) (blocks
 -- ---- the cover is a pointer, and blocks are copied
 
 module _ (bound : ℕ → ℕ) (touched : Touched) (first last : Memory) (blocks : Set) (wf : IsWellFormed (current_words first)) (can : CanCommit (current_words first) bound touched (has blocks))
-    (found : Found) (at : IsAt (current_words first) touched found) (longest : CoverHas (current_words first) touched found.len) (short : found.len ≤ length ((job_of touched).way 0))
+    (found : FoundCover) (at : IsAt (current_words first) touched found) (longest : CoverHas (current_words first) touched found.len) (short : found.len ≤ length ((job_of touched).way 0))
     (top : ℕ) (free : ℕ → Bool) (after taken : Set) where
   abbrev plan : Plan
   plan = record { old = current_words first; bound = bound; free = has blocks; job = job_of touched; place = found.place; top = top; taken = free }

@@ -10,7 +10,7 @@ use Rattle.bp_layout.specs.WordPaths.{digits}
 use Rattle.bp_shapes.proofs.PathTrails.{trail_of-next, word-placed, slot-trail_of}
 use Rattle.bp_cow.specs.declared.touched.Run.{Run}
 use Rattle.bp_cow.specs.declared.touched.Touched.{Touched}
-use Rattle.bp_cow.specs.declared.covering.Found.{Found}
+use Rattle.bp_cow.specs.declared.covering.FoundCover.{FoundCover}
 use Rattle.bp_cow.specs.Touched.{IsRun, HasRun, IsTouched, run_path, run_end, word_paths}
 use Rattle.bp_cow.specs.Cover.{end_path, end_path_of, ends, ends_of, BeginAlike}
 use Rattle.bp_cow.specs.Found.{IsAt}
@@ -72,11 +72,11 @@ at-start image touched some = record {
 }
 
 -- the pointer at the end of the front
-pub at-word : (image : Image) (touched : Touched) (found : Found) → IsAt image touched found → word image found.place ≡ word_on image (trail_of (end_path touched 0) found.len)
+pub at-word : (image : Image) (touched : Touched) (found : FoundCover) → IsAt image touched found → word image found.place ≡ word_on image (trail_of (end_path touched 0) found.len)
 at-word image touched found at =
     ap (word image) (sym at.place) ∙ word-placed image (λ q. Unit {0}) (trail_of (end_path touched 0) found.len) at.placed
 
-pub at-next : (image : Image) (touched : Touched) (found : Found) → IsTouched touched → IsAt image touched found → BeginAlike touched (found.len + 1) → (block slot : ℕ) → block ≢ 0 →
+pub at-next : (image : Image) (touched : Touched) (found : FoundCover) → IsTouched touched → IsAt image touched found → BeginAlike touched (found.len + 1) → (block slot : ℕ) → block ≢ 0 →
     block ≡ block_on image (trail_of (end_path touched 0) found.len) → block < block_count image → slot ≡ slice_index (end_path touched 0) found.len →
     IsAt image touched (record { len = found.len + 1; place = 512 * block + slot })
 at-next image touched found is at alike block slot some named low slot_is =

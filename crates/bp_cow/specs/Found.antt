@@ -2,13 +2,18 @@
 use Rattle.std.specs.Prelude.{◌≡◌, ◌≢◌, ℕ, ◌<◌, length}
 use Rattle.bp_layout.specs.Words.{Image}
 use Rattle.bp_shapes.specs.Trail.{block_on, place_on, trail_of, IsPlaced}
-use Rattle.bp_cow.specs.Cover.{end_path, BeginAlike}
+use Rattle.bp_cow.specs.Cover.{end_path, BeginAlike, CoverHas}
 use Rattle.bp_cow.specs.declared.touched.Touched.{Touched}
-use Rattle.bp_cow.specs.declared.covering.Found.{Found}
+use Rattle.bp_cow.specs.declared.covering.FoundCover.{FoundCover}
 
-pub record IsAt (image : Image) (touched : Touched) (found : Found) : Type 0 where
+pub record IsAt (image : Image) (touched : Touched) (found : FoundCover) : Type 0 where
   pub alike : BeginAlike touched found.len
   pub exists : (d : ℕ) → d < found.len → block_on image (trail_of (end_path touched 0) d) ≢ 0
   pub placed : IsPlaced image (λ q. Unit {0}) (trail_of (end_path touched 0) found.len)
   pub place : place_on image (trail_of (end_path touched 0) found.len) ≡ found.place
   pub low : found.place < length image
+
+-- such a front that can't be longer: the cover, and the place of its word
+pub record IsCoverIn (image : Image) (touched : Touched) (cover : FoundCover) : Type 0 where
+  pub at : IsAt image touched cover
+  pub has : CoverHas image touched cover.len

@@ -10,12 +10,13 @@ ghost use Rattle.pm_epochs.specs.Crash.{commit};
 ghost use Rattle.pm_region.specs.Memory.{current_words, room_in, Adds};
 ghost use Rattle.bp_cow.specs.CanCommit.{CanCommit};
 ghost use Rattle.bp_cow.specs.Commit.{CommitsTouched, HasBlocks, HasRoom};
+ghost use Rattle.bp_cow.specs.Found.{IsCoverIn};
 ghost use Rattle.bp_cow.specs.Plan.{Plan};
 ghost use Rattle.bp_cow.specs.Touched.{IsTouched, only_value};
 ghost use Rattle.bp_cow.specs.Turned.{CanTurn, IsTurnedOver};
 
 use crate::build::make;
-use crate::covering::find_cover;
+use crate::covering::{FoundCover, find_cover};
 use crate::giving::give_back;
 use crate::touched::Touched;
 use bp_free::{Blocks, Parts};
@@ -84,6 +85,33 @@ fn commit_one<R: Region>(region: &mut R, touched: &Touched<'_>, place: u32)
     commit_word(region, place, touched.only_value(old));
 }
 
+/// What [`commit`] does, for a caller that has found the cover of the touched words.
+pub fn commit_at<R: Region>(parts: &mut Parts<R>, touched: &Touched<'_>, cover: FoundCover)
+    ghost bound: { ℕ → ℕ }
+    requires well_formed { IsWellFormed (current_words (R.memory parts.old.region)) }
+    requires can { CanCommit (current_words (R.memory parts.old.region)) bound touched.now (has parts.old.blocks) }
+    requires fits { block_count (current_words (R.memory parts.old.region)) ≤ length parts.old.blocks }
+    requires some { HasBlocks (R.memory parts.old.region) touched.now parts.old.blocks }
+    requires room { HasRoom (R.memory parts.old.region) touched.now }
+    requires cover { IsCoverIn (current_words (R.memory parts.old.region)) touched.now cover }
+    ensures commits { CommitsTouched bound touched.now
+        (R.memory parts.old.region) (R.memory parts.new.region) parts.old.blocks parts.new.blocks }
+    ensures size { length parts.new.blocks ≡ length parts.old.blocks }
+    ensures inodes { parts.new.inodes ≡ parts.old.inodes }
+{
+    if touched.way_len(0) < cover.len {
+        commit_one(&mut parts.region, touched, cover.place);
+    } else {
+        commit_copies(
+            &mut parts.region,
+            &mut parts.blocks,
+            touched,
+            cover.len,
+            cover.place,
+        );
+    }
+}
+
 /// Gives the touched words their values by one store at the word of the cover, alone in its epoch: of the value,
 /// where the cover is the only touched word, and else of a pointer to copies of the blocks from there to the touched
 /// words. As many blocks are taken as `need_cover` tells. Those that were copied are given back in the end.
@@ -99,16 +127,6 @@ pub fn commit<R: Region>(parts: &mut Parts<R>, touched: &Touched<'_>)
     ensures size { length parts.new.blocks ≡ length parts.old.blocks }
     ensures inodes { parts.new.inodes ≡ parts.old.inodes }
 {
-    let found = find_cover(&parts.region, touched);
-    if touched.way_len(0) < found.len {
-        commit_one(&mut parts.region, touched, found.place);
-    } else {
-        commit_copies(
-            &mut parts.region,
-            &mut parts.blocks,
-            touched,
-            found.len,
-            found.place,
-        );
-    }
+    let cover = find_cover(&parts.region, touched);
+    commit_at(parts, touched, cover);
 }

@@ -4,9 +4,9 @@ ghost use Rattle.std.specs.Prelude.{◌≡◌, ◌≢◌, ℕ, ◌+◌, ◌<◌,
 ghost use Rattle.bp_limits.specs.Limits.{block_words};
 ghost use Rattle.bp_shapes.specs.Trail.{block_on, place_on, trail_of};
 ghost use Rattle.pm_region.specs.Memory.{current_words};
-ghost use Rattle.bp_cow.specs.Cover.{end_path, ends, BeginAlike, LeadsInside, CoverHas, commit_cover};
+ghost use Rattle.bp_cow.specs.Cover.{end_path, ends, BeginAlike, LeadsInside, commit_cover};
 ghost use Rattle.bp_cow.specs.Touched.{IsTouched};
-ghost use Rattle.bp_cow.specs.Found.{IsAt};
+ghost use Rattle.bp_cow.specs.Found.{IsAt, IsCoverIn};
 
 use crate::touched::Touched;
 use bp_tree::Slots;
@@ -74,16 +74,18 @@ impl Touched<'_> {
     }
 }
 
-/// How many slots the cover has, and the place of its word.
+/// The cover of touched words, as it was found.
 #[derive(Clone, Copy)]
-pub(crate) struct Found {
-    pub(crate) len: usize,
-    pub(crate) place: u32,
+pub struct FoundCover {
+    /// How many slots it has.
+    pub len: usize,
+    /// The place of its word.
+    pub place: u32,
 }
 
 /// The block to which the word at the end of a front points with which all touched paths begin, 0 where no longer
 /// front is one.
-fn below<R: Region>(region: &R, touched: &Touched<'_>, found: Found) -> u64
+fn below<R: Region>(region: &R, touched: &Touched<'_>, found: FoundCover) -> u64
     requires touched { IsTouched touched.now }
     requires at { IsAt (current_words (R.memory region.now)) touched.now found }
     ensures none { result ≡ 0 → BeginAlike touched.now (found.len + 1) →
@@ -99,20 +101,20 @@ fn below<R: Region>(region: &R, touched: &Touched<'_>, found: Found) -> u64
     }
 }
 
-/// Follows the path with which all touched paths begin as far as it exists.
-pub(crate) fn find_cover<R: Region>(region: &R, touched: &Touched<'_>) -> Found
+/// Follows the path with which all touched paths begin as far as it exists: there the cover is. No block has to be free
+/// for it.
+pub fn find_cover<R: Region>(region: &R, touched: &Touched<'_>) -> FoundCover
     requires touched { IsTouched touched.now }
     requires some { block_words ≤ length (current_words (R.memory region.now)) }
     requires in_range { LeadsInside (current_words (R.memory region.now)) touched.now }
-    ensures at { IsAt (current_words (R.memory region.now)) touched.now result }
-    ensures has { CoverHas (current_words (R.memory region.now)) touched.now result.len }
+    ensures { IsCoverIn (current_words (R.memory region.now)) touched.now result }
 {
     let _words = region.words();
-    let mut found = Found { len: 0, place: 2 };
+    let mut found = FoundCover { len: 0, place: 2 };
     let mut block = below(region, touched, found);
     while block != 0 {
         let slot = touched.end_slot(0, found.len);
-        found = Found {
+        found = FoundCover {
             len: found.len + 1,
             place: (512 * block) as u32 + slot,
         };

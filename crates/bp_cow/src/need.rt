@@ -4,10 +4,10 @@ ghost use Rattle.std.specs.Prelude.{◌≡◌, ℕ, ◌+◌, ◌*◌, ◌<◌, �
 ghost use Rattle.bp_limits.specs.Limits.{block_words};
 ghost use Rattle.pm_region.specs.Memory.{current_words};
 ghost use Rattle.bp_cow.specs.Cover.{LeadsInside, copied_count};
-ghost use Rattle.bp_cow.specs.Job.{ways, turns, turned_for};
+ghost use Rattle.bp_cow.specs.Job.{ways, turns, turned_for, copied};
 ghost use Rattle.bp_cow.specs.Touched.{IsTouched, NoneBegins, all_paths, job_of};
 
-use crate::covering::find_cover;
+use crate::covering::{FoundCover, find_cover};
 use crate::touched::Touched;
 use crate::ways::is_new;
 use pm_region::Region;
@@ -46,16 +46,12 @@ fn turned_for(touched: &Touched<'_>, i: usize, from: usize) -> u32
     count
 }
 
-/// How many blocks a commit of the touched words copies, and takes: as many as pointers stand on their paths from the
-/// cover down. No block has to be free for it.
-pub fn need_cover<R: Region>(region: &R, touched: &Touched<'_>) -> u32
-    requires touched { IsTouched touched.now }
-    requires some { block_words ≤ length (current_words (R.memory region.now)) }
-    requires in_range { LeadsInside (current_words (R.memory region.now)) touched.now }
-    requires apart { NoneBegins (all_paths touched.now) }
-    ensures { result ≡ copied_count (current_words (R.memory region.now)) touched.now }
+/// How many blocks a commit of the touched words copies, and takes, given their cover.
+pub fn copies_below(touched: &Touched<'_>, cover: FoundCover) -> u32
+    requires { IsTouched touched.now }
+    ensures { result ≡ copied (job_of touched.now) cover.len }
 {
-    let from = find_cover(region, touched).len;
+    let from = cover.len;
     if touched.way_len(0) < from {
         return 0;
     }
@@ -65,4 +61,16 @@ pub fn need_cover<R: Region>(region: &R, touched: &Touched<'_>) -> u32
         count += turned_for(touched, i, from);
     }
     count
+}
+
+/// How many blocks a commit of the touched words copies, and takes: as many as pointers stand on their paths from the
+/// cover down. No block has to be free for it.
+pub fn need_cover<R: Region>(region: &R, touched: &Touched<'_>) -> u32
+    requires touched { IsTouched touched.now }
+    requires some { block_words ≤ length (current_words (R.memory region.now)) }
+    requires in_range { LeadsInside (current_words (R.memory region.now)) touched.now }
+    requires apart { NoneBegins (all_paths touched.now) }
+    ensures { result ≡ copied_count (current_words (R.memory region.now)) touched.now }
+{
+    copies_below(touched, find_cover(region, touched))
 }

@@ -1,3 +1,5 @@
+//! What a line of a script asks of a crash.
+
 /// What a line of a script asks a crash to keep.
 #[derive(Clone, Copy, Debug, PartialEq, Eq)]
 pub enum Cut<'a> {

@@ -1,3 +1,5 @@
+//! The numbers that storms and plays draw.
+
 ghost use Rattle.std.specs.Prelude.{◌≡◌, ◌+◌, ◌%◌};
 ghost use Rattle.bp_replay.specs.Generator.{next_state, drawn};
 

@@ -1,3 +1,5 @@
+//! Choices that a script writes out.
+
 ghost use Rattle.std.specs.Prelude.{◌≡◌, ◌+◌, ◌*◌, ◌<◌, ◌≤◌, ◌↔◌, ◌++◌, Bool, true, IsOk, OnOk, Some, length, take, replicate, slice_get, ◌^◌, []};
 ghost use Rattle.pm_region.specs.Memory.{Memory};
 ghost use Rattle.pm_epochs.specs.Log.{barriers, epoch_stores};

@@ -1,3 +1,5 @@
+//! Choices of what a crash keeps.
+
 ghost use Rattle.std.specs.Prelude.{◌≡◌, ℕ, ◌<◌, [], ◌∷◌, ◌++◌, IfOk, length};
 
 use std::alloc::{AllocError, Global};

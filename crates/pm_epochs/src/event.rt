@@ -1,3 +1,5 @@
+//! What a log is made of.
+
 /// What a processor does to persistent memory.
 #[derive(Clone, Copy, Debug, PartialEq, Eq)]
 pub enum Event {

@@ -1,3 +1,5 @@
+//! What holds of all logs, each law as a function that does nothing.
+
 ghost use Rattle.std.specs.Prelude.{◌≡◌, ℕ, ◌⊎◌, Bool, IsTrue, List, [], ◌∷◌, ◌++◌};
 ghost use Rattle.pm_epochs.specs.declared.event.Event.{Event};
 ghost use Rattle.pm_epochs.specs.declared.event.Event.TheVariants.{Store, Barrier, Mark};

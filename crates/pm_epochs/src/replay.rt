@@ -1,3 +1,5 @@
+//! What a crash leaves, and how many calls it keeps.
+
 ghost use Rattle.std.specs.Prelude.{◌≡◌, ℕ, ◌+◌, ◌-◌, ◌<◌, ◌≤◌, ◌↔◌, not, ◌&&◌, if◌then◌else◌, [], ◌∷◌, ◌++◌, IsOk, IfOk};
 ghost use Rattle.std.specs.Prelude.{MatchOption, List, slice_index, length};
 ghost use Rattle.pm_epochs.specs.Log.{word_after, barriers, marks, epoch_stores};

@@ -1,3 +1,5 @@
+//! A region in ordinary memory.
+
 ghost use Rattle.std.specs.Prelude.{◌≡◌, ℕ, ◌^◌, ◌<◌, [], ◌∷◌, ◌++◌, IfOk, length, vec_len};
 
 use super::region::Region;

@@ -1,3 +1,5 @@
+//! What logs do to words, for the implementations of regions.
+
 ghost use Rattle.std.specs.Prelude.{◌≡◌, ◌+◌, ◌≤◌, [], ◌∷◌, length, slice_index, slice_set};
 ghost use Rattle.pm_epochs.specs.Log.{words_after, IsStoredIn};
 ghost use Rattle.pm_epochs.specs.May.{AnyAt, EachMay};

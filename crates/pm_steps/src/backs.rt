@@ -1,3 +1,5 @@
+//! Which stores are written back.
+
 ghost use Rattle.std.specs.Prelude.{◌≡◌, ◌<◌, [], ◌∷◌, ◌++◌, IfOk, length, slice_get, slice_index_or, slice_set, Some, true, false};
 ghost use Rattle.pm_steps.specs.WordSet.{is_noted};
 

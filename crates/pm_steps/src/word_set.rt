@@ -1,3 +1,5 @@
+//! Sets of words.
+
 ghost use Rattle.std.specs.Prelude.{◌≡◌, ◌%◌, ◌<◌, [], ◌∷◌, ◌++◌, IfOk, length};
 ghost use Rattle.pm_steps.specs.WordSet.{is_noted, remainders, IsLinked};
 

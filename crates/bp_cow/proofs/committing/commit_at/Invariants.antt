@@ -1,0 +1,15 @@
+use Rattle.pm_region.specs.Memory.{current_words}
+use Rattle.bp_free.specs.Set.{has}
+use Rattle.bp_cow.specs.Touched.{job_of}
+use Rattle.bp_cow.proofs.committing.commit_at.Given as goal
+
+abbrev pub ghost-commit_copies : goal.ghost-commit_copies
+ghost-commit_copies g a = record {
+  old = current_words (g.R.Region.memory a.region.now);
+  bound = g.bound;
+  free = has a.blocks.now;
+  job = job_of a.touched.now;
+  place = a.place;
+  top = 0;
+  taken = has a.blocks.now;
+}

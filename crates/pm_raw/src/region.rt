@@ -153,6 +153,8 @@ impl Region for RawRegion {
         self.entries.push(word, value, replaced);
     }
 
+    // Most runs have a length that their caller knows: inlined, their copies are a few moves.
+    #[inline(always)]
     fn store_words(&mut self, first: u32, values: &[u64]) {
         let place = first as usize;
         let replaced = &self.current.as_slice()[place..place + values.len()];

@@ -19,8 +19,8 @@ use Rattle.bp_append.proofs.IntoLaws.{into_none, into_one, into_more, into_twice
 use Rattle.bp_append.specs.Given.{given, given_at}
 use Rattle.bp_append.specs.Tally.{tally, met}
 use Rattle.bp_append.specs.Built.{InBlocks, IsBuilt, Children}
-use Rattle.bp_append.specs.Filled.{IsUsable, CanFill, Fills}
-use Rattle.bp_append.specs.Risen.{idle, idles, edge, Outside, CanRise, risen, Rises}
+use Rattle.bp_append.specs.Filled.{IsUsable, CanFill, FillsFrom}
+use Rattle.bp_append.specs.Risen.{idle, idles, edge, AreOutside, CanRise, risen, Rises}
 use Rattle.bp_append.proofs.TallyLaws.{span-suc, span-positive, met_none, met_one, tally_split, begins_at, span-most, span-rising}
 use Rattle.bp_append.proofs.ChildrenLaws.{has_either, built_kept, built_as, built_node, children_one, children_as, children_bytes, children_kept, children_both}
 use Rattle.bp_append.proofs.FillLaws.{usable_rest, may_length, may_base, apart_parts, slot_framed, block_row}
@@ -76,12 +76,12 @@ edge_rises from to low level (suc more) less =
 
 -- ---- words
 
-pub outside_less : (free rest : List ℕ) (links : List (ℕ × ℕ)) → ((b : ℕ) → Has rest b → Has free b) → Outside free links → Outside rest links
+pub outside_less : (free rest : List ℕ) (links : List (ℕ × ℕ)) → ((b : ℕ) → Has rest b → Has free b) → AreOutside free links → AreOutside rest links
 outside_less free rest [] fewer out = tt
 outside_less free rest (link ∷ links) fewer out = ((λ m. out.0 (fewer (link.0 / 512) m)), outside_less free rest links fewer out.1)
 
 -- a word of a free block is beside the links
-pub outside_word : (free : List ℕ) (links : List (ℕ × ℕ)) (words : Image) (p : ℕ) → Outside free links → Has free (p / 512) → get_or (after_stores words links) p 0 ≡ get_or words p 0
+pub outside_word : (free : List ℕ) (links : List (ℕ × ℕ)) (words : Image) (p : ℕ) → AreOutside free links → Has free (p / 512) → get_or (after_stores words links) p 0 ≡ get_or words p 0
 outside_word free [] words p out m = refl
 outside_word free (link ∷ links) words p out m =
     outside_word free links (set words link.0 link.1) p out.1 m ∙ get_or-set_other words link.0 p link.1 0 (λ e. out.0 (subst (Has free) (ap (λ q. q / 512) e) m))
@@ -162,7 +162,7 @@ module _ (old stored : Memory) (free_old free_middle : List ℕ) (root block fro
       room_of : (all low here one two : ℕ) → all ≡ low + 1 + here → 512 * all + (suc (height_of root) - height_of root) ≤ one + 512 * low → one ≤ two + (0 + 1) → 512 * here + 512 ≤ two
       room_of all low here one two a b c = omega (arith, a, b, c)
 
-  pub raise_done : (new : Memory) (free_new raw : List ℕ) → Fills stored new free_middle free_new block (suc (height_of root)) 0 (span (height_of root)) from to (given_at from raw 0) →
+  pub raise_done : (new : Memory) (free_new raw : List ℕ) → FillsFrom stored new free_middle free_new block (suc (height_of root)) 0 (span (height_of root)) from to (given_at from raw 0) →
       Rises old new free_old free_new root (4096 * block + suc (height_of root)) (height_of root) (suc (height_of root)) from to raw
   raise_done new free_new raw fills = record {
     taken = block ∷ fills.taken;
@@ -235,7 +235,7 @@ module _ (old stored : Memory) (free_old free_middle : List ℕ) (root block fro
           ])
           ∙ rw words_stored (get_or-set_other (current_words old) (block * 512) (512 * x + k) (4096 * block_of root) 0 (λ e. let here : block ≡ x = omega (arith, e, few) in out (subst (Has free_old) here block_old)))
 
-      tree : (links : List (ℕ × ℕ)) → Outside free_old links → IsSound (after_stores (current_words old) links) root (min to (span (height_of root))) →
+      tree : (links : List (ℕ × ℕ)) → AreOutside free_old links → IsSound (after_stores (current_words old) links) root (min to (span (height_of root))) →
           ((b : ℕ) → Has free_old b → HasBlock (after_stores (current_words old) links) root (min to (span (height_of root))) b → ⊥) →
           IsBuilt (after_stores (current_words new) links) (4096 * block + suc (height_of root)) (min to (span (suc (height_of root)))) (risen (after_stores (current_words old) links) root (height_of root) from raw)
           (λ b. HasBlock (after_stores (current_words old) links) root (min to (span (height_of root))) b ⊎ Has (block ∷ fills.taken) b) (IsFull (after_stores (current_words old) links) root (min to (span (height_of root))) × (from ≤ span (height_of root)))
@@ -258,7 +258,7 @@ module _ (old stored : Memory) (free_old free_middle : List ℕ) (root block fro
           over zero some = absurd (some refl)
           over (suc c) some = omega arith
 
-          first_slot : (links : List (ℕ × ℕ)) → Outside free_old links → IsSound (after_stores (current_words old) links) root (min to (span (height_of root))) →
+          first_slot : (links : List (ℕ × ℕ)) → AreOutside free_old links → IsSound (after_stores (current_words old) links) root (min to (span (height_of root))) →
               ((b : ℕ) → Has free_old b → HasBlock (after_stores (current_words old) links) root (min to (span (height_of root))) b → ⊥) →
               Children (after_stores (current_words new) links) block (height_of root) (min to (span (suc (height_of root)))) (λ c. c ≡ 0) (risen (after_stores (current_words old) links) root (height_of root) from raw)
               (HasBlock (after_stores (current_words old) links) root (min to (span (height_of root)))) (IsFull (after_stores (current_words old) links) root (min to (span (height_of root))) × (from ≤ span (height_of root)))
@@ -288,7 +288,7 @@ module _ (old stored : Memory) (free_old free_middle : List ℕ) (root block fro
               low_byte : (i : ℕ) → i < span (height_of root) → risen (after_stores (current_words old) links) root (height_of root) from raw (0 * span (height_of root) + i) ≡ byte (after_stores (current_words old) links) root i
               low_byte i low = let e : 0 * span (height_of root) + i ≡ i = omega arith in rw (e, lt-ltb i (span (height_of root)) low) refl
 
-          other_slots : (links : List (ℕ × ℕ)) → Outside free_old links → Children (after_stores (current_words new) links) block (height_of root) (min to (span (suc (height_of root)))) (λ c. span (height_of root) ≤ 0 + c * span (height_of root))
+          other_slots : (links : List (ℕ × ℕ)) → AreOutside free_old links → Children (after_stores (current_words new) links) block (height_of root) (min to (span (suc (height_of root)))) (λ c. span (height_of root) ≤ 0 + c * span (height_of root))
               (risen (after_stores (current_words old) links) root (height_of root) from raw) (Has fills.taken) (IsFull (after_stores (current_words old) links) root (min to (span (height_of root))) × (from ≤ span (height_of root)))
           other_slots links out =
               let slots : Children (current_words new) block (height_of root) (min to (span (suc (height_of root)))) (λ c. span (height_of root) ≤ 0 + c * span (height_of root)) (given_at from raw 0) (Has fills.taken) (from ≤ span (height_of root)) =

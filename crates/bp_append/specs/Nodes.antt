@@ -11,7 +11,7 @@ use Rattle.bp_append.specs.declared.wanted.Node.{Node}
 use Rattle.bp_append.specs.declared.wanted.Wanted.{Wanted}
 use Rattle.bp_append.specs.Given.{given_at}
 use Rattle.bp_append.specs.Tally.{tally}
-use Rattle.bp_append.specs.Filled.{CanBuild, Builds, CanFill, Fills}
+use Rattle.bp_append.specs.Filled.{CanBuild, Builds, CanFill, FillsFrom}
 use Rattle.bp_append.specs.Visited.{links_in, CanVisit, Visits, VisitsSlot, Hung}
 use Rattle.bp_append.specs.Risen.{CanRise, Rises}
 use Rattle.bp_append.specs.Grown.{CanGrow, Grows, Roots, Makes}
@@ -29,12 +29,12 @@ CanFillNode memory old blocks node low wanted = CanFill (memory old) (members bl
 
 abbrev pub FillsNode : {R : Type 0} → (R → Memory) → R → R → Set → Set → Node → ℕ → Wanted → List ℕ → Type 0
 FillsNode memory old new blocks_old blocks_new node low wanted bytes =
-    Fills (memory old) (memory new) (members blocks_old) (members blocks_new) node.block node.level node.start low wanted.from wanted.to (given_at wanted.from bytes node.start)
+    FillsFrom (memory old) (memory new) (members blocks_old) (members blocks_new) node.block node.level node.start low wanted.from wanted.to (given_at wanted.from bytes node.start)
 
 -- a leaf takes no block
 abbrev pub FillsLeaf : {R : Type 0} → (R → Memory) → R → R → Node → ℕ → Wanted → List ℕ → Type 0
 FillsLeaf memory old new node low wanted bytes =
-    (free : List ℕ) → Fills (memory old) (memory new) free free node.block 0 node.start low wanted.from wanted.to (given_at wanted.from bytes node.start)
+    (free : List ℕ) → FillsFrom (memory old) (memory new) free free node.block 0 node.start low wanted.from wanted.to (given_at wanted.from bytes node.start)
 
 -- ---- nodes that are there
 
@@ -46,12 +46,12 @@ VisitsNode memory old new blocks_old blocks_new tree node wanted bytes hung =
     Visits (memory old) (memory new) (members blocks_old) (members blocks_new) tree.root tree.size node.level node.start node.block wanted.from wanted.to bytes (links_in hung)
 
 -- the part below one slot of a node is gone through
-abbrev pub Passes : {R : Type 0} → (R → Memory) → R → R → Set → Set → Tree → Node → ℕ → Wanted → List ℕ → Option Link → Type 0
-Passes memory old new blocks_old blocks_new tree node slot wanted bytes hung =
+abbrev pub PassesSlot : {R : Type 0} → (R → Memory) → R → R → Set → Set → Tree → Node → ℕ → Wanted → List ℕ → Option Link → Type 0
+PassesSlot memory old new blocks_old blocks_new tree node slot wanted bytes hung =
     VisitsSlot (memory old) (memory new) (members blocks_old) (members blocks_new) tree.root tree.size (node.level - 1) node.start node.block slot wanted.from wanted.to bytes (links_in hung)
 
-abbrev pub CanHang : {R : Type 0} → (R → Memory) → R → Set → Node → ℕ → Wanted → Type 0
-CanHang memory old blocks node slot wanted = CanBuild (memory old) (members blocks) (node.level - 1) (node.start + slot * span (node.level - 1)) wanted.from wanted.to
+abbrev pub CanHangNode : {R : Type 0} → (R → Memory) → R → Set → Node → ℕ → Wanted → Type 0
+CanHangNode memory old blocks node slot wanted = CanBuild (memory old) (members blocks) (node.level - 1) (node.start + slot * span (node.level - 1)) wanted.from wanted.to
 
 abbrev pub HangsNode : {R : Type 0} → (R → Memory) → R → R → Set → Set → Node → ℕ → Wanted → List ℕ → Option Link → Type 0
 HangsNode memory old new blocks_old blocks_new node slot wanted bytes hung =

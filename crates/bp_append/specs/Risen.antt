@@ -27,9 +27,9 @@ abbrev pub edge : ℕ → ℕ → ℕ → ℕ
 edge from to height = tally (suc height) from (min to (span height))
 
 -- no link is in one of these blocks
-abbrev pub Outside : List ℕ → List (ℕ × ℕ) → Type 0
-Outside free [] = Unit {0}
-Outside free (link ∷ links) = (Has free (link.0 / 512) → ⊥) × Outside free links
+abbrev pub AreOutside : List ℕ → List (ℕ × ℕ) → Type 0
+AreOutside free [] = Unit {0}
+AreOutside free (link ∷ links) = (Has free (link.0 / 512) → ⊥) × AreOutside free links
 
 -- There are free blocks and room for the nodes above a tree.
 pub record CanRise (memory : Memory) (free : List ℕ) (low height from to : ℕ) : Type 0 where
@@ -56,7 +56,7 @@ pub record Rises (old new : Memory) (free_old free_new : List ℕ) (root top low
   pub inside : (b : ℕ) → Has chain b → Has taken b
   pub apart : AreApart chain
   pub down : LeadDown (current_words new) root chain
-  pub tree : (links : List (ℕ × ℕ)) → Outside free_old links → IsSound (after_stores (current_words old) links) root (min to (span low)) →
+  pub tree : (links : List (ℕ × ℕ)) → AreOutside free_old links → IsSound (after_stores (current_words old) links) root (min to (span low)) →
       ((b : ℕ) → Has free_old b → HasBlock (after_stores (current_words old) links) root (min to (span low)) b → ⊥) →
       IsBuilt (after_stores (current_words new) links) top (min to (span height)) (risen (after_stores (current_words old) links) root low from bytes)
       (λ b. HasBlock (after_stores (current_words old) links) root (min to (span low)) b ⊎ Has taken b) (IsFull (after_stores (current_words old) links) root (min to (span low)) × (from ≤ span low))

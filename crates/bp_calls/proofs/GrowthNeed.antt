@@ -7,7 +7,7 @@ use Rattle.bp_layout.specs.Words.{Image, block_of, height_of}
 use Rattle.bp_layout.specs.Tree.{span, covered, IsLivePointer, IsLiveWord, IsSound}
 use Rattle.bp_layout.specs.Inode.{kind_of, root_of, size_of, inode_count}
 use Rattle.bp_layout.specs.Directory.{empty_slot, inumber_at}
-use Rattle.bp_layout.specs.Need.{Beyond, new_entry, height_after, inode_word_path, entry_path, entered, touched, is_there, is_there_after, copied, cover, need, number_of}
+use Rattle.bp_layout.specs.Need.{Beyond, new_entry, height_after, inode_word_path, entry_path, entered, touched, is_there, is_there_after, copied, cover, need, path_number}
 use Rattle.bp_layout.specs.Need.Change.{enters}
 use Rattle.bp_layout.specs.Nodes.{height_with}
 use Rattle.bp_layout.specs.Reached.{IsReached}
@@ -135,10 +135,10 @@ module _ (image : Image) (wf : IsWellFormed image) (n : ℕ) (reached : IsReache
     one_slot : touched image (enters i false) ≡ entry_path image (enters i false) i s 0 ∷ []
     one_slot = ap (λ f. entered image (enters i false) i f ∷ []) found
 
-    base_number : number_of (inode_path (height_of height) i 1) / 8 ≡ i
+    base_number : path_number (inode_path (height_of height) i 1) / 8 ≡ i
     base_number =
         let word : IsLiveWord height end (suc (height_of height)) (8 * i + 1) = live_content height end (8 * i + 1) (omega (arith, in_file)) in
-        let number : number_of (inode_path (height_of height) i 1) ≡ 8 * i + 1 = number-digits height end (suc (height_of height)) (8 * i + 1) fits word in
+        let number : path_number (inode_path (height_of height) i 1) ≡ 8 * i + 1 = number-digits height end (suc (height_of height)) (8 * i + 1) fits word in
         omega (arith, number)
 
     entry_there : AllThere there [] (tree_path (height_of height) i (suc (height_of (root_of image i))) (32 * s + 0))

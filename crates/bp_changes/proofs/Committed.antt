@@ -12,7 +12,7 @@ use Rattle.bp_layout.specs.Reached.{IsReached}
 use Rattle.bp_layout.specs.Reached.IsReached.{inode_file}
 use Rattle.bp_layout.specs.WellFormed.{IsWellFormed}
 use Rattle.bp_layout.proofs.Reached.{reached-in_file}
-use Rattle.bp_changes.specs.Commits.{Changes, word_after, CommitsOnly}
+use Rattle.bp_changes.specs.Commits.{Changes, changed_word, CommitsOnly}
 use Rattle.bp_changes.specs.Effects.{SetsInumber, CanMoveEntry, MovesEntry, CarriesEntry, IsNewEntry, IsOldEntry, RespellsEntry, ChangesFile}
 use Rattle.bp_changes.specs.SameContent.{IsReadByWords}
 
@@ -23,7 +23,7 @@ module _ (old new : Image) (changes : Changes) (Changed : ℕ → ℕ → Type 0
   -- ---- words
 
   pub word_committed : (t k : ℕ) → IsReached old t → IsReadByWords old t → 8 * k + 8 ≤ size_of old t → (t ≡ 0 → k % 8 ≢ 1) →
-      content_word new (root_of new t) k ≡ word_after changes old t k
+      content_word new (root_of new t) k ≡ changed_word changes old t k
   word_committed t k reached by_words below no_root = only.commits.words t k reached by_words (omega (arith, below)) no_root
 
   pub word-kept : (t k : ℕ) → IsReached old t → IsReadByWords old t → 8 * k + 8 ≤ size_of old t → (t ≡ 0 → k % 8 ≢ 1) → (Changed t k → ⊥) →
@@ -50,7 +50,7 @@ module _ (old new : Image) (changes : Changes) (Changed : ℕ → ℕ → Type 0
 -- ---- an inumber
 
 pub commit_sets : (old new : Image) (changes : Changes) (i s value : ℕ) → IsReached old i → kind_of old i ≡ 2 → s < entry_count old i →
-    CommitsOnly old new changes (λ t k. (t ≡ i) × (k ≡ 32 * s + 0)) → word_after changes old i (32 * s + 0) ≡ value → SetsInumber old new i s value
+    CommitsOnly old new changes (λ t k. (t ≡ i) × (k ≡ 32 * s + 0)) → changed_word changes old i (32 * s + 0) ≡ value → SetsInumber old new i s value
 commit_sets old new changes i s value reached directory in_size only is = record {
   trees = only.commits.trees;
   kind = λ u low. kind-kept old new changes _ only u low (λ here. no_directory old i directory (sym here.0));
@@ -68,7 +68,7 @@ commit_sets old new changes i s value reached directory in_size only is = record
 
 pub commit_moves : (old new : Image) (changes : Changes) (i s k r j : ℕ) → CanMoveEntry old i s k r j →
     CommitsOnly old new changes (λ t l. ((t ≡ i) × (l ≡ 32 * s + 0)) ⊎ ((t ≡ k) × (l ≡ 32 * r + 0))) →
-    word_after changes old i (32 * s + 0) ≡ 0 → word_after changes old k (32 * r + 0) ≡ j → MovesEntry old new i s k r j
+    changed_word changes old i (32 * s + 0) ≡ 0 → changed_word changes old k (32 * r + 0) ≡ j → MovesEntry old new i s k r j
 commit_moves old new changes i s k r j can only emptied entered = record {
   trees = only.commits.trees;
   kind = λ u low. kind-kept old new changes _ only u low no_inode;
@@ -100,8 +100,8 @@ module _ (old new : Image) (changes : Changes) (i s k j : ℕ) (wf : IsWellForme
     (target : IsReached old k) (directory : kind_of old k ≡ 2) (ready : inumber_at old k (entry_count old k) ≡ j) (name : IsName (name_at old k (entry_count old k)))
     (new_name : (x l : ℕ) → EntryNames old k x l → name_at old k x ≢ name_at old k (entry_count old k))
     (only : CommitsOnly old new changes (λ t l. ((t ≡ i) × (l ≡ 32 * s + 0)) ⊎ ((t ≡ 0) × (l ≡ 8 * k + 2))))
-    (emptied : word_after changes old i (32 * s + 0) ≡ 0) (grown : word_after changes old 0 (8 * k + 2) ≡ size_of old k + 256)
-    (behind : (f : ℕ) → f < 32 → word_after changes old k (32 * entry_count old k + f) ≡ word_in old (root_of old k) (entry_count old k) f) where
+    (emptied : changed_word changes old i (32 * s + 0) ≡ 0) (grown : changed_word changes old 0 (8 * k + 2) ≡ size_of old k + 256)
+    (behind : (f : ℕ) → f < 32 → changed_word changes old k (32 * entry_count old k + f) ≡ word_in old (root_of old k) (entry_count old k) f) where
   in_inodes : (t : ℕ) → IsReached old t → t < inode_count old
   in_inodes = reached-in_file old wf
 
@@ -124,9 +124,9 @@ module _ (old new : Image) (changes : Changes) (i s k j : ℕ) (wf : IsWellForme
       go zero e = absurd (no_directory old k directory e)
       go (suc n) e =
           let low : suc n < inode_count old = rw e at (in_inodes k target) in
-          let stored : size_of new (suc n) ≡ word_after changes old 0 (8 * suc n + 2) =
+          let stored : size_of new (suc n) ≡ changed_word changes old 0 (8 * suc n + 2) =
           word_committed old new changes _ only 0 (8 * suc n + 2) inode_file (inl refl) (omega (arith, low)) (λ z f. omega (arith, f)) in
-          subst (λ x. size_of new x ≡ word_after changes old 0 (8 * x + 2)) (sym e) stored ∙ grown
+          subst (λ x. size_of new x ≡ changed_word changes old 0 (8 * x + 2)) (sym e) stored ∙ grown
 
   whole_entries : size_of old k % 256 ≡ 0
   whole_entries = wf.directory_sizes k target directory

@@ -12,20 +12,20 @@ abbrev pub Changes : Type 0
 Changes = ℕ → ℕ → Option ℕ
 
 -- the value of a word afterwards: the one given, or else the one that it had
-abbrev pub word_after : Changes → Image → ℕ → ℕ → ℕ
-word_after changes old t k = unwrap_or (changes t k) (content_word old (root_of old t) k)
+abbrev pub changed_word : Changes → Image → ℕ → ℕ → ℕ
+changed_word changes old t k = unwrap_or (changes t k) (content_word old (root_of old t) k)
 
 -- Each content word has its value, or in files each byte. The root words of inodes are left out: they may name copies.
 pub record Commits (old new : Image) (changes : Changes) : Type 0 where
   pub trees : KeepsTrees old new
   pub inode_bytes : size_of new 0 ≡ size_of old 0
   pub words : (t k : ℕ) → IsReached old t → IsReadByWords old t → 8 * k + 8 ≤ max (size_of old t) (size_of new t) →
-      (t ≡ 0 → k % 8 ≢ 1) → content_word new (root_of new t) k ≡ word_after changes old t k
+      (t ≡ 0 → k % 8 ≢ 1) → content_word new (root_of new t) k ≡ changed_word changes old t k
   pub bytes : (i o : ℕ) → IsReached old i → kind_of old i ≡ 1 → o < max (size_of old i) (size_of new i) →
-      byte new (root_of new i) o ≡ byte_of (word_after changes old i (o / 8)) (o % 8)
+      byte new (root_of new i) o ≡ byte_of (changed_word changes old i (o / 8)) (o % 8)
 
 -- Below the old sizes the commit gives these words new values, and no others.
 pub record CommitsOnly (old new : Image) (changes : Changes) (Changed : ℕ → ℕ → Type 0) : Type 0 where
   pub commits : Commits old new changes
   pub kept : (t k : ℕ) → IsReached old t → 8 * k < size_of old t → (Changed t k → ⊥) →
-      word_after changes old t k ≡ content_word old (root_of old t) k
+      changed_word changes old t k ≡ content_word old (root_of old t) k

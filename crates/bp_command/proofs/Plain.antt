@@ -12,8 +12,8 @@ use Rattle.clap.specs.ValueTests.{accepts}
 use Rattle.clap.specs.declared.builder.value_parser.ValueParser.TheVariants as vp
 use Rattle.clap.proofs.OnLiterals.{clap_on_literals}
 use Rattle.clap.proofs.ValueTestLemmas.{Accepts-accepts}
-use Rattle.bp_command.specs.Commands.{IsTaken, met}
-use Rattle.bp_command.specs.Programs.{Asks, IsProper, Names, Program, Requests, max_seed, words_of}
+use Rattle.bp_command.specs.Commands.{IsTaken, subcommand_named}
+use Rattle.bp_command.specs.Programs.{Asks, IsProper, Names, Program, Requests, max_seed, program_words}
 use Rattle.bp_command.proofs.PlayWords.{Numbers, met_play, numbers_of, parts, taken_play}
 use Rattle.bp_command.specs.Programs.Program.{formats, runs, checks, plays}
 
@@ -32,17 +32,17 @@ taken_format : (called : Text) (x d : ℕ) (xs ds : Text) → nat_eq x 45 ≡ fa
 unfolding IsTaken clap_on_literals
 taken_format called x d xs ds h k a = simp (h, k, a) refl
 
-met_run : (called : Text) (x : ℕ) (xs : Text) → nat_eq x 45 ≡ false → parts (met (called ∷ codes "run" ∷ (x ∷ xs) ∷ [])) ≡ Some (codes "run", Some (x ∷ xs), (None, None, None))
-unfolding met clap_on_literals
+met_run : (called : Text) (x : ℕ) (xs : Text) → nat_eq x 45 ≡ false → parts (subcommand_named (called ∷ codes "run" ∷ (x ∷ xs) ∷ [])) ≡ Some (codes "run", Some (x ∷ xs), (None, None, None))
+unfolding subcommand_named clap_on_literals
 met_run called x xs h = simp h refl
 
-met_check : (called : Text) (x : ℕ) (xs : Text) → nat_eq x 45 ≡ false → parts (met (called ∷ codes "check" ∷ (x ∷ xs) ∷ [])) ≡ Some (codes "check", Some (x ∷ xs), (None, None, None))
-unfolding met clap_on_literals
+met_check : (called : Text) (x : ℕ) (xs : Text) → nat_eq x 45 ≡ false → parts (subcommand_named (called ∷ codes "check" ∷ (x ∷ xs) ∷ [])) ≡ Some (codes "check", Some (x ∷ xs), (None, None, None))
+unfolding subcommand_named clap_on_literals
 met_check called x xs h = simp h refl
 
 met_format : (called : Text) (x d : ℕ) (xs ds : Text) → nat_eq x 45 ≡ false → nat_eq d 45 ≡ false →
-    parts (met (called ∷ codes "format" ∷ (x ∷ xs) ∷ codes "--blocks" ∷ (d ∷ ds) ∷ [])) ≡ Some (codes "format", Some (x ∷ xs), (Some (d ∷ ds), None, None))
-unfolding met clap_on_literals
+    parts (subcommand_named (called ∷ codes "format" ∷ (x ∷ xs) ∷ codes "--blocks" ∷ (d ∷ ds) ∷ [])) ≡ Some (codes "format", Some (x ∷ xs), (Some (d ∷ ds), None, None))
+unfolding subcommand_named clap_on_literals
 met_format called x d xs ds h k = simp (h, k) refl
 
 -- ---- plain words
@@ -89,7 +89,7 @@ inside : {A : Type 0} {x y : A} → Some x ≡ Some y → x ≡ y
 inside e = cc
 
 module _ (called : Text) where
-  taken : (program : Program) → IsProper program → IsTaken (called ∷ words_of program)
+  taken : (program : Program) → IsProper program → IsTaken (called ∷ program_words program)
   taken (formats [] blocks) proper = absurd (omega (arith, proper.0.some))
   taken (formats (x ∷ xs) blocks) proper =
       let digits = digits_of 8 16384 blocks proper.1 proper.2 (omega (arith, proper.2)) in
@@ -177,7 +177,7 @@ module _ (called : Text) where
           let counts : turns ≡ count = same_value 0 1000000 count turns e es n.3.digits these (inside (sym n.3.given ∙ second)) n.3.value in
           ap (λ (m : Text). plays m given turns) (inside (sym n.1 ∙ file)) ∙ ap₂ (plays (x ∷ xs)) seeds counts
 
-  only : (program other : Program) → IsProper program → Requests (called ∷ words_of program) other → other ≡ program
+  only : (program other : Program) → IsProper program → Requests (called ∷ program_words program) other → other ≡ program
   only (formats [] blocks) other proper asked = absurd (omega (arith, proper.0.some))
   only (formats (x ∷ xs) blocks) other proper asked = only_format x blocks xs other (ne_eqb _ _ proper.0.plain) proper.1 proper.2 asked
   only (runs []) other proper asked = absurd (omega (arith, proper.some))

@@ -10,7 +10,7 @@ use Rattle.clap.specs.ValueTests.{accepts}
 use Rattle.clap.specs.declared.builder.value_parser.ValueParser.TheVariants as vp
 use Rattle.clap.specs.declared.parser.matches.ValueSource.TheVariants.{CommandLine}
 use Rattle.clap.proofs.OnLiterals.{clap_on_literals}
-use Rattle.bp_command.specs.Commands.{IsTaken, met, play_app}
+use Rattle.bp_command.specs.Commands.{IsTaken, subcommand_named, play_app}
 use Rattle.bp_command.proofs.Taken.{built_of, file_arg, joined, seed_arg}
 
 -- the texts of the number of blocks, of the seed and of the count
@@ -124,8 +124,8 @@ module _ (x d e : ℕ) (xs ds es : Text) (h : nat_eq x 45 ≡ false) (k : nat_eq
     abbrev parts_at : Walk → Option (Text × Option Text × Numbers)
     parts_at w = parts (Some (codes "play", finished play.rules w.held))
 
-    pub met_play : (called : Text) → parts (met (called ∷ codes "play" ∷ given)) ≡ Some (codes "play", Some (x ∷ xs), (None, Some (d ∷ ds), Some (e ∷ es)))
-    unfolding met clap_on_literals
+    pub met_play : (called : Text) → parts (subcommand_named (called ∷ codes "play" ∷ given)) ≡ Some (codes "play", Some (x ∷ xs), (None, Some (d ∷ ds), Some (e ∷ es)))
+    unfolding subcommand_named clap_on_literals
     met_play called =
         let here : parts_at (walk play.rules [] nothing_held given) ≡ parts_at last = ap parts_at goes_over.goes in
         here ∙ refl

@@ -10,7 +10,7 @@ use Rattle.clap.specs.Words.{Row, Text, first_of, first_value, one_of, one_text,
 use Rattle.clap.specs.Simple.{is_simple}
 use Rattle.clap.specs.declared.parser.matches.Found.{Found}
 use Rattle.clap.specs.declared.parser.matches.ArgMatches.{ArgMatches}
-use Rattle.bp_command.specs.Commands.{HasMet, bpfs_app, met}
+use Rattle.bp_command.specs.Commands.{HasMet, bpfs_app, subcommand_named}
 
 row_found : (id : Text) (entries : List Entry) → find (λ (r : Row). bytes_eq r.id id) (map row_of entries) ≡ option_map row_of (find (λ (e : Entry). bytes_eq e.0.now id) entries)
 row_found id [] = refl
@@ -48,15 +48,15 @@ simple : is_simple bpfs_app ≡ true
 simple = refl
 
 -- the subcommand that the words name is the one of the matches
-pub met_given : (words : List Text) (m : ArgMatches) → HasMet words m → met words ≡ subcommand_rows_of m
-unfolding met HasMet
+pub met_given : (words : List Text) (m : ArgMatches) → HasMet words m → subcommand_named words ≡ subcommand_rows_of m
+unfolding subcommand_named HasMet
 met_given words m has = sym (has simple).1
 
 same_some : {A : Type 0} (x y : A) → Some x ≡ Some y → x ≡ y
 same_some x y e = cc
 
 pub met_parts : (words : List Text) (m : ArgMatches) (verb : Text) (rows : List Row) → HasMet words m → Some verb ≡ subcommand_name_of m → Some rows ≡ option_map (λ p. p.1) (subcommand_rows_of m) →
-    (v : Text) (r : List Row) → met words ≡ Some (v, r) → (verb ≡ v) × (rows ≡ r)
+    (v : Text) (r : List Row) → subcommand_named words ≡ Some (v, r) → (verb ≡ v) × (rows ≡ r)
 met_parts words m verb rows has name given v r is =
     let named : subcommand_name_of m ≡ option_map (λ p. p.0) (subcommand_rows_of m) = sym (map_twice (λ p. p.0) _ _) in
     let at : subcommand_rows_of m ≡ Some (v, r) = sym (met_given words m has) ∙ is in (
@@ -64,7 +64,7 @@ met_parts words m verb rows has name given v r is =
       same_some rows r (given ∙ ap (option_map (λ p. p.1)) at),
     )
 
-pub met_nothing : (words : List Text) (m : ArgMatches) → HasMet words m → None ≡ subcommand_name_of m → (v : Text) (r : List Row) → met words ≡ Some (v, r) → ⊥
+pub met_nothing : (words : List Text) (m : ArgMatches) → HasMet words m → None ≡ subcommand_name_of m → (v : Text) (r : List Row) → subcommand_named words ≡ Some (v, r) → ⊥
 met_nothing words m has none v r is =
     let named : subcommand_name_of m ≡ option_map (λ p. p.0) (subcommand_rows_of m) = sym (map_twice (λ p. p.0) _ _) in
     let at : None ≡ Some v = none ∙ named ∙ ap (option_map (λ p. p.0)) (sym (met_given words m has) ∙ is) in

@@ -21,7 +21,7 @@ use Rattle.clap.specs.declared.builder.action.ArgAction.TheVariants.{Set, Help}
 use Rattle.clap.specs.declared.error.kind.ErrorKind.{ErrorKind}
 use Rattle.clap.specs.declared.error.kind.ErrorKind.TheVariants as kind
 use Rattle.clap.specs.declared.parser.matches.ValueSource.TheVariants.{CommandLine}
-use Rattle.bp_command.specs.Commands.{IsTaken, blocks_rule, bpfs_app, check_app, count_rule, file_rule, format_app, met, play_app, run_app, seed_rule}
+use Rattle.bp_command.specs.Commands.{IsTaken, blocks_rule, bpfs_app, check_app, count_rule, file_rule, format_app, subcommand_named, play_app, run_app, seed_rule}
 use Rattle.bp_command.specs.Programs.{HasValues, IsNamed}
 
 -- ---- chains of faults, and tests
@@ -216,8 +216,8 @@ module _ (s : Shape) where
 
     fit-long_or_other : (waiting : Waiting) (word : Text) (o : Option (Text × Option Text)) (h : Held) → flag_word_fault s.rules s.args_override_self o word h ≡ [] → AllFit h.rows → AllFit (long_or_other s.rules waiting word o h).0.rows
     fit-long_or_other waiting word (Some p) h fault fit =
-        let met = fit-long_met (arg_by_long s.rules p.0) p.1 h (λ a is. (found_is IsUsable _ s.rules a usable is).0) fault fit in
-        fit-after_flag waiting word _ (long_met s.rules (arg_by_long s.rules p.0) p.1 h).1 met
+        let subcommand_named = fit-long_met (arg_by_long s.rules p.0) p.1 h (λ a is. (found_is IsUsable _ s.rules a usable is).0) fault fit in
+        fit-after_flag waiting word _ (long_met s.rules (arg_by_long s.rules p.0) p.1 h).1 subcommand_named
     fit-long_or_other waiting word None h fault fit = go (short_of word) fault
       where
         go : (o : Option Text) → option_map_or (λ flags. bundle_fault s.rules s.args_override_self flags h) o [] ≡ [] → AllFit (short_or_plain s.rules waiting word o h).0.rows
@@ -532,7 +532,7 @@ entered_values (Some p) other fault some = go (find (λ s. answers_to p.0 (label
         (s.name, rows_after s.rules [] p.1, refl, here.0 here.1 none)
 
 pub taken_values : (words : List Text) → IsTaken words → IsNamed words
-unfolding IsTaken met
+unfolding IsTaken subcommand_named
 taken_values words taken =
     let top = (built bpfs_app).top in
     let names = names_of (built bpfs_app) in

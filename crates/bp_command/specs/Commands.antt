@@ -50,8 +50,8 @@ unfoldable pub IsTaken : List Text → Type 0
 IsTaken words = fault_of bpfs_app words ≡ []
 
 -- the subcommand that the words name, with what they give its arguments
-unfoldable pub met : List Text → Option (Text × List Row)
-met words = subcommand_of bpfs_app words
+unfoldable pub subcommand_named : List Text → Option (Text × List Row)
+subcommand_named words = subcommand_of bpfs_app words
 
 -- m has what the words give
 unfoldable pub HasMet : List Text → ArgMatches → Type 0

@@ -5,7 +5,7 @@ use Rattle.clap.specs.Words.{Row, Text, first_of, one_of}
 use Rattle.clap.specs.ValueTests.{accepts}
 use Rattle.clap.specs.declared.builder.value_parser.ValueParser.TheVariants as vp
 use Rattle.bp_limits.specs.Limits.{max_blocks, max_turns, min_blocks}
-use Rattle.bp_command.specs.Commands.{IsTaken, met}
+use Rattle.bp_command.specs.Commands.{IsTaken, subcommand_named}
 use Rattle.bp_command.specs.declared.reading.Program.{Program as Asked}
 use Rattle.bp_command.specs.declared.reading.Program.TheVariants.{Format, Run, Check, Play}
 
@@ -28,11 +28,11 @@ abbrev pub max_seed : ℕ
 max_seed = 18446744073709551615
 
 -- a format is asked for of a number of blocks that an image may have, a play of a seed and a count that it may have
-abbrev pub IsInRange : Program → Type 0
-IsInRange (formats name blocks) = (min_blocks ≤ blocks) × (blocks ≤ max_blocks)
-IsInRange (runs name) = Unit {0}
-IsInRange (checks name) = Unit {0}
-IsInRange (plays name seed count) = (seed ≤ max_seed) × (count ≤ max_turns)
+abbrev pub HasNumbersInRange : Program → Type 0
+HasNumbersInRange (formats name blocks) = (min_blocks ≤ blocks) × (blocks ≤ max_blocks)
+HasNumbersInRange (runs name) = Unit {0}
+HasNumbersInRange (checks name) = Unit {0}
+HasNumbersInRange (plays name seed count) = (seed ≤ max_seed) × (count ≤ max_turns)
 
 -- ---- plain words
 
@@ -42,11 +42,11 @@ pub record IsFileName (name : List ℕ) : Type 0 where
   pub plain : slice_index name 0 ≢ 45
 
 -- the words of a program, behind the name under which it was called
-abbrev pub words_of : Program → List (List ℕ)
-words_of (formats name blocks) = codes "format" ∷ name ∷ codes "--blocks" ∷ decimal blocks ∷ []
-words_of (runs name) = codes "run" ∷ name ∷ []
-words_of (checks name) = codes "check" ∷ name ∷ []
-words_of (plays name seed count) = codes "play" ∷ name ∷ codes "--seed" ∷ decimal seed ∷ codes "--count" ∷ decimal count ∷ []
+abbrev pub program_words : Program → List (List ℕ)
+program_words (formats name blocks) = codes "format" ∷ name ∷ codes "--blocks" ∷ decimal blocks ∷ []
+program_words (runs name) = codes "run" ∷ name ∷ []
+program_words (checks name) = codes "check" ∷ name ∷ []
+program_words (plays name seed count) = codes "play" ∷ name ∷ codes "--seed" ∷ decimal seed ∷ codes "--count" ∷ decimal count ∷ []
 
 abbrev pub IsProper : Program → Type 0
 IsProper (formats name blocks) = IsFileName name × (min_blocks ≤ blocks) × (blocks ≤ max_blocks)
@@ -57,7 +57,7 @@ IsProper (plays name seed count) = IsFileName name × (seed ≤ max_seed) × (co
 -- The words ask for the program in the plain way.
 pub record Asks (words : List (List ℕ)) (program : Program) : Type 0 where
   pub called : List ℕ
-  pub are : words ≡ called ∷ words_of program
+  pub are : words ≡ called ∷ program_words program
   pub proper : IsProper program
 
 -- ---- words that the command takes
@@ -81,7 +81,7 @@ pub record HasValues (verb : Text) (rows : List Row) : Type 0 where
 pub record IsNamed (words : List Text) : Type 0 where
   pub verb : Text
   pub rows : List Row
-  pub is : met words ≡ Some (verb, rows)
+  pub is : subcommand_named words ≡ Some (verb, rows)
   pub has : HasValues verb rows
 
 -- the number that the values give an option, which is in range
@@ -93,8 +93,8 @@ pub record GivesNumber (option : Text) (least most : ℕ) (rows : List Row) (num
   pub at_most : number ≤ most
 
 -- the number of blocks of a format, and the seed and the count of a play
-abbrev pub HasBlocks : List Row → ℕ → Type 0
-HasBlocks rows blocks = GivesNumber (codes "blocks") min_blocks max_blocks rows blocks
+abbrev pub AsksForBlocks : List Row → ℕ → Type 0
+AsksForBlocks rows blocks = GivesNumber (codes "blocks") min_blocks max_blocks rows blocks
 
 abbrev pub HasSeed : List Row → ℕ → Type 0
 HasSeed rows seed = GivesNumber (codes "seed") 0 max_seed rows seed
@@ -104,7 +104,7 @@ HasCount rows count = GivesNumber (codes "count") 0 max_turns rows count
 
 -- a subcommand with these values asks for the program
 abbrev pub Names : Text → List Row → Program → Type 0
-Names verb rows (formats name blocks) = (verb ≡ codes "format") × (first_of (codes "FILE") rows ≡ Some name) × HasBlocks rows blocks
+Names verb rows (formats name blocks) = (verb ≡ codes "format") × (first_of (codes "FILE") rows ≡ Some name) × AsksForBlocks rows blocks
 Names verb rows (runs name) = (verb ≡ codes "run") × (first_of (codes "FILE") rows ≡ Some name)
 Names verb rows (checks name) = (verb ≡ codes "check") × (first_of (codes "FILE") rows ≡ Some name)
 Names verb rows (plays name seed count) = (verb ≡ codes "play") × (first_of (codes "FILE") rows ≡ Some name) × HasSeed rows seed × HasCount rows count
@@ -114,5 +114,5 @@ pub record Requests (words : List Text) (program : Program) : Type 0 where
   pub taken : IsTaken words
   pub verb : Text
   pub rows : List Row
-  pub is : met words ≡ Some (verb, rows)
+  pub is : subcommand_named words ≡ Some (verb, rows)
   pub names : Names verb rows program

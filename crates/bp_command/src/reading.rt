@@ -2,7 +2,7 @@
 
 ghost use Rattle.std.specs.Prelude.{◌≡◌, ◌≤◌, IfOk, IsErrOf, IsSome, OnOk, codes, map, ℕ};
 ghost use Rattle.bp_command.specs.Commands.{HasMet, IsTaken};
-ghost use Rattle.bp_command.specs.Programs.{GivesNumber, HasNumber, HasValues, IsInRange, Names, Requests, program_of};
+ghost use Rattle.bp_command.specs.Programs.{GivesNumber, HasNumber, HasValues, HasNumbersInRange, Names, Requests, program_of};
 ghost use Rattle.clap.specs.Words.{first_of, found_of, rows_of};
 
 use crate::building::command;
@@ -97,7 +97,7 @@ fn number_of(values: &ArgMatches<'_>, option: &str) -> u64
 fn program_named<'a>(verb: &str, values: &ArgMatches<'a>) -> Program<'a>
     requires { HasValues verb.now (rows_of (found_of values.now)) }
     ensures names { Names verb.now (rows_of (found_of values.now)) (program_of result) }
-    ensures range { IsInRange (program_of result) }
+    ensures range { HasNumbersInRange (program_of result) }
 {
     let name = name_of(values);
     match verb {
@@ -123,7 +123,7 @@ fn program_named<'a>(verb: &str, values: &ArgMatches<'a>) -> Program<'a>
 /// `Usage` exactly where `clap` takes the words for no command of the program, help among them.
 pub fn read_words<'a>(alloc: Global, words: &'a [&'a str]) -> Result<Program<'a>, WordsFault>
     ensures asks { IfOk result (λ program. Requests (map (λ word. word.now) words.now) (program_of program)) }
-    ensures range { IfOk result (λ program. IsInRange (program_of program)) }
+    ensures range { IfOk result (λ program. HasNumbersInRange (program_of program)) }
     ensures usage { IsErrOf result WordsFault.Usage → ¬ IsTaken (map (λ word. word.now) words.now) }
 {
     let found = match matches(alloc, words) {

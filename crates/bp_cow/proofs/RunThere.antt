@@ -4,7 +4,7 @@ use Rattle.std.proofs.lemmas.Bool.{cases_eq, cases_lt, eq-eqb, le-leb, lt-ltb}
 use Rattle.std.proofs.lemmas.List.{length-append, take-append-le, take-take}
 use Rattle.std.proofs.Math.Seq.{take-append-add, take-length}
 use Rattle.bp_layout.specs.Inode.{root_of, size_of, inode_count}
-use Rattle.bp_layout.specs.Need.{Change, preparation, growth, height_after, number_of, is_there, is_there_after, common_all}
+use Rattle.bp_layout.specs.Need.{Change, preparation, growth, height_after, path_number, is_there, is_there_after, common_all}
 use Rattle.bp_layout.specs.Need.Change.{writes}
 use Rattle.bp_layout.specs.Reached.{IsReached}
 use Rattle.bp_layout.specs.Reached.IsReached.{inode_file}
@@ -136,7 +136,7 @@ module _ (image : Image) (wf : IsWellFormed image) (n : ℕ) (reached : IsReache
   content_live : IsLiveWord (root_of image (suc n)) (size_of image (suc n)) (suc (height_of (root_of image (suc n)))) k
   content_live = live_content (root_of image (suc n)) (size_of image (suc n)) k below
 
-  number : number_of base ≡ 8 * suc n + 1
+  number : path_number base ≡ 8 * suc n + 1
   number = number-digits (root_of image 0) (size_of image 0) (suc (height_of (root_of image 0))) (8 * suc n + 1) inodes.fits record_live
 
   in_inodes : (e j : ℕ) → IsLivePointer (root_of image 0) (size_of image 0) e j → ((f : ℕ) → f < e → is_pointed image (take f (digits e j)) ≡ true) →

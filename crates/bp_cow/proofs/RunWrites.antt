@@ -9,7 +9,7 @@ use Rattle.bp_layout.specs.WellFormed.{IsWellFormed}
 use Rattle.bp_layout.specs.WordPaths.{digits, inode_path}
 use Rattle.bp_layout.specs.Words.{Image, word, byte_of, height_of}
 use Rattle.bp_layout.proofs.TreeLaws.{live_above, live_content}
-use Rattle.bp_changes.specs.Commits.{Commits, CommitsOnly, word_after}
+use Rattle.bp_changes.specs.Commits.{Commits, CommitsOnly, changed_word}
 use Rattle.bp_changes.specs.Effects.{ChangesFile}
 use Rattle.bp_changes.proofs.Committed.{commit_writes}
 use Rattle.bp_shapes.specs.Forest.{along, root_trail, tree_trail, IsTreePointer}
@@ -194,13 +194,13 @@ module _ (old new : Image) (bound : ℕ → ℕ) (wf : IsWellFormed old) (touche
             go_any false = refl
 
         stays : ((l : ℕ) → run.off / 8 ≤ l → l ≤ (run_end run - 1) / 8 → o / 8 ≡ l → ⊥) →
-            byte_of (word_after (changes_of old (job_of touched)) old (suc n) (o / 8)) (o % 8) ≡ byte old (root_of old (suc n)) o
+            byte_of (changed_word (changes_of old (job_of touched)) old (suc n) (o / 8)) (o % 8) ≡ byte old (root_of old (suc n)) o
         stays other =
             ap (λ w. byte_of w (o % 8))
             (kept_apart (suc n) (o / 8) (λ _ same. apart_trees n (8 * suc n + 2) (o / 8) (sym same)) (λ l first last same. other l first last (same_number n (o / 8) l is.reached inside last same).1))
 
         go : (o / 8 < run.off / 8) ⊎ (run.off / 8 ≤ o / 8) → ((run_end run - 1) / 8 < o / 8) ⊎ (o / 8 ≤ (run_end run - 1) / 8) →
-            byte_of (word_after (changes_of old (job_of touched)) old (suc n) (o / 8)) (o % 8) ≡ run_byte run o (byte old (root_of old (suc n)) o)
+            byte_of (changed_word (changes_of old (job_of touched)) old (suc n) (o / 8)) (o % 8) ≡ run_byte run o (byte old (root_of old (suc n)) o)
         go (inr first) (inr last) =
             let number : 8 * (o / 8) + o % 8 ≡ o = omega arith in
             ap (λ w. byte_of w (o % 8))

@@ -7,7 +7,7 @@ use Rattle.std.proofs.lemmas.List.Elements.{filter-append, filter_passes, All-co
 use Rattle.std.proofs.lemmas.List.Kept.{IsStrictlyIncreasing-filter}
 use Rattle.std.proofs.lemmas.List.Sums.{length-filter, count_by-le-length}
 use Rattle.std.proofs.lemmas.List.FromFn.{length-range_with_len, get_or-range_with_len}
-use Rattle.bp_free.specs.Set.{Set, has, members, below, above, with, without, empty, IsLeast, Fills}
+use Rattle.bp_free.specs.Set.{Set, has, members, below, members_above, with, without, empty, IsLeast, Fills}
 
 -- ---- ranges
 
@@ -81,38 +81,38 @@ members_split s i low =
     ap (filter (has s)) parts_here ∙ filter-append (has s) (range_with_len 0 i) (range_with_len i (suc rest))
 
 -- a set that has i is the members below i, i, and the members above i
-pub members_in : (s : Set) (i : ℕ) → i < length s → has s i ≡ true → members s ≡ below s i ++ i ∷ above s i
-members_in s i low there = members_split s i low ∙ ap (λ b. below s i ++ cond b (i ∷ above s i) (above s i)) there
+pub members_in : (s : Set) (i : ℕ) → i < length s → has s i ≡ true → members s ≡ below s i ++ i ∷ members_above s i
+members_in s i low there = members_split s i low ∙ ap (λ b. below s i ++ cond b (i ∷ members_above s i) (members_above s i)) there
 
 -- a set that lacks i is the members below i and the members above i
-pub members_out : (s : Set) (i : ℕ) → i < length s → has s i ≡ false → members s ≡ below s i ++ above s i
-members_out s i low out = members_split s i low ∙ ap (λ b. below s i ++ cond b (i ∷ above s i) (above s i)) out
+pub members_out : (s : Set) (i : ℕ) → i < length s → has s i ≡ false → members s ≡ below s i ++ members_above s i
+members_out s i low out = members_split s i low ∙ ap (λ b. below s i ++ cond b (i ∷ members_above s i) (members_above s i)) out
 
 below_set : (s : Set) (i : ℕ) (b : Bool) → below (set s i b) i ≡ below s i
 below_set s i b = filter_same _ _ 0 i (λ k low high. get_or-set_other s i k b false (omega (arith, high)))
 
-above_set : (s : Set) (i : ℕ) (b : Bool) → above (set s i b) i ≡ above s i
+above_set : (s : Set) (i : ℕ) (b : Bool) → members_above (set s i b) i ≡ members_above s i
 above_set s i b =
     let long : length (set s i b) ≡ length s = length-set s i b in
     ap (λ n. filter (has (set s i b)) (range_with_len (i + 1) (n - (i + 1)))) long
     ∙ filter_same _ _ (i + 1) (length s - (i + 1)) (λ k low high. get_or-set_other s i k b false (omega (arith, low)))
 
 -- i joins
-pub members_with : (s : Set) (i : ℕ) → i < length s → members (with s i) ≡ below s i ++ i ∷ above s i
+pub members_with : (s : Set) (i : ℕ) → i < length s → members (with s i) ≡ below s i ++ i ∷ members_above s i
 members_with s i low =
     let long : length (with s i) ≡ length s = length-set s i true in
     let low' : i < length (with s i) = omega (arith, low, long) in
     members_in (with s i) i low' (has_with_same s i low)
-    ∙ ap (λ xs. xs ++ i ∷ above (with s i) i) (below_set s i true)
+    ∙ ap (λ xs. xs ++ i ∷ members_above (with s i) i) (below_set s i true)
     ∙ ap (λ xs. below s i ++ i ∷ xs) (above_set s i true)
 
 -- i leaves
-pub members_without : (s : Set) (i : ℕ) → i < length s → members (without s i) ≡ below s i ++ above s i
+pub members_without : (s : Set) (i : ℕ) → i < length s → members (without s i) ≡ below s i ++ members_above s i
 members_without s i low =
     let long : length (without s i) ≡ length s = length-set s i false in
     let low' : i < length (without s i) = omega (arith, low, long) in
     members_out (without s i) i low' (has_without_same s i low)
-    ∙ ap (λ xs. xs ++ above (without s i) i) (below_set s i false)
+    ∙ ap (λ xs. xs ++ members_above (without s i) i) (below_set s i false)
     ∙ ap (λ xs. below s i ++ xs) (above_set s i false)
 
 -- the least number is the first member
@@ -120,8 +120,8 @@ pub members_least : (s : Set) (i : ℕ) → IsLeast s i → members s ≡ i ∷ 
 members_least s i least =
     let none : below s i ≡ [] = filter_none (has s) 0 i (λ k low high. least.first k (omega (arith, high))) in
     members_in s i least.low least.is_in
-    ∙ ap (λ xs. xs ++ i ∷ above s i) none
-    ∙ ap (λ xs. i ∷ xs) (sym (members_without s i least.low ∙ ap (λ xs. xs ++ above s i) none))
+    ∙ ap (λ xs. xs ++ i ∷ members_above s i) none
+    ∙ ap (λ xs. i ∷ xs) (sym (members_without s i least.low ∙ ap (λ xs. xs ++ members_above s i) none))
 
 pub members_none : (s : Set) → ((k : ℕ) → has s k ≡ false) → members s ≡ []
 members_none s none = filter_none (has s) 0 (length s) (λ k _ _. none k)
@@ -138,8 +138,8 @@ members_empty room =
 pub members_all : (s : Set) (i : ℕ) → i < length s → has s i ≡ true → Contains (members s) i
 members_all s i low there =
     let parts = members_in s i low there in
-    let size = ap length parts ∙ length-append (below s i) (i ∷ above s i) in
-    (length (below s i), omega (arith, size), ap (λ xs. get_or xs (length (below s i)) i) parts ∙ get_or_at (below s i) i (above s i) i (length (below s i)) refl)
+    let size = ap length parts ∙ length-append (below s i) (i ∷ members_above s i) in
+    (length (below s i), omega (arith, size), ap (λ xs. get_or xs (length (below s i)) i) parts ∙ get_or_at (below s i) i (members_above s i) i (length (below s i)) refl)
 
 pub members_has : (s : Set) (i : ℕ) → Contains (members s) i → has s i ≡ true
 members_has s i there = All-contains (λ k. has s k ≡ true) (members s) i (filter_passes (has s) (range_with_len 0 (length s))) there
@@ -185,14 +185,14 @@ members_filled from to old new order within none fills =
 
 pub count_with : (s : Set) (i : ℕ) → i < length s → has s i ≡ false → length (members (with s i)) ≡ length (members s) + 1
 count_with s i low out =
-    let now = ap length (members_with s i low) ∙ length-append (below s i) (i ∷ above s i) in
-    let before = ap length (members_out s i low out) ∙ length-append (below s i) (above s i) in
+    let now = ap length (members_with s i low) ∙ length-append (below s i) (i ∷ members_above s i) in
+    let before = ap length (members_out s i low out) ∙ length-append (below s i) (members_above s i) in
     omega (arith, now, before)
 
 pub count_without : (s : Set) (i : ℕ) → i < length s → has s i ≡ true → length (members (without s i)) + 1 ≡ length (members s)
 count_without s i low there =
-    let now = ap length (members_without s i low) ∙ length-append (below s i) (above s i) in
-    let before = ap length (members_in s i low there) ∙ length-append (below s i) (i ∷ above s i) in
+    let now = ap length (members_without s i low) ∙ length-append (below s i) (members_above s i) in
+    let before = ap length (members_in s i low there) ∙ length-append (below s i) (i ∷ members_above s i) in
     omega (arith, now, before)
 
 pub count_most : (s : Set) → length (members s) ≤ length s

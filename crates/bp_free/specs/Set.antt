@@ -18,8 +18,8 @@ abbrev pub below : Set → ℕ → List ℕ
 below set i = filter (has set) (range_with_len 0 i)
 
 -- those of them above i
-abbrev pub above : Set → ℕ → List ℕ
-above set i = filter (has set) (range_with_len (i + 1) (length set - (i + 1)))
+abbrev pub members_above : Set → ℕ → List ℕ
+members_above set i = filter (has set) (range_with_len (i + 1) (length set - (i + 1)))
 
 -- the set that lacks i and is the same otherwise
 abbrev pub without : Set → ℕ → Set
@@ -44,4 +44,4 @@ pub record Fills (from to : ℕ) (old new : Set) : Type 0 where
   pub room : length new ≡ length old
   pub inside : (k : ℕ) → from ≤ k → k < to → has new k ≡ true
   pub below : (k : ℕ) → k < from → has new k ≡ has old k
-  pub above : (k : ℕ) → to ≤ k → has new k ≡ has old k
+  pub members_above : (k : ℕ) → to ≤ k → has new k ≡ has old k

@@ -3,7 +3,7 @@
 ghost use Rattle.std.specs.Prelude.{◌≡◌, ◌<◌, ◌++◌, ◌∷◌, ◌↔◌, [], false, true, length, MatchOption};
 ghost use Rattle.std.specs.List.{Contains};
 ghost use Rattle.std.specs.List.Sorted.{IsStrictlyIncreasing};
-ghost use Rattle.bp_free.specs.Set.{has, members, below, above};
+ghost use Rattle.bp_free.specs.Set.{has, members, below, members_above};
 
 use crate::Numbers;
 
@@ -21,8 +21,8 @@ pub fn takes_the_first<Kind>(free: &mut Numbers<Kind>) -> Option<u32>
 pub fn gives_one<Kind>(free: &mut Numbers<Kind>, i: u32)
     requires in_range { i < length free.old }
     requires taken { has free.old i ≡ false }
-    ensures before { members free.old ≡ below free.old i ++ above free.old i }
-    ensures after { members free.new ≡ below free.old i ++ i ∷ above free.old i }
+    ensures before { members free.old ≡ below free.old i ++ members_above free.old i }
+    ensures after { members free.new ≡ below free.old i ++ i ∷ members_above free.old i }
 {
     free.give(i);
 }
@@ -32,8 +32,8 @@ pub fn gives_one<Kind>(free: &mut Numbers<Kind>, i: u32)
 pub fn claims_one<Kind>(free: &mut Numbers<Kind>, i: u32)
     requires in_range { i < length free.old }
     requires free { has free.old i ≡ true }
-    ensures before { members free.old ≡ below free.old i ++ i ∷ above free.old i }
-    ensures after { members free.new ≡ below free.old i ++ above free.old i }
+    ensures before { members free.old ≡ below free.old i ++ i ∷ members_above free.old i }
+    ensures after { members free.new ≡ below free.old i ++ members_above free.old i }
 {
     free.claim(i);
 }

@@ -5,21 +5,21 @@ use Rattle.std.proofs.lemmas.List.{drop-append-le, take-append-le, length-drop, 
 use Rattle.std.proofs.lemmas.List.Elements.{All-append, All-cons, All-nil, All-tail}
 use Rattle.bp_limits.specs.Limits.{max_name}
 use Rattle.bp_layout.specs.declared.listing.Listed.{Listed}
-use Rattle.bp_layout.specs.Listed.{AreWithin, name_in, names_in}
+use Rattle.bp_layout.specs.Listed.{AreWithin, listed_name, listed_names}
 
-name_stays : (bytes more : List ℕ) (entry : Listed) → entry.first + entry.len ≤ length bytes → name_in (bytes ++ more) entry ≡ name_in bytes entry
+name_stays : (bytes more : List ℕ) (entry : Listed) → entry.first + entry.len ≤ length bytes → listed_name (bytes ++ more) entry ≡ listed_name bytes entry
 name_stays bytes more entry within =
     let first : entry.first ≤ length bytes = omega (arith, within) in
     let len : entry.len ≤ length (drop entry.first bytes) = omega (arith, within, length-drop entry.first bytes) in
     ap (λ xs. (entry.kind, xs)) (ap (take entry.len) (drop-append-le entry.first bytes more first) ∙ take-append-le entry.len (drop entry.first bytes) more len)
 
 -- a list with other bytes behind its own
-pub names_kept : (bytes more : List ℕ) (entries : List Listed) → AreWithin bytes entries → names_in (bytes ++ more) entries ≡ names_in bytes entries
+pub names_kept : (bytes more : List ℕ) (entries : List Listed) → AreWithin bytes entries → listed_names (bytes ++ more) entries ≡ listed_names bytes entries
 names_kept bytes more [] within = refl
 names_kept bytes more (entry ∷ entries) within =
     ap₂ (λ x xs. x ∷ xs) (name_stays bytes more entry (within 0 entry (omega arith)).0) (names_kept bytes more entries (All-tail (λ x. (x.first + x.len ≤ length bytes) × (x.len ≤ max_name)) entry entries within))
 
-name_added : (bytes name : List ℕ) (entry : Listed) → entry.first ≡ length bytes → entry.len ≡ length name → name_in (bytes ++ name) entry ≡ (entry.kind, name)
+name_added : (bytes name : List ℕ) (entry : Listed) → entry.first ≡ length bytes → entry.len ≡ length name → listed_name (bytes ++ name) entry ≡ (entry.kind, name)
 name_added bytes name entry first len =
     ap₂ (λ n k. (entry.kind, take n (drop k (bytes ++ name)))) len first
     ∙ ap (λ xs. (entry.kind, take (length name) xs)) (drop-append_seam bytes name)
@@ -27,9 +27,9 @@ name_added bytes name entry first len =
 
 -- a list with a name at its end
 pub names_pushed : (bytes name : List ℕ) (entries : List Listed) (entry : Listed) → AreWithin bytes entries → entry.first ≡ length bytes → entry.len ≡ length name →
-    names_in (bytes ++ name) (entries ++ entry ∷ []) ≡ names_in bytes entries ++ (entry.kind, name) ∷ []
+    listed_names (bytes ++ name) (entries ++ entry ∷ []) ≡ listed_names bytes entries ++ (entry.kind, name) ∷ []
 names_pushed bytes name entries entry within first len =
-    map-append (name_in (bytes ++ name)) entries (entry ∷ [])
+    map-append (listed_name (bytes ++ name)) entries (entry ∷ [])
     ∙ ap₂ (λ xs x. xs ++ x ∷ []) (names_kept bytes name entries within) (name_added bytes name entry first len)
 
 -- and its names are as they have to be

@@ -5,11 +5,11 @@ use Rattle.bp_layout.specs.declared.fields.Kind.{Kind}
 use Rattle.bp_layout.specs.declared.listing.Listed.{Listed}
 
 -- a name with its kind, those of its bytes that there are
-abbrev pub name_in : List ℕ → Listed → Kind × List ℕ
-name_in bytes entry = (entry.kind, take entry.len (drop entry.first bytes))
+abbrev pub listed_name : List ℕ → Listed → Kind × List ℕ
+listed_name bytes entry = (entry.kind, take entry.len (drop entry.first bytes))
 
-abbrev pub names_in : List ℕ → List Listed → List (Kind × List ℕ)
-names_in bytes entries = map (name_in bytes) entries
+abbrev pub listed_names : List ℕ → List Listed → List (Kind × List ℕ)
+listed_names bytes entries = map (listed_name bytes) entries
 
 -- all bytes of each name are there, and no name is longer than names are
 abbrev pub AreWithin : List ℕ → List Listed → Type 0

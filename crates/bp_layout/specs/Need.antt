@@ -98,19 +98,19 @@ touched image (respells i s len) = map (entry_path image (respells i s len) i s)
 abbrev pub is_prefix : WordPath → WordPath → Bool
 is_prefix prefix path = bytes_eq prefix (take (length prefix) path)
 
-abbrev pub number_of : List ℕ → ℕ
-number_of ds = fold (λ n d. 512 * n + d) 0 ds
+abbrev pub path_number : List ℕ → ℕ
+path_number ds = fold (λ n d. 512 * n + d) 0 ds
 
 -- the tree and the node to which the pointer at a path points, where the inode file has this height and the other trees have theirs
 abbrev pub pointed : (ℕ → ℕ) → WordPath → ℕ × TreeNode
 pointed heights path =
     if nat_le (length path) (heights 0)
-    then (0, record { level = heights 0 - length path; index = number_of path })
+    then (0, record { level = heights 0 - length path; index = path_number path })
     else (
-      number_of (take (suc (heights 0)) path) / 8,
+      path_number (take (suc (heights 0)) path) / 8,
       record {
-        level = heights (number_of (take (suc (heights 0)) path) / 8) - (length path - suc (heights 0));
-        index = number_of (drop (suc (heights 0)) path);
+        level = heights (path_number (take (suc (heights 0)) path) / 8) - (length path - suc (heights 0));
+        index = path_number (drop (suc (heights 0)) path);
       },
     )
 

@@ -27,11 +27,11 @@ pub struct Listing {
 impl Model for Listing {
     ghost use Rattle.std.specs.Prelude.{List, ℕ};
     ghost use Rattle.bp_layout.specs.declared.fields.Kind.{Kind};
-    ghost use Rattle.bp_layout.specs.Listed.{AreWithin, names_in};
+    ghost use Rattle.bp_layout.specs.Listed.{AreWithin, listed_names};
 
     ghost Value = { List (Kind × List ℕ) };
 
-    ghost view = { λ listing. names_in listing.bytes.items listing.entries.items };
+    ghost view = { λ listing. listed_names listing.bytes.items listing.entries.items };
 
     // So a name that is added moves none of the others.
     ghost invariant = { λ listing. AreWithin listing.bytes.items listing.entries.items };

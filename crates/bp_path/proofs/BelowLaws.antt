@@ -6,7 +6,7 @@ use Rattle.bp_layout.specs.Below.{rest_below, same_path}
 use Rattle.bp_layout.specs.Directory.{Name}
 use Rattle.bp_layout.specs.Lookup.{Path}
 use Rattle.bp_layout.specs.PathText.{is_name}
-use Rattle.bp_path.specs.Names.{names_in}
+use Rattle.bp_path.specs.Names.{path_parts}
 
 -- the path is longer than the one above, and begins with it
 abbrev pub below : Path → Path → Bool
@@ -14,17 +14,17 @@ below above path = not (same_path above path) && is_some (rest_below above path)
 
 -- of both texts this is left, names still, and it tells the same
 pub record IsLeft (above text above_left left : List ℕ) : Type 0 where
-  pub tells : below (names_in above) (names_in text) ≡ below (names_in above_left) (names_in left)
-  pub above_names : list_all is_name (names_in above_left) ≡ true
-  pub names : list_all is_name (names_in left) ≡ true
+  pub tells : below (path_parts above) (path_parts text) ≡ below (path_parts above_left) (path_parts left)
+  pub above_names : list_all is_name (path_parts above_left) ≡ true
+  pub names : list_all is_name (path_parts left) ≡ true
 
 -- the first names of both
 module _ (above text above_left left others behind : List ℕ) (first name : Name) (is : IsLeft above text above_left left)
-    (above_split : names_in above_left ≡ first ∷ names_in others) (split : names_in left ≡ name ∷ names_in behind) where
-  pub next_left : bytes_eq first name ≡ true → list_all is_name (names_in others) ≡ true → list_all is_name (names_in behind) ≡ true → IsLeft above text others behind
+    (above_split : path_parts above_left ≡ first ∷ path_parts others) (split : path_parts left ≡ name ∷ path_parts behind) where
+  pub next_left : bytes_eq first name ≡ true → list_all is_name (path_parts others) ≡ true → list_all is_name (path_parts behind) ≡ true → IsLeft above text others behind
   next_left same above_names names = record {
-    tells = is.tells ∙ ap (λ p. below p (names_in left)) above_split ∙ ap (below (first ∷ names_in others)) split
-        ∙ ap (λ b. not (b && same_path (names_in others) (names_in behind)) && is_some (if b then rest_below (names_in others) (names_in behind) else None)) same;
+    tells = is.tells ∙ ap (λ p. below p (path_parts left)) above_split ∙ ap (below (first ∷ path_parts others)) split
+        ∙ ap (λ b. not (b && same_path (path_parts others) (path_parts behind)) && is_some (if b then rest_below (path_parts others) (path_parts behind) else None)) same;
     above_names = above_names;
     names = names;
   }

@@ -6,35 +6,35 @@ use Rattle.std.proofs.lemmas.List.{get_or-drop, length-drop}
 use Rattle.std.proofs.Math.Bool.{and-true}
 use Rattle.bp_layout.specs.PathText.{is_name, parts}
 use Rattle.bp_layout.proofs.Parts.{cut_at, first_part, only_part, parts-append, parts-one, parts-some}
-use Rattle.bp_path.specs.Names.{names_in}
+use Rattle.bp_path.specs.Names.{path_parts}
 
 pub and_parts : (a b : Bool) → (a && b) ≡ true → (a ≡ true) × (b ≡ true)
 and_parts true b both = (refl, both)
 and_parts false b both = absurd (cc)
 
 -- behind a `/` there is a name, so the text there is not empty
-pub names_behind : (text : List ℕ) → list_all is_name (parts text) ≡ true → names_in text ≡ parts text
+pub names_behind : (text : List ℕ) → list_all is_name (parts text) ≡ true → path_parts text ≡ parts text
 names_behind [] all = absurd (cc)
 names_behind (b ∷ text) all = refl
 
-pub names_first : (text : List ℕ) (end : ℕ) → list_all is_name (names_in text) ≡ true → position (λ b. b == 47) text ≡ Some end →
-    (names_in text ≡ take end text ∷ names_in (drop (end + 1) text)) × (list_all is_name (names_in (drop (end + 1) text)) ≡ true)
+pub names_first : (text : List ℕ) (end : ℕ) → list_all is_name (path_parts text) ≡ true → position (λ b. b == 47) text ≡ Some end →
+    (path_parts text ≡ take end text ∷ path_parts (drop (end + 1) text)) × (list_all is_name (path_parts (drop (end + 1) text)) ≡ true)
 names_first [] end all found = absurd (cc)
 names_first (b ∷ text) end all found =
     let split : parts (b ∷ text) ≡ take end (b ∷ text) ∷ parts (drop (end + 1) (b ∷ text)) = first_part (b ∷ text) end found in
     let both : (is_name (take end (b ∷ text)) && list_all is_name (parts (drop (end + 1) (b ∷ text)))) ≡ true = ap (list_all is_name) (sym split) ∙ all in
     let rest : list_all is_name (parts (drop (end + 1) (b ∷ text))) ≡ true = (and_parts _ _ both).1 in
-    let same : names_in (drop (end + 1) (b ∷ text)) ≡ parts (drop (end + 1) (b ∷ text)) = names_behind (drop (end + 1) (b ∷ text)) rest in
+    let same : path_parts (drop (end + 1) (b ∷ text)) ≡ parts (drop (end + 1) (b ∷ text)) = names_behind (drop (end + 1) (b ∷ text)) rest in
     (split ∙ ap (λ ps. take end (b ∷ text) ∷ ps) (sym same), ap (list_all is_name) same ∙ rest)
 
-pub names_only : (text : List ℕ) → 0 < length text → position (λ b. b == 47) text ≡ None → names_in text ≡ text ∷ []
+pub names_only : (text : List ℕ) → 0 < length text → position (λ b. b == 47) text ≡ None → path_parts text ≡ text ∷ []
 names_only [] some none = absurd (omega (arith, some))
 names_only (b ∷ text) some none = only_part (b ∷ text) none
 
 -- the names of a text by its last `/`
 pub names_last : (text : List ℕ) (start : ℕ) → start ≤ length text → parts (drop start text) ≡ drop start text ∷ [] →
-    (0 < start → slice_index text (start - 1) ≡ 47) → 0 < length text → list_all is_name (names_in text) ≡ true →
-    (names_in text ≡ names_in (take (start - 1) text) ++ drop start text ∷ []) × (list_all is_name (names_in (take (start - 1) text)) ≡ true)
+    (0 < start → slice_index text (start - 1) ≡ 47) → 0 < length text → list_all is_name (path_parts text) ≡ true →
+    (path_parts text ≡ path_parts (take (start - 1) text) ++ drop start text ∷ []) × (list_all is_name (path_parts (take (start - 1) text)) ≡ true)
 names_last [] start within last slash some all = absurd (omega (arith, some))
 names_last (b ∷ text) zero within last slash some all = (last, refl)
 names_last (b ∷ text) (suc end) within last slash some all =
@@ -47,7 +47,7 @@ names_last (b ∷ text) (suc end) within last slash some all =
     let both : (list_all is_name (parts (take end (b ∷ text))) && list_all is_name (parts (drop (end + 1) (b ∷ text)))) ≡ true =
     sym (list_all-append is_name (parts (take end (b ∷ text))) (parts (drop (end + 1) (b ∷ text)))) ∙ ap (list_all is_name) (sym split) ∙ all in
     let front : list_all is_name (parts (take end (b ∷ text))) ≡ true = (and_parts _ _ both).0 in
-    let same : names_in (take end (b ∷ text)) ≡ parts (take end (b ∷ text)) = names_behind (take end (b ∷ text)) front in
+    let same : path_parts (take end (b ∷ text)) ≡ parts (take end (b ∷ text)) = names_behind (take end (b ∷ text)) front in
     rw here (split ∙ ap (λ ps. parts (take end (b ∷ text)) ++ ps) tail ∙ ap (λ ps. ps ++ drop (suc end) (b ∷ text) ∷ []) (sym same), ap (list_all is_name) same ∙ front)
 
 -- the parts of a text that begins behind a `/`, or begins a text
@@ -66,10 +66,10 @@ all_behind text end found name = ap (list_all is_name) (first_part text end foun
 pub all_one : (text : List ℕ) → position (λ b. b == 47) text ≡ None → list_all is_name (parts text) ≡ is_name text
 all_one text none = ap (list_all is_name) (only_part text none) ∙ and-true (is_name text)
 
-pub empty_text : (text : List ℕ) → names_in text ≡ [] → length text ≡ 0
+pub empty_text : (text : List ℕ) → path_parts text ≡ [] → length text ≡ 0
 empty_text [] none = refl
 empty_text (b ∷ text) none = absurd (parts-some (b ∷ text) none)
 
-pub no_text : (text : List ℕ) → length text ≡ 0 → names_in text ≡ []
+pub no_text : (text : List ℕ) → length text ≡ 0 → path_parts text ≡ []
 no_text [] none = refl
 no_text (b ∷ text) none = absurd (omega (arith, none))

@@ -10,7 +10,7 @@ use Rattle.bp_layout.specs.PathText.{is_name}
 use Rattle.bp_layout.specs.Reached.{IsReached}
 use Rattle.bp_layout.proofs.Paths.{lookup_from-append}
 use Rattle.bp_path.specs.declared.steps.Place.{Place}
-use Rattle.bp_path.specs.Names.{names_in}
+use Rattle.bp_path.specs.Names.{path_parts}
 use Rattle.bp_path.specs.Walk.{walk_from}
 use Rattle.bp_path.specs.Walk.Walked.{found}
 use Rattle.bp_path.specs.Places.{IsEntryOf}
@@ -19,10 +19,10 @@ use Rattle.bp_path.proofs.PartsLaws.{no_text}
 
 pub record HasCome (image : Image) (text rest : List ℕ) (place : Place) : Type 0 where
   pub before : Path
-  pub splits : names_in text ≡ before ++ names_in rest
+  pub splits : path_parts text ≡ before ++ path_parts rest
   pub leads : lookup image before ≡ Some place.inumber
   pub entry : IsEntryOf image before place
-  pub right : list_all is_name (names_in rest) ≡ true
+  pub right : list_all is_name (path_parts rest) ≡ true
   pub some : 1 ≤ place.inumber
 
 snoc-some : (before : Path) (name : Name) → before ++ name ∷ [] ≢ []
@@ -32,7 +32,7 @@ snoc-some (first ∷ before) name e = absurd (cc)
 some-snoc : (before : Path) (name : Name) → [] ≢ before ++ name ∷ []
 some-snoc before name e = snoc-some before name (sym e)
 
-pub start : (image : Image) (text : List ℕ) → list_all is_name (names_in text) ≡ true → HasCome image text text (record { inumber = 1; dir = 0; slot = 0 })
+pub start : (image : Image) (text : List ℕ) → list_all is_name (path_parts text) ≡ true → HasCome image text text (record { inumber = 1; dir = 0; slot = 0 })
 start image text right = record {
   before = [];
   splits = refl;
@@ -44,12 +44,12 @@ start image text right = record {
 
 -- one name further
 pub come_on : (image : Image) (text rest behind : List ℕ) (name : Name) (place next : Place) → HasCome image text rest place →
-    names_in rest ≡ name ∷ names_in behind → list_all is_name (names_in behind) ≡ true →
+    path_parts rest ≡ name ∷ path_parts behind → list_all is_name (path_parts behind) ≡ true →
     kind_of image place.inumber ≡ 2 → next.dir ≡ place.inumber → slot_named image place.inumber name ≡ Some next.slot →
     inumber_at image place.inumber next.slot ≡ next.inumber → 1 ≤ next.inumber → HasCome image text behind next
 come_on image text rest behind name place next here split right kind dir slot is some = record {
   before = here.before ++ name ∷ [];
-  splits = here.splits ∙ ap (λ ps. here.before ++ ps) split ∙ sym (append_assoc here.before (name ∷ []) (names_in behind));
+  splits = here.splits ∙ ap (λ ps. here.before ++ ps) split ∙ sym (append_assoc here.before (name ∷ []) (path_parts behind));
   leads =
       lookup_from-append image 1 here.before name ∙ ap (option_and_then (λ k. lookup_in image k name)) here.leads ∙ lookup_in-slot image place.inumber next.inumber next.slot name kind slot is;
   entry = record {
@@ -64,22 +64,22 @@ come_on image text rest behind name place next here split right kind dir slot is
 
 -- the walk fails at the name where it has come to
 pub fails : (image : Image) (text rest behind : List ℕ) (name : Name) (place : Place) → HasCome image text rest place →
-    names_in rest ≡ name ∷ names_in behind → walk_from image 1 (names_in text) ≡ walk_from image place.inumber (name ∷ names_in behind)
+    path_parts rest ≡ name ∷ path_parts behind → walk_from image 1 (path_parts text) ≡ walk_from image place.inumber (name ∷ path_parts behind)
 fails image text rest behind name place here split =
-    ap (walk_from image 1) (here.splits ∙ ap (λ ps. here.before ++ ps) split) ∙ walk_on image 1 place.inumber here.before (name ∷ names_in behind) here.leads
+    ap (walk_from image 1) (here.splits ∙ ap (λ ps. here.before ++ ps) split) ∙ walk_on image 1 place.inumber here.before (name ∷ path_parts behind) here.leads
 
 -- all names are gone through
-pub all_before : (image : Image) (text rest : List ℕ) (place : Place) → (here : HasCome image text rest place) → length rest ≡ 0 → names_in text ≡ here.before
+pub all_before : (image : Image) (text rest : List ℕ) (place : Place) → (here : HasCome image text rest place) → length rest ≡ 0 → path_parts text ≡ here.before
 all_before image text rest place here none = here.splits ∙ ap (λ ps. here.before ++ ps) (no_text rest none) ∙ append-nil here.before
 
-pub arrives : (image : Image) (text rest : List ℕ) (place : Place) → HasCome image text rest place → length rest ≡ 0 → lookup image (names_in text) ≡ Some place.inumber
+pub arrives : (image : Image) (text rest : List ℕ) (place : Place) → HasCome image text rest place → length rest ≡ 0 → lookup image (path_parts text) ≡ Some place.inumber
 arrives image text rest place here none = ap (lookup image) (all_before image text rest place here none) ∙ here.leads
 
-pub walked : (image : Image) (text rest : List ℕ) (place : Place) → HasCome image text rest place → length rest ≡ 0 → found place.inumber ≡ walk_from image 1 (names_in text)
+pub walked : (image : Image) (text rest : List ℕ) (place : Place) → HasCome image text rest place → length rest ≡ 0 → found place.inumber ≡ walk_from image 1 (path_parts text)
 walked image text rest place here none =
     sym (ap (walk_from image 1) (here.splits ∙ ap (λ ps. here.before ++ ps) (no_text rest none)) ∙ walk_on image 1 place.inumber here.before [] here.leads)
 
-pub enters : (image : Image) (text rest : List ℕ) (place : Place) → (here : HasCome image text rest place) → length rest ≡ 0 → IsEntryOf image (names_in text) place
+pub enters : (image : Image) (text rest : List ℕ) (place : Place) → (here : HasCome image text rest place) → length rest ≡ 0 → IsEntryOf image (path_parts text) place
 enters image text rest place here none = let same = all_before image text rest place here none in rw same here.entry
 
 pub reaches : (image : Image) (text rest : List ℕ) (place : Place) → HasCome image text rest place → IsReached image place.inumber

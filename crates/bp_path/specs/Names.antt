@@ -3,6 +3,6 @@ use Rattle.std.specs.Prelude.{ℕ, List, [], ◌∷◌}
 use Rattle.bp_layout.specs.PathText.{parts}
 
 -- none in an empty text, and otherwise the parts round each `/`
-abbrev pub names_in : List ℕ → List (List ℕ)
-names_in [] = []
-names_in (b ∷ bytes) = parts (b ∷ bytes)
+abbrev pub path_parts : List ℕ → List (List ℕ)
+path_parts [] = []
+path_parts (b ∷ bytes) = parts (b ∷ bytes)

@@ -4,7 +4,7 @@ ghost use Rattle.std.specs.Prelude.{◌≡◌, ◌≢◌, ◌+◌, ◌-◌, ◌=
 ghost use Rattle.std.specs.List.{list_all};
 ghost use Rattle.bp_layout.specs.Below.{rest_below, same_path};
 ghost use Rattle.bp_layout.specs.PathText.{is_name, parts};
-ghost use Rattle.bp_path.specs.Names.{names_in};
+ghost use Rattle.bp_path.specs.Names.{path_parts};
 
 use bp_limits::MAX_NAME;
 use bp_text::{first_of, first_of_either};
@@ -47,9 +47,9 @@ pub(crate) fn are_names(text: &[u8]) -> bool
 /// The first name of a text, and the text behind it.
 pub(crate) fn split_first(text: &[u8]) -> (&[u8], &[u8])
     requires some { 0 < length text.now }
-    requires names { list_all is_name (names_in text.now) ≡ true }
-    ensures split { names_in text.now ≡ result.0.now ∷ names_in result.1.now }
-    ensures rest { list_all is_name (names_in result.1.now) ≡ true }
+    requires names { list_all is_name (path_parts text.now) ≡ true }
+    ensures split { path_parts text.now ≡ result.0.now ∷ path_parts result.1.now }
+    ensures rest { list_all is_name (path_parts result.1.now) ≡ true }
     ensures shorter { length result.1.now < length text.now }
 {
     match first_of(b'/', text) {
@@ -73,9 +73,9 @@ fn last_start(text: &[u8]) -> usize
 /// The text before the last name, and the last name.
 pub(crate) fn split_last(text: &[u8]) -> (&[u8], &[u8])
     requires some { 0 < length text.now }
-    requires names { list_all is_name (names_in text.now) ≡ true }
-    ensures split { names_in text.now ≡ names_in result.0.now ++ result.1.now ∷ [] }
-    ensures front { list_all is_name (names_in result.0.now) ≡ true }
+    requires names { list_all is_name (path_parts text.now) ≡ true }
+    ensures split { path_parts text.now ≡ path_parts result.0.now ++ result.1.now ∷ [] }
+    ensures front { list_all is_name (path_parts result.0.now) ≡ true }
 {
     let start = last_start(text);
     (&text[..start.saturating_sub(1)], &text[start..])
@@ -83,10 +83,10 @@ pub(crate) fn split_last(text: &[u8]) -> (&[u8], &[u8])
 
 /// Whether the names of a text begin with all those of another one, and go on behind them.
 pub(crate) fn is_below(text: &[u8], above: &[u8]) -> bool
-    requires names { list_all is_name (names_in text.now) ≡ true }
-    requires above { list_all is_name (names_in above.now) ≡ true }
-    ensures { result ≡ (not (same_path (names_in above.now) (names_in text.now))
-        && is_some (rest_below (names_in above.now) (names_in text.now))) }
+    requires names { list_all is_name (path_parts text.now) ≡ true }
+    requires above { list_all is_name (path_parts above.now) ≡ true }
+    ensures { result ≡ (not (same_path (path_parts above.now) (path_parts text.now))
+        && is_some (rest_below (path_parts above.now) (path_parts text.now))) }
 {
     let mut text = text;
     let mut above = above;

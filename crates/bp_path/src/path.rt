@@ -4,7 +4,7 @@ ghost use Rattle.std.specs.Prelude.{◌≡◌, ◌≢◌, ◌&&◌, ◌++◌, �
 ghost use Rattle.std.specs.List.{list_all};
 ghost use Rattle.bp_layout.specs.Below.{rest_below, same_path};
 ghost use Rattle.bp_layout.specs.PathText.{is_name, parse};
-ghost use Rattle.bp_path.specs.Names.{names_in};
+ghost use Rattle.bp_path.specs.Names.{path_parts};
 
 use crate::names::{are_names, is_below, split_last};
 use bp_limits::MAX_PATH;
@@ -24,9 +24,9 @@ pub struct Path<'a> {
 impl<'a> Model for Path<'a> {
     ghost Value = { List (List ℕ) };
 
-    ghost view = { λ path. names_in path.text.now };
+    ghost view = { λ path. path_parts path.text.now };
 
-    ghost invariant = { λ path. list_all is_name (names_in path.text.now) ≡ true };
+    ghost invariant = { λ path. list_all is_name (path_parts path.text.now) ≡ true };
 }
 
 /// The path that a text spells.
@@ -67,8 +67,8 @@ impl<'a> Path<'a> {
 
     /// The names with a `/` between them.
     pub(crate) fn text(&self) -> &'a [u8]
-        ensures names { names_in result.now ≡ self.now }
-        ensures right { list_all is_name (names_in result.now) ≡ true }
+        ensures names { path_parts result.now ≡ self.now }
+        ensures right { list_all is_name (path_parts result.now) ≡ true }
     {
         self.text
     }

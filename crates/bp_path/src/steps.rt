@@ -10,7 +10,7 @@ ghost use Rattle.bp_layout.specs.PathText.{is_name};
 ghost use Rattle.bp_layout.specs.Reached.{IsReached};
 ghost use Rattle.bp_layout.specs.WellFormed.{IsWellFormed};
 ghost use Rattle.pm_region.specs.Memory.{current_words};
-ghost use Rattle.bp_path.specs.Names.{names_in};
+ghost use Rattle.bp_path.specs.Names.{path_parts};
 ghost use Rattle.bp_path.specs.Walk.{walk_from, in_directory};
 ghost use Rattle.bp_path.specs.Places.{IsEntryOf, fault_of, walked_of, dir_of};
 
@@ -82,11 +82,11 @@ pub fn step<R: Region>(region: &R, dir: u32, name: &[u8]) -> Result<Place, WalkF
 /// The inode to which names lead that stand with a `/` between them.
 fn walk_names<R: Region>(region: &R, text: &[u8]) -> Result<Place, WalkFault>
     requires well { IsWellFormed (current_words (R.memory region.now)) }
-    requires names { list_all is_name (names_in text.now) ≡ true }
-    ensures walked { walked_of result ≡ walk_from (current_words (R.memory region.now)) 1 (names_in text.now) }
+    requires names { list_all is_name (path_parts text.now) ≡ true }
+    ensures walked { walked_of result ≡ walk_from (current_words (R.memory region.now)) 1 (path_parts text.now) }
     ensures lookup { let words = current_words (R.memory region.now) in
-        IfOk result (λ place. lookup words (names_in text.now) ≡ Some place.inumber) }
-    ensures entry { IfOk result (λ place. IsEntryOf (current_words (R.memory region.now)) (names_in text.now) place) }
+        IfOk result (λ place. lookup words (path_parts text.now) ≡ Some place.inumber) }
+    ensures entry { IfOk result (λ place. IsEntryOf (current_words (R.memory region.now)) (path_parts text.now) place) }
     ensures reached { IfOk result (λ place. IsReached (current_words (R.memory region.now)) place.inumber) }
     ensures some { IfOk result (λ place. 1 ≤ place.inumber) }
 {

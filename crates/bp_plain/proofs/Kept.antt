@@ -23,7 +23,7 @@ use Rattle.bp_layout.specs.Lookup.{Path, Node}
 use Rattle.bp_plain.specs.declared.trees.Node.{Node as Kept}
 use Rattle.bp_plain.specs.Plain.{kind_of_node, only_name}
 use Rattle.bp_plain.specs.PlainTree.{path_cmp}
-use Rattle.bp_plain.specs.SeenTree.{names_of, node_seen, entry_seen}
+use Rattle.bp_plain.specs.SeenTree.{names_of, node_seen, entry_kept}
 use Rattle.bp_plain.proofs.Uniqueness.{path_cmp-IsAntisymmetric, path_cmp-IsTotalOrder}
 
 -- the order of names and of paths in a program
@@ -42,33 +42,33 @@ order_seen (x ∷ xs) (y ∷ ys) = ap (ordering_then (name_order x y)) (order_se
 
 -- so a path finds the same node
 pub find_seen : (path : List (ArrayVec ℕ)) (es : List (Vec (ArrayVec ℕ) × Kept)) →
-    find path_cmp (names_of path) (map entry_seen es) ≡ option_map node_seen (lookup (is_at (λ key. slice_cmp name_order path key.items)) es)
+    find path_cmp (names_of path) (map entry_kept es) ≡ option_map node_seen (lookup (is_at (λ key. slice_cmp name_order path key.items)) es)
 find_seen path [] = refl
 find_seen path (e ∷ es) = go (is_eq (slice_cmp name_order path e.0.items)) refl (find_seen path es)
   where
-    go : (b : Bool) → is_eq (slice_cmp name_order path e.0.items) ≡ b → find path_cmp (names_of path) (map entry_seen es) ≡ option_map node_seen (lookup (is_at (λ key. slice_cmp name_order path key.items)) es) →
-        find path_cmp (names_of path) (map entry_seen (e ∷ es)) ≡ option_map node_seen (lookup (is_at (λ key. slice_cmp name_order path key.items)) (e ∷ es))
+    go : (b : Bool) → is_eq (slice_cmp name_order path e.0.items) ≡ b → find path_cmp (names_of path) (map entry_kept es) ≡ option_map node_seen (lookup (is_at (λ key. slice_cmp name_order path key.items)) es) →
+        find path_cmp (names_of path) (map entry_kept (e ∷ es)) ≡ option_map node_seen (lookup (is_at (λ key. slice_cmp name_order path key.items)) (e ∷ es))
     go true at rest = rw (sym (ap is_eq (order_seen path e.0.items)) ∙ at, at) refl
     go false at rest = rw (sym (ap is_eq (order_seen path e.0.items)) ∙ at, at) rest
 
 pub passes : {b : Bool} → b ≡ true → T b
 passes e = subst T (sym e) tt
 
-pub get_seen : (path : List (ArrayVec ℕ)) (es : List (Vec (ArrayVec ℕ) × Kept)) → is_sorted path_cmp (map entry_seen es) ≡ true →
-    get (from_sorted {R = path_cmp} (map entry_seen es)) (names_of path) ≡ option_map node_seen (lookup (is_at (λ key. slice_cmp name_order path key.items)) es)
-get_seen path es sorted = get-from_sorted path_cmp (map entry_seen es) (names_of path) (passes sorted) ∙ find_seen path es
+pub get_seen : (path : List (ArrayVec ℕ)) (es : List (Vec (ArrayVec ℕ) × Kept)) → is_sorted path_cmp (map entry_kept es) ≡ true →
+    get (from_sorted {R = path_cmp} (map entry_kept es)) (names_of path) ≡ option_map node_seen (lookup (is_at (λ key. slice_cmp name_order path key.items)) es)
+get_seen path es sorted = get-from_sorted path_cmp (map entry_kept es) (names_of path) (passes sorted) ∙ find_seen path es
 
 -- a node that comes in
 pub put_seen : (es : List (Vec (ArrayVec ℕ) × Kept)) (key : Vec (ArrayVec ℕ)) (node : Kept) →
-    map entry_seen (insert_entry key_order es key node) ≡ put path_cmp (names_of key.items) (node_seen node) (map entry_seen es)
+    map entry_kept (insert_entry key_order es key node) ≡ put path_cmp (names_of key.items) (node_seen node) (map entry_kept es)
 put_seen [] key node = refl
 put_seen (e ∷ es) key node = go (key_order key e.0) refl (put_seen es key node)
   where
-    go : (r : Ordering) → key_order key e.0 ≡ r → map entry_seen (insert_entry key_order es key node) ≡ put path_cmp (names_of key.items) (node_seen node) (map entry_seen es) →
-        map entry_seen (insert_entry key_order (e ∷ es) key node) ≡ put path_cmp (names_of key.items) (node_seen node) (map entry_seen (e ∷ es))
+    go : (r : Ordering) → key_order key e.0 ≡ r → map entry_kept (insert_entry key_order es key node) ≡ put path_cmp (names_of key.items) (node_seen node) (map entry_kept es) →
+        map entry_kept (insert_entry key_order (e ∷ es) key node) ≡ put path_cmp (names_of key.items) (node_seen node) (map entry_kept (e ∷ es))
     go Less at rest = rw (sym (order_seen key.items e.0.items) ∙ at, at) refl
     go Equal at rest = rw (sym (order_seen key.items e.0.items) ∙ at, at) refl
-    go Greater at rest = rw (sym (order_seen key.items e.0.items) ∙ at, at) (ap (λ es. entry_seen e ∷ es) rest)
+    go Greater at rest = rw (sym (order_seen key.items e.0.items) ∙ at, at) (ap (λ es. entry_kept e ∷ es) rest)
 
 true_from : (b : Bool) → T b → b ≡ true
 true_from true t = refl
@@ -87,21 +87,21 @@ less_than Less low = refl
 less_than Equal low = absurd low
 less_than Greater low = absurd low
 
-module _ (old : List (Vec (ArrayVec ℕ) × Kept)) (sorted : is_sorted path_cmp (map entry_seen old) ≡ true) (key : Vec (ArrayVec ℕ)) (node : Kept)
+module _ (old : List (Vec (ArrayVec ℕ) × Kept)) (sorted : is_sorted path_cmp (map entry_kept old) ≡ true) (key : Vec (ArrayVec ℕ)) (node : Kept)
     (new : List (Vec (ArrayVec ℕ) × Kept)) (is : new ≡ insert_entry key_order old key node) where
   -- the order stays
-  pub sorted_after : is_sorted path_cmp (map entry_seen new) ≡ true
+  pub sorted_after : is_sorted path_cmp (map entry_kept new) ≡ true
   sorted_after =
-      ap (is_sorted path_cmp) (ap (map entry_seen) is ∙ put_seen old key node)
-      ∙ true_from _ (is_sorted-put path_cmp path_cmp-IsTotalOrder (names_of key.items) (node_seen node) (map entry_seen old) (passes sorted))
+      ap (is_sorted path_cmp) (ap (map entry_kept) is ∙ put_seen old key node)
+      ∙ true_from _ (is_sorted-put path_cmp path_cmp-IsTotalOrder (names_of key.items) (node_seen node) (map entry_kept old) (passes sorted))
 
   -- and the tree gains the node
-  pub tree_after_put : from_sorted {R = path_cmp} (map entry_seen new) ≡ insert (from_sorted {R = path_cmp} (map entry_seen old)) (names_of key.items) (node_seen node)
+  pub tree_after_put : from_sorted {R = path_cmp} (map entry_kept new) ≡ insert (from_sorted {R = path_cmp} (map entry_kept old)) (names_of key.items) (node_seen node)
   tree_after_put =
       same_entries_map _ _
-      (entries-from_sorted path_cmp (map entry_seen new) (passes sorted_after) ∙ ap (map entry_seen) is ∙ put_seen old key node
-      ∙ ap (put path_cmp (names_of key.items) (node_seen node)) (sym (entries-from_sorted path_cmp (map entry_seen old) (passes sorted)))
-      ∙ sym (entries-insert path_cmp-IsTotalOrder (from_sorted {R = path_cmp} (map entry_seen old)) (names_of key.items) (node_seen node)))
+      (entries-from_sorted path_cmp (map entry_kept new) (passes sorted_after) ∙ ap (map entry_kept) is ∙ put_seen old key node
+      ∙ ap (put path_cmp (names_of key.items) (node_seen node)) (sym (entries-from_sorted path_cmp (map entry_kept old) (passes sorted)))
+      ∙ sym (entries-insert path_cmp-IsTotalOrder (from_sorted {R = path_cmp} (map entry_kept old)) (names_of key.items) (node_seen node)))
 
 -- ---- a node that goes
 
@@ -113,49 +113,49 @@ others_kept k x (e ∷ es) tied below =
     let other : eq_by_cmp path_cmp k e.0 ≡ false = ap is_eq (path_cmp-IsTotalOrder.congr k x e.0 tied ∙ less) in
     rw other (ap (λ es. e ∷ es) (others_kept k x es tied (later_of _ _ below)))
 
-pub remove_seen : (path : List (ArrayVec ℕ)) (es : List (Vec (ArrayVec ℕ) × Kept)) → T (is_sorted path_cmp (map entry_seen es)) →
-    map entry_seen (remove_entry (is_at (λ key. slice_cmp name_order path key.items)) es) ≡ where_key path_cmp (λ y. not (eq_by_cmp path_cmp (names_of path) y)) (map entry_seen es)
+pub remove_seen : (path : List (ArrayVec ℕ)) (es : List (Vec (ArrayVec ℕ) × Kept)) → T (is_sorted path_cmp (map entry_kept es)) →
+    map entry_kept (remove_entry (is_at (λ key. slice_cmp name_order path key.items)) es) ≡ where_key path_cmp (λ y. not (eq_by_cmp path_cmp (names_of path) y)) (map entry_kept es)
 remove_seen path [] sorted = refl
 remove_seen path (e ∷ es) sorted = go (slice_cmp name_order path e.0.items) refl (remove_seen path es (later_of _ _ sorted))
   where
     go : (r : Ordering) → slice_cmp name_order path e.0.items ≡ r →
-        map entry_seen (remove_entry (is_at (λ key. slice_cmp name_order path key.items)) es) ≡ where_key path_cmp (λ y. not (eq_by_cmp path_cmp (names_of path) y)) (map entry_seen es) →
-        map entry_seen (remove_entry (is_at (λ key. slice_cmp name_order path key.items)) (e ∷ es)) ≡ where_key path_cmp (λ y. not (eq_by_cmp path_cmp (names_of path) y)) (map entry_seen (e ∷ es))
-    go Less at rest = rw (sym (order_seen path e.0.items) ∙ at, at) (ap (λ es. entry_seen e ∷ es) rest)
-    go Equal at rest = rw (sym (order_seen path e.0.items) ∙ at, at) (sym (others_kept (names_of path) (names_of e.0.items) (map entry_seen es) (sym (order_seen path e.0.items) ∙ at) (now_of _ _ sorted)))
-    go Greater at rest = rw (sym (order_seen path e.0.items) ∙ at, at) (ap (λ es. entry_seen e ∷ es) rest)
+        map entry_kept (remove_entry (is_at (λ key. slice_cmp name_order path key.items)) es) ≡ where_key path_cmp (λ y. not (eq_by_cmp path_cmp (names_of path) y)) (map entry_kept es) →
+        map entry_kept (remove_entry (is_at (λ key. slice_cmp name_order path key.items)) (e ∷ es)) ≡ where_key path_cmp (λ y. not (eq_by_cmp path_cmp (names_of path) y)) (map entry_kept (e ∷ es))
+    go Less at rest = rw (sym (order_seen path e.0.items) ∙ at, at) (ap (λ es. entry_kept e ∷ es) rest)
+    go Equal at rest = rw (sym (order_seen path e.0.items) ∙ at, at) (sym (others_kept (names_of path) (names_of e.0.items) (map entry_kept es) (sym (order_seen path e.0.items) ∙ at) (now_of _ _ sorted)))
+    go Greater at rest = rw (sym (order_seen path e.0.items) ∙ at, at) (ap (λ es. entry_kept e ∷ es) rest)
 
-module _ (old : List (Vec (ArrayVec ℕ) × Kept)) (sorted : is_sorted path_cmp (map entry_seen old) ≡ true) (path : List (ArrayVec ℕ))
+module _ (old : List (Vec (ArrayVec ℕ) × Kept)) (sorted : is_sorted path_cmp (map entry_kept old) ≡ true) (path : List (ArrayVec ℕ))
     (new : List (Vec (ArrayVec ℕ) × Kept)) (is : new ≡ remove_entry (is_at (λ key. slice_cmp name_order path key.items)) old) where
-  left : map entry_seen new ≡ where_key path_cmp (λ y. not (eq_by_cmp path_cmp (names_of path) y)) (map entry_seen old)
-  left = ap (map entry_seen) is ∙ remove_seen path old (passes sorted)
+  left : map entry_kept new ≡ where_key path_cmp (λ y. not (eq_by_cmp path_cmp (names_of path) y)) (map entry_kept old)
+  left = ap (map entry_kept) is ∙ remove_seen path old (passes sorted)
 
   -- the order stays
-  pub sorted_without : is_sorted path_cmp (map entry_seen new) ≡ true
+  pub sorted_without : is_sorted path_cmp (map entry_kept new) ≡ true
   sorted_without =
-      ap (is_sorted path_cmp) left ∙ true_from _ (is_sorted-where_key path_cmp (λ y. not (eq_by_cmp path_cmp (names_of path) y)) (map entry_seen old) (passes sorted))
+      ap (is_sorted path_cmp) left ∙ true_from _ (is_sorted-where_key path_cmp (λ y. not (eq_by_cmp path_cmp (names_of path) y)) (map entry_kept old) (passes sorted))
 
   -- and the tree loses the node
-  pub tree_without : from_sorted {R = path_cmp} (map entry_seen new) ≡ remove (from_sorted {R = path_cmp} (map entry_seen old)) (names_of path)
+  pub tree_without : from_sorted {R = path_cmp} (map entry_kept new) ≡ remove (from_sorted {R = path_cmp} (map entry_kept old)) (names_of path)
   tree_without = same_map path_cmp-IsTotalOrder path_cmp-IsAntisymmetric _ _ at
     where
       turned : (b : Bool) (found : Option Node) → cond (not b) found None ≡ cond b None found
       turned true found = refl
       turned false found = refl
 
-      at : (q : Path) → get (from_sorted {R = path_cmp} (map entry_seen new)) q ≡ get (remove (from_sorted {R = path_cmp} (map entry_seen old)) (names_of path)) q
+      at : (q : Path) → get (from_sorted {R = path_cmp} (map entry_kept new)) q ≡ get (remove (from_sorted {R = path_cmp} (map entry_kept old)) (names_of path)) q
       at q =
-          get-from_sorted path_cmp (map entry_seen new) q (passes sorted_without) ∙ ap (find path_cmp q) left
-          ∙ find-where_key path_cmp (λ y. not (eq_by_cmp path_cmp (names_of path) y)) q (λ x tied. ap (λ r. not (is_eq r)) (sym (alike_right path_cmp-IsTotalOrder q x (names_of path) tied))) (map entry_seen old)
+          get-from_sorted path_cmp (map entry_kept new) q (passes sorted_without) ∙ ap (find path_cmp q) left
+          ∙ find-where_key path_cmp (λ y. not (eq_by_cmp path_cmp (names_of path) y)) q (λ x tied. ap (λ r. not (is_eq r)) (sym (alike_right path_cmp-IsTotalOrder q x (names_of path) tied))) (map entry_kept old)
           ∙ turned (eq_by_cmp path_cmp (names_of path) q) _
-          ∙ ap₂ (λ b found. cond b None found) ((eq_by_cmp_equiv path_cmp-IsTotalOrder).symm (names_of path) q) (sym (get-from_sorted path_cmp (map entry_seen old) q (passes sorted)))
-          ∙ sym (get-remove path_cmp-IsTotalOrder (from_sorted {R = path_cmp} (map entry_seen old)) (names_of path) q)
+          ∙ ap₂ (λ b found. cond b None found) ((eq_by_cmp_equiv path_cmp-IsTotalOrder).symm (names_of path) q) (sym (get-from_sorted path_cmp (map entry_kept old) q (passes sorted)))
+          ∙ sym (get-remove path_cmp-IsTotalOrder (from_sorted {R = path_cmp} (map entry_kept old)) (names_of path) q)
 
-pub no_entries : (es : List (Vec (ArrayVec ℕ) × Kept)) → es ≡ [] → from_sorted {R = path_cmp} (map entry_seen es) ≡ empty
-no_entries es is = ap (λ xs. from_sorted {R = path_cmp} (map entry_seen xs)) is ∙ empty_of_len _ (len-entries _ ∙ ap length (entries-from_sorted path_cmp [] tt))
+pub no_entries : (es : List (Vec (ArrayVec ℕ) × Kept)) → es ≡ [] → from_sorted {R = path_cmp} (map entry_kept es) ≡ empty
+no_entries es is = ap (λ xs. from_sorted {R = path_cmp} (map entry_kept xs)) is ∙ empty_of_len _ (len-entries _ ∙ ap length (entries-from_sorted path_cmp [] tt))
 
-pub all_entries : (es : List (Vec (ArrayVec ℕ) × Kept)) → is_sorted path_cmp (map entry_seen es) ≡ true → entries (from_sorted {R = path_cmp} (map entry_seen es)) ≡ map entry_seen es
-all_entries es sorted = entries-from_sorted path_cmp (map entry_seen es) (passes sorted)
+pub all_entries : (es : List (Vec (ArrayVec ℕ) × Kept)) → is_sorted path_cmp (map entry_kept es) ≡ true → entries (from_sorted {R = path_cmp} (map entry_kept es)) ≡ map entry_kept es
+all_entries es sorted = entries-from_sorted path_cmp (map entry_kept es) (passes sorted)
 
 -- a node behind a reference
 pub node_behind : (found : Option (Bor Kept)) → option_map (λ node. node_seen node.now) found ≡ option_map node_seen (option_copied found)
@@ -168,7 +168,7 @@ abbrev pub row : List (ArrayVec ℕ) → Path × Node → Option (Kind × Name)
 row dir entry = option_map (λ name. (kind_of_node entry.1, name)) (only_name (rest_below (names_of dir) entry.0))
 
 abbrev pub rows : List (ArrayVec ℕ) → List (Vec (ArrayVec ℕ) × Kept) → List (Kind × Name)
-rows dir es = filter_map (row dir) (map entry_seen es)
+rows dir es = filter_map (row dir) (map entry_kept es)
 
 -- a further row, which was found
 pub row_found : (dir : List (ArrayVec ℕ)) (e : Vec (ArrayVec ℕ) × Kept) (rest left : List (Vec (ArrayVec ℕ) × Kept)) (before after : List (Kind × ArrayVec ℕ)) (kind : Kind) (copy : ArrayVec ℕ) (name : Name) (whole : List (Kind × Name)) →

@@ -12,7 +12,7 @@ use Rattle.bp_layout.specs.Below.{rest_below}
 use Rattle.bp_plain.specs.declared.errors.FsError.{FsError}
 use Rattle.bp_plain.specs.Calls.{Refusal}
 use Rattle.bp_plain.specs.Calls.Refusal.{not_dir, not_found}
-use Rattle.bp_plain.specs.Plain.{first, is_root_path, parent_of, walk_from, is_dir_at}
+use Rattle.bp_plain.specs.Plain.{first, is_root_path, parent_of, first_refusal_from, is_dir_at}
 use Rattle.bp_plain.specs.PlainTree.{FileTree}
 use Rattle.bp_plain.specs.Seen.{refusal_of}
 use Rattle.bp_plain.specs.SeenTree.{names_of}
@@ -62,7 +62,7 @@ not_none_of (Some x) e = refl
 
 -- the way as far as it was walked, and the rest of it
 abbrev pub walked : FileTree → List (ArrayVec ℕ) → ℕ → Option Refusal
-walked tree path depth = walk_from tree (names_of (take depth path)) (names_of (drop depth path))
+walked tree path depth = first_refusal_from tree (names_of (take depth path)) (names_of (drop depth path))
 
 -- a name of a path, with those before it and behind it
 pub name_at : (path : List (ArrayVec ℕ)) (depth : ℕ) → depth < length path →

@@ -11,7 +11,7 @@ use Rattle.bp_layout.specs.Lookup.{Path, Node}
 use Rattle.bp_plain.specs.declared.trees.Node.{Node as Kept}
 use Rattle.bp_plain.specs.Plain.{moved_entry}
 use Rattle.bp_plain.specs.PlainTree.{FileTree, path_cmp}
-use Rattle.bp_plain.specs.SeenTree.{entry_seen, names_of, with_moved}
+use Rattle.bp_plain.specs.SeenTree.{entry_kept, names_of, with_moved}
 use Rattle.bp_plain.proofs.PathLaws.{same_name}
 
 -- ---- paths
@@ -66,10 +66,10 @@ all_moved-is p q (e ∷ es) = go (same_path e.0 q) refl (all_moved-is p q es)
 
 -- a further entry from the back
 pub moved_more : (p q : Path) (entry : Vec (ArrayVec ℕ) × Kept) (rest left : List (Vec (ArrayVec ℕ) × Kept)) (before after whole : FileTree) →
-    left ≡ rest ++ entry ∷ [] → after ≡ with_moved p q (entry_seen entry) before →
-    all_moved p q (map entry_seen left) before ≡ whole → all_moved p q (map entry_seen rest) after ≡ whole
+    left ≡ rest ++ entry ∷ [] → after ≡ with_moved p q (entry_kept entry) before →
+    all_moved p q (map entry_kept left) before ≡ whole → all_moved p q (map entry_kept rest) after ≡ whole
 moved_more p q entry rest left before after whole is made so_far =
-    ap (all_moved p q (map entry_seen rest)) made
-    ∙ sym (all_moved-last p q (map entry_seen rest) (entry_seen entry) before)
-    ∙ ap (λ es. all_moved p q es before) (sym (map-append entry_seen rest (entry ∷ [])))
-    ∙ ap (λ es. all_moved p q (map entry_seen es) before) (sym is) ∙ so_far
+    ap (all_moved p q (map entry_kept rest)) made
+    ∙ sym (all_moved-last p q (map entry_kept rest) (entry_kept entry) before)
+    ∙ ap (λ es. all_moved p q es before) (sym (map-append entry_kept rest (entry ∷ [])))
+    ∙ ap (λ es. all_moved p q (map entry_kept es) before) (sym is) ∙ so_far

@@ -68,13 +68,13 @@ abbrev pub is_root_path : Path → Bool
 is_root_path path = same_path path []
 
 -- the first name that is sought in a file or is missing
-abbrev pub walk_from : FileTree → Path → Path → Option Refusal
-walk_from tree here [] = None
-walk_from tree here (name ∷ path) =
-    first (when (not (is_dir_at tree here)) not_dir ∷ when (is_none (get tree (here ++ name ∷ []))) not_found ∷ walk_from tree (here ++ name ∷ []) path ∷ [])
+abbrev pub first_refusal_from : FileTree → Path → Path → Option Refusal
+first_refusal_from tree here [] = None
+first_refusal_from tree here (name ∷ path) =
+    first (when (not (is_dir_at tree here)) not_dir ∷ when (is_none (get tree (here ++ name ∷ []))) not_found ∷ first_refusal_from tree (here ++ name ∷ []) path ∷ [])
 
 abbrev pub walk : FileTree → Path → Option Refusal
-walk tree path = walk_from tree [] path
+walk tree path = first_refusal_from tree [] path
 
 -- the same of a parent, which is to be a directory
 abbrev pub walk_parent : FileTree → Path → Option Refusal
@@ -132,8 +132,8 @@ abbrev pub with_node : FileTree → Path → Node → FileTree
 with_node tree path node = insert tree path node
 
 -- nothing stands at the path
-abbrev pub without : FileTree → Path → FileTree
-without tree path = remove tree path
+abbrev pub with_nothing_at : FileTree → Path → FileTree
+with_nothing_at tree path = remove tree path
 
 -- a file with these bytes stands at the path
 abbrev pub with_bytes : FileTree → Path → List ℕ → FileTree
@@ -159,17 +159,17 @@ written old off new = take off (old ++ replicate (off - length old) 0) ++ new ++
 abbrev pub resized : List ℕ → ℕ → List ℕ
 resized old size = take size (old ++ replicate (size - length old) 0)
 
-abbrev pub path_of : List ℕ → Path
-path_of text = unwrap_or (parse text) []
+abbrev pub path_named : List ℕ → Path
+path_named text = unwrap_or (parse text) []
 
 abbrev pub tree_after : FileTree → Call → FileTree
-tree_after tree (create text) = with_bytes tree (path_of text) []
-tree_after tree (mkdir text) = with_node tree (path_of text) dir
-tree_after tree (write text off new) = with_bytes tree (path_of text) (written (bytes_at tree (path_of text)) off new)
-tree_after tree (truncate text size) = with_bytes tree (path_of text) (resized (bytes_at tree (path_of text)) size)
-tree_after tree (unlink text) = without tree (path_of text)
-tree_after tree (rmdir text) = without tree (path_of text)
-tree_after tree (rename from to) = moved (path_of from) (path_of to) tree
+tree_after tree (create text) = with_bytes tree (path_named text) []
+tree_after tree (mkdir text) = with_node tree (path_named text) dir
+tree_after tree (write text off new) = with_bytes tree (path_named text) (written (bytes_at tree (path_named text)) off new)
+tree_after tree (truncate text size) = with_bytes tree (path_named text) (resized (bytes_at tree (path_named text)) size)
+tree_after tree (unlink text) = with_nothing_at tree (path_named text)
+tree_after tree (rmdir text) = with_nothing_at tree (path_named text)
+tree_after tree (rename from to) = moved (path_named from) (path_named to) tree
 tree_after tree _ = tree
 
 abbrev pub stat_answer : FileTree → Path → Option Node → Answer
@@ -177,9 +177,9 @@ stat_answer tree path (Some (file content)) = file_of (length content)
 stat_answer tree path _ = dir_of (length (listing tree path))
 
 abbrev pub answer : FileTree → Call → Answer
-answer tree (read text off len) = bytes (take len (drop off (bytes_at tree (path_of text))))
-answer tree (list text) = names (listing tree (path_of text))
-answer tree (stat text) = stat_answer tree (path_of text) (get tree (path_of text))
+answer tree (read text off len) = bytes (take len (drop off (bytes_at tree (path_named text))))
+answer tree (list text) = names (listing tree (path_named text))
+answer tree (stat text) = stat_answer tree (path_named text) (get tree (path_named text))
 answer tree _ = done
 
 -- whether a call that is not refused changes the tree
@@ -189,8 +189,8 @@ changes tree (mkdir text) = true
 changes tree (unlink text) = true
 changes tree (rmdir text) = true
 changes tree (write text off new) = nat_lt 0 (length new)
-changes tree (truncate text size) = not (size == length (bytes_at tree (path_of text)))
-changes tree (rename from to) = not (same_path (path_of from) (path_of to))
+changes tree (truncate text size) = not (size == length (bytes_at tree (path_named text)))
+changes tree (rename from to) = not (same_path (path_named from) (path_named to))
 changes tree _ = false
 
 abbrev pub is_changing : FileTree → Call → Bool

@@ -24,17 +24,17 @@ abbrev pub node_seen : Kept → Node
 node_seen kept.Dir = dir
 node_seen (kept.File content) = file content.items
 
-abbrev pub entry_seen : Vec (ArrayVec ℕ) × Kept → Path × Node
-entry_seen entry = (names_of entry.0.items, node_seen entry.1)
+abbrev pub entry_kept : Vec (ArrayVec ℕ) × Kept → Path × Node
+entry_kept entry = (names_of entry.0.items, node_seen entry.1)
 
-abbrev pub entries_seen : Inside → List (Path × Node)
-entries_seen tree = map entry_seen tree.nodes.entries
+abbrev pub entries_kept : Inside → List (Path × Node)
+entries_kept tree = map entry_kept tree.nodes.entries
 
 abbrev pub tree_seen : Inside → FileTree
-tree_seen tree = from_sorted (entries_seen tree)
+tree_seen tree = from_sorted (entries_kept tree)
 
-abbrev pub IsInOrder : Inside → Type 0
-IsInOrder tree = is_sorted path_cmp (entries_seen tree) ≡ true
+abbrev pub AreInOrder : Inside → Type 0
+AreInOrder tree = is_sorted path_cmp (entries_kept tree) ≡ true
 
 -- what a call that is not refused answers and makes
 abbrev pub carried_out : FileTree → Call → Answer × FileTree

@@ -6,20 +6,20 @@ use Rattle.bp_layout.specs.Lookup.{Node}
 use Rattle.bp_layout.specs.Lookup.Node.{dir, file}
 use Rattle.bp_plain.specs.PlainTree.{FileTree}
 
-abbrev pub bytes_of : Node → Option (List ℕ)
-bytes_of dir = None
-bytes_of (file content) = Some content
+abbrev pub node_bytes : Node → Option (List ℕ)
+node_bytes dir = None
+node_bytes (file content) = Some content
 
-abbrev pub node_of : Option (List ℕ) → Node
-node_of None = dir
-node_of (Some content) = file content
+abbrev pub coded_node : Option (List ℕ) → Node
+coded_node None = dir
+coded_node (Some content) = file content
 
-abbrev pub node_of-bytes_of : (node : Node) → node_of (bytes_of node) ≡ node
+abbrev pub node_of-bytes_of : (node : Node) → coded_node (node_bytes node) ≡ node
 node_of-bytes_of dir = refl
 node_of-bytes_of (file content) = refl
 
 abbrev pub node_code : Coded Node
-node_code = code_by (Option (List ℕ)) (coded_option (coded_list coded_ℕ)) bytes_of node_of node_of-bytes_of
+node_code = code_by (Option (List ℕ)) (coded_option (coded_list coded_ℕ)) node_bytes coded_node node_of-bytes_of
 
 abbrev pub tree_code : Coded FileTree
 tree_code = finite.code (coded_list (coded_list coded_ℕ)) node_code

@@ -36,7 +36,7 @@ pub(crate) fn parse(alloc: Global, text: &[u8]) -> Result<Option<Vec<Name>>, All
 
 /// The same of a text that spells a path, and `/` for any other.
 pub(crate) fn path_of(alloc: Global, text: &[u8]) -> Result<Vec<Name>, AllocError>
-    ensures { IfOk result (λ names. names_of names.items ≡ plain.path_of text.now) }
+    ensures { IfOk result (λ names. names_of names.items ≡ plain.path_named text.now) }
 {
     match parse(alloc, text)? {
         Some(path) => Ok(path),

@@ -6,7 +6,7 @@ ghost use Rattle.bp_limits.specs.Limits.{max_read, max_size};
 ghost use Rattle.bp_plain.specs.Calls.Answer.{bytes, done};
 ghost use Rattle.bp_plain.specs.Calls.Call.{create, list, read, rmdir, stat, truncate, unlink, write};
 ghost use Rattle.bp_plain.specs.Plain as plain;
-ghost use Rattle.bp_plain.specs.Plain.{is_dir_at, listing, with_node, without};
+ghost use Rattle.bp_plain.specs.Plain.{is_dir_at, listing, with_node, with_nothing_at};
 ghost use Rattle.bp_plain.specs.PlainTree.{empty_tree};
 ghost use Rattle.bp_plain.specs.Seen.{IsShortCall, call_of, refusal_of};
 ghost use Rattle.bp_plain.specs.SeenTree.{carried_out, names_of, node_seen};
@@ -46,11 +46,11 @@ impl Model for Plain {
 
     ghost coded = { tree_code };
 
-    ghost use Rattle.bp_plain.specs.SeenTree.{IsInOrder, tree_seen};
+    ghost use Rattle.bp_plain.specs.SeenTree.{AreInOrder, tree_seen};
 
     ghost view = { tree_seen };
 
-    ghost invariant = { IsInOrder };
+    ghost invariant = { AreInOrder };
 }
 
 impl Plain {
@@ -285,7 +285,7 @@ impl Plain {
         reply: &mut Reply,
     ) -> Result<(), AllocError>
         ensures answer { OnOk result (reply.new.answer ≡ done) }
-        ensures made { OnOk result (self.new ≡ with_node self.old (plain.path_of text.now) (node_seen node)) }
+        ensures made { OnOk result (self.new ≡ with_node self.old (plain.path_named text.now) (node_seen node)) }
         ensures kept { OnErr result (self.new ≡ self.old) }
     {
         let path = path_of(alloc, text)?;
@@ -297,7 +297,7 @@ impl Plain {
     // Removes a file as it removes a directory, which has no names in it.
     fn remove(&mut self, alloc: Global, text: &[u8], reply: &mut Reply) -> Result<(), AllocError>
         ensures answer { OnOk result (reply.new.answer ≡ done) }
-        ensures removed { OnOk result (self.new ≡ without self.old (plain.path_of text.now)) }
+        ensures removed { OnOk result (self.new ≡ with_nothing_at self.old (plain.path_named text.now)) }
         ensures kept { OnErr result (self.new ≡ self.old) }
     {
         let path = path_of(alloc, text)?;
@@ -395,7 +395,7 @@ impl Plain {
 
     // Nothing stands at the path any more.
     fn take(&mut self, path: &[Name])
-        ensures { self.new ≡ without self.old (names_of path.now) }
+        ensures { self.new ≡ with_nothing_at self.old (names_of path.now) }
     {
         let _ = self.nodes.remove(path);
     }

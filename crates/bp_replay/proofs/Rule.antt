@@ -7,9 +7,9 @@ use Rattle.std.proofs.lemmas.List.Folds.{list_any-append}
 use Rattle.pm_epochs.specs.declared.event.Event.{Event}
 use Rattle.pm_epochs.specs.declared.event.Event.TheVariants.{Store, Barrier, Mark}
 use Rattle.pm_epochs.specs.Log.{epoch_stores}
-use Rattle.pm_epochs.specs.Replay.{IsRight, replay, epoch_of, place_of}
+use Rattle.pm_epochs.specs.Replay.{IsRight, replay, epoch_of, place_in_epoch}
 use Rattle.pm_steps.specs.WordSet.{is_noted}
-use Rattle.pm_steps.specs.Machine.{is_some_store, IsInOrder, start, Runs, in_log_order}
+use Rattle.pm_steps.specs.Machine.{is_some_store, IsInOrder, machine_over, StepsTo, in_log_order}
 use Rattle.pm_steps.proofs.Order.{store_is}
 use Rattle.pm_steps.proofs.Cuts.{right_open}
 use Rattle.pm_steps.proofs.FirstLaws.{none, nothing_there, same_word, ComesFirst-behind}
@@ -24,7 +24,7 @@ in_order_flags events seed = in_order_storm (next_state (next_state seed)) (stor
 pub right_storm : (events : List Event) (seed : ℕ) → IsRight events (storm_cut events seed)
 right_storm events seed = right_open events (flags_of_storm events seed) (in_order_flags events seed)
 
-pub storm_runs : (base : List ℕ) (events : List Event) (seed : ℕ) → Runs events (start base) (in_log_order (flags_of_storm events seed)) (record { back = flags_of_storm events seed; words = replay base events (storm_cut events seed) })
+pub storm_runs : (base : List ℕ) (events : List Event) (seed : ℕ) → StepsTo events (machine_over base) (in_log_order (flags_of_storm events seed)) (record { back = flags_of_storm events seed; words = replay base events (storm_cut events seed) })
 storm_runs base events seed = reached_in_log_order base events (flags_of_storm events seed) (in_order_flags events seed)
 
 -- ## Other epochs
@@ -151,7 +151,7 @@ may_own state (suc epoch) (Mark ∷ events) zero word value store own odd may = 
 may_own state (suc epoch) (Mark ∷ events) (suc which) word value store own odd may =
     may_own state (suc epoch) events which word value store own odd (λ earlier comes. may (suc earlier) (ComesFirst-behind Mark events earlier which comes))
 
-pub own_epoch : (state epoch : ℕ) (events : List Event) (which : ℕ) → IsStoreAt events which → epoch_of events which ≡ epoch → (slice_get (storm_flags state epoch [] events) which ≡ Some true) ↔ (IsOdd (draw_at state (place_of events which)) × MayGo events (storm_flags state epoch [] events) which)
+pub own_epoch : (state epoch : ℕ) (events : List Event) (which : ℕ) → IsStoreAt events which → epoch_of events which ≡ epoch → (slice_get (storm_flags state epoch [] events) which ≡ Some true) ↔ (IsOdd (draw_at state (place_in_epoch events which)) × MayGo events (storm_flags state epoch [] events) which)
 own_epoch state epoch events which store own =
     let is = store_is (slice_get events which) store in
     let place : epoch_stores (epoch_of events which) (take which events) ≡ epoch_stores epoch (take which events) = ap (λ e. epoch_stores e (take which events)) own in (

@@ -3,8 +3,8 @@
 ghost use Rattle.std.specs.Prelude.{◌≡◌, ◌<◌, ◌↔◌, ℕ, List, [], Some, true, false, slice_get};
 ghost use Rattle.pm_epochs.specs.declared.event.Event.{Event};
 ghost use Rattle.pm_epochs.specs.Log.{words_after, marks};
-ghost use Rattle.pm_epochs.specs.Replay.{IsRight, replay, kept_calls, epoch_of, place_of};
-ghost use Rattle.pm_steps.specs.Machine.{start, Runs, in_log_order};
+ghost use Rattle.pm_epochs.specs.Replay.{IsRight, replay, kept_calls, epoch_of, place_in_epoch};
+ghost use Rattle.pm_steps.specs.Machine.{machine_over, StepsTo, in_log_order};
 ghost use Rattle.bp_replay.specs.Generator.{next_state, drawn};
 ghost use Rattle.bp_replay.specs.Storm.{storm_flags, flags_of_storm, storm_cut, draw_at, IsOdd, IsStoreAt, MayGo};
 ghost use Rattle.bp_replay.specs.Wanted.{all, nothing, cut_for};
@@ -35,7 +35,7 @@ pub fn first_draw()
 pub fn a_storm_is_a_run()
     ensures right { (events : List Event) (seed : ℕ) → IsRight events (storm_cut events seed) }
     ensures runs { (base : List ℕ) (events : List Event) (seed : ℕ) →
-        Runs events (start base) (in_log_order (flags_of_storm events seed))
+        StepsTo events (machine_over base) (in_log_order (flags_of_storm events seed))
         (record { back = flags_of_storm events seed; words = replay base events (storm_cut events seed) }) }
 {}
 
@@ -50,6 +50,6 @@ pub fn a_storm_writes_back_what_may_go()
     ensures own { (state epoch : ℕ) (events : List Event) (which : ℕ) → IsStoreAt events which →
         epoch_of events which ≡ epoch →
         (slice_get (storm_flags state epoch [] events) which ≡ Some true) ↔
-        (IsOdd (draw_at state (place_of events which)) ×
+        (IsOdd (draw_at state (place_in_epoch events which)) ×
         MayGo events (storm_flags state epoch [] events) which) }
 {}

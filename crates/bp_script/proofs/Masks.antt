@@ -8,7 +8,7 @@ use Rattle.hex.specs.Hex.{decode_of}
 use Rattle.hex.specs.declared.error.FromHexError.{FromHexError}
 use Rattle.hex.proofs.HexLemmas.{decode_of-ok}
 use Rattle.bp_limits.specs.Limits.{max_read}
-use Rattle.bp_script.specs.Commands.{Command, asked_by, bare_command, bytes_of, command_by_words, decoded, in_grammar, is_empty_word, mask_in, masked_crash, number_of, pair_command, path_command, read_command, storm_command, truncate_command, whole_crash, word_command, words_of, write_command}
+use Rattle.bp_script.specs.Commands.{Command, asked_by, bare_command, bytes_spelled, command_by_words, decoded, in_grammar, is_empty_word, mask_in, masked_crash, number_spelled, pair_command, path_command, read_command, storm_command, truncate_command, whole_crash, word_command, words_of, write_command}
 use Rattle.bp_plain.specs.Calls.Call.{read, rename}
 use Rattle.bp_replay.specs.Wanted.Wanted.{all, nothing}
 use Rattle.bp_script.specs.Commands.Command.{file_call, sync, space, crash, log, bad_syntax}
@@ -69,8 +69,8 @@ one_of false false x y z p q r = r
 
 word_none : (verb word : List ℕ) → mask_in (word_command verb word) ≡ []
 word_none verb word =
-    one_of (bytes_eq verb (codes "crash")) (bytes_eq verb (codes "storm")) (whole_crash word) (storm_command (number_of word)) (path_command verb word)
-    (whole_none word) (storm_none (number_of word)) (path_none verb word)
+    one_of (bytes_eq verb (codes "crash")) (bytes_eq verb (codes "storm")) (whole_crash word) (storm_command (number_spelled word)) (path_command verb word)
+    (whole_none word) (storm_none (number_spelled word)) (path_none verb word)
 
 truncate_none : (path : List ℕ) (size : Option ℕ) → mask_in (truncate_command path size) ≡ []
 truncate_none path None = refl
@@ -78,8 +78,8 @@ truncate_none path (Some size) = refl
 
 pair_none : (verb first second : List ℕ) → mask_in (pair_command verb first second) ≡ []
 pair_none verb first second =
-    one_of (bytes_eq verb (codes "truncate")) (bytes_eq verb (codes "rename")) (truncate_command first (number_of second)) (file_call (rename first second)) bad_syntax
-    (truncate_none first (number_of second)) refl refl
+    one_of (bytes_eq verb (codes "truncate")) (bytes_eq verb (codes "rename")) (truncate_command first (number_spelled second)) (file_call (rename first second)) bad_syntax
+    (truncate_none first (number_spelled second)) refl refl
 
 read_none : (path : List ℕ) (off len : Option ℕ) → mask_in (read_command path off len) ≡ []
 read_none path None len = refl
@@ -97,7 +97,7 @@ write_none path (Some off) (Some new) = refl
 
 -- ---- a mask that is spelled
 
-bytes_short : (word bytes : List ℕ) → bytes_of word ≡ Some bytes → 2 * length bytes ≤ length word
+bytes_short : (word bytes : List ℕ) → bytes_spelled word ≡ Some bytes → 2 * length bytes ≤ length word
 bytes_short word bytes e = go (bytes_eq word (codes "-")) refl
   where
     spelled : (r : Result (List ℕ) FromHexError) → decode_of word ≡ r → result_ok r ≡ Some bytes → 2 * length bytes ≤ length word
@@ -135,9 +135,9 @@ row_short digits (verb ∷ word ∷ []) fit = none_short digits (mask_in (word_c
 row_short digits (verb ∷ first ∷ second ∷ []) fit = none_short digits (mask_in (pair_command verb first second)) (pair_none verb first second)
 row_short digits (verb ∷ first ∷ second ∷ third ∷ []) fit =
     long_short digits (bytes_eq verb (codes "read")) (bytes_eq verb (codes "write")) (bytes_eq verb (codes "crash"))
-    (read_command first (number_of second) (number_of third)) (write_command first (number_of second) (bytes_of third)) (masked_crash (number_of first) (number_of second) (bytes_of third))
-    (read_none first (number_of second) (number_of third)) (write_none first (number_of second) (bytes_of third))
-    (masked_short digits (number_of first) (number_of second) (bytes_of third) (λ bytes is. omega (arith, bytes_short third bytes is, fit.1.1.1.0)))
+    (read_command first (number_spelled second) (number_spelled third)) (write_command first (number_spelled second) (bytes_spelled third)) (masked_crash (number_spelled first) (number_spelled second) (bytes_spelled third))
+    (read_none first (number_spelled second) (number_spelled third)) (write_none first (number_spelled second) (bytes_spelled third))
+    (masked_short digits (number_spelled first) (number_spelled second) (bytes_spelled third) (λ bytes is. omega (arith, bytes_short third bytes is, fit.1.1.1.0)))
 row_short digits (a ∷ b ∷ c ∷ d ∷ e ∷ words) fit = omega arith
 
 asked_short : (digits : ℕ) (words : List (List ℕ)) → AllByRecursion (λ word. length word ≤ digits) words → 2 * length (mask_in (asked_by words)) ≤ digits

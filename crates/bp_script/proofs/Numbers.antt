@@ -7,7 +7,7 @@ use Rattle.std.proofs.lemmas.Str.Parse.{digits_value-take-le}
 use Rattle.std.specs.Char.{digit_value, is_ascii_digit}
 use Rattle.std.specs.List.{list_all}
 use Rattle.std.specs.Str.Parse.{AllDigits, digits_value}
-use Rattle.bp_script.specs.Commands.{is_numeral, number_of}
+use Rattle.bp_script.specs.Commands.{is_numeral, number_spelled}
 use Rattle.bp_script.proofs.EachByte.{all_below, from_all_below}
 
 agrees : ℕ → Bool
@@ -29,12 +29,12 @@ not_empty n is =
     ]
 
 pub number_is : (word : List ℕ) → 1 ≤ length word → length word ≤ 20 → list_all is_ascii_digit word ≡ true → digits_value 10 word < 2 ^ 64
-    → number_of word ≡ Some (digits_value 10 word)
+    → number_spelled word ≡ Some (digits_value 10 word)
 number_is word some short digits fits =
     rw (le-leb 1 (length word) some, le-leb (length word) 20 short, digits, lt-ltb (digits_value 10 word) 18446744073709551616 fits) refl
 
 pub number_too_large : (word : List ℕ) (i : ℕ) → i < length word
-    → 2 ^ 64 ≤ digits_value 10 (take i word) * 10 + digit_value (get_or word i 0) → number_of word ≡ None
+    → 2 ^ 64 ≤ digits_value 10 (take i word) * 10 + digit_value (get_or word i 0) → number_spelled word ≡ None
 number_too_large word i inside large =
     let whole : 18446744073709551616 ≤ digits_value 10 word = omega (arith, large, digits_value_more 10 word i inside, digits_value-take-le 10 word (i + 1) (omega arith)) in
     rw (le-ltb (digits_value 10 word) 18446744073709551616 whole) (go (is_numeral word))

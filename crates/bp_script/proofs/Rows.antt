@@ -12,7 +12,7 @@ use Rattle.std.specs.Str.Parse.{digits_value}
 use Rattle.hex.specs.Hex.{decode_of, is_hex_digit}
 use Rattle.hex.specs.declared.error.FromHexError.{FromHexError}
 use Rattle.hex.proofs.HexLemmas.{decode_of-ok}
-use Rattle.bp_script.specs.Commands.{asked_by, bare_command, bytes_of, decoded, is_empty_word, long_command, masked_crash, number_of, pair_command, path_bytes, read_command, storm_command, truncate_command, whole_crash, word_command, words_of, write_command}
+use Rattle.bp_script.specs.Commands.{asked_by, bare_command, bytes_spelled, decoded, is_empty_word, long_command, masked_crash, number_spelled, pair_command, path_bytes, read_command, storm_command, truncate_command, whole_crash, word_command, words_of, write_command}
 use Rattle.bp_script.specs.Commands.Command.{bad_syntax, crash, log, space, sync}
 use Rattle.bp_replay.specs.Wanted.Wanted.{all, nothing}
 use Rattle.bp_script.specs.Lines.{path_row}
@@ -72,7 +72,7 @@ nothing_behind verb first second [] none = fourth_empty verb first second
 
 -- ---- a fourth word with a space: there are more words, and it is neither a number nor bytes
 
-number_with_space : (word : List ℕ) (i : ℕ) → i < length word → slice_index word i ≡ 32 → number_of word ≡ None
+number_with_space : (word : List ℕ) (i : ℕ) → i < length word → slice_index word i ≡ 32 → number_spelled word ≡ None
 number_with_space word i inside is =
     let no : list_all is_ascii_digit word ≡ false = list_all_at is_ascii_digit word i 0 inside (ap is_ascii_digit is) in
     rw no (go (nat_le 1 (length word)) (nat_le (length word) 20) (nat_lt (digits_value 10 word) 18446744073709551616))
@@ -92,7 +92,7 @@ digits_with_space word i inside is = go (decode_of word) refl
         let no : list_all is_hex_digit word ≡ false = list_all_at is_hex_digit word i 0 inside (ap is_hex_digit is) in
         absurd (true≢false (sym all ∙ no))
 
-bytes_with_space : (word : List ℕ) (i : ℕ) → i < length word → slice_index word i ≡ 32 → bytes_of word ≡ None
+bytes_with_space : (word : List ℕ) (i : ℕ) → i < length word → slice_index word i ≡ 32 → bytes_spelled word ≡ None
 bytes_with_space [] i inside is = absurd (omega (arith, inside))
 bytes_with_space (x ∷ []) zero inside is =
     let space : x ≡ 32 = is in
@@ -119,7 +119,7 @@ no_mask (Some moment) (Some epoch) = refl
 
 long_with_space : (verb first second third : List ℕ) (i : ℕ) → i < length third → slice_index third i ≡ 32 → long_command verb first second third ≡ bad_syntax
 long_with_space verb first second third i inside is =
-    rw (number_with_space third i inside is, bytes_with_space third i inside is, no_length first (number_of second), no_bytes first (number_of second), no_mask (number_of first) (number_of second))
+    rw (number_with_space third i inside is, bytes_with_space third i inside is, no_length first (number_spelled second), no_bytes first (number_spelled second), no_mask (number_spelled first) (number_spelled second))
     (go (bytes_eq verb (codes "read")) (bytes_eq verb (codes "write")) (bytes_eq verb (codes "crash")))
   where
     go : (a b c : Bool) → (if a then bad_syntax else if b then bad_syntax else if c then bad_syntax else bad_syntax) ≡ bad_syntax

@@ -50,14 +50,14 @@ abbrev pub is_numeral : List ℕ → Bool
 is_numeral word = nat_le 1 (length word) && nat_le (length word) 20 && list_all is_ascii_digit word
 
 -- the number that a word of digits stands for, where it is below 2 ^ 64
-abbrev pub number_of : List ℕ → Option ℕ
-number_of word = if is_numeral word && nat_lt (digits_value 10 word) 18446744073709551616 then Some (digits_value 10 word) else None
+abbrev pub number_spelled : List ℕ → Option ℕ
+number_spelled word = if is_numeral word && nat_lt (digits_value 10 word) 18446744073709551616 then Some (digits_value 10 word) else None
 
 -- ---- bytes
 
 -- the bytes that a word of hexadecimal digits stands for, two digits of either case each; `-` stands for none
-abbrev pub bytes_of : List ℕ → Option (List ℕ)
-bytes_of word = if bytes_eq word (codes "-") then Some [] else result_ok (decode_of word)
+abbrev pub bytes_spelled : List ℕ → Option (List ℕ)
+bytes_spelled word = if bytes_eq word (codes "-") then Some [] else result_ok (decode_of word)
 
 -- ---- the table, with paths as they are written
 
@@ -112,20 +112,20 @@ path_command verb path =
 abbrev pub word_command : List ℕ → List ℕ → Command
 word_command verb word =
     if bytes_eq verb (codes "crash") then whole_crash word
-    else if bytes_eq verb (codes "storm") then storm_command (number_of word)
+    else if bytes_eq verb (codes "storm") then storm_command (number_spelled word)
     else path_command verb word
 
 abbrev pub pair_command : List ℕ → List ℕ → List ℕ → Command
 pair_command verb first second =
-    if bytes_eq verb (codes "truncate") then truncate_command first (number_of second)
+    if bytes_eq verb (codes "truncate") then truncate_command first (number_spelled second)
     else if bytes_eq verb (codes "rename") then file_call (rename first second)
     else bad_syntax
 
 abbrev pub long_command : List ℕ → List ℕ → List ℕ → List ℕ → Command
 long_command verb first second third =
-    if bytes_eq verb (codes "read") then read_command first (number_of second) (number_of third)
-    else if bytes_eq verb (codes "write") then write_command first (number_of second) (bytes_of third)
-    else if bytes_eq verb (codes "crash") then masked_crash (number_of first) (number_of second) (bytes_of third)
+    if bytes_eq verb (codes "read") then read_command first (number_spelled second) (number_spelled third)
+    else if bytes_eq verb (codes "write") then write_command first (number_spelled second) (bytes_spelled third)
+    else if bytes_eq verb (codes "crash") then masked_crash (number_spelled first) (number_spelled second) (bytes_spelled third)
     else bad_syntax
 
 -- The table of commands, by the words of a line.

@@ -15,7 +15,7 @@ use Rattle.bp_script.specs.declared.lines.Syntax.{Syntax}
 use Rattle.bp_script.specs.declared.lines.WordVerb.{WordVerb}
 use Rattle.bp_script.specs.declared.lines.WordVerb.TheVariants as on
 use Rattle.bp_script.specs.contracts.lines.Decoded.{the_row}
-use Rattle.bp_script.specs.Commands.{Command, number_of, storm_command, whole_crash}
+use Rattle.bp_script.specs.Commands.{Command, number_spelled, storm_command, whole_crash}
 use Rattle.bp_script.specs.Commands.Command.{file_call, sync, space, crash, storm, log, bad_syntax}
 
 -- the bytes of the longest line that can be decoded
@@ -54,6 +54,6 @@ path_row verb.Stat path = file_call (stat path)
 -- what a verb and another word ask for
 abbrev pub word_row : Option WordVerb → List ℕ → Command
 word_row (Some on.Crash) word = whole_crash word
-word_row (Some on.Storm) word = storm_command (number_of word)
+word_row (Some on.Storm) word = storm_command (number_spelled word)
 word_row (Some (on.Path verb)) word = path_row verb word
 word_row None word = bad_syntax

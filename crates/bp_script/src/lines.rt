@@ -3,7 +3,7 @@
 ghost use Rattle.bp_plain.specs.Calls.Call.{rename, write};
 ghost use Rattle.bp_replay.specs.Wanted.Wanted.{at};
 ghost use Rattle.bp_script.specs.Commands.Command.{bad_syntax, crash, file_call};
-ghost use Rattle.bp_script.specs.Commands.{asked_by, bare_command, bytes_of, decoded, in_grammar, long_command, mask_in, masked_crash, number_of, pair_command, part_bytes, path_bytes, read_command, storm_command, truncate_command, unslashed, whole_crash, word_command, words_of, write_command};
+ghost use Rattle.bp_script.specs.Commands.{asked_by, bare_command, bytes_spelled, decoded, in_grammar, long_command, mask_in, masked_crash, number_spelled, pair_command, part_bytes, path_bytes, read_command, storm_command, truncate_command, unslashed, whole_crash, word_command, words_of, write_command};
 ghost use Rattle.bp_script.specs.Lines.{KeepsRoom, decoded_room, first_held, line_asks, path_row, second_held, word_row};
 ghost use Rattle.std.specs.Borrow.{sem};
 ghost use Rattle.std.specs.List.{slice_split};
@@ -230,7 +230,7 @@ impl Decoded {
         requires path { length path.now ≤ decoded_room self.old }
         requires word { length word.now ≤ decoded_room self.old }
         ensures* keeps_room { sem 𝓛 (KeepsRoom self.entry) }
-        ensures meaning { line_asks result ≡ decoded (write_command path.now off (bytes_of word.now)) }
+        ensures meaning { line_asks result ≡ decoded (write_command path.now off (bytes_spelled word.now)) }
     {
         match off {
             Some(off) => match self.path_and_bytes(path, digits_of(word)) {
@@ -261,7 +261,7 @@ impl Decoded {
     ) -> Result<Line<'_>, Syntax>
         requires { length word.now ≤ decoded_room self.old }
         ensures* keeps_room { sem 𝓛 (KeepsRoom self.entry) }
-        ensures meaning { line_asks result ≡ masked_crash moment epoch (bytes_of word.now) }
+        ensures meaning { line_asks result ≡ masked_crash moment epoch (bytes_spelled word.now) }
     {
         match (moment, epoch) {
             (Some(moment), Some(epoch)) => match self.mask(digits_of(word)) {
@@ -533,7 +533,7 @@ fn read(path: &[u8], off: Option<u64>, len: Option<u64>) -> Result<Line<'_>, Syn
 
 /// The hexadecimal digits of a word, of which `-` stands for none.
 fn digits_of(word: &[u8]) -> &[u8]
-    ensures bytes { result_ok (decode_of result.now) ≡ bytes_of word.now }
+    ensures bytes { result_ok (decode_of result.now) ≡ bytes_spelled word.now }
     ensures len { length result.now ≤ length word.now }
 {
     match word {
@@ -544,7 +544,7 @@ fn digits_of(word: &[u8]) -> &[u8]
 
 /// The number that a word stands for: one to twenty decimal digits, with a value below 2^64.
 fn number(word: &[u8]) -> Option<u64>
-    ensures { result ≡ number_of word.now }
+    ensures { result ≡ number_spelled word.now }
 {
     if word.is_empty() || word.len() > MOST_DIGITS {
         None
@@ -559,7 +559,7 @@ fn number(word: &[u8]) -> Option<u64>
 fn short_number(word: &[u8]) -> Option<u64>
     requires some { 1 ≤ length word.now }
     requires short { length word.now < MOST_DIGITS }
-    ensures { result ≡ number_of word.now }
+    ensures { result ≡ number_spelled word.now }
 {
     let mut value: u64 = 0;
     for &byte in word {
@@ -574,7 +574,7 @@ fn short_number(word: &[u8]) -> Option<u64>
 /// The same for as many digits as there may be.
 fn long_number(word: &[u8]) -> Option<u64>
     requires { length word.now ≡ MOST_DIGITS }
-    ensures { result ≡ number_of word.now }
+    ensures { result ≡ number_spelled word.now }
 {
     let mut value: u64 = 0;
     for &byte in word {

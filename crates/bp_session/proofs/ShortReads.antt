@@ -8,7 +8,7 @@ use Rattle.bp_plain.specs.Calls.{Call}
 use Rattle.bp_plain.specs.Calls.Call.{create, mkdir, unlink, rmdir, list, stat, read, write, truncate, rename}
 use Rattle.bp_plain.specs.Seen.{IsShortCall}
 use Rattle.bp_replay.specs.Wanted.Wanted.{all, nothing}
-use Rattle.bp_script.specs.Commands.{Command, in_grammar, words_of, command_by_words, word_command, whole_crash, masked_crash, storm_command, path_command, pair_command, long_command, bare_command, read_command, write_command, truncate_command, number_of, bytes_of, decoded, is_empty_word}
+use Rattle.bp_script.specs.Commands.{Command, in_grammar, words_of, command_by_words, word_command, whole_crash, masked_crash, storm_command, path_command, pair_command, long_command, bare_command, read_command, write_command, truncate_command, number_spelled, bytes_spelled, decoded, is_empty_word}
 use Rattle.bp_script.specs.Commands.Command.{file_call, sync, space, crash, storm, log, bad_syntax, too_long}
 
 abbrev pub IsShort : Command → Type 0
@@ -66,18 +66,18 @@ short_path verb path =
 short_word : (verb word : List ℕ) → IsShort (word_command verb word)
 short_word verb word =
     short_either (bytes_eq verb (codes "crash")) (whole_crash word) _ (short_whole word)
-    (short_either (bytes_eq verb (codes "storm")) (storm_command (number_of word)) _ (short_storm (number_of word)) (short_path verb word))
+    (short_either (bytes_eq verb (codes "storm")) (storm_command (number_spelled word)) _ (short_storm (number_spelled word)) (short_path verb word))
 
 short_pair : (verb first second : List ℕ) → IsShort (pair_command verb first second)
 short_pair verb first second =
-    short_either (bytes_eq verb (codes "truncate")) (truncate_command first (number_of second)) _ (short_truncate first (number_of second))
+    short_either (bytes_eq verb (codes "truncate")) (truncate_command first (number_spelled second)) _ (short_truncate first (number_spelled second))
     (short_either (bytes_eq verb (codes "rename")) (file_call (rename first second)) bad_syntax tt tt)
 
 short_long : (verb first second third : List ℕ) → IsShort (long_command verb first second third)
 short_long verb first second third =
-    short_either (bytes_eq verb (codes "read")) (read_command first (number_of second) (number_of third)) _ (short_read first (number_of second) (number_of third))
-    (short_either (bytes_eq verb (codes "write")) (write_command first (number_of second) (bytes_of third)) _ (short_write first (number_of second) (bytes_of third))
-    (short_either (bytes_eq verb (codes "crash")) (masked_crash (number_of first) (number_of second) (bytes_of third)) bad_syntax (short_masked (number_of first) (number_of second) (bytes_of third)) tt))
+    short_either (bytes_eq verb (codes "read")) (read_command first (number_spelled second) (number_spelled third)) _ (short_read first (number_spelled second) (number_spelled third))
+    (short_either (bytes_eq verb (codes "write")) (write_command first (number_spelled second) (bytes_spelled third)) _ (short_write first (number_spelled second) (bytes_spelled third))
+    (short_either (bytes_eq verb (codes "crash")) (masked_crash (number_spelled first) (number_spelled second) (bytes_spelled third)) bad_syntax (short_masked (number_spelled first) (number_spelled second) (bytes_spelled third)) tt))
 
 short_words : (words : List (List ℕ)) → IsShort (command_by_words words)
 short_words [] = tt

@@ -1,7 +1,7 @@
 //! The programs.
 
 ghost use Rattle.bp_command.specs.Commands.{IsTaken};
-ghost use Rattle.bp_command.specs.Programs.{Asks, IsInRange, Program as Asked, program_of};
+ghost use Rattle.bp_command.specs.Programs.{Asks, HasNumbersInRange, Program as Asked, program_of};
 ghost use Rattle.bp_script.specs.Sayings.{notice_text};
 ghost use Rattle.bp_script.specs.declared.notices.Notice.TheVariants.{Usage};
 ghost use Rattle.bp_session.specs.Outside.{Prints, outside};
@@ -73,7 +73,7 @@ fn run_program<S: Source, K: Sink, F: Files>(
     out: &mut K,
     files: &mut F,
 ) -> u8
-    requires { IsInRange (program_of program.now) }
+    requires { HasNumbersInRange (program_of program.now) }
     ensures outcome { let name = file_name (program_of program.now) in ProgramOutcome (program_of program.now) result
         (outside (S.left src.old) (S.faults src.old) (K.taken out.old) (K.faults out.old) (F.view files.old) name)
         (outside (S.left src.new) (S.faults src.new) (K.taken out.new) (K.faults out.new) (F.view files.new) name) }

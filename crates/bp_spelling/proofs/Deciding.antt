@@ -14,7 +14,7 @@ use Rattle.bp_layout.specs.Directory.{name_in, slots}
 use Rattle.bp_spelling.specs.Names.{IsUsed, AreNames, AreWrong, entry_place_in}
 use Rattle.bp_spelling.specs.Names.AreWrong.{twice}
 use Rattle.bp_spelling.specs.declared.fault.NameFault.TheVariants.{Twice}
-use Rattle.bp_spelling.specs.Places.{used_places, HaveForms, AreApart, IsDouble, name_key, name_there}
+use Rattle.bp_spelling.specs.Places.{used_places, HaveForms, HaveOwnNames, IsDouble, name_key, name_there}
 use Rattle.bp_spelling.proofs.EntryPlaces.{other_place, name-there, name-short, word-there}
 use Rattle.bp_spelling.proofs.KeyNames.{same_name, key_of_name}
 use Rattle.bp_spelling.proofs.UsedPlaces.{IsAmong, all_among, place_among, all_apart}
@@ -63,7 +63,7 @@ module _ (image : Image) (root size : ℕ) (sound : IsSound image root size) (fu
         AllPairs-from_IsDistinct Decides-eqb after (IsDistinct-IsPermutation eqb eqb-comm before after order (IsDistinct-from_AllPairs Decides-eqb before first))
 
     -- no two keys of places are equal, so no two names are
-    pub no_doubles : AreApart image after → AreNames image root size
+    pub no_doubles : HaveOwnNames image after → AreNames image root size
     no_doubles differ = record { forms = forms; differ = λ slot other used used_too same. go slot other used used_too same (cases_eq slot other) }
       where
         at : (slot : ℕ) (there : Contains after (entry_place_in image root slot)) → slice_index after there.0 ≡ entry_place_in image root slot

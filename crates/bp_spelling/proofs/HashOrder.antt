@@ -5,7 +5,7 @@ use Rattle.std.specs.List.Sorted.{IsSortedBy}
 use Rattle.std.proofs.lemmas.List.{get_or-map, length-map}
 use Rattle.bp_layout.specs.Words.{Image}
 use Rattle.bp_spelling.specs.declared.entry.Spelled.{Spelled}
-use Rattle.bp_spelling.specs.Places.{name_key, AreApart, IsDouble}
+use Rattle.bp_spelling.specs.Places.{name_key, HaveOwnNames, IsDouble}
 use Rattle.bp_spelling.specs.Hashes.{IsSpelled, places_of, spelled_key, spelled_lt}
 use Rattle.bp_spelling.proofs.HashLaws.{same_hash}
 use Rattle.bp_spelling.proofs.NameOrder.{apart_from_neighbours}
@@ -24,7 +24,7 @@ module _ (image : Image) (entries : List Spelled) where
   -- where no neighbours have one key, no two have one name
   pub entries_apart : All (IsSpelled image) entries → IsSortedBy (spelled_lt image) entries →
       ((k : ℕ) → suc k < length entries → spelled_key image (slice_index_or entries k blank) ≡ spelled_key image (slice_index_or entries (suc k) blank) → ⊥) →
-      AreApart image (places_of entries)
+      HaveOwnNames image (places_of entries)
   entries_apart exact sorted beside i j order high same =
       let low : j < length entries = rw (length-places entries) at high in
       let before : i < length entries = omega (arith, order, low) in

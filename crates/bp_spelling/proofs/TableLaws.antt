@@ -6,7 +6,7 @@ use Rattle.std.proofs.lemmas.List.{get_or-set_same, get_or-set_other, get_or_pas
 use Rattle.bp_layout.specs.Words.{Image}
 use Rattle.bp_spelling.specs.declared.entry.Spelled.{Spelled}
 use Rattle.bp_spelling.specs.Hashes.{IsSpelled, places_of, spelled_key}
-use Rattle.bp_spelling.specs.Places.{name_key, AreApart, IsDouble}
+use Rattle.bp_spelling.specs.Places.{name_key, HaveOwnNames, IsDouble}
 use Rattle.bp_spelling.specs.Tables.{home, cell_at, IsPresent, IsKept, Puts, IsClash, IsStop}
 use Rattle.bp_spelling.specs.Tables.IsClash.{double}
 use Rattle.bp_spelling.specs.Tables.IsStop.{repeated}
@@ -163,7 +163,7 @@ module _ (image : Image) (entries : List Spelled) where
       some k low = present k empty_cell low
 
   -- no two keys are equal, so no two names are
-  pub held_apart : All (IsSpelled image) entries → (count : ℕ) → length entries ≤ count → (table : List Spelled) → IsHeld image entries count table → AreApart image (places_of entries)
+  pub held_apart : All (IsSpelled image) entries → (count : ℕ) → length entries ≤ count → (table : List Spelled) → IsHeld image entries count table → HaveOwnNames image (places_of entries)
   held_apart exact count all table held i j order high same =
       let low : j < length entries = rw (length-places entries) at high in
       let before : i < length entries = omega (arith, order, low) in

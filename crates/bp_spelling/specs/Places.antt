@@ -61,8 +61,8 @@ abbrev pub name_cmp : Image → ℕ → ℕ → Ordering
 name_cmp image a b = slice_cmp nat_cmp (name_key image a) (name_key image b)
 
 -- no two of the entries have one name
-abbrev pub AreApart : Image → List ℕ → Type 0
-AreApart image places = (i j : ℕ) → i < j → j < length places → name_key image (slice_index places i) ≡ name_key image (slice_index places j) → ⊥
+abbrev pub HaveOwnNames : Image → List ℕ → Type 0
+HaveOwnNames image places = (i j : ℕ) → i < j → j < length places → name_key image (slice_index places i) ≡ name_key image (slice_index places j) → ⊥
 
 -- two of the entries have one name, the second stands at this place
 pub record IsDouble (image : Image) (places : List ℕ) (place : ℕ) : Type 0 where

@@ -5,7 +5,7 @@ ghost use Rattle.bp_layout.specs.Tree.{IsSound, IsFull};
 ghost use Rattle.bp_limits.specs.Limits.{entry_size};
 ghost use Rattle.bp_spelling.specs.Hashes.{IsSpelled, places_of};
 ghost use Rattle.bp_spelling.specs.Names.{AreNames, AreWrong};
-ghost use Rattle.bp_spelling.specs.Places.{AreApart};
+ghost use Rattle.bp_spelling.specs.Places.{HaveOwnNames};
 ghost use Rattle.bp_spelling.specs.Tables.{IsPresent, IsStop};
 ghost use Rattle.pm_region.specs.Memory.{current_words};
 
@@ -25,7 +25,7 @@ fn try_table<R: Region>(region: &R, entries: &mut [Spelled], count: usize) -> Re
     requires present { All IsPresent (take count entries.old) }
     ensures same { take count entries.new ≡ take count entries.old }
     ensures ok { let words = current_words (R.memory region.now) in
-        OnOk result (AreApart words (places_of (take count entries.old))) }
+        OnOk result (HaveOwnNames words (places_of (take count entries.old))) }
     ensures err { let words = current_words (R.memory region.now) in
         IfErr result (IsStop words (places_of (take count entries.old))) }
     ensures room { length entries.new ≡ length entries.old }

@@ -4,7 +4,7 @@ ghost use Rattle.std.specs.Prelude.{◌≡◌, ◌+◌, All, IsPermutation, Matc
 ghost use Rattle.std.specs.List.Sorted.{IsSortedBy};
 ghost use Rattle.bp_layout.specs.Words.{word};
 ghost use Rattle.bp_spelling.specs.Hashes.{IsSpelled, places_of, spelled_cmp, spelled_lt};
-ghost use Rattle.bp_spelling.specs.Places.{rest_cmp, name_cmp, AreApart, IsDouble};
+ghost use Rattle.bp_spelling.specs.Places.{rest_cmp, name_cmp, HaveOwnNames, IsDouble};
 ghost use Rattle.pm_region.specs.Memory.{current_words};
 
 use crate::entry::Spelled;
@@ -66,7 +66,7 @@ pub(crate) fn find_double<R: Region>(region: &R, entries: &mut [Spelled]) -> Opt
     requires { All (IsSpelled (current_words (R.memory region.now))) entries.old }
     ensures same { IsPermutation entries.old entries.new }
     ensures double { let words = current_words (R.memory region.now) in
-        MatchOption result (AreApart words (places_of entries.new)) (IsDouble words (places_of entries.new)) }
+        MatchOption result (HaveOwnNames words (places_of entries.new)) (IsDouble words (places_of entries.new)) }
 {
     sort_by_name(region, entries);
     for i in 1..entries.len() {

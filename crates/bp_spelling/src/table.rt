@@ -2,7 +2,7 @@
 
 ghost use Rattle.std.specs.Prelude.{◌≡◌, ◌<◌, length, All, OnOk, IfErr};
 ghost use Rattle.bp_spelling.specs.Hashes.{IsSpelled, places_of};
-ghost use Rattle.bp_spelling.specs.Places.{AreApart};
+ghost use Rattle.bp_spelling.specs.Places.{HaveOwnNames};
 ghost use Rattle.bp_spelling.specs.Tables.{home, IsPresent, Puts, IsClash, IsStop};
 ghost use Rattle.pm_region.specs.Memory.{current_words};
 
@@ -69,7 +69,7 @@ pub(crate) fn check_by_table<R: Region>(
     requires spelled { All (IsSpelled (current_words (R.memory region.now))) entries.now }
     requires present { All IsPresent entries.now }
     requires room { 128 < length table.old }
-    ensures ok { OnOk result (AreApart (current_words (R.memory region.now)) (places_of entries.now)) }
+    ensures ok { OnOk result (HaveOwnNames (current_words (R.memory region.now)) (places_of entries.now)) }
     ensures err { IfErr result (IsStop (current_words (R.memory region.now)) (places_of entries.now)) }
     ensures room { length table.new ≡ length table.old }
 {

@@ -14,7 +14,7 @@ use Rattle.bp_changes.proofs.AddsNames.{names_added, node_of_new, linked_well_fo
 use Rattle.bp_changes.proofs.Link.{CanLink, entry_adds, name_of_new}
 use Rattle.bp_changes.proofs.LinkInPlace.{store_adds}
 use Rattle.bp_changes.proofs.Unlink as unlink
-use Rattle.bp_plain.specs.Plain.{with_node, without}
+use Rattle.bp_plain.specs.Plain.{with_node, with_nothing_at}
 use Rattle.bp_plain.specs.PlainTree.{FileTree, path_cmp}
 use Rattle.bp_plain.specs.Stands.{Stands}
 use Rattle.bp_plain.proofs.Uniqueness.{path_cmp-IsTotalOrder, same_path_from, other_path_from}
@@ -61,11 +61,11 @@ store_stands old wf i s j place can stands tree parent at found =
 
 -- the tree loses the name
 pub unlink_stands : (old new : Image) (wf : IsWellFormed old) (i s j : ℕ) → CanUnlink old i s j → RemovesEntry old new i s →
-    (parent : Path) → lookup old parent ≡ Some i → (tree : FileTree) → Stands old tree → Stands new (without tree (parent ++ name_at old i s ∷ []))
+    (parent : Path) → lookup old parent ≡ Some i → (tree : FileTree) → Stands old tree → Stands new (with_nothing_at tree (parent ++ name_at old i s ∷ []))
 unlink_stands old new wf i s j can removes parent at tree stands =
     record { well_formed = unlink.unlinked_well_formed old new wf i s j can removes; shows = λ path. go path (eq_by_cmp path_cmp path (parent ++ name_at old i s ∷ [])) refl }
   where
-    go : (path : Path) (b : Bool) → eq_by_cmp path_cmp path (parent ++ name_at old i s ∷ []) ≡ b → get (without tree (parent ++ name_at old i s ∷ [])) path ≡ shown new path
+    go : (path : Path) (b : Bool) → eq_by_cmp path_cmp path (parent ++ name_at old i s ∷ []) ≡ b → get (with_nothing_at tree (parent ++ name_at old i s ∷ [])) path ≡ shown new path
     go path true e =
         get-remove path_cmp-IsTotalOrder tree (parent ++ name_at old i s ∷ []) path
         ∙ rw (e, same_path_from path (parent ++ name_at old i s ∷ []) e) (sym (unlink.shown_there old new wf i s j can removes parent at))

@@ -13,7 +13,7 @@ use Rattle.bp_layout.specs.Reached.IsReached.{inode_file}
 use Rattle.bp_layout.specs.WellFormed.{IsWellFormed}
 use Rattle.bp_layout.specs.Nodes.{TreeNode, is_present}
 use Rattle.bp_layout.specs.WordPaths.{WordPath, digits, inode_path, tree_path}
-use Rattle.bp_layout.specs.Need.{Change, height_after, touched, number_of, pointed, same_node, preparation, is_there, is_there_after, existing_from, cover_of, cover, prefixes_of, copies_of, copied, content_path}
+use Rattle.bp_layout.specs.Need.{Change, height_after, touched, path_number, pointed, same_node, preparation, is_there, is_there_after, existing_from, cover_of, cover, prefixes_of, copies_of, copied, content_path}
 use Rattle.bp_layout.proofs.Addresses.{IsUnderNodes, present_above}
 use Rattle.bp_layout.proofs.Reached.{reached-in_file}
 use Rattle.bp_layout.proofs.TreeLaws.{first_index, live_above, live_pointer_word, live_content}
@@ -21,17 +21,17 @@ use Rattle.bp_tree.proofs.Digits.{length-digits}
 
 -- ---- the number that digits tell
 
-number-append : (ds : List ℕ) (d : ℕ) → number_of (ds ++ d ∷ []) ≡ 512 * number_of ds + d
+number-append : (ds : List ℕ) (d : ℕ) → path_number (ds ++ d ∷ []) ≡ 512 * path_number ds + d
 number-append ds d = fold-append (λ (n : ℕ) (d : ℕ). 512 * n + d) 0 ds (d ∷ [])
 
 -- a live word has as many digits as its depth
-pub number-digits : (root size d k : ℕ) → size ≤ covered (suc (height_of root)) → IsLiveWord root size d k → number_of (digits d k) ≡ k
+pub number-digits : (root size d k : ℕ) → size ≤ covered (suc (height_of root)) → IsLiveWord root size d k → path_number (digits d k) ≡ k
 number-digits root size zero k fits live =
     let rank : live.rank ≡ suc (height_of root) = omega (arith, live.height) in
     let top : IsLivePointer root size 0 k = record { level = height_of root; height = omega arith; live = subst (λ r. k * covered r < size) rank live.live } in
     sym (first_index root size k fits top)
 number-digits root size (suc d) k fits live =
-    let above : number_of (digits d (k / 512)) ≡ k / 512 = number-digits root size d (k / 512) fits (live_pointer_word root size d (k / 512) (live_above root size d k live)) in
+    let above : path_number (digits d (k / 512)) ≡ k / 512 = number-digits root size d (k / 512) fits (live_pointer_word root size d (k / 512) (live_above root size d k live)) in
     number-append (digits d (k / 512)) (k % 512) ∙ omega (arith, above)
 
 -- ---- a path each proper prefix of which points to a node that is there
@@ -110,19 +110,19 @@ pub reads-inodes : (heights : ℕ → ℕ) (image : Image) → heights 0 ≡ hei
     (d k : ℕ) → IsLivePointer (root_of image 0) (size_of image 0) d k → pointed heights (digits d k) ≡ node_under image 0 d k
 reads-inodes heights image same fits d k live = rw (length-digits, number, same, le-leb _ _ low) refl
   where
-    number : number_of (digits d k) ≡ k
+    number : path_number (digits d k) ≡ k
     number = number-digits (root_of image 0) (size_of image 0) d k fits (live_pointer_word _ _ d k live)
 
     low : d ≤ height_of (root_of image 0)
     low = omega (arith, live.height)
 
 -- behind the path of its root word
-pub reads-tree : (heights : ℕ → ℕ) (image : Image) (t : ℕ) (base : WordPath) → length base ≡ suc (heights 0) → number_of base / 8 ≡ t → heights t ≡ height_of (root_of image t) →
+pub reads-tree : (heights : ℕ → ℕ) (image : Image) (t : ℕ) (base : WordPath) → length base ≡ suc (heights 0) → path_number base / 8 ≡ t → heights t ≡ height_of (root_of image t) →
     size_of image t ≤ covered (suc (height_of (root_of image t))) →
     (d k : ℕ) → IsLivePointer (root_of image t) (size_of image t) d k → pointed heights (base ++ digits d k) ≡ node_under image t d k
 reads-tree heights image t base whole tree same fits d k live = rw (← whole, long, take-append_seam, drop-append_seam, tree, same, number, depth) refl
   where
-    number : number_of (digits d k) ≡ k
+    number : path_number (digits d k) ≡ k
     number = number-digits (root_of image t) (size_of image t) d k fits (live_pointer_word _ _ d k live)
 
     count : length (base ++ digits d k) ≡ length base + d
@@ -178,10 +178,10 @@ module _ (image : Image) (change : Change) (wf : IsWellFormed image) (low_tree :
       word : IsLiveWord (root_of image 0) (size_of image 0) (suc (height_after image change 0)) (8 * suc i + 1)
       word = rw low_tree (live_content (root_of image 0) (size_of image 0) (8 * suc i + 1) (omega (arith, inside)))
 
-      number : number_of (inode_path (height_after image change 0) (suc i) 1) ≡ 8 * suc i + 1
+      number : path_number (inode_path (height_after image change 0) (suc i) 1) ≡ 8 * suc i + 1
       number = number-digits (root_of image 0) (size_of image 0) (suc (height_after image change 0)) (8 * suc i + 1) inodes.fits word
 
-      tree : number_of (inode_path (height_after image change 0) (suc i) 1) / 8 ≡ suc i
+      tree : path_number (inode_path (height_after image change 0) (suc i) 1) / 8 ≡ suc i
       tree = omega (arith, number)
 
   -- a content word of a tree without a null

@@ -18,7 +18,7 @@ use Rattle.bp_plain.specs.Calls.{Answer, Refusal}
 use Rattle.bp_plain.specs.Calls.Call.{list, read, stat}
 use Rattle.bp_plain.specs.Calls.Refusal.{not_dir, is_dir, no_memory}
 use Rattle.bp_plain.specs.Calls.Answer.{refused, bytes, names, file_of, dir_of}
-use Rattle.bp_plain.specs.Plain.{walk, refusal, on_parsed, first, when, listing, stat_answer, path_of, bytes_in, bytes_at}
+use Rattle.bp_plain.specs.Plain.{walk, refusal, on_parsed, first, when, listing, stat_answer, path_named, bytes_in, bytes_at}
 use Rattle.bp_layout.specs.WellFormed.{IsWellFormed}
 use Rattle.bp_dirs.specs.Names.{name_count}
 use Rattle.bp_volume.specs.Step.{PathFinds}
@@ -79,7 +79,7 @@ module _ (image : Image) (text : List ℕ) where
   read_stops off len why stops tree stands = refused_steps image tree (read text off len) why (stops tree stands)
 
   module _ (i : ℕ) (at : PathFinds image text i) where
-    path_is : path_of text ≡ at.path
+    path_is : path_named text ≡ at.path
     path_is = ap (λ (o : Option Path). unwrap_or o []) at.parsed
 
     pub stat_tells : (told : Answer) → ((tree : FileTree) (here : Path) → Stands image tree → lookup image here ≡ Some i → stat_answer tree here (get tree here) ≡ told) → Tells image (stat text) told

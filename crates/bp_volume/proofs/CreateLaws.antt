@@ -23,7 +23,7 @@ use Rattle.bp_plain.specs.Stands.{Stands}
 use Rattle.bp_plain.specs.Calls.{Refusal}
 use Rattle.bp_plain.specs.Calls.Call.{create, mkdir}
 use Rattle.bp_plain.specs.Calls.Refusal.{exists, not_dir}
-use Rattle.bp_plain.specs.Plain.{walk_parent, on_parsed, on_path, first, when, is_dir_at, is_root_path, parent_of, path_of, tree_after, with_bytes, with_node}
+use Rattle.bp_plain.specs.Plain.{walk_parent, on_parsed, on_path, first, when, is_dir_at, is_root_path, parent_of, path_named, tree_after, with_bytes, with_node}
 use Rattle.bp_shapes.specs.Sets.{AreExact}
 use Rattle.bp_volume.specs.Carried.{making}
 use Rattle.bp_volume.specs.Step.{IsChange, FindsNew, last_of}
@@ -116,7 +116,7 @@ module _ (image : Image) (text : List ℕ) (i : ℕ) (name : Name) (names : Find
     making_makes File = record { is = by_create names tells; alike = need_file; allowed = goes; changing = λ tree stands. refl; says = λ tree. refl }
     making_makes Dir = record { is = by_mkdir names tells; alike = need_dir; allowed = goes; changing = λ tree stands. refl; says = λ tree. refl }
 
-  text_path : path_of text ≡ parent_of names.path ++ name ∷ []
+  text_path : path_named text ≡ parent_of names.path ++ name ∷ []
   text_path =
       ap (λ (o : Option Path). unwrap_or o []) names.parsed ∙ path_is image names.path names.new.below i names.new.parent names.new.directory name names.new.last
 

@@ -18,7 +18,7 @@ use Rattle.bp_plain.specs.Calls.{Refusal}
 use Rattle.bp_plain.specs.Calls.Answer.{done, refused}
 use Rattle.bp_plain.specs.Calls.Call.{write, truncate}
 use Rattle.bp_plain.specs.Calls.Refusal.{is_dir, too_long, too_big}
-use Rattle.bp_plain.specs.Plain.{refusal, walk, on_path, on_parsed, first, when, is_dir_at, path_of, bytes_in, bytes_at, tree_after, with_bytes, written, resized}
+use Rattle.bp_plain.specs.Plain.{refusal, walk, on_path, on_parsed, first, when, is_dir_at, path_named, bytes_in, bytes_at, tree_after, with_bytes, written, resized}
 use Rattle.bp_plain.specs.PlainTree.{FileTree}
 use Rattle.bp_plain.specs.Stands.{Stands}
 use Rattle.bp_volume.specs.Step.{IsChange, PathFinds}
@@ -70,7 +70,7 @@ module _ (image : Image) (text : List ℕ) (i : ℕ) (at : PathFinds image text 
   had_length : length had ≡ size_of image i
   had_length = length-map-range_with_len (byte image (root_of image i)) 0 (size_of image i)
 
-  path_is : path_of text ≡ at.path
+  path_is : path_named text ≡ at.path
   path_is = ap (λ (o : Option Path). unwrap_or o []) at.parsed
 
   -- the text spells no other path
@@ -88,7 +88,7 @@ module _ (image : Image) (text : List ℕ) (i : ℕ) (at : PathFinds image text 
         ∙ ap (λ o. first (o ∷ when (is_dir_at tree at.path) is_dir ∷ others at.path)) (walk-found image tree stands at.path i at.inode)
         ∙ ap (λ b. first (when b is_dir ∷ others at.path)) (dir_at image tree stands at.path i at.inode ∙ ap (λ k. k == 2) kind)
 
-    has_bytes : length (bytes_at tree (path_of text)) ≡ size_of image i
+    has_bytes : length (bytes_at tree (path_named text)) ≡ size_of image i
     has_bytes =
         ap (λ p. length (bytes_at tree p)) path_is
         ∙ ap (λ o. length (bytes_in o)) (node_at image tree stands at.path i at.inode ∙ ap (λ k. Some (if k == 1 then file had else dir)) kind)
@@ -141,7 +141,7 @@ module _ (image : Image) (text : List ℕ) (i : ℕ) (at : PathFinds image text 
     -- the size that it has changes nothing
     pub truncate_nothing : size ≤ max_size → size ≡ size_of image i → Tells image (truncate text size) done
     truncate_nothing fits same tree stands =
-        answer_steps image tree (truncate text size) done (truncate_goes fits tree stands) (ap not (eq-eqb size (length (bytes_at tree (path_of text))) (same ∙ sym (has_bytes tree stands)))) refl
+        answer_steps image tree (truncate text size) done (truncate_goes fits tree stands) (ap not (eq-eqb size (length (bytes_at tree (path_named text))) (same ∙ sym (has_bytes tree stands)))) refl
 
     truncate_need : (other : Change) → IsChange image (truncate text size) other → need image other ≡ need image (resizes i size)
     truncate_need _ (by_truncate {i = k} finds) = ap (λ j. need image (resizes j size)) (same_file k finds)
@@ -151,7 +151,7 @@ module _ (image : Image) (text : List ℕ) (i : ℕ) (at : PathFinds image text 
       is = by_truncate at;
       alike = truncate_need;
       allowed = truncate_goes fits;
-      changing = λ tree stands. ap not (ne_eqb size (length (bytes_at tree (path_of text))) (λ e. other (e ∙ has_bytes tree stands)));
+      changing = λ tree stands. ap not (ne_eqb size (length (bytes_at tree (path_named text))) (λ e. other (e ∙ has_bytes tree stands)));
       says = λ tree. refl;
     }
 

@@ -18,7 +18,7 @@ use Rattle.bp_layout.specs.Words.{Image}
 use Rattle.bp_plain.specs.Calls.{Refusal}
 use Rattle.bp_plain.specs.Calls.Call.{unlink, rmdir}
 use Rattle.bp_plain.specs.Calls.Refusal.{is_dir, is_root, not_dir, not_empty}
-use Rattle.bp_plain.specs.Plain.{walk, on_path, on_parsed, first, when, is_dir_at, is_empty_dir, is_root_path, parent_of, path_of, refusal, without}
+use Rattle.bp_plain.specs.Plain.{walk, on_path, on_parsed, first, when, is_dir_at, is_empty_dir, is_root_path, parent_of, path_named, refusal, with_nothing_at}
 use Rattle.bp_plain.specs.PlainTree.{FileTree}
 use Rattle.bp_plain.specs.Stands.{Stands}
 use Rattle.bp_volume.specs.Step.{FindsEntry, IsChange, StandsIn, last_of}
@@ -82,7 +82,7 @@ module _ (image : Image) (text : List ℕ) (i s j : ℕ) (at : FindsEntry image 
       let slot : r ≡ s = cc in
       (directory, slot)
 
-  here : parent_of at.path ++ name_at image i s ∷ [] ≡ path_of text
+  here : parent_of at.path ++ name_at image i s ∷ [] ≡ path_named text
   here =
       ap (λ n. parent_of at.path ++ n ∷ []) (found_spelled image (parent_of at.path) (last_of at.path) i s j is_found)
       ∙ sym by_last
@@ -92,8 +92,8 @@ module _ (image : Image) (text : List ℕ) (i s j : ℕ) (at : FindsEntry image 
   pub leaves_few : IsWellFormed image → CanUnlink image i s (inumber_at image i s) → IsFew (need image (leaves i s))
   leaves_few wf can = few_left image wf i s can.reached (omega (arith, can.entry.in_size))
 
-  pub name_lost : (after : Image) → LosesName i s image after → (tree : FileTree) → Stands image tree → Stands after (without tree (path_of text))
-  name_lost after loses tree stands = subst (λ p. Stands after (without tree p)) here (loses tree (parent_of at.path) stands at.entry.parent)
+  pub name_lost : (after : Image) → LosesName i s image after → (tree : FileTree) → Stands image tree → Stands after (with_nothing_at tree (path_named text))
+  name_lost after loses tree stands = subst (λ p. Stands after (with_nothing_at tree p)) here (loses tree (parent_of at.path) stands at.entry.parent)
 
   module _ (tree : FileTree) (stands : Stands image tree) where
     behind : (root : Refusal) (others : Path → List (Option Refusal)) → on_path text (λ p. first (when (is_root_path p) root ∷ walk tree p ∷ others p)) ≡ first (others at.path)

@@ -18,7 +18,7 @@ use Rattle.bp_layout.specs.Words.{Image}
 use Rattle.bp_layout.proofs.Below.{rest_below-append, rest_below-is}
 use Rattle.bp_path.specs.declared.steps.Place.{Place}
 use Rattle.bp_plain.specs.Calls.Call.{rename}
-use Rattle.bp_plain.specs.Plain.{moved, moves_below, parent_of, path_of, tree_after}
+use Rattle.bp_plain.specs.Plain.{moved, moves_below, parent_of, path_named, tree_after}
 use Rattle.bp_plain.specs.PlainTree.{FileTree}
 use Rattle.bp_plain.specs.Stands.{Stands}
 use Rattle.bp_rename.specs.CanRename.{CanRename, change_of, change_to}
@@ -196,7 +196,7 @@ module _ (image : Image) (from to : List ℕ) (ends : Ends) (may : MayMove image
 
     pub moving_becomes : (after : Image) → MovesPath move image after → (tree : FileTree) → Stands image tree → Stands after (tree_after tree (rename from to))
     moving_becomes after renames tree stands =
-        subst (λ a. Stands after (moved (path_of from) a tree)) (sym (target_is image from to ends found))
+        subst (λ a. Stands after (moved (path_named from) a tree)) (sym (target_is image from to ends found))
         (subst (λ a. Stands after (moved a q tree)) (sym (source_is image from to ends found))
         (subst (λ a. Stands after (moved p a tree)) whole (subst (λ a. Stands after (moved a (parent_of q ++ move.name.now ∷ []) tree)) named
         (renames tree (parent_of p) (parent_of q) stands (found.are.source.parent ∙ ap Some (sym is.from_dir)) (found.are.target.parent ∙ ap Some (sym is.to_dir))

@@ -20,7 +20,7 @@ use Rattle.bp_plain.specs.Calls.{Refusal}
 use Rattle.bp_plain.specs.Calls.Answer.{done}
 use Rattle.bp_plain.specs.Calls.Call.{rename}
 use Rattle.bp_plain.specs.Calls.Refusal.{bad_path, into_self, is_dir, is_root, not_dir, not_empty}
-use Rattle.bp_plain.specs.Plain.{changes, first, is_a_dir, is_dir_at, is_empty_dir, is_root_path, move_refusal, moves_below, moves_dir_onto_file, moves_file_onto_dir, moves_onto_names, on_parsed, on_path, parent_of, path_of, refusal, walk, walk_parent, when}
+use Rattle.bp_plain.specs.Plain.{changes, first, is_a_dir, is_dir_at, is_empty_dir, is_root_path, move_refusal, moves_below, moves_dir_onto_file, moves_file_onto_dir, moves_onto_names, on_parsed, on_path, parent_of, path_named, refusal, walk, walk_parent, when}
 use Rattle.bp_plain.specs.PlainTree.{FileTree}
 use Rattle.bp_plain.specs.Stands.{Stands}
 use Rattle.bp_volume.specs.Renaming.{Allows, AreEnds, FindsEnds, IsTarget, MayMove, are_same, is_inode}
@@ -224,10 +224,10 @@ module _ (image : Image) (from to : List ℕ) (ends : Ends) (found : FindsEnds i
   pub found_goes : ((tree : FileTree) → Stands image tree → move_refusal tree found.source_path found.target_path ≡ None) → Allows image (rename from to)
   found_goes goes tree stands = spelled image from to found.source_path found.source_parsed found.target_path found.target_parsed tree ∙ goes tree stands
 
-  pub source_is : path_of from ≡ found.source_path
+  pub source_is : path_named from ≡ found.source_path
   source_is = ap (λ (o : Option Path). unwrap_or o []) found.source_parsed
 
-  pub target_is : path_of to ≡ found.target_path
+  pub target_is : path_named to ≡ found.target_path
   target_is = ap (λ (o : Option Path). unwrap_or o []) found.target_parsed
 
   -- a name that is to move onto itself

@@ -74,21 +74,21 @@ module _ (image : Image) (tree : FileTree) (stands : Stands image tree) where
   get-next here i name e = stands.shows (here ++ name ∷ []) ∙ ap (option_map (node_of image)) (lookup-next here i name e)
 
   -- the refusal of a walk that goes on from a path
-  walk_from-image : (here : Path) (i : ℕ) (path : Path) → lookup image here ≡ Some i → plain.walk_from tree here path ≡ refusal_of_walk (walk_from image i path)
+  walk_from-image : (here : Path) (i : ℕ) (path : Path) → lookup image here ≡ Some i → plain.first_refusal_from tree here path ≡ refusal_of_walk (walk_from image i path)
   walk_from-image here i [] e = refl
   walk_from-image here i (name ∷ path) e =
       in_dir (λ j at. walk_from-image (here ++ name ∷ []) j path (lookup-next here i name e ∙ at)) (kind_of image i == 2) refl
     where
-      step : ((j : ℕ) → lookup_in image i name ≡ Some j → plain.walk_from tree (here ++ name ∷ []) path ≡ refusal_of_walk (walk_from image j path)) →
+      step : ((j : ℕ) → lookup_in image i name ≡ Some j → plain.first_refusal_from tree (here ++ name ∷ []) path ≡ refusal_of_walk (walk_from image j path)) →
           (j : Option ℕ) → lookup_in image i name ≡ j →
-          first (when (is_none (option_map (node_of image) j)) not_found ∷ plain.walk_from tree (here ++ name ∷ []) path ∷ []) ≡ refusal_of_walk (onward (λ j. walk_from image j path) j)
+          first (when (is_none (option_map (node_of image) j)) not_found ∷ plain.first_refusal_from tree (here ++ name ∷ []) path ∷ []) ≡ refusal_of_walk (onward (λ j. walk_from image j path) j)
       step rest None at = refl
-      step rest (Some j) at = first_one (plain.walk_from tree (here ++ name ∷ []) path) ∙ rest j at
+      step rest (Some j) at = first_one (plain.first_refusal_from tree (here ++ name ∷ []) path) ∙ rest j at
 
-      in_dir : ((j : ℕ) → lookup_in image i name ≡ Some j → plain.walk_from tree (here ++ name ∷ []) path ≡ refusal_of_walk (walk_from image j path)) →
-          (b : Bool) → (kind_of image i == 2) ≡ b → plain.walk_from tree here (name ∷ path) ≡ refusal_of_walk (walk_from image i (name ∷ path))
+      in_dir : ((j : ℕ) → lookup_in image i name ≡ Some j → plain.first_refusal_from tree (here ++ name ∷ []) path ≡ refusal_of_walk (walk_from image j path)) →
+          (b : Bool) → (kind_of image i == 2) ≡ b → plain.first_refusal_from tree here (name ∷ path) ≡ refusal_of_walk (walk_from image i (name ∷ path))
       in_dir rest true at =
-          let below = plain.walk_from tree (here ++ name ∷ []) path in
+          let below = plain.first_refusal_from tree (here ++ name ∷ []) path in
           ap (λ b. first (when (not b) not_dir ∷ when (is_none (get tree (here ++ name ∷ []))) not_found ∷ below ∷ [])) (dir_at here i e ∙ at)
           ∙ ap (λ o. first (when (is_none o) not_found ∷ below ∷ [])) (get-next here i name e)
           ∙ step rest (lookup_in image i name) refl

@@ -10,8 +10,8 @@ use Rattle.bp_layout.specs.declared.check.Check.{Check}
 use Rattle.bp_layout.specs.declared.check.Check.TheVariants.{BlockTwice}
 use Rattle.bp_layout.proofs.TreeLaws.{live_above, live_pointer_word}
 use Rattle.bp_walk.specs.Taken.{block_at, NamesBlock, Takes}
-use Rattle.bp_walk.specs.Walk.{IsUnder, IsPlace, IsBelow, WalksBelow, FailsBelow}
-use Rattle.bp_walk.specs.Walk.IsUnder.{here, under}
+use Rattle.bp_walk.specs.Walk.{IsPointerUnder, IsPlace, IsBelow, WalksBelow, FailsBelow}
+use Rattle.bp_walk.specs.Walk.IsPointerUnder.{here, under}
 use Rattle.bp_walk.specs.Walk.FailsBelow.{bits, range, hole, taken, twice}
 use Rattle.bp_walk.proofs.TakenLaws.{clash, known, take_none, take_same, take_both, has_other, has_less}
 use Rattle.bp_walk.proofs.Places.{word_below}
@@ -34,28 +34,28 @@ in_row b r q low at = omega arith
 same_slot : (b r s : ℕ) → 512 * b + r ≡ 512 * b + s → r ≡ s
 same_slot b r s same = omega arith
 
-pub live_up : (root size d k e l : ℕ) → IsUnder d k e l → IsLivePointer root size e l → IsLivePointer root size d k
+pub live_up : (root size d k e l : ℕ) → IsPointerUnder d k e l → IsLivePointer root size e l → IsLivePointer root size d k
 live_up root size d k _ _ here live = live
 live_up root size d k _ l (under {e = e} u) live = live_up root size d k e (l / 512) u (live_above _ _ e l (live_pointer_word _ _ (suc e) l live))
 
-followed_up : (image : Image) (root size d k e l : ℕ) → IsUnder d k e l → IsFollowed image root size e l → IsFollowed image root size d k
+followed_up : (image : Image) (root size d k e l : ℕ) → IsPointerUnder d k e l → IsFollowed image root size e l → IsFollowed image root size d k
 followed_up image root size d k _ _ here f = f
 followed_up image root size d k _ l (under {e = e} u) f = followed_up image root size d k e (l / 512) u f.1
 
-deeper : (d k e l : ℕ) → IsUnder d k e l → d ≤ e
+deeper : (d k e l : ℕ) → IsPointerUnder d k e l → d ≤ e
 deeper d k _ _ here = omega arith
 deeper d k _ l (under {e = e} u) = let low : d ≤ e = deeper d k e (l / 512) u in omega (arith, low)
 
-lift : (d k r e l : ℕ) → r < 512 → IsUnder (suc d) (512 * k + r) e l → IsUnder d k e l
-lift d k r _ _ low here = under (subst (λ (x : ℕ). IsUnder d k d x) (sym (row k r low)) here)
+lift : (d k r e l : ℕ) → r < 512 → IsPointerUnder (suc d) (512 * k + r) e l → IsPointerUnder d k e l
+lift d k r _ _ low here = under (subst (λ (x : ℕ). IsPointerUnder d k d x) (sym (row k r low)) here)
 lift d k r _ l low (under {e = e} u) = under (lift d k r e (l / 512) low u)
 
 pub record Strict (d k e l : ℕ) : Type 0 where
   pub slot : ℕ
   pub low : slot < 512
-  pub below : IsUnder (suc d) (512 * k + slot) e l
+  pub below : IsPointerUnder (suc d) (512 * k + slot) e l
 
-pub split : (d k e l : ℕ) → IsUnder d k e l → ((d ≡ e) × (k ≡ l)) ⊎ Strict d k e l
+pub split : (d k e l : ℕ) → IsPointerUnder d k e l → ((d ≡ e) × (k ≡ l)) ⊎ Strict d k e l
 split d k _ _ here = inl (refl, refl)
 split d k _ l (under {e = e} u) = go (split d k e (l / 512) u)
   where
@@ -65,14 +65,14 @@ split d k _ l (under {e = e} u) = go (split d k e (l / 512) u)
         inr (record {
           slot = l % 512;
           low = low_slot l;
-          below = subst (λ (x : ℕ). IsUnder (suc d) (512 * k + l % 512) (suc x) l) same.0 (subst (λ (x : ℕ). IsUnder (suc d) (512 * k + l % 512) (suc d) x) number here);
+          below = subst (λ (x : ℕ). IsPointerUnder (suc d) (512 * k + l % 512) (suc x) l) same.0 (subst (λ (x : ℕ). IsPointerUnder (suc d) (512 * k + l % 512) (suc d) x) number here);
         })
     go (inr s) = inr (record { slot = s.slot; low = s.low; below = under s.below })
 
 pub place_word : (image : Image) (at root size d k p : ℕ) → IsPlace image at root size (suc d) k p → block_at image p ≡ node image root (suc d) k
 place_word image at root size d k p is = ap block_of (ap (word image) (sym is.stands) ∙ word_below image at root d k is.followed.3)
 
-below_word : (image : Image) (at root size d n e l p : ℕ) → IsUnder (suc d) n e l → IsPlace image at root size e l p → block_at image p ≡ node image root e l
+below_word : (image : Image) (at root size d n e l p : ℕ) → IsPointerUnder (suc d) n e l → IsPlace image at root size e l p → block_at image p ≡ node image root e l
 below_word image at root size d n _ _ p here is = place_word image at root size d n p is
 below_word image at root size d n _ l p (under {e = e} u) is = place_word image at root size e l p is
 
@@ -101,7 +101,7 @@ child_place image at root size d k s b low named live followed =
 module _ (image : Image) (at root size : ℕ) (holes : Bool) where
   -- a walk where there is nothing below
   nothing : (d k : ℕ) (set : Set) →
-      ((slot e l : ℕ) → slot < 512 → IsUnder (suc d) (512 * k + slot) e l → IsLivePointer root size e l → IsFollowed image root size e l → ⊥) → WalksBelow image at root size holes d k 512 set set
+      ((slot e l : ℕ) → slot < 512 → IsPointerUnder (suc d) (512 * k + slot) e l → IsLivePointer root size e l → IsFollowed image root size e l → ⊥) → WalksBelow image at root size holes d k 512 set set
   nothing d k set none = record {
     takes = take_same image (λ p. ⊥) (IsBelow image at root size d k 512) set set (λ p never. absurd never) (λ p i. none i.slot i.depth i.index i.low i.under i.is.live i.is.followed) (take_none image set);
     passing = λ slot e l low u live followed. absurd (none slot e l low u live followed);
@@ -110,7 +110,7 @@ module _ (image : Image) (at root size : ℕ) (holes : Bool) where
   pub leaf : (d k : ℕ) (set : Set) → height_of root ≤ d → WalksBelow image at root size holes d k 512 set set
   leaf d k set bottom = nothing d k set (λ slot e l low u live followed. deep slot e l u live)
     where
-      deep : (slot e l : ℕ) → IsUnder (suc d) (512 * k + slot) e l → IsLivePointer root size e l → ⊥
+      deep : (slot e l : ℕ) → IsPointerUnder (suc d) (512 * k + slot) e l → IsLivePointer root size e l → ⊥
       deep slot e l u live = let low : suc d ≤ e = deeper (suc d) (512 * k + slot) e l u in omega (arith, low, bottom, live.height)
 
   pub null : (d k : ℕ) (set : Set) → node image root d k ≡ 0 → WalksBelow image at root size holes d k 512 set set
@@ -148,7 +148,7 @@ module _ (image : Image) (at root size : ℕ) (holes : Bool) where
         is = i.is;
       }
 
-      go : (slot e l : ℕ) → slot < 512 → IsUnder (suc d) (512 * k + slot) e l → IsLivePointer root size e l → IsFollowed image root size e l → (slot < s) ⊎ (s ≤ slot) →
+      go : (slot e l : ℕ) → slot < 512 → IsPointerUnder (suc d) (512 * k + slot) e l → IsLivePointer root size e l → IsFollowed image root size e l → (slot < s) ⊎ (s ≤ slot) →
           Passes image root e l × (holes ≡ false → node image root e l ≢ 0)
       go slot e l within u live followed (inl low) = walks.passing slot e l low u live followed
       go slot e l within u live followed (inr high) = absurd (dead slot high within (live_up root size (suc d) (512 * k + slot) e l u live))
@@ -182,7 +182,7 @@ module _ (image : Image) (at root size : ℕ) (holes : Bool) where
         back p i (inl lower) = inl (inl (record { slot = i.slot; low = lower; depth = i.depth; index = i.index; under = i.under; is = i.is }))
         back p i (inr high) =
             let same : i.slot ≡ s = omega (arith, i.low, high) in
-            at_slot p i.depth i.index i.is (split (suc d) (512 * k + s) i.depth i.index (subst (λ (x : ℕ). IsUnder (suc d) (512 * k + x) i.depth i.index) same i.under))
+            at_slot p i.depth i.index i.is (split (suc d) (512 * k + s) i.depth i.index (subst (λ (x : ℕ). IsPointerUnder (suc d) (512 * k + x) i.depth i.index) same i.under))
 
         here_or : (e l : ℕ) → IsLivePointer root size e l → IsFollowed image root size e l → ((suc d ≡ e) × (512 * k + s ≡ l)) ⊎ Strict (suc d) (512 * k + s) e l →
             Passes image root e l × (holes ≡ false → node image root e l ≢ 0)
@@ -191,19 +191,19 @@ module _ (image : Image) (at root size : ℕ) (holes : Bool) where
             (subst (λ (x : ℕ). Passes image root (suc d) x × (holes ≡ false → node image root (suc d) x ≢ 0)) same.1 (passes, full))
         here_or e l live followed (inr t) = below.passing t.slot e l t.low t.below live followed
 
-        go : (slot e l : ℕ) → slot < s + 1 → IsUnder (suc d) (512 * k + slot) e l → IsLivePointer root size e l → IsFollowed image root size e l → (slot < s) ⊎ (s ≤ slot) →
+        go : (slot e l : ℕ) → slot < s + 1 → IsPointerUnder (suc d) (512 * k + slot) e l → IsLivePointer root size e l → IsFollowed image root size e l → (slot < s) ⊎ (s ≤ slot) →
             Passes image root e l × (holes ≡ false → node image root e l ≢ 0)
         go slot e l lower u live followed (inl less) = walks.passing slot e l less u live followed
         go slot e l lower u live followed (inr high) =
             let same : slot ≡ s = omega (arith, lower, high) in
-            here_or e l live followed (split (suc d) (512 * k + s) e l (subst (λ (x : ℕ). IsUnder (suc d) (512 * k + x) e l) same u))
+            here_or e l live followed (split (suc d) (512 * k + s) e l (subst (λ (x : ℕ). IsPointerUnder (suc d) (512 * k + x) e l) same u))
 
     -- where the places stand that were walked over
     data Stands (q : ℕ) : Type 0 where
       slot_of : (r : ℕ) → r < s → 512 * b + r ≡ q → Stands q
       deep : has old (q / 512) ≡ true → has now (q / 512) ≡ false → Stands q
 
-    stands_at : (q slot e l : ℕ) → slot < s → IsUnder (suc d) (512 * k + slot) e l → IsPlace image at root size e l q → Stands q
+    stands_at : (q slot e l : ℕ) → slot < s → IsPointerUnder (suc d) (512 * k + slot) e l → IsPlace image at root size e l q → Stands q
     stands_at q slot _ _ lower here is =
         let less : slot < 512 = omega (arith, lower, low) in
         let above : node image root d ((512 * k + slot) / 512) ≡ b = ap (node image root d) (row k slot less) ∙ named in
@@ -228,7 +228,7 @@ module _ (image : Image) (at root size : ℕ) (holes : Bool) where
         has now (node image root (suc d') k') ≡ false → ((q : ℕ) → Stands q → p ≢ q) → (p / 512 ≡ b) ⊎ (has old (p / 512) ≡ true) → FailsBelow image at root size holes b old BlockTwice p
     repeats d' k' p is present in_range gone fresh where_p = go (known (has old (node image root (suc d') k')))
       where
-        with_place : (q slot e l : ℕ) → slot < s → IsUnder (suc d) (512 * k + slot) e l → IsPlace image at root size e l q → block_at image q ≡ node image root (suc d') k' → p ≢ q → FailsBelow image at root size holes b old BlockTwice p
+        with_place : (q slot e l : ℕ) → slot < s → IsPointerUnder (suc d) (512 * k + slot) e l → IsPlace image at root size e l q → block_at image q ≡ node image root (suc d') k' → p ≢ q → FailsBelow image at root size holes b old BlockTwice p
         with_place q slot _ _ lower here also same other = twice is also other present (sym same ∙ place_word image at root size d (512 * k + slot) q also)
         with_place q slot _ l lower (under {e = e} u) also same other = twice is also other present (sym same ∙ place_word image at root size e l q also)
 

@@ -7,22 +7,22 @@ use Rattle.bp_layout.specs.Checks.{IsFollowed, Passes}
 use Rattle.bp_layout.proofs.TreeLaws.{live_above, live_pointer_word}
 use Rattle.bp_layout.proofs.OnePlace.{index_zero}
 use Rattle.bp_walk.specs.Taken.{Takes}
-use Rattle.bp_walk.specs.Walk.{IsUnder, IsPlace, IsBelow, WalksBelow, IsTreePlace, TakesTree}
-use Rattle.bp_walk.specs.Walk.IsUnder.{here, under}
+use Rattle.bp_walk.specs.Walk.{IsPointerUnder, IsPlace, IsBelow, WalksBelow, IsTreePlace, TakesTree}
+use Rattle.bp_walk.specs.Walk.IsPointerUnder.{here, under}
 use Rattle.bp_walk.proofs.TakenLaws.{take_none, take_same, take_both}
 use Rattle.bp_walk.specs.Pointed.{ClaimsPointed}
 use Rattle.bp_walk.proofs.Below.{Strict, split}
 use Rattle.bp_walk.proofs.Pointers.{claimed_takes, claimed_full}
 
-all_under : (root size d k : ℕ) → size ≤ covered (suc (height_of root)) → IsLivePointer root size d k → IsUnder 0 0 d k
-all_under root size zero k fits live = subst (λ (x : ℕ). IsUnder 0 0 0 x) (sym (index_zero root size k live fits)) here
+all_under : (root size d k : ℕ) → size ≤ covered (suc (height_of root)) → IsLivePointer root size d k → IsPointerUnder 0 0 d k
+all_under root size zero k fits live = subst (λ (x : ℕ). IsPointerUnder 0 0 0 x) (sym (index_zero root size k live fits)) here
 all_under root size (suc d) k fits live = under (all_under root size d (k / 512) fits (live_above _ _ d k (live_pointer_word _ _ (suc d) k live)))
 
-from_zero : (image : Image) (at root size n e l p : ℕ) → IsUnder 1 n e l → IsPlace image 0 root size e l p → IsPlace image at root size e l p
+from_zero : (image : Image) (at root size n e l p : ℕ) → IsPointerUnder 1 n e l → IsPlace image 0 root size e l p → IsPlace image at root size e l p
 from_zero image at root size n _ _ p here is = record { live = is.live; followed = is.followed; stands = is.stands }
 from_zero image at root size n _ l p (under u) is = record { live = is.live; followed = is.followed; stands = is.stands }
 
-to_zero : (image : Image) (at root size n e l p : ℕ) → IsUnder 1 n e l → IsPlace image at root size e l p → IsPlace image 0 root size e l p
+to_zero : (image : Image) (at root size n e l p : ℕ) → IsPointerUnder 1 n e l → IsPlace image at root size e l p → IsPlace image 0 root size e l p
 to_zero image at root size n _ _ p here is = record { live = is.live; followed = is.followed; stands = is.stands }
 to_zero image at root size n _ l p (under u) is = record { live = is.live; followed = is.followed; stands = is.stands }
 

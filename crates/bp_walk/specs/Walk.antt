@@ -9,9 +9,9 @@ use Rattle.bp_layout.specs.declared.check.Check.TheVariants.{BlockTwice, Capacit
 use Rattle.bp_walk.specs.Taken.{Takes}
 
 -- pointer l at depth e is below pointer k at depth d, or is it
-pub data IsUnder (d k : ℕ) : ℕ → ℕ → Type 0 where
-  here : IsUnder d k d k
-  under : {e l : ℕ} → IsUnder d k e (l / 512) → IsUnder d k (suc e) l
+pub data IsPointerUnder (d k : ℕ) : ℕ → ℕ → Type 0 where
+  here : IsPointerUnder d k d k
+  under : {e l : ℕ} → IsPointerUnder d k e (l / 512) → IsPointerUnder d k (suc e) l
 
 -- a live pointer of a tree that is followed, and where it stands
 pub record IsPlace (image : Image) (at root size depth index place : ℕ) : Type 0 where
@@ -25,12 +25,12 @@ pub record IsBelow (image : Image) (at root size d k slots place : ℕ) : Type 0
   pub low : slot < slots
   pub depth : ℕ
   pub index : ℕ
-  pub under : IsUnder (suc d) (512 * k + slot) depth index
+  pub under : IsPointerUnder (suc d) (512 * k + slot) depth index
   pub is : IsPlace image at root size depth index place
 
 -- each of these passes, and is not null where holes are not let through
 abbrev pub ArePassing : Image → ℕ → ℕ → Bool → ℕ → ℕ → ℕ → Type 0
-ArePassing image root size holes d k slots = (slot e l : ℕ) → slot < slots → IsUnder (suc d) (512 * k + slot) e l → IsLivePointer root size e l → IsFollowed image root size e l →
+ArePassing image root size holes d k slots = (slot e l : ℕ) → slot < slots → IsPointerUnder (suc d) (512 * k + slot) e l → IsLivePointer root size e l → IsFollowed image root size e l →
     Passes image root e l × (holes ≡ false → node image root e l ≢ 0)
 
 -- the pointers under the slots of a node pass, and their blocks left the set

@@ -7,7 +7,7 @@ use Rattle.std.proofs.Math.Dec.{leb-suc-zero, leb-suc-suc, leb-zero, eqb-suc-zer
 use Rattle.pm_epochs.specs.declared.event.Event.{Event}
 use Rattle.pm_epochs.specs.declared.event.Event.TheVariants.{Store, Barrier, Mark}
 use Rattle.pm_epochs.specs.Log.{epoch_stores}
-use Rattle.pm_epochs.specs.Replay.{Cut, stores_of, kept_stores, is_store_at, epoch_of, place_of, is_back, is_kept, kept_indices, events_at}
+use Rattle.pm_epochs.specs.Replay.{Cut, stores_of, kept_stores, is_store_at, epoch_of, place_in_epoch, is_back, is_kept, kept_indices, events_at}
 
 -- the events at the indices that a test picks, counted from the list's front
 picked : (ℕ → Bool) → List Event → List Event
@@ -87,7 +87,7 @@ none_in_mask (suc epoch) place = none_past [] epoch place
 
 -- whether the event at an index is a store, and is back
 is_stored : ℕ → List Bool → List Event → ℕ → Bool
-is_stored epoch mask events i = is_store_at events i && is_back epoch mask (epoch_of events i) (place_of events i)
+is_stored epoch mask events i = is_store_at events i && is_back epoch mask (epoch_of events i) (place_in_epoch events i)
 
 and_false : (one two : Bool) → two ≡ false → one && two ≡ false
 and_false true two is = is
@@ -95,15 +95,15 @@ and_false false two is = refl
 
 none_stored : (events : List Event) (i : ℕ) → is_stored 0 [] events i ≡ false
 unfolding is_stored
-none_stored events i = and_false (is_store_at events i) (is_back 0 [] (epoch_of events i) (place_of events i)) (none_in_mask (epoch_of events i) (place_of events i))
+none_stored events i = and_false (is_store_at events i) (is_back 0 [] (epoch_of events i) (place_in_epoch events i)) (none_in_mask (epoch_of events i) (place_in_epoch events i))
 
 none_behind_barrier : (mask : List Bool) (events : List Event) (i : ℕ) → is_stored 0 mask (Barrier ∷ events) i ≡ false
 unfolding is_stored
 none_behind_barrier mask events zero = refl
-none_behind_barrier mask events (suc i) = and_false (is_store_at events i) (is_back 0 mask (suc (epoch_of events i)) (place_of events i)) (none_past mask (epoch_of events i) (place_of events i))
+none_behind_barrier mask events (suc i) = and_false (is_store_at events i) (is_back 0 mask (suc (epoch_of events i)) (place_in_epoch events i)) (none_past mask (epoch_of events i) (place_in_epoch events i))
 
 -- the events picked behind the first one
-picked_behind : (epoch next : ℕ) (mask left : List Bool) (event : Event) (events : List Event) → ((i : ℕ) → is_back epoch mask (epoch_of (event ∷ events) (suc i)) (place_of (event ∷ events) (suc i)) ≡ is_back next left (epoch_of events i) (place_of events i)) → picked (is_stored next left events) events ≡ picked (λ i. is_stored epoch mask (event ∷ events) (suc i)) events
+picked_behind : (epoch next : ℕ) (mask left : List Bool) (event : Event) (events : List Event) → ((i : ℕ) → is_back epoch mask (epoch_of (event ∷ events) (suc i)) (place_in_epoch (event ∷ events) (suc i)) ≡ is_back next left (epoch_of events i) (place_in_epoch events i)) → picked (is_stored next left events) events ≡ picked (λ i. is_stored epoch mask (event ∷ events) (suc i)) events
 unfolding is_stored
 picked_behind epoch next mask left event events same =
     picked-same (is_stored next left events) (λ i. is_stored epoch mask (event ∷ events) (suc i)) events
@@ -125,7 +125,7 @@ stores_picked (suc epoch) mask (Store word value ∷ events) =
 stores_picked zero mask (Barrier ∷ events) = sym (picked-none (is_stored 0 mask (Barrier ∷ events)) (Barrier ∷ events) (none_behind_barrier mask events))
 stores_picked (suc epoch) mask (Barrier ∷ events) =
     stores_picked epoch mask events
-    ∙ picked_behind (suc epoch) epoch mask mask Barrier events (λ i. behind_barrier epoch mask (epoch_of events i) (place_of events i))
+    ∙ picked_behind (suc epoch) epoch mask mask Barrier events (λ i. behind_barrier epoch mask (epoch_of events i) (place_in_epoch events i))
 stores_picked epoch mask (Mark ∷ events) =
     stores_picked epoch mask events
     ∙ picked_behind epoch epoch mask mask Mark events (λ i. behind_mark epoch mask (epoch_of events i) (take i events))

@@ -114,3 +114,15 @@ placed-stores is_one placed log next word values size next_size none next_is siz
     ap (λ ps. placed.items ++ ps) (places-stores is_one (length log) word values none) ∙ append-nil placed.items in
     placed-more is_one placed placed log next (stores_from word values) (length log) size next_size refl next_is size_is is
     (ap (λ ps. record placed { items = ps }) (sym nothing))
+
+pub placed-none : (is_one : Event → Bool) (old new : Placed) (log next : List Event) (size next_size : ℕ) →
+    next ≡ [] → next_size ≡ size → old ≡ record { items = places_where is_one 0 log; room = size } → new ≡ record { items = []; room = old.room } →
+    new ≡ record { items = places_where is_one 0 next; room = next_size }
+placed-none is_one old new log next size next_size none size_is old_is new_is =
+    new_is
+    ∙ ap (λ (placed : Placed). placed_as [] placed.room) old_is
+    ∙ ap (placed_as []) (sym size_is)
+    ∙ ap (λ es. placed_as (places_where is_one 0 es) next_size) (sym none)
+  where
+    placed_as : List ℕ → ℕ → Placed
+    placed_as places room = record { items = places; room = room }

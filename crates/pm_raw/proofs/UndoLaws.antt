@@ -9,7 +9,7 @@ use Rattle.pm_epochs.specs.Log.{words_after}
 use Rattle.pm_epochs.proofs.CrashLaws.{words_after-append}
 use Rattle.pm_region.specs.Memory.{Memory, stores_from, with_values}
 use Rattle.pm_region.proofs.MemoryLaws.{length-with_values, with_values-none}
-use Rattle.pm_raw.specs.Entries.{signal_of}
+use Rattle.pm_raw.specs.Entries.{Entered, events_of, signal_of}
 use Rattle.pm_raw.specs.Undo.{is_store_to, saved_of, undone}
 
 pub length-undone : (words : List ℕ) (events : List Event) (replaced : List ℕ) → length (undone words events replaced) ≡ length words
@@ -225,3 +225,12 @@ memory-adopted change old current next log replaced capacity drains is none next
     ∙ ap (λ ws. memory_with ws [] capacity drains) next_is
     ∙ sym (ap (λ es. memory_with (change (undone current es replaced)) es capacity drains) none)
     ∙ ap (λ (m : Memory). record m { base = change m.base }) is
+
+-- a memory whose log is begun anew
+pub memory-emptied : (current : List ℕ) (entries : Entered) (room drains : ℕ) → entries ≡ record { words = []; values = []; replaced = []; room = room } →
+    memory_with (undone current (events_of entries.words entries.values) entries.replaced) (events_of entries.words entries.values) entries.room drains ≡ memory_with current [] room drains
+memory-emptied current entries room drains none =
+    ap (λ (e : Entered). memory_with (undone current (events_of e.words e.values) e.replaced) (events_of e.words e.values) e.room drains) none
+
+pub saved-none : (base replaced : List ℕ) (log : List Event) → log ≡ [] → replaced ≡ [] → replaced ≡ saved_of base log
+saved-none base replaced log none is = is ∙ sym (ap (saved_of base) none)

@@ -6,6 +6,8 @@ pub mod RawLends
 pub mod Part
 pub mod Filling
 pub mod Entries
+pub mod Grows
+pub mod EntriesRoom
 pub mod Places
 pub mod Undo
 pub mod RawRegion

@@ -1,35 +1,30 @@
-ghost use Rattle.std.specs.Prelude.{◌≡◌, ℕ, ◌+◌, ◌^◌, ◌<◌, ◌≤◌, [], ◌∷◌, ◌++◌, IfOk, length, take, drop, replicate};
-ghost use Rattle.std.specs.List.{range_with_len};
+ghost use Rattle.std.specs.Prelude.{◌≡◌, ℕ, ◌+◌, ◌^◌, ◌<◌, ◌≤◌, [], ◌∷◌, ◌++◌, IfOk, length, replicate};
 ghost use Rattle.pm_region.specs.Memory.{with_values};
-ghost use Rattle.pm_raw.specs.Entries.{events_of, signal_of};
+ghost use Rattle.pm_raw.specs.Entries.{signal_of};
 ghost use Rattle.pm_raw.specs.Places.{is_barrier, is_mark, places_where};
 
 use super::array::RawArray;
 use super::crash::{apply_first, kept_calls, start_of, start_of_epoch};
-use super::log::{BARRIER, Log, MARK, NO_WORD};
+use super::entries::Entries;
+use super::log::{BARRIER, MARK, NO_WORD};
 use super::places::Places;
 use super::undo::{undo_from, word_before};
 use pm_epochs::{BadChoice, Choice, Event, Kept};
 use pm_region::Region;
 use std::alloc::{AllocError, Global};
 use std::marker::Model;
-use std::mem::size_of;
 
 /// A region in raw memory: the words now, and for each event since the last drain its word, its value, and the value that it
-/// replaced. These stand at the fronts of arrays that have a place for each event that the log can take. Beside them it keeps
-/// where the barriers and the marks stand, so that a crash and a storm need not look for them among the stores. The words at
-/// the last drain are held nowhere: they are what undoing the log leaves. So a drain takes constant time, as each other call
-/// does but a crash and a look at a word at the last drain, which take time for the events of the log, and a count of the
-/// barriers before an event, which takes time for the barriers.
+/// replaced. Beside them it keeps where the barriers and the marks stand, so that a crash and a storm need not look for them
+/// among the stores. The words at the last drain are held nowhere: they are what undoing the log leaves. So a drain takes
+/// constant time, as each other call does but a crash and a look at a word at the last drain, which take time for the events
+/// of the log, and a count of the barriers before an event, which takes time for the barriers.
 #[derive(Drop)]
 pub struct RawRegion {
     current: RawArray<u64>,
-    words: RawArray<u32>,
-    values: RawArray<u64>,
-    replaced: RawArray<u64>,
+    entries: Entries,
     barriers: Places,
     marks: Places,
-    count: usize,
     drains: u64,
 }
 
@@ -53,27 +48,6 @@ fn overwrite(words: &mut [u64], first: usize, values: &[u64])
     words[first..first + values.len()].copy_from_slice(values);
 }
 
-/// Puts as many words as are wanted, from `first` on, in place of those values that stand from `at` on.
-fn save_words(values: &mut [u64], at: usize, words: &[u64], first: usize, wanted: usize)
-    requires room { at + wanted ≤ length values.old }
-    requires in_range { first + wanted ≤ length words.now }
-    ensures { values.new ≡ with_values values.old at (take wanted (drop first words.now)) }
-{
-    overwrite(values, at, &words[first..first + wanted]);
-}
-
-/// Writes so many words, from `first` on, behind the first `count` words of a log.
-fn write_words(words: &mut [u32], count: usize, first: u32, wanted: usize)
-    requires room { count + wanted ≤ length words.old }
-    requires in_range { first + wanted < 2 ^ 32 }
-    ensures written { take (count + wanted) words.new ≡ take count words.old ++ range_with_len first wanted }
-    ensures size { length words.new ≡ length words.old }
-{
-    for i in 0..wanted {
-        words[count + i] = first + i as u32;
-    }
-}
-
 /// Notes the place of an event that is no store, by its value.
 fn note_signal(barriers: &mut Places, marks: &mut Places, place: usize, value: u64)
     requires barriers_room { length barriers.old.items < barriers.old.room }
@@ -92,15 +66,6 @@ fn note_signal(barriers: &mut Places, marks: &mut Places, place: usize, value: u
     }
 }
 
-/// The log that stands at the fronts of these arrays.
-fn log_of<'a>(words: &'a RawArray<u32>, values: &'a RawArray<u64>, count: usize) -> Log<'a>
-    requires sized { length values.now ≡ length words.now }
-    requires fits { count ≤ length words.now }
-    ensures { result ≡ events_of (take count words.now) (take count values.now) }
-{
-    Log::new(&words.as_slice()[..count], &values.as_slice()[..count])
-}
-
 impl RawRegion {
     ghost use Rattle.pm_region.specs.Memory.{Memory};
 
@@ -114,23 +79,15 @@ impl RawRegion {
           drains = 0;
         }) }
     {
-        if capacity > isize::MAX as usize / size_of::<u64>() {
-            return Err(AllocError);
-        }
         let current = RawArray::new(alloc, size as usize, 0)?;
-        let words = RawArray::new(alloc, capacity, NO_WORD)?;
-        let values = RawArray::new(alloc, capacity, MARK)?;
-        let replaced = RawArray::new(alloc, capacity, 0)?;
+        let entries = Entries::new(alloc, capacity)?;
         let barriers = Places::new(alloc, capacity)?;
         let marks = Places::new(alloc, capacity)?;
         Ok(RawRegion {
             current,
-            words,
-            values,
-            replaced,
+            entries,
             barriers,
             marks,
-            count: 0,
             drains: 0,
         })
     }
@@ -168,11 +125,9 @@ impl RawRegion {
         requires { length self.old.events < self.old.capacity }
         ensures { self.new ≡ record self.old { events = self.old.events ++ signal_of value ∷ [] } }
     {
-        note_signal(&mut self.barriers, &mut self.marks, self.count, value);
-        self.words.set(self.count, NO_WORD);
-        self.values.set(self.count, value);
-        self.replaced.set(self.count, 0);
-        self.count += 1;
+        let place = self.entries.len();
+        note_signal(&mut self.barriers, &mut self.marks, place, value);
+        self.entries.push(NO_WORD, value, 0);
     }
 }
 
@@ -195,25 +150,16 @@ impl Region for RawRegion {
     fn store(&mut self, word: u32, value: u64) {
         let replaced = self.current.as_slice()[word as usize];
         self.current.set(word as usize, value);
-        self.words.set(self.count, word);
-        self.values.set(self.count, value);
-        self.replaced.set(self.count, replaced);
-        self.count += 1;
+        self.entries.push(word, value, replaced);
     }
 
+    // Most runs have a length that their caller knows: inlined, their copies are a few moves.
+    #[inline(always)]
     fn store_words(&mut self, first: u32, values: &[u64]) {
         let place = first as usize;
-        save_words(
-            self.replaced.as_mut_slice(),
-            self.count,
-            self.current.as_slice(),
-            place,
-            values.len(),
-        );
+        let replaced = &self.current.as_slice()[place..place + values.len()];
+        self.entries.push_run(first, values, replaced);
         overwrite(self.current.as_mut_slice(), place, values);
-        overwrite(self.values.as_mut_slice(), self.count, values);
-        write_words(self.words.as_mut_slice(), self.count, first, values.len());
-        self.count += values.len();
     }
 
     fn barrier(&mut self) {
@@ -225,22 +171,22 @@ impl Region for RawRegion {
     }
 
     fn drain(&mut self) {
-        self.count = 0;
+        self.entries.clear();
         self.barriers.clear();
         self.marks.clear();
         self.drains = self.drains.saturating_add(1);
     }
 
     fn room(&self) -> usize {
-        self.words.len() - self.count
+        self.entries.room()
     }
 
     fn event_count(&self) -> usize {
-        self.count
+        self.entries.len()
     }
 
     fn event(&self, i: usize) -> Event {
-        log_of(&self.words, &self.values, self.count).event(i)
+        self.entries.log().event(i)
     }
 
     fn barriers_before(&self, moment: usize) -> usize {
@@ -248,31 +194,34 @@ impl Region for RawRegion {
     }
 
     fn start_of_epoch(&self, epoch: usize) -> usize {
-        let log = log_of(&self.words, &self.values, self.count);
-        start_of_epoch(&log, &self.barriers, epoch)
+        start_of_epoch(&self.entries.log(), &self.barriers, epoch)
     }
 
     fn base_word(&self, word: u32) -> u64 {
         word_before(
             self.current.as_slice(),
-            &log_of(&self.words, &self.values, self.count),
-            &self.replaced.as_slice()[..self.count],
+            &self.entries.log(),
+            self.entries.replaced(),
             word,
         )
     }
 
     fn crash_to(&mut self, choice: &Choice) -> Result<Kept, BadChoice> {
-        let log = log_of(&self.words, &self.values, self.count);
+        let log = self.entries.log();
         let start = start_of(&log, &self.barriers, choice)?;
         let kept = kept_calls(&log, &self.marks, start, choice);
-        let replaced = &self.replaced.as_slice()[..self.count];
-        undo_from(self.current.as_mut_slice(), &log, replaced, start);
+        undo_from(
+            self.current.as_mut_slice(),
+            &log,
+            self.entries.replaced(),
+            start,
+        );
         apply_first(
             self.current.as_mut_slice(),
             &log.front(choice.moment()).behind(start),
             choice.mask(),
         );
-        self.count = 0;
+        self.entries.clear();
         self.barriers.clear();
         self.marks.clear();
         Ok(kept)

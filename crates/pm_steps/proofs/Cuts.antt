@@ -7,7 +7,7 @@ use Rattle.pm_epochs.specs.Log.{words_after, barriers, epoch_stores}
 use Rattle.pm_epochs.specs.Replay.{IsRight, stores_of, kept_stores, marks_of, replay, kept_calls, after_calls, epoch_of}
 use Rattle.pm_epochs.proofs.Cuts.{stores_of_none, kept_stores_right}
 use Rattle.pm_epochs.specs.Crash.{Likeness, CrashRight}
-use Rattle.pm_steps.specs.Machine.{State, Step, start, Runs, is_some_store, IsInOrder, open_epoch, epoch_flags, waiting_marks, cut_of}
+use Rattle.pm_steps.specs.Machine.{MachineState, MachineStep, machine_over, StepsTo, is_some_store, IsInOrder, open_epoch, epoch_flags, waiting_marks, cut_of}
 use Rattle.pm_steps.proofs.FirstLaws.{ComesFirst-behind}
 use Rattle.pm_steps.proofs.Order.{store_is, IsReached, reached}
 
@@ -103,10 +103,10 @@ pub kept_stores_open : (events : List Event) (back : List Bool) → IsInOrder ev
 kept_stores_open events back order = kept_stores_right events (cut_of events back) (right_open events back order) ∙ stores_of_open events back order
 
 -- after any steps the memory is a replay
-pub run_right : (base : List ℕ) (events : List Event) (state : State) → IsReached base events state → IsRight events (cut_of events state.back)
+pub run_right : (base : List ℕ) (events : List Event) (state : MachineState) → IsReached base events state → IsRight events (cut_of events state.back)
 run_right base events state found = right_open events state.back found.order
 
-pub run_replay : (base : List ℕ) (events : List Event) (state : State) → IsReached base events state → state.words ≡ replay base events (cut_of events state.back)
+pub run_replay : (base : List ℕ) (events : List Event) (state : MachineState) → IsReached base events state → state.words ≡ replay base events (cut_of events state.back)
 run_replay base events state found = found.words ∙ ap (words_after base) (sym (kept_stores_open events state.back found.order))
 
 -- ## The calls
@@ -130,7 +130,7 @@ marks_of_open (Barrier ∷ events) (flag ∷ back) = marks_of_open events back
 marks_of_open (Mark ∷ events) (flag ∷ back) = ap suc (marks_of_open events back)
 
 -- over a log that is right, the memory is like what the kept calls had made
-pub run_right_log : (Same : Likeness) (base : List ℕ) (events : List Event) (steps : List Step) (state : State) → CrashRight Same base events → Runs events (start base) steps state → Same state.words (after_calls base events (kept_calls events (cut_of events state.back)))
+pub run_right_log : (Same : Likeness) (base : List ℕ) (events : List Event) (steps : List MachineStep) (state : MachineState) → CrashRight Same base events → StepsTo events (machine_over base) steps state → Same state.words (after_calls base events (kept_calls events (cut_of events state.back)))
 run_right_log Same base events steps state right runs =
     let found = reached base events steps state runs in
     rw (run_replay base events state found) (right.each (cut_of events state.back) (run_right base events state found))

@@ -3,10 +3,10 @@ use Rattle.std.proofs.Common.{◌≡◌, ℕ, suc, ◌+◌, ◌<◌, ◌≤◌, 
 use Rattle.std.proofs.lemmas.List.{length-set, get_or-set_same, get_or-set_other, get_or_append_left, get_or_push}
 use Rattle.std.proofs.Math.Nat.{mod-lt}
 use Rattle.std.proofs.lemmas.Bool.{cases_eq, cases_lt, ne_eqb}
-use Rattle.pm_steps.specs.WordSet.{is_noted, IsLast, IsLinked}
+use Rattle.pm_steps.specs.WordSet.{is_noted, IsLastWord, IsLinked}
 
 -- a bound within the old words sees no word behind them
-last_more : (words : List ℕ) (word divisor remainder bound entry : ℕ) → bound ≤ length words → IsLast words divisor remainder bound entry → IsLast (words ++ word ∷ []) divisor remainder bound entry
+last_more : (words : List ℕ) (word divisor remainder bound entry : ℕ) → bound ≤ length words → IsLastWord words divisor remainder bound entry → IsLastWord (words ++ word ∷ []) divisor remainder bound entry
 last_more words word divisor remainder bound entry few last = λ k below leaves.
     let found = last k below (ap (λ n. n % divisor) (sym (get_or_append_left words (word ∷ []) 0 k (omega arith))) ∙ leaves) in (
       found.0,
@@ -31,14 +31,14 @@ linked_note words before heads word linked = record {
     here_low : word % length heads < length heads
     here_low = mod-lt word (omega (arith, linked.sized))
 
-    heads_new : (remainder : ℕ) → remainder < length heads → IsLast (words ++ word ∷ []) (length heads) remainder (length (words ++ word ∷ [])) (get_or (set heads (word % length heads) (length words)) remainder 0)
+    heads_new : (remainder : ℕ) → remainder < length heads → IsLastWord (words ++ word ∷ []) (length heads) remainder (length (words ++ word ∷ [])) (get_or (set heads (word % length heads) (length words)) remainder 0)
     heads_new remainder low = elim (cases_eq (word % length heads) remainder) [
       | inl same ↦
-          subst (λ e. IsLast (words ++ word ∷ []) (length heads) remainder (length (words ++ word ∷ [])) e)
+          subst (λ e. IsLastWord (words ++ word ∷ []) (length heads) remainder (length (words ++ word ∷ [])) e)
           (sym (ap (λ r. get_or (set heads (word % length heads) (length words)) r 0) (sym same) ∙ get_or-set_same heads (word % length heads) (length words) 0 here_low))
           (λ k below leaves. (omega (arith, count, below), omega (arith, count), ap (λ w. w % length heads) (get_or_push words word 0 (length words) refl) ∙ same))
       | inr differ ↦
-          subst (λ e. IsLast (words ++ word ∷ []) (length heads) remainder (length (words ++ word ∷ [])) e)
+          subst (λ e. IsLastWord (words ++ word ∷ []) (length heads) remainder (length (words ++ word ∷ [])) e)
           (sym (get_or-set_other heads (word % length heads) remainder (length words) 0 (λ e. differ (sym e))))
           (λ k below leaves. elim (cases_lt k (length words)) [
             | inl less ↦
@@ -50,7 +50,7 @@ linked_note words before heads word linked = record {
           ])
     ]
 
-    before_new : (i : ℕ) → i < length words + 1 → IsLast (words ++ word ∷ []) (length heads) (get_or (words ++ word ∷ []) i 0 % length heads) i (get_or (before ++ get_or heads (word % length heads) 0 ∷ []) i 0)
+    before_new : (i : ℕ) → i < length words + 1 → IsLastWord (words ++ word ∷ []) (length heads) (get_or (words ++ word ∷ []) i 0 % length heads) i (get_or (before ++ get_or heads (word % length heads) 0 ∷ []) i 0)
     before_new i low = elim (cases_lt i (length words)) [
       | inl less ↦
           let word_is = get_or_append_left words (word ∷ []) 0 i less in
@@ -59,7 +59,7 @@ linked_note words before heads word linked = record {
       | inr past ↦
           let at_end : i ≡ length words = omega (arith, past, low) in
           let last_is = ap (λ j. get_or (before ++ get_or heads (word % length heads) 0 ∷ []) j 0) (sym linked.each) ∙ get_or_push before (get_or heads (word % length heads) 0) 0 (length before) refl in
-          subst (λ j. IsLast (words ++ word ∷ []) (length heads) (get_or (words ++ word ∷ []) j 0 % length heads) j (get_or (before ++ get_or heads (word % length heads) 0 ∷ []) j 0)) (sym at_end)
+          subst (λ j. IsLastWord (words ++ word ∷ []) (length heads) (get_or (words ++ word ∷ []) j 0 % length heads) j (get_or (before ++ get_or heads (word % length heads) 0 ∷ []) j 0)) (sym at_end)
           (rw (get_or_push words word 0 (length words) refl, last_is) (last_more words word (length heads) (word % length heads) (length words) (get_or heads (word % length heads) 0) (omega arith) (linked.heads_last (word % length heads) here_low)))
     ]
 
@@ -72,7 +72,7 @@ noted_nowhere (other ∷ words) word none =
     rw (ne_eqb other word differ) (noted_nowhere words word (λ k low is. none (suc k) (omega arith) is))
 
 -- with no entry left
-pub none_left : (words : List ℕ) (divisor bound entry word : ℕ) → IsLast words divisor (word % divisor) bound entry
+pub none_left : (words : List ℕ) (divisor bound entry word : ℕ) → IsLastWord words divisor (word % divisor) bound entry
     → (entry < bound → get_or words entry 0 % divisor ≡ word % divisor → ⊥)
     → ((k : ℕ) → bound ≤ k → k < length words → get_or words k 0 ≡ word → ⊥) → is_noted words word ≡ false
 none_left words divisor bound entry word last gone none = noted_nowhere words word (λ k high is. elim (cases_lt k bound) [

@@ -5,8 +5,8 @@ use Rattle.std.proofs.lemmas.List.{length-append, length-set, set_comm}
 use Rattle.pm_epochs.specs.declared.event.Event.{Event}
 use Rattle.pm_epochs.specs.declared.event.Event.TheVariants.{Store, Barrier, Mark}
 use Rattle.pm_epochs.specs.Log.{words_after}
-use Rattle.pm_steps.specs.Machine.{State, start, Step, is_some_store, ComesFirst, IsInOrder, IsReady, Allowed, state_after, Runs}
-use Rattle.pm_steps.specs.Machine.Step.{Execute, WriteBack}
+use Rattle.pm_steps.specs.Machine.{MachineState, machine_over, MachineStep, is_some_store, ComesFirst, IsInOrder, MayGoBack, Allowed, state_after, StepsTo}
+use Rattle.pm_steps.specs.Machine.MachineStep.{Execute, WriteBack}
 
 -- what a test of an event says
 pub store_is : (event : Option Event) → is_some_store event ≡ true → (word : ℕ) × (value : ℕ) × (event ≡ Some (Store word value))
@@ -55,7 +55,7 @@ in_order_execute events back order more = record {
   first = λ earlier later is comes. get_push_old back false earlier true (order.first earlier later (get_push_true back later is) comes);
 }
 
-pub in_order_back : (events : List Event) (back : List Bool) (which : ℕ) → IsInOrder events back → IsReady events back which → IsInOrder events (set back which true)
+pub in_order_back : (events : List Event) (back : List Bool) (which : ℕ) → IsInOrder events back → MayGoBack events back which → IsInOrder events (set back which true)
 in_order_back events back which order ready = record {
   few = omega (arith, order.few, length-set back which true);
   stores = λ i is. elim (get_set_cases back which i is) [
@@ -114,17 +114,17 @@ items_where_true-push (true ∷ back) (event ∷ events) = ap (λ es. event ∷ 
 items_where_true-push (false ∷ back) (event ∷ events) = items_where_true-push back events
 
 -- a store that waits has none behind it of its word that is back
-none_behind : (events : List Event) (back : List Bool) (which : ℕ) → IsInOrder events back → (ready : IsReady events back which) → (j other : ℕ) → which < j → slice_get back j ≡ Some true → slice_get events j ≡ Some (Store ready.word other) → ⊥
+none_behind : (events : List Event) (back : List Bool) (which : ℕ) → IsInOrder events back → (ready : MayGoBack events back which) → (j other : ℕ) → which < j → slice_get back j ≡ Some true → slice_get events j ≡ Some (Store ready.word other) → ⊥
 none_behind events back which order ready j other low is store =
     let came = order.first which j is (record { before = low; first_word = ready.word; first_value = ready.value; word = ready.word; value = other; first_is = ready.store; second_is = store; must = inr refl }) in
     let differ : Some false ≡ Some true = sym ready.waits ∙ came in
     cc
 
-pub record IsReached (base : List ℕ) (events : List Event) (state : State) : Type 0 where
+pub record IsReached (base : List ℕ) (events : List Event) (state : MachineState) : Type 0 where
   pub order : IsInOrder events state.back
   pub words : state.words ≡ words_after base (items_where_true state.back events)
 
-reached_step : (base : List ℕ) (events : List Event) (state : State) (step : Step) → IsReached base events state → Allowed events state.back step → IsReached base events (state_after events state step)
+reached_step : (base : List ℕ) (events : List Event) (state : MachineState) (step : MachineStep) → IsReached base events state → Allowed events state.back step → IsReached base events (state_after events state step)
 reached_step base events state Execute reached allowed = record {
   order = in_order_execute events state.back reached.order allowed;
   words = reached.words ∙ ap (words_after base) (sym (items_where_true-push state.back events));
@@ -135,9 +135,9 @@ reached_step base events state (WriteBack which) reached allowed = rw allowed.st
       ∙ sym (words_after-back events state.back base which allowed.word allowed.value allowed.store allowed.waits (none_behind events state.back which reached.order allowed));
 })
 
-pub reached_run : (base : List ℕ) (events : List Event) (old : State) (steps : List Step) (new : State) → IsReached base events old → Runs events old steps new → IsReached base events new
+pub reached_run : (base : List ℕ) (events : List Event) (old : MachineState) (steps : List MachineStep) (new : MachineState) → IsReached base events old → StepsTo events old steps new → IsReached base events new
 reached_run base events old [] new reached runs = subst (IsReached base events) runs reached
 reached_run base events old (step ∷ steps) new reached runs = reached_run base events (state_after events old step) steps new (reached_step base events old step reached runs.0) runs.1
 
-pub reached : (base : List ℕ) (events : List Event) (steps : List Step) (state : State) → Runs events (start base) steps state → IsReached base events state
-reached base events steps state runs = reached_run base events (start base) steps state (record { order = in_order_start events; words = refl }) runs
+pub reached : (base : List ℕ) (events : List Event) (steps : List MachineStep) (state : MachineState) → StepsTo events (machine_over base) steps state → IsReached base events state
+reached base events steps state runs = reached_run base events (machine_over base) steps state (record { order = in_order_start events; words = refl }) runs

@@ -9,23 +9,23 @@ use Rattle.pm_epochs.specs.declared.event.Event.TheVariants.{Store, Barrier, Mar
 use Rattle.pm_epochs.specs.Log.{words_after}
 use Rattle.pm_epochs.specs.Replay.{Cut, IsRight, stores_of, replay, epoch_of}
 use Rattle.pm_epochs.proofs.Cuts.{kept_stores_right}
-use Rattle.pm_steps.specs.Machine.{State, start, Step, is_some_store, ComesFirst, IsInOrder, IsReady, written, state_after, Runs, write_backs, in_log_order, cut_of}
-use Rattle.pm_steps.specs.Machine.Step.{Execute, WriteBack}
+use Rattle.pm_steps.specs.Machine.{MachineState, machine_over, MachineStep, is_some_store, ComesFirst, IsInOrder, MayGoBack, after_write_back, state_after, StepsTo, write_backs, in_log_order, cut_of}
+use Rattle.pm_steps.specs.Machine.MachineStep.{Execute, WriteBack}
 use Rattle.pm_steps.proofs.FirstLaws.{none, nothing_there, same_word, not_a_store, ComesFirst-tail}
 use Rattle.pm_steps.proofs.Order.{store_is, reached}
 use Rattle.pm_steps.proofs.Cuts.{run_replay}
 
 -- ## Runs in a row
 
-runs_on : (events : List Event) (old : State) (first : List Step) (middle : State) (rest : List Step) (new : State) → Runs events old first middle → Runs events middle rest new → Runs events old (first ++ rest) new
+runs_on : (events : List Event) (old : MachineState) (first : List MachineStep) (middle : MachineState) (rest : List MachineStep) (new : MachineState) → StepsTo events old first middle → StepsTo events middle rest new → StepsTo events old (first ++ rest) new
 runs_on events old [] middle rest new runs more = rw runs more
 runs_on events old (step ∷ first) middle rest new runs more = (runs.0, runs_on events (state_after events old step) first middle rest new runs.1 more)
 
 -- some steps, and the state that they lead to
-pub record Reaches (events : List Event) (old : State) (back : List Bool) : Type 0 where
-  pub steps : List Step
-  pub new : State
-  pub runs : Runs events old steps new
+pub record Reaches (events : List Event) (old : MachineState) (back : List Bool) : Type 0 where
+  pub steps : List MachineStep
+  pub new : MachineState
+  pub runs : StepsTo events old steps new
   pub back_is : new.back ≡ back
 
 -- ## The processor does its events
@@ -35,15 +35,15 @@ push_replicate n =
     let more : n + 1 ≡ suc n = omega arith in
     replicate-append-replicate n 1 false ∙ ap (λ k. replicate k false) more
 
-taken : (base : List ℕ) (events : List Event) (n : ℕ) → n ≤ length events → Reaches events (start base) (replicate n false)
-taken base events zero low = record { steps = []; new = start base; runs = refl; back_is = refl }
+taken : (base : List ℕ) (events : List Event) (n : ℕ) → n ≤ length events → Reaches events (machine_over base) (replicate n false)
+taken base events zero low = record { steps = []; new = machine_over base; runs = refl; back_is = refl }
 taken base events (suc n) low =
     let before = taken base events n (omega arith) in
     let count : length before.new.back ≡ n = ap length before.back_is ∙ length-replicate n false in
     record {
       steps = before.steps ++ Execute ∷ [];
       new = state_after events before.new Execute;
-      runs = runs_on events (start base) before.steps before.new (Execute ∷ []) (state_after events before.new Execute) before.runs (omega (arith, count), refl);
+      runs = runs_on events (machine_over base) before.steps before.new (Execute ∷ []) (state_after events before.new Execute) before.runs (omega (arith, count), refl);
       back_is = ap (λ bs. bs ++ false ∷ []) before.back_is ∙ push_replicate n;
     }
 
@@ -62,11 +62,11 @@ set_front : (front rest : List Bool) (flag new : Bool) → set (front ++ flag �
 set_front [] rest flag new = refl
 set_front (x ∷ front) rest flag new = ap (λ bs. x ∷ bs) (set_front front rest flag new)
 
-runs_written : (events : List Event) (old : State) (which word value : ℕ) → slice_get events which ≡ Some (Store word value) → (steps : List Step) (new : State) → Runs events (record { back = set old.back which true; words = set old.words word value }) steps new → Runs events (written old which (slice_get events which)) steps new
+runs_written : (events : List Event) (old : MachineState) (which word value : ℕ) → slice_get events which ≡ Some (Store word value) → (steps : List MachineStep) (new : MachineState) → StepsTo events (record { back = set old.back which true; words = set old.words word value }) steps new → StepsTo events (after_write_back old which (slice_get events which)) steps new
 runs_written events old which word value store steps new runs = rw store runs
 
 -- from a state in which the front is as it is to be and nothing behind it is back
-written_back : (events : List Event) (front rest : List Bool) (old : State) → IsInOrder events (front ++ rest) → old.back ≡ front ++ replicate (length rest) false → Reaches events old (front ++ rest)
+written_back : (events : List Event) (front rest : List Bool) (old : MachineState) → IsInOrder events (front ++ rest) → old.back ≡ front ++ replicate (length rest) false → Reaches events old (front ++ rest)
 written_back events front [] old order back_is = record { steps = []; new = old; runs = refl; back_is = back_is }
 written_back events front (false ∷ rest) old order back_is =
     let parts = append_assoc front (false ∷ []) rest in
@@ -75,8 +75,8 @@ written_back events front (false ∷ rest) old order back_is =
 written_back events front (true ∷ rest) old order back_is =
     let parts = append_assoc front (true ∷ []) rest in
     let store = store_is (slice_get events (length front)) (order.stores (length front) (get_front front rest true)) in
-    let next : State = record { back = set old.back (length front) true; words = set old.words store.0 store.1 } in
-    let ready : IsReady events old.back (length front) = record {
+    let next : MachineState = record { back = set old.back (length front) true; words = set old.words store.0 store.1 } in
+    let ready : MayGoBack events old.back (length front) = record {
       word = store.0;
       value = store.1;
       store = store.2;
@@ -94,14 +94,14 @@ written_back events front (true ∷ rest) old order back_is =
     }
 
 -- any flags in order are reached
-pub flags_reached : (base : List ℕ) (events : List Event) (back : List Bool) → IsInOrder events back → Reaches events (start base) back
+pub flags_reached : (base : List ℕ) (events : List Event) (back : List Bool) → IsInOrder events back → Reaches events (machine_over base) back
 flags_reached base events back order =
     let before = taken base events (length back) order.few in
     let after = written_back events [] back before.new order before.back_is in
     record {
       steps = before.steps ++ after.steps;
       new = after.new;
-      runs = runs_on events (start base) before.steps before.new after.steps after.new before.runs after.runs;
+      runs = runs_on events (machine_over base) before.steps before.new after.steps after.new before.runs after.runs;
       back_is = after.back_is;
     }
 
@@ -117,7 +117,7 @@ length-one_more : (front : List Bool) (flag : Bool) → length (front ++ flag �
 length-one_more [] flag = refl
 length-one_more (first ∷ front) flag = ap suc (length-one_more front flag)
 
-written_steps : (events : List Event) (front rest : List Bool) (old : State) (order : IsInOrder events (front ++ rest)) (back_is : old.back ≡ front ++ replicate (length rest) false) → (written_back events front rest old order back_is).steps ≡ write_backs (length front) rest
+written_steps : (events : List Event) (front rest : List Bool) (old : MachineState) (order : IsInOrder events (front ++ rest)) (back_is : old.back ≡ front ++ replicate (length rest) false) → (written_back events front rest old order back_is).steps ≡ write_backs (length front) rest
 unfolding written_back
 written_steps events front [] old order back_is = refl
 written_steps events front (false ∷ rest) old order back_is =
@@ -132,18 +132,18 @@ flags_steps base events back order =
     ap (λ ss. ss ++ (written_back events [] back before.new order before.back_is).steps) (taken_steps base events (length back) order.few)
     ∙ ap (λ ss. replicate (length back) Execute ++ ss) (written_steps events [] back before.new order before.back_is)
 
-state_is : (state : State) (back : List Bool) (words : List ℕ) → state.back ≡ back → state.words ≡ words → state ≡ record { back = back; words = words }
+state_is : (state : MachineState) (back : List Bool) (words : List ℕ) → state.back ≡ back → state.words ≡ words → state ≡ record { back = back; words = words }
 state_is state back words is_back is_words =
-    ap (λ (bs : List Bool). let s : State = record { back = bs; words = state.words } in s) is_back
-    ∙ ap (λ (ws : List ℕ). let s : State = record { back = back; words = ws } in s) is_words
+    ap (λ (bs : List Bool). let s : MachineState = record { back = bs; words = state.words } in s) is_back
+    ∙ ap (λ (ws : List ℕ). let s : MachineState = record { back = back; words = ws } in s) is_words
 
-pub reached_in_log_order : (base : List ℕ) (events : List Event) (back : List Bool) → IsInOrder events back → Runs events (start base) (in_log_order back) (record { back = back; words = replay base events (cut_of events back) })
+pub reached_in_log_order : (base : List ℕ) (events : List Event) (back : List Bool) → IsInOrder events back → StepsTo events (machine_over base) (in_log_order back) (record { back = back; words = replay base events (cut_of events back) })
 reached_in_log_order base events back order =
     let found = flags_reached base events back order in
     let words : found.new.words ≡ replay base events (cut_of events back) =
     run_replay base events found.new (reached base events found.steps found.new found.runs) ∙ ap (λ bs. replay base events (cut_of events bs)) found.back_is in
-    subst (λ ss. Runs events (start base) ss (record { back = back; words = replay base events (cut_of events back) })) (flags_steps base events back order)
-    (subst (λ st. Runs events (start base) found.steps st) (state_is found.new back (replay base events (cut_of events back)) found.back_is words) found.runs)
+    subst (λ ss. StepsTo events (machine_over base) ss (record { back = back; words = replay base events (cut_of events back) })) (flags_steps base events back order)
+    (subst (λ st. StepsTo events (machine_over base) found.steps st) (state_is found.new back (replay base events (cut_of events back)) found.back_is words) found.runs)
 
 -- ## What has to go back for a cut
 
@@ -312,7 +312,7 @@ left_by_wanted words (suc epoch) mask (Barrier ∷ events) = left_by_wanted word
 left_by_wanted words epoch mask (Mark ∷ events) = left_by_wanted words epoch mask events
 
 -- what any right cut leaves is reached by some steps
-pub replay_reached : (base : List ℕ) (events : List Event) (cut : Cut) → IsRight events cut → (steps : List Step) × (state : State) × Runs events (start base) steps state × (state.words ≡ replay base events cut)
+pub replay_reached : (base : List ℕ) (events : List Event) (cut : Cut) → IsRight events cut → (steps : List MachineStep) × (state : MachineState) × StepsTo events (machine_over base) steps state × (state.words ≡ replay base events cut)
 replay_reached base events cut right =
     let back = wanted cut.epoch cut.mask events in
     let found = flags_reached base events back (in_order_wanted cut.epoch cut.mask events) in

@@ -8,18 +8,18 @@ use Rattle.pm_epochs.specs.Replay.{Cut, is_store, epoch_of}
 
 -- One flag for each event that the processor has executed, whether it is a store that is written back; and the words of
 -- the memory, without what is still in a cache.
-pub record State : Type 0 where
+pub record MachineState : Type 0 where
   pub back : List Bool
   pub words : List ℕ
 
 -- nothing executed over these words
-abbrev pub start : List ℕ → State
-start base = record { back = []; words = base }
+abbrev pub machine_over : List ℕ → MachineState
+machine_over base = record { back = []; words = base }
 
 -- the processor executes its next event, or a store goes back to the memory
-pub data Step : Type 0 where
-  Execute : Step
-  WriteBack : (which : ℕ) → Step
+pub data MachineStep : Type 0 where
+  Execute : MachineStep
+  WriteBack : (which : ℕ) → MachineStep
 
 -- an earlier store that has to be written back first: it is of an earlier epoch, or of the same word
 pub record ComesFirst (events : List Event) (earlier later : ℕ) : Type 0 where
@@ -85,7 +85,7 @@ pub record Flags : Type 0 where
   pub waiting : List ℕ
 
 -- a store that was executed and is not back, while all that must come first is
-pub record IsReady (events : List Event) (back : List Bool) (which : ℕ) : Type 0 where
+pub record MayGoBack (events : List Event) (back : List Bool) (which : ℕ) : Type 0 where
   pub word : ℕ
   pub value : ℕ
   pub store : slice_get events which ≡ Some (Store word value)
@@ -93,38 +93,38 @@ pub record IsReady (events : List Event) (back : List Bool) (which : ℕ) : Type
   pub first : (earlier : ℕ) → ComesFirst events earlier which → slice_get back earlier ≡ Some true
 
 -- the steps that may be taken: there is a next event, or the store may go back
-abbrev pub Allowed : List Event → List Bool → Step → Type 0
+abbrev pub Allowed : List Event → List Bool → MachineStep → Type 0
 Allowed events back Execute = length back < length events
-Allowed events back (WriteBack which) = IsReady events back which
+Allowed events back (WriteBack which) = MayGoBack events back which
 
 -- the state after this event of the log goes back: its word takes its value
-abbrev pub written : State → ℕ → Option Event → State
-written state which (Some (Store word value)) = record {
+abbrev pub after_write_back : MachineState → ℕ → Option Event → MachineState
+after_write_back state which (Some (Store word value)) = record {
   back = slice_set state.back which true;
   words = slice_set state.words word value;
 }
-written state which (Some Barrier) = state
-written state which (Some Mark) = state
-written state which None = state
+after_write_back state which (Some Barrier) = state
+after_write_back state which (Some Mark) = state
+after_write_back state which None = state
 
 -- the state after a step
-abbrev pub state_after : List Event → State → Step → State
+abbrev pub state_after : List Event → MachineState → MachineStep → MachineState
 state_after events state Execute = record { back = state.back ++ false ∷ []; words = state.words }
-state_after events state (WriteBack which) = written state which (slice_get events which)
+state_after events state (WriteBack which) = after_write_back state which (slice_get events which)
 
 -- from one state to another by steps that are allowed
-abbrev pub Runs : List Event → State → List Step → State → Type 0
-Runs events old [] new = old ≡ new
-Runs events old (step ∷ steps) new = Allowed events old.back step × Runs events (state_after events old step) steps new
+abbrev pub StepsTo : List Event → MachineState → List MachineStep → MachineState → Type 0
+StepsTo events old [] new = old ≡ new
+StepsTo events old (step ∷ steps) new = Allowed events old.back step × StepsTo events (state_after events old step) steps new
 
 -- the stores that are back, written back in the order of the log; the first flag is that of the event at this index
-abbrev pub write_backs : ℕ → List Bool → List Step
+abbrev pub write_backs : ℕ → List Bool → List MachineStep
 write_backs which [] = []
 write_backs which (true ∷ back) = WriteBack which ∷ write_backs (suc which) back
 write_backs which (false ∷ back) = write_backs (suc which) back
 
 -- the processor executes as many events as there are flags, and then the stores that are back are written back in order
-abbrev pub in_log_order : List Bool → List Step
+abbrev pub in_log_order : List Bool → List MachineStep
 in_log_order back = replicate (length back) Execute ++ write_backs 0 back
 
 -- the epoch that is being written back: the barriers that were executed before the first store that is not back, or all

@@ -12,8 +12,8 @@ abbrev pub is_noted : List ℕ → ℕ → Bool
 is_noted words word = list_any (λ other. other == word) words
 
 -- the entry has the last word below a bound that leaves this remainder, if there is one
-abbrev pub IsLast : List ℕ → ℕ → ℕ → ℕ → ℕ → Type 0
-IsLast words divisor remainder bound entry =
+abbrev pub IsLastWord : List ℕ → ℕ → ℕ → ℕ → ℕ → Type 0
+IsLastWord words divisor remainder bound entry =
     (k : ℕ) → k < bound → slice_index words k % divisor ≡ remainder →
     (k ≤ entry) × (entry < bound) × (slice_index words entry % divisor ≡ remainder)
 
@@ -27,6 +27,6 @@ pub record IsLinked (words before heads : List ℕ) : Type 0 where
   pub sized : length heads ≡ remainders
   pub each : length before ≡ length words
   pub heads_last : (remainder : ℕ) → remainder < length heads →
-      IsLast words (length heads) remainder (length words) (slice_index heads remainder)
+      IsLastWord words (length heads) remainder (length words) (slice_index heads remainder)
   pub before_last : (i : ℕ) → i < length words →
-      IsLast words (length heads) (slice_index words i % length heads) i (slice_index before i)
+      IsLastWord words (length heads) (slice_index words i % length heads) i (slice_index before i)

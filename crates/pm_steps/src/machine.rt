@@ -4,7 +4,7 @@ ghost use Rattle.std.specs.Prelude.{◌≡◌, ℕ, ◌<◌, ◌≤◌, ◌↔�
 ghost use Rattle.pm_region.specs.Memory.{Memory};
 ghost use Rattle.pm_epochs.specs.Log.{marks};
 ghost use Rattle.pm_epochs.specs.Replay.{IsRight, epoch_of, replay, kept_calls};
-ghost use Rattle.pm_steps.specs.Machine.{IsInOrder, IsReady, IsFirstMissing, IsBackBelow, IsWaiting, AllToBack, IsFirstTo, ComesFirst, is_some_store, cut_of, open_epoch, epoch_flags, waiting_marks};
+ghost use Rattle.pm_steps.specs.Machine.{IsInOrder, MayGoBack, IsFirstMissing, IsBackBelow, IsWaiting, AllToBack, IsFirstTo, ComesFirst, is_some_store, cut_of, open_epoch, epoch_flags, waiting_marks};
 
 use super::backs::Backs;
 use pm_epochs::{Choice, Event, Kept};
@@ -98,7 +98,7 @@ impl<'a, R: Region> Machine<'a, R> {
         requires waits { slice_get self.old.backs.now.back which ≡ Some false }
         ensures same_region { self.new.region.now ≡ self.old.region.now }
         ensures same_backs { self.new.backs.ghost_name ≡ self.old.backs.ghost_name }
-        ensures allowed { IsOk result ↔ IsReady (R.memory self.old.region.now).events self.old.backs.now.back which }
+        ensures allowed { IsOk result ↔ MayGoBack (R.memory self.old.region.now).events self.old.backs.now.back which }
         ensures written { OnOk result
             (self.new.backs.now ≡ record self.old.backs.now { back = slice_set self.old.backs.now.back which true }) }
         ensures missing { IfErr result (λ not_yet.

@@ -2,7 +2,7 @@ use Rattle.std.proofs.Common.{sym, ◌∙◌, ap}
 use Rattle.std.proofs.lemmas.Result.{err_from_is_err_and}
 use Rattle.std.proofs.lemmas.Bool.{eqb-true}
 use Rattle.pm_region.specs.Memory.{current_words}
-use Rattle.bp_path.specs.Names.{names_in}
+use Rattle.bp_path.specs.Names.{path_parts}
 use Rattle.bp_path.specs.Places.{walked_of, fault_of}
 use Rattle.bp_path.proofs.WalkLaws.{not_inode_file}
 use Rattle.bp_path.proofs.Walking.{start, come_on, fails, walked, reaches}
@@ -19,7 +19,7 @@ returns-in_err-place-clause-walked g c =
     let p = err_from_is_err_and c.from_residual.result c.from_residual.ensures.1 in
     let image = current_words (g.R.Region.memory c.args.region.now) in
     let here = fails image c.args.text.now c.loop-rest.rest.now c.split_first.result.1.now c.split_first.result.0.now c.loop-rest.place c.loop-rest.invariant c.split_first.ensures.split in
-    ap walked_of p.1 ∙ ap fault_of p.2 ∙ sym (c.in_err-place.ensures.fault (names_in c.split_first.result.1.now)) ∙ sym here
+    ap walked_of p.1 ∙ ap fault_of p.2 ∙ sym (c.in_err-place.ensures.fault (path_parts c.split_first.result.1.now)) ∙ sym here
 
 pub loop-rest-preserved : goal.loop-rest-preserved
 loop-rest-preserved g c =

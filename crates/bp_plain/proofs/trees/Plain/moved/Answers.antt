@@ -4,7 +4,7 @@ use Rattle.std.specs.Iterator.Adapters.{rev_source}
 use Rattle.std.specs.List.{filter_map}
 use Rattle.bp_plain.specs.Plain.{moved_entry}
 use Rattle.bp_plain.specs.PlainTree.{path_cmp}
-use Rattle.bp_plain.specs.SeenTree.{entry_seen, names_of, node_seen, with_moved}
+use Rattle.bp_plain.specs.SeenTree.{entry_kept, names_of, node_seen, with_moved}
 use Rattle.bp_plain.proofs.Kept.{all_entries}
 use Rattle.bp_plain.proofs.Renamed.{all_moved, all_moved-is, moved_more}
 use Rattle.bp_plain.proofs.trees.Plain.moved.Goals as goal
@@ -19,10 +19,10 @@ loop-path-preserved c =
 
 pub returns : goal.returns
 returns c =
-    ap (λ es. all_moved (names_of c.args.from.now) (names_of c.args.to.now) (map entry_seen es) c.loop-path.tree) (sym c.in-None.ensures.steps.0)
+    ap (λ es. all_moved (names_of c.args.from.now) (names_of c.args.to.now) (map entry_kept es) c.loop-path.tree) (sym c.in-None.ensures.steps.0)
     ∙ c.loop-path.invariant
-    ∙ ap₂ (λ es tree. all_moved (names_of c.args.from.now) (names_of c.args.to.now) (map entry_seen es) tree)
+    ∙ ap₂ (λ es tree. all_moved (names_of c.args.from.now) (names_of c.args.to.now) (map entry_kept es) tree)
     (ap rev_source c.into_iter-path-iterator.ensures.into_iter_gives ∙ c.rev-path-items.ensures.source ∙ c.iter.ensures.rest) c.with_nothing-tree.ensures
-    ∙ all_moved-is (names_of c.args.from.now) (names_of c.args.to.now) (map entry_seen c.self.inside.nodes.entries)
+    ∙ all_moved-is (names_of c.args.from.now) (names_of c.args.to.now) (map entry_kept c.self.inside.nodes.entries)
     ∙ ap (λ es. from_entries {R = path_cmp} (filter_map (moved_entry (names_of c.args.from.now) (names_of c.args.to.now)) es))
     (sym (all_entries c.self.inside.nodes.entries c.self.invariant) ∙ ap entries c.self.view_is)

@@ -1,5 +1,5 @@
 use Rattle.std.proofs.Common.{◌∙◌, ap}
-use Rattle.bp_plain.specs.Plain.{without}
+use Rattle.bp_plain.specs.Plain.{with_nothing_at}
 use Rattle.bp_plain.specs.SeenTree.{names_of}
 use Rattle.bp_plain.proofs.Kept.{sorted_without, tree_without}
 use Rattle.bp_plain.proofs.trees.Plain.take.Goals as goal
@@ -10,4 +10,4 @@ invariant_of-self c = sorted_without c.self.inside.nodes.entries c.self.invarian
 pub returns : goal.returns
 returns c =
     tree_without c.self.inside.nodes.entries c.self.invariant c.args.path.now _ c.remove.ensures.entries
-    ∙ ap (λ tree. without tree (names_of c.args.path.now)) c.self.view_is
+    ∙ ap (λ tree. with_nothing_at tree (names_of c.args.path.now)) c.self.view_is

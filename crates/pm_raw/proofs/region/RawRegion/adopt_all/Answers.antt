@@ -1,4 +1,4 @@
-use Rattle.std.proofs.Common.{◌∙◌, ap, refl, length, take}
+use Rattle.std.proofs.Common.{◌∙◌, ap, refl}
 use Rattle.pm_region.specs.Memory.{Memory}
 use Rattle.pm_raw.specs.Entries.{events_of}
 use Rattle.pm_raw.specs.Undo.{undone}
@@ -8,8 +8,8 @@ use Rattle.pm_raw.proofs.region.RawRegion.adopt_all.Goals as goal
 pub invariant_of-self : goal.invariant_of-self
 invariant_of-self c =
     let region = c.self.inside in
-    let log = events_of (take region.count region.words) (take region.count region.values) in
-    let replaced = take region.count region.replaced in
+    let log = events_of region.entries.words region.entries.values in
+    let replaced = region.entries.replaced in
     let step = c.self.invariant in
     let none = ap (λ (m : Memory). m.events) c.self.view_is ∙ c.requires.drained in
     record {
@@ -18,8 +18,8 @@ invariant_of-self c =
       barriers = step.barriers;
       marks = step.marks;
       few = c.requires.few;
-      values_sized = step.values_sized;
-      replaced_sized = step.replaced_sized;
+      values_counted = step.values_counted;
+      replaced_counted = step.replaced_counted;
       fits = step.fits;
       small = step.small;
     }
@@ -27,7 +27,7 @@ invariant_of-self c =
 pub returns : goal.returns
 returns c =
     let region = c.self.inside in
-    let log = events_of (take region.count region.words) (take region.count region.values) in
-    let replaced = take region.count region.replaced in
+    let log = events_of region.entries.words region.entries.values in
+    let replaced = region.entries.replaced in
     let none = ap (λ (m : Memory). m.events) c.self.view_is ∙ c.requires.drained in
-    memory-adopted (λ _. c.args.words) _ region.current c.args.words log replaced (length region.words) region.drains c.self.view_is none refl
+    memory-adopted (λ _. c.args.words) _ region.current c.args.words log replaced (region.entries.room) region.drains c.self.view_is none refl

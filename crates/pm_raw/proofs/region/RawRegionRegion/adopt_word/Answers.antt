@@ -1,4 +1,4 @@
-use Rattle.std.proofs.Common.{◌∙◌, ap, arith, length, set, take}
+use Rattle.std.proofs.Common.{◌∙◌, ap, arith, length, set}
 use Rattle.std.proofs.lemmas.List.{length-set}
 use Rattle.pm_region.specs.Memory.{Memory}
 use Rattle.pm_raw.specs.Entries.{events_of}
@@ -9,8 +9,8 @@ use Rattle.pm_raw.proofs.region.RawRegionRegion.adopt_word.Goals as goal
 pub set-requires : goal.set-requires
 set-requires c =
     let region = c.self.inside in
-    let log = events_of (take region.count region.words) (take region.count region.values) in
-    let replaced = take region.count region.replaced in
+    let log = events_of region.entries.words region.entries.values in
+    let replaced = region.entries.replaced in
     let step = c.self.invariant in
     let base_is = ap (λ (m : Memory). length m.base) c.self.view_is in
     let base_long = length-undone region.current log replaced in
@@ -19,8 +19,8 @@ set-requires c =
 pub invariant_of-self : goal.invariant_of-self
 invariant_of-self c =
     let region = c.self.inside in
-    let log = events_of (take region.count region.words) (take region.count region.values) in
-    let replaced = take region.count region.replaced in
+    let log = events_of region.entries.words region.entries.values in
+    let replaced = region.entries.replaced in
     let step = c.self.invariant in
     let base_is = ap (λ (m : Memory). length m.base) c.self.view_is in
     let base_long = length-undone region.current log replaced in
@@ -31,8 +31,8 @@ invariant_of-self c =
       barriers = step.barriers;
       marks = step.marks;
       few = omega (arith, ap length c.set.ensures, length-set region.current c.args.word c.args.value, step.few);
-      values_sized = step.values_sized;
-      replaced_sized = step.replaced_sized;
+      values_counted = step.values_counted;
+      replaced_counted = step.replaced_counted;
       fits = step.fits;
       small = step.small;
     }
@@ -40,10 +40,10 @@ invariant_of-self c =
 pub returns : goal.returns
 returns c =
     let region = c.self.inside in
-    let log = events_of (take region.count region.words) (take region.count region.values) in
-    let replaced = take region.count region.replaced in
+    let log = events_of region.entries.words region.entries.values in
+    let replaced = region.entries.replaced in
     let step = c.self.invariant in
     let base_is = ap (λ (m : Memory). length m.base) c.self.view_is in
     let base_long = length-undone region.current log replaced in
     let none = ap (λ (m : Memory). m.events) c.self.view_is ∙ c.requires.drained in
-    memory-adopted (λ words. set words c.args.word c.args.value) _ region.current _ log replaced (length region.words) region.drains c.self.view_is none c.set.ensures
+    memory-adopted (λ words. set words c.args.word c.args.value) _ region.current _ log replaced (region.entries.room) region.drains c.self.view_is none c.set.ensures

@@ -1,4 +1,4 @@
-use Rattle.std.proofs.Common.{◌+◌, ◌≤◌, ◌∙◌, ap, arith, length, take}
+use Rattle.std.proofs.Common.{◌+◌, ◌≤◌, ◌∙◌, ap, arith, length}
 use Rattle.pm_region.specs.Memory.{Memory, with_values}
 use Rattle.pm_region.proofs.MemoryLaws.{length-with_values}
 use Rattle.pm_raw.specs.Entries.{events_of}
@@ -9,8 +9,8 @@ use Rattle.pm_raw.proofs.region.RawRegionRegion.adopt_words.Goals as goal
 pub overwrite-requires : goal.overwrite-requires
 overwrite-requires c =
     let region = c.self.inside in
-    let log = events_of (take region.count region.words) (take region.count region.values) in
-    let replaced = take region.count region.replaced in
+    let log = events_of region.entries.words region.entries.values in
+    let replaced = region.entries.replaced in
     let step = c.self.invariant in
     let base_is = ap (λ (m : Memory). length m.base) c.self.view_is in
     let base_long = length-undone region.current log replaced in
@@ -22,8 +22,8 @@ overwrite-requires c =
 pub invariant_of-self : goal.invariant_of-self
 invariant_of-self c =
     let region = c.self.inside in
-    let log = events_of (take region.count region.words) (take region.count region.values) in
-    let replaced = take region.count region.replaced in
+    let log = events_of region.entries.words region.entries.values in
+    let replaced = region.entries.replaced in
     let step = c.self.invariant in
     let base_is = ap (λ (m : Memory). length m.base) c.self.view_is in
     let base_long = length-undone region.current log replaced in
@@ -39,8 +39,8 @@ invariant_of-self c =
       barriers = step.barriers;
       marks = step.marks;
       few = omega (arith, ap length next_is, size, step.few);
-      values_sized = step.values_sized;
-      replaced_sized = step.replaced_sized;
+      values_counted = step.values_counted;
+      replaced_counted = step.replaced_counted;
       fits = step.fits;
       small = step.small;
     }
@@ -48,8 +48,8 @@ invariant_of-self c =
 pub returns : goal.returns
 returns c =
     let region = c.self.inside in
-    let log = events_of (take region.count region.words) (take region.count region.values) in
-    let replaced = take region.count region.replaced in
+    let log = events_of region.entries.words region.entries.values in
+    let replaced = region.entries.replaced in
     let step = c.self.invariant in
     let base_is = ap (λ (m : Memory). length m.base) c.self.view_is in
     let base_long = length-undone region.current log replaced in
@@ -59,5 +59,5 @@ returns c =
     let fits : first + length values ≤ length c.as_mut_slice.result.now = omega (arith, c.requires.in_range, base_is, base_long, ap length c.as_mut_slice.ensures.value) in
     let size = ap length c.overwrite.ensures ∙ length-with_values c.as_mut_slice.result.now first values fits ∙ ap length c.as_mut_slice.ensures.value in
     let next_is = c.as_mut_slice.ensures.same_len c.overwrite.new.words size in
-    memory-adopted (λ words. with_values words first values) _ region.current _ log replaced (length region.words) region.drains c.self.view_is none
+    memory-adopted (λ words. with_values words first values) _ region.current _ log replaced (region.entries.room) region.drains c.self.view_is none
     (next_is ∙ c.overwrite.ensures ∙ ap (λ words. with_values words first values) c.as_mut_slice.ensures.value)

@@ -9,7 +9,7 @@ use Rattle.pm_raw.proofs.region.RawRegionRegion.barriers_before.Goals as goal
 pub returns : goal.returns
 returns c =
     let region = c.self.inside in
-    let log = events_of (take region.count region.words) (take region.count region.values) in
+    let log = events_of region.entries.words region.entries.values in
     let kept = ap (λ (p : Placed). p.items) c.self.invariant.barriers in
     c.before-2.ensures
     ∙ barriers-below log region.barriers.items c.args.moment kept

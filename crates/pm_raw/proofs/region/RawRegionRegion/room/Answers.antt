@@ -1,27 +1,18 @@
-use Rattle.std.proofs.Common.{◌≡◌, ◌∙◌, ap, arith, length, sym, take}
-use Rattle.std.proofs.lemmas.List.{length-take-le}
+use Rattle.std.proofs.Common.{◌≡◌, ap, arith, length}
 use Rattle.pm_region.specs.Memory.{Memory}
 use Rattle.pm_raw.specs.Entries.{events_of}
 use Rattle.pm_raw.proofs.EntryLaws.{length_events}
-use Rattle.pm_raw.proofs.UndoLaws.{length-undone}
 use Rattle.pm_raw.proofs.region.RawRegionRegion.room.Goals as goal
 
 pub returns : goal.returns
 returns c =
     let region = c.self.inside in
-    let words = take region.count region.words in
-    let values = take region.count region.values in
+    let words = region.entries.words in
+    let values = region.entries.values in
     let log = events_of words values in
-    let replaced = take region.count region.replaced in
+    let replaced = region.entries.replaced in
     let step = c.self.invariant in
-    let words_long = length-take-le region.count region.words step.fits in
-    let values_long = length-take-le region.count region.values (omega (arith, step.fits, step.values_sized)) in
-    let replaced_long = length-take-le region.count region.replaced (omega (arith, step.fits, step.replaced_sized)) in
-    let same : length values ≡ length words = values_long ∙ sym words_long in
-    let long : length log ≡ region.count = length_events words values same ∙ words_long in
-    let each : length replaced ≡ length log = replaced_long ∙ sym long in
-    let base_is = ap (λ (m : Memory). length m.base) c.self.view_is in
-    let base_long = length-undone region.current log replaced in
+    let long : length log ≡ length words = length_events words values step.values_counted in
     let events_are = ap (λ (m : Memory). length m.events) c.self.view_is in
     let capacity_is = ap (λ (m : Memory). m.capacity) c.self.view_is in
-    omega (arith, c.len.ensures, long, events_are, capacity_is)
+    omega (arith, c.room.ensures, long, events_are, capacity_is)

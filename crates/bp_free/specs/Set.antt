@@ -44,4 +44,4 @@ pub record Fills (from to : ℕ) (old new : Set) : Type 0 where
   pub room : length new ≡ length old
   pub inside : (k : ℕ) → from ≤ k → k < to → has new k ≡ true
   pub below : (k : ℕ) → k < from → has new k ≡ has old k
-  pub members_above : (k : ℕ) → to ≤ k → has new k ≡ has old k
+  pub above : (k : ℕ) → to ≤ k → has new k ≡ has old k

@@ -4,9 +4,13 @@ use Rattle.bp_limits.specs.Limits.{block_size}
 use Rattle.bp_io.specs.declared.access.Access.{Access}
 use Rattle.bp_io.specs.declared.access.Access.TheVariants.{Read, Write, Make}
 
+-- the bytes of so many blocks, from one on
+abbrev pub blocks_of : List ℕ → ℕ → ℕ → List ℕ
+blocks_of bytes first count = slice_range bytes (block_size * first) (block_size * first + block_size * count)
+
 -- a block's bytes
 abbrev pub block_of : List ℕ → ℕ → List ℕ
-block_of bytes i = slice_range bytes (block_size * i) (block_size * i + block_size)
+block_of bytes i = blocks_of bytes i 1
 
 -- a file with another block at i
 abbrev pub with_block : ℕ → List ℕ → List ℕ → List ℕ
@@ -130,9 +134,10 @@ pub record KeepsSize (old new : View) : Type 0 where
   pub bytes : KeepsAttached old new
   pub blocks : new.blocks ≡ old.blocks
 
--- These are the bytes of the block i of the attached file, where they are told.
-abbrev pub IsBlock : View → ℕ → List ℕ → Type 0
-IsBlock old i block = (name : List ℕ) → old.is_attached name ≡ true → Tells (old.contents name) (λ bytes. block ≡ block_of bytes i)
+-- These are the bytes of so many blocks of the attached file, from one on, where they are told.
+abbrev pub AreBlocks : View → ℕ → ℕ → List ℕ → Type 0
+AreBlocks old first count read = (name : List ℕ) → old.is_attached name ≡ true
+    → Tells (old.contents name) (λ bytes. read ≡ blocks_of bytes first count)
 
 -- Nothing changes but the count of faults.
 pub record Reads (old new : View) : Type 0 where

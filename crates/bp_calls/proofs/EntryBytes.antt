@@ -7,7 +7,7 @@ use Rattle.bp_layout.specs.Words.{Image, byte_of}
 use Rattle.bp_layout.proofs.NameBytes.{map-tells}
 use Rattle.pm_words.specs.Bytes.{word_bytes, word_of}
 use Rattle.pm_words.proofs.Bytes.{word_of_bytes}
-use Rattle.bp_calls.specs.Entries.{IsEntry, entry_byte}
+use Rattle.bp_calls.specs.Entries.{AreEntryBytes, entry_byte}
 
 -- words of 64 bits with the same bytes are one
 pub same_word : (a b : ℕ) → a < 2 ^ 64 → b < 2 ^ 64 → ((c : ℕ) → c < 8 → byte_of a c ≡ byte_of b c) → a ≡ b
@@ -23,7 +23,7 @@ same_word a b low high same =
     let all : word_bytes a ≡ word_bytes b = rw (none, one, two, three, four, five, six, seven) refl in
     sym (word_of_bytes a low) ∙ ap word_of all ∙ word_of_bytes b high
 
-module _ (image : Image) (root size j : ℕ) (name : Name) (bytes : List ℕ) (entries : size % 256 ≡ 0) (entry : IsEntry j name bytes)
+module _ (image : Image) (root size j : ℕ) (name : Name) (bytes : List ℕ) (entries : size % 256 ≡ 0) (entry : AreEntryBytes j name bytes)
     (laid : (o : ℕ) → size ≤ o → o < size + 256 → byte image root o ≡ given size bytes o) where
   byte_there : (o : ℕ) → o < 256 → byte image root (size + o) ≡ slice_index bytes o
   byte_there o low = let offset : size + o - size ≡ o = omega arith in laid (size + o) (omega arith) (omega (arith, low)) ∙ rw (le-leb size (size + o) (omega arith), offset) refl

@@ -18,7 +18,7 @@ use Rattle.bp_layout.specs.Words.{Image, height_of}
 use Rattle.bp_limits.specs.Limits.{max_size}
 use Rattle.pm_region.specs.Memory.{Memory, current_words}
 use Rattle.pm_region.proofs.MemoryLaws.{length-current_words}
-use Rattle.bp_calls.specs.Entries.{IsEntry, PutsBehind}
+use Rattle.bp_calls.specs.Entries.{AreEntryBytes, PutsBehind}
 use Rattle.bp_calls.specs.Steps.{CanPutBehind}
 use Rattle.bp_calls.proofs.EnteredLaws.{directory_inode}
 use Rattle.bp_calls.proofs.EntryBytes.{inumber_there, length_there, inumber_read, name_read_back}
@@ -61,7 +61,7 @@ module _ (old : Memory) (blocks : Set) (j : ℕ) (name : Name) where
   put_prepares zero can path is size e = absurd (directory_inode image 0 can.lacks.directory refl)
   put_prepares (suc n) can path is size e = rw e (prepares n can path is)
 
-  module _ (new : Memory) (rest : List ℕ) (i size : ℕ) (bytes : List ℕ) (can : CanPutBehind old blocks i name) (e : size ≡ size_of image i) (entry : IsEntry j name bytes)
+  module _ (new : Memory) (rest : List ℕ) (i size : ℕ) (bytes : List ℕ) (can : CanPutBehind old blocks i name) (e : size ≡ size_of image i) (entry : AreEntryBytes j name bytes)
       (prepared : PreparesWith old new (members blocks) rest i size (size + 256) bytes) where
     pub put_well_formed : IsWellFormed (current_words new)
     put_well_formed = well_formed-same image (current_words new) can.lacks.well_formed prepared.ready.meaning

@@ -16,12 +16,12 @@ use Rattle.bp_tree.specs.Bytes.{stored_byte, stored_bytes}
 use Rattle.bp_dirs.specs.EntryWords.{HasWords, IsRow}
 use Rattle.bp_dirs.proofs.EntryWords.{name_in-words}
 use Rattle.bp_calls.specs.Asked.{kind_seen, entry_seen, entries_seen}
-use Rattle.bp_calls.specs.Rows.{IsEntry}
+use Rattle.bp_calls.specs.Rows.{IsEntryRow}
 use Rattle.bp_calls.proofs.ReadingLaws.{IsInode, inode_here, name_most, kind_from_word, seen-parts, seen-none}
 
 -- ---- one entry
 
-module _ (image : Image) (wf : IsWellFormed image) (words : List ℕ) (is : IsEntry image words) (some : slice_index words 0 ≢ 0) where
+module _ (image : Image) (wf : IsWellFormed image) (words : List ℕ) (is : IsEntryRow image words) (some : slice_index words 0 ≢ 0) where
   there : inumber_in image (root_of image is.directory) is.slot ≢ 0
   there none = some (is.has.each 0 (omega arith) ∙ none)
 

@@ -16,8 +16,8 @@ entry_byte inumber name at =
     else slice_index name (at - 16)
 
 -- these are the bytes of an entry
-abbrev pub IsEntry : ℕ → Name → List ℕ → Type 0
-IsEntry inumber name bytes = (at : ℕ) → at < entry_size → slice_index bytes at ≡ entry_byte inumber name at
+abbrev pub AreEntryBytes : ℕ → Name → List ℕ → Type 0
+AreEntryBytes inumber name bytes = (at : ℕ) → at < entry_size → slice_index bytes at ≡ entry_byte inumber name at
 
 -- Directory i is prepared for one entry more, which names inode j. Nobody sees it.
 pub record PutsBehind (old new : Memory) (free_old free_new : List ℕ) (i j : ℕ) (name : Name) : Type 0 where

@@ -7,7 +7,7 @@ use Rattle.bp_layout.specs.Inode.{kind_of, root_of}
 use Rattle.bp_layout.specs.Reached.{IsReached}
 
 -- those of one entry
-pub record IsEntry (image : Image) (words : List ℕ) : Type 0 where
+pub record IsEntryRow (image : Image) (words : List ℕ) : Type 0 where
   pub directory : ℕ
   pub slot : ℕ
   pub reached : IsReached image directory

@@ -3,7 +3,7 @@
 ghost use Rattle.std.specs.Prelude.{Some, true, ◌≡◌, ◌+◌, ◌≤◌, length};
 ghost use Rattle.bp_shapes.specs.Sets.{AreExact};
 ghost use Rattle.bp_calls.specs.Created.{EntersName};
-ghost use Rattle.bp_calls.specs.Entries.{IsEntry, PutsBehind, entry_byte};
+ghost use Rattle.bp_calls.specs.Entries.{AreEntryBytes, PutsBehind, entry_byte};
 ghost use Rattle.bp_calls.specs.Growth.{PerformsWithin, stores_behind_growth};
 ghost use Rattle.bp_calls.specs.Steps.{CanEnterBehind, CanName, CanPutBehind, entering_room};
 ghost use Rattle.bp_free.specs.Set.{Set, members, without};
@@ -81,7 +81,7 @@ fn entry_byte(inode: u32, name: &[u8], at: usize) -> u8
 
 /// The bytes of an entry.
 fn entry_bytes(inode: u32, name: &[u8]) -> [u8; ENTRY_SIZE as usize]
-    ensures { IsEntry inode name.now result }
+    ensures { AreEntryBytes inode name.now result }
 {
     let mut bytes = [0; ENTRY_SIZE as usize];
     for at in 0..bytes.len() {

@@ -3,7 +3,7 @@
 ghost use Rattle.std.specs.Prelude.{◌++◌, ◌≡◌, ℕ, IfOk, OnOk, [], drop, length};
 ghost use Rattle.std.specs.List.{cons_option, filter_map, range_with_len};
 ghost use Rattle.bp_calls.specs.Asked.{ListsNames, entries_seen, entry_seen};
-ghost use Rattle.bp_calls.specs.Rows.{AreEntries, IsEntry};
+ghost use Rattle.bp_calls.specs.Rows.{AreEntries, IsEntryRow};
 ghost use Rattle.bp_dirs.specs.EntryWords.{HasWords, IsRow};
 ghost use Rattle.bp_layout.specs.Directory.{entry_count};
 ghost use Rattle.bp_layout.specs.Inode.{kind_of, root_of};
@@ -75,7 +75,7 @@ fn list_row<R: Region>(region: &R, words: &[u64], listing: &mut Listing) -> Resu
 /// Adds the kind and the name of an entry of a directory, where it names an inode.
 fn list_entry<R: Region>(region: &R, words: &[u64], listing: &mut Listing) -> Result<(), AllocError>
     requires well_formed { IsWellFormed (current_words (R.memory region.now)) }
-    requires entry { IsEntry (current_words (R.memory region.now)) words.now }
+    requires entry { IsEntryRow (current_words (R.memory region.now)) words.now }
     ensures { let image = current_words (R.memory region.now) in
         (i slot : ℕ) → HasWords image (root_of image i) slot words.now
         → OnOk result (listing.new ≡ listing.old ++ cons_option (entry_seen image i slot) []) }

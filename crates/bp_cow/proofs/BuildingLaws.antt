@@ -10,7 +10,7 @@ use Rattle.bp_shapes.specs.Forest.{IsExactSet}
 use Rattle.bp_layout.specs.Stores.{EqualBut}
 use Rattle.bp_shapes.proofs.PathTrails.{word-placed, low-placed}
 use Rattle.bp_cow.specs.Stage.{IsBuilding}
-use Rattle.bp_cow.specs.Copies.{Patch, Takes, TurnsTo, with_block}
+use Rattle.bp_cow.specs.Copies.{Patch, TakesBlock, TurnsTo, pointing_to}
 use Rattle.bp_shapes.proofs.TrailLaws.{word_on-slot, Turns, pointer-turned}
 use Rattle.bp_shapes.proofs.StoreLaws.{store_turns, copy-kept}
 use Rattle.bp_cow.proofs.StageLaws.{stage_start, stage_copy, stage_word}
@@ -61,7 +61,7 @@ module _ (old words : Image) (place pointer : ℕ) (cover : Trail) (Pointer : Tr
 
     module _ (after : Image) (copy : ℕ) (free_after : ℕ → Bool) (patch : Patch) (pointed : Pointer (slot ∷ p)) (first : anew (slot ∷ p) → ⊥)
         (plain : (s w : ℕ) → Pointer (s ∷ slot ∷ p) → patch s w ≡ w) (lays : (s : ℕ) → s < 512 → patch s (word_on old (s ∷ slot ∷ p)) ≡ laid (s ∷ slot ∷ p))
-        (turned : TurnsTo patch words after (512 * block_on (set words place pointer) p + slot) copy) (takes : Takes free free_after copy) where
+        (turned : TurnsTo patch words after (512 * block_on (set words place pointer) p + slot) copy) (takes : TakesBlock free free_after copy) where
       clash : (b : ℕ) → free b ≡ true → free b ≡ false → ⊥
       clash b one two = absurd (cc)
 
@@ -84,11 +84,11 @@ module _ (old words : Image) (place pointer : ℕ) (cover : Trail) (Pointer : Tr
       pointer_now : word words (512 * block_on (set words place pointer) p + slot) ≡ word_on (set words place pointer) (slot ∷ p)
       pointer_now = word-loaded
 
-      after_is : set after place pointer ≡ set (set turned.mid place pointer) (512 * block_on (set words place pointer) p + slot) (with_block (word_on (set words place pointer) (slot ∷ p)) copy)
+      after_is : set after place pointer ≡ set (set turned.mid place pointer) (512 * block_on (set words place pointer) p + slot) (pointing_to (word_on (set words place pointer) (slot ∷ p)) copy)
       after_is =
           ap (λ ws. set ws place pointer) turned.turned
-          ∙ set_comm turned.mid (512 * block_on (set words place pointer) p + slot) place (with_block (word words (512 * block_on (set words place pointer) p + slot)) copy) pointer other_place
-          ∙ ap (λ w. set (set turned.mid place pointer) (512 * block_on (set words place pointer) p + slot) (with_block w copy)) pointer_now
+          ∙ set_comm turned.mid (512 * block_on (set words place pointer) p + slot) place (pointing_to (word words (512 * block_on (set words place pointer) p + slot)) copy) pointer other_place
+          ∙ ap (λ w. set (set turned.mid place pointer) (512 * block_on (set words place pointer) p + slot) (pointing_to w copy)) pointer_now
 
       -- the words of the copy
       copy_slot : (s : ℕ) → s < 512 → slot_word (set turned.mid place pointer) copy s ≡ patch s (slot_word (set words place pointer) (block_on (set words place pointer) (slot ∷ p)) s)
@@ -112,24 +112,24 @@ module _ (old words : Image) (place pointer : ℕ) (cover : Trail) (Pointer : Tr
               sym (slot_word-same words (set words place pointer) (block_on (set words place pointer) (slot ∷ p)) s
               (λ _. get_or-set_other words place (512 * block_on (set words place pointer) (slot ∷ p) + s) pointer 0 (apart (slot ∷ p) s pointed longer some few)))
 
-      leads : block_of (with_block (word_on (set words place pointer) (slot ∷ p)) copy) ≡ copy
+      leads : block_of (pointing_to (word_on (set words place pointer) (slot ∷ p)) copy) ≡ copy
       leads = omega arith
 
       stored_slot : (s : ℕ) → s < 512 →
-          slot_word (set (set turned.mid place pointer) (512 * block_on (set words place pointer) p + slot) (with_block (word_on (set words place pointer) (slot ∷ p)) copy)) copy s
+          slot_word (set (set turned.mid place pointer) (512 * block_on (set words place pointer) p + slot) (pointing_to (word_on (set words place pointer) (slot ∷ p)) copy)) copy s
           ≡ patch s (word_on (set words place pointer) (s ∷ slot ∷ p))
       stored_slot s few =
-          copy-kept (set words place pointer) (set turned.mid place pointer) Pointer pointers building.stage.skeleton some_seen copy equal not_null unnamed (slot ∷ p) (with_block (word_on (set words place pointer) (slot ∷ p)) copy) s (in_block slot p live present low) few
+          copy-kept (set words place pointer) (set turned.mid place pointer) Pointer pointers building.stage.skeleton some_seen copy equal not_null unnamed (slot ∷ p) (pointing_to (word_on (set words place pointer) (slot ∷ p)) copy) s (in_block slot p live present low) few
           ∙ copy_slot s few
           ∙ ap (patch s) (sym (word_on-slot (set words place pointer) s (slot ∷ p)))
 
-      turns_after : Turns (set words place pointer) (set after place pointer) Pointer (slot ∷ p) (with_block (word_on (set words place pointer) (slot ∷ p)) copy)
+      turns_after : Turns (set words place pointer) (set after place pointer) Pointer (slot ∷ p) (pointing_to (word_on (set words place pointer) (slot ∷ p)) copy)
       turns_after =
-          subst (λ ws. Turns (set words place pointer) ws Pointer (slot ∷ p) (with_block (word_on (set words place pointer) (slot ∷ p)) copy)) (sym after_is)
-          (store_turns (set words place pointer) (set turned.mid place pointer) Pointer pointers building.stage.skeleton some_seen copy equal not_null unnamed (slot ∷ p) (with_block (word_on (set words place pointer) (slot ∷ p)) copy)
+          subst (λ ws. Turns (set words place pointer) ws Pointer (slot ∷ p) (pointing_to (word_on (set words place pointer) (slot ∷ p)) copy)) (sym after_is)
+          (store_turns (set words place pointer) (set turned.mid place pointer) Pointer pointers building.stage.skeleton some_seen copy equal not_null unnamed (slot ∷ p) (pointing_to (word_on (set words place pointer) (slot ∷ p)) copy)
           (in_block slot p live present low)
           (λ _ s l.
-          ap (λ b. slot_word (set (set turned.mid place pointer) (512 * block_on (set words place pointer) p + slot) (with_block (word_on (set words place pointer) (slot ∷ p)) copy)) b s) leads
+          ap (λ b. slot_word (set (set turned.mid place pointer) (512 * block_on (set words place pointer) p + slot) (pointing_to (word_on (set words place pointer) (slot ∷ p)) copy)) b s) leads
           ∙ stored_slot s (pointers.slots s (slot ∷ p) l)
           ∙ plain s (word_on (set words place pointer) (s ∷ slot ∷ p)) l))
 
@@ -139,10 +139,10 @@ module _ (old words : Image) (place pointer : ℕ) (cover : Trail) (Pointer : Tr
       pub building_turn : IsBuilding old after place pointer cover Pointer (λ q. anew q ⊎ (q ≡ slot ∷ p)) value laid free_after
       building_turn =
           let longer : length cover ≤ length (slot ∷ p) = omega (arith, building.below p made) in
-          let still = placed-turned (set words place pointer) (set after place pointer) Pointer pointers (slot ∷ p) (with_block (word_on (set words place pointer) (slot ∷ p)) copy) turns_after cover longer building.placed in
+          let still = placed-turned (set words place pointer) (set after place pointer) Pointer pointers (slot ∷ p) (pointing_to (word_on (set words place pointer) (slot ∷ p)) copy) turns_after cover longer building.placed in
           record {
             some = building.some;
-            stage = stage_copy old (set words place pointer) (set after place pointer) Pointer pointers anew value laid free building.stage (slot ∷ p) (with_block (word_on (set words place pointer) (slot ∷ p)) copy) copy free_after
+            stage = stage_copy old (set words place pointer) (set after place pointer) Pointer pointers anew value laid free building.stage (slot ∷ p) (pointing_to (word_on (set words place pointer) (slot ∷ p)) copy) copy free_after
                 pointed first turns_after (omega arith) leads takes.was takes.gone takes.others
                 (λ s few kept.
                 ap (λ ws. slot_word ws copy s) after_is ∙ stored_slot s few ∙ ap (patch s) (building.stage.still (slot ∷ p) s pointed first few kept) ∙ lays s few);
@@ -186,7 +186,7 @@ module _ (old words : Image) (place pointer : ℕ) (cover : Trail) (Pointer : Tr
 module _ (old mid : Image) (cover : Trail) (Pointer : Trail → Type 0) (pointers : ArePointers Pointer) (value : Trail → Option ℕ) (laid : Trail → ℕ) (free free_after : ℕ → Bool) (copy : ℕ) (patch : Patch)
     (plain : (s w : ℕ) → Pointer (s ∷ cover) → patch s w ≡ w) (lays : (s : ℕ) → s < 512 → patch s (word_on old (s ∷ cover)) ≡ laid (s ∷ cover))
     (some : 0 < block_count old) (skeleton : IsSkeleton old Pointer) (exact : IsExactSet old Pointer free) (no_value : (p : Trail) → value p ≡ None)
-    (pointed : Pointer cover) (placed : IsPlaced old Pointer cover) (takes : Takes free free_after copy) (equal : EqualBut copy old mid)
+    (pointed : Pointer cover) (placed : IsPlaced old Pointer cover) (takes : TakesBlock free free_after copy) (equal : EqualBut copy old mid)
     (copied : (slot : ℕ) → slot < 512 → slot_word mid copy slot ≡ patch slot (slot_word old (block_on old cover) slot)) where
   first_clash : (b : ℕ) → free b ≡ true → free b ≡ false → ⊥
   first_clash b one two = absurd (cc)
@@ -197,31 +197,31 @@ module _ (old mid : Image) (cover : Trail) (Pointer : Trail → Type 0) (pointer
   first_unnamed : (q : Trail) → Pointer q → block_on old q ≢ copy
   first_unnamed q l same = first_clash copy takes.was (exact.live copy (record { trail = q; pointer = l; named = same; not_null = first_not_null }))
 
-  first_leads : block_of (with_block (word_on old cover) copy) ≡ copy
+  first_leads : block_of (pointing_to (word_on old cover) copy) ≡ copy
   first_leads = omega arith
 
-  first_stored_slot : (s : ℕ) → s < 512 → slot_word (set mid (place_on old cover) (with_block (word_on old cover) copy)) copy s ≡ patch s (word_on old (s ∷ cover))
+  first_stored_slot : (s : ℕ) → s < 512 → slot_word (set mid (place_on old cover) (pointing_to (word_on old cover) copy)) copy s ≡ patch s (word_on old (s ∷ cover))
   first_stored_slot s few =
-      copy-kept old mid Pointer pointers skeleton some copy equal first_not_null first_unnamed cover (with_block (word_on old cover) copy) s placed few
+      copy-kept old mid Pointer pointers skeleton some copy equal first_not_null first_unnamed cover (pointing_to (word_on old cover) copy) s placed few
       ∙ copied s few
       ∙ ap (patch s) (sym (word_on-slot old s cover))
 
-  turns_first : Turns old (set mid (place_on old cover) (with_block (word_on old cover) copy)) Pointer cover (with_block (word_on old cover) copy)
+  turns_first : Turns old (set mid (place_on old cover) (pointing_to (word_on old cover) copy)) Pointer cover (pointing_to (word_on old cover) copy)
   turns_first =
-      store_turns old mid Pointer pointers skeleton some copy equal first_not_null first_unnamed cover (with_block (word_on old cover) copy) placed
-      (λ _ s l. ap (λ b. slot_word (set mid (place_on old cover) (with_block (word_on old cover) copy)) b s) first_leads ∙ first_stored_slot s (pointers.slots s cover l) ∙ plain s (word_on old (s ∷ cover)) l)
+      store_turns old mid Pointer pointers skeleton some copy equal first_not_null first_unnamed cover (pointing_to (word_on old cover) copy) placed
+      (λ _ s l. ap (λ b. slot_word (set mid (place_on old cover) (pointing_to (word_on old cover) copy)) b s) first_leads ∙ first_stored_slot s (pointers.slots s cover l) ∙ plain s (word_on old (s ∷ cover)) l)
 
-  pub start_block : block_on (set mid (place_on old cover) (with_block (word_on old cover) copy)) cover ≡ copy
+  pub start_block : block_on (set mid (place_on old cover) (pointing_to (word_on old cover) copy)) cover ≡ copy
   start_block = ap block_of turns_first.turned ∙ first_leads
 
-  pub building_start : IsBuilding old mid (place_on old cover) (with_block (word_on old cover) copy) cover Pointer (λ q. ⊥ ⊎ (q ≡ cover)) value laid free_after
+  pub building_start : IsBuilding old mid (place_on old cover) (pointing_to (word_on old cover) copy) cover Pointer (λ q. ⊥ ⊎ (q ≡ cover)) value laid free_after
   building_start =
-      let still = placed-turned old (set mid (place_on old cover) (with_block (word_on old cover) copy)) Pointer pointers cover (with_block (word_on old cover) copy) turns_first cover (omega arith) placed in
+      let still = placed-turned old (set mid (place_on old cover) (pointing_to (word_on old cover) copy)) Pointer pointers cover (pointing_to (word_on old cover) copy) turns_first cover (omega arith) placed in
       record {
         some = some;
-        stage = stage_copy old old (set mid (place_on old cover) (with_block (word_on old cover) copy)) Pointer pointers (λ q. ⊥) value laid free
+        stage = stage_copy old old (set mid (place_on old cover) (pointing_to (word_on old cover) copy)) Pointer pointers (λ q. ⊥) value laid free
             (stage_start old Pointer (λ q. ⊥) value laid free skeleton exact (λ p n. n) no_value)
-            cover (with_block (word_on old cover) copy) copy free_after pointed (λ n. n) turns_first (omega arith) first_leads takes.was takes.gone takes.others
+            cover (pointing_to (word_on old cover) copy) copy free_after pointed (λ n. n) turns_first (omega arith) first_leads takes.was takes.gone takes.others
             (λ s few kept. first_stored_slot s few ∙ lays s few);
         placed = still.0;
         at = still.1;

@@ -19,7 +19,7 @@ use Rattle.bp_shapes.proofs.ExactSets.{unheld_exact}
 use Rattle.bp_cow.specs.declared.touched.Touched.{Touched}
 use Rattle.bp_cow.specs.declared.covering.FoundCover.{FoundCover}
 use Rattle.bp_cow.specs.Adds.{AddsCopyCommit}
-use Rattle.bp_cow.specs.Job.{Job, ways, copies, copied, IsAnew, IsTurned}
+use Rattle.bp_cow.specs.Job.{Job, ways, copies, copies_at, IsAnew, IsTurned}
 use Rattle.bp_cow.specs.Plan.{Plan}
 use Rattle.bp_cow.specs.Turned.{IsTurnedOver}
 use Rattle.bp_cow.specs.Committed.{IsCommitted, after_commit}
@@ -36,9 +36,9 @@ pub record CommitsCopies (bound : ℕ → ℕ) (touched : Touched) (old new : Me
   pub cover : ℕ
   pub has_cover : CoverHas (current_words old) touched cover
   pub taken : Set
-  pub count : length (members blocks) ≡ length (members taken) + copied (job_of touched) cover
+  pub count : length (members blocks) ≡ length (members taken) + copies_at (job_of touched) cover
   pub size : length taken ≡ length blocks
-  pub commit : AddsCopyCommit (has blocks) (has taken) (place_on (current_words old) (trail_of (end_path touched 0) cover)) (513 * copied (job_of touched) cover + length touched.words.now + 1) old new
+  pub commit : AddsCopyCommit (has blocks) (has taken) (place_on (current_words old) (trail_of (end_path touched 0) cover)) (513 * copies_at (job_of touched) cover + length touched.words.now + 1) old new
   pub words : IsCommitted (current_words old) (current_words new) (IsTreePointer (current_words old) bound) (IsTurned (job_of touched) cover) (after_commit (current_words old) (job_of touched))
   pub exact : IsExactSet (current_words new) (IsTreePointer (current_words old) bound) (has blocks_after)
 
@@ -61,13 +61,13 @@ committed_same old new Pointer turned other after to from stage = record {
     decide p (inl t) = inl (to p t)
     decide p (inr none) = inr (λ t. none (from p t))
 
-pub copied-some : (job : Job) (from : ℕ) → from ≤ length (job.way 0) → copied job from ≡ copies job from
+pub copied-some : (job : Job) (from : ℕ) → from ≤ length (job.way 0) → copies_at job from ≡ copies job from
 copied-some job from low = let test : nat_le from (length (job.way 0)) ≡ true = le-leb from (length (job.way 0)) low in rw test refl
 
-pub copied-none : (job : Job) (from : ℕ) → length (job.way 0) < from → copied job from ≡ 0
+pub copied-none : (job : Job) (from : ℕ) → length (job.way 0) < from → copies_at job from ≡ 0
 copied-none job from low = go (nat_le from (length (job.way 0))) refl
   where
-    go : (x : Bool) → nat_le from (length (job.way 0)) ≡ x → copied job from ≡ 0
+    go : (x : Bool) → nat_le from (length (job.way 0)) ≡ x → copies_at job from ≡ 0
     go false e = rw e refl
     go true e = absurd (omega (arith, low, leb-true from (length (job.way 0)) e))
 
@@ -145,7 +145,7 @@ module _ (bound : ℕ → ℕ) (touched : Touched) (first last : Memory) (blocks
         prepared = [];
         adds = subst (λ p. Adds first last (commit p (only_value touched (word old found.place)))) (sym at.place) adds;
         quiet = quiet_none Same old (same_self old wf);
-        piece = IsPiece-more 2 1 2 (513 * copied (job_of touched) found.len + length touched.words.now + 1) _ (omega arith) (omega arith) (IsPiece-commit _ _);
+        piece = IsPiece-more 2 1 2 (513 * copies_at (job_of touched) found.len + length touched.words.now + 1) _ (omega arith) (omega arith) (IsPiece-commit _ _);
       };
       only = tt;
       each = λ b was gone. absurd (clash (has blocks b) was gone);
@@ -170,14 +170,14 @@ module _ (bound : ℕ → ℕ) (touched : Touched) (first last : Memory) (blocks
   pub commits_turned : IsTurnedOver plan touched found.len found.place blocks taken first last → IsExactSet (current_words last) (IsTreePointer (current_words first) bound) (has after) →
       CommitsCopies bound touched first last blocks after
   commits_turned done exact =
-      let same : copied (job_of touched) found.len ≡ copies (job_of touched) found.len = copied-some (job_of touched) found.len short in
+      let same : copies_at (job_of touched) found.len ≡ copies (job_of touched) found.len = copied-some (job_of touched) found.len short in
       record {
         cover = found.len;
         has_cover = longest;
         taken = taken;
         count = omega (arith, done.count, same);
         size = done.size;
-        commit = subst (λ p. AddsCopyCommit (has blocks) (has taken) p (513 * copied (job_of touched) found.len + length touched.words.now + 1) first last) (sym at.place)
+        commit = subst (λ p. AddsCopyCommit (has blocks) (has taken) p (513 * copies_at (job_of touched) found.len + length touched.words.now + 1) first last) (sym at.place)
             (looser (has blocks) (has taken) found.place _ _ first last (omega (arith, same)) done.commit);
         words = committed_same (current_words first) (current_words last) (IsTreePointer (current_words first) bound) (IsAnew (job_of touched) found.len (ways (job_of touched)) found.len) (IsTurned (job_of touched) found.len) _
             (λ q n. record { copies = short; anew = n }) (λ q t. t.anew)

@@ -29,7 +29,7 @@ use Rattle.bp_cow.specs.CanCommit.{CanCommit}
 use Rattle.bp_cow.specs.Commit.{CommitsTouched, commit_stores, cover_word}
 use Rattle.bp_cow.specs.Committed.{IsCommitted, after_commit}
 use Rattle.bp_cow.specs.Cover.{end_path, CoverHas, commit_cover, copied_count}
-use Rattle.bp_cow.specs.Job.{Job, front, ways, begins, copied, turned_for, turned_upto, IsAnew, IsTurned}
+use Rattle.bp_cow.specs.Job.{Job, front, ways, begins, copies_at, turned_for, turned_upto, IsAnew, IsTurned}
 use Rattle.bp_cow.specs.Job.IsAnew.{is_cover, is_begun, is_front}
 use Rattle.bp_cow.specs.Touched.{IsTouched, all_paths, job_of}
 use Rattle.bp_cow.proofs.CommitEnd.{CommitsCopies}
@@ -74,7 +74,7 @@ module _ (bound : ℕ → ℕ) (touched : Touched) (old new : Memory) (blocks af
   cover-is : done.cover ≡ n
   cover-is = cover_length touched can.shape image done.cover done.has_cover
 
-  copied-is : copied (job_of touched) done.cover ≡ copied_count image touched
+  copied-is : copies_at (job_of touched) done.cover ≡ copied_count image touched
   copied-is = count_is touched can.shape image (none-begins image bound touched (has blocks) wf can) done.cover done.has_cover
 
   -- a free block is free under the image's own sizes
@@ -97,7 +97,7 @@ module _ (bound : ℕ → ℕ) (touched : Touched) (old new : Memory) (blocks af
       }
 
   abbrev taken : List ℕ
-  taken = copies (has blocks) (has done.taken) (place_on image (trail_of (end_path touched 0) done.cover)) (513 * copied (job_of touched) done.cover + length touched.words.now + 1) old new done.commit was_free
+  taken = copies (has blocks) (has done.taken) (place_on image (trail_of (end_path touched 0) done.cover)) (513 * copies_at (job_of touched) done.cover + length touched.words.now + 1) old new done.commit was_free
 
   -- the sets are told up to the number of blocks
   told : (set : Set) → length set ≡ length blocks → ((b : ℕ) → has set b ≡ true → has blocks b ≡ true) → length (members set) ≡ length (numbers_below (block_count image) (has set))
@@ -109,8 +109,8 @@ module _ (bound : ℕ → ℕ) (touched : Touched) (old new : Memory) (blocks af
 
   number-is : length taken ≡ copied_count image touched
   number-is =
-      copies_counted (has blocks) (has done.taken) (place_on image (trail_of (end_path touched 0) done.cover)) (513 * copied (job_of touched) done.cover + length touched.words.now + 1) old new done.commit was_free
-      (length (members blocks)) (length (members done.taken)) (copied (job_of touched) done.cover) (told blocks refl (λ b is. is)) (told done.taken done.size done.commit.fewer) done.count
+      copies_counted (has blocks) (has done.taken) (place_on image (trail_of (end_path touched 0) done.cover)) (513 * copies_at (job_of touched) done.cover + length touched.words.now + 1) old new done.commit was_free
+      (length (members blocks)) (length (members done.taken)) (copies_at (job_of touched) done.cover) (told blocks refl (λ b is. is)) (told done.taken done.size done.commit.fewer) done.count
       ∙ copied-is
 
   -- ---- the word of the cover
@@ -145,7 +145,7 @@ module _ (bound : ℕ → ℕ) (touched : Touched) (old new : Memory) (blocks af
   at : place_on image (trail_of first done.cover) ≡ cover_word image touched
   at = ap (λ k. place_on image (trail_of first k)) cover-is ∙ sym (cover_address touched can.shape image)
 
-  most : 513 * copied (job_of touched) done.cover + length touched.words.now + 1 ≡ commit_stores image touched
+  most : 513 * copies_at (job_of touched) done.cover + length touched.words.now + 1 ≡ commit_stores image touched
   most = ap (λ c. 513 * c + length touched.words.now + 1) copied-is
 
   pub commits_touched : CommitsTouched bound touched old new blocks after
@@ -159,10 +159,10 @@ module _ (bound : ℕ → ℕ) (touched : Touched) (old new : Memory) (blocks af
           (subst (λ m. IsPiece 2 m (done.commit.commit.prepared ++ commit (place_on image (trail_of first done.cover)) done.commit.value)) most done.commit.commit.piece);
     };
     taken = taken;
-    takes = copies_taken (has blocks) (has done.taken) (place_on image (trail_of first done.cover)) (513 * copied (job_of touched) done.cover + length touched.words.now + 1) old new done.commit was_free;
+    takes = copies_taken (has blocks) (has done.taken) (place_on image (trail_of first done.cover)) (513 * copies_at (job_of touched) done.cover + length touched.words.now + 1) old new done.commit was_free;
     number = number-is;
     from = each-of (λ b. has blocks b ≡ true) taken
-        (λ b one. (of_copy (has blocks) (has done.taken) (place_on image (trail_of first done.cover)) (513 * copied (job_of touched) done.cover + length touched.words.now + 1) old new done.commit was_free b one).0);
+        (λ b one. (of_copy (has blocks) (has done.taken) (place_on image (trail_of first done.cover)) (513 * copies_at (job_of touched) done.cover + length touched.words.now + 1) old new done.commit was_free b one).0);
     stays = stays-is;
     words = subst (λ k. IsCommitted image (current_words new) (IsTreePointer image bound) (IsTurned (job_of touched) k) (after_commit image (job_of touched))) cover-is done.words;
     exact = exact-unheld (current_words new) (IsTreePointer image bound) (IsReached image) bound (has after)
@@ -244,7 +244,7 @@ module _ (image : Image) (bound : ℕ → ℕ) (touched : Touched) (free : ℕ �
       all : turned_upto (job_of touched) from (ways (job_of touched)) ≤ 11 * ways (job_of touched)
       all = upto_few (job_of touched) from (ways (job_of touched)) (ways-short image bound touched free wf can)
 
-      go : (x : Bool) → nat_le from (length ((job_of touched).way 0)) ≡ x → copied (job_of touched) from ≤ 1 + 11 * ways (job_of touched)
+      go : (x : Bool) → nat_le from (length ((job_of touched).way 0)) ≡ x → copies_at (job_of touched) from ≤ 1 + 11 * ways (job_of touched)
       go true e = rw e (omega (arith, all))
       go false e = rw e (omega arith)
 

@@ -12,7 +12,7 @@ use Rattle.bp_shapes.specs.Forest.{IsTreePointer}
 use Rattle.bp_layout.specs.WellFormed.{IsWellFormed}
 use Rattle.bp_cow.specs.declared.touched.Run.{Run}
 use Rattle.bp_cow.specs.declared.touched.Touched.{Touched}
-use Rattle.bp_cow.specs.Job.{Job, ways, copied}
+use Rattle.bp_cow.specs.Job.{Job, ways, copies_at}
 use Rattle.bp_cow.specs.Touched.{run_path, run_way, run_end, run_leaves, run_paths, leaves_of, above, path_of, word_paths, all_paths, job_of, NoneBegins, IsRun, HasRun, IsTouched}
 use Rattle.bp_cow.specs.Cover.{BeginAlike, end_path, end_path_of, ends, ends_of}
 use Rattle.bp_cow.specs.CanCommit.{CanCommit}
@@ -210,7 +210,7 @@ module _ (touched : Touched) (shape : IsTouched touched) where
         let two = alike-all touched shape n alike first.path first.has in
         (one.0, same-take path first.path n one.0 two.0 (one.1 ∙ sym two.1))
 
-    some-copies : n ≤ length (job.way 0) → length (prefixes_of n [] (all_paths touched)) ≡ copied job n
+    some-copies : n ≤ length (job.way 0) → length (prefixes_of n [] (all_paths touched)) ≡ copies_at job n
     some-copies short = omega (arith, length-within P F (fronts_distinct n [] (all_paths touched)) to, length-within F P distinct back, length-upto job n (ways job), copied-some job n short)
       where
         P : List (List ℕ)
@@ -272,7 +272,7 @@ module _ (touched : Touched) (shape : IsTouched touched) where
         )
 
     -- the cover is the only touched word
-    no-copies : length (job.way 0) < n → length (prefixes_of n [] (all_paths touched)) ≡ copied job n
+    no-copies : length (job.way 0) < n → length (prefixes_of n [] (all_paths touched)) ≡ copies_at job n
     no-copies past = omega (arith, length-within (prefixes_of n [] (all_paths touched)) [] (fronts_distinct n [] (all_paths touched)) none, copied-none job n past)
       where
         whole : n ≡ length first.path
@@ -290,10 +290,10 @@ module _ (touched : Touched) (shape : IsTouched touched) where
             let f = (fronts_sound n [] (all_paths touched) q has).0 in
             omega (arith, f.low, f.high, short f.path f.has)
 
-    pub copied-need : length (prefixes_of n [] (all_paths touched)) ≡ copied job n
+    pub copied-need : length (prefixes_of n [] (all_paths touched)) ≡ copies_at job n
     copied-need = go (cases_lt (length (job.way 0)) n)
       where
-        go : (length (job.way 0) < n) ⊎ (n ≤ length (job.way 0)) → length (prefixes_of n [] (all_paths touched)) ≡ copied job n
+        go : (length (job.way 0) < n) ⊎ (n ≤ length (job.way 0)) → length (prefixes_of n [] (all_paths touched)) ≡ copies_at job n
         go (inl past) = no-copies past
         go (inr short) = some-copies short
 

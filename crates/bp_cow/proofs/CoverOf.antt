@@ -15,7 +15,7 @@ use Rattle.bp_shapes.proofs.TrailLaws.{word_on-top, word_on-slot}
 use Rattle.bp_cow.specs.declared.touched.Run.{Run}
 use Rattle.bp_cow.specs.declared.touched.Touched.{Touched}
 use Rattle.bp_cow.specs.Cover.{end_path, end_path_of, ends, ends_of, BeginAlike, CoverHas, IsCover, commit_cover, copied_count}
-use Rattle.bp_cow.specs.Job.{copied}
+use Rattle.bp_cow.specs.Job.{copies_at}
 use Rattle.bp_cow.specs.Touched.{HasRun, IsTouched, NoneBegins, all_paths, run_end, word_paths, job_of}
 use Rattle.bp_cow.proofs.CommonPaths.{Begins, Exists, all-begin, all-most, existing}
 use Rattle.bp_cow.proofs.CopiesNeed.{alike-all, has-word, has-of-run, copied-need}
@@ -184,5 +184,5 @@ module _ (touched : Touched) (shape : IsTouched touched) where
         ∙ address-on image (end_path touched 0) n (cover_has.alike.long 0 (some-ends touched shape)) (nodes_of image (end_path touched 0) n cover_has.exists)
 
     -- how many blocks are copied
-    pub count_is : NoneBegins (all_paths touched) → (n : ℕ) → CoverHas image touched n → copied (job_of touched) n ≡ copied_count image touched
+    pub count_is : NoneBegins (all_paths touched) → (n : ℕ) → CoverHas image touched n → copies_at (job_of touched) n ≡ copied_count image touched
     count_is apart n has = sym (copied-need touched shape apart n has.alike) ∙ ap (λ k. length (prefixes_of k [] (all_paths touched))) (cover_length n has)

@@ -12,7 +12,7 @@ use Rattle.bp_shapes.specs.Trail.{trail_of}
 use Rattle.bp_shapes.proofs.PathTrails.{length-trail_of}
 use Rattle.bp_cow.specs.CanCommit.{CanCommit}
 use Rattle.bp_cow.specs.Cover.{commit_cover, copied_count}
-use Rattle.bp_cow.specs.Job.{Job, front, ways, begins, copied, turned_for, turned_upto}
+use Rattle.bp_cow.specs.Job.{Job, front, ways, begins, copies_at, turned_for, turned_upto}
 use Rattle.bp_cow.specs.Touched.{IsTouched, NoneBegins, all_paths, run_leaves, leaves_of, job_of}
 use Rattle.bp_cow.specs.declared.touched.Run.{Run}
 use Rattle.bp_cow.specs.declared.touched.Touched.{Touched}
@@ -141,7 +141,7 @@ run_copies image touched shape apart run one few =
     all : turned_upto (job_of touched) (length (commit_cover image touched)) (ways (job_of touched)) ≤ 38 + 11 * length touched.words.now
     all = all-few touched shape run one few (length (commit_cover image touched))
 
-    go : (x : Bool) → nat_le (length (commit_cover image touched)) (length ((job_of touched).way 0)) ≡ x → copied (job_of touched) (length (commit_cover image touched)) ≤ 39 + 11 * length touched.words.now
+    go : (x : Bool) → nat_le (length (commit_cover image touched)) (length ((job_of touched).way 0)) ≡ x → copies_at (job_of touched) (length (commit_cover image touched)) ≤ 39 + 11 * length touched.words.now
     go true e = rw e (omega (arith, all))
     go false e = rw e (omega arith)
 

@@ -6,7 +6,7 @@ use Rattle.std.proofs.lemmas.List.{length-take}
 use Rattle.bp_layout.specs.Members.{Has}
 use Rattle.bp_shapes.specs.Trail.{Trail, trail_of}
 use Rattle.bp_shapes.proofs.PathTrails.{length-trail_of}
-use Rattle.bp_cow.specs.Job.{Job, front, begins, turns, turned_for, turned_upto}
+use Rattle.bp_cow.specs.Job.{Job, front, begins, turns_at, turned_for, turned_upto}
 use Rattle.bp_cow.proofs.NeedLaws.{begun-begins, begins-begun}
 use Rattle.bp_cow.proofs.RunFronts.{trail_of-take}
 use Rattle.bp_cow.proofs.Distinct.{AreDistinct, has-front, has-behind, has-either, distinct-append, same-take}
@@ -23,11 +23,11 @@ pub fronts_upto : Job → ℕ → ℕ → List (List ℕ)
 fronts_upto job from zero = []
 fronts_upto job from (suc i) = fronts_for job from i (length (job.way i)) ++ fronts_upto job from i
 
-length-new : (job : Job) (from i depth : ℕ) → length (new_front job from i depth) ≡ turns job from i depth
+length-new : (job : Job) (from i depth : ℕ) → length (new_front job from i depth) ≡ turns_at job from i depth
 unfolding new_front
 length-new job from i depth = go (begins job from i (front job i depth)) refl
   where
-    go : (x : Bool) → begins job from i (front job i depth) ≡ x → length (if begins job from i (front job i depth) then [] else take depth (job.way i) ∷ []) ≡ turns job from i depth
+    go : (x : Bool) → begins job from i (front job i depth) ≡ x → length (if begins job from i (front job i depth) then [] else take depth (job.way i) ∷ []) ≡ turns_at job from i depth
     go true e = rw e refl
     go false e = rw e refl
 

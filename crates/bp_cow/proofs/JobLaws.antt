@@ -24,7 +24,7 @@ use Rattle.bp_shapes.proofs.StoreLaws.{store_turns}
 use Rattle.bp_cow.proofs.BuildFacts.{value-here, value-none, laid-leaf, laid-other}
 use Rattle.bp_cow.specs.Cover.{end_path, end_path_of, ends, ends_of, BeginAlike}
 use Rattle.bp_cow.specs.CanCommit.{IsRunIn, HasRunIn, CanCommit}
-use Rattle.bp_cow.specs.Plan.{CanBuild}
+use Rattle.bp_cow.specs.Plan.{IsFeasible}
 use Rattle.bp_cow.proofs.RunLaws.{length-run_path, length-run_way, slot-run_path, slot-run_way, way-leaf, way-word, run_word-outside}
 use Rattle.bp_cow.proofs.RunFronts.{trail_of-take, front-run_way, end-run_way, between-run, same-run_path}
 use Rattle.bp_cow.proofs.CoverLaws.{run-slots, end-slots, some-ends}
@@ -274,7 +274,7 @@ module _ (old : Image) (bound : ℕ → ℕ) (touched : Touched) (free : ℕ →
         in_block (slice_index first d) (trail_of first d) (first-pointer d (omega (arith, low, short))) (exists d low)
         (end-slots touched can.shape 0 d (some-ends touched can.shape) (omega (arith, low, alike.long 0 (some-ends touched can.shape))))
 
-    pub can_build : (place : ℕ) → ((k : ℕ) → k < n → block_on old (trail_of first k) ≢ 0) → place_on old (trail_of first n) ≡ place → CanBuild old bound (job_of touched) n place free
+    pub can_build : (place : ℕ) → ((k : ℕ) → k < n → block_on old (trail_of first k) ≢ 0) → place_on old (trail_of first n) ≡ place → IsFeasible old bound (job_of touched) n place free
     can_build place exists at = record {
       some = some-ways;
       some_blocks = let least = wf.at_least in omega (arith, least);

@@ -7,7 +7,7 @@ use Rattle.std.proofs.lemmas.Bool.Decides.{Decides-and}
 use Rattle.std.proofs.lemmas.Slice.Eq.{bytes_eq-Decides}
 use Rattle.bp_shapes.specs.Trail.{Trail}
 use Rattle.bp_shapes.proofs.PathTrails.{length-trail_of}
-use Rattle.bp_cow.specs.Job.{Job, front, IsBegun, begins, turns, turned_for, turned_upto}
+use Rattle.bp_cow.specs.Job.{Job, front, IsBegun, begins, turns_at, turned_for, turned_upto}
 
 Decides-leb : (a b : ℕ) → Decides (nat_le a b) (a ≤ b)
 Decides-leb a b = (leb-true a b, le-leb a b)
@@ -47,17 +47,17 @@ begins-begun job from (suc i) q b = go (cases_eq b.which i) (λ less. begins-beg
         let yes_before : begins job from i q ≡ true = rest (record { which = b.which; depth = b.depth; early = omega (arith, b.early, n); low = b.low; high = b.high; same = b.same }) in
         absurd (cc)
 
-pub turns_none : (job : Job) (from i depth : ℕ) → IsBegun job from i (front job i depth) → turns job from i depth ≡ 0
+pub turns_none : (job : Job) (from i depth : ℕ) → IsBegun job from i (front job i depth) → turns_at job from i depth ≡ 0
 turns_none job from i depth b = rw (begins-begun job from i (front job i depth) b) refl
 
-pub turns_one : (job : Job) (from i depth : ℕ) → (IsBegun job from i (front job i depth) → ⊥) → turns job from i depth ≡ 1
+pub turns_one : (job : Job) (from i depth : ℕ) → (IsBegun job from i (front job i depth) → ⊥) → turns_at job from i depth ≡ 1
 turns_one job from i depth none = go (begins job from i (front job i depth)) refl
   where
-    go : (x : Bool) → begins job from i (front job i depth) ≡ x → turns job from i depth ≡ 1
+    go : (x : Bool) → begins job from i (front job i depth) ≡ x → turns_at job from i depth ≡ 1
     go false is = rw is refl
     go true is = absurd (none (begun-begins job from i (front job i depth) is))
 
-pub turned-next : (job : Job) (from i depth : ℕ) → from ≤ depth → turned_for job from i (depth + 1) ≡ turned_for job from i depth + turns job from i (depth + 1)
+pub turned-next : (job : Job) (from i depth : ℕ) → from ≤ depth → turned_for job from i (depth + 1) ≡ turned_for job from i depth + turns_at job from i (depth + 1)
 turned-next job from i depth low =
     let next : depth + 1 ≡ suc depth = omega arith in
     let test : nat_le from depth ≡ true = (Decides-leb from depth).1 low in

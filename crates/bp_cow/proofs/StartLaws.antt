@@ -8,7 +8,7 @@ use Rattle.bp_shapes.specs.Forest.{IsTreePointer}
 use Rattle.bp_shapes.proofs.ForestLaws.{pointers, skeleton}
 use Rattle.bp_shapes.proofs.PathTrails.{word-placed, low-placed}
 use Rattle.bp_cow.specs.Adds.{IsTakenWord}
-use Rattle.bp_cow.specs.Copies.{Takes, with_block}
+use Rattle.bp_cow.specs.Copies.{TakesBlock, pointing_to}
 use Rattle.bp_cow.specs.Job.{front, value_upto, laid_on, patch_at, IsAnew}
 use Rattle.bp_cow.specs.Plan.{Plan, IsMade, CanMake}
 use Rattle.bp_cow.proofs.BuildingLaws.{building_start}
@@ -50,7 +50,7 @@ module _ (plan : Plan) (from : ℕ) (can : CanMake plan from) where
       go (inl e) = ap plan.free e ∙ null (plan.free 0) refl
       go (inr some) = can.exact.live _ (record { trail = cover; pointer = pointed; named = refl; not_null = some })
 
-  module _ (copy : ℕ) (free_after : ℕ → Bool) (takes : Takes plan.free free_after copy) where
+  module _ (copy : ℕ) (free_after : ℕ → Bool) (takes : TakesBlock plan.free free_after copy) where
     pub start_to : (0 < copy) × (512 * copy + 512 ≤ length plan.old)
     start_to = let range = can.exact.in_range copy takes.was in (range.0, omega (arith, range.1, can.whole))
 
@@ -66,6 +66,6 @@ module _ (plan : Plan) (from : ℕ) (can : CanMake plan from) where
         can.some_blocks bones can.exact (λ p. refl) pointed can.placed takes equal
         (λ slot low. copied slot low ∙ ap (λ w. patch_at plan.job 0 from slot (slot_word plan.old (block_of w) slot)) start_word) in
         let none : 0 - plan.job.leaves ≡ 0 = omega arith in
-        building_same plan.old mid plan.place (with_block (word plan.old plan.place) copy) cover Pointer (λ q. ⊥ ⊎ (q ≡ cover)) (IsAnew plan.job from 0 from) (value_upto plan.job (0 - plan.job.leaves)) (laid_on plan.old plan.job) free_after
+        building_same plan.old mid plan.place (pointing_to (word plan.old plan.place) copy) cover Pointer (λ q. ⊥ ⊎ (q ≡ cover)) (IsAnew plan.job from 0 from) (value_upto plan.job (0 - plan.job.leaves)) (laid_on plan.old plan.job) free_after
         (anew_start plan.job from 0) (anew_start_back plan.job from 0)
         (rw (none, start_word, sym can.at) begun)

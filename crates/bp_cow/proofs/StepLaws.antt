@@ -7,7 +7,7 @@ use Rattle.bp_shapes.specs.Trail.{Trail, word_on, block_on}
 use Rattle.bp_shapes.specs.Forest.{IsTreePointer}
 use Rattle.bp_shapes.proofs.ForestLaws.{pointers}
 use Rattle.bp_shapes.proofs.PathTrails.{trail_of-next}
-use Rattle.bp_cow.specs.Copies.{Takes, TurnsTo, with_block}
+use Rattle.bp_cow.specs.Copies.{TakesBlock, TurnsTo, pointing_to}
 use Rattle.bp_cow.specs.Job.{ways, front, end_of, word_trail, value_upto, laid_on, patch_at, IsBegun, IsAnew}
 use Rattle.bp_cow.specs.Job.IsAnew.{is_cover, is_begun, is_front}
 use Rattle.bp_cow.specs.Adds.{IsTakenWord}
@@ -95,7 +95,7 @@ module _ (plan : Plan) (from i depth : ℕ) (now : Image) (free : ℕ → Bool) 
           back q (inr e) = is_begun (subst (IsBegun plan.job from i) (sym e) begun)
 
       module _ (after : Image) (copy : ℕ) (free_after : ℕ → Bool) (none : IsBegun plan.job from i (front plan.job i (depth + 1)) → ⊥)
-          (turned : TurnsTo (patch_at plan.job i (depth + 1)) now after (512 * block + slot) copy) (takes : Takes free free_after copy) where
+          (turned : TurnsTo (patch_at plan.job i (depth + 1)) now after (512 * block + slot) copy) (takes : TakesBlock free free_after copy) where
         first : IsAnew plan.job from i depth (slot ∷ way) → ⊥
         first n = not_anew plan.job from i depth low none (subst (IsAnew plan.job from i depth) (sym (trail_of-next (plan.job.way i) depth)) n)
 
@@ -143,7 +143,7 @@ module _ (plan : Plan) (from i depth : ℕ) (now : Image) (free : ℕ → Bool) 
         let same : (i + 1) - plan.job.leaves ≡ i - plan.job.leaves = omega (arith, leaf) in
         building_same plan.old _ plan.place _ _ Pointer (IsAnew plan.job from i depth) (IsAnew plan.job from (i + 1) from) _ _ free
         (λ q n. anew_next plan.job from i depth last low (can.cover i here) q n) (λ q n. anew_next_back plan.job from i depth last low (can.cover i here) q n)
-        (subst (λ n. IsBuilding plan.old now plan.place (with_block (word plan.old plan.place) plan.top) (front plan.job 0 from) Pointer (IsAnew plan.job from i depth) (value_upto plan.job n) (laid_on plan.old plan.job) free) (sym same) made)
+        (subst (λ n. IsBuilding plan.old now plan.place (pointing_to (word plan.old plan.place) plan.top) (front plan.job 0 from) Pointer (IsAnew plan.job from i depth) (value_upto plan.job n) (laid_on plan.old plan.job) free) (sym same) made)
 
     -- and the word at its end is given its value
     pub made_word : (w : ℕ) → plan.job.leaves + w ≡ i → (block : ℕ) → block ≡ reached plan i depth now → IsMade plan from (i + 1) from (set now (512 * block + plan.job.slot w) (plan.job.value w)) free
@@ -152,12 +152,12 @@ module _ (plan : Plan) (from i depth : ℕ) (now : Image) (free : ℕ → Bool) 
         let here_now : i - plan.job.leaves ≡ w = omega (arith, at) in
         let next : (i + 1) - plan.job.leaves ≡ w + 1 = omega (arith, at) in
         let end : word_trail plan.job w ≡ plan.job.slot w ∷ way = ap (λ k. plan.job.slot w ∷ end_of plan.job k) at ∙ ap (λ d. plan.job.slot w ∷ front plan.job i d) (sym last) in
-        let before : IsBuilding plan.old now plan.place (with_block (word plan.old plan.place) plan.top) (front plan.job 0 from) Pointer (IsAnew plan.job from i depth) (value_upto plan.job w) (laid_on plan.old plan.job) free =
-        subst (λ n. IsBuilding plan.old now plan.place (with_block (word plan.old plan.place) plan.top) (front plan.job 0 from) Pointer (IsAnew plan.job from i depth) (value_upto plan.job n) (laid_on plan.old plan.job) free) here_now made in
+        let before : IsBuilding plan.old now plan.place (pointing_to (word plan.old plan.place) plan.top) (front plan.job 0 from) Pointer (IsAnew plan.job from i depth) (value_upto plan.job w) (laid_on plan.old plan.job) free =
+        subst (λ n. IsBuilding plan.old now plan.place (pointing_to (word plan.old plan.place) plan.top) (front plan.job 0 from) Pointer (IsAnew plan.job from i depth) (value_upto plan.job n) (laid_on plan.old plan.job) free) here_now made in
         rw is
         (building_same plan.old _ plan.place _ _ Pointer (IsAnew plan.job from i depth) (IsAnew plan.job from (i + 1) from) _ _ free
         (λ q n. anew_next plan.job from i depth last low (can.cover i here) q n) (λ q n. anew_next_back plan.job from i depth last low (can.cover i here) q n)
-        (subst (λ n. IsBuilding plan.old (set now (512 * reached plan i depth now + plan.job.slot w) (plan.job.value w)) plan.place (with_block (word plan.old plan.place) plan.top) (front plan.job 0 from) Pointer (IsAnew plan.job from i depth) (value_upto plan.job n) (laid_on plan.old plan.job) free) (sym next)
+        (subst (λ n. IsBuilding plan.old (set now (512 * reached plan i depth now + plan.job.slot w) (plan.job.value w)) plan.place (pointing_to (word plan.old plan.place) plan.top) (front plan.job 0 from) Pointer (IsAnew plan.job from i depth) (value_upto plan.job n) (laid_on plan.old plan.job) free) (sym next)
         (building_store plan.old now plan.place _ _ Pointer (pointers plan.old plan.bound can.forest) (IsAnew plan.job from i depth) (value_upto plan.job w) _ free before way (plan.job.slot w) live anew_here (can.word_slots w few)
         (plan.job.value w) (value_upto plan.job (w + 1))
         (λ p. can.contents w few (subst Pointer (sym end) p))
@@ -168,6 +168,6 @@ module _ (plan : Plan) (from i depth : ℕ) (now : Image) (free : ℕ → Bool) 
 pub top_reached : (plan : Plan) (from i depth : ℕ) (now : Image) (free : ℕ → Bool) → CanMake plan from → i < ways plan.job → IsMade plan from i depth now free →
     plan.top ≡ reached plan i from now
 top_reached plan from i depth now free can here made =
-    let pointer = top plan.old now plan.place (with_block (word plan.old plan.place) plan.top) _ (IsTreePointer plan.old plan.bound) (pointers plan.old plan.bound can.forest) _ _ _ free made in
-    let leads : block_of (with_block (word plan.old plan.place) plan.top) ≡ plan.top = omega arith in
+    let pointer = top plan.old now plan.place (pointing_to (word plan.old plan.place) plan.top) _ (IsTreePointer plan.old plan.bound) (pointers plan.old plan.bound can.forest) _ _ _ free made in
+    let leads : block_of (pointing_to (word plan.old plan.place) plan.top) ≡ plan.top = omega arith in
     sym leads ∙ ap block_of (sym pointer) ∙ ap (block_on (seen plan now)) (sym (can.cover i here))

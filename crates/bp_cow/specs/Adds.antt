@@ -13,7 +13,7 @@ abbrev pub InBlockOr : ℕ → ℕ → ℕ → Type 0
 InBlockOr block place word = InBlock block word ⊎ (word ≡ place)
 
 -- stores to some words, one of them to a block
-pub record AddsInto (Inside : ℕ → Type 0) (block most : ℕ) (old new : Memory) : Type 0 where
+pub record AddsToBlock (Inside : ℕ → Type 0) (block most : ℕ) (old new : Memory) : Type 0 where
   pub part : AddsMay (AnyAt Inside) 0 most old new
   pub some : StoresTo (InBlock block) part.added
 

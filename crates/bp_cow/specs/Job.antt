@@ -68,13 +68,13 @@ begins job from zero q = false
 begins job from (suc i) q = begins job from i q || (nat_le from (length q) && nat_le (length q) (length (job.way i)) && bytes_eq q (front job i (length q)))
 
 -- one, where a pointer on a way is turned for it
-abbrev pub turns : Job → ℕ → ℕ → ℕ → ℕ
-turns job from i depth = if begins job from i (front job i depth) then 0 else 1
+abbrev pub turns_at : Job → ℕ → ℕ → ℕ → ℕ
+turns_at job from i depth = if begins job from i (front job i depth) then 0 else 1
 
 -- how many pointers below the cover are turned for a way, up to a depth
 abbrev pub turned_for : Job → ℕ → ℕ → ℕ → ℕ
 turned_for job from i zero = 0
-turned_for job from i (suc depth) = turned_for job from i depth + (if nat_le from depth then turns job from i (suc depth) else 0)
+turned_for job from i (suc depth) = turned_for job from i depth + (if nat_le from depth then turns_at job from i (suc depth) else 0)
 
 -- and for the first ways: each pointer counts once, at the first way that it begins
 abbrev pub turned_upto : Job → ℕ → ℕ → ℕ
@@ -91,5 +91,5 @@ pub record IsTurned (job : Job) (from : ℕ) (q : Trail) : Type 0 where
   pub anew : IsAnew job from (ways job) from q
 
 -- how many blocks a commit copies whose cover has so many slots
-abbrev pub copied : Job → ℕ → ℕ
-copied job from = if nat_le from (length (job.way 0)) then copies job from else 0
+abbrev pub copies_at : Job → ℕ → ℕ
+copies_at job from = if nat_le from (length (job.way 0)) then copies job from else 0

@@ -6,14 +6,14 @@ use Rattle.bp_free.specs.Set.{Set, has}
 use Rattle.bp_layout.specs.Words.{Image, word, block_count}
 use Rattle.bp_shapes.specs.Trail.{block_on, place_on, IsPlaced}
 use Rattle.bp_shapes.specs.Forest.{IsExactSet, IsForest, IsTreePointer}
-use Rattle.bp_cow.specs.Copies.{with_block}
+use Rattle.bp_cow.specs.Copies.{pointing_to}
 use Rattle.bp_cow.specs.Job.{Job, ways, front, end_of, word_trail, IsAnew, value_upto, laid_on, turned_for, turned_upto}
 use Rattle.bp_cow.specs.Stage.{IsBuilding}
 use Rattle.bp_cow.specs.Touched.{job_of}
 use Rattle.bp_cow.specs.declared.touched.Touched.{Touched}
 
 -- `bound`: the sizes under which the trees count; `from`: how many slots the cover has; `place`: where its word stands
-pub record CanBuild (old : Image) (bound : ℕ → ℕ) (job : Job) (from place : ℕ) (free : ℕ → Bool) : Type 0 where
+pub record IsFeasible (old : Image) (bound : ℕ → ℕ) (job : Job) (from place : ℕ) (free : ℕ → Bool) : Type 0 where
   pub some : 0 < ways job
   pub some_blocks : 0 < block_count old
   pub whole : length old ≡ 512 * block_count old
@@ -53,16 +53,16 @@ planned plan touched = record plan { job = job_of touched }
 
 -- the image as it would be after the last store
 abbrev pub seen : Plan → Image → Image
-seen plan now = slice_set now plan.place (with_block (word plan.old plan.place) plan.top)
+seen plan now = slice_set now plan.place (pointing_to (word plan.old plan.place) plan.top)
 
 -- the first ways are done, and the next one up to a depth
 abbrev pub IsMade : Plan → ℕ → ℕ → ℕ → Image → (ℕ → Bool) → Type 0
 IsMade plan from i depth now free =
-    IsBuilding plan.old now plan.place (with_block (word plan.old plan.place) plan.top) (front plan.job 0 from)
+    IsBuilding plan.old now plan.place (pointing_to (word plan.old plan.place) plan.top) (front plan.job 0 from)
     (IsTreePointer plan.old plan.bound) (IsAnew plan.job from i depth) (value_upto plan.job (i - plan.job.leaves)) (laid_on plan.old plan.job) free
 
 abbrev pub CanMake : Plan → ℕ → Type 0
-CanMake plan from = CanBuild plan.old plan.bound plan.job from plan.place plan.free
+CanMake plan from = IsFeasible plan.old plan.bound plan.job from plan.place plan.free
 
 -- the block at a depth of a way
 abbrev pub reached : Plan → ℕ → ℕ → Image → ℕ

@@ -4,7 +4,7 @@ ghost use Rattle.std.specs.Prelude.{◌≡◌, ℕ, ◌+◌, ◌*◌, ◌<◌, �
 ghost use Rattle.bp_limits.specs.Limits.{block_words};
 ghost use Rattle.pm_region.specs.Memory.{current_words};
 ghost use Rattle.bp_cow.specs.Cover.{LeadsInside, copied_count};
-ghost use Rattle.bp_cow.specs.Job.{ways, turns, turned_for, copied};
+ghost use Rattle.bp_cow.specs.Job.{ways, turns_at, turned_for, copies_at};
 ghost use Rattle.bp_cow.specs.Touched.{IsTouched, NoneBegins, all_paths, job_of};
 
 use crate::covering::{FoundCover, find_cover};
@@ -13,12 +13,12 @@ use crate::ways::is_new;
 use pm_region::Region;
 
 /// One, where the block at a depth of a way is copied for it and for no earlier one.
-fn turns(touched: &Touched<'_>, i: usize, from: usize, depth: usize) -> u32
+fn turns_at(touched: &Touched<'_>, i: usize, from: usize, depth: usize) -> u32
     requires touched { IsTouched touched.now }
     requires i { i < ways (job_of touched.now) }
     requires from { from ≤ depth }
     requires depth { depth ≤ length ((job_of touched.now).way i) }
-    ensures result { result ≡ turns (job_of touched.now) from i depth }
+    ensures result { result ≡ turns_at (job_of touched.now) from i depth }
     ensures few { result ≤ 1 }
 {
     if is_new(touched, i, from, depth) {
@@ -41,7 +41,7 @@ fn turned_for(touched: &Touched<'_>, i: usize, from: usize) -> u32
     }
     let mut count = 0;
     for depth in from..end {
-        count += turns(touched, i, from, depth + 1);
+        count += turns_at(touched, i, from, depth + 1);
     }
     count
 }
@@ -49,7 +49,7 @@ fn turned_for(touched: &Touched<'_>, i: usize, from: usize) -> u32
 /// How many blocks a commit of the touched words copies, and takes, given their cover.
 pub fn copies_below(touched: &Touched<'_>, cover: FoundCover) -> u32
     requires { IsTouched touched.now }
-    ensures { result ≡ copied (job_of touched.now) cover.len }
+    ensures { result ≡ copies_at (job_of touched.now) cover.len }
 {
     let from = cover.len;
     if touched.way_len(0) < from {

@@ -9,7 +9,7 @@ use Rattle.bp_layout.specs.Reached.{IsReached}
 use Rattle.bp_layout.specs.WordPaths.{WordPath, tree_path}
 use Rattle.bp_layout.specs.Words.{Image, height_of}
 use Rattle.bp_cow.specs.Cover.{commit_cover, copied_count}
-use Rattle.bp_cow.specs.Job.{copied, turned_for, turned_upto, ways}
+use Rattle.bp_cow.specs.Job.{copies_at, turned_for, turned_upto, ways}
 use Rattle.bp_cow.specs.Touched.{IsTouched, NoneBegins, all_paths, job_of, leaves_of, path_of, run_paths, word_paths}
 use Rattle.bp_cow.specs.declared.touched.Touched.{Touched}
 use Rattle.bp_cow.proofs.CommitTaking.{turned_few}
@@ -71,7 +71,7 @@ module _ (image : Image) (touched : Touched) (t k u l one two : ℕ) (is : Touch
           let latter = one_way 1 (omega arith) in
           subst (λ n. turned_upto (job_of touched) (length (commit_cover image touched)) n ≤ 22) (sym ways_two) (omega (arith, former, latter))
 
-      go : (x : Bool) → nat_le (length (commit_cover image touched)) (length ((job_of touched).way 0)) ≡ x → copied (job_of touched) (length (commit_cover image touched)) ≤ 23
+      go : (x : Bool) → nat_le (length (commit_cover image touched)) (length ((job_of touched).way 0)) ≡ x → copies_at (job_of touched) (length (commit_cover image touched)) ≤ 23
       go true e = rw e (omega (arith, all))
       go false e = rw e (omega arith)
 

@@ -7,7 +7,7 @@ use Rattle.std.proofs.lemmas.List.{at_drop_more}
 use Rattle.pm_epochs.specs.declared.event.Event.{Event}
 use Rattle.pm_epochs.specs.declared.event.Event.TheVariants.{Store}
 use Rattle.pm_region.specs.Memory.{stores_from}
-use Rattle.pm_raw.specs.Entries.{no_word, signal_of, event_of, events_of, word_of}
+use Rattle.pm_raw.specs.Entries.{no_word, signal_of, event_of, events_of, event_word}
 
 pub event_of-store : (word value : ℕ) → word < no_word → event_of word value ≡ Store word value
 event_of-store word value low = elim (eqb_tells word no_word) [
@@ -15,13 +15,13 @@ event_of-store word value low = elim (eqb_tells word no_word) [
   | inr differ ↦ rw differ.0 refl
 ]
 
-word_of-signal : (value : ℕ) → word_of (signal_of value) ≡ no_word
+word_of-signal : (value : ℕ) → event_word (signal_of value) ≡ no_word
 word_of-signal value = elim (eqb_tells value 0) [
   | inl same ↦ rw same.0 refl
   | inr differ ↦ rw differ.0 refl
 ]
 
-pub word_of-event : (word value : ℕ) → word_of (event_of word value) ≡ word
+pub word_of-event : (word value : ℕ) → event_word (event_of word value) ≡ word
 word_of-event word value = elim (eqb_tells word no_word) [
   | inl same ↦ rw same.0 (word_of-signal value ∙ sym same.1)
   | inr differ ↦ rw differ.0 refl

@@ -15,10 +15,10 @@ abbrev pub event_of : ℕ → ℕ → Event
 event_of word value = if word == no_word then signal_of value else Store word value
 
 -- the word that stands for an event
-abbrev pub word_of : Event → ℕ
-word_of (Store word value) = word
-word_of Barrier = no_word
-word_of Mark = no_word
+abbrev pub event_word : Event → ℕ
+event_word (Store word value) = word
+event_word Barrier = no_word
+event_word Mark = no_word
 
 abbrev pub events_of : List ℕ → List ℕ → List Event
 events_of [] values = []

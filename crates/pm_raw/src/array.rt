@@ -59,7 +59,7 @@ fn fill<T: Copy>(cells: &mut Cells<T>, base: Base<T>, len: usize, value: T)
 }
 
 impl<T: Copy> RawArray<T> {
-    ghost use Rattle.pm_raw.specs.RawLends.{AreReplaced, lends_items};
+    ghost use Rattle.pm_raw.specs.RawLends.{AreReplaced, lends_array};
 
     /// An array of so many items, each this value. Fails only for want of memory; no other call takes any.
     pub fn new(alloc: Global, len: usize, value: T) -> Result<RawArray<T>, AllocError>
@@ -93,7 +93,7 @@ impl<T: Copy> RawArray<T> {
 
     /// The items, to be changed.
     pub fn as_mut_slice(&mut self) -> &mut [T]
-        ensures* writes_back { sem 𝓛 (lends_items T.row self.entry result) }
+        ensures* writes_back { sem 𝓛 (lends_array T.row self.entry result) }
         ensures value { result.now ≡ self.old }
         ensures same_len { AreReplaced self.old }
     {

@@ -1,6 +1,6 @@
 ghost use Rattle.std.specs.Prelude.{◌≡◌, ◌<◌, ◌≤◌, length, take, drop, slice_get, slice_index_or, Some};
 ghost use Rattle.pm_epochs.specs.declared.event.Event.TheVariants.{Mark};
-ghost use Rattle.pm_raw.specs.Entries.{event_of, events_of, word_of};
+ghost use Rattle.pm_raw.specs.Entries.{event_of, events_of, event_word};
 
 use pm_epochs::Event;
 use std::marker::Model;
@@ -80,7 +80,7 @@ impl<'a> Log<'a> {
     #[tactic(auto, using(crate::proofs::EntryLaws::length_events))]
     pub fn word(&self, i: usize) -> u32
         requires { i < length self.now }
-        ensures { result ≡ word_of (slice_index_or self.now i Mark) }
+        ensures { result ≡ event_word (slice_index_or self.now i Mark) }
     {
         let words = self.words;
         words[i]

@@ -33,11 +33,11 @@ impl Model for RawRegion {
 
     ghost Value = { Memory };
 
-    ghost use Rattle.pm_raw.specs.RawRegion.{memory_of, IsInStep};
+    ghost use Rattle.pm_raw.specs.RawRegion.{raw_memory, IsConsistent};
 
-    ghost view = { memory_of };
+    ghost view = { raw_memory };
 
-    ghost invariant = { IsInStep };
+    ghost invariant = { IsConsistent };
 }
 
 /// Puts these values in place of the words from `first` on.

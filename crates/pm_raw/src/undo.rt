@@ -1,6 +1,6 @@
 ghost use Rattle.std.specs.Prelude.{◌≡◌, ◌^◌, ◌<◌, ◌≤◌, [], ◌∷◌, drop, length, slice_index};
 ghost use Rattle.pm_epochs.specs.declared.event.Event.{Event};
-ghost use Rattle.pm_raw.specs.Entries.{word_of};
+ghost use Rattle.pm_raw.specs.Entries.{event_word};
 ghost use Rattle.pm_raw.specs.Undo.{is_store_to, undone};
 
 use super::log::Log;
@@ -9,7 +9,7 @@ use pm_epochs::Event;
 /// Puts back what an event replaced, by its word. An event that is no store has a word that no region has.
 fn undo_event(words: &mut [u64], word: u32, replaced: u64)
     requires { length words.old < 2 ^ 32 }
-    ensures { (event : Event) → word ≡ word_of event → words.new ≡ undone words.old (event ∷ []) (replaced ∷ []) }
+    ensures { (event : Event) → word ≡ event_word event → words.new ≡ undone words.old (event ∷ []) (replaced ∷ []) }
 {
     let place = word as usize;
     if place < words.len() {

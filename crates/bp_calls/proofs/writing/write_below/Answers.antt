@@ -6,7 +6,7 @@ use Rattle.bp_layout.specs.WellFormed.{IsWellFormed}
 use Rattle.bp_layout.specs.Words.{Image}
 use Rattle.bp_cow.specs.CanCommit.{CanCommit}
 use Rattle.bp_cow.specs.Cover.{CoverHas, copied_count}
-use Rattle.bp_cow.specs.Job.{copied}
+use Rattle.bp_cow.specs.Job.{copies_at}
 use Rattle.bp_cow.specs.Touched.{job_of}
 use Rattle.bp_cow.specs.declared.covering.FoundCover.{FoundCover}
 use Rattle.bp_cow.specs.declared.touched.Touched.{Touched}
@@ -34,7 +34,7 @@ find_cover-cover-requires g c =
 
 -- so many blocks are copied
 counted : (image : Image) (free : ℕ → Bool) (touched : Touched) (cover : FoundCover) (copies : ℕ) → IsWellFormed image → CanCommit image (size_of image) touched free → CoverHas image touched cover.len →
-    copies ≡ copied (job_of touched) cover.len → copies ≡ copied_count image touched
+    copies ≡ copies_at (job_of touched) cover.len → copies ≡ copied_count image touched
 counted image free touched cover copies wf can has is = is ∙ count_is touched can.shape image (none-begins image (size_of image) touched free wf can) cover.len has
 
 pub copies_below-copies-requires : goal.copies_below-copies-requires

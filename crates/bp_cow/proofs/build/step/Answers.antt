@@ -6,7 +6,7 @@ use Rattle.pm_region.proofs.MemoryLaws.{length-current_words}
 use Rattle.bp_layout.specs.Words.{word}
 use Rattle.bp_shapes.proofs.ForestLaws.{pointers}
 use Rattle.bp_cow.specs.Copies.{TurnsTo}
-use Rattle.bp_cow.specs.Job.{turns, patch_at}
+use Rattle.bp_cow.specs.Job.{turns_at, patch_at}
 use Rattle.bp_cow.specs.Plan.{planned}
 use Rattle.bp_cow.specs.Touched.{job_of}
 use Rattle.bp_cow.proofs.AddsLaws.{copies_none, copies_into, copies_as}
@@ -85,7 +85,7 @@ returns-then-is_new-clause-block g c =
 
 pub returns-then-is_new-clause-stores : goal.returns-then-is_new-clause-stores
 returns-then-is_new-clause-stores g c =
-    copies_as g.plan.free (has c.args.blocks.now) (has c.turn.new.blocks) 513 (513 * turns (job_of c.args.touched.now) c.args.from c.args.i (c.args.depth + 1)) (g.R.Region.memory c.args.region.now) (g.R.Region.memory c.turn.new.region) (omega (arith, turns_one (job_of c.args.touched.now) c.args.from c.args.i (c.args.depth + 1) (c.is_new.ensures.first c.if-is_new.true)))
+    copies_as g.plan.free (has c.args.blocks.now) (has c.turn.new.blocks) 513 (513 * turns_at (job_of c.args.touched.now) c.args.from c.args.i (c.args.depth + 1)) (g.R.Region.memory c.args.region.now) (g.R.Region.memory c.turn.new.region) (omega (arith, turns_one (job_of c.args.touched.now) c.args.from c.args.i (c.args.depth + 1) (c.is_new.ensures.first c.if-is_new.true)))
     (copies_into g.plan.free (has c.args.blocks.now) (has c.turn.new.blocks) (λ word. (word / 512 ≡ c.turn.result) ⊎ (word ≡ 512 * c.args.block + c.slot.result)) c.turn.result 513 (g.R.Region.memory c.args.region.now) (g.R.Region.memory c.turn.new.region)
     (λ place either. stored_taken (planned g.plan c.args.touched.now) c.args.from c.args.i c.args.depth (current_words (g.R.Region.memory c.args.region.now)) (has c.args.blocks.now) c.requires.1.1.0.can c.requires.1.1.0.here c.requires.1.1.0.low c.requires.1.1.0.high c.requires.1.1.1.1.0 c.args.block c.requires.1.1.1.1.1.0 c.requires.1.1.1.0 (current_words (g.R.Region.memory c.turn.new.region)) c.turn.result (has c.turn.new.blocks) (c.is_new.ensures.first c.if-is_new.true) (subst (λ s. TurnsTo (patch_at (job_of c.args.touched.now) c.args.i (c.args.depth + 1)) (current_words (g.R.Region.memory c.args.region.now)) (current_words (g.R.Region.memory c.turn.new.region)) (512 * c.args.block + s) c.turn.result) c.slot.ensures c.turn.ensures.words) c.turn.ensures.taken place (subst (λ s. (place / 512 ≡ c.turn.result) ⊎ (place ≡ 512 * c.args.block + s)) c.slot.ensures either)) c.turn.ensures.taken c.turn.ensures.stores)
 
@@ -103,7 +103,7 @@ returns-else-is_new-clause-block g c =
 
 pub returns-else-is_new-clause-stores : goal.returns-else-is_new-clause-stores
 returns-else-is_new-clause-stores g c =
-    copies_as g.plan.free (has c.args.blocks.now) (has c.args.blocks.now) 0 (513 * turns (job_of c.args.touched.now) c.args.from c.args.i (c.args.depth + 1)) (g.R.Region.memory c.args.region.now) (g.R.Region.memory c.args.region.now) (omega (arith, turns_none (job_of c.args.touched.now) c.args.from c.args.i (c.args.depth + 1) (c.is_new.ensures.begun c.if-is_new.false)))
+    copies_as g.plan.free (has c.args.blocks.now) (has c.args.blocks.now) 0 (513 * turns_at (job_of c.args.touched.now) c.args.from c.args.i (c.args.depth + 1)) (g.R.Region.memory c.args.region.now) (g.R.Region.memory c.args.region.now) (omega (arith, turns_none (job_of c.args.touched.now) c.args.from c.args.i (c.args.depth + 1) (c.is_new.ensures.begun c.if-is_new.false)))
     (copies_none g.plan.free (has c.args.blocks.now) (g.R.Region.memory c.args.region.now))
 
 pub returns-else-is_new-clause-count : goal.returns-else-is_new-clause-count

@@ -5,7 +5,7 @@ use Rattle.bp_layout.specs.Words.{block_count}
 use Rattle.bp_shapes.specs.Trail.{block_on, IsSkeleton}
 use Rattle.bp_shapes.specs.Forest.{IsTreePointer}
 use Rattle.bp_shapes.proofs.ForestLaws.{skeleton}
-use Rattle.bp_cow.specs.Copies.{Takes}
+use Rattle.bp_cow.specs.Copies.{TakesBlock}
 use Rattle.bp_cow.specs.Job.{ways, front}
 use Rattle.bp_cow.specs.Plan.{planned}
 use Rattle.bp_cow.specs.Return.{IsBack}
@@ -31,7 +31,7 @@ loop-i-init g c =
       | then-top-ne0 w ↦ record {
         back = subst (λ (bs : List Bool). IsBack (planned g.plan c.args.touched.now) c.args.from 0 c.args.from g.plan.taken (has bs)) (sym w.blocks-is)
             (back_cover (planned g.plan c.args.touched.now) c.args.from g.plan.taken (current_words (g.R.Region.memory c.args.region.now)) c.requires.1.1.0 (λ null. w.if-top-ne0.true (c.requires.1.1.1.1.0 ∙ null)) (has w.give.new.blocks)
-            (subst (Takes (has w.give.new.blocks) g.plan.taken) c.requires.1.1.1.1.0 (subst (λ (f : ℕ → Bool). Takes (has w.give.new.blocks) f c.args.top) (sym taken) w.give.ensures.given)));
+            (subst (TakesBlock (has w.give.new.blocks) g.plan.taken) c.requires.1.1.1.1.0 (subst (λ (f : ℕ → Bool). TakesBlock (has w.give.new.blocks) f c.args.top) (sym taken) w.give.ensures.given)));
         size = ap (λ (bs : List Bool). length bs) w.blocks-is ∙ w.give.ensures.size;
       }
       | else-top-ne0 w ↦ record {

@@ -4,7 +4,7 @@ use Rattle.pm_region.specs.Memory.{current_words}
 use Rattle.pm_region.proofs.MemoryLaws.{length-current_words}
 use Rattle.bp_layout.specs.Words.{block_count, slot_word}
 use Rattle.bp_shapes.specs.Trail.{block_on}
-use Rattle.bp_cow.specs.Copies.{Takes}
+use Rattle.bp_cow.specs.Copies.{TakesBlock}
 use Rattle.bp_cow.specs.Job.{front}
 use Rattle.bp_cow.specs.Plan.{planned}
 use Rattle.bp_cow.specs.Touched.{job_of}
@@ -60,7 +60,7 @@ pub returns-then-is_new-clause-back : goal.returns-then-is_new-clause-back
 returns-then-is_new-clause-back g c =
     let next : c.load_slot-pointer.result / 4096 ≡ block_on g.plan.old (front (job_of c.args.touched.now) c.args.i (c.args.depth + 1)) = ap (λ w. w / 4096) (c.load_slot-pointer.ensures ∙ ap (slot_word (current_words (g.R.Region.memory c.args.region.now)) c.args.block) c.slot.ensures) ∙ old_next (planned g.plan c.args.touched.now) c.args.from c.args.i c.args.depth g.plan.taken (current_words (g.R.Region.memory c.args.region.now)) c.requires.1.1.0 c.requires.1.1.1.0.here c.requires.1.1.1.0.low c.requires.1.1.1.1.0 c.args.block c.requires.1.1.1.1.1.1.0 in
     back_one (planned g.plan c.args.touched.now) c.args.from c.args.i c.args.depth g.plan.taken (current_words (g.R.Region.memory c.args.region.now)) c.requires.1.1.0 c.requires.1.1.1.0.here c.requires.1.1.1.0.low c.requires.1.1.1.1.0 c.args.block c.requires.1.1.1.1.1.1.0 (has c.args.blocks.now) c.requires.1.1.1.1.1.0 (c.is_new.ensures.first c.if-is_new.true) (λ null. c.if-next-ne0.true (next ∙ null)) (has c.give.new.blocks)
-    (subst (Takes (has c.give.new.blocks) (has c.args.blocks.now)) next c.give.ensures.given)
+    (subst (TakesBlock (has c.give.new.blocks) (has c.args.blocks.now)) next c.give.ensures.given)
 
 pub returns-then-is_new-clause-block : goal.returns-then-is_new-clause-block
 returns-then-is_new-clause-block g c =

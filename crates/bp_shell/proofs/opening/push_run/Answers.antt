@@ -1,4 +1,4 @@
-use Rattle.std.proofs.Common.{arith, ap, subst, sym, ◌∙◌, ◌≡◌, ℕ, ◌++◌, List, length, take, length-append}
+use Rattle.std.proofs.Common.{arith, ap, subst, sym, ◌∙◌, ◌≡◌, ℕ, ◌++◌, List, length, length-append}
 use Rattle.pm_raw.specs.Part.{Part}
 use Rattle.bp_layout.specs.Bytes.{image_bytes}
 use Rattle.bp_session.specs.Files.{AreWordsOf64Bits}

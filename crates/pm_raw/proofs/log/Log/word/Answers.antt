@@ -1,6 +1,6 @@
 use Rattle.std.proofs.Common.{◌<◌, ◌∙◌, ap, arith, get_or, length, sym}
 use Rattle.pm_epochs.specs.declared.event.Event.TheVariants.{Mark}
-use Rattle.pm_raw.specs.Entries.{word_of}
+use Rattle.pm_raw.specs.Entries.{event_word}
 use Rattle.pm_raw.proofs.EntryLaws.{get_or-events_of, length_events, word_of-event}
 use Rattle.pm_raw.proofs.log.Log.word.Goals as goal
 
@@ -11,4 +11,4 @@ returns c =
     let i = c.args.i in
     let low : i < length words = omega (arith, c.requires, length_events words values c.self.invariant, ap length c.self.view_is) in
     sym (word_of-event (get_or words i 0) (get_or values i 0))
-    ∙ ap word_of (sym (get_or-events_of words values i Mark c.self.invariant low) ∙ ap (λ es. get_or es i Mark) c.self.view_is)
+    ∙ ap event_word (sym (get_or-events_of words values i Mark c.self.invariant low) ∙ ap (λ es. get_or es i Mark) c.self.view_is)

@@ -1,7 +1,7 @@
 // Files of blocks.
 ghost use Rattle.std.specs.Prelude.{◌⊎◌, OnErr, ◌≡◌, ◌≤◌, ◌<◌, ◌+◌, ◌*◌, ◌/◌, ◌%◌, List, length, ℕ, IfNone, IfOk, OnOk, IfSome, true, false};
 ghost use Rattle.bp_io.specs.Causes.{HasCause};
-ghost use Rattle.bp_io.specs.Files.{View, StaysAttached, StaysOrIsMade, Becomes, Answers, Attaches, IsAttached, KeepsFiles, KeepsOthers, Changes, MayChange, Resizes, KeepsSize, AreBlocks, Reads, makes, with_block};
+ghost use Rattle.bp_io.specs.Files.{View, StaysAttached, StaysOrIsMade, Becomes, Answers, Attaches, IsAttached, KeepsFiles, KeepsOthers, ChangesBytes, MayChange, Resizes, KeepsSize, AreBlocks, Reads, makes, with_block};
 
 use crate::{Access, Failed};
 use bp_limits::{BLOCK_SIZE, MAX_BLOCKS};
@@ -64,7 +64,7 @@ pub trait Files {
     fn write_block(&mut self, i: u32, from: &[u8; 4096]) -> Result<(), Failed>
         requires inside { i < (view self.old).blocks }
         requires may_write { (view self.old).may_write ≡ true }
-        ensures written { OnOk result (Changes (with_block i from.now) (view self.old) (view self.new)) }
+        ensures written { OnOk result (ChangesBytes (with_block i from.now) (view self.old) (view self.new)) }
         ensures failed { OnErr result (MayChange (with_block i from.now) (view self.old) (view self.new)) }
         ensures others { KeepsOthers (view self.old) (view self.new) }
         ensures attached { StaysAttached (view self.old) (view self.new) }

@@ -1,7 +1,7 @@
 // The bytes of a file in memory.
 ghost use Rattle.std.specs.Prelude.{◌≡◌, ◌≤◌, ◌<◌, ◌+◌, ◌*◌, ◌/◌, ◌%◌, vec_capacity, length, IfOk};
 ghost use Rattle.bp_limits.specs.Limits.{block_size, max_blocks};
-ghost use Rattle.bp_io.specs.Files.{blocks_of, with_block, resized};
+ghost use Rattle.bp_io.specs.Files.{blocks_of, with_block, resized_file};
 
 use bp_limits::{BLOCK_SIZE, MAX_BLOCKS};
 use std::alloc::{AllocError, Global};
@@ -60,7 +60,7 @@ impl Image {
 
     pub(crate) fn set_blocks(&mut self, n: u32)
         requires { n ≤ MAX_BLOCKS }
-        ensures bytes { self.new.bytes.items ≡ resized (block_size * n) self.old.bytes.items }
+        ensures bytes { self.new.bytes.items ≡ resized_file (block_size * n) self.old.bytes.items }
         ensures length { length self.new.bytes.items ≡ block_size * n }
     {
         match self.bytes.resize(BLOCK * n as usize, 0) {

@@ -3,7 +3,7 @@ ghost use Rattle.std.specs.Prelude.{◌<◌, ◌+◌, ◌*◌, ◌/◌, ◌%◌,
 ghost use Rattle.std.specs.Option.{option_copied};
 ghost use Rattle.bp_io.specs.Plans.{new_plan, FollowsPlan};
 ghost use Rattle.bp_io.specs.Causes.{HasCause};
-ghost use Rattle.bp_io.specs.Files.{StaysAttached, StaysOrIsMade, Becomes, Answers, Attaches, IsAttached, KeepsFiles, KeepsOthers, Changes, MayChange, Resizes, KeepsSize, AreBlocks, Reads, makes, with_block};
+ghost use Rattle.bp_io.specs.Files.{StaysAttached, StaysOrIsMade, Becomes, Answers, Attaches, IsAttached, KeepsFiles, KeepsOthers, ChangesBytes, MayChange, Resizes, KeepsSize, AreBlocks, Reads, makes, with_block};
 
 use crate::faults::CallPlan;
 use crate::files::Files;
@@ -132,7 +132,7 @@ impl Files for MemFiles<'_> {
     fn write_block(&mut self, i: u32, from: &[u8; 4096]) -> Result<(), Failed>
         requires inside { i < (mem_view self.old).blocks }
         requires may_write { (mem_view self.old).may_write ≡ true }
-        ensures written { OnOk result (Changes (with_block i from.now) (mem_view self.old) (mem_view self.new)) }
+        ensures written { OnOk result (ChangesBytes (with_block i from.now) (mem_view self.old) (mem_view self.new)) }
         ensures failed { OnErr result (MayChange (with_block i from.now) (mem_view self.old) (mem_view self.new)) }
         ensures others { KeepsOthers (mem_view self.old) (mem_view self.new) }
         ensures attached { StaysAttached (mem_view self.old) (mem_view self.new) }

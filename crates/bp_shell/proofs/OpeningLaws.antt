@@ -3,7 +3,7 @@ use Rattle.std.proofs.Common.{zero, suc, refl, sym, ◌∙◌, ap, subst, arith,
 use Rattle.std.specs.Prelude.{Some, None, ◌⊎◌}
 use Rattle.std.proofs.Math.Seq.{take-add, take-length}
 use Rattle.std.proofs.lemmas.List.{append_assoc}
-use Rattle.bp_io.specs.Files.{Known, Stays, Tells, Answers, Reads, View, block_of, blocks_of}
+use Rattle.bp_io.specs.Files.{Known, Stays, TellsFile, Answers, Reads, View, block_bytes, blocks_of}
 use Rattle.bp_session.proofs.SavingLaws.{stays_attached, still_attached}
 use Rattle.bp_layout.specs.Bytes.{image_bytes}
 use Rattle.bp_free.specs.Set.{Set, has, members}
@@ -32,8 +32,8 @@ blocks_next bytes first count =
     let end : 4096 * (first + count) ≡ 4096 * first + 4096 * count = omega arith in
     rw (width, end) (take-add (4096 * first) (4096 * count) bytes)
 
-pub tells_next : (known : Known) (read next run : List ℕ) (first count : ℕ) → Tells known (λ bytes. read ≡ take (4096 * first) bytes) → Tells known (λ bytes. run ≡ blocks_of bytes first count) → next ≡ read ++ run
-    → Tells known (λ bytes. next ≡ take (4096 * (first + count)) bytes)
+pub tells_next : (known : Known) (read next run : List ℕ) (first count : ℕ) → TellsFile known (λ bytes. read ≡ take (4096 * first) bytes) → TellsFile known (λ bytes. run ≡ blocks_of bytes first count) → next ≡ read ++ run
+    → TellsFile known (λ bytes. next ≡ take (4096 * (first + count)) bytes)
 tells_next None read next run first count before here e = tt
 tells_next (Some None) read next run first count before here e = tt
 tells_next (Some (Some bytes)) read next run first count before here e =
@@ -65,7 +65,7 @@ reads_then a b c one two = record {
   flushed = two.flushed ∙ one.flushed;
 }
 
-pub tells_all : (known : Known) (P : List ℕ → Type 0) → ((bytes : List ℕ) → P bytes) → Tells known P
+pub tells_all : (known : Known) (P : List ℕ → Type 0) → ((bytes : List ℕ) → P bytes) → TellsFile known P
 tells_all None P all = tt
 tells_all (Some None) P all = tt
 tells_all (Some (Some bytes)) P all = all bytes
@@ -76,7 +76,7 @@ pub bytes_next : (base words : Image) (bytes : List ℕ) → image_bytes words �
 bytes_next base words bytes spelled = image_bytes-append base words ∙ ap (λ l. image_bytes base ++ l) spelled
 
 -- one more block of a run
-pub run_next : (before run block : List ℕ) (k : ℕ) → block ≡ block_of run k → (before ++ take (4096 * k) run) ++ block ≡ before ++ take (4096 * (k + 1)) run
+pub run_next : (before run block : List ℕ) (k : ℕ) → block ≡ block_bytes run k → (before ++ take (4096 * k) run) ++ block ≡ before ++ take (4096 * (k + 1)) run
 run_next before run block k is =
     append_assoc before (take (4096 * k) run) block ∙ ap (λ l. before ++ l) (ap (λ l. take (4096 * k) run ++ l) is ∙ sym (blocks_next run k 1))
 
@@ -92,7 +92,7 @@ no_words = refl
 -- what is loaded is so before a read and after it
 module _ (a b : View) (count : ℕ) (part : Part) (reads : Reads a b) where
   abbrev front : Known → Type 0
-  front known = Tells known (λ bytes. image_bytes part.words ≡ take (4096 * count) bytes)
+  front known = TellsFile known (λ bytes. image_bytes part.words ≡ take (4096 * count) bytes)
 
   pub loaded_then : HasLoaded a count part → HasLoaded b count part
   loaded_then loaded = record {
@@ -110,7 +110,7 @@ module _ (a b : View) (count : ℕ) (part : Part) (reads : Reads a b) where
     size = omega (arith, loaded.size, reads.attached.blocks);
   }
 
-whole_known : (known : Known) (count : ℕ) (bytes : List ℕ) → HasLength known (4096 * count) → Tells known (λ found. bytes ≡ take (4096 * count) found) → HasBytes known bytes
+whole_known : (known : Known) (count : ℕ) (bytes : List ℕ) → HasLength known (4096 * count) → TellsFile known (λ found. bytes ≡ take (4096 * count) found) → HasBytes known bytes
 whole_known None count bytes long tells = tt
 whole_known (Some None) count bytes long tells = long
 whole_known (Some (Some found)) count bytes long tells = sym (tells ∙ ap (λ n. take n found) (sym long) ∙ take-length found)
@@ -119,7 +119,7 @@ module _ (was : Known) (name : List ℕ) (count : ℕ) (found now : View) (base 
     (front : HoldsFront found count base) (size : length base ≡ 512 * count) (words : AreWordsOf64Bits base) where
   known : HasBytes was (image_bytes base)
   known =
-      let tells : Tells was (λ bytes. image_bytes base ≡ take (4096 * count) bytes) = rw same at (front name finds.attached) in
+      let tells : TellsFile was (λ bytes. image_bytes base ≡ take (4096 * count) bytes) = rw same at (front name finds.attached) in
       whole_known was count (image_bytes base) finds.has tells
 
   pub is_sized : HasSized was base

@@ -1,7 +1,7 @@
 //! The file of a program.
 
 ghost use Rattle.std.specs.Prelude.{◌≡◌, ◌<◌, ◌≤◌, ◌+◌, ◌*◌, ◌++◌, [], List, ℕ, ◌⊎◌, IfErr, IfOk, OnOk, false, length, true};
-ghost use Rattle.bp_io.specs.Files.{Known, Reads, block_of, makes, may_change};
+ghost use Rattle.bp_io.specs.Files.{Known, Reads, block_bytes, makes, may_change};
 ghost use Rattle.bp_layout.specs.Bytes.{image_bytes};
 ghost use Rattle.bp_layout.specs.WellFormed.{IsWellFormed};
 ghost use Rattle.bp_layout.specs.Words.{Image, block_count};
@@ -40,7 +40,7 @@ fn push_block(filling: &mut Filling, words: &[u64; 512])
 // The block of a run at this place.
 fn block_at(run: &[u8], k: usize) -> &[u8; 4096]
     requires { block_size * k + block_size ≤ length run.now }
-    ensures { result.now ≡ block_of run.now k }
+    ensures { result.now ≡ block_bytes run.now k }
 {
     let at = BLOCK * k;
     match run[at..at + BLOCK].first_chunk() {

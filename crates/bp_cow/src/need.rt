@@ -13,7 +13,7 @@ use crate::ways::is_new;
 use pm_region::Region;
 
 /// One, where the block at a depth of a way is copied for it and for no earlier one.
-fn turns_at(touched: &Touched<'_>, i: usize, from: usize, depth: usize) -> u32
+fn turns(touched: &Touched<'_>, i: usize, from: usize, depth: usize) -> u32
     requires touched { IsTouched touched.now }
     requires i { i < ways (job_of touched.now) }
     requires from { from ≤ depth }
@@ -41,7 +41,7 @@ fn turned_for(touched: &Touched<'_>, i: usize, from: usize) -> u32
     }
     let mut count = 0;
     for depth in from..end {
-        count += turns_at(touched, i, from, depth + 1);
+        count += turns(touched, i, from, depth + 1);
     }
     count
 }

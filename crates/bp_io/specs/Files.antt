@@ -4,17 +4,21 @@ use Rattle.bp_limits.specs.Limits.{block_size}
 use Rattle.bp_io.specs.declared.access.Access.{Access}
 use Rattle.bp_io.specs.declared.access.Access.TheVariants.{Read, Write, Make}
 
+-- the bytes of so many blocks, from one on
+abbrev pub blocks_of : List ℕ → ℕ → ℕ → List ℕ
+blocks_of bytes first count = slice_range bytes (block_size * first) (block_size * first + block_size * count)
+
 -- a block's bytes
-abbrev pub block_of : List ℕ → ℕ → List ℕ
-block_of bytes i = slice_range bytes (block_size * i) (block_size * i + block_size)
+abbrev pub block_bytes : List ℕ → ℕ → List ℕ
+block_bytes bytes i = blocks_of bytes i 1
 
 -- a file with another block at i
 abbrev pub with_block : ℕ → List ℕ → List ℕ → List ℕ
 with_block i block bytes = take (block_size * i) bytes ++ block ++ drop (block_size * i + block_size) bytes
 
 -- a file cut to a length, or filled up to it with zeros
-abbrev pub resized : ℕ → List ℕ → List ℕ
-resized n bytes = take n bytes ++ replicate (n - length bytes) 0
+abbrev pub resized_file : ℕ → List ℕ → List ℕ
+resized_file n bytes = take n bytes ++ replicate (n - length bytes) 0
 
 -- what is known of a name: nothing, or that no file has it, or the file's bytes
 abbrev pub Known : Type 0
@@ -57,10 +61,10 @@ Becomes f (Some None) new = ⊤
 Becomes f (Some (Some bytes)) new = new ≡ Some (Some (f bytes))
 
 -- P holds of the bytes of a file that is there, where they are told
-abbrev pub Tells : Known → (List ℕ → Type 0) → Type 0
-Tells None p = ⊤
-Tells (Some None) p = ⊤
-Tells (Some (Some bytes)) p = p bytes
+abbrev pub TellsFile : Known → (List ℕ → Type 0) → Type 0
+TellsFile None p = ⊤
+TellsFile (Some None) p = ⊤
+TellsFile (Some (Some bytes)) p = p bytes
 
 -- What an attach answers of a name: none only where no file has it and none is to be made; else the file's length,
 -- which is 0 for one that was made.
@@ -108,8 +112,8 @@ abbrev pub KeepsOthers : View → View → Type 0
 KeepsOthers old new = (name : List ℕ) → old.is_attached name ≡ false → Stays (old.contents name) (new.contents name)
 
 -- The attached file changes so.
-abbrev pub Changes : (List ℕ → List ℕ) → View → View → Type 0
-Changes f old new = (name : List ℕ) → old.is_attached name ≡ true → Becomes f (old.contents name) (new.contents name)
+abbrev pub ChangesBytes : (List ℕ → List ℕ) → View → View → Type 0
+ChangesBytes f old new = (name : List ℕ) → old.is_attached name ≡ true → Becomes f (old.contents name) (new.contents name)
 
 -- The attached file stays.
 abbrev pub KeepsAttached : View → View → Type 0
@@ -122,7 +126,7 @@ MayChange f old new = (name : List ℕ) → old.is_attached name ≡ true
 
 -- The attached file changes to so many blocks.
 pub record Resizes (n : ℕ) (old new : View) : Type 0 where
-  pub bytes : Changes (resized (block_size * n)) old new
+  pub bytes : ChangesBytes (resized_file (block_size * n)) old new
   pub blocks : new.blocks ≡ n
 
 -- It stays, with its blocks.
@@ -130,9 +134,10 @@ pub record KeepsSize (old new : View) : Type 0 where
   pub bytes : KeepsAttached old new
   pub blocks : new.blocks ≡ old.blocks
 
--- These are the bytes of the block i of the attached file, where they are told.
-abbrev pub IsBlock : View → ℕ → List ℕ → Type 0
-IsBlock old i block = (name : List ℕ) → old.is_attached name ≡ true → Tells (old.contents name) (λ bytes. block ≡ block_of bytes i)
+-- These are the bytes of so many blocks of the attached file, from one on, where they are told.
+abbrev pub AreBlocks : View → ℕ → ℕ → List ℕ → Type 0
+AreBlocks old first count read = (name : List ℕ) → old.is_attached name ≡ true
+    → TellsFile (old.contents name) (λ bytes. read ≡ blocks_of bytes first count)
 
 -- Nothing changes but the count of faults.
 pub record Reads (old new : View) : Type 0 where

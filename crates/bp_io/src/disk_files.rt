@@ -8,6 +8,7 @@ use bp_limits::BLOCK_SIZE;
 use std::alloc::{AllocError, Global};
 use std::fs::{File, OpenOptions};
 use std::io::ErrorKind;
+use std::os::unix::fs::FileExt;
 use std::{fs, io, rt};
 
 /// The files that a runtime opens, by path. They tell no bytes: that blocks are read from and
@@ -17,13 +18,11 @@ use std::{fs, io, rt};
 /// none. A name that is there but is no regular file, as a folder or a device, is a fault, and so is
 /// a read of a block that the file lost since it was attached.
 ///
-/// Up to 64 blocks (256 KiB) stay in memory for a while. A read also takes the blocks behind the one
-/// that is asked for, and as long as blocks are only read, the file is not looked at again for them.
-/// Blocks that are written one behind another wait, at most 64 of them, and go to the file together
-/// before any other block is read or written, and before the file is flushed, resized or left for
-/// another one. So the fault of a write may come in such a later call; each block that waited is
-/// then as before, or the one that was to be written. Without a flush, the last ones may not come
-/// to the file at all.
+/// Blocks that are written one behind another wait in memory, at most 64 of them (256 KiB), and go to
+/// the file together before any block is read or another one is written, and before the file is
+/// flushed, resized or left for another one. So the fault of a write may come in such a later call;
+/// each block that waited is then as before, or the one that was to be written. Without a flush, the
+/// last ones may not come to the file at all.
 #[derive(Drop)]
 pub struct DiskFiles<R: rt::Files<File = File> + Drop> {
     runtime: R,
@@ -132,9 +131,14 @@ impl<R: rt::Files<File = File> + Drop> files::Files for DiskFiles<R> {
         }
     }
 
-    fn read_block(&mut self, i: u32, into: &mut [u8; 4096]) -> Result<(), Failed> {
-        let file = attached(&self.file);
-        let done = self.window.read_block(file, i, self.blocks, into);
+    fn read_blocks(&mut self, first: u32, into: &mut [u8]) -> Result<(), Failed> {
+        let Some(file) = &self.file else {
+            // No block is asked for then.
+            return Ok(());
+        };
+        let written = self.window.write_out(file);
+        self.faults.or_fault(written)?;
+        let done = file.read_exact_at(into, BLOCK_SIZE * u64::from(first));
         self.faults.or_fault(done)
     }
 

@@ -64,8 +64,8 @@ impl Files for FairFiles {
         Ok(Some(self.image.length()))
     }
 
-    fn read_block(&mut self, i: u32, into: &mut [u8; 4096]) -> Result<(), Failed> {
-        self.image.read_block(i, into);
+    fn read_blocks(&mut self, first: u32, into: &mut [u8]) -> Result<(), Failed> {
+        self.image.read_blocks(first, into);
         Ok(())
     }
 

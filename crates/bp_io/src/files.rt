@@ -1,10 +1,10 @@
 // Files of blocks.
-ghost use Rattle.std.specs.Prelude.{◌⊎◌, OnErr, ◌≡◌, ◌≤◌, ◌<◌, ◌*◌, List, ℕ, IfNone, IfOk, OnOk, IfSome, true, false};
+ghost use Rattle.std.specs.Prelude.{◌⊎◌, OnErr, ◌≡◌, ◌≤◌, ◌<◌, ◌+◌, ◌*◌, ◌/◌, ◌%◌, List, length, ℕ, IfNone, IfOk, OnOk, IfSome, true, false};
 ghost use Rattle.bp_io.specs.Causes.{HasCause};
-ghost use Rattle.bp_io.specs.Files.{View, StaysAttached, StaysOrIsMade, Becomes, Answers, Attaches, IsAttached, KeepsFiles, KeepsOthers, Changes, MayChange, Resizes, KeepsSize, IsBlock, Reads, makes, with_block};
+ghost use Rattle.bp_io.specs.Files.{View, StaysAttached, StaysOrIsMade, Becomes, Answers, Attaches, IsAttached, KeepsFiles, KeepsOthers, ChangesBytes, MayChange, Resizes, KeepsSize, AreBlocks, Reads, makes, with_block};
 
 use crate::{Access, Failed};
-use bp_limits::MAX_BLOCKS;
+use bp_limits::{BLOCK_SIZE, MAX_BLOCKS};
 
 /// Files of blocks of 4,096 bytes, of which one at a time is attached.
 ///
@@ -42,14 +42,16 @@ pub trait Files {
         ensures flushed { makes access ≡ false → (view self.new).is_flushed ≡ (view self.old).is_flushed }
         ensures cause { HasCause (view self.old).faults (view self.new).faults result };
 
-    /// Reads the block `i` of the attached file, counted from 0.
+    /// Reads as many blocks of the attached file as `into` has room for, from the block `first` on,
+    /// counted from 0.
     ///
     /// # Errors
     ///
     /// `Failed` only where the outside failed in this call. What stands in `into` is not told then.
-    fn read_block(&mut self, i: u32, into: &mut [u8; 4096]) -> Result<(), Failed>
-        requires { i < (view self.old).blocks }
-        ensures block { OnOk result (IsBlock (view self.old) i into.new) }
+    fn read_blocks(&mut self, first: u32, into: &mut [u8]) -> Result<(), Failed>
+        requires whole { length into.old % BLOCK_SIZE ≡ 0 }
+        requires inside { first + length into.old / BLOCK_SIZE ≤ (view self.old).blocks }
+        ensures blocks { OnOk result (AreBlocks (view self.old) first (length into.old / BLOCK_SIZE) into.new) }
         ensures reads { Reads (view self.old) (view self.new) }
         ensures cause { HasCause (view self.old).faults (view self.new).faults result };
 
@@ -62,7 +64,7 @@ pub trait Files {
     fn write_block(&mut self, i: u32, from: &[u8; 4096]) -> Result<(), Failed>
         requires inside { i < (view self.old).blocks }
         requires may_write { (view self.old).may_write ≡ true }
-        ensures written { OnOk result (Changes (with_block i from.now) (view self.old) (view self.new)) }
+        ensures written { OnOk result (ChangesBytes (with_block i from.now) (view self.old) (view self.new)) }
         ensures failed { OnErr result (MayChange (with_block i from.now) (view self.old) (view self.new)) }
         ensures others { KeepsOthers (view self.old) (view self.new) }
         ensures attached { StaysAttached (view self.old) (view self.new) }

@@ -1,7 +1,7 @@
 // The bytes of a file in memory.
-ghost use Rattle.std.specs.Prelude.{◌≡◌, ◌≤◌, ◌<◌, ◌*◌, ◌/◌, vec_capacity, length, IfOk};
+ghost use Rattle.std.specs.Prelude.{◌≡◌, ◌≤◌, ◌<◌, ◌+◌, ◌*◌, ◌/◌, ◌%◌, vec_capacity, length, IfOk};
 ghost use Rattle.bp_limits.specs.Limits.{block_size, max_blocks};
-ghost use Rattle.bp_io.specs.Files.{block_of, with_block, resized};
+ghost use Rattle.bp_io.specs.Files.{blocks_of, with_block, resized_file};
 
 use bp_limits::{BLOCK_SIZE, MAX_BLOCKS};
 use std::alloc::{AllocError, Global};
@@ -40,12 +40,13 @@ impl Image {
         self.bytes.len() as u64
     }
 
-    pub(crate) fn read_block(&self, i: u32, into: &mut [u8; 4096])
-        requires { i < length self.now.bytes.items / block_size }
-        ensures { into.new ≡ block_of self.now.bytes.items i }
+    pub(crate) fn read_blocks(&self, first: u32, into: &mut [u8])
+        requires whole { length into.old % block_size ≡ 0 }
+        requires inside { first + length into.old / block_size ≤ length self.now.bytes.items / block_size }
+        ensures { into.new ≡ blocks_of self.now.bytes.items first (length into.old / block_size) }
     {
-        let at = BLOCK * i as usize;
-        into.copy_from_slice(&self.bytes[at..at + BLOCK]);
+        let at = BLOCK * first as usize;
+        into.copy_from_slice(&self.bytes[at..at + into.len()]);
     }
 
     pub(crate) fn write_block(&mut self, i: u32, from: &[u8; 4096])
@@ -59,7 +60,7 @@ impl Image {
 
     pub(crate) fn set_blocks(&mut self, n: u32)
         requires { n ≤ MAX_BLOCKS }
-        ensures bytes { self.new.bytes.items ≡ resized (block_size * n) self.old.bytes.items }
+        ensures bytes { self.new.bytes.items ≡ resized_file (block_size * n) self.old.bytes.items }
         ensures length { length self.new.bytes.items ≡ block_size * n }
     {
         match self.bytes.resize(BLOCK * n as usize, 0) {

@@ -1,15 +1,15 @@
 // A file in memory that has every name, or none until it is made, and of which chosen calls fail.
-ghost use Rattle.std.specs.Prelude.{◌<◌, ◌*◌, ◌⊎◌, List, ℕ, OnOk, OnErr, IfNone, ◌≡◌, ◌≤◌, Some, true, false, length, IfOk, IfSome};
+ghost use Rattle.std.specs.Prelude.{◌<◌, ◌+◌, ◌*◌, ◌/◌, ◌%◌, ◌⊎◌, List, ℕ, OnOk, OnErr, IfNone, ◌≡◌, ◌≤◌, Some, true, false, length, IfOk, IfSome};
 ghost use Rattle.std.specs.Option.{option_copied};
 ghost use Rattle.bp_io.specs.Plans.{new_plan, FollowsPlan};
 ghost use Rattle.bp_io.specs.Causes.{HasCause};
-ghost use Rattle.bp_io.specs.Files.{StaysAttached, StaysOrIsMade, Becomes, Answers, Attaches, IsAttached, KeepsFiles, KeepsOthers, Changes, MayChange, Resizes, KeepsSize, IsBlock, Reads, makes, with_block};
+ghost use Rattle.bp_io.specs.Files.{StaysAttached, StaysOrIsMade, Becomes, Answers, Attaches, IsAttached, KeepsFiles, KeepsOthers, ChangesBytes, MayChange, Resizes, KeepsSize, AreBlocks, Reads, makes, with_block};
 
 use crate::faults::CallPlan;
 use crate::files::Files;
 use crate::image::Image;
 use crate::{Access, Failed};
-use bp_limits::MAX_BLOCKS;
+use bp_limits::{BLOCK_SIZE, MAX_BLOCKS};
 use std::alloc::{AllocError, Global};
 
 /// A file in memory that has every name, or none until one is made; then each name has it. It has
@@ -114,9 +114,10 @@ impl Files for MemFiles<'_> {
         Ok(Some(self.image.length()))
     }
 
-    fn read_block(&mut self, i: u32, into: &mut [u8; 4096]) -> Result<(), Failed>
-        requires { i < (mem_view self.old).blocks }
-        ensures block { OnOk result (IsBlock (mem_view self.old) i into.new) }
+    fn read_blocks(&mut self, first: u32, into: &mut [u8]) -> Result<(), Failed>
+        requires whole { length into.old % BLOCK_SIZE ≡ 0 }
+        requires inside { first + length into.old / BLOCK_SIZE ≤ (mem_view self.old).blocks }
+        ensures blocks { OnOk result (AreBlocks (mem_view self.old) first (length into.old / BLOCK_SIZE) into.new) }
         ensures reads { Reads (mem_view self.old) (mem_view self.new) }
         ensures cause { HasCause (mem_view self.old).faults (mem_view self.new).faults result }
 
@@ -124,14 +125,14 @@ impl Files for MemFiles<'_> {
         ensures plan { FollowsPlan (files_plan self.old) (files_plan self.new) result }
     {
         self.plan.call()?;
-        self.image.read_block(i, into);
+        self.image.read_blocks(first, into);
         Ok(())
     }
 
     fn write_block(&mut self, i: u32, from: &[u8; 4096]) -> Result<(), Failed>
         requires inside { i < (mem_view self.old).blocks }
         requires may_write { (mem_view self.old).may_write ≡ true }
-        ensures written { OnOk result (Changes (with_block i from.now) (mem_view self.old) (mem_view self.new)) }
+        ensures written { OnOk result (ChangesBytes (with_block i from.now) (mem_view self.old) (mem_view self.new)) }
         ensures failed { OnErr result (MayChange (with_block i from.now) (mem_view self.old) (mem_view self.new)) }
         ensures others { KeepsOthers (mem_view self.old) (mem_view self.new) }
         ensures attached { StaysAttached (mem_view self.old) (mem_view self.new) }

@@ -2,6 +2,7 @@
 ghost use Rattle.std.specs.Prelude.{◌≡◌, List, ℕ, true};
 
 use super::*;
+use std::alloc::{AllocError, Global};
 use std::io::{ErrorKind, Read, Write};
 use std::test::Fail;
 use std::{fs, io};
@@ -23,9 +24,9 @@ fn disk_files_keep_blocks(rt: HostRuntime) -> Result<(), Fail> {
     let mut again = DiskFiles::new(rt.alloc(), &rt)?;
     assert_eq!(rt; again.attach("disk.img", Access::Write), Ok(Some(32_768)));
     let mut read = [1u8; 4096];
-    assert_eq!(rt; again.read_block(3, &mut read), Ok(()));
+    assert_eq!(rt; again.read_blocks(3, &mut read), Ok(()));
     assert!(rt; read == block);
-    assert_eq!(rt; again.read_block(4, &mut read), Ok(()));
+    assert_eq!(rt; again.read_blocks(4, &mut read), Ok(()));
     assert!(rt; read == [0u8; 4096]);
     assert_eq!(rt; again.attach("disk.img", Access::Write), Ok(Some(32_768)));
     assert_eq!(rt; again.set_blocks(2), Ok(()));
@@ -59,22 +60,27 @@ fn write_row<F: Files>(files: &mut F) -> Result<(), Failed>
     Ok(())
 }
 
-// Whether the bytes of a file, and its blocks as they are read, are those of the long file.
-fn is_long<F: Files>(files: &mut F, bytes: &[u8]) -> bool
-    requires { (F.view files.old).blocks ≡ 201 }
-{
-    let mut read = [1u8; 4096];
+// Whether these are the bytes of the long file.
+fn is_long(bytes: &[u8]) -> bool {
     for i in 0..201u8 {
         let at = 4096 * i as usize;
-        let want = [long_byte(i); 4096];
-        if bytes.get(at..at + 4096) != Some(want.as_slice())
-            || files.read_block(u32::from(i), &mut read).is_err()
-            || read != want
-        {
+        if bytes.get(at..at + 4096) != Some([long_byte(i); 4096].as_slice()) {
             return false;
         }
     }
     true
+}
+
+// Whether the blocks of a file are those of the long file: one that is read alone, and a run of many.
+fn reads_long<F: Files>(alloc: Global, files: &mut F) -> Result<bool, AllocError>
+    requires { (F.view files.old).blocks ≡ 201 }
+{
+    let mut read = vec![in alloc; 1u8; 823_296]?;
+    let (alone, run) = read.split_at_mut(4096);
+    if files.read_blocks(1, run).is_err() || files.read_blocks(0, alone).is_err() {
+        return Ok(false);
+    }
+    Ok(is_long(&read))
 }
 
 #[test]
@@ -86,7 +92,7 @@ fn disk_files_keep_many_blocks(rt: HostRuntime) -> Result<(), Fail> {
     assert_eq!(rt; files.write_block(200, &[200; 4096]), Ok(()));
     assert_eq!(rt; files.write_block(0, &[77; 4096]), Ok(()));
     let mut read = [1u8; 4096];
-    assert_eq!(rt; files.read_block(0, &mut read), Ok(()));
+    assert_eq!(rt; files.read_blocks(0, &mut read), Ok(()));
     assert!(rt; read == [77; 4096]);
     assert_eq!(rt; files.write_block(2, &[78; 4096]), Ok(()));
     assert_eq!(rt; files.write_block(4, &[79; 4096]), Ok(()));
@@ -94,7 +100,8 @@ fn disk_files_keep_many_blocks(rt: HostRuntime) -> Result<(), Fail> {
     let bytes = fs::read(&rt, "long.img")?;
     let mut again = DiskFiles::new(rt.alloc(), &rt)?;
     assert_eq!(rt; again.attach("long.img", Access::Read), Ok(Some(823_296)));
-    assert!(rt; is_long(&mut again, &bytes));
+    assert!(rt; is_long(&bytes));
+    assert!(rt; reads_long(rt.alloc(), &mut again)?);
     fs::remove_file(&rt, "long.img")?;
     Ok(())
 }
@@ -122,7 +129,7 @@ fn disk_files_miss_a_lost_block(rt: HostRuntime) -> Result<(), Fail> {
     fs::remove_file(&rt, "short.img")?;
     assert_eq!(rt; length, Ok(Some(8192)));
     let mut read = [0u8; 4096];
-    assert_eq!(rt; files.read_block(1, &mut read), Err(Failed));
+    assert_eq!(rt; files.read_blocks(1, &mut read), Err(Failed));
     Ok(())
 }
 
@@ -258,7 +265,7 @@ fn memory_files_keep_blocks(rt: HostRuntime) -> Result<(), Fail> {
     assert_eq!(rt; fair.set_blocks(2), Ok(()));
     assert_eq!(rt; fair.attach("disk.img", Access::Write), Ok(Some(8192)));
     let mut read = [1u8; 4096];
-    assert_eq!(rt; fair.read_block(1, &mut read), Ok(()));
+    assert_eq!(rt; fair.read_blocks(1, &mut read), Ok(()));
     assert!(rt; read.starts_with(&[5; 904]));
     assert!(rt; read.ends_with(&[0; 3192]));
     assert_eq!(rt; fair.attach("disk.img", Access::Write), Ok(Some(8192)));
@@ -292,8 +299,8 @@ fn blocks_fail_as_planned(rt: HostRuntime) -> Result<(), Fail> {
     assert_eq!(rt; files.write_block(0, &block), Ok(()));
     assert_eq!(rt; files.attach("disk.img", Access::Write), Ok(Some(4096)));
     let mut read = [1u8; 4096];
-    assert_eq!(rt; files.read_block(0, &mut read), Err(Failed));
-    assert_eq!(rt; files.read_block(0, &mut read), Ok(()));
+    assert_eq!(rt; files.read_blocks(0, &mut read), Err(Failed));
+    assert_eq!(rt; files.read_blocks(0, &mut read), Ok(()));
     assert!(rt; read == block);
     assert_eq!(rt; files.attach("disk.img", Access::Write), Ok(Some(4096)));
     assert_eq!(rt; files.flush(), Err(Failed));

@@ -8,7 +8,7 @@ use Rattle.bp_layout.specs.Free.{AreFreeBlocks, AreFreeInodes}
 use Rattle.bp_layout.specs.Reached.{IsReached}
 use Rattle.bp_layout.specs.WellFormed.{IsWellFormed}
 use Rattle.bp_layout.proofs.ChecksLaws.{found_reached}
-use Rattle.bp_scan.specs.Reading.{IsOpen, IsReading}
+use Rattle.bp_scan.specs.Reading.{HasWholeInodes, IsReading}
 use Rattle.bp_scan.proofs.Ending.{end_well_formed, end_blocks, end_inodes}
 
 -- what follows from two clauses of an answer
@@ -16,7 +16,7 @@ pub on_ok_both : {T E : Type 0} {A B C : Type 0} (r : Result T E) → (A → B �
 on_ok_both (Ok v) f a b = f a b
 on_ok_both (Err e) f a b = a
 
-module _ (image : Image) (ready : IsOpen image) (blocks inodes todo : Set) (reading : IsReading image blocks inodes todo 0 0) (none : (i : ℕ) → has todo i ≡ false) where
+module _ (image : Image) (ready : HasWholeInodes image) (blocks inodes todo : Set) (reading : IsReading image blocks inodes todo 0 0) (none : (i : ℕ) → has todo i ≡ false) where
   pub all_well_formed : IsWellFormed image
   all_well_formed = end_well_formed image blocks inodes todo ready.formatted ready.inode_blocks ready.some_inodes reading.root_kind reading.range reading.midway none
 

@@ -11,7 +11,7 @@ use Rattle.bp_layout.specs.declared.check.Check.{Check}
 use Rattle.bp_spelling.specs.Names.{AreNames}
 use Rattle.bp_walk.proofs.TakenLaws.{known, length_without, has_without}
 use Rattle.bp_scan.specs.Misspelled.{FailsNames}
-use Rattle.bp_scan.specs.Reading.{IsOpen, IsReading, IsAtHand, IsInside, work}
+use Rattle.bp_scan.specs.Reading.{HasWholeInodes, IsReading, IsAtHand, IsInside, work}
 use Rattle.bp_scan.specs.declared.directories.Directory.{Directory}
 use Rattle.bp_scan.proofs.ProgressLaws.{begin, finish}
 use Rattle.bp_scan.proofs.Inside.{here_sound, here_full, here_few, names_fail}
@@ -36,7 +36,7 @@ taken_up image blocks inodes todo current low there reading = record {
   out = has_without todo current low;
 }
 
-module _ (image : Image) (ready : IsOpen image) (blocks inodes todo : Set) (directory : Directory) (at : IsAtHand image blocks inodes todo directory.inode 0)
+module _ (image : Image) (ready : HasWholeInodes image) (blocks inodes todo : Set) (directory : Directory) (at : IsAtHand image blocks inodes todo directory.inode 0)
     (root : directory.tree.root ≡ root_of image directory.inode) (size : directory.tree.size ≡ size_of image directory.inode) where
   pub begun_sound : IsSound image directory.tree.root directory.tree.size
   begun_sound = along (IsSound image) _ _ _ _ (sym root) (sym size) (here_sound image ready blocks inodes todo directory.inode 0 at.reading at.entered at.kind)

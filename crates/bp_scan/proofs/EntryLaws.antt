@@ -15,7 +15,7 @@ use Rattle.bp_spelling.specs.Names.{AreNames, IsUsed}
 use Rattle.bp_walk.proofs.TakenLaws.{known, clash, length_without, has_less}
 use Rattle.bp_scan.specs.Progress.{IsUnderWay}
 use Rattle.bp_scan.specs.Inodes.{EntersInode, FailsInode}
-use Rattle.bp_scan.specs.Reading.{IsOpen, IsReading, IsInside, work}
+use Rattle.bp_scan.specs.Reading.{HasWholeInodes, IsReading, IsInside, work}
 use Rattle.bp_scan.specs.declared.directories.Directory.{Directory}
 use Rattle.bp_scan.proofs.ProgressLaws.{empty_step, entered_more}
 use Rattle.bp_scan.proofs.EntryStep.{Adds, entry_step}
@@ -25,7 +25,7 @@ use Rattle.bp_scan.proofs.Inside.{first, inodes_few, here_sound, here_full, here
 pub along : (P : ℕ → ℕ → Type 0) (a b x y : ℕ) → a ≡ x → b ≡ y → P a b → P x y
 along P a b x y e f h = subst (λ (v : ℕ). P x v) f (subst (λ (u : ℕ). P u b) e h)
 
-module _ (image : Image) (ready : IsOpen image) (blocks inodes todo : Set) (directory : Directory) (slot : ℕ) (inside : IsInside image blocks inodes todo directory slot) where
+module _ (image : Image) (ready : HasWholeInodes image) (blocks inodes todo : Set) (directory : Directory) (slot : ℕ) (inside : IsInside image blocks inodes todo directory slot) where
   abbrev d : ℕ
   d = directory.inode
 

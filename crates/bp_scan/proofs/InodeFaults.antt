@@ -7,7 +7,7 @@ use Rattle.bp_layout.specs.Checks.{IsFound, Fails, inode_place}
 use Rattle.bp_layout.specs.Checks.Fails.{kind, root_kind, directory_size}
 use Rattle.bp_layout.specs.declared.check.Check.{Check}
 use Rattle.bp_scan.specs.Scanned.{IsScanned, HasAllBlocks}
-use Rattle.bp_scan.specs.Inodes.{IsRight, IsWrong, FailsInode}
+use Rattle.bp_scan.specs.Inodes.{IsRightInode, IsWrong, FailsInode}
 use Rattle.bp_scan.specs.Inodes.IsWrong.{no_kind, root_file, part_of_entry}
 use Rattle.bp_scan.specs.Inodes.FailsInode.{words, tree}
 use Rattle.bp_scan.proofs.Entering.{IsInode, fails_tree, tells_of}
@@ -18,7 +18,7 @@ err_then (Ok t) f p = tt
 err_then (Err e) f p = f e p
 
 -- an inode that is right may be entered
-pub inode_of : (image : Image) (i : ℕ) → IsRight i (kind_of image i) (size_of image i) → IsInode image i
+pub inode_of : (image : Image) (i : ℕ) → IsRightInode i (kind_of image i) (size_of image i) → IsInode image i
 inode_of image i right = record { kinds = λ k same. (right.least, right.most); sizes = right.entries }
 
 wrong_inode : (image : Image) (i : ℕ) → IsFound image (suc i) → (c : Check) (p : ℕ) → IsWrong (suc i) (kind_of image (suc i)) (size_of image (suc i)) (inode_place image (suc i) 0) c p → Fails image c p

@@ -16,13 +16,13 @@ use Rattle.bp_walk.proofs.TakenLaws.{known, clash}
 use Rattle.bp_scan.specs.Scanned.{IsScanned}
 use Rattle.bp_scan.specs.Progress.{IsEntered, IsDone, NamedBy}
 use Rattle.bp_scan.specs.Inodes.{FailsInode}
-use Rattle.bp_scan.specs.Misspelled.{FailsNames, check_of, place_of}
-use Rattle.bp_scan.specs.Reading.{IsOpen, IsReading}
+use Rattle.bp_scan.specs.Misspelled.{FailsNames, check_of, fault_place}
+use Rattle.bp_scan.specs.Reading.{HasWholeInodes, IsReading}
 use Rattle.bp_scan.proofs.Readable.{is_sound, is_full, entry_seen, inode_found, one_entry, named_before}
 use Rattle.bp_layout.proofs.FewLeaves.{few_inodes, few_entries}
 use Rattle.bp_scan.proofs.InodeFaults.{fails_inode}
 
-module _ (image : Image) (ready : IsOpen image) (blocks inodes todo : Set) (current slot : ℕ) (reading : IsReading image blocks inodes todo current slot) where
+module _ (image : Image) (ready : HasWholeInodes image) (blocks inodes todo : Set) (current slot : ℕ) (reading : IsReading image blocks inodes todo current slot) where
   abbrev E : ℕ → Type 0
   E = IsEntered image inodes
 
@@ -105,7 +105,7 @@ module _ (image : Image) (ready : IsOpen image) (blocks inodes todo : Set) (curr
     used_names : (r : ℕ) → IsUsed image (root_of image current) (size_of image current) r → EntryNames image current r (inumber_at image current r)
     used_names r used = record { directory = kind; in_size = used.live; inumber = refl; not_empty = used.some }
 
-    fault_fails : (fault : NameFault) → AreWrong image (root_of image current) (size_of image current) fault → Fails image (check_of fault) (place_of fault)
+    fault_fails : (fault : NameFault) → AreWrong image (root_of image current) (size_of image current) fault → Fails image (check_of fault) (fault_place fault)
     fault_fails _ (form {slot = r} used bad) = name_form (here_entry r _ _ (used_names r used) refl) bad
     fault_fails _ (twice {slot = r} {other = q} used also other same) =
         name_twice (here_entry r _ _ (used_names r used) refl) (here_entry q _ _ (used_names q also) refl) (λ place. other (one place).1) same

@@ -17,7 +17,7 @@ use Rattle.bp_walk.specs.Walk.{TakesTree, FailsTree}
 use Rattle.bp_walk.proofs.TakenLaws.{clash}
 use Rattle.bp_scan.specs.Scanned.{HasAllBlocks}
 use Rattle.bp_scan.specs.Inodes.{EntersInode, FailsInode}
-use Rattle.bp_scan.specs.Reading.{IsOpen, HasInodeFile, IsReading}
+use Rattle.bp_scan.specs.Reading.{HasWholeInodes, HasInodeFile, IsReading}
 use Rattle.bp_scan.proofs.Entering.{enter, fails_tree, nothing_seen}
 use Rattle.bp_scan.proofs.Readable.{is_sound, is_full, content_followed}
 use Rattle.bp_scan.proofs.ProgressLaws.{started}
@@ -51,7 +51,7 @@ File t = ⊥ ⊎ (t ≡ 0)
 abbrev NoEntry : ℕ → ℕ → Type 0
 NoEntry i s = ⊥
 
-module _ (image : Image) (ready : IsOpen image) (all left : Set) (whole : HasAllBlocks image all) (file : HasInodeFile image all left) where
+module _ (image : Image) (ready : HasWholeInodes image) (all left : Set) (whole : HasAllBlocks image all) (file : HasInodeFile image all left) where
   pub file_sound : IsSound image (root_of image 0) (size_of image 0)
   file_sound = is_sound image File NoEntry all left ready.some_inodes (inr refl) file 0 (inr refl) (inl refl)
 

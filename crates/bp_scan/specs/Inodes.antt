@@ -21,7 +21,7 @@ pub record AreWords (image : Image) (i : ℕ) (words : InodeWords) : Type 0 wher
   pub size : size_of image i ≡ words.tree.size
 
 -- an inode's kind and its size in bytes are right: it is a file or a directory, a directory has whole entries, and inode 1 is one
-pub record IsRight (i kind size : ℕ) : Type 0 where
+pub record IsRightInode (i kind size : ℕ) : Type 0 where
   pub least : 1 ≤ kind
   pub most : kind ≤ 2
   pub root : i ≡ 1 → kind ≡ 2
@@ -35,7 +35,7 @@ pub data IsWrong (i kind size place : ℕ) : Check → ℕ → Type 0 where
 
 -- inode i is right, its blocks left the set, and it is to do where it is a directory
 pub record EntersInode (image : Image) (i : ℕ) (old new todo later : Set) : Type 0 where
-  pub right : IsRight i (kind_of image i) (size_of image i)
+  pub right : IsRightInode i (kind_of image i) (size_of image i)
   pub holes : Bool
   pub full : kind_of image i ≡ 2 → holes ≡ false
   pub tree : TakesTree image (root_place image i) (root_of image i) (size_of image i) holes old new

@@ -12,13 +12,13 @@ abbrev pub check_of : NameFault → Check
 check_of (Form place) = NameForm
 check_of (Twice place) = NameTwice
 
-abbrev pub place_of : NameFault → ℕ
-place_of (Form place) = place
-place_of (Twice place) = place
+abbrev pub fault_place : NameFault → ℕ
+fault_place (Form place) = place
+fault_place (Twice place) = place
 
 -- a fault of the names fails this check at this word
 pub record FailsNames (image : Image) (root size : ℕ) (c : Check) (p : ℕ) : Type 0 where
   pub fault : NameFault
   pub wrong : AreWrong image root size fault
   pub check : check_of fault ≡ c
-  pub place : place_of fault ≡ p
+  pub place : fault_place fault ≡ p

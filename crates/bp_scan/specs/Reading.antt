@@ -10,7 +10,7 @@ use Rattle.bp_scan.specs.Progress.{IsEntered, IsMidway}
 use Rattle.bp_scan.specs.declared.directories.Directory.{Directory}
 
 -- whole blocks of inodes, in an image that is formatted
-pub record IsOpen (image : Image) : Type 0 where
+pub record HasWholeInodes (image : Image) : Type 0 where
   pub formatted : IsFormatted image
   pub inode_blocks : size_of image 0 % 4096 ≡ 0
   pub some_inodes : 4096 ≤ size_of image 0

@@ -6,7 +6,7 @@ ghost use Rattle.bp_layout.specs.Directory.{inumber_in};
 ghost use Rattle.bp_layout.specs.Tree.{IsFull, IsSound};
 ghost use Rattle.bp_layout.specs.Words.{block_count};
 ghost use Rattle.bp_limits.specs.Limits.{entry_size};
-ghost use Rattle.bp_scan.specs.Reading.{IsOpen, IsReading, IsAtHand, IsInside, work};
+ghost use Rattle.bp_scan.specs.Reading.{HasWholeInodes, IsReading, IsAtHand, IsInside, work};
 ghost use Rattle.bp_scan.specs.Misspelled.{FailsNames};
 ghost use Rattle.bp_spelling.specs.Names.{AreNames, entry_place_in};
 ghost use Rattle.pm_region.specs.Memory.{current_words};
@@ -52,7 +52,7 @@ fn read_entry<R: Region>(
     inodes: &mut Inodes,
     todo: &mut Inodes,
 ) -> Result<(), CheckFault>
-    requires ready { IsOpen (current_words (R.memory region.now)) }
+    requires ready { HasWholeInodes (current_words (R.memory region.now)) }
     requires inside { let words = current_words (R.memory region.now) in
         IsInside words blocks.old inodes.old todo.old directory slot.number }
     requires live { slot.number < directory.tree.size / entry_size }
@@ -97,7 +97,7 @@ fn read_leaf<R: Region>(
     inodes: &mut Inodes,
     todo: &mut Inodes,
 ) -> Result<(), CheckFault>
-    requires ready { IsOpen (current_words (R.memory region.now)) }
+    requires ready { HasWholeInodes (current_words (R.memory region.now)) }
     requires inside { IsInside (current_words (R.memory region.now)) blocks.old inodes.old todo.old directory first }
     requires starts { first % 16 ≡ 0 }
     requires live { first < directory.tree.size / entry_size }
@@ -134,7 +134,7 @@ fn read_entries<R: Region>(
     inodes: &mut Inodes,
     todo: &mut Inodes,
 ) -> Result<(), CheckFault>
-    requires ready { IsOpen (current_words (R.memory region.now)) }
+    requires ready { HasWholeInodes (current_words (R.memory region.now)) }
     requires inside { IsInside (current_words (R.memory region.now)) blocks.old inodes.old todo.old directory 0 }
     ensures inside { let words = current_words (R.memory region.now) in
         OnOk result (IsInside words blocks.new inodes.new todo.new directory (directory.tree.size / entry_size)) }
@@ -189,7 +189,7 @@ pub(crate) fn read_directory<R: Region>(
     todo: &mut Inodes,
     entries: &mut Vec<Spelled>,
 ) -> Result<(), CheckFault>
-    requires ready { IsOpen (current_words (R.memory region.now)) }
+    requires ready { HasWholeInodes (current_words (R.memory region.now)) }
     requires begun { IsAtHand (current_words (R.memory region.now)) blocks.old inodes.old todo.old inode 0 }
     requires entries { 16 * block_count (current_words (R.memory region.now)) ≤ vec_capacity entries.old }
     ensures done { OnOk result (IsReading (current_words (R.memory region.now)) blocks.new inodes.new todo.new 0 0) }

@@ -21,13 +21,13 @@ pub struct Pending {
 
 impl Model for Pending {
     ghost use Rattle.std.specs.Prelude.{ℕ, ◌*◌};
-    ghost use Rattle.bp_scan.specs.Room.{HasRoom};
+    ghost use Rattle.bp_scan.specs.Room.{HasReserved};
 
     ghost Value = { ℕ };
 
     ghost view = { λ pending. pending.inodes };
 
-    ghost invariant = { HasRoom };
+    ghost invariant = { HasReserved };
 }
 
 impl Pending {

@@ -8,7 +8,7 @@ ghost use Rattle.bp_layout.specs.Inode.{inode_count};
 ghost use Rattle.bp_layout.specs.Reached.{IsReached};
 ghost use Rattle.bp_layout.specs.WellFormed.{IsWellFormed};
 ghost use Rattle.bp_layout.specs.Words.{block_count};
-ghost use Rattle.bp_scan.specs.Reading.{IsOpen, IsReading};
+ghost use Rattle.bp_scan.specs.Reading.{HasWholeInodes, IsReading};
 ghost use Rattle.pm_region.specs.Memory.{current_words};
 
 use crate::directories::read_directory;
@@ -32,7 +32,7 @@ fn start<R: Region>(
     requires no_blocks { blocks.old ≡ empty (block_count (current_words (R.memory region.now))) }
     requires no_inodes { inodes.old ≡ empty (64 * block_count (current_words (R.memory region.now))) }
     requires nothing { todo.old ≡ empty (64 * block_count (current_words (R.memory region.now))) }
-    ensures ready { OnOk result (IsOpen (current_words (R.memory region.now))) }
+    ensures ready { OnOk result (HasWholeInodes (current_words (R.memory region.now))) }
     ensures started { OnOk result (IsReading (current_words (R.memory region.now)) blocks.new inodes.new todo.new 0 0) }
     ensures fault { IfErr result (λ f. Fails (current_words (R.memory region.now)) f.check f.place) }
     ensures block_room { length blocks.new ≡ length blocks.old }
@@ -57,7 +57,7 @@ fn read_directories<R: Region>(
     todo: &mut Inodes,
     entries: &mut Vec<Spelled>,
 ) -> Result<(), CheckFault>
-    requires ready { IsOpen (current_words (R.memory region.now)) }
+    requires ready { HasWholeInodes (current_words (R.memory region.now)) }
     requires reading { IsReading (current_words (R.memory region.now)) blocks.old inodes.old todo.old 0 0 }
     requires entries { 16 * block_count (current_words (R.memory region.now)) ≤ vec_capacity entries.old }
     ensures reading { OnOk result (IsReading (current_words (R.memory region.now)) blocks.new inodes.new todo.new 0 0) }

@@ -6,8 +6,8 @@ ghost use Rattle.bp_layout.specs.Checks.{Fails, IsFormatted};
 ghost use Rattle.bp_layout.specs.Inode.{inode_count, root_of, size_of};
 ghost use Rattle.bp_layout.specs.Tree.{IsFull, IsSound};
 ghost use Rattle.bp_layout.specs.Words.{block_count};
-ghost use Rattle.bp_scan.specs.Inodes.{AreWords, IsRight, IsWrong, EntersInode, FailsInode};
-ghost use Rattle.bp_scan.specs.Reading.{IsOpen, HasInodeFile};
+ghost use Rattle.bp_scan.specs.Inodes.{AreWords, IsRightInode, IsWrong, EntersInode, FailsInode};
+ghost use Rattle.bp_scan.specs.Reading.{HasWholeInodes, HasInodeFile};
 ghost use Rattle.bp_scan.specs.Scanned.{HasAllBlocks};
 ghost use Rattle.pm_region.specs.Memory.{current_words};
 
@@ -43,7 +43,7 @@ struct InodeWords {
 pub(crate) fn enter_inode_file<R: Region>(region: &R, blocks: &mut Blocks) -> Result<(), CheckFault>
     requires formatted { IsFormatted (current_words (R.memory region.now)) }
     requires all { HasAllBlocks (current_words (R.memory region.now)) blocks.old }
-    ensures ready { OnOk result (IsOpen (current_words (R.memory region.now))) }
+    ensures ready { OnOk result (HasWholeInodes (current_words (R.memory region.now))) }
     ensures entered { OnOk result (HasInodeFile (current_words (R.memory region.now)) blocks.old blocks.new) }
     ensures fault { IfErr result (λ f. Fails (current_words (R.memory region.now)) f.check f.place) }
     ensures room { length blocks.new ≡ length blocks.old }
@@ -83,7 +83,7 @@ fn inode_words<R: Region>(region: &R, inode: u32) -> InodeWords
 /// Checks the kind of an inode, and the size of a directory.
 fn check_words(inode: u32, words: InodeWords) -> Result<(), CheckFault>
     requires { words.place + 2 < 4294967296 }
-    ensures ok { OnOk result (IsRight inode words.kind words.tree.size) }
+    ensures ok { OnOk result (IsRightInode inode words.kind words.tree.size) }
     ensures err { IfErr result (λ f. IsWrong inode words.kind words.tree.size words.place f.check f.place) }
 {
     match words.kind {

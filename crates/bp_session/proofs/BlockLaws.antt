@@ -2,7 +2,7 @@
 use Rattle.std.proofs.Common.{zero, suc, refl, sym, ◌∙◌, ap, arith, ◌≡◌, ℕ, ◌+◌, ◌*◌, ◌-◌, ◌<◌, ◌≤◌, List, [], ◌∷◌, ◌++◌, min, length, take, drop, get_or, lit<, get_or-drop, length-drop, length-take}
 use Rattle.std.proofs.lemmas.List.{append_assoc}
 use Rattle.std.proofs.Math.Seq.{take-suc, take-add}
-use Rattle.bp_io.specs.Files.{block_of}
+use Rattle.bp_io.specs.Files.{block_bytes}
 use Rattle.bp_layout.specs.Words.{Image}
 use Rattle.bp_layout.specs.Bytes.{image_bytes}
 use Rattle.pm_words.specs.Bytes.{word_bytes, word_of}
@@ -38,7 +38,7 @@ pub image_bytes-one : (word : ℕ) → image_bytes (word ∷ []) ≡ word_bytes 
 unfolding image_bytes
 image_bytes-one word = refl
 
-pub block-image_bytes : (image : Image) (i : ℕ) → block_of (image_bytes image) i ≡ image_bytes (take 512 (drop (512 * i) image))
+pub block-image_bytes : (image : Image) (i : ℕ) → block_bytes (image_bytes image) i ≡ image_bytes (take 512 (drop (512 * i) image))
 block-image_bytes image i =
     let width : (4096 * i + 4096) - 4096 * i ≡ 8 * 512 = omega arith in
     let place : 4096 * i ≡ 8 * (512 * i) = omega arith in

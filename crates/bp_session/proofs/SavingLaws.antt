@@ -6,7 +6,7 @@ use Rattle.std.specs.Prelude.{Result, Ok, Err, OnOk, OnErr}
 use Rattle.bp_layout.specs.Bytes.{image_bytes}
 use Rattle.pm_region.specs.Memory.{Memory, current_words}
 use Rattle.pm_epochs.proofs.CrashLaws.{length-words_after}
-use Rattle.bp_io.specs.Files.{block_of, with_block, Known, Becomes, Stays, StaysAttached, View}
+use Rattle.bp_io.specs.Files.{block_bytes, with_block, Known, Becomes, Stays, StaysAttached, View}
 use Rattle.bp_session.proofs.BlockLaws.{length-image_bytes}
 use Rattle.bp_layout.specs.Words.{Image}
 use Rattle.bp_session.specs.Files.{HasBytes, HasBlocksOf, IsMixed, IsReady, partly_saved}
@@ -54,7 +54,7 @@ all_joined (x ∷ first) (y ∷ second) (suc n) all same = ap (λ l. y ∷ l) (a
 
 -- ---- blocks
 
-pub saved_next : (first second : List ℕ) (i : ℕ) → 4096 * i ≤ length second → length first ≡ length second → with_block i (block_of second i) (partly_saved first second i) ≡ partly_saved first second (i + 1)
+pub saved_next : (first second : List ℕ) (i : ℕ) → 4096 * i ≤ length second → length first ≡ length second → with_block i (block_bytes second i) (partly_saved first second i) ≡ partly_saved first second (i + 1)
 saved_next first second i low same =
     let width : (4096 * i + 4096) - 4096 * i ≡ 4096 = omega arith in
     let end : 4096 * (i + 1) ≡ 4096 * i + 4096 = omega arith in
@@ -69,13 +69,13 @@ saved_mixed first second i low same = record {
   blocks = λ k inside. go k (nat_lt k i) refl;
 }
   where
-    go : (k : ℕ) (b : Bool) → nat_lt k i ≡ b → (block_of (partly_saved first second i) k ≡ block_of first k) ⊎ (block_of (partly_saved first second i) k ≡ block_of second k)
+    go : (k : ℕ) (b : Bool) → nat_lt k i ≡ b → (block_bytes (partly_saved first second i) k ≡ block_bytes first k) ⊎ (block_bytes (partly_saved first second i) k ≡ block_bytes second k)
     go k true e = inr (before second (drop (4096 * i) first) (4096 * i) (4096 * k) ((4096 * k + 4096) - 4096 * k) (omega (arith, ltb-true k i e)) low)
     go k false e = inl (ap (λ l. take ((4096 * k + 4096) - 4096 * k) l) (behind first second (4096 * i) (4096 * k) (omega (arith, ltb-false k i e)) low same))
 
 -- ---- what is known of a file
 
-pub becomes_next : (known new : Known) (first second block : List ℕ) (i : ℕ) → 4096 * i ≤ length second → length first ≡ length second → block ≡ block_of second i → HasBytes known (partly_saved first second i)
+pub becomes_next : (known new : Known) (first second block : List ℕ) (i : ℕ) → 4096 * i ≤ length second → length first ≡ length second → block ≡ block_bytes second i → HasBytes known (partly_saved first second i)
     → Becomes (with_block i block) known new → HasBytes new (partly_saved first second (i + 1))
 becomes_next None new first second block i low same e has becomes = rw becomes tt
 becomes_next (Some None) new first second block i low same e has becomes = absurd has
@@ -104,7 +104,7 @@ becomes_told (Some (Some found)) new f bytes has becomes = rw becomes refl
 pub all_mixed : (known : Known) (first second : List ℕ) → length first ≡ length second → HasBytes known second → HasBlocksOf known first second
 all_mixed None first second same has = tt
 all_mixed (Some None) first second same has = absurd has
-all_mixed (Some (Some found)) first second same has = record { size = ap length has ∙ sym same; blocks = λ i low. inr (ap (λ l. block_of l i) has) }
+all_mixed (Some (Some found)) first second same has = record { size = ap length has ∙ sym same; blocks = λ i low. inr (ap (λ l. block_bytes l i) has) }
 
 -- ---- the attached file
 

@@ -1,7 +1,7 @@
 -- Which words a file holds.
 use Rattle.std.specs.Prelude.{◌≡◌, ◌⊎◌, ℕ, List, None, Some, ⊤, Bool, true, is_some, length, take, drop, ◌++◌, ◌*◌, ◌<◌, ◌^◌}
 use Rattle.bp_limits.specs.Limits.{block_size, block_words}
-use Rattle.bp_io.specs.Files.{Known, Tells, View, block_of}
+use Rattle.bp_io.specs.Files.{Known, TellsFile, View, block_bytes}
 use Rattle.bp_layout.specs.Words.{Image, word}
 use Rattle.bp_layout.specs.Bytes.{image_bytes}
 
@@ -35,8 +35,8 @@ pub record HasImage (known : Known) (image : Image) : Type 0 where
 -- where it is told, the file of a name is there and each of its blocks is that of one list of bytes or of the other
 pub record IsMixed (found first second : List ℕ) : Type 0 where
   pub size : length found ≡ length first
-  pub blocks : (i : ℕ) → block_size * i < length found → (block_of found i ≡ block_of first i)
-      ⊎ (block_of found i ≡ block_of second i)
+  pub blocks : (i : ℕ) → block_size * i < length found → (block_bytes found i ≡ block_bytes first i)
+      ⊎ (block_bytes found i ≡ block_bytes second i)
 
 abbrev pub HasBlocksOf : Known → List ℕ → List ℕ → Type 0
 HasBlocksOf None first second = ⊤
@@ -74,7 +74,7 @@ pub record HoldsPartly (files : View) (name : List ℕ) (first second : Image) :
 -- The words are those of the first blocks of the attached file, where its bytes are told.
 abbrev pub HoldsFront : View → ℕ → Image → Type 0
 HoldsFront files count words = (name : List ℕ) → files.is_attached name ≡ true →
-    Tells (files.contents name) (λ bytes. image_bytes words ≡ take (block_size * count) bytes)
+    TellsFile (files.contents name) (λ bytes. image_bytes words ≡ take (block_size * count) bytes)
 
 -- A file is attached that has the words' blocks, and may be written.
 pub record IsReady (base : Image) (files : View) : Type 0 where

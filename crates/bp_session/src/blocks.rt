@@ -1,7 +1,7 @@
 //! The words of a region as the blocks of a file.
 
 ghost use Rattle.std.specs.Prelude.{◌≡◌, ◌≤◌, ◌<◌, ◌^◌, ◌+◌, ◌*◌, drop, length, take};
-ghost use Rattle.bp_io.specs.Files.{block_of};
+ghost use Rattle.bp_io.specs.Files.{block_bytes};
 ghost use Rattle.bp_layout.specs.Bytes.{image_bytes};
 ghost use Rattle.pm_region.specs.Memory.{current_words};
 
@@ -32,7 +32,7 @@ fn encode(words: &[u64; 512], into: &mut [u8; 4096])
 pub fn read_block<R: Region>(region: &R, i: u32, into: &mut [u8; 4096])
     requires inside { 512 * i + 512 ≤ length (R.memory region.now).base }
     requires fits { 512 * i + 512 < 2 ^ 32 }
-    ensures { into.new ≡ block_of (image_bytes (current_words (R.memory region.now))) i }
+    ensures { into.new ≡ block_bytes (image_bytes (current_words (R.memory region.now))) i }
 {
     // In two loops, each of which is a copy of a block.
     let mut words = [0u64; 512];

@@ -7,7 +7,7 @@ use Rattle.std.proofs.lemmas.List.{length-replicate}
 use Rattle.pm_region.specs.Memory.{Memory, current_words}
 use Rattle.bp_layout.specs.Words.{Image}
 use Rattle.bp_io.specs.Causes.{HasCause}
-use Rattle.bp_io.specs.Files.{Known, Stays, StaysOrIsMade, Becomes, Attaches, block_of, resized}
+use Rattle.bp_io.specs.Files.{Known, Stays, StaysOrIsMade, Becomes, Attaches, block_bytes, resized_file}
 use Rattle.bp_session.specs.Files.{HasBytes, HasBlocksOf}
 use Rattle.bp_shell.specs.Formatting.{IsPartly, HasPartly, bytes_of}
 use Rattle.bp_session.specs.Outside.{Prints}
@@ -63,13 +63,13 @@ take-take zero xs = refl
 take-take (suc w) [] = refl
 take-take (suc w) (x ∷ xs) = ap (λ l. x ∷ l) (take-take w xs)
 
-block_filled : (xs : List ℕ) (i blocks : ℕ) → i < blocks → block_of (resized (4096 * blocks) xs) i ≡ resized 4096 (block_of xs i)
+block_filled : (xs : List ℕ) (i blocks : ℕ) → i < blocks → block_bytes (resized_file (4096 * blocks) xs) i ≡ resized_file 4096 (block_bytes xs i)
 block_filled xs i blocks low =
     let width : (4096 * i + 4096) - 4096 * i ≡ 4096 = omega arith in
     let missing : 4096 - length (take 4096 (drop (4096 * i) xs)) ≡ 4096 - length (drop (4096 * i) xs) = omega (arith, length-take 4096 (drop (4096 * i) xs)) in
     rw (width, take-take 4096 (drop (4096 * i) xs), missing) (middle_filled xs (4096 * i) 4096 (4096 * blocks) (omega arith))
 
-length-resized : (m : ℕ) (xs : List ℕ) → length (resized m xs) ≡ m
+length-resized : (m : ℕ) (xs : List ℕ) → length (resized_file m xs) ≡ m
 length-resized m xs = omega (arith, length-append (take m xs) (replicate (m - length xs) 0), length-take m xs, length-replicate {A = ℕ} (m - length xs) 0)
 
 -- ---- what is known of the file
@@ -77,7 +77,7 @@ length-resized m xs = omega (arith, length-append (take m xs) (replicate (m - le
 as_before : (old wanted : List ℕ) → IsPartly old wanted old
 as_before old wanted = record { size = inl refl; blocks = λ i low. inl refl }
 
-all_filled : (old wanted : List ℕ) (blocks : ℕ) → length wanted ≡ 4096 * blocks → IsPartly old wanted (resized (4096 * blocks) old)
+all_filled : (old wanted : List ℕ) (blocks : ℕ) → length wanted ≡ 4096 * blocks → IsPartly old wanted (resized_file (4096 * blocks) old)
 all_filled old wanted blocks size = record {
   size = inr (length-resized (4096 * blocks) old ∙ sym size);
   blocks = λ i low. inr (inl (block_filled old i blocks (omega (arith, length-resized (4096 * blocks) old, low))));
@@ -93,7 +93,7 @@ partly_attached (Some None) now wanted stays made = elim made [
 partly_attached (Some (Some bytes)) now wanted stays made = rw stays (as_before bytes wanted)
 
 -- a change of the length failed
-pub partly_sized : (old middle now : Known) (n blocks : ℕ) (wanted : List ℕ) → length wanted ≡ 4096 * blocks → Attaches old (Some n) middle → Stays middle now ⊎ Becomes (resized (4096 * blocks)) middle now → HasPartly old wanted now
+pub partly_sized : (old middle now : Known) (n blocks : ℕ) (wanted : List ℕ) → length wanted ≡ 4096 * blocks → Attaches old (Some n) middle → Stays middle now ⊎ Becomes (resized_file (4096 * blocks)) middle now → HasPartly old wanted now
 partly_sized None middle now n blocks wanted size attaches sizes = elim (rw attaches at sizes) [ inl e ↦ e | inr e ↦ e ]
 partly_sized (Some None) middle now n blocks wanted size attaches sizes = elim (rw attaches at sizes) [
   | inl e ↦ rw e (as_before [] wanted)
@@ -109,10 +109,10 @@ pub record Sized (old sized : Known) (blocks : ℕ) : Type 0 where
   pub was : List ℕ
   pub long : length was ≡ 4096 * blocks
   pub has : HasBytes sized was
-  pub from : (o : Option (List ℕ)) → old ≡ Some o → was ≡ resized (4096 * blocks) (bytes_of o)
+  pub from : (o : Option (List ℕ)) → old ≡ Some o → was ≡ resized_file (4096 * blocks) (bytes_of o)
   pub told : is_some sized ≡ is_some old
 
-pub is_sized : (old middle sized : Known) (n blocks : ℕ) → Attaches old (Some n) middle → Becomes (resized (4096 * blocks)) middle sized → Sized old sized blocks
+pub is_sized : (old middle sized : Known) (n blocks : ℕ) → Attaches old (Some n) middle → Becomes (resized_file (4096 * blocks)) middle sized → Sized old sized blocks
 is_sized None middle sized n blocks attaches sizes = record {
   was = replicate (4096 * blocks) 0;
   long = length-replicate {A = ℕ} (4096 * blocks) 0;
@@ -121,14 +121,14 @@ is_sized None middle sized n blocks attaches sizes = record {
   told = let now = rw attaches at sizes in rw now refl;
 }
 is_sized (Some None) middle sized n blocks attaches sizes = record {
-  was = resized (4096 * blocks) [];
+  was = resized_file (4096 * blocks) [];
   long = length-resized (4096 * blocks) [];
   has = let now = rw attaches at sizes in rw now refl;
   from = λ o e. let same : None ≡ o = cc in rw (← same) refl;
   told = let now = rw attaches at sizes in rw now refl;
 }
 is_sized (Some (Some bytes)) middle sized n blocks attaches sizes = record {
-  was = resized (4096 * blocks) bytes;
+  was = resized_file (4096 * blocks) bytes;
   long = length-resized (4096 * blocks) bytes;
   has = let now = rw attaches at sizes in rw now refl;
   from = λ o e. let same : Some bytes ≡ o = cc in rw (← same) refl;
@@ -136,7 +136,7 @@ is_sized (Some (Some bytes)) middle sized n blocks attaches sizes = record {
 }
 
 -- a save failed
-pub partly_mixed : (old now : Known) (was wanted : List ℕ) (blocks : ℕ) → length was ≡ 4096 * blocks → ((o : Option (List ℕ)) → old ≡ Some o → was ≡ resized (4096 * blocks) (bytes_of o)) → is_some now ≡ is_some old → HasBlocksOf now was wanted → length wanted ≡ 4096 * blocks → HasPartly old wanted now
+pub partly_mixed : (old now : Known) (was wanted : List ℕ) (blocks : ℕ) → length was ≡ 4096 * blocks → ((o : Option (List ℕ)) → old ≡ Some o → was ≡ resized_file (4096 * blocks) (bytes_of o)) → is_some now ≡ is_some old → HasBlocksOf now was wanted → length wanted ≡ 4096 * blocks → HasPartly old wanted now
 partly_mixed None None was wanted blocks long from told mixed size = refl
 partly_mixed None (Some now) was wanted blocks long from told mixed size = absurd (true≢false told)
 partly_mixed (Some o) None was wanted blocks long from told mixed size = absurd (true≢false (sym told))
@@ -144,7 +144,7 @@ partly_mixed (Some o) (Some None) was wanted blocks long from told mixed size = 
 partly_mixed (Some o) (Some (Some found)) was wanted blocks long from told mixed size = record {
   size = inr (omega (arith, mixed.size, long, size));
   blocks = λ i low. elim (mixed.blocks i low) [
-    | inl e ↦ inr (inl (e ∙ ap (λ l. block_of l i) (from o refl) ∙ block_filled (bytes_of o) i blocks (omega (arith, long, mixed.size))))
+    | inl e ↦ inr (inl (e ∙ ap (λ l. block_bytes l i) (from o refl) ∙ block_filled (bytes_of o) i blocks (omega (arith, long, mixed.size))))
     | inr e ↦ inr (inr e)
   ];
 }

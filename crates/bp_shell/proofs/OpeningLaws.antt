@@ -1,8 +1,9 @@
 -- What is known of the file of a run.
-use Rattle.std.proofs.Common.{zero, suc, refl, sym, ◌∙◌, ap, arith, ◌≡◌, ◌≢◌, ℕ, ◌+◌, ◌*◌, ◌-◌, List, [], ◌∷◌, ◌++◌, length, take, false, true, inl, inr}
+use Rattle.std.proofs.Common.{zero, suc, refl, sym, ◌∙◌, ap, subst, arith, ◌≡◌, ◌≢◌, ℕ, ◌+◌, ◌*◌, ◌-◌, List, [], ◌∷◌, ◌++◌, length, take, false, true, inl, inr}
 use Rattle.std.specs.Prelude.{Some, None, ◌⊎◌}
 use Rattle.std.proofs.Math.Seq.{take-add, take-length}
-use Rattle.bp_io.specs.Files.{Known, Stays, Tells, Answers, Reads, View, block_of}
+use Rattle.std.proofs.lemmas.List.{append_assoc}
+use Rattle.bp_io.specs.Files.{Known, Stays, TellsFile, Answers, Reads, View, block_bytes, blocks_of}
 use Rattle.bp_session.proofs.SavingLaws.{stays_attached, still_attached}
 use Rattle.bp_layout.specs.Bytes.{image_bytes}
 use Rattle.bp_free.specs.Set.{Set, has, members}
@@ -17,25 +18,26 @@ use Rattle.bp_script.specs.declared.notices.Notice.{Notice}
 use Rattle.bp_script.specs.declared.notices.Notice.TheVariants.{NotFormatted, BadSize, Damaged}
 use Rattle.bp_session.proofs.BlockLaws.{image_bytes-append}
 use Rattle.bp_session.specs.Files.{AreWordsOf64Bits, HasBytes, HasLength, Holds, HoldsFront}
-use Rattle.bp_shell.specs.Opening.{FindsImage, HasSized, RefusesFile}
+use Rattle.pm_raw.specs.Part.{Part}
+use Rattle.bp_shell.specs.Opening.{FindsImage, HasLoaded, HasSized, RefusesFile}
 use Rattle.bp_shell.specs.Opening.RefusesFile.{by_length, not_formatted, by_count, damaged}
 use Rattle.bp_shell.specs.Stops.{stop_by}
 use Rattle.bp_shell.specs.declared.stop.Stop.{Stop}
 use Rattle.bp_shell.specs.declared.stop.Stop.TheVariants.{Missing, Outside, Refused, Memory}
 
-pub block_next : (bytes : List ℕ) (i : ℕ) → take (4096 * (i + 1)) bytes ≡ take (4096 * i) bytes ++ block_of bytes i
-block_next bytes i =
-    let width : (4096 * i + 4096) - 4096 * i ≡ 4096 = omega arith in
-    let end : 4096 * (i + 1) ≡ 4096 * i + 4096 = omega arith in
-    rw (width, end) (take-add (4096 * i) 4096 bytes)
+-- a run of blocks behind those before it
+pub blocks_next : (bytes : List ℕ) (first count : ℕ) → take (4096 * (first + count)) bytes ≡ take (4096 * first) bytes ++ blocks_of bytes first count
+blocks_next bytes first count =
+    let width : (4096 * first + 4096 * count) - 4096 * first ≡ 4096 * count = omega arith in
+    let end : 4096 * (first + count) ≡ 4096 * first + 4096 * count = omega arith in
+    rw (width, end) (take-add (4096 * first) (4096 * count) bytes)
 
-pub tells_next : (was now : Known) (read next block : List ℕ) (i : ℕ) → Stays was now → Tells was (λ bytes. read ≡ take (4096 * i) bytes) → Tells now (λ bytes. block ≡ block_of bytes i) → next ≡ read ++ block
-    → Tells was (λ bytes. next ≡ take (4096 * (i + 1)) bytes)
-tells_next None now read next block i stays before here e = tt
-tells_next (Some None) now read next block i stays before here e = tt
-tells_next (Some (Some bytes)) now read next block i stays before here e =
-    let same = rw stays at here in
-    e ∙ ap (λ l. l ++ block) before ∙ ap (λ l. take (4096 * i) bytes ++ l) same ∙ sym (block_next bytes i)
+pub tells_next : (known : Known) (read next run : List ℕ) (first count : ℕ) → TellsFile known (λ bytes. read ≡ take (4096 * first) bytes) → TellsFile known (λ bytes. run ≡ blocks_of bytes first count) → next ≡ read ++ run
+    → TellsFile known (λ bytes. next ≡ take (4096 * (first + count)) bytes)
+tells_next None read next run first count before here e = tt
+tells_next (Some None) read next run first count before here e = tt
+tells_next (Some (Some bytes)) read next run first count before here e =
+    e ∙ ap (λ l. l ++ run) before ∙ ap (λ l. take (4096 * first) bytes ++ l) here ∙ sym (blocks_next bytes first count)
 
 pub stays_stays : (a b c : Known) → Stays a b → Stays b c → Stays a c
 stays_stays None b c first second = stays_none b c first second
@@ -63,7 +65,7 @@ reads_then a b c one two = record {
   flushed = two.flushed ∙ one.flushed;
 }
 
-pub tells_all : (known : Known) (P : List ℕ → Type 0) → ((bytes : List ℕ) → P bytes) → Tells known P
+pub tells_all : (known : Known) (P : List ℕ → Type 0) → ((bytes : List ℕ) → P bytes) → TellsFile known P
 tells_all None P all = tt
 tells_all (Some None) P all = tt
 tells_all (Some (Some bytes)) P all = all bytes
@@ -72,6 +74,11 @@ tells_all (Some (Some bytes)) P all = all bytes
 
 pub bytes_next : (base words : Image) (bytes : List ℕ) → image_bytes words ≡ bytes → image_bytes (base ++ words) ≡ image_bytes base ++ bytes
 bytes_next base words bytes spelled = image_bytes-append base words ∙ ap (λ l. image_bytes base ++ l) spelled
+
+-- one more block of a run
+pub run_next : (before run block : List ℕ) (k : ℕ) → block ≡ block_bytes run k → (before ++ take (4096 * k) run) ++ block ≡ before ++ take (4096 * (k + 1)) run
+run_next before run block k is =
+    append_assoc before (take (4096 * k) run) block ∙ ap (λ l. before ++ l) (ap (λ l. take (4096 * k) run ++ l) is ∙ sym (blocks_next run k 1))
 
 pub words_append : (first second : Image) → AreWordsOf64Bits first → AreWordsOf64Bits second → AreWordsOf64Bits (first ++ second)
 words_append [] second low high place = high place
@@ -82,7 +89,28 @@ pub no_words : image_bytes [] ≡ []
 unfolding image_bytes
 no_words = refl
 
-whole_known : (known : Known) (count : ℕ) (bytes : List ℕ) → HasLength known (4096 * count) → Tells known (λ found. bytes ≡ take (4096 * count) found) → HasBytes known bytes
+-- what is loaded is so before a read and after it
+module _ (a b : View) (count : ℕ) (part : Part) (reads : Reads a b) where
+  abbrev front : Known → Type 0
+  front known = TellsFile known (λ bytes. image_bytes part.words ≡ take (4096 * count) bytes)
+
+  pub loaded_then : HasLoaded a count part → HasLoaded b count part
+  loaded_then loaded = record {
+    image = λ name is. subst front (sym (stays_equal _ _ (reads.files name))) (loaded.image name (sym (reads.attached.attached name) ∙ is));
+    words = loaded.words;
+    long = loaded.long;
+    size = omega (arith, loaded.size, reads.attached.blocks);
+  }
+
+  pub loaded_before : HasLoaded b count part → HasLoaded a count part
+  loaded_before loaded = record {
+    image = λ name is. subst front (stays_equal _ _ (reads.files name)) (loaded.image name (reads.attached.attached name ∙ is));
+    words = loaded.words;
+    long = loaded.long;
+    size = omega (arith, loaded.size, reads.attached.blocks);
+  }
+
+whole_known : (known : Known) (count : ℕ) (bytes : List ℕ) → HasLength known (4096 * count) → TellsFile known (λ found. bytes ≡ take (4096 * count) found) → HasBytes known bytes
 whole_known None count bytes long tells = tt
 whole_known (Some None) count bytes long tells = long
 whole_known (Some (Some found)) count bytes long tells = sym (tells ∙ ap (λ n. take n found) (sym long) ∙ take-length found)
@@ -91,7 +119,7 @@ module _ (was : Known) (name : List ℕ) (count : ℕ) (found now : View) (base 
     (front : HoldsFront found count base) (size : length base ≡ 512 * count) (words : AreWordsOf64Bits base) where
   known : HasBytes was (image_bytes base)
   known =
-      let tells : Tells was (λ bytes. image_bytes base ≡ take (4096 * count) bytes) = rw same at (front name finds.attached) in
+      let tells : TellsFile was (λ bytes. image_bytes base ≡ take (4096 * count) bytes) = rw same at (front name finds.attached) in
       whole_known was count (image_bytes base) finds.has tells
 
   pub is_sized : HasSized was base

@@ -1,7 +1,7 @@
 -- What a format makes of a file.
 use Rattle.std.specs.Prelude.{◌≡◌, ◌⊎◌, ℕ, ◌*◌, ◌<◌, List, [], length, replicate, Option, None, Some}
 use Rattle.bp_limits.specs.Limits.{block_size, block_words}
-use Rattle.bp_io.specs.Files.{Known, block_of, resized}
+use Rattle.bp_io.specs.Files.{Known, block_bytes, resized_file}
 use Rattle.bp_layout.specs.Words.{Image}
 use Rattle.bp_layout.specs.Format.{formatted}
 
@@ -13,8 +13,8 @@ new_image blocks = formatted (replicate (block_words * blocks) 0) blocks
 -- zeros, or that of the wanted bytes.
 pub record IsPartly (old wanted found : List ℕ) : Type 0 where
   pub size : (length found ≡ length old) ⊎ (length found ≡ length wanted)
-  pub blocks : (i : ℕ) → block_size * i < length found → (block_of found i ≡ block_of old i)
-      ⊎ (block_of found i ≡ resized block_size (block_of old i)) ⊎ (block_of found i ≡ block_of wanted i)
+  pub blocks : (i : ℕ) → block_size * i < length found → (block_bytes found i ≡ block_bytes old i)
+      ⊎ (block_bytes found i ≡ resized_file block_size (block_bytes old i)) ⊎ (block_bytes found i ≡ block_bytes wanted i)
 
 -- the bytes of a file, none where there is no file
 abbrev pub bytes_of : Option (List ℕ) → List ℕ

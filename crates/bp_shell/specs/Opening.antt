@@ -9,8 +9,9 @@ use Rattle.bp_layout.specs.WellFormed.{IsWellFormed}
 use Rattle.bp_scan.specs.Length.{wanted_length}
 use Rattle.bp_script.specs.declared.notices.Notice.{Notice}
 use Rattle.bp_script.specs.declared.notices.Notice.TheVariants.{NotFormatted, BadSize, Damaged}
-use Rattle.bp_session.specs.Files.{HasLength, HasImage}
+use Rattle.bp_session.specs.Files.{AreWordsOf64Bits, HasLength, HasImage, HoldsFront}
 use Rattle.bp_session.specs.Session.{State}
+use Rattle.pm_raw.specs.Part.{Part}
 
 -- The file holds this image, which is a file system.
 pub record HoldsFileSystem (known : Known) (image : Image) : Type 0 where
@@ -31,6 +32,13 @@ pub record FindsImage (was : Known) (name : List ℕ) (count : ℕ) (files : Vie
   pub has : HasLength was (block_size * count)
   pub at_least : min_blocks ≤ count
   pub at_most : count ≤ max_blocks
+
+-- The words of the first blocks of the attached file are there, and there is room for those of the others.
+pub record HasLoaded (files : View) (count : ℕ) (part : Part) : Type 0 where
+  pub image : HoldsFront files count part.words
+  pub words : AreWordsOf64Bits part.words
+  pub long : length part.words ≡ block_words * count
+  pub size : part.size ≡ block_words * files.blocks
 
 -- Why a file is refused, by the line that says so: it has no image's length; or it has one, and word 0 is not the mark
 -- of a file system, word 1 is not its number of blocks, or both are right and the check with this number fails at this

@@ -1,25 +1,32 @@
 //! The file of a program.
 
-ghost use Rattle.std.specs.Prelude.{◌≡◌, ◌≤◌, ◌+◌, ◌*◌, ◌++◌, [], ◌⊎◌, IfErr, IfOk, OnOk, false, length};
-ghost use Rattle.bp_io.specs.Files.{Known, Reads, makes, may_change};
+ghost use Rattle.std.specs.Prelude.{◌≡◌, ◌<◌, ◌≤◌, ◌+◌, ◌*◌, ◌++◌, [], List, ℕ, ◌⊎◌, IfErr, IfOk, OnOk, false, length, true};
+ghost use Rattle.bp_io.specs.Files.{Known, Reads, block_bytes, makes, may_change};
+ghost use Rattle.bp_layout.specs.Bytes.{image_bytes};
 ghost use Rattle.bp_layout.specs.WellFormed.{IsWellFormed};
 ghost use Rattle.bp_layout.specs.Words.{Image, block_count};
-ghost use Rattle.bp_limits.specs.Limits.{block_words, log_events};
+ghost use Rattle.bp_limits.specs.Limits.{block_size, block_words, log_events};
 ghost use Rattle.bp_script.specs.declared.notices.Notice.{Notice};
 ghost use Rattle.bp_session.specs.Files.{AreWordsOf64Bits, HasImage, Holds, HoldsFront, IsReady};
-ghost use Rattle.bp_shell.specs.Opening.{FindsImage, HasSized, HoldsFileSystem, RefusesFile, start};
+ghost use Rattle.bp_shell.specs.Opening.{FindsImage, HasLoaded, HasSized, HoldsFileSystem, RefusesFile, start};
 ghost use Rattle.bp_shell.specs.Stops.{HasStopCause, IsReason, stop_by};
 ghost use Rattle.bp_shell.specs.declared.stop.Stop.TheVariants.{Memory, Outside, Refused};
 
 use crate::stop::Stop;
 use bp_io::{Access, Failed, Files};
-use bp_limits::{BLOCK_WORDS, LOG_EVENTS, MAX_BLOCKS, MIN_BLOCKS};
+use bp_limits::{BLOCK_SIZE, BLOCK_WORDS, LOG_EVENTS, MAX_BLOCKS, MIN_BLOCKS};
 use bp_scan::{MountFault, image_length};
 use bp_script::Notice;
 use bp_session::blocks::decode;
 use bp_volume::Volume;
 use pm_raw::{Filling, RawRegion};
 use std::alloc::Global;
+
+// The bytes of a block, as a length.
+const BLOCK: usize = BLOCK_SIZE as usize;
+
+// The most blocks that are read in one call.
+const RUN: u32 = 16;
 
 // Puts a block's words behind those that are there. They are words of 64 bits, as their type says.
 fn push_block(filling: &mut Filling, words: &[u64; 512])
@@ -28,6 +35,61 @@ fn push_block(filling: &mut Filling, words: &[u64; 512])
     ensures words { AreWordsOf64Bits words.now }
 {
     filling.push_all(words);
+}
+
+// The block of a run at this place.
+fn block_at(run: &[u8], k: usize) -> &[u8; 4096]
+    requires { block_size * k + block_size ≤ length run.now }
+    ensures { result.now ≡ block_bytes run.now k }
+{
+    let at = BLOCK * k;
+    match run[at..at + BLOCK].first_chunk() {
+        Some(block) => block,
+        None => unreachable!(),
+    }
+}
+
+// Puts the words that a run of so many blocks spells behind those that are there.
+fn push_run(filling: &mut Filling, run: &[u8], count: usize)
+    requires run { length run.now ≡ block_size * count }
+    requires room { length filling.old.words + block_words * count ≤ filling.old.size }
+    requires words { AreWordsOf64Bits filling.old.words }
+    ensures bytes { image_bytes filling.new.words ≡ image_bytes filling.old.words ++ run.now }
+    ensures words { AreWordsOf64Bits filling.new.words }
+    ensures long { length filling.new.words ≡ length filling.old.words + block_words * count }
+    ensures size { filling.new.size ≡ filling.old.size }
+{
+    let mut words = [0u64; 512];
+    for k in 0..count {
+        decode(block_at(run, k), &mut words);
+        push_block(filling, &words);
+    }
+}
+
+// Reads a run of so many blocks of the attached file, behind those whose words are there.
+fn load_run<F: Files>(
+    filling: &mut Filling,
+    first: u32,
+    count: u32,
+    into: &mut [u8],
+    files: &mut F,
+) -> Result<(), Stop>
+    requires run { length into.old ≡ block_size * count }
+    requires inside { first + count ≤ (F.view files.old).blocks }
+    requires loaded { HasLoaded (F.view files.old) first filling.old }
+    ensures kinds { IfErr result (λ e. e ≡ Outside) }
+    ensures cause { HasStopCause (F.view files.old).faults (F.view files.new).faults result }
+    ensures loaded { OnOk result (HasLoaded (F.view files.old) (first + count) filling.new) }
+    ensures size { filling.new.size ≡ filling.old.size }
+    ensures reads { Reads (F.view files.old) (F.view files.new) }
+{
+    match files.read_blocks(first, into) {
+        Ok(()) => {
+            push_run(filling, into, count as usize);
+            Ok(())
+        }
+        Err(Failed) => Err(Stop::Outside),
+    }
 }
 
 // Reads the attached file, as the words of a region in the making of its size.
@@ -42,14 +104,15 @@ fn load<F: Files>(filling: &mut Filling, count: u32, files: &mut F) -> Result<()
     ensures size { filling.new.size ≡ block_words * count }
     ensures reads { Reads (F.view files.old) (F.view files.new) }
 {
-    let mut block = [0u8; 4096];
-    let mut words = [0u64; 512];
-    for i in 0..count {
-        match files.read_block(i, &mut block) {
-            Ok(()) => decode(&block, &mut words),
-            Err(Failed) => return Err(Stop::Outside),
+    let mut bytes = [0u8; BLOCK * RUN as usize];
+    let mut first = 0;
+    while first < count {
+        let run = RUN.min(count - first);
+        let into = &mut bytes[..BLOCK * run as usize];
+        match load_run(filling, first, run, into, files) {
+            Ok(()) => first += run,
+            Err(stop) => return Err(stop),
         }
-        push_block(filling, &words);
     }
     Ok(())
 }

@@ -14,7 +14,7 @@ use Rattle.bp_free.specs.Set.{Set}
 use Rattle.bp_plain.specs.Calls.{Call, Answer}
 use Rattle.bp_limits.specs.Limits.{call_room}
 use Rattle.bp_volume.specs.FileCall.{FileCall}
-use Rattle.bp_volume.specs.Carried.{Changes, CarriesOut}
+use Rattle.bp_volume.specs.Carried.{ChangesTree, CarriesOut}
 use Rattle.bp_volume.specs.Carried.CarriesOut.{changed, unchanged}
 use Rattle.bp_volume.specs.Volume.{IsVolume}
 use Rattle.bp_volume.proofs.FileCallLaws.{volume-marked, file_call_unchanged, file_call_changed}
@@ -35,7 +35,7 @@ carried_volume {call} {answer} middle made new blocks inodes made_blocks made_in
     let words : current_words new ≡ current_words made = current_words-adds made new (Mark ∷ []) ends in
     let capacity : new.capacity ≡ middle.capacity = capacity-adds made new (Mark ∷ []) ends ∙ capacity-adds middle made _ performs.performs.commit.adds in
     record {
-      safe = performs_safe middle made performs.change (Changes call answer) performs.performs new volume.safe ends;
+      safe = performs_safe middle made performs.change (ChangesTree call answer) performs.performs new volume.safe ends;
       roomy = rw capacity volume.roomy;
       well_formed = rw words performs.performs.well_formed;
       exact = rw words exact;

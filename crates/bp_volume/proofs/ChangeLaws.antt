@@ -18,7 +18,7 @@ use Rattle.bp_calls.specs.Space.{LacksSpace}
 use Rattle.bp_volume.specs.Step.{Steps, IsChange, Fits}
 use Rattle.bp_volume.specs.Step.Steps.{changed}
 use Rattle.bp_volume.specs.Told.{Tells}
-use Rattle.bp_volume.specs.Carried.{Changes, PerformsCall}
+use Rattle.bp_volume.specs.Carried.{ChangesTree, PerformsCall}
 use Rattle.bp_volume.proofs.StepLaws.{no_space_steps}
 
 -- The change is the one that the call makes of an image, and no tree for which that stands refuses the call.
@@ -43,7 +43,7 @@ module _ (image : Image) (call : Call) (change : Change) (makes : Makes image ca
     fits needed free has = omega (arith, makes.alike has.change has.is, has.needs, room free has.has)
 
     -- the new image stands for the tree that the call makes
-    changed_steps : (new : Image) → ((tree : FileTree) → Stands image tree → Stands new (tree_after tree call)) → Changes call done image new
+    changed_steps : (new : Image) → ((tree : FileTree) → Stands image tree → Stands new (tree_after tree call)) → ChangesTree call done image new
     changed_steps new becomes tree stands =
         let none : refusal tree call ≡ None = makes.allowed tree stands in
         let says : (plain tree call).0 ≡ done = ap (λ o. (answer_or tree call o).0) none ∙ makes.says tree in
@@ -58,7 +58,7 @@ pub performs_call : (old new : Memory) (call : Call) (change : Change) (Effect :
 performs_call old new call change Effect makes performs becomes room = record {
   change = change;
   is = makes.is;
-  performs = performs_as old new change Effect performs (Changes call done)
+  performs = performs_as old new change Effect performs (ChangesTree call done)
       (λ effect. changed_steps (current_words old) call change makes (performs_fits old new change Effect performs) (current_words new) (becomes effect));
   room = room;
 }

@@ -11,7 +11,7 @@ use Rattle.pm_region.proofs.SafeLaws.{safe_mark, safe_drained}
 use Rattle.bp_free.specs.Set.{Set}
 use Rattle.bp_layout.specs.Same.{Same}
 use Rattle.bp_plain.specs.Calls.{Call, Answer}
-use Rattle.bp_volume.specs.Carried.{Changes, PerformsCall}
+use Rattle.bp_volume.specs.Carried.{ChangesTree, PerformsCall}
 use Rattle.bp_volume.specs.Step.{IsChange}
 use Rattle.bp_limits.specs.Limits.{call_room}
 use Rattle.bp_volume.specs.FileCall.{FileCall}
@@ -63,19 +63,19 @@ file_call_unchanged old middle new call answer room safe adds tells =
 pub file_call_changed : (old middle committed new : Memory) (call : Call) (answer : Answer) → middle ≡ with_room call_room old → IsSafe Same middle → PerformsCall middle call answer committed →
     Adds committed new (Mark ∷ []) → FileCall old call answer new
 file_call_changed old middle committed new call answer room safe does ends =
-    let events = performed middle committed does.change (Changes call answer) does.performs in
+    let events = performed middle committed does.change (ChangesTree call answer) does.performs in
     let before : current_words middle ≡ current_words old = ap current_words room ∙ current_words-with_room call_room old in
     let words : current_words new ≡ current_words committed = current_words-adds committed new (Mark ∷ []) ends in
-    let told : Changes call answer (current_words old) (current_words committed) = rw before at does.performs.effect in
+    let told : ChangesTree call answer (current_words old) (current_words committed) = rw before at does.performs.effect in
     let change : IsChange (current_words old) call does.change = rw before at does.is in
     let short : IsShort (current_words old) (current_words committed) does.change events =
-    subst (λ w. IsShort w (current_words committed) does.change events) before (performs_short middle committed does.change (Changes call answer) does.performs) in
+    subst (λ w. IsShort w (current_words committed) does.change events) before (performs_short middle committed does.change (ChangesTree call answer) does.performs) in
     record {
       added = events;
-      unmarked = performs_unmarked middle committed does.change (Changes call answer) does.performs;
-      adds = subst (λ memory. Adds memory new (events ++ Mark ∷ [])) room (adds_both middle committed new events (Mark ∷ []) (performs_adds middle committed does.change (Changes call answer) does.performs) ends);
+      unmarked = performs_unmarked middle committed does.change (ChangesTree call answer) does.performs;
+      adds = subst (λ memory. Adds memory new (events ++ Mark ∷ [])) room (adds_both middle committed new events (Mark ∷ []) (performs_adds middle committed does.change (ChangesTree call answer) does.performs) ends);
       step = λ tree stands. rw words (told tree stands).1;
       silent = λ tree stands none. absurd (let both : true ≡ false = sym (told tree stands).0 ∙ none in cc);
       short = λ tree stands changed. record { change = does.change; is = change; short = rw words short };
-      safe = performs_safe middle committed does.change (Changes call answer) does.performs new safe ends;
+      safe = performs_safe middle committed does.change (ChangesTree call answer) does.performs new safe ends;
     }

@@ -23,7 +23,7 @@ use Rattle.bp_plain.specs.PlainTree.{FileTree}
 use Rattle.bp_plain.specs.Stands.{Stands}
 use Rattle.bp_volume.specs.Step.{IsChange, PathFinds}
 use Rattle.bp_volume.specs.Step.IsChange.{by_write, by_truncate}
-use Rattle.bp_volume.specs.Told.{Refuses, RefusesFile, StopsAtFile, Tells, refusal_of_file}
+use Rattle.bp_volume.specs.Told.{Refuses, RefusesFileAt, StopsAtFile, Tells, refusal_of_file}
 use Rattle.bp_volume.proofs.ChangeLaws.{Makes}
 use Rattle.bp_volume.proofs.StepLaws.{first_two, refused_steps, answer_steps}
 use Rattle.bp_volume.proofs.WalkLaws.{node_at, dir_at, walk-found}
@@ -52,7 +52,7 @@ module _ (image : Image) (text : List ℕ) where
       ap (λ o. on_parsed o (λ p. first (when (nat_lt max_write (length new)) too_long ∷ walk tree p ∷ when (is_dir_at tree p) is_dir ∷ when (nat_lt 0 (length new) && nat_lt max_size (off + length new)) too_big ∷ []))) parsed
       ∙ ap (λ b. first (when b too_long ∷ walk tree path ∷ when (is_dir_at tree path) is_dir ∷ when (nat_lt 0 (length new) && nat_lt max_size (off + length new)) too_big ∷ [])) (lt-ltb max_write (length new) long)
 
-  pub write_stops : (off : ℕ) (new : List ℕ) (path : Path) (why : Refusal) → parse text ≡ Some path → length new ≤ max_write → RefusesFile image path why → Refuses image (write text off new) why
+  pub write_stops : (off : ℕ) (new : List ℕ) (path : Path) (why : Refusal) → parse text ≡ Some path → length new ≤ max_write → RefusesFileAt image path why → Refuses image (write text off new) why
   write_stops off new path why parsed short stops tree stands =
       refusal-write tree text off new short
       ∙ file_first tree text (λ p. when (nat_lt 0 (length new) && nat_lt max_size (off + length new)) too_big ∷ []) why (ap (λ o. on_parsed o (refusal_of_file tree)) parsed ∙ stops tree stands)

@@ -17,7 +17,7 @@ use Rattle.bp_path.specs.Places.{IsEntryOf}
 use Rattle.bp_path.specs.Walk.{Walked, walk_from, in_directory}
 use Rattle.bp_path.specs.declared.steps.Place.{Place}
 use Rattle.bp_volume.specs.Step.{IsEntryOn, IsNewOn, last_of}
-use Rattle.bp_volume.specs.Told.{StopsAtEntry, StopsWalk, RefusesEntry, RefusesFile, RefusesNew, RefusesWalk, refusal_of_entry, refusal_of_new, refusal_of_walk}
+use Rattle.bp_volume.specs.Told.{StopsAtEntry, StopsWalk, RefusesEntry, RefusesFileAt, RefusesNew, RefusesWalk, refusal_of_entry, refusal_of_new, refusal_of_walk}
 use Rattle.bp_volume.proofs.WalkLaws.{first_one, walk-image, walk-found, walk_parent-image, dir_at}
 use Rattle.bp_volume.proofs.CreateLaws.{by_parent, create_stopped, create_there, not_root}
 
@@ -72,7 +72,7 @@ entry_stops image text path root why parsed ends tree stands = ap (λ o. on_pars
 -- ---- the file at a path
 
 -- a directory stands where a file is wanted
-pub no_file : (image : Image) (path : Path) (i : ℕ) → lookup image path ≡ Some i → kind_of image i ≡ 2 → RefusesFile image path is_dir
+pub no_file : (image : Image) (path : Path) (i : ℕ) → lookup image path ≡ Some i → kind_of image i ≡ 2 → RefusesFileAt image path is_dir
 no_file image path i found kind tree stands =
     ap (λ o. first (o ∷ when (is_dir_at tree path) is_dir ∷ [])) (walk-found image tree stands path i found)
     ∙ ap (λ b. first (when b is_dir ∷ [])) (dir_at image tree stands path i found ∙ ap (λ k. k == 2) kind)

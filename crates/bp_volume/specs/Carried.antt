@@ -20,15 +20,15 @@ making File text = create text
 making Dir text = mkdir text
 
 -- the call with this answer changes the tree for which the first image stands, and is a step to the second
-abbrev pub Changes : Call → Answer → Image → Image → Type 0
-Changes call answer image new = (tree : FileTree) → Stands image tree →
+abbrev pub ChangesTree : Call → Answer → Image → Image → Type 0
+ChangesTree call answer image new = (tree : FileTree) → Stands image tree →
     (has_changed tree call answer ≡ true) × Steps image tree call answer new
 
 -- the call makes one change of the image, is that step by it, and leaves room for its mark
 pub record PerformsCall (old : Memory) (call : Call) (answer : Answer) (new : Memory) : Type 0 where
   pub change : Change
   pub is : IsChange (current_words old) call change
-  pub performs : Performs old new change (Changes call answer)
+  pub performs : Performs old new change (ChangesTree call answer)
   pub room : 0 < room_in new
 
 -- The call is carried out up to its mark: it changes the tree so, or it changes nothing and this may be its answer.

@@ -26,7 +26,7 @@ abbrev pub has_changed : FileTree → Call → Answer → Bool
 has_changed tree call answer = is_changing tree call && not (is_refused answer)
 
 -- the call made this change, at no more than it costs
-pub record IsShortCall (image : Image) (call : Call) (new : Image) (events : List Event) : Type 0 where
+pub record IsCheap (image : Image) (call : Call) (new : Image) (events : List Event) : Type 0 where
   pub change : Change
   pub is : IsChange image call change
   pub short : IsShort image new change events
@@ -41,5 +41,5 @@ pub record FileCall (old : Memory) (call : Call) (answer : Answer) (new : Memory
   pub step : Step (current_words old) call answer (current_words new)
   pub silent : (tree : FileTree) → Stands (current_words old) tree → has_changed tree call answer ≡ false → added ≡ []
   pub short : (tree : FileTree) → Stands (current_words old) tree → has_changed tree call answer ≡ true →
-      IsShortCall (current_words old) call (current_words new) added
+      IsCheap (current_words old) call (current_words new) added
   pub safe : IsSafe Same new

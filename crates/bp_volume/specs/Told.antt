@@ -41,8 +41,8 @@ abbrev pub refusal_of_file : FileTree → Path → Option Refusal
 refusal_of_file tree path = first (walk tree path ∷ when (is_dir_at tree path) is_dir ∷ [])
 
 -- a call on a file at the path is refused so
-abbrev pub RefusesFile : Image → Path → Refusal → Type 0
-RefusesFile image path why = (tree : FileTree) → Stands image tree → refusal_of_file tree path ≡ Some why
+abbrev pub RefusesFileAt : Image → Path → Refusal → Type 0
+RefusesFileAt image path why = (tree : FileTree) → Stands image tree → refusal_of_file tree path ≡ Some why
 
 -- the text is no path, or a call on a file there is refused so
 abbrev pub StopsAtFile : Image → List ℕ → Refusal → Type 0

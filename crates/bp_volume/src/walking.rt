@@ -13,7 +13,7 @@ ghost use Rattle.bp_plain.specs.Calls.{Refusal};
 ghost use Rattle.bp_plain.specs.Seen.{refusal_of};
 ghost use Rattle.bp_volume.specs.Renaming.{IsTarget};
 ghost use Rattle.bp_volume.specs.Step.{FindsEntry, IsEntryOn, IsNewOn, FindsNew, PathFinds};
-ghost use Rattle.bp_volume.specs.Told.{RefusesEntry, RefusesFile, RefusesNew, RefusesParent, RefusesWalk, refusal_of_walk};
+ghost use Rattle.bp_volume.specs.Told.{RefusesEntry, RefusesFileAt, RefusesNew, RefusesParent, RefusesWalk, refusal_of_walk};
 ghost use Rattle.bp_volume.specs.Told.{StopsAtEntry, StopsAtFile, StopsAtNew, StopsWalk};
 ghost use Rattle.pm_region.specs.Memory.{current_words};
 
@@ -101,7 +101,7 @@ pub(crate) fn file_on<R: Region>(region: &R, path: &Path<'_>) -> Result<FoundFil
     ensures found { IfOk result (λ file. lookup (current_words (R.memory region.now)) path.now ≡ Some file.inumber) }
     ensures kind { IfOk result (λ file. kind_of (current_words (R.memory region.now)) file.inumber ≡ 1) }
     ensures size { IfOk result (λ file. file.size ≡ size_of (current_words (R.memory region.now)) file.inumber) }
-    ensures refused { IfErr result (λ e. RefusesFile (current_words (R.memory region.now)) path.now (refusal_of e)) }
+    ensures refused { IfErr result (λ e. RefusesFileAt (current_words (R.memory region.now)) path.now (refusal_of e)) }
 {
     match inode_on(region, path) {
         Ok(i) => {

@@ -171,10 +171,7 @@ pub(crate) fn load_file<F: Files>(
     ensures file { (F.view files.new).contents name.now ≡ (F.view files.old).contents name.now }
     ensures flushed { (F.view files.new).is_flushed ≡ (F.view files.old).is_flushed }
 {
-    let count = match find_image(name, access, files) {
-        Ok(count) => count,
-        Err(stop) => return Err(stop),
-    };
+    let count = find_image(name, access, files)?;
     let mut region = match RawRegion::new(alloc, 0, LOG_EVENTS) {
         Ok(region) => region,
         Err(_) => return Err(Stop::Memory),
@@ -183,13 +180,9 @@ pub(crate) fn load_file<F: Files>(
         Ok(filling) => filling,
         Err(_) => return Err(Stop::Memory),
     };
-    match load(&mut filling, count, files) {
-        Ok(()) => {
-            region.adopt_all(filling.finish());
-            Ok(region)
-        }
-        Err(stop) => Err(stop),
-    }
+    load(&mut filling, count, files)?;
+    region.adopt_all(filling.finish());
+    Ok(region)
 }
 
 // Mounts a region of the words of an image.
@@ -227,10 +220,8 @@ pub fn open<F: Files>(alloc: Global, name: &str, files: &mut F) -> Result<Volume
     ensures file { (F.view files.new).contents name.now ≡ (F.view files.old).contents name.now }
     ensures flushed { (F.view files.new).is_flushed ≡ (F.view files.old).is_flushed }
 {
-    match load_file(alloc, name, Access::Write, files) {
-        Ok(region) => mount(alloc, region),
-        Err(stop) => Err(stop),
-    }
+    let region = load_file(alloc, name, Access::Write, files)?;
+    mount(alloc, region)
 }
 
 /// Mounts the file of a name, which is then attached to be read alone. No file is made.
@@ -246,8 +237,6 @@ pub(crate) fn open_to_read<F: Files>(
     ensures file { (F.view files.new).contents name.now ≡ (F.view files.old).contents name.now }
     ensures flushed { (F.view files.new).is_flushed ≡ (F.view files.old).is_flushed }
 {
-    match load_file(alloc, name, Access::Read, files) {
-        Ok(region) => mount(alloc, region),
-        Err(stop) => Err(stop),
-    }
+    let region = load_file(alloc, name, Access::Read, files)?;
+    mount(alloc, region)
 }

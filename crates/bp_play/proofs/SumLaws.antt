@@ -11,7 +11,7 @@ use Rattle.bp_plain.specs.Calls.Refusal.{bad_path, not_found, not_dir, is_dir, e
 use Rattle.bp_plain.specs.Refusals.{refusal_number}
 use Rattle.bp_script.specs.Texts.{LineReply}
 use Rattle.bp_script.specs.Texts.LineReply.{answered, kept_of}
-use Rattle.bp_play.specs.Counting.{IsBounded, IsCounted}
+use Rattle.bp_play.specs.Counting.{IsBounded, CountsReply}
 use Rattle.bp_play.specs.Summaries.{is_carried_out, is_crash, is_ok, is_refusal, kept_in, numbers, sums, total_in}
 use Rattle.bp_play.specs.declared.summary.Summary.{Summary}
 
@@ -76,7 +76,7 @@ none_counted (dir_of size) count e = refl
 none_counted (listed entries) count e = refl
 none_counted (refused why) count e = absurd (let no : false ≡ true = e in cc)
 
-pub ok_counted : (old : Summary) (answer : Answer) → is_carried_out answer ≡ true → IsCounted old (answered answer) (summary (old.ok + 1) old.refused old.crashes old.kept old.of)
+pub ok_counted : (old : Summary) (answer : Answer) → is_carried_out answer ≡ true → CountsReply old (answered answer) (summary (old.ok + 1) old.refused old.crashes old.kept old.of)
 ok_counted old answer carried = record {
   sums = λ replies was.
       let now : summary (old.ok + 1) old.refused old.crashes old.kept old.of ≡ summary (count_by is_ok replies + 1) (map (refusals replies) numbers) (count_by is_crash replies) (sum_by kept_in replies) (sum_by total_in replies) =
@@ -114,7 +114,7 @@ one_counted no_memory count = refl
 abbrev raised : List ℕ → ℕ → List ℕ
 raised xs i = slice_set xs i (slice_index_or xs i 0 + 1)
 
-pub refusal_counted : (old : Summary) (why : Refusal) (number : ℕ) → number ≡ refusal_number why → IsCounted old (answered (refused why)) (summary old.ok (raised old.refused (number - 1)) old.crashes old.kept old.of)
+pub refusal_counted : (old : Summary) (why : Refusal) (number : ℕ) → number ≡ refusal_number why → CountsReply old (answered (refused why)) (summary old.ok (raised old.refused (number - 1)) old.crashes old.kept old.of)
 refusal_counted old why number is = record {
   sums = λ replies was.
       let now : summary old.ok (raised old.refused (number - 1)) old.crashes old.kept old.of ≡ summary (count_by is_ok replies) (raised (map (refusals replies) numbers) (refusal_number why - 1)) (count_by is_crash replies) (sum_by kept_in replies) (sum_by total_in replies) =
@@ -138,7 +138,7 @@ refusal_counted old why number is = record {
 storm_adds_no_refusal : (count total : ℕ) (f : ℕ → ℕ) → counted (kept_of count total) f numbers ≡ map f numbers
 storm_adds_no_refusal count total f = refl
 
-pub storm_counted : (old : Summary) (c n : ℕ) → c ≤ log_events → n ≤ log_events → IsCounted old (kept_of c n) (summary old.ok old.refused (old.crashes + 1) (old.kept + c) (old.of + n))
+pub storm_counted : (old : Summary) (c n : ℕ) → c ≤ log_events → n ≤ log_events → CountsReply old (kept_of c n) (summary old.ok old.refused (old.crashes + 1) (old.kept + c) (old.of + n))
 storm_counted old c n few all = record {
   sums = λ replies was.
       let now : summary old.ok old.refused (old.crashes + 1) (old.kept + c) (old.of + n) ≡ summary (count_by is_ok replies) (map (refusals replies) numbers) (count_by is_crash replies + 1) (sum_by kept_in replies + c) (sum_by total_in replies + n) =

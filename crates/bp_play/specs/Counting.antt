@@ -20,6 +20,6 @@ pub record CanCount (summary : Summary) : Type 0 where
   pub bounded : IsBounded count summary
 
 -- The new summary has one more reply, and one more turn.
-pub record IsCounted (old : Summary) (reply : LineReply) (new : Summary) : Type 0 where
+pub record CountsReply (old : Summary) (reply : LineReply) (new : Summary) : Type 0 where
   pub sums : (replies : List LineReply) → old ≡ sums replies → new ≡ sums (replies ++ reply ∷ [])
   pub bounded : (count : ℕ) → IsBounded count old → IsBounded (count + 1) new

@@ -3,5 +3,5 @@ use Rattle.std.specs.Prelude.{ℕ, List, take}
 use Rattle.bp_play.specs.declared.paths.PlayPath.{PlayPath}
 
 -- the path
-abbrev pub path_of : PlayPath → List ℕ
-path_of path = take path.len path.text
+abbrev pub play_path : PlayPath → List ℕ
+play_path path = take path.len path.text

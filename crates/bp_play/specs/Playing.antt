@@ -6,7 +6,7 @@ use Rattle.bp_script.specs.Commands.{Command}
 use Rattle.bp_script.specs.Texts.{LineReply}
 use Rattle.bp_session.specs.Acting.{state}
 use Rattle.bp_session.specs.Session.{Line, Session}
-use Rattle.bp_play.specs.Counting.{IsCounted}
+use Rattle.bp_play.specs.Counting.{CountsReply}
 use Rattle.bp_play.specs.Summaries.{sums}
 use Rattle.bp_play.specs.Turns.{turns}
 use Rattle.bp_play.specs.declared.summary.Summary.{Summary}
@@ -21,5 +21,5 @@ pub record Plays (old new : Memory) (seed count : ℕ) (summary : Summary) : Typ
 pub record TakesTurn (old new : Memory) (command : Command) (before after : Summary) : Type 0 where
   pub reply : LineReply
   pub line : (saved : Image) → Line (state old saved) command reply (state new saved)
-  pub counted : IsCounted before reply after
+  pub counted : CountsReply before reply after
   pub capacity : new.capacity ≡ old.capacity

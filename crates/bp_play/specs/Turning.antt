@@ -5,7 +5,7 @@ use Rattle.bp_plain.specs.Calls.{Call}
 use Rattle.bp_plain.specs.Calls.Call.{create, mkdir, unlink, rmdir, read, write, truncate, rename}
 use Rattle.bp_script.specs.Commands.{Command}
 use Rattle.bp_script.specs.Commands.Command.{file_call, storm}
-use Rattle.bp_play.specs.Paths.{path_of}
+use Rattle.bp_play.specs.Paths.{play_path}
 use Rattle.bp_play.specs.Turns.{Draw}
 use Rattle.bp_play.specs.declared.turning.PlayCall.{PlayCall}
 use Rattle.bp_play.specs.declared.turning.PlayCall.TheVariants as given
@@ -23,14 +23,14 @@ bytes_by _ = []
 
 -- the call
 abbrev pub call_by : PlayCall → Call
-call_by (given.Create path) = create (path_of path)
-call_by (given.Mkdir path) = mkdir (path_of path)
-call_by (given.Unlink path) = unlink (path_of path)
-call_by (given.Rmdir path) = rmdir (path_of path)
-call_by (given.Read path off len) = read (path_of path) off len
-call_by (given.Write path off len byte) = write (path_of path) off (replicate len byte)
-call_by (given.Truncate path size) = truncate (path_of path) size
-call_by (given.Rename from to) = rename (path_of from) (path_of to)
+call_by (given.Create path) = create (play_path path)
+call_by (given.Mkdir path) = mkdir (play_path path)
+call_by (given.Unlink path) = unlink (play_path path)
+call_by (given.Rmdir path) = rmdir (play_path path)
+call_by (given.Read path off len) = read (play_path path) off len
+call_by (given.Write path off len byte) = write (play_path path) off (replicate len byte)
+call_by (given.Truncate path size) = truncate (play_path path) size
+call_by (given.Rename from to) = rename (play_path from) (play_path to)
 
 abbrev pub command_by : Turn → Command
 command_by (turn.Call call) = file_call (call_by call)

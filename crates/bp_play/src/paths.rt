@@ -11,12 +11,12 @@ pub(crate) struct PlayPath {
 }
 
 impl PlayPath {
-    ghost use Rattle.bp_play.specs.Paths.{path_of};
+    ghost use Rattle.bp_play.specs.Paths.{play_path};
     ghost use Rattle.bp_play.specs.Turns.{dir_name, path_name};
 
     /// The path of a directory that a draw stands for.
     pub(crate) fn dir(number: u32) -> PlayPath
-        ensures { path_of result ≡ dir_name number }
+        ensures { play_path result ≡ dir_name number }
     {
         let digit = b'0' + (number % 4) as u8;
         PlayPath {
@@ -27,7 +27,7 @@ impl PlayPath {
 
     /// The path of a file that a draw stands for.
     pub(crate) fn file(number: u32) -> PlayPath
-        ensures { path_of result ≡ path_name number }
+        ensures { play_path result ≡ path_name number }
     {
         let digit = b'0' + (number / 8 % 8) as u8;
         let dir = (number % 5) as u8;
@@ -46,7 +46,7 @@ impl PlayPath {
 
     /// Its bytes.
     pub(crate) fn as_bytes(&self) -> &[u8]
-        ensures { result.now ≡ path_of self.now }
+        ensures { result.now ≡ play_path self.now }
     {
         &self.text[..self.len]
     }

@@ -26,7 +26,7 @@ pub struct Summary {
 
 impl Summary {
     ghost use Rattle.bp_play.specs.Summaries.{sums};
-    ghost use Rattle.bp_play.specs.Counting.{CanCount, IsCounted};
+    ghost use Rattle.bp_play.specs.Counting.{CanCount, CountsReply};
 
     /// That of a play of no turn.
     pub(crate) fn new() -> Summary
@@ -44,7 +44,7 @@ impl Summary {
     /// Counts the answer of a call.
     pub(crate) fn count_answer(&mut self, answer: &Answer<'_>)
         requires { CanCount self.old }
-        ensures { IsCounted self.old (answered (answer_seen answer.now)) self.new }
+        ensures { CountsReply self.old (answered (answer_seen answer.now)) self.new }
     {
         match answer {
             Answer::Refused(error) => self.refused[(error.number() - 1) as usize] += 1,
@@ -57,7 +57,7 @@ impl Summary {
         requires room { CanCount self.old }
         requires kept { kept.c ≤ log_events }
         requires of { kept.n ≤ log_events }
-        ensures { IsCounted self.old (kept_of kept.c kept.n) self.new }
+        ensures { CountsReply self.old (kept_of kept.c kept.n) self.new }
     {
         self.crashes += 1;
         self.kept += kept.c as u64;

@@ -1,7 +1,7 @@
 //! Turns, as they are drawn.
 
 ghost use Rattle.std.specs.Prelude.{◌≡◌, ◌<◌, ◌%◌};
-ghost use Rattle.bp_play.specs.Paths.{path_of};
+ghost use Rattle.bp_play.specs.Paths.{play_path};
 ghost use Rattle.bp_play.specs.Turning.{IsDrawn};
 ghost use Rattle.bp_play.specs.Turns.{dir_name, draw_of, path_name, turn};
 ghost use Rattle.bp_play.specs.declared.sort.Sort.TheVariants.{Read, RenameDir, RenameFile, Truncate, Write};
@@ -50,7 +50,7 @@ pub(crate) enum Turn {
 
 // Draws the path of a file.
 fn file(generator: &mut Generator) -> PlayPath
-    ensures path { path_of result ≡ path_name (drawn generator.old.state) }
+    ensures path { play_path result ≡ path_name (drawn generator.old.state) }
     ensures state { generator.new.state ≡ next_state generator.old.state }
 {
     PlayPath::file(generator.draw())
@@ -58,7 +58,7 @@ fn file(generator: &mut Generator) -> PlayPath
 
 // Draws the path of a directory.
 fn dir(generator: &mut Generator) -> PlayPath
-    ensures path { path_of result ≡ dir_name (drawn generator.old.state) }
+    ensures path { play_path result ≡ dir_name (drawn generator.old.state) }
     ensures state { generator.new.state ≡ next_state generator.old.state }
 {
     PlayPath::dir(generator.draw())

@@ -19,7 +19,7 @@ use Rattle.bp_session.specs.Outside.{IsFirstFault, counts}
 use Rattle.bp_session.specs.Session.{State}
 use Rattle.bp_session.specs.Serving.{Acts, DoesCut, FailsLine, HoldsAt, Input, Keeps, LineOutcome, Moment, PieceOutcome, ServeOutcome, Serves, ServesAll, Stops, SyncFails, moment}
 use Rattle.bp_session.specs.Taking.{TakesPart}
-use Rattle.bp_session.specs.Gathering.{Clears, IsDone, IsUnheard, IsUntold, LineGathers, Passes, Reaches}
+use Rattle.bp_session.specs.Gathering.{Clears, AwaitsReply, IsUnheard, IsUntold, LineGathers, PassesOn, Reaches}
 use Rattle.bp_session.proofs.GatheringLaws.{handed_behind, part_behind, passed_part, passes_behind, taken_behind, with_nothing, with_waiting}
 use Rattle.bp_session.proofs.OutcomeLaws.{files_fault, first_after, line_cut, line_stopped, line_whole, no_fault, piece_newline, piece_quiet, piece_then, sink_fault}
 use Rattle.bp_session.proofs.SavingLaws.{stays_attached, still_attached}
@@ -27,11 +27,11 @@ use Rattle.bp_session.proofs.ServingLaws.{commands_at_newline, cuts_in, cuts_lin
 
 -- ---- what a line adds to what a sink took and what waits
 
-added : (reply : List ℕ) (a b w : List ℕ) (t u v : Option (List ℕ)) (f g : View) → Clears a w t u f g → Passes reply w b u v → Appends (with_waiting t a) (with_waiting v b) reply
+added : (reply : List ℕ) (a b w : List ℕ) (t u v : Option (List ℕ)) (f g : View) → Clears a w t u f g → PassesOn reply w b u v → Appends (with_waiting t a) (with_waiting v b) reply
 added reply a b w t u v f g (inl same) passes =
-    passes_behind reply a b t v (subst (λ (s : Option (List ℕ)). Passes reply a b s v) same.1 (subst (λ (l : List ℕ). Passes reply l b u v) same.0 passes))
+    passes_behind reply a b t v (subst (λ (s : Option (List ℕ)). PassesOn reply a b s v) same.1 (subst (λ (l : List ℕ). PassesOn reply l b u v) same.0 passes))
 added reply a b w t u v f g (inr sent) passes =
-    let one : Passes reply [] b u v = subst (λ (l : List ℕ). Passes reply l b u v) sent.0 passes in
+    let one : PassesOn reply [] b u v = subst (λ (l : List ℕ). PassesOn reply l b u v) sent.0 passes in
     let two : Appends u (with_waiting v b) reply = subst (λ (s : Option (List ℕ)). Appends s (with_waiting v b) reply) (with_nothing u) (passes_behind reply [] b u v one) in
     Appends-trans (with_waiting t a) u (with_waiting v b) [] reply (handed_behind a t u sent.1) two
 
@@ -119,7 +119,7 @@ module _ (start : Moment) (most : ℕ) (held input middle a : List ℕ) (now : M
         cut = λ rest. rw (append_assoc input (10 ∷ []) rest) (old.cut (10 ∷ rest));
       })
 
-  module _ (new : Moment) (size : length new.memory.base ≡ length now.memory.base) (capacity : new.memory.capacity ≡ now.memory.capacity) (done : IsDone (command_of middle) a now new) where
+  module _ (new : Moment) (size : length new.memory.base ≡ length now.memory.base) (capacity : new.memory.capacity ≡ now.memory.capacity) (done : AwaitsReply (command_of middle) a now new) where
     abbrev memory : Memory
     memory = new.memory
 
@@ -283,7 +283,7 @@ module _ (start : Moment) (most : ℕ) (held input middle a : List ℕ) (now : M
 -- ---- what a line came to
 
 module _ (command : Command) (a b : List ℕ) (old new : Moment) (size : length new.memory.base ≡ length old.memory.base) (capacity : new.memory.capacity ≡ old.memory.capacity) (attached : StaysAttached old.files new.files) where
-  pub line_told : (flushed : old.files.is_flushed ≡ true → new.files.is_flushed ≡ true) (done : IsDone command a old new) → Passes (reply_text done.reply) done.waits b done.taken new.taken
+  pub line_told : (flushed : old.files.is_flushed ≡ true → new.files.is_flushed ≡ true) (done : AwaitsReply command a old new) → PassesOn (reply_text done.reply) done.waits b done.taken new.taken
       → new.faults ≡ old.faults → new.files.faults ≡ old.files.faults → LineGathers 0 command a b old new
   line_told flushed done passes sink files = record {
     whole = λ _. record { done = done; passes = passes };
@@ -304,7 +304,7 @@ module _ (command : Command) (a b : List ℕ) (old new : Moment) (size : length 
     one_of = inr (inl refl);
   }
 
-  pub line_untold : (flushed : old.files.is_flushed ≡ true → new.files.is_flushed ≡ true) (done : IsDone command a old new) → TakesPart (done.waits ++ reply_text done.reply) done.taken new.taken
+  pub line_untold : (flushed : old.files.is_flushed ≡ true → new.files.is_flushed ≡ true) (done : AwaitsReply command a old new) → TakesPart (done.waits ++ reply_text done.reply) done.taken new.taken
       → Rose old.faults new.faults → new.files.faults ≡ old.files.faults → LineGathers 4 command a b old new
   line_untold flushed done part = line_cut_off flushed (inl (record { done = done; part = part }))
 
@@ -324,7 +324,7 @@ module _ (command : Command) (a b : List ℕ) (old new : Moment) (size : length 
 -- ---- a line alone
 
 module _ (command : Command) (old new : Moment) where
-  told_alone : (done : IsDone command [] old new) (taken : Option (List ℕ)) → TakesPart (done.waits ++ reply_text done.reply) done.taken taken → TakesPart (reply_text done.reply) old.taken taken
+  told_alone : (done : AwaitsReply command [] old new) (taken : Option (List ℕ)) → TakesPart (done.waits ++ reply_text done.reply) done.taken taken → TakesPart (reply_text done.reply) old.taken taken
   told_alone done taken part = go done.clears
     where
       go : Clears [] done.waits old.taken done.taken old.files new.files → TakesPart (reply_text done.reply) old.taken taken

@@ -5,16 +5,16 @@ use Rattle.std.proofs.Math.Seq.{take-append-add}
 use Rattle.std.specs.Prelude.{Option, Some, None, Result, Ok, Err, OnOk, OnErr}
 use Rattle.std.specs.Io.KnownBytes.{Appends}
 use Rattle.std.proofs.KnownBytes.{Appends-trans}
-use Rattle.bp_session.specs.Gathering.{Passes}
+use Rattle.bp_session.specs.Gathering.{PassesOn}
 use Rattle.bp_session.specs.Taking.{TakesPart}
 
 -- ---- one text behind another
 
-pub passes_nothing : (before : List ℕ) (t : Option (List ℕ)) → Passes [] before before t t
+pub passes_nothing : (before : List ℕ) (t : Option (List ℕ)) → PassesOn [] before before t t
 passes_nothing before None = record { sent = []; whole = append-nil before; took = tt }
 passes_nothing before (Some xs) = record { sent = []; whole = append-nil before; took = sym (append-nil xs) }
 
-pub passes_then : (x y a b c : List ℕ) (t u v : Option (List ℕ)) → Passes x a b t u → Passes y b c u v → Passes (x ++ y) a c t v
+pub passes_then : (x y a b c : List ℕ) (t u v : Option (List ℕ)) → PassesOn x a b t u → PassesOn y b c u v → PassesOn (x ++ y) a c t v
 passes_then x y a b c t u v one two = record {
   sent = one.sent ++ two.sent;
   whole =
@@ -40,33 +40,33 @@ part_behind all sent rest t u v is took part = rw is (
 )
 
 -- .. behind a text that passed
-pub part_then : (x y a b : List ℕ) (t u v : Option (List ℕ)) → Passes x a b t u → TakesPart (b ++ y) u v → TakesPart (a ++ (x ++ y)) t v
+pub part_then : (x y a b : List ℕ) (t u v : Option (List ℕ)) → PassesOn x a b t u → TakesPart (b ++ y) u v → TakesPart (a ++ (x ++ y)) t v
 part_then x y a b t u v one part =
     let whole : a ++ (x ++ y) ≡ one.sent ++ (b ++ y) = sym (append_assoc a x y) ∙ ap (λ l. l ++ y) one.whole ∙ append_assoc one.sent b y in
     part_behind (a ++ (x ++ y)) one.sent (b ++ y) t u v whole one.took part
 
 -- what passed and then was handed over
-pub passed_all : (x a b : List ℕ) (t u v : Option (List ℕ)) → Passes x a b t u → Appends u v b → Appends t v (a ++ x)
+pub passed_all : (x a b : List ℕ) (t u v : Option (List ℕ)) → PassesOn x a b t u → Appends u v b → Appends t v (a ++ x)
 passed_all x a b t u v one handed = rw one.whole (Appends-trans t u v one.sent b one.took handed)
 
-pub passed_part : (x a b : List ℕ) (t u v : Option (List ℕ)) → Passes x a b t u → TakesPart b u v → TakesPart (a ++ x) t v
+pub passed_part : (x a b : List ℕ) (t u v : Option (List ℕ)) → PassesOn x a b t u → TakesPart b u v → TakesPart (a ++ x) t v
 passed_part x a b t u v one part = part_behind (a ++ x) one.sent b t u v one.whole one.took part
 
 -- a text behind one that passed
-pub then_passes : {T E : Type 0} (r : Result T E) (x y a b c : List ℕ) (t u v : Option (List ℕ)) → Passes x a b t u → OnOk r (Passes y b c u v) → OnOk r (Passes (x ++ y) a c t v)
+pub then_passes : {T E : Type 0} (r : Result T E) (x y a b c : List ℕ) (t u v : Option (List ℕ)) → PassesOn x a b t u → OnOk r (PassesOn y b c u v) → OnOk r (PassesOn (x ++ y) a c t v)
 then_passes (Ok done) x y a b c t u v one two = passes_then x y a b c t u v one two
 then_passes (Err e) x y a b c t u v one two = tt
 
-pub then_part : {T E : Type 0} (r : Result T E) (x y a b : List ℕ) (t u v : Option (List ℕ)) → Passes x a b t u → OnErr r (TakesPart (b ++ y) u v) → OnErr r (TakesPart (a ++ (x ++ y)) t v)
+pub then_part : {T E : Type 0} (r : Result T E) (x y a b : List ℕ) (t u v : Option (List ℕ)) → PassesOn x a b t u → OnErr r (TakesPart (b ++ y) u v) → OnErr r (TakesPart (a ++ (x ++ y)) t v)
 then_part (Ok done) x y a b t u v one part = tt
 then_part (Err e) x y a b t u v one part = part_then x y a b t u v one part
 
 -- what passed, and was handed over in part or as a whole
-pub passed_handed : {T E : Type 0} (r : Result T E) (x a b c : List ℕ) (t u v : Option (List ℕ)) → Passes x a b t u → OnOk r (Passes [] b c u v) → OnOk r (Passes x a c t v)
-passed_handed (Ok done) x a b c t u v one two = subst (λ (l : List ℕ). Passes l a c t v) (append-nil x) (passes_then x [] a b c t u v one two)
+pub passed_handed : {T E : Type 0} (r : Result T E) (x a b c : List ℕ) (t u v : Option (List ℕ)) → PassesOn x a b t u → OnOk r (PassesOn [] b c u v) → OnOk r (PassesOn x a c t v)
+passed_handed (Ok done) x a b c t u v one two = subst (λ (l : List ℕ). PassesOn l a c t v) (append-nil x) (passes_then x [] a b c t u v one two)
 passed_handed (Err e) x a b c t u v one two = tt
 
-pub passed_part_of : {T E : Type 0} (r : Result T E) (x a b : List ℕ) (t u v : Option (List ℕ)) → Passes x a b t u → OnErr r (TakesPart b u v) → OnErr r (TakesPart (a ++ x) t v)
+pub passed_part_of : {T E : Type 0} (r : Result T E) (x a b : List ℕ) (t u v : Option (List ℕ)) → PassesOn x a b t u → OnErr r (TakesPart b u v) → OnErr r (TakesPart (a ++ x) t v)
 passed_part_of (Ok done) x a b t u v one part = tt
 passed_part_of (Err e) x a b t u v one part = passed_part x a b t u v one part
 
@@ -77,7 +77,7 @@ with_waiting None waits = None
 with_waiting (Some xs) waits = Some (xs ++ waits)
 
 -- text that passes is appended to both together
-pub passes_behind : (x a b : List ℕ) (t u : Option (List ℕ)) → Passes x a b t u → Appends (with_waiting t a) (with_waiting u b) x
+pub passes_behind : (x a b : List ℕ) (t u : Option (List ℕ)) → PassesOn x a b t u → Appends (with_waiting t a) (with_waiting u b) x
 passes_behind x a b None u one = tt
 passes_behind x a b (Some xs) None one = absurd one.took
 passes_behind x a b (Some xs) (Some ys) one =
@@ -98,5 +98,5 @@ with_nothing None = refl
 with_nothing (Some xs) = ap (λ l. Some l) (append-nil xs)
 
 -- .. behind a text that passed, with more to come
-pub part_before : (x y z a b : List ℕ) (t u v : Option (List ℕ)) → Passes x a b t u → TakesPart (b ++ y) u v → TakesPart (a ++ (x ++ (y ++ z))) t v
+pub part_before : (x y z a b : List ℕ) (t u v : Option (List ℕ)) → PassesOn x a b t u → TakesPart (b ++ y) u v → TakesPart (a ++ (x ++ (y ++ z))) t v
 part_before x y z a b t u v one part = part_then x (y ++ z) a b t u v one (rw (sym (append_assoc b y z)) (part_of_front (b ++ y) z u v part))

@@ -6,7 +6,7 @@ use Rattle.std.specs.Io.KnownBytes.{Consumes, IsAtEnd}
 use Rattle.bp_io.specs.Causes.{Rose}
 use Rattle.bp_script.specs.Commands.{Command, command_of}
 use Rattle.bp_session.specs.Lines.{commands_from}
-use Rattle.bp_session.specs.Outside.{Faults, IsFirstFault, IsQuiet, counts}
+use Rattle.bp_session.specs.Outside.{Faults, IsFirstFault, SinkTookAll, counts}
 use Rattle.bp_session.specs.Serving.{DoesAll, DoesCut, DoesStop, Input, Keeps, LineOutcome, Moment, PieceOutcome, ServeOutcome}
 use Rattle.bp_session.proofs.SavingLaws.{stays_attached, still_attached}
 use Rattle.bp_session.proofs.ServingLaws.{commands_at_newline, commands_of_nothing, cuts_behind, cuts_in, not_long, serves_newline, serves_quietly, serves_then, serves_to_end, stops_behind, stops_in, told_none}
@@ -43,7 +43,7 @@ sink_fault a b source rose files = record {
   no_files = λ _. files;
 }
   where
-    never : IsQuiet 4 → ⊥
+    never : SinkTookAll 4 → ⊥
     never (inl e) = omega (arith, e)
     never (inr (inl e)) = omega (arith, e)
     never (inr (inr (inl e))) = omega (arith, e)
@@ -61,7 +61,7 @@ files_fault a b source sink rose = record {
 }
 
 -- a status of a line told before the end, whose sink may have failed
-pub no_device_fault : (status : ℕ) (a b : Faults) → ¬ (status ≡ 3) → ¬ (status ≡ 4) → ¬ (status ≡ 5) → ¬ IsQuiet status → b.source ≡ a.source → b.files ≡ a.files → IsFirstFault status a b
+pub no_device_fault : (status : ℕ) (a b : Faults) → ¬ (status ≡ 3) → ¬ (status ≡ 4) → ¬ (status ≡ 5) → ¬ SinkTookAll status → b.source ≡ a.source → b.files ≡ a.files → IsFirstFault status a b
 no_device_fault status a b three four five loud source files = record {
   source = λ e. absurd (three e);
   sink = λ e. absurd (four e);

@@ -72,8 +72,8 @@ pub record HoldsPartly (files : View) (name : List ℕ) (first second : Image) :
   pub bytes : HasBlocksOf (files.contents name) (image_bytes first) (image_bytes second)
 
 -- The words are those of the first blocks of the attached file, where its bytes are told.
-abbrev pub HoldsFront : View → ℕ → Image → Type 0
-HoldsFront files count words = (name : List ℕ) → files.is_attached name ≡ true →
+abbrev pub HoldsFirstBlocks : View → ℕ → Image → Type 0
+HoldsFirstBlocks files count words = (name : List ℕ) → files.is_attached name ≡ true →
     TellsFile (files.contents name) (λ bytes. image_bytes words ≡ take (block_size * count) bytes)
 
 -- A file is attached that has the words' blocks, and may be written.

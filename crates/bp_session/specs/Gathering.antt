@@ -15,7 +15,7 @@ abbrev pub waiting : Replies → List ℕ
 waiting replies = take replies.count replies.bytes.items
 
 -- A text was added to what waited, and a sink took a front of both: the rest waits.
-pub record Passes (text before after : List ℕ) (taken now : Option (List ℕ)) : Type 0 where
+pub record PassesOn (text before after : List ℕ) (taken now : Option (List ℕ)) : Type 0 where
   pub sent : List ℕ
   pub whole : before ++ text ≡ sent ++ after
   pub took : Appends taken now sent
@@ -26,7 +26,7 @@ Clears before after taken now files files_now =
     ((after ≡ before) × (now ≡ taken) × (files_now ≡ files)) ⊎ ((after ≡ []) × Appends taken now before)
 
 -- A line was done whose reply is still to be told, behind what waits.
-pub record IsDone (command : Command) (before : List ℕ) (old new : Moment) : Type 0 where
+pub record AwaitsReply (command : Command) (before : List ℕ) (old new : Moment) : Type 0 where
   pub reply : LineReply
   pub does : DoesLine old command reply new
   pub waits : List ℕ
@@ -35,12 +35,12 @@ pub record IsDone (command : Command) (before : List ℕ) (old new : Moment) : T
 
 -- .. and its reply was added.
 pub record IsAnswered (command : Command) (before after : List ℕ) (old new : Moment) : Type 0 where
-  pub done : IsDone command before old new
-  pub passes : Passes (reply_text done.reply) done.waits after done.taken new.taken
+  pub done : AwaitsReply command before old new
+  pub passes : PassesOn (reply_text done.reply) done.waits after done.taken new.taken
 
 -- .. and the sink failed as its reply was added.
 pub record IsUntold (command : Command) (before : List ℕ) (old new : Moment) : Type 0 where
-  pub done : IsDone command before old new
+  pub done : AwaitsReply command before old new
   pub part : TakesPart (done.waits ++ reply_text done.reply) done.taken new.taken
 
 -- The sink failed before a sync could save: it took a proper front of what waited.

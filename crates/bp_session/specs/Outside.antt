@@ -44,8 +44,8 @@ abbrev pub FilesFailed : Outside → Outside → Type 0
 FilesFailed before after = Rose before.faults.files after.faults.files
 
 -- a status at which the sink took all that it was handed, or nothing was told
-abbrev pub IsQuiet : ℕ → Type 0
-IsQuiet status = (status ≡ 0) ⊎ (status ≡ 3) ⊎ (status ≡ 5) ⊎ (status ≡ 6) ⊎ (status ≡ 8)
+abbrev pub SinkTookAll : ℕ → Type 0
+SinkTookAll status = (status ≡ 0) ⊎ (status ≡ 3) ⊎ (status ≡ 5) ⊎ (status ≡ 6) ⊎ (status ≡ 8)
 
 -- The first fault ends a program, and the status tells it: the source failed at 3 alone, the files at 5 alone, and the
 -- sink at 4, or as it was told the line of 1, 2 or 7.
@@ -54,7 +54,7 @@ pub record IsFirstFault (status : ℕ) (before after : Faults) : Type 0 where
   pub sink : status ≡ 4 → Rose before.sink after.sink
   pub files : status ≡ 5 → Rose before.files after.files
   pub no_source : ¬ (status ≡ 3) → after.source ≡ before.source
-  pub no_sink : IsQuiet status → after.sink ≡ before.sink
+  pub no_sink : SinkTookAll status → after.sink ≡ before.sink
   pub no_files : ¬ (status ≡ 5) → after.files ≡ before.files
 
 -- No byte was read, and FILE is as it was.

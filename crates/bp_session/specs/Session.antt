@@ -37,7 +37,7 @@ pub record AnswersCall (old : State) (call : Call) (reply : LineReply) (new : St
   pub saved : new.saved ≡ old.saved
 
 -- nothing is done
-pub record Tells (old : State) (wanted reply : LineReply) (new : State) : Type 0 where
+pub record TellsReply (old : State) (wanted reply : LineReply) (new : State) : Type 0 where
   pub told : reply ≡ wanted
   pub same : new ≡ old
 
@@ -77,9 +77,9 @@ Line old space reply new = TellsSpace old reply new
 Line old (crash wanted) reply new =
     let cut = cut_for old.memory.events wanted in Crashes old cut reply new ⊎ RefusesCut old cut reply new
 Line old (storm seed) reply new = Crashes old (storm_cut old.memory.events seed) reply new
-Line old log reply new = Tells old (log_reply old) reply new
-Line old bad_syntax reply new = Tells old syntax reply new
-Line old too_long reply new = Tells old long reply new
+Line old log reply new = TellsReply old (log_reply old) reply new
+Line old bad_syntax reply new = TellsReply old syntax reply new
+Line old too_long reply new = TellsReply old long reply new
 
 -- ---- a script
 

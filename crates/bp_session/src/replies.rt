@@ -27,7 +27,7 @@ impl Replies {
     ghost use Rattle.std.specs.Io.KnownBytes.{Appends};
     ghost use Rattle.bp_io.specs.Causes.{HasCause};
     ghost use Rattle.bp_script.specs.Sayings.{said_text, FitsReply};
-    ghost use Rattle.bp_session.specs.Gathering.{Passes, waiting};
+    ghost use Rattle.bp_session.specs.Gathering.{PassesOn, waiting};
     ghost use Rattle.bp_session.specs.Taking.{TakesPart};
 
     /// None yet. It fails for want of memory alone.
@@ -65,7 +65,7 @@ impl Replies {
         most: usize,
         out: &mut K,
     ) -> Result<(), Failed>
-        ensures all { OnOk result (Passes [] (waiting self.old) (waiting self.new)
+        ensures all { OnOk result (PassesOn [] (waiting self.old) (waiting self.new)
             (K.taken out.old) (K.taken out.new)) }
         ensures some { OnErr result (TakesPart (waiting self.old) (K.taken out.old) (K.taken out.new)) }
         ensures few { OnOk result (length (waiting self.new) ≤ most) }
@@ -89,7 +89,7 @@ impl Replies {
     /// Adds a line of a reply. What waited before is handed over first where it is much.
     pub(crate) fn tell<K: Sink>(&mut self, said: &Said<'_>, out: &mut K) -> Result<(), Failed>
         requires { FitsReply said.now }
-        ensures all { OnOk result (Passes (said_text said.now) (waiting self.old) (waiting self.new)
+        ensures all { OnOk result (PassesOn (said_text said.now) (waiting self.old) (waiting self.new)
             (K.taken out.old) (K.taken out.new)) }
         ensures some { OnErr result (TakesPart (waiting self.old ++ said_text said.now)
             (K.taken out.old) (K.taken out.new)) }

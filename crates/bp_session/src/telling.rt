@@ -5,7 +5,7 @@ ghost use Rattle.bp_io.specs.Causes.{HasCause};
 ghost use Rattle.bp_plain.specs.Calls.Answer.{names};
 ghost use Rattle.bp_script.specs.Texts.{answer_text, reply_text};
 ghost use Rattle.bp_session.specs.Acting.{reply_of};
-ghost use Rattle.bp_session.specs.Gathering.{Passes, waiting};
+ghost use Rattle.bp_session.specs.Gathering.{PassesOn, waiting};
 ghost use Rattle.bp_session.specs.Taking.{TakesPart};
 
 use crate::outcome::Outcome;
@@ -17,7 +17,7 @@ use bp_script::Said;
 
 // Tells a line for each name, and the line that ends a listing.
 fn tell_names<K: Sink>(listing: &Listing, replies: &mut Replies, out: &mut K) -> Result<(), Failed>
-    ensures all { OnOk result (Passes (answer_text (names listing.now)) (waiting replies.old) (waiting replies.new)
+    ensures all { OnOk result (PassesOn (answer_text (names listing.now)) (waiting replies.old) (waiting replies.new)
         (K.taken out.old) (K.taken out.new)) }
     ensures some { OnErr result (TakesPart (waiting replies.old ++ answer_text (names listing.now))
         (K.taken out.old) (K.taken out.new)) }
@@ -32,7 +32,7 @@ fn tell_names<K: Sink>(listing: &Listing, replies: &mut Replies, out: &mut K) ->
 
 // Tells the answer of a call.
 fn tell_answer<K: Sink>(reply: &Reply, replies: &mut Replies, out: &mut K) -> Result<(), Failed>
-    ensures all { OnOk result (Passes (answer_text reply.now.answer) (waiting replies.old) (waiting replies.new)
+    ensures all { OnOk result (PassesOn (answer_text reply.now.answer) (waiting replies.old) (waiting replies.new)
         (K.taken out.old) (K.taken out.new)) }
     ensures some { OnErr result (TakesPart (waiting replies.old ++ answer_text reply.now.answer)
         (K.taken out.old) (K.taken out.new)) }
@@ -51,7 +51,7 @@ fn tell<K: Sink>(
     replies: &mut Replies,
     out: &mut K,
 ) -> Result<(), Failed>
-    ensures all { OnOk result (Passes (reply_text (reply_of outcome reply.now.answer))
+    ensures all { OnOk result (PassesOn (reply_text (reply_of outcome reply.now.answer))
         (waiting replies.old) (waiting replies.new) (K.taken out.old) (K.taken out.new)) }
     ensures some { OnErr result (TakesPart (waiting replies.old ++ reply_text (reply_of outcome reply.now.answer))
         (K.taken out.old) (K.taken out.new)) }
@@ -89,7 +89,7 @@ pub(crate) fn tell_by<K: Sink>(
     most: usize,
     out: &mut K,
 ) -> Result<(), Failed>
-    ensures all { OnOk result (Passes (reply_text (reply_of outcome reply.now.answer))
+    ensures all { OnOk result (PassesOn (reply_text (reply_of outcome reply.now.answer))
         (waiting replies.old) (waiting replies.new) (K.taken out.old) (K.taken out.new)) }
     ensures some { OnErr result (TakesPart (waiting replies.old ++ reply_text (reply_of outcome reply.now.answer))
         (K.taken out.old) (K.taken out.new)) }

@@ -4,7 +4,7 @@ use Rattle.std.specs.Prelude.{Option, ◌⊎◌}
 use Rattle.std.specs.Io.KnownBytes.{Appends}
 use Rattle.bp_io.specs.Causes.{Rose}
 use Rattle.bp_io.specs.Files.{Known}
-use Rattle.bp_session.specs.Outside.{Faults, IsFirstFault, IsIdle, IsQuiet, IsUntouched, Outside}
+use Rattle.bp_session.specs.Outside.{Faults, IsFirstFault, IsIdle, SinkTookAll, IsUntouched, Outside}
 use Rattle.bp_session.specs.Taking.{TakesPart}
 use Rattle.bp_session.proofs.OutcomeLaws.{files_fault, no_device_fault, no_fault, sink_fault}
 use Rattle.bp_shell.specs.Ending.{ReadOutcome, StopOutcome, TellsStop}
@@ -21,7 +21,7 @@ told_fault : (status : ℕ) (a b : Faults) → (status ≡ 1) ⊎ (status ≡ 7)
 told_fault status a b (inl is) source files =
     no_device_fault status _ _ (λ e. omega (arith, is, e)) (λ e. omega (arith, is, e)) (λ e. omega (arith, is, e)) loud source files
   where
-    loud : IsQuiet status → ⊥
+    loud : SinkTookAll status → ⊥
     loud (inl e) = omega (arith, is, e)
     loud (inr (inl e)) = omega (arith, is, e)
     loud (inr (inr (inl e))) = omega (arith, is, e)
@@ -30,7 +30,7 @@ told_fault status a b (inl is) source files =
 told_fault status a b (inr is) source files =
     no_device_fault status _ _ (λ e. omega (arith, is, e)) (λ e. omega (arith, is, e)) (λ e. omega (arith, is, e)) loud source files
   where
-    loud : IsQuiet status → ⊥
+    loud : SinkTookAll status → ⊥
     loud (inl e) = omega (arith, is, e)
     loud (inr (inl e)) = omega (arith, is, e)
     loud (inr (inr (inl e))) = omega (arith, is, e)

@@ -9,7 +9,7 @@ use Rattle.bp_layout.specs.Words.{Image}
 use Rattle.bp_io.specs.Causes.{HasCause}
 use Rattle.bp_io.specs.Files.{Known, Stays, StaysOrIsMade, Becomes, Attaches, block_bytes, resized_file}
 use Rattle.bp_session.specs.Files.{HasBytes, HasBlocksOf}
-use Rattle.bp_shell.specs.Formatting.{IsPartly, HasPartly, bytes_of}
+use Rattle.bp_shell.specs.Formatting.{IsPartlyFormatted, HasPartly, bytes_there}
 use Rattle.bp_session.specs.Outside.{Prints}
 
 pub prints : {T E : Type 0} (r : Result T E) (text : List ℕ) (t u : Option (List ℕ)) (m n : ℕ) → OnOk r (Appends t u text) → OnErr r ((count : ℕ) × (count < length text) × Appends t u (take count text)) → HasCause m n r → Prints text t u m n
@@ -74,10 +74,10 @@ length-resized m xs = omega (arith, length-append (take m xs) (replicate (m - le
 
 -- ---- what is known of the file
 
-as_before : (old wanted : List ℕ) → IsPartly old wanted old
+as_before : (old wanted : List ℕ) → IsPartlyFormatted old wanted old
 as_before old wanted = record { size = inl refl; blocks = λ i low. inl refl }
 
-all_filled : (old wanted : List ℕ) (blocks : ℕ) → length wanted ≡ 4096 * blocks → IsPartly old wanted (resized_file (4096 * blocks) old)
+all_filled : (old wanted : List ℕ) (blocks : ℕ) → length wanted ≡ 4096 * blocks → IsPartlyFormatted old wanted (resized_file (4096 * blocks) old)
 all_filled old wanted blocks size = record {
   size = inr (length-resized (4096 * blocks) old ∙ sym size);
   blocks = λ i low. inr (inl (block_filled old i blocks (omega (arith, length-resized (4096 * blocks) old, low))));
@@ -109,7 +109,7 @@ pub record Sized (old sized : Known) (blocks : ℕ) : Type 0 where
   pub was : List ℕ
   pub long : length was ≡ 4096 * blocks
   pub has : HasBytes sized was
-  pub from : (o : Option (List ℕ)) → old ≡ Some o → was ≡ resized_file (4096 * blocks) (bytes_of o)
+  pub from : (o : Option (List ℕ)) → old ≡ Some o → was ≡ resized_file (4096 * blocks) (bytes_there o)
   pub told : is_some sized ≡ is_some old
 
 pub is_sized : (old middle sized : Known) (n blocks : ℕ) → Attaches old (Some n) middle → Becomes (resized_file (4096 * blocks)) middle sized → Sized old sized blocks
@@ -136,7 +136,7 @@ is_sized (Some (Some bytes)) middle sized n blocks attaches sizes = record {
 }
 
 -- a save failed
-pub partly_mixed : (old now : Known) (was wanted : List ℕ) (blocks : ℕ) → length was ≡ 4096 * blocks → ((o : Option (List ℕ)) → old ≡ Some o → was ≡ resized_file (4096 * blocks) (bytes_of o)) → is_some now ≡ is_some old → HasBlocksOf now was wanted → length wanted ≡ 4096 * blocks → HasPartly old wanted now
+pub partly_mixed : (old now : Known) (was wanted : List ℕ) (blocks : ℕ) → length was ≡ 4096 * blocks → ((o : Option (List ℕ)) → old ≡ Some o → was ≡ resized_file (4096 * blocks) (bytes_there o)) → is_some now ≡ is_some old → HasBlocksOf now was wanted → length wanted ≡ 4096 * blocks → HasPartly old wanted now
 partly_mixed None None was wanted blocks long from told mixed size = refl
 partly_mixed None (Some now) was wanted blocks long from told mixed size = absurd (true≢false told)
 partly_mixed (Some o) None was wanted blocks long from told mixed size = absurd (true≢false (sym told))
@@ -144,7 +144,7 @@ partly_mixed (Some o) (Some None) was wanted blocks long from told mixed size = 
 partly_mixed (Some o) (Some (Some found)) was wanted blocks long from told mixed size = record {
   size = inr (omega (arith, mixed.size, long, size));
   blocks = λ i low. elim (mixed.blocks i low) [
-    | inl e ↦ inr (inl (e ∙ ap (λ l. block_bytes l i) (from o refl) ∙ block_filled (bytes_of o) i blocks (omega (arith, long, mixed.size))))
+    | inl e ↦ inr (inl (e ∙ ap (λ l. block_bytes l i) (from o refl) ∙ block_filled (bytes_there o) i blocks (omega (arith, long, mixed.size))))
     | inr e ↦ inr (inr e)
   ];
 }

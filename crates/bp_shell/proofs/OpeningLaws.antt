@@ -17,7 +17,7 @@ use Rattle.bp_scan.specs.declared.fault.MountFault.TheVariants as f
 use Rattle.bp_script.specs.declared.notices.Notice.{Notice}
 use Rattle.bp_script.specs.declared.notices.Notice.TheVariants.{NotFormatted, BadSize, Damaged}
 use Rattle.bp_session.proofs.BlockLaws.{image_bytes-append}
-use Rattle.bp_session.specs.Files.{AreWordsOf64Bits, HasBytes, HasLength, Holds, HoldsFront}
+use Rattle.bp_session.specs.Files.{AreWordsOf64Bits, HasBytes, HasLength, Holds, HoldsFirstBlocks}
 use Rattle.pm_raw.specs.Part.{Part}
 use Rattle.bp_shell.specs.Opening.{FindsImage, HasLoaded, HasSized, RefusesFile}
 use Rattle.bp_shell.specs.Opening.RefusesFile.{by_length, not_formatted, by_count, damaged}
@@ -116,7 +116,7 @@ whole_known (Some None) count bytes long tells = long
 whole_known (Some (Some found)) count bytes long tells = sym (tells ∙ ap (λ n. take n found) (sym long) ∙ take-length found)
 
 module _ (was : Known) (name : List ℕ) (count : ℕ) (found now : View) (base : Image) (finds : FindsImage was name count found) (same : found.contents name ≡ was) (reads : Reads found now)
-    (front : HoldsFront found count base) (size : length base ≡ 512 * count) (words : AreWordsOf64Bits base) where
+    (front : HoldsFirstBlocks found count base) (size : length base ≡ 512 * count) (words : AreWordsOf64Bits base) where
   known : HasBytes was (image_bytes base)
   known =
       let tells : TellsFile was (λ bytes. image_bytes base ≡ take (4096 * count) bytes) = rw same at (front name finds.attached) in

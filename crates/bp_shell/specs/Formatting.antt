@@ -11,15 +11,15 @@ new_image blocks = formatted (replicate (block_words * blocks) 0) blocks
 
 -- The file has its old length or the wanted one, and each of its blocks is the old file's, or that one filled up with
 -- zeros, or that of the wanted bytes.
-pub record IsPartly (old wanted found : List ℕ) : Type 0 where
+pub record IsPartlyFormatted (old wanted found : List ℕ) : Type 0 where
   pub size : (length found ≡ length old) ⊎ (length found ≡ length wanted)
   pub blocks : (i : ℕ) → block_size * i < length found → (block_bytes found i ≡ block_bytes old i)
       ⊎ (block_bytes found i ≡ resized_file block_size (block_bytes old i)) ⊎ (block_bytes found i ≡ block_bytes wanted i)
 
 -- the bytes of a file, none where there is no file
-abbrev pub bytes_of : Option (List ℕ) → List ℕ
-bytes_of None = []
-bytes_of (Some bytes) = bytes
+abbrev pub bytes_there : Option (List ℕ) → List ℕ
+bytes_there None = []
+bytes_there (Some bytes) = bytes
 
 -- The same of a file, where it is told: it is so before and after, or neither. One that is missing at first may still
 -- be, or was made.
@@ -27,4 +27,4 @@ abbrev pub HasPartly : Known → List ℕ → Known → Type 0
 HasPartly None wanted now = now ≡ None
 HasPartly (Some was) wanted None = ⊥
 HasPartly (Some was) wanted (Some None) = was ≡ None
-HasPartly (Some was) wanted (Some (Some found)) = IsPartly (bytes_of was) wanted found
+HasPartly (Some was) wanted (Some (Some found)) = IsPartlyFormatted (bytes_there was) wanted found

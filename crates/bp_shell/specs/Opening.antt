@@ -9,7 +9,7 @@ use Rattle.bp_layout.specs.WellFormed.{IsWellFormed}
 use Rattle.bp_scan.specs.Length.{wanted_length}
 use Rattle.bp_script.specs.declared.notices.Notice.{Notice}
 use Rattle.bp_script.specs.declared.notices.Notice.TheVariants.{NotFormatted, BadSize, Damaged}
-use Rattle.bp_session.specs.Files.{AreWordsOf64Bits, HasLength, HasImage, HoldsFront}
+use Rattle.bp_session.specs.Files.{AreWordsOf64Bits, HasLength, HasImage, HoldsFirstBlocks}
 use Rattle.bp_session.specs.Session.{State}
 use Rattle.pm_raw.specs.Part.{Part}
 
@@ -35,7 +35,7 @@ pub record FindsImage (was : Known) (name : List ℕ) (count : ℕ) (files : Vie
 
 -- The words of the first blocks of the attached file are there, and there is room for those of the others.
 pub record HasLoaded (files : View) (count : ℕ) (part : Part) : Type 0 where
-  pub image : HoldsFront files count part.words
+  pub image : HoldsFirstBlocks files count part.words
   pub words : AreWordsOf64Bits part.words
   pub long : length part.words ≡ block_words * count
   pub size : part.size ≡ block_words * files.blocks

@@ -174,7 +174,7 @@ ProgramOutcome (checks name) status before after = CheckOutcome status before af
 ProgramOutcome (plays name seed count) status before after = PlayOutcome status seed count before after
 
 -- The words ask for a program, and this is its outcome. What is known of a file is told for each name.
-pub record Does (words : List (List ℕ)) (status : ℕ) (before after : List ℕ → Outside) : Type 0 where
+pub record RunsProgram (words : List (List ℕ)) (status : ℕ) (before after : List ℕ → Outside) : Type 0 where
   pub program : Program
   pub asked : Requests words program
   pub outcome : ProgramOutcome program status (before (file_name program)) (after (file_name program))

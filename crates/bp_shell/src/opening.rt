@@ -7,7 +7,7 @@ ghost use Rattle.bp_layout.specs.WellFormed.{IsWellFormed};
 ghost use Rattle.bp_layout.specs.Words.{Image, block_count};
 ghost use Rattle.bp_limits.specs.Limits.{block_size, block_words, log_events};
 ghost use Rattle.bp_script.specs.declared.notices.Notice.{Notice};
-ghost use Rattle.bp_session.specs.Files.{AreWordsOf64Bits, HasImage, Holds, HoldsFront, IsReady};
+ghost use Rattle.bp_session.specs.Files.{AreWordsOf64Bits, HasImage, Holds, HoldsFirstBlocks, IsReady};
 ghost use Rattle.bp_shell.specs.Opening.{FindsImage, HasLoaded, HasSized, HoldsFileSystem, RefusesFile, start};
 ghost use Rattle.bp_shell.specs.Stops.{HasStopCause, IsReason, stop_by};
 ghost use Rattle.bp_shell.specs.declared.stop.Stop.TheVariants.{Memory, Outside, Refused};
@@ -98,7 +98,7 @@ fn load<F: Files>(filling: &mut Filling, count: u32, files: &mut F) -> Result<()
     requires size { filling.old ≡ record { words = []; size = block_words * count } }
     ensures kinds { IfErr result (λ e. e ≡ Outside) }
     ensures cause { HasStopCause (F.view files.old).faults (F.view files.new).faults result }
-    ensures image { OnOk result (HoldsFront (F.view files.old) count filling.new.words) }
+    ensures image { OnOk result (HoldsFirstBlocks (F.view files.old) count filling.new.words) }
     ensures words { OnOk result (AreWordsOf64Bits filling.new.words) }
     ensures whole { OnOk result (length filling.new.words ≡ block_words * count) }
     ensures size { filling.new.size ≡ block_words * count }

@@ -5,7 +5,7 @@ ghost use Rattle.bp_command.specs.Programs.{Asks, HasNumbersInRange, Program as 
 ghost use Rattle.bp_script.specs.Sayings.{notice_text};
 ghost use Rattle.bp_script.specs.declared.notices.Notice.TheVariants.{Usage};
 ghost use Rattle.bp_session.specs.Outside.{Prints, outside};
-ghost use Rattle.bp_shell.specs.Running.{Does, ProgramOutcome, RunOutcome, file_name};
+ghost use Rattle.bp_shell.specs.Running.{RunsProgram, ProgramOutcome, RunOutcome, file_name};
 ghost use Rattle.std.specs.Prelude.{◌≡◌, ◌⊎◌, map};
 
 use crate::checking::check_file;
@@ -108,7 +108,7 @@ pub fn run<S: Source, K: Sink, F: Files>(
         (outside (S.left src.new) (S.faults src.new) (K.taken out.new) (K.faults out.new) (F.view files.new) name) }
 
     // All other words that are taken. Want of memory may come before they are read.
-    ensures others { ¬ (result ≡ 2) → Does (map (λ word. word.now) words.now) result
+    ensures others { ¬ (result ≡ 2) → RunsProgram (map (λ word. word.now) words.now) result
         (λ name. outside (S.left src.old) (S.faults src.old) (K.taken out.old) (K.faults out.old)
         (F.view files.old) name)
         (λ name. outside (S.left src.new) (S.faults src.new) (K.taken out.new) (K.faults out.new)

@@ -1,13 +1,13 @@
 use Rattle.std.proofs.Common.{◌≡◌, take}
 use Rattle.std.specs.Prelude.{flat_map}
 use Rattle.bp_script.specs.Texts.{entry_text}
-use Rattle.bp_session.specs.Gathering.{Passes, waiting}
+use Rattle.bp_session.specs.Gathering.{PassesOn, waiting}
 use Rattle.bp_session.proofs.telling.tell_names.Given as goal
 
 -- the lines of the first names were told
 abbrev pub invariant-loop-i : goal.invariant-loop-i
 invariant-loop-i g l =
     record {
-      passes : Passes (flat_map entry_text (take l.i l.listing)) (waiting l.fn.replies) (waiting l.replies) (g.K.Sink.taken l.fn.out) (g.K.Sink.taken l.out);
+      passes : PassesOn (flat_map entry_text (take l.i l.listing)) (waiting l.fn.replies) (waiting l.replies) (g.K.Sink.taken l.fn.out) (g.K.Sink.taken l.out);
       faults : g.K.Sink.faults l.out ≡ g.K.Sink.faults l.fn.out;
     }

@@ -6,12 +6,12 @@ use Rattle.bp_shell.proofs.ProgramLaws.{read_now, run_memory, run_served, run_st
 use Rattle.bp_session.proofs.SavingLaws.{still_attached, still_ready}
 use Rattle.bp_shell.proofs.running.run_file.Goals as goal
 
-pub returns-in-Err-tell_stop-clause-outcome : goal.returns-in-Err-tell_stop-clause-outcome
-returns-in-Err-tell_stop-clause-outcome g c =
+pub returns-in-Err-clause-outcome : goal.returns-in-Err-clause-outcome
+returns-in-Err-clause-outcome g c =
     run_stopped _ _ (record { left = refl; file = c.open.ensures.file }) c.open.ensures.flushed refl _ _ c.in-Err.ensures.reason c.in-Err.ensures.cause.failed c.in-Err.ensures.cause.others c.tell_stop.ensures
 
-pub returns-in-Err-clause-outcome : goal.returns-in-Err-clause-outcome
-returns-in-Err-clause-outcome g c = run_memory _ _ (record { left = refl; file = c.open.ensures.file }) c.open.ensures.flushed refl refl refl c.in-Ok.ensures.cause.same
+pub returns-in-Err-new-clause-outcome : goal.returns-in-Err-new-clause-outcome
+returns-in-Err-new-clause-outcome g c = run_memory _ _ (record { left = refl; file = c.open.ensures.file }) c.open.ensures.flushed refl refl refl c.in-Ok.ensures.cause.same
 
 pub returns-then-status-ne0-clause-outcome : goal.returns-then-status-ne0-clause-outcome
 returns-then-status-ne0-clause-outcome g c =
@@ -36,6 +36,9 @@ returns-clause-outcome g c =
     let served = reached_own 0 _ _ _ (λ e. absurd (omega (arith, e))) (rw c.if-status-ne0.false at c.serve_gathered-status.ensures.outcome) in
     run_unsaved _ _ (g.F.Files.view c.args.files.now) begun _ c.args.name.now opened.0 opened.1 opened.2 (read_now begun c.args.name.now opened.0 opened.2 opened.3) c.open.ensures.flushed c.in-Ok.ensures.cause.same (g.F.Files.view c.save_unless_saved.new.files) served _ c.sync.ensures.drained
     (λ was file. (rw (c.region.ensures.memory, c.sync.ensures.drained) at (c.in-Err-save_unless_saved.ensures.partly c.args.name.now was file)).bytes) c.in-Err-save_unless_saved.ensures.cause.failed
+
+pub serve_gathered-requires : goal.serve_gathered-requires
+serve_gathered-requires g c = record { ready = c.in-Ok.ensures.ready; roomy = omega (arith, c.in-Ok.ensures.capacity) }
 
 pub save_unless_saved-requires : goal.save_unless_saved-requires
 save_unless_saved-requires g c = rw (c.region.ensures.memory, c.sync.ensures.drained) (still_ready _ _ _ _ c.serve_gathered-status.ensures.again.ready (size-drained c.serve_gathered-status.new.volume) (still_attached _))

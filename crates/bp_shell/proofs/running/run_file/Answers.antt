@@ -37,8 +37,5 @@ returns-clause-outcome g c =
     run_unsaved _ _ (g.F.Files.view c.args.files.now) begun _ c.args.name.now opened.0 opened.1 opened.2 (read_now begun c.args.name.now opened.0 opened.2 opened.3) c.open.ensures.flushed c.in-Ok.ensures.cause.same (g.F.Files.view c.save_unless_saved.new.files) served _ c.sync.ensures.drained
     (λ was file. (rw (c.region.ensures.memory, c.sync.ensures.drained) at (c.in-Err-save_unless_saved.ensures.partly c.args.name.now was file)).bytes) c.in-Err-save_unless_saved.ensures.cause.failed
 
-pub serve_gathered-requires : goal.serve_gathered-requires
-serve_gathered-requires g c = record { ready = c.in-Ok.ensures.ready; roomy = omega (arith, c.in-Ok.ensures.capacity) }
-
 pub save_unless_saved-requires : goal.save_unless_saved-requires
 save_unless_saved-requires g c = rw (c.region.ensures.memory, c.sync.ensures.drained) (still_ready _ _ _ _ c.serve_gathered-status.ensures.again.ready (size-drained c.serve_gathered-status.new.volume) (still_attached _))

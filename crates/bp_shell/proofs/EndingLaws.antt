@@ -43,7 +43,7 @@ told_fault status a b (inr is) source files =
 pub stop_statuses : (stop : Stop) (status : ℕ) (t u : Option (List ℕ)) (m n : ℕ) → TellsStop stop status t u m n → (status ≡ 1) ⊎ (status ≡ 5) ⊎ (status ≡ 7) ⊎ (status ≡ 8)
 stop_statuses s.Missing status t u m n told = inl told.0
 stop_statuses s.Outside status t u m n told = inr (inl told.0)
-stop_statuses (s.Refused notice) status t u m n told = inr (inr (inl told.0))
+stop_statuses (s.Refused _) status t u m n told = inr (inr (inl told.0))
 stop_statuses s.Memory status t u m n told = inr (inr (inr told.0))
 
 pub never_among : (status n : ℕ) → (status ≡ 1) ⊎ (status ≡ 5) ⊎ (status ≡ 7) ⊎ (status ≡ 8) → ¬ (n ≡ 1) → ¬ (n ≡ 5) → ¬ (n ≡ 7) → ¬ (n ≡ 8) → status ≡ n → ⊥
@@ -86,7 +86,7 @@ module _ (before after : Outside) (untouched : IsUntouched before after) (source
   pub stop_idle : (stop : Stop) (status : ℕ) → Told stop status → status ≡ 5 → IsIdle before after
   stop_idle s.Missing status told e = absurd (omega (arith, told.0, e))
   stop_idle s.Outside status told e = record { untouched = untouched; taken = told.1.0 }
-  stop_idle (s.Refused notice) status told e = absurd (omega (arith, told.0, e))
+  stop_idle (s.Refused _) status told e = absurd (omega (arith, told.0, e))
   stop_idle s.Memory status told e = absurd (omega (arith, told.0, e))
 
 -- a status of another kind

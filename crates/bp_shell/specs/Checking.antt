@@ -1,5 +1,5 @@
 -- What `check FILE` answers, and when.
-use Rattle.std.specs.Prelude.{◌≡◌, ℕ}
+use Rattle.std.specs.Prelude.{◌≡◌, ℕ, List}
 use Rattle.bp_io.specs.Files.{Known}
 use Rattle.bp_layout.specs.Free.{HasFree}
 use Rattle.bp_layout.specs.Words.{Image}
@@ -8,6 +8,7 @@ use Rattle.bp_scan.specs.declared.totals.Totals.{Totals}
 use Rattle.bp_script.specs.Sayings.{notice_text}
 use Rattle.bp_script.specs.declared.notices.Notice.{Notice}
 use Rattle.bp_script.specs.declared.notices.Notice.TheVariants.{Clean}
+use Rattle.bp_shell.specs.Ending.{ReadOutcome}
 use Rattle.bp_shell.specs.Opening.{HoldsFileSystem}
 use Rattle.bp_session.specs.Outside.{Outside}
 

@@ -24,6 +24,7 @@ use Rattle.bp_shell.specs.Opening.{HoldsFileSystem, start}
 use Rattle.bp_shell.specs.Formatting.{new_image, HasPartly}
 use Rattle.bp_session.specs.Outside.{Outside, SourceFailed, SinkFailed, FilesFailed, IsFirstFault, IsIdle}
 use Rattle.bp_shell.specs.Checking.{CheckOutcome}
+use Rattle.bp_shell.specs.Ending.{StopOutcome}
 use Rattle.bp_shell.specs.Playing.{PlayOutcome}
 use Rattle.bp_session.specs.Pieces.{piece_size}
 use Rattle.bp_session.specs.Taking.{TakesPart}

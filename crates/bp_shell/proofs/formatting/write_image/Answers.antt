@@ -4,19 +4,19 @@ use Rattle.bp_layout.specs.Bytes.{image_bytes}
 use Rattle.bp_session.specs.Files.{HoldsBytes}
 use Rattle.bp_session.proofs.BlockLaws.{length-image_bytes}
 use Rattle.bp_shell.proofs.FormattingLaws.{partly_attached, partly_sized, is_sized, partly_mixed}
-use Rattle.bp_session.proofs.SavingLaws.{err_then, ok_then, size-current}
+use Rattle.bp_session.proofs.SavingLaws.{size-current}
 use Rattle.bp_shell.proofs.formatting.write_image.Goals as goal
 
 pub returns-in-Err-clause-partly : goal.returns-in-Err-clause-partly
 returns-in-Err-clause-partly g c = partly_attached _ _ _ (c.attach.ensures.kept c.args.name.now) (c.attach.ensures.made c.args.name.now)
 
-pub returns-in_err-set_blocks-clause-partly : goal.returns-in_err-set_blocks-clause-partly
-returns-in_err-set_blocks-clause-partly g c =
+pub returns-in-Err-set_blocks-clause-partly : goal.returns-in-Err-set_blocks-clause-partly
+returns-in-Err-set_blocks-clause-partly g c =
     let is = rw c.in-Ok-Some.field-0-is at c.in-Ok-Some.ensures.attached in
     let contents = rw c.in-Ok-Some.field-0-is at c.in-Ok-Some.ensures.contents in
     let words = current_words (g.R.Region.memory c.args.region.now) in
     let long : length (image_bytes words) ≡ 4096 * c.args.blocks = omega (arith, length-image_bytes words, size-current (g.R.Region.memory c.args.region.now), c.requires.size) in
-    partly_sized _ _ _ _ c.args.blocks _ long contents (elim c.in_err-set_blocks.ensures.failed [
+    partly_sized _ _ _ _ c.args.blocks _ long contents (elim c.in-Err-set_blocks.ensures.failed [
       | inl stays ↦ inl (stays.bytes c.args.name.now is.attached)
       | inr becomes ↦ inr (becomes.bytes c.args.name.now is.attached)
     ])
@@ -24,32 +24,32 @@ returns-in_err-set_blocks-clause-partly g c =
 pub save-requires : goal.save-requires
 save-requires g c =
     let is = rw c.in-Ok-Some.field-0-is at c.in-Ok-Some.ensures.attached in record {
-      size = omega (arith, c.requires.size, c.in_ok-set_blocks.ensures.resized.blocks);
+      size = omega (arith, c.requires.size, c.in-Ok.ensures.resized.blocks);
       attached = (c.args.name.now, c.set_blocks.ensures.attached c.args.name.now ∙ is.attached);
       may_write = c.set_blocks.ensures.may_write ∙ is.may_write;
     }
 
-pub returns-clause-written : goal.returns-clause-written
-returns-clause-written g c =
+pub returns-in-Ok-save-clause-written : goal.returns-in-Ok-save-clause-written
+returns-in-Ok-save-clause-written g c =
     let is = rw c.in-Ok-Some.field-0-is at c.in-Ok-Some.ensures.attached in
     let contents = rw c.in-Ok-Some.field-0-is at c.in-Ok-Some.ensures.contents in
-    let s = is_sized _ _ _ _ c.args.blocks contents (c.in_ok-set_blocks.ensures.resized.bytes c.args.name.now is.attached) in
-    ok_then c.save.result (λ saved. (saved c.args.name.now s.was (record {
+    let s = is_sized _ _ _ _ c.args.blocks contents (c.in-Ok.ensures.resized.bytes c.args.name.now is.attached) in
+    (c.in-Ok-save.ensures.saved c.args.name.now s.was (record {
       attached = c.set_blocks.ensures.attached c.args.name.now ∙ is.attached;
-      size = omega (arith, s.long, c.in_ok-set_blocks.ensures.resized.blocks);
+      size = omega (arith, s.long, c.in-Ok.ensures.resized.blocks);
       has = s.has;
-    })).has) c.save.ensures.saved
+    })).has
 
-pub returns-clause-partly : goal.returns-clause-partly
-returns-clause-partly g c =
+pub returns-in-Err-save-clause-partly : goal.returns-in-Err-save-clause-partly
+returns-in-Err-save-clause-partly g c =
     let is = rw c.in-Ok-Some.field-0-is at c.in-Ok-Some.ensures.attached in
     let contents = rw c.in-Ok-Some.field-0-is at c.in-Ok-Some.ensures.contents in
     let words = current_words (g.R.Region.memory c.args.region.now) in
     let long : length (image_bytes words) ≡ 4096 * c.args.blocks = omega (arith, length-image_bytes words, size-current (g.R.Region.memory c.args.region.now), c.requires.size) in
-    let s = is_sized _ _ _ _ c.args.blocks contents (c.in_ok-set_blocks.ensures.resized.bytes c.args.name.now is.attached) in
+    let s = is_sized _ _ _ _ c.args.blocks contents (c.in-Ok.ensures.resized.bytes c.args.name.now is.attached) in
     let holds : HoldsBytes (g.F.Files.view c.set_blocks.new.self) c.args.name.now s.was = record {
       attached = c.set_blocks.ensures.attached c.args.name.now ∙ is.attached;
-      size = omega (arith, s.long, c.in_ok-set_blocks.ensures.resized.blocks);
+      size = omega (arith, s.long, c.in-Ok.ensures.resized.blocks);
       has = s.has;
     } in
-    err_then c.save.result (λ mixed. partly_mixed _ _ s.was _ c.args.blocks s.long s.from (c.save.ensures.told c.args.name.now s.was holds ∙ s.told) (mixed c.args.name.now s.was holds) long) c.save.ensures.partly
+    partly_mixed _ _ s.was _ c.args.blocks s.long s.from (c.save.ensures.told c.args.name.now s.was holds ∙ s.told) (c.in-Err-save.ensures.partly c.args.name.now s.was holds) long

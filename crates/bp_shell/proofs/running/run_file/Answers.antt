@@ -6,12 +6,12 @@ use Rattle.bp_shell.proofs.ProgramLaws.{read_now, run_memory, run_served, run_st
 use Rattle.bp_session.proofs.SavingLaws.{still_attached, still_ready}
 use Rattle.bp_shell.proofs.running.run_file.Goals as goal
 
-pub returns-in-Err-tell_stop-clause-outcome : goal.returns-in-Err-tell_stop-clause-outcome
-returns-in-Err-tell_stop-clause-outcome g c =
+pub returns-in-Err-clause-outcome : goal.returns-in-Err-clause-outcome
+returns-in-Err-clause-outcome g c =
     run_stopped _ _ (record { left = refl; file = c.open.ensures.file }) c.open.ensures.flushed refl _ _ c.in-Err.ensures.reason c.in-Err.ensures.cause.failed c.in-Err.ensures.cause.others c.tell_stop.ensures
 
-pub returns-in-Err-clause-outcome : goal.returns-in-Err-clause-outcome
-returns-in-Err-clause-outcome g c = run_memory _ _ (record { left = refl; file = c.open.ensures.file }) c.open.ensures.flushed refl refl refl c.in-Ok.ensures.cause.same
+pub returns-in-Err-new-clause-outcome : goal.returns-in-Err-new-clause-outcome
+returns-in-Err-new-clause-outcome g c = run_memory _ _ (record { left = refl; file = c.open.ensures.file }) c.open.ensures.flushed refl refl refl c.in-Ok.ensures.cause.same
 
 pub returns-then-status-ne0-clause-outcome : goal.returns-then-status-ne0-clause-outcome
 returns-then-status-ne0-clause-outcome g c =

@@ -3,7 +3,7 @@ use Rattle.std.specs.Prelude.{◌≡◌, ◌≤◌, ◌⊎◌, ℕ, ◌<◌, Lis
 use Rattle.std.specs.Io.KnownBytes.{Appends, Consumes, IsAtEnd}
 use Rattle.bp_io.specs.Causes.{Rose}
 use Rattle.bp_io.specs.Files.{StaysAttached, View}
-use Rattle.bp_limits.specs.Limits.{max_input}
+use Rattle.bp_limits.specs.Limits.{log_events, max_input}
 use Rattle.pm_region.specs.Memory.{Memory, current_words, drained}
 use Rattle.bp_layout.specs.Words.{Image}
 use Rattle.bp_script.specs.Commands.{Command}
@@ -11,7 +11,7 @@ use Rattle.bp_script.specs.Commands.Command.{sync}
 use Rattle.bp_script.specs.Texts.{LineReply, reply_text}
 use Rattle.bp_session.specs.Lines.{commands_from, text_of}
 use Rattle.bp_session.specs.Acting.{state}
-use Rattle.bp_session.specs.Files.{Holds, HoldsAs, HoldsPartly}
+use Rattle.bp_session.specs.Files.{Holds, HoldsAs, HoldsPartly, IsReady}
 use Rattle.bp_session.specs.Outside.{IsFirstFault, counts}
 use Rattle.bp_session.specs.Session.{State, Line, Session}
 use Rattle.bp_session.specs.Pieces.{piece_size}
@@ -150,6 +150,17 @@ pub record Keeps (status : ℕ) (old new : Moment) : Type 0 where
   pub capacity : new.memory.capacity ≡ old.memory.capacity
   pub attached : StaysAttached old.files new.files
   pub flushed : ¬ (status ≡ 5) → old.files.is_flushed ≡ true → new.files.is_flushed ≡ true
+
+-- What serving asks of a volume and of the files: a file is attached that has the volume's blocks and may be written,
+-- and the volume's log has no more room than the memory of the work.
+pub record CanServe (volume : Memory) (files : View) : Type 0 where
+  pub ready : IsReady volume.base files
+  pub roomy : volume.capacity ≤ log_events
+
+-- What it leaves of both: the file is still ready for the volume, whose log keeps its room. So more can be served.
+pub record ServesAgain (old new : Memory) (files : View) : Type 0 where
+  pub ready : IsReady new.base files
+  pub capacity : new.capacity ≡ old.capacity
 
 -- What serving commands answers: 0 where all were answered, 4 where a reply was cut, 5 where a sync couldn't save.
 pub record LineOutcome (status : ℕ) (commands : List Command) (old new : Moment) : Type 0 where

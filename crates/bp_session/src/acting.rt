@@ -9,9 +9,8 @@ ghost use Rattle.bp_replay.specs.Wanted.{cut_for, mask_places, wanted_by};
 ghost use Rattle.bp_script.specs.Commands.Command.{sync};
 ghost use Rattle.bp_script.specs.Commands.{command_of};
 ghost use Rattle.bp_session.specs.Acting.{CrashesTo, Does, HasCrashed, may_have_changed, reply_of};
-ghost use Rattle.bp_session.specs.Files.{IsReady};
 ghost use Rattle.bp_session.specs.Gathering.{Clears, LineGathers};
-ghost use Rattle.bp_session.specs.Serving.{DoesLine, moment, saved_if};
+ghost use Rattle.bp_session.specs.Serving.{CanServe, DoesLine, moment, saved_if};
 ghost use Rattle.bp_session.specs.declared.outcome.Outcome.TheVariants.{Logged};
 ghost use Rattle.bp_session.specs.Work.{answer_in, line_in, waiting_in};
 
@@ -168,8 +167,7 @@ pub(crate) fn act_and_save<R: Region, K: Sink, F: Files>(
     out: &mut K,
     files: &mut F,
 ) -> Result<Outcome, u8>
-    requires ready { IsReady volume.old.base (F.view files.old) }
-    requires roomy { volume.old.capacity ≤ log_events }
+    requires { CanServe volume.old (F.view files.old) }
     ensures does { IfOk result (λ outcome. DoesLine
         (saved_if is_saved.old (moment volume.old (F.view files.old) (K.taken out.old) (K.faults out.old)))
         (command_of (line_in buffers.old)) (reply_of outcome (answer_in buffers.new))

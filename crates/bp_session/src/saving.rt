@@ -57,10 +57,8 @@ pub fn save<R: Region, F: Files>(region: &R, files: &mut F) -> Result<(), Failed
     ensures attached { StaysAttached (F.view files.old) (F.view files.new) }
     ensures cause { HasCause (F.view files.old).faults (F.view files.new).faults result }
 {
-    match write_blocks(region, files) {
-        Ok(()) => flush(files),
-        Err(Failed) => Err(Failed),
-    }
+    write_blocks(region, files)?;
+    flush(files)
 }
 
 /// Saves the words as `save` does, but writes no block where the attached file is taken to hold them.

@@ -5,14 +5,14 @@ ghost use Rattle.std.specs.Prelude.{◌≡◌, ◌≤◌, ◌∷◌, ◌++◌, L
 ghost use Rattle.std.specs.Io.{ReadsAtMost};
 ghost use Rattle.std.specs.Io.KnownBytes.{ReadConsumes};
 ghost use Rattle.bp_io.specs.Causes.{HasCause};
-ghost use Rattle.bp_limits.specs.Limits.{log_events};
 ghost use Rattle.bp_script.specs.Commands.Command.{sync};
 ghost use Rattle.bp_script.specs.Commands.{command_of};
 ghost use Rattle.bp_session.specs.Files.{IsReady};
 ghost use Rattle.bp_session.specs.Lines.{commands_from};
 ghost use Rattle.bp_session.specs.Gathering.{LineGathers, Reaches};
 ghost use Rattle.bp_session.specs.Pieces.{gathered_size, piece_size};
-ghost use Rattle.bp_session.specs.Serving.{LineOutcome, PieceOutcome, ServeOutcome, moment, saved_if, told};
+ghost use Rattle.bp_session.specs.Serving.{CanServe, LineOutcome, PieceOutcome, ServeOutcome, ServesAgain};
+ghost use Rattle.bp_session.specs.Serving.{moment, saved_if, told};
 ghost use Rattle.bp_session.specs.Work.{held_line, held_replies, is_saved_in, read_piece};
 
 use crate::acting::act_and_save;
@@ -35,8 +35,7 @@ fn answer_line<R: Region, K: Sink, F: Files>(
     out: &mut K,
     files: &mut F,
 ) -> u8
-    requires ready { IsReady volume.old.base (F.view files.old) }
-    requires roomy { volume.old.capacity ≤ log_events }
+    requires { CanServe volume.old (F.view files.old) }
     ensures outcome { LineGathers result (command_of (held_line work.old))
         (held_replies work.old) (held_replies work.new)
         (saved_if (is_saved_in work.old) (moment volume.old (F.view files.old) (K.taken out.old) (K.faults out.old)))
@@ -70,14 +69,12 @@ fn answer_alone<R: Region, K: Sink, F: Files>(
     out: &mut K,
     files: &mut F,
 ) -> u8
-    requires ready { IsReady volume.old.base (F.view files.old) }
-    requires roomy { volume.old.capacity ≤ log_events }
+    requires { CanServe volume.old (F.view files.old) }
     ensures outcome { LineOutcome result (command_of (held_line work.old) ∷ [])
         (saved_if (is_saved_in work.old) (moment volume.old (F.view files.old) (K.taken out.old) (K.faults out.old)))
         (saved_if (is_saved_in work.new) (moment volume.new (F.view files.new) (K.taken out.new) (K.faults out.new))) }
     ensures synced { ¬ (result ≡ 5) → command_of (held_line work.old) ≡ sync → (F.view files.new).is_flushed ≡ true }
-    ensures ready { IsReady volume.new.base (F.view files.new) }
-    ensures capacity { volume.new.capacity ≡ volume.old.capacity }
+    ensures again { ServesAgain volume.old volume.new (F.view files.new) }
     ensures line { held_line work.new ≡ held_line work.old }
     ensures piece { read_piece work.new ≡ read_piece work.old }
 {
@@ -95,14 +92,12 @@ pub fn serve_line<R: Region, K: Sink, F: Files>(
     out: &mut K,
     files: &mut F,
 ) -> u8
-    requires ready { IsReady volume.old.base (F.view files.old) }
-    requires roomy { volume.old.capacity ≤ log_events }
+    requires { CanServe volume.old (F.view files.old) }
     ensures outcome { LineOutcome result (command_of (held_line work.old) ∷ [])
         (moment volume.old (F.view files.old) (K.taken out.old) (K.faults out.old))
         (moment volume.new (F.view files.new) (K.taken out.new) (K.faults out.new)) }
     ensures synced { ¬ (result ≡ 5) → command_of (held_line work.old) ≡ sync → (F.view files.new).is_flushed ≡ true }
-    ensures ready { IsReady volume.new.base (F.view files.new) }
-    ensures capacity { volume.new.capacity ≡ volume.old.capacity }
+    ensures again { ServesAgain volume.old volume.new (F.view files.new) }
     ensures line { held_line work.new ≡ held_line work.old }
     ensures piece { read_piece work.new ≡ read_piece work.old }
 {
@@ -120,8 +115,7 @@ fn end_line<R: Region, K: Sink, F: Files>(
     out: &mut K,
     files: &mut F,
 ) -> u8
-    requires ready { IsReady volume.old.base (F.view files.old) }
-    requires roomy { volume.old.capacity ≤ log_events }
+    requires { CanServe volume.old (F.view files.old) }
     ensures outcome { LineGathers result (command_of (held_line work.old))
         (held_replies work.old) (held_replies work.new)
         (saved_if (is_saved_in work.old) (moment volume.old (F.view files.old) (K.taken out.old) (K.faults out.old)))
@@ -174,15 +168,13 @@ fn take_piece<R: Region, K: Sink, F: Files>(
     out: &mut K,
     files: &mut F,
 ) -> u8
-    requires ready { IsReady volume.old.base (F.view files.old) }
-    requires roomy { volume.old.capacity ≤ log_events }
+    requires serves { CanServe volume.old (F.view files.old) }
     requires inside { count ≤ piece_size }
     ensures outcome { Reaches result most
         (PieceOutcome result (held_line work.old) (take count (read_piece work.old)) (held_line work.new)
         (saved_if (is_saved_in work.old) (moment volume.old (F.view files.old) (K.taken out.old) (K.faults out.old))))
         (saved_if (is_saved_in work.new) (moment volume.new (F.view files.new) (K.taken out.new) (K.faults out.new))) }
-    ensures ready { IsReady volume.new.base (F.view files.new) }
-    ensures capacity { volume.new.capacity ≡ volume.old.capacity }
+    ensures again { ServesAgain volume.old volume.new (F.view files.new) }
 {
     let mut at: usize = 0;
     work.buffers.replies.clear();
@@ -209,8 +201,7 @@ fn finish<R: Region, K: Sink, F: Files>(
     out: &mut K,
     files: &mut F,
 ) -> u8
-    requires ready { IsReady volume.old.base (F.view files.old) }
-    requires roomy { volume.old.capacity ≤ log_events }
+    requires { CanServe volume.old (F.view files.old) }
     ensures { LineOutcome result (commands_from (held_line work.old) [])
         (saved_if (is_saved_in work.old) (moment volume.old (F.view files.old) (K.taken out.old) (K.faults out.old)))
         (saved_if (is_saved_in work.new) (moment volume.new (F.view files.new) (K.taken out.new) (K.faults out.new))) }
@@ -241,14 +232,12 @@ fn serve_by<R: Region, S: Source, K: Sink, F: Files>(
     out: &mut K,
     files: &mut F,
 ) -> u8
-    requires ready { IsReady volume.old.base (F.view files.old) }
-    requires roomy { volume.old.capacity ≤ log_events }
+    requires { CanServe volume.old (F.view files.old) }
     ensures outcome { Reaches result most
         (ServeOutcome result (told (S.left src.old) (S.faults src.old)) (told (S.left src.new) (S.faults src.new))
         (saved_if (is_saved_in work.old) (moment volume.old (F.view files.old) (K.taken out.old) (K.faults out.old))))
         (saved_if (is_saved_in work.new) (moment volume.new (F.view files.new) (K.taken out.new) (K.faults out.new))) }
-    ensures ready { IsReady volume.new.base (F.view files.new) }
-    ensures capacity { volume.new.capacity ≡ volume.old.capacity }
+    ensures again { ServesAgain volume.old volume.new (F.view files.new) }
 {
     work.buffers.line.clear();
     let mut taken: usize = 0;
@@ -283,14 +272,12 @@ pub fn serve<R: Region, S: Source, K: Sink, F: Files>(
     out: &mut K,
     files: &mut F,
 ) -> u8
-    requires ready { IsReady volume.old.base (F.view files.old) }
-    requires roomy { volume.old.capacity ≤ log_events }
+    requires { CanServe volume.old (F.view files.old) }
     ensures outcome { ServeOutcome result
         (told (S.left src.old) (S.faults src.old)) (told (S.left src.new) (S.faults src.new))
         (moment volume.old (F.view files.old) (K.taken out.old) (K.faults out.old))
         (moment volume.new (F.view files.new) (K.taken out.new) (K.faults out.new)) }
-    ensures ready { IsReady volume.new.base (F.view files.new) }
-    ensures capacity { volume.new.capacity ≡ volume.old.capacity }
+    ensures again { ServesAgain volume.old volume.new (F.view files.new) }
 {
     work.is_saved = false;
     serve_by(alloc, volume, work, 0, src, out, files)
@@ -307,14 +294,12 @@ pub fn serve_gathered<R: Region, S: Source, K: Sink, F: Files>(
     out: &mut K,
     files: &mut F,
 ) -> u8
-    requires ready { IsReady volume.old.base (F.view files.old) }
-    requires roomy { volume.old.capacity ≤ log_events }
+    requires { CanServe volume.old (F.view files.old) }
     ensures outcome { Reaches result gathered_size
         (ServeOutcome result (told (S.left src.old) (S.faults src.old)) (told (S.left src.new) (S.faults src.new))
         (saved_if (is_saved_in work.old) (moment volume.old (F.view files.old) (K.taken out.old) (K.faults out.old))))
         (saved_if (is_saved_in work.new) (moment volume.new (F.view files.new) (K.taken out.new) (K.faults out.new))) }
-    ensures ready { IsReady volume.new.base (F.view files.new) }
-    ensures capacity { volume.new.capacity ≡ volume.old.capacity }
+    ensures again { ServesAgain volume.old volume.new (F.view files.new) }
 {
     serve_by(alloc, volume, work, GATHERED, src, out, files)
 }

@@ -19,7 +19,8 @@ use bp_script::Said;
 fn tell_names<K: Sink>(listing: &Listing, replies: &mut Replies, out: &mut K) -> Result<(), Failed>
     ensures all { OnOk result (Passes (answer_text (names listing.now)) (waiting replies.old) (waiting replies.new)
         (K.taken out.old) (K.taken out.new)) }
-    ensures some { OnErr result (TakesPart (waiting replies.old ++ answer_text (names listing.now)) (K.taken out.old) (K.taken out.new)) }
+    ensures some { OnErr result (TakesPart (waiting replies.old ++ answer_text (names listing.now))
+        (K.taken out.old) (K.taken out.new)) }
     ensures cause { HasCause (K.faults out.old) (K.faults out.new) result }
 {
     for i in 0..listing.len() {
@@ -33,7 +34,8 @@ fn tell_names<K: Sink>(listing: &Listing, replies: &mut Replies, out: &mut K) ->
 fn tell_answer<K: Sink>(reply: &Reply, replies: &mut Replies, out: &mut K) -> Result<(), Failed>
     ensures all { OnOk result (Passes (answer_text reply.now.answer) (waiting replies.old) (waiting replies.new)
         (K.taken out.old) (K.taken out.new)) }
-    ensures some { OnErr result (TakesPart (waiting replies.old ++ answer_text reply.now.answer) (K.taken out.old) (K.taken out.new)) }
+    ensures some { OnErr result (TakesPart (waiting replies.old ++ answer_text reply.now.answer)
+        (K.taken out.old) (K.taken out.new)) }
     ensures cause { HasCause (K.faults out.old) (K.faults out.new) result }
 {
     match reply.answer() {
@@ -49,8 +51,8 @@ fn tell<K: Sink>(
     replies: &mut Replies,
     out: &mut K,
 ) -> Result<(), Failed>
-    ensures all { OnOk result (Passes (reply_text (reply_of outcome reply.now.answer)) (waiting replies.old) (waiting replies.new)
-        (K.taken out.old) (K.taken out.new)) }
+    ensures all { OnOk result (Passes (reply_text (reply_of outcome reply.now.answer))
+        (waiting replies.old) (waiting replies.new) (K.taken out.old) (K.taken out.new)) }
     ensures some { OnErr result (TakesPart (waiting replies.old ++ reply_text (reply_of outcome reply.now.answer))
         (K.taken out.old) (K.taken out.new)) }
     ensures cause { HasCause (K.faults out.old) (K.faults out.new) result }
@@ -78,8 +80,8 @@ fn tell<K: Sink>(
     }
 }
 
-/// Tells what a line came to, behind the replies that wait, and hands over what then waits, where it is more than so many bytes.
-/// Where the sink failed, it took a proper front of them all.
+/// Tells what a line came to, behind the replies that wait, and hands over what then waits, where it is more than so
+/// many bytes. Where the sink failed, it took a proper front of them all.
 pub(crate) fn tell_by<K: Sink>(
     outcome: Outcome,
     reply: &Reply,
@@ -87,15 +89,13 @@ pub(crate) fn tell_by<K: Sink>(
     most: usize,
     out: &mut K,
 ) -> Result<(), Failed>
-    ensures all { OnOk result (Passes (reply_text (reply_of outcome reply.now.answer)) (waiting replies.old) (waiting replies.new)
-        (K.taken out.old) (K.taken out.new)) }
+    ensures all { OnOk result (Passes (reply_text (reply_of outcome reply.now.answer))
+        (waiting replies.old) (waiting replies.new) (K.taken out.old) (K.taken out.new)) }
     ensures some { OnErr result (TakesPart (waiting replies.old ++ reply_text (reply_of outcome reply.now.answer))
         (K.taken out.old) (K.taken out.new)) }
     ensures few { OnOk result (length (waiting replies.new) ≤ most) }
     ensures cause { HasCause (K.faults out.old) (K.faults out.new) result }
 {
-    match tell(outcome, reply, replies, out) {
-        Ok(()) => replies.hand_over_above(most, out),
-        Err(Failed) => Err(Failed),
-    }
+    tell(outcome, reply, replies, out)?;
+    replies.hand_over_above(most, out)
 }

@@ -1,5 +1,6 @@
 pub mod OpeningLaws
 pub mod FormattingLaws
 pub mod RunningLaws
+mod EndingLaws
 mod ProgramLaws
 mod PlayingLaws

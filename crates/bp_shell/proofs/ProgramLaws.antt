@@ -1,91 +1,67 @@
 -- Outcomes of the programs, from those of their parts.
-use Rattle.std.proofs.Common.{refl, sym, ◌∙◌, ap, arith, ◌≡◌, ◌<◌, ◌≤◌, ℕ, List, [], ◌∷◌, ◌++◌, length, take, inl, inr, true}
-use Rattle.std.specs.Prelude.{Bool, Option, Some, ◌⊎◌}
+use Rattle.std.proofs.Common.{refl, sym, ◌∙◌, arith, ◌≡◌, ◌<◌, ℕ, List, length, take, inl, inr, true}
+use Rattle.std.specs.Prelude.{Bool, ◌⊎◌}
 use Rattle.std.specs.Io.KnownBytes.{Appends}
 use Rattle.pm_region.specs.Memory.{Memory, current_words, drained}
 use Rattle.bp_io.specs.Causes.{Rose}
 use Rattle.bp_io.specs.Files.{View}
 use Rattle.bp_layout.specs.Words.{Image}
 use Rattle.bp_layout.specs.Bytes.{image_bytes}
-use Rattle.bp_script.specs.Sayings.{notice_text}
-use Rattle.bp_script.specs.declared.notices.Notice.{Notice}
-use Rattle.bp_script.specs.declared.notices.Notice.TheVariants.{NoFile}
-use Rattle.bp_shell.specs.Checking.{CheckOutcome, Checks}
-use Rattle.bp_session.specs.Files.{HasBlocksOf, HasBytes, Holds, HoldsAs, HoldsPartly, IsAbsent}
+use Rattle.bp_session.specs.Files.{HasBlocksOf, HasBytes, Holds, HoldsAs, HoldsPartly}
 use Rattle.bp_shell.specs.Formatting.{HasPartly, new_image}
-use Rattle.bp_shell.specs.Opening.{HoldsFileSystem, RefusesFile, start}
-use Rattle.bp_session.specs.Outside.{Faults, IsFirstFault, IsIdle, IsQuiet, IsUntouched, Outside, Prints, TellsLine, counts, outside}
+use Rattle.bp_shell.specs.Opening.{HoldsFileSystem, start}
+use Rattle.bp_session.specs.Outside.{IsIdle, IsUntouched, Outside, counts, outside}
 use Rattle.bp_shell.specs.Running.{FormatOutcome, RunOutcome, Runs, RunsCut, RunsLong, RunsPart, RunsStopped, RunsUnsaved, format_text}
 use Rattle.bp_session.specs.Serving.{HoldsAt, Input, Moment, ServeOutcome}
-use Rattle.bp_session.proofs.OutcomeLaws.{files_fault, first_then, no_device_fault, no_fault, sink_fault}
-use Rattle.bp_shell.proofs.RunningLaws.{check_complete, complete, runs_cut, runs_long, runs_part, runs_stopped, runs_unsaved, runs_whole}
-
--- ---- faults
-
--- a line told before the end
-pub told_fault : (status : ℕ) (a b : Faults) → (status ≡ 1) ⊎ (status ≡ 7) → b.source ≡ a.source → b.files ≡ a.files → IsFirstFault status a b
-told_fault status a b (inl is) source files =
-    no_device_fault status _ _ (λ e. omega (arith, is, e)) (λ e. omega (arith, is, e)) (λ e. omega (arith, is, e)) loud source files
-  where
-    loud : IsQuiet status → ⊥
-    loud (inl e) = omega (arith, is, e)
-    loud (inr (inl e)) = omega (arith, is, e)
-    loud (inr (inr (inl e))) = omega (arith, is, e)
-    loud (inr (inr (inr (inl e)))) = omega (arith, is, e)
-    loud (inr (inr (inr (inr e)))) = omega (arith, is, e)
-told_fault status a b (inr is) source files =
-    no_device_fault status _ _ (λ e. omega (arith, is, e)) (λ e. omega (arith, is, e)) (λ e. omega (arith, is, e)) loud source files
-  where
-    loud : IsQuiet status → ⊥
-    loud (inl e) = omega (arith, is, e)
-    loud (inr (inl e)) = omega (arith, is, e)
-    loud (inr (inr (inl e))) = omega (arith, is, e)
-    loud (inr (inr (inr (inl e)))) = omega (arith, is, e)
-    loud (inr (inr (inr (inr e)))) = omega (arith, is, e)
+use Rattle.bp_session.proofs.OutcomeLaws.{files_fault, first_then, no_fault, sink_fault}
+use Rattle.bp_shell.specs.Ending.{StopOutcome, TellsStop}
+use Rattle.bp_shell.specs.Stops.{IsReason}
+use Rattle.bp_shell.specs.declared.stop.Stop.{Stop}
+use Rattle.bp_shell.specs.declared.stop.Stop.TheVariants as s
+use Rattle.bp_shell.proofs.EndingLaws.{memory_reason, never_among, no_stop, stop_idle, stop_outcome, stop_statuses}
+use Rattle.bp_shell.proofs.OpeningLaws.{if_memory}
+use Rattle.bp_shell.proofs.RunningLaws.{complete, runs_cut, runs_long, runs_part, runs_stopped, runs_unsaved, runs_whole}
 
 -- ---- `run`
 
 module _ (status : ℕ) (before after : Outside) where
-  run_outcome : (status ≡ 0 → Runs before after) → (status ≡ 1 → IsAbsent before.file × IsUntouched before after × TellsLine NoFile before after) → (status ≡ 3 → RunsPart before after) → (status ≡ 4 → RunsCut before after)
-      → (status ≡ 5 → IsIdle before after ⊎ RunsStopped before after ⊎ RunsUnsaved before after) → (status ≡ 6 → RunsLong before after)
-      → (status ≡ 7 → (notice : Notice) × RefusesFile before.file notice × IsUntouched before after × TellsLine notice before after) → (status ≡ 8 → IsIdle before after)
-      → (¬ (status ≡ 5) → before.is_flushed ≡ true → after.is_flushed ≡ true) → IsFirstFault status before.faults after.faults
+  run_outcome : (status ≡ 0 → Runs before after) → (status ≡ 3 → RunsPart before after) → (status ≡ 4 → RunsCut before after)
+      → (status ≡ 5 → IsIdle before after ⊎ RunsStopped before after ⊎ RunsUnsaved before after) → (status ≡ 6 → RunsLong before after) → StopOutcome status before after
+      → (¬ (status ≡ 5) → before.is_flushed ≡ true → after.is_flushed ≡ true)
       → (status ≡ 0) ⊎ (status ≡ 1) ⊎ (status ≡ 3) ⊎ (status ≡ 4) ⊎ (status ≡ 5) ⊎ (status ≡ 6) ⊎ (status ≡ 7) ⊎ (status ≡ 8) → RunOutcome status before after
-  run_outcome whole missing source sink files long refused memory flushed first one_of = record {
+  run_outcome whole source sink files long stops flushed one_of = record {
     whole = whole;
-    missing = missing;
     source = source;
     sink = sink;
     files = files;
     long = long;
-    refused = refused;
-    memory = memory;
+    stops = stops;
     flushed = flushed;
-    first = first;
-    complete = complete status before after (λ e. (missing e).0) first.source first.sink first.files long (λ e. let why = refused e in (why.0, why.1)) one_of;
+    complete = complete status before after (λ e. (stops.missing e).0) stops.first.source stops.first.sink stops.first.files long (λ e. let why = stops.refused e in (why.0, why.1)) one_of;
     one_of = one_of;
   }
 
 -- before a line is read
 module _ (before after : Outside) (untouched : IsUntouched before after) (flushed : after.is_flushed ≡ before.is_flushed) (source : after.faults.source ≡ before.faults.source) where
-  pub run_missing : IsAbsent before.file → TellsLine NoFile before after → after.faults.files ≡ before.faults.files → RunOutcome 1 before after
-  run_missing absent line files = run_outcome 1 before after (λ e. absurd (omega (arith, e))) (λ _. (absent, untouched, line)) (λ e. absurd (omega (arith, e))) (λ e. absurd (omega (arith, e))) (λ e. absurd (omega (arith, e)))
-      (λ e. absurd (omega (arith, e))) (λ e. absurd (omega (arith, e))) (λ e. absurd (omega (arith, e))) (λ _ e. flushed ∙ e)
-      (told_fault 1 before.faults after.faults (inl refl) source files) (inr (inl refl))
-
-  pub run_refused : (notice : Notice) → RefusesFile before.file notice → TellsLine notice before after → after.faults.files ≡ before.faults.files → RunOutcome 7 before after
-  run_refused notice why line files = run_outcome 7 before after (λ e. absurd (omega (arith, e))) (λ e. absurd (omega (arith, e))) (λ e. absurd (omega (arith, e))) (λ e. absurd (omega (arith, e))) (λ e. absurd (omega (arith, e)))
-      (λ e. absurd (omega (arith, e))) (λ _. (notice, why, untouched, line)) (λ e. absurd (omega (arith, e))) (λ _ e. flushed ∙ e)
-      (told_fault 7 before.faults after.faults (inr refl) source files) (inr (inr (inr (inr (inr (inr (inl refl)))))))
-
-  pub run_faulty : after.taken ≡ before.taken → after.faults.sink ≡ before.faults.sink → Rose before.faults.files after.faults.files → RunOutcome 5 before after
-  run_faulty taken sink rose = run_outcome 5 before after (λ e. absurd (omega (arith, e))) (λ e. absurd (omega (arith, e))) (λ e. absurd (omega (arith, e))) (λ e. absurd (omega (arith, e))) (λ _. inl (record { untouched = untouched; taken = taken }))
-      (λ e. absurd (omega (arith, e))) (λ e. absurd (omega (arith, e))) (λ e. absurd (omega (arith, e))) (λ other. absurd (other refl)) (files_fault _ _ source sink rose) (inr (inr (inr (inr (inl refl)))))
+  pub run_stopped : (stop : Stop) (status : ℕ) → IsReason before.file stop → (stop ≡ s.Outside → Rose before.faults.files after.faults.files) → (¬ (stop ≡ s.Outside) → after.faults.files ≡ before.faults.files)
+      → TellsStop stop status before.taken after.taken before.faults.sink after.faults.sink → RunOutcome status before after
+  run_stopped stop status reason failed same told =
+      let among = stop_statuses stop status _ _ _ _ told in
+      run_outcome status before after (λ e. absurd (never_among status 0 among (λ z. omega (arith, z)) (λ z. omega (arith, z)) (λ z. omega (arith, z)) (λ z. omega (arith, z)) e))
+      (λ e. absurd (never_among status 3 among (λ z. omega (arith, z)) (λ z. omega (arith, z)) (λ z. omega (arith, z)) (λ z. omega (arith, z)) e))
+      (λ e. absurd (never_among status 4 among (λ z. omega (arith, z)) (λ z. omega (arith, z)) (λ z. omega (arith, z)) (λ z. omega (arith, z)) e))
+      (λ e. inl (stop_idle before after untouched source stop status told e))
+      (λ e. absurd (never_among status 6 among (λ z. omega (arith, z)) (λ z. omega (arith, z)) (λ z. omega (arith, z)) (λ z. omega (arith, z)) e))
+      (stop_outcome before after untouched source stop status reason failed same told) (λ _ e. flushed ∙ e)
+      (elim among [
+        | inl e ↦ inr (inl e)
+        | inr (inl e) ↦ inr (inr (inr (inr (inl e))))
+        | inr (inr (inl e)) ↦ inr (inr (inr (inr (inr (inr (inl e))))))
+        | inr (inr (inr e)) ↦ inr (inr (inr (inr (inr (inr (inr e))))))
+      ])
 
   pub run_memory : after.taken ≡ before.taken → after.faults.sink ≡ before.faults.sink → after.faults.files ≡ before.faults.files → RunOutcome 8 before after
-  run_memory taken sink files = run_outcome 8 before after (λ e. absurd (omega (arith, e))) (λ e. absurd (omega (arith, e))) (λ e. absurd (omega (arith, e))) (λ e. absurd (omega (arith, e))) (λ e. absurd (omega (arith, e)))
-      (λ e. absurd (omega (arith, e))) (λ e. absurd (omega (arith, e))) (λ _. record { untouched = untouched; taken = taken }) (λ _ e. flushed ∙ e)
-      (no_fault 8 _ _ (λ e. omega (arith, e)) (λ e. omega (arith, e)) (λ e. omega (arith, e)) source sink files) (inr (inr (inr (inr (inr (inr (inr refl)))))))
+  run_memory taken sink files = run_stopped s.Memory 8 (memory_reason before.file) (λ e. absurd (if_memory _ refl e)) (λ _. files) (refl, (taken, sink))
 
 -- a file that was just read holds the words as they are
 pub read_now : (now : Moment) (name : List ℕ) (image : Image) → now.memory ≡ (start image).memory → Holds now.files name image → HoldsAt now name image
@@ -106,17 +82,20 @@ module _ (i j : Input) (files : View) (a b : Moment) (name : List ℕ) (image : 
   run_served status other served =
       let before = outside i.left i.faults a.taken a.faults files name in
       let after = outside j.left j.faults b.taken b.faults b.files name in
-      run_outcome status before after (λ e. absurd (other e)) (λ e. absurd (never 1 (λ z. omega (arith, z)) (λ z. omega (arith, z)) (λ z. omega (arith, z)) (λ z. omega (arith, z)) (λ z. omega (arith, z)) e served.one_of))
+      run_outcome status before after (λ e. absurd (other e))
       (λ e. let part = served.part e in let one = part.3 name image holds in runs_part before after image a.memory b.memory found same part.0 part.1 (HoldsAt b name) (λ k held. held.file.bytes) part.2 one)
       (λ e. let cut = served.cut e in runs_cut before after image a.memory b.memory found same cut.0 (Holds b.files name) (λ k file. file.bytes) cut.1
       (elim cut.2 [ inl all ↦ inl (λ rest. all rest name image holds) | inr last ↦ inr (last.0, last.1 name image holds) ]))
       (λ e. let stop = served.stopped e in inr (inl (runs_stopped before after image a.memory b.memory found same stop.0 (HoldsPartly b.files name) (λ k l file. file.bytes) stop.1
       (elim stop.2 [ inl all ↦ inl (λ rest. all rest name image holds) | inr last ↦ inr (last.0, last.1 name image holds) ]))))
       (λ e. let long = served.long e in runs_long before after image a.memory b.memory found same long.0 long.1 long.2 (HoldsAt b name) (λ k held. held.file.bytes) long.3 long.4 long.5 long.6 (long.7 name image holds))
-      (λ e. absurd (never 7 (λ z. omega (arith, z)) (λ z. omega (arith, z)) (λ z. omega (arith, z)) (λ z. omega (arith, z)) (λ z. omega (arith, z)) e served.one_of))
-      (λ e. absurd (never 8 (λ z. omega (arith, z)) (λ z. omega (arith, z)) (λ z. omega (arith, z)) (λ z. omega (arith, z)) (λ z. omega (arith, z)) e served.one_of))
+      (record {
+        missing = λ e. absurd (never 1 (λ z. omega (arith, z)) (λ z. omega (arith, z)) (λ z. omega (arith, z)) (λ z. omega (arith, z)) (λ z. omega (arith, z)) e served.one_of);
+        refused = λ e. absurd (never 7 (λ z. omega (arith, z)) (λ z. omega (arith, z)) (λ z. omega (arith, z)) (λ z. omega (arith, z)) (λ z. omega (arith, z)) e served.one_of);
+        memory = λ e. absurd (never 8 (λ z. omega (arith, z)) (λ z. omega (arith, z)) (λ z. omega (arith, z)) (λ z. omega (arith, z)) (λ z. omega (arith, z)) e served.one_of);
+        first = first_then status (counts i.faults a.faults files) (counts i.faults a.faults a.files) (counts j.faults b.faults b.files) refl refl calm served.first;
+      })
       (λ five e. served.keeps.flushed five (flushed ∙ e))
-      (first_then status (counts i.faults a.faults files) (counts i.faults a.faults a.files) (counts j.faults b.faults b.files) refl refl calm served.first)
       (elim served.one_of [
         | inl e ↦ inl e
         | inr (inl e) ↦ inr (inr (inl e))
@@ -141,10 +120,11 @@ module _ (i j : Input) (files : View) (a b : Moment) (name : List ℕ) (image : 
         let after = outside j.left j.faults b.taken b.faults now name in
         let all = served.whole refl in
         run_outcome 0 before after (λ _. runs_whole before after image a.memory b.memory found same all.0 (HoldsAt b name) all.1 all.2 all.3 (all.4 name image holds) saved done)
-        (λ e. absurd (omega (arith, e))) (λ e. absurd (omega (arith, e))) (λ e. absurd (omega (arith, e))) (λ e. absurd (omega (arith, e))) (λ e. absurd (omega (arith, e))) (λ e. absurd (omega (arith, e))) (λ e. absurd (omega (arith, e)))
-        (λ _ _. done)
+        (λ e. absurd (omega (arith, e))) (λ e. absurd (omega (arith, e))) (λ e. absurd (omega (arith, e))) (λ e. absurd (omega (arith, e)))
+        (no_stop before after 0 (λ e. omega (arith, e)) (λ e. omega (arith, e)) (λ e. omega (arith, e))
         (no_fault 0 _ _ (λ e. omega (arith, e)) (λ e. omega (arith, e)) (λ e. omega (arith, e)) (served.first.no_source (λ e. omega (arith, e))) (served.first.no_sink (inl refl))
-        (quiet ∙ served.first.no_files (λ e. omega (arith, e)) ∙ calm))
+        (quiet ∙ served.first.no_files (λ e. omega (arith, e)) ∙ calm)))
+        (λ _ _. done)
         (inl refl)
 
     pub run_unsaved : (memory : Memory) → memory ≡ drained b.memory → ((was : Image) → Holds b.files name was → HasBlocksOf (now.contents name) (image_bytes was) (image_bytes (current_words b.memory))) → Rose b.files.faults now.faults
@@ -154,11 +134,13 @@ module _ (i j : Input) (files : View) (a b : Moment) (name : List ℕ) (image : 
         let after = outside j.left j.faults b.taken b.faults now name in
         let all = served.whole refl in
         let told = all.4 name image holds in
-        run_outcome 5 before after (λ e. absurd (omega (arith, e))) (λ e. absurd (omega (arith, e))) (λ e. absurd (omega (arith, e))) (λ e. absurd (omega (arith, e)))
+        run_outcome 5 before after (λ e. absurd (omega (arith, e))) (λ e. absurd (omega (arith, e))) (λ e. absurd (omega (arith, e)))
         (λ _. inr (inr (runs_unsaved before after image a.memory memory found same all.0 b.memory (HoldsAt b name) all.1 all.2 all.3 told done (partly told.after told.file.file))))
-        (λ e. absurd (omega (arith, e))) (λ e. absurd (omega (arith, e))) (λ e. absurd (omega (arith, e))) (λ other. absurd (other refl))
+        (λ e. absurd (omega (arith, e)))
+        (no_stop before after 5 (λ e. omega (arith, e)) (λ e. omega (arith, e)) (λ e. omega (arith, e))
         (first_then 5 (counts i.faults a.faults files) (counts j.faults b.faults b.files) (counts j.faults b.faults now) (served.first.no_source (λ e. omega (arith, e))) (served.first.no_sink (inl refl))
-        (served.first.no_files (λ e. omega (arith, e)) ∙ calm) (files_fault _ _ refl refl rose))
+        (served.first.no_files (λ e. omega (arith, e)) ∙ calm) (files_fault _ _ refl refl rose)))
+        (λ other. absurd (other refl))
         (inr (inr (inr (inr (inl refl)))))
 
 -- ---- `format`
@@ -213,27 +195,6 @@ module _ (blocks : ℕ) (before after : Outside) (left : after.left ≡ before.l
     one_of = inr (inr (inr refl));
   }
 
--- ---- `check`
-
-module _ (status : ℕ) (before after : Outside) (untouched : IsUntouched before after) (flushed : after.is_flushed ≡ before.is_flushed) where
-  pub check_outcome : (status ≡ 0 → (notice : Notice) × Checks before.file notice × Appends before.taken after.taken (notice_text notice)) → (status ≡ 1 → IsAbsent before.file × TellsLine NoFile before after)
-      → (status ≡ 4 → (notice : Notice) × Checks before.file notice × ((count : ℕ) × (count < length (notice_text notice)) × Appends before.taken after.taken (take count (notice_text notice))))
-      → (status ≡ 5 → after.taken ≡ before.taken) → (status ≡ 7 → (notice : Notice) × RefusesFile before.file notice × TellsLine notice before after) → (status ≡ 8 → after.taken ≡ before.taken)
-      → IsFirstFault status before.faults after.faults → (status ≡ 0) ⊎ (status ≡ 1) ⊎ (status ≡ 4) ⊎ (status ≡ 5) ⊎ (status ≡ 7) ⊎ (status ≡ 8) → CheckOutcome status before after
-  check_outcome whole missing sink files refused memory first one_of = record {
-    whole = whole;
-    missing = missing;
-    sink = sink;
-    files = files;
-    refused = refused;
-    memory = memory;
-    untouched = untouched;
-    flushed = flushed;
-    first = first;
-    complete = check_complete status before after (λ e. (missing e).0) first.sink first.files (λ e. let why = refused e in (why.0, why.1)) one_of;
-    one_of = one_of;
-  }
-
 -- ---- no program answers that the words are wrong
 
 pub format_asked : (status : ℕ) → (status ≡ 0) ⊎ (status ≡ 4) ⊎ (status ≡ 5) ⊎ (status ≡ 8) → status ≡ 2 → ⊥
@@ -242,10 +203,10 @@ format_asked status (inr (inl z)) e = omega (arith, z, e)
 format_asked status (inr (inr (inl z))) e = omega (arith, z, e)
 format_asked status (inr (inr (inr z))) e = omega (arith, z, e)
 
-pub check_asked : (status : ℕ) → (status ≡ 0) ⊎ (status ≡ 1) ⊎ (status ≡ 4) ⊎ (status ≡ 5) ⊎ (status ≡ 7) ⊎ (status ≡ 8) → status ≡ 2 → ⊥
-check_asked status (inl z) e = omega (arith, z, e)
-check_asked status (inr (inl z)) e = omega (arith, z, e)
-check_asked status (inr (inr (inl z))) e = omega (arith, z, e)
-check_asked status (inr (inr (inr (inl z)))) e = omega (arith, z, e)
-check_asked status (inr (inr (inr (inr (inl z))))) e = omega (arith, z, e)
-check_asked status (inr (inr (inr (inr (inr z))))) e = omega (arith, z, e)
+pub read_asked : (status : ℕ) → (status ≡ 0) ⊎ (status ≡ 1) ⊎ (status ≡ 4) ⊎ (status ≡ 5) ⊎ (status ≡ 7) ⊎ (status ≡ 8) → status ≡ 2 → ⊥
+read_asked status (inl z) e = omega (arith, z, e)
+read_asked status (inr (inl z)) e = omega (arith, z, e)
+read_asked status (inr (inr (inl z))) e = omega (arith, z, e)
+read_asked status (inr (inr (inr (inl z)))) e = omega (arith, z, e)
+read_asked status (inr (inr (inr (inr (inl z))))) e = omega (arith, z, e)
+read_asked status (inr (inr (inr (inr (inr z))))) e = omega (arith, z, e)

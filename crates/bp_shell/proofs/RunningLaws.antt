@@ -1,5 +1,5 @@
 -- What a run leaves outside.
-use Rattle.std.proofs.Common.{suc, refl, sym, ◌∙◌, ap, arith, ◌≡◌, ℕ, ◌*◌, ◌/◌, ◌≤◌, List, [], ◌∷◌, ◌++◌, length, inl, inr, true}
+use Rattle.std.proofs.Common.{refl, sym, ◌∙◌, ap, arith, ◌≡◌, ℕ, ◌*◌, ◌/◌, ◌≤◌, List, [], ◌∷◌, ◌++◌, length, inl, inr, true}
 use Rattle.std.specs.Prelude.{Option, Some, ◌⊎◌}
 use Rattle.std.specs.Io.KnownBytes.{Consumes, IsAtEnd}
 use Rattle.pm_region.specs.Memory.{Memory, current_words, drained}
@@ -7,7 +7,6 @@ use Rattle.bp_layout.specs.Words.{Image}
 use Rattle.bp_layout.specs.Bytes.{image_bytes}
 use Rattle.bp_plain.proofs.Existence.{stands_for, tree_of}
 use Rattle.bp_script.specs.Commands.{Command}
-use Rattle.bp_script.specs.Commands.Command.{sync}
 use Rattle.bp_script.specs.Texts.{LineReply}
 use Rattle.bp_script.specs.declared.notices.Notice.{Notice}
 use Rattle.bp_layout.specs.WellFormed.{IsWellFormed}
@@ -21,8 +20,8 @@ use Rattle.bp_shell.specs.Opening.RefusesFile.{by_length, not_formatted, by_coun
 use Rattle.bp_session.specs.PlainSession.{FollowsTree}
 use Rattle.bp_shell.specs.Running.{Begins, CutsPlainly, IsComplete, Runs, RunsCut, RunsLong, RunsPart, RunsStopped, RunsUnsaved, Saves, SavesPartly, StopsPlainly}
 use Rattle.bp_session.specs.Outside.{Outside, SourceFailed, SinkFailed, FilesFailed}
-use Rattle.bp_shell.specs.Checking.{IsCheckComplete}
-use Rattle.bp_session.specs.Serving.{Cuts, SyncFails, OfLines, Serves, ServesAll, Stops, Told}
+use Rattle.bp_shell.specs.Ending.{IsReadComplete}
+use Rattle.bp_session.specs.Serving.{Cuts, OfLines, Serves, ServesAll, Stops, Told}
 use Rattle.bp_session.specs.Session.{Session, State}
 use Rattle.bp_session.proofs.BlockLaws.{image_once, length-image_bytes}
 use Rattle.bp_session.proofs.PlainLaws.{follows_tree}
@@ -195,9 +194,9 @@ complete status before after one three four five six seven among image input hel
   | inr (inr (inr (inr (inr (inr (inr e)))))) ↦ inr e
 ]
 
-pub check_complete : (status : ℕ) (before after : Outside) → (status ≡ 1 → IsAbsent before.file) → (status ≡ 4 → SinkFailed before after) → (status ≡ 5 → FilesFailed before after)
-    → (status ≡ 7 → (notice : Notice) × RefusesFile before.file notice) → (status ≡ 0) ⊎ (status ≡ 1) ⊎ (status ≡ 4) ⊎ (status ≡ 5) ⊎ (status ≡ 7) ⊎ (status ≡ 8) → IsCheckComplete status before after
-check_complete status before after one four five seven among image held words well sink files = elim among [
+pub read_complete : (status : ℕ) (before after : Outside) → (status ≡ 1 → IsAbsent before.file) → (status ≡ 4 → SinkFailed before after) → (status ≡ 5 → FilesFailed before after)
+    → (status ≡ 7 → (notice : Notice) × RefusesFile before.file notice) → (status ≡ 0) ⊎ (status ≡ 1) ⊎ (status ≡ 4) ⊎ (status ≡ 5) ⊎ (status ≡ 7) ⊎ (status ≡ 8) → IsReadComplete status before after
+read_complete status before after one four five seven among image held words well sink files = elim among [
   | inl e ↦ inl e
   | inr (inl e) ↦ absurd (rw held at (one e))
   | inr (inr (inl e)) ↦ absurd (sink (four e))

@@ -1,6 +1,7 @@
 pub mod Opening
 pub mod Stops
 pub mod Formatting
+pub mod Ending
 pub mod Checking
 pub mod Playing
 pub mod Running

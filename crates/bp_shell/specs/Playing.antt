@@ -1,6 +1,5 @@
 -- What `play FILE --seed S --count C` answers, and when.
-use Rattle.std.specs.Prelude.{◌≡◌, ◌⊎◌, ◌++◌, ℕ, List, codes, decimal, flat_map}
-use Rattle.std.specs.Io.KnownBytes.{Appends}
+use Rattle.std.specs.Prelude.{◌≡◌, ◌++◌, ℕ, List, codes, decimal, flat_map}
 use Rattle.pm_region.specs.Memory.{Memory, current_words}
 use Rattle.bp_io.specs.Files.{Known}
 use Rattle.bp_layout.specs.Free.{HasFree}
@@ -12,15 +11,10 @@ use Rattle.bp_play.specs.Turns.{turns}
 use Rattle.bp_play.specs.declared.summary.Summary.{Summary}
 use Rattle.bp_scan.specs.Totals.{HasTotals}
 use Rattle.bp_scan.specs.declared.totals.Totals.{Totals}
-use Rattle.bp_script.specs.declared.notices.Notice.{Notice}
-use Rattle.bp_script.specs.declared.notices.Notice.TheVariants.{NoFile}
 use Rattle.bp_session.specs.Acting.{state}
-use Rattle.bp_session.specs.Files.{IsAbsent}
-use Rattle.bp_session.specs.Outside.{Outside, IsFirstFault, IsUntouched, TellsLine}
+use Rattle.bp_session.specs.Outside.{Outside}
 use Rattle.bp_session.specs.PlainSession.{FollowsTree}
-use Rattle.bp_session.specs.Taking.{TakesPart}
-use Rattle.bp_shell.specs.Checking.{IsCheckComplete}
-use Rattle.bp_shell.specs.Opening.{HoldsFileSystem, RefusesFile, start}
+use Rattle.bp_shell.specs.Opening.{HoldsFileSystem, start}
 
 -- ---- the five lines
 
@@ -68,18 +62,6 @@ pub record PlaysFile (known : Known) (seed count : ℕ) (text : List ℕ) : Type
   pub plainly : (tree : FileTree) → Stands image tree
       → FollowsTree tree (start image) (turns seed count) ends.plays.replies (state ends.new image)
 
--- What `play FILE --seed S --count C` answers, and when. It reads no input, and FILE stays as it is.
-pub record PlayOutcome (status seed count : ℕ) (before after : Outside) : Type 0 where
-  pub whole : status ≡ 0 → (text : List ℕ) × PlaysFile before.file seed count text
-      × Appends before.taken after.taken text
-  pub missing : status ≡ 1 → IsAbsent before.file × TellsLine NoFile before after
-  pub sink : status ≡ 4 → (text : List ℕ) × PlaysFile before.file seed count text
-      × TakesPart text before.taken after.taken
-  pub files : status ≡ 5 → after.taken ≡ before.taken
-  pub refused : status ≡ 7 → (notice : Notice) × RefusesFile before.file notice × TellsLine notice before after
-  pub memory : status ≡ 8 → after.taken ≡ before.taken
-  pub untouched : IsUntouched before after
-  pub flushed : after.is_flushed ≡ before.is_flushed
-  pub first : IsFirstFault status before.faults after.faults
-  pub complete : IsCheckComplete status before after
-  pub one_of : (status ≡ 0) ⊎ (status ≡ 1) ⊎ (status ≡ 4) ⊎ (status ≡ 5) ⊎ (status ≡ 7) ⊎ (status ≡ 8)
+-- What `play FILE --seed S --count C` answers, and when.
+abbrev pub PlayOutcome : ℕ → ℕ → ℕ → Outside → Outside → Type 0
+PlayOutcome status seed count before after = ReadOutcome (PlaysFile before.file seed count) status before after

@@ -1,5 +1,5 @@
 -- What a program answers, and when.
-use Rattle.std.specs.Prelude.{Some, true, ◌≡◌, ◌⊎◌, ◌≤◌, ◌<◌, ℕ, ◌-◌, List, [], ◌∷◌, ◌++◌, Option, length, take}
+use Rattle.std.specs.Prelude.{Some, true, ◌≡◌, ◌⊎◌, ◌≤◌, ℕ, ◌-◌, List, [], ◌∷◌, ◌++◌, length}
 use Rattle.std.specs.Io.KnownBytes.{Appends, Consumes, IsAtEnd}
 use Rattle.pm_region.specs.Memory.{Memory, current_words}
 use Rattle.bp_limits.specs.Limits.{max_input}
@@ -12,18 +12,17 @@ use Rattle.bp_command.specs.Programs.{Program, Requests}
 use Rattle.bp_command.specs.Programs.Program.{formats, runs, checks, plays}
 use Rattle.bp_script.specs.Commands.{Command}
 use Rattle.bp_script.specs.Commands.Command.{sync}
-use Rattle.bp_script.specs.declared.notices.Notice.{Notice}
-use Rattle.bp_script.specs.declared.notices.Notice.TheVariants.{Formatted, NoFile}
+use Rattle.bp_script.specs.declared.notices.Notice.TheVariants.{Formatted}
 use Rattle.bp_script.specs.Sayings.{notice_text}
 use Rattle.bp_session.specs.Acting.{state}
 use Rattle.bp_session.specs.Lines.{commands_from}
-use Rattle.bp_session.specs.Files.{AreWordsOf64Bits, HasBytes, HasBlocksOf, IsAbsent}
+use Rattle.bp_session.specs.Files.{AreWordsOf64Bits, HasBytes, HasBlocksOf}
 use Rattle.bp_session.specs.Serving.{Cuts, SyncFails, OfLines, Serves, Stops, Told}
 use Rattle.bp_session.specs.PlainSession.{FollowsTree}
 use Rattle.bp_session.specs.Session.{State}
-use Rattle.bp_shell.specs.Opening.{HoldsFileSystem, RefusesFile, start}
+use Rattle.bp_shell.specs.Opening.{HoldsFileSystem, start}
 use Rattle.bp_shell.specs.Formatting.{new_image, HasPartly}
-use Rattle.bp_session.specs.Outside.{Outside, SourceFailed, SinkFailed, FilesFailed, IsFirstFault, IsIdle, IsUntouched, TellsLine}
+use Rattle.bp_session.specs.Outside.{Outside, SourceFailed, SinkFailed, FilesFailed, IsFirstFault, IsIdle}
 use Rattle.bp_shell.specs.Checking.{CheckOutcome}
 use Rattle.bp_shell.specs.Playing.{PlayOutcome}
 use Rattle.bp_session.specs.Pieces.{piece_size}
@@ -130,16 +129,12 @@ IsComplete status before after =
 -- What `run FILE` answers, and when.
 pub record RunOutcome (status : ℕ) (before after : Outside) : Type 0 where
   pub whole : status ≡ 0 → Runs before after
-  pub missing : status ≡ 1 → IsAbsent before.file × IsUntouched before after × TellsLine NoFile before after
   pub source : status ≡ 3 → RunsPart before after
   pub sink : status ≡ 4 → RunsCut before after
   pub files : status ≡ 5 → IsIdle before after ⊎ RunsStopped before after ⊎ RunsUnsaved before after
   pub long : status ≡ 6 → RunsLong before after
-  pub refused : status ≡ 7 → (notice : Notice) × RefusesFile before.file notice × IsUntouched before after
-      × TellsLine notice before after
-  pub memory : status ≡ 8 → IsIdle before after
+  pub stops : StopOutcome status before after
   pub flushed : ¬ (status ≡ 5) → before.is_flushed ≡ true → after.is_flushed ≡ true
-  pub first : IsFirstFault status before.faults after.faults
   pub complete : IsComplete status before after
   pub one_of : (status ≡ 0) ⊎ (status ≡ 1) ⊎ (status ≡ 3) ⊎ (status ≡ 4) ⊎ (status ≡ 5) ⊎ (status ≡ 6) ⊎ (status ≡ 7)
       ⊎ (status ≡ 8)

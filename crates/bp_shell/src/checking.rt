@@ -15,7 +15,7 @@ ghost use Rattle.bp_shell.specs.declared.stop.Stop.TheVariants.{Memory, Refused}
 ghost use Rattle.std.specs.Prelude.{◌*◌, ◌≡◌, ◌≤◌, ◌⊎◌, ℕ, [], IfErr, IfOk, List, OnOk, Option, length};
 
 use crate::opening::{load_file, stop_of};
-use crate::printing::{print, tell_notice};
+use crate::printing::{print, tell_stop};
 use crate::stop::Stop;
 use bp_free::{Blocks, Inodes};
 use bp_io::{Access, Failed, Files, Sink};
@@ -77,10 +77,8 @@ fn examine<F: Files>(alloc: Global, name: &str, files: &mut F) -> Result<Notice,
     ensures file { (F.view files.new).contents name.now ≡ (F.view files.old).contents name.now }
     ensures flushed { (F.view files.new).is_flushed ≡ (F.view files.old).is_flushed }
 {
-    match load_file(alloc, name, Access::Read, files) {
-        Ok(region) => survey(alloc, &region),
-        Err(stop) => Err(stop),
-    }
+    let region = load_file(alloc, name, Access::Read, files)?;
+    survey(alloc, &region)
 }
 
 /// Says whether the file of a name is a file system, and what it holds. It answers the status: 0 where it is one, 1
@@ -98,16 +96,7 @@ pub(crate) fn check_file<K: Sink, F: Files>(
 {
     let notice = match examine(alloc, name, files) {
         Ok(notice) => notice,
-        Err(Stop::Missing) => {
-            tell_notice(&Notice::NoFile, out);
-            return 1;
-        }
-        Err(Stop::Outside) => return 5,
-        Err(Stop::Refused(notice)) => {
-            tell_notice(&notice, out);
-            return 7;
-        }
-        Err(Stop::Memory) => return 8,
+        Err(stop) => return tell_stop(stop, out),
     };
     match print(&notice, out) {
         Ok(()) => 0,

@@ -61,14 +61,8 @@ fn write_image<R: Region, F: Files>(
         Ok(None) => unreachable!(),
         Err(Failed) => return Err(Failed),
     }
-    match files.set_blocks(blocks) {
-        Ok(()) => {}
-        Err(Failed) => return Err(Failed),
-    }
-    match save(region, files) {
-        Ok(()) => Ok(()),
-        Err(Failed) => Err(Failed),
-    }
+    files.set_blocks(blocks)?;
+    save(region, files)
 }
 
 /// Makes the file of a name a file system of so many blocks, and says so. It answers the status: 0, 4 where the sink

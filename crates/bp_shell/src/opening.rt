@@ -1,6 +1,6 @@
 //! The file of a program.
 
-ghost use Rattle.std.specs.Prelude.{◌≡◌, ◌<◌, ◌≤◌, ◌+◌, ◌*◌, ◌++◌, [], List, ℕ, ◌⊎◌, IfErr, IfOk, OnOk, false, length, true};
+ghost use Rattle.std.specs.Prelude.{◌≡◌, ◌≤◌, ◌+◌, ◌*◌, ◌++◌, [], ◌⊎◌, IfErr, IfOk, OnOk, false, length};
 ghost use Rattle.bp_io.specs.Files.{Known, Reads, makes, may_change};
 ghost use Rattle.bp_layout.specs.WellFormed.{IsWellFormed};
 ghost use Rattle.bp_layout.specs.Words.{Image, block_count};
@@ -105,10 +105,7 @@ pub(crate) fn load_file<F: Files>(
     ensures file { (F.view files.new).contents name.now ≡ (F.view files.old).contents name.now }
     ensures flushed { (F.view files.new).is_flushed ≡ (F.view files.old).is_flushed }
 {
-    let count = match find_image(name, access, files) {
-        Ok(count) => count,
-        Err(stop) => return Err(stop),
-    };
+    let count = find_image(name, access, files)?;
     let mut region = match RawRegion::new(alloc, 0, LOG_EVENTS) {
         Ok(region) => region,
         Err(_) => return Err(Stop::Memory),
@@ -117,13 +114,9 @@ pub(crate) fn load_file<F: Files>(
         Ok(filling) => filling,
         Err(_) => return Err(Stop::Memory),
     };
-    match load(&mut filling, count, files) {
-        Ok(()) => {
-            region.adopt_all(filling.finish());
-            Ok(region)
-        }
-        Err(stop) => Err(stop),
-    }
+    load(&mut filling, count, files)?;
+    region.adopt_all(filling.finish());
+    Ok(region)
 }
 
 // Mounts a region of the words of an image.
@@ -161,10 +154,8 @@ pub fn open<F: Files>(alloc: Global, name: &str, files: &mut F) -> Result<Volume
     ensures file { (F.view files.new).contents name.now ≡ (F.view files.old).contents name.now }
     ensures flushed { (F.view files.new).is_flushed ≡ (F.view files.old).is_flushed }
 {
-    match load_file(alloc, name, Access::Write, files) {
-        Ok(region) => mount(alloc, region),
-        Err(stop) => Err(stop),
-    }
+    let region = load_file(alloc, name, Access::Write, files)?;
+    mount(alloc, region)
 }
 
 /// Mounts the file of a name, which is then attached to be read alone. No file is made.
@@ -180,8 +171,6 @@ pub(crate) fn open_to_read<F: Files>(
     ensures file { (F.view files.new).contents name.now ≡ (F.view files.old).contents name.now }
     ensures flushed { (F.view files.new).is_flushed ≡ (F.view files.old).is_flushed }
 {
-    match load_file(alloc, name, Access::Read, files) {
-        Ok(region) => mount(alloc, region),
-        Err(stop) => Err(stop),
-    }
+    let region = load_file(alloc, name, Access::Read, files)?;
+    mount(alloc, region)
 }

@@ -7,12 +7,11 @@ ghost use Rattle.bp_shell.specs.Stops.{HasStopCause, IsReason};
 ghost use Rattle.std.specs.Prelude.{◌≡◌, ◌≤◌, ◌++◌, ℕ, IfErr, IfOk, List, OnOk, Option};
 
 use crate::opening::open_to_read;
-use crate::printing::tell_notice;
+use crate::printing::tell_stop;
 use crate::stop::Stop;
 use bp_io::{Failed, Files, Sink};
 use bp_play::{PlayBuffers, Summary, play_on};
 use bp_scan::Totals;
-use bp_script::Notice;
 use bp_session::sending::send;
 use bp_volume::Volume;
 use pm_region::Region;
@@ -110,10 +109,7 @@ fn perform<F: Files>(
     ensures file { (F.view files.new).contents name.now ≡ (F.view files.old).contents name.now }
     ensures flushed { (F.view files.new).is_flushed ≡ (F.view files.old).is_flushed }
 {
-    let mut volume = match open_to_read(alloc, name, files) {
-        Ok(volume) => volume,
-        Err(stop) => return Err(stop),
-    };
+    let mut volume = open_to_read(alloc, name, files)?;
     let played = match play_over(alloc, &mut volume, seed, count) {
         Ok(played) => played,
         Err(_) => return Err(Stop::Memory),
@@ -143,16 +139,7 @@ pub(crate) fn play_file<K: Sink, F: Files>(
 {
     let text = match perform(alloc, name, seed, count, files) {
         Ok(text) => text,
-        Err(Stop::Missing) => {
-            tell_notice(&Notice::NoFile, out);
-            return 1;
-        }
-        Err(Stop::Outside) => return 5,
-        Err(Stop::Refused(notice)) => {
-            tell_notice(&notice, out);
-            return 7;
-        }
-        Err(Stop::Memory) => return 8,
+        Err(stop) => return tell_stop(stop, out),
     };
     match send(out, text.as_bytes()) {
         Ok(()) => 0,

@@ -4,9 +4,11 @@ ghost use Rattle.bp_io.specs.Causes.{HasCause};
 ghost use Rattle.bp_script.specs.Sayings.{notice_text};
 ghost use Rattle.bp_session.specs.Outside.{Prints};
 ghost use Rattle.bp_session.specs.Taking.{TakesPart};
+ghost use Rattle.bp_shell.specs.Ending.{TellsStop};
 ghost use Rattle.std.specs.Io.KnownBytes.{Appends};
 ghost use Rattle.std.specs.Prelude.{OnErr, OnOk};
 
+use crate::stop::Stop;
 use bp_io::{Failed, Sink};
 use bp_script::{MAX_NOTICE, Notice, announce};
 use bp_session::sending::send;
@@ -28,4 +30,23 @@ pub(crate) fn tell_notice<K: Sink>(notice: &Notice, out: &mut K)
         (K.faults out.old) (K.faults out.new) }
 {
     let _ = print(notice, out);
+}
+
+/// Tells the line of the reason, where it has one, and answers the status: 1 where the file is not there, 5 where the
+/// files failed, 7 where the file is refused, 8 for want of memory.
+pub(crate) fn tell_stop<K: Sink>(stop: Stop, out: &mut K) -> u8
+    ensures { TellsStop stop result (K.taken out.old) (K.taken out.new) (K.faults out.old) (K.faults out.new) }
+{
+    match stop {
+        Stop::Missing => {
+            tell_notice(&Notice::NoFile, out);
+            1
+        }
+        Stop::Outside => 5,
+        Stop::Refused(notice) => {
+            tell_notice(&notice, out);
+            7
+        }
+        Stop::Memory => 8,
+    }
 }

@@ -12,8 +12,7 @@ use crate::checking::check_file;
 use crate::formatting::format_file;
 use crate::opening::open;
 use crate::playing::play_file;
-use crate::printing::tell_notice;
-use crate::stop::Stop;
+use crate::printing::{tell_notice, tell_stop};
 use bp_command::laws::plain_words_are_taken;
 use bp_command::{Program, WordsFault, read_words};
 use bp_io::{Failed, Files, Sink, Source};
@@ -37,16 +36,7 @@ fn run_file<S: Source, K: Sink, F: Files>(
 {
     let mut volume = match open(alloc, name, files) {
         Ok(volume) => volume,
-        Err(Stop::Missing) => {
-            tell_notice(&Notice::NoFile, out);
-            return 1;
-        }
-        Err(Stop::Outside) => return 5,
-        Err(Stop::Refused(notice)) => {
-            tell_notice(&notice, out);
-            return 7;
-        }
-        Err(Stop::Memory) => return 8,
+        Err(stop) => return tell_stop(stop, out),
     };
     let mut work = match Work::new(alloc) {
         Ok(work) => work,

@@ -1,19 +1,25 @@
 -- What a format does to a region.
-use Rattle.std.specs.Prelude.{◌≡◌, ℕ, ◌+◌, ◌-◌, ◌^◌, min, List, [], ◌∷◌}
+use Rattle.std.specs.Prelude.{◌≡◌, ℕ, ◌+◌, ◌-◌, ◌^◌, min, List, [], ◌∷◌, ◌++◌, drop, map, take}
 use Rattle.pm_epochs.specs.declared.event.Event.{Event}
 use Rattle.pm_epochs.specs.declared.event.Event.TheVariants.{Store, Barrier}
 use Rattle.pm_region.specs.Memory.{Memory}
-use Rattle.bp_layout.specs.Format.{formatted}
+use Rattle.bp_layout.specs.Format.{format_stores, formatted}
 use Rattle.bp_plain.specs.PlainTree.{empty_tree}
 use Rattle.bp_plain.specs.Stands.{Stands}
-use Rattle.bp_limits.specs.Limits.{magic, super_magic}
+use Rattle.bp_limits.specs.Limits.{super_magic}
 use Rattle.bp_layout.specs.Words.{Image, word, block_count}
 
--- The mark goes, the words of an empty file system are stored, and the mark comes back, each in an epoch of its own.
+-- a store of each value at its place
+abbrev pub storing : List (ℕ × ℕ) → List Event
+storing stores = map (λ store. Store store.0 store.1) stores
+
+-- The stores of a format: the mark goes, the words of an empty file system are stored, and the mark comes back, each in
+-- an epoch of its own.
 abbrev pub format_events : ℕ → List Event
 format_events blocks =
-    Store 0 0 ∷ Barrier ∷ Store 1 blocks ∷ Store 2 0x1000 ∷ Store 3 4096
-    ∷ Store 520 2 ∷ Store 521 0 ∷ Store 522 0 ∷ Barrier ∷ Store 0 magic ∷ Barrier ∷ []
+    let stores = format_stores blocks in
+    storing (take 1 stores) ++ Barrier ∷ storing (take 6 (drop 1 stores)) ++ Barrier ∷ storing (drop 7 stores)
+    ++ Barrier ∷ []
 
 -- What a crash in the middle of a format leaves: the words as they were, words without the mark, or an empty file
 -- system.

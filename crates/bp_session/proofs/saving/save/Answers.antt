@@ -8,22 +8,22 @@ flush-requires g c = record {
   may_write = c.write_blocks.ensures.attached.may_write ∙ c.requires.may_write;
 }
 
-pub returns-in-Ok-clause-attached : goal.returns-in-Ok-clause-attached
-returns-in-Ok-clause-attached g c = stays_attached _ _ _ c.write_blocks.ensures.attached c.flush.ensures.attached
+pub returns-clause-attached : goal.returns-clause-attached
+returns-clause-attached g c = stays_attached _ _ _ c.write_blocks.ensures.attached c.flush.ensures.attached
 
-pub returns-in-Ok-clause-saved : goal.returns-in-Ok-clause-saved
-returns-in-Ok-clause-saved g c = on_ok c.flush.result (λ name was file.
-    let saved = c.in-Ok.ensures.saved name was file in
+pub returns-clause-saved : goal.returns-clause-saved
+returns-clause-saved g c = on_ok c.flush.result (λ name was file.
+    let saved = c.in_ok-write_blocks.ensures.saved name was file in
     record {
       attached = c.flush.ensures.attached.attached name ∙ saved.attached;
       size = rw c.flush.ensures.attached.blocks saved.size;
       has = stays_known _ _ _ saved.has (c.flush.ensures.contents name);
     })
 
-pub returns-in-Ok-clause-partly : goal.returns-in-Ok-clause-partly
-returns-in-Ok-clause-partly g c = on_err c.flush.result (λ name was file.
+pub returns-clause-partly : goal.returns-clause-partly
+returns-clause-partly g c = on_err c.flush.result (λ name was file.
     let sizes = are_sizes was (g.R.Region.memory c.args.region.now) (g.F.Files.view c.args.files.now).blocks file.size c.requires.size in
-    all_mixed _ was _ sizes.same (stays_known _ _ _ (c.in-Ok.ensures.saved name was file).has (c.flush.ensures.contents name)))
+    all_mixed _ was _ sizes.same (stays_known _ _ _ (c.in_ok-write_blocks.ensures.saved name was file).has (c.flush.ensures.contents name)))
 
-pub returns-in-Ok-clause-told : goal.returns-in-Ok-clause-told
-returns-in-Ok-clause-told g c = λ name was file. stays_told _ _ (c.flush.ensures.contents name) ∙ c.write_blocks.ensures.told name was file
+pub returns-clause-told : goal.returns-clause-told
+returns-clause-told g c = λ name was file. stays_told _ _ (c.flush.ensures.contents name) ∙ c.write_blocks.ensures.told name was file

@@ -1,4 +1,4 @@
-use Rattle.std.proofs.Common.{◌≡◌, ℕ, ap, arith}
+use Rattle.std.proofs.Common.{◌≡◌, ap, arith}
 use Rattle.pm_region.specs.Memory.{Memory}
 use Rattle.bp_shell.proofs.PlayingLaws.{plays_file}
 use Rattle.bp_shell.proofs.playing.perform.Goals as goal

@@ -1,30 +1,14 @@
-use Rattle.std.proofs.Common.{refl, rules, ◌∙◌, ap, arith}
+use Rattle.std.proofs.Common.{refl, rules, ◌∙◌, arith}
 use Rattle.bp_session.proofs.AheadLaws.{reached_own}
 use Rattle.bp_session.proofs.ActingLaws.{size-drained}
 use Rattle.bp_session.specs.Serving.{Moment, moment, saved_if}
-use Rattle.bp_shell.proofs.OpeningLaws.{if_memory, if_missing, if_refused}
-use Rattle.bp_shell.proofs.ProgramLaws.{read_now, run_faulty, run_memory, run_missing, run_refused, run_served, run_unsaved, run_whole, saved_drained}
+use Rattle.bp_shell.proofs.ProgramLaws.{read_now, run_memory, run_served, run_stopped, run_unsaved, run_whole, saved_drained}
 use Rattle.bp_session.proofs.SavingLaws.{still_attached, still_ready}
 use Rattle.bp_shell.proofs.running.run_file.Goals as goal
 
-pub returns-in-Err-Missing-clause-outcome : goal.returns-in-Err-Missing-clause-outcome
-returns-in-Err-Missing-clause-outcome g c =
-    run_missing _ _ (record { left = refl; file = c.open.ensures.file }) c.open.ensures.flushed refl (c.in-Err-Missing.ensures.reason.missing c.in-Err-Missing.field-0-is) c.tell_notice.ensures
-    (c.in-Err-Missing.ensures.cause.others (if_missing _ c.in-Err-Missing.field-0-is))
-
-pub returns-in-Err-Outside-clause-outcome : goal.returns-in-Err-Outside-clause-outcome
-returns-in-Err-Outside-clause-outcome g c =
-    run_faulty _ _ (record { left = refl; file = c.open.ensures.file }) c.open.ensures.flushed refl refl refl (c.in-Err-Outside.ensures.cause.failed c.in-Err-Outside.field-0-is)
-
-pub returns-in-Err-Refused-clause-outcome : goal.returns-in-Err-Refused-clause-outcome
-returns-in-Err-Refused-clause-outcome g c =
-    run_refused _ _ (record { left = refl; file = c.open.ensures.file }) c.open.ensures.flushed refl c.in-Err-Refused.notice (c.in-Err-Refused.ensures.reason.refused _ c.in-Err-Refused.field-0-is)
-    (rw c.in-Err-Refused.field-0-is at c.tell_notice-in-Err-Refused.ensures)
-    (c.in-Err-Refused.ensures.cause.others (if_refused _ _ c.in-Err-Refused.field-0-is))
-
-pub returns-in-Err-Memory-clause-outcome : goal.returns-in-Err-Memory-clause-outcome
-returns-in-Err-Memory-clause-outcome g c =
-    run_memory _ _ (record { left = refl; file = c.open.ensures.file }) c.open.ensures.flushed refl refl refl (c.in-Err-Memory.ensures.cause.others (if_memory _ c.in-Err-Memory.field-0-is))
+pub returns-in-Err-tell_stop-clause-outcome : goal.returns-in-Err-tell_stop-clause-outcome
+returns-in-Err-tell_stop-clause-outcome g c =
+    run_stopped _ _ (record { left = refl; file = c.open.ensures.file }) c.open.ensures.flushed refl _ _ c.in-Err.ensures.reason c.in-Err.ensures.cause.failed c.in-Err.ensures.cause.others c.tell_stop.ensures
 
 pub returns-in-Err-clause-outcome : goal.returns-in-Err-clause-outcome
 returns-in-Err-clause-outcome g c = run_memory _ _ (record { left = refl; file = c.open.ensures.file }) c.open.ensures.flushed refl refl refl c.in-Ok.ensures.cause.same
@@ -54,4 +38,4 @@ returns-clause-outcome g c =
     (λ was file. (rw (c.region.ensures.memory, c.sync.ensures.drained) at (c.in-Err-save_unless_saved.ensures.partly c.args.name.now was file)).bytes) c.in-Err-save_unless_saved.ensures.cause.failed
 
 pub save_unless_saved-requires : goal.save_unless_saved-requires
-save_unless_saved-requires g c = rw (c.region.ensures.memory, c.sync.ensures.drained) (still_ready _ _ _ _ c.serve_gathered-status.ensures.ready (size-drained c.serve_gathered-status.new.volume) (still_attached _))
+save_unless_saved-requires g c = rw (c.region.ensures.memory, c.sync.ensures.drained) (still_ready _ _ _ _ c.serve_gathered-status.ensures.again.ready (size-drained c.serve_gathered-status.new.volume) (still_attached _))

@@ -1,5 +1,5 @@
 use Rattle.std.specs.Prelude.{None}
-use Rattle.bp_shell.proofs.ProgramLaws.{check_asked, format_asked}
+use Rattle.bp_shell.proofs.ProgramLaws.{format_asked, read_asked}
 use Rattle.bp_shell.proofs.running.run_program.Goals as goal
 
 pub returns-in-Format-clause-outcome : goal.returns-in-Format-clause-outcome
@@ -21,7 +21,7 @@ pub returns-in-Format-clause-asked : goal.returns-in-Format-clause-asked
 returns-in-Format-clause-asked g c = format_asked _ (c.format_file.ensures None 0).one_of
 
 pub returns-in-Check-clause-asked : goal.returns-in-Check-clause-asked
-returns-in-Check-clause-asked g c = check_asked _ (c.check_file.ensures None 0).one_of
+returns-in-Check-clause-asked g c = read_asked _ (c.check_file.ensures None 0).one_of
 
 pub returns-in-Play-clause-asked : goal.returns-in-Play-clause-asked
-returns-in-Play-clause-asked g c = check_asked _ (c.play_file.ensures None 0).one_of
+returns-in-Play-clause-asked g c = read_asked _ (c.play_file.ensures None 0).one_of

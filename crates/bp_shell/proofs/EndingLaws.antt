@@ -1,0 +1,145 @@
+-- How a program ends for a reason, and what one answers that reads its file alone.
+use Rattle.std.proofs.Common.{refl, arith, ◌≡◌, ℕ, List, inl, inr}
+use Rattle.std.specs.Prelude.{Option, ◌⊎◌}
+use Rattle.std.specs.Io.KnownBytes.{Appends}
+use Rattle.bp_io.specs.Causes.{Rose}
+use Rattle.bp_io.specs.Files.{Known}
+use Rattle.bp_session.specs.Outside.{Faults, IsFirstFault, IsIdle, IsQuiet, IsUntouched, Outside}
+use Rattle.bp_session.specs.Taking.{TakesPart}
+use Rattle.bp_session.proofs.OutcomeLaws.{files_fault, no_device_fault, no_fault, sink_fault}
+use Rattle.bp_shell.specs.Ending.{ReadOutcome, StopOutcome, TellsStop}
+use Rattle.bp_shell.specs.Stops.{IsReason}
+use Rattle.bp_shell.specs.declared.stop.Stop.{Stop}
+use Rattle.bp_shell.specs.declared.stop.Stop.TheVariants as s
+use Rattle.bp_shell.proofs.OpeningLaws.{if_memory, if_missing, if_refused, no_refusal}
+use Rattle.bp_shell.proofs.RunningLaws.{read_complete}
+
+-- ---- faults
+
+-- a line told before the end
+told_fault : (status : ℕ) (a b : Faults) → (status ≡ 1) ⊎ (status ≡ 7) → b.source ≡ a.source → b.files ≡ a.files → IsFirstFault status a b
+told_fault status a b (inl is) source files =
+    no_device_fault status _ _ (λ e. omega (arith, is, e)) (λ e. omega (arith, is, e)) (λ e. omega (arith, is, e)) loud source files
+  where
+    loud : IsQuiet status → ⊥
+    loud (inl e) = omega (arith, is, e)
+    loud (inr (inl e)) = omega (arith, is, e)
+    loud (inr (inr (inl e))) = omega (arith, is, e)
+    loud (inr (inr (inr (inl e)))) = omega (arith, is, e)
+    loud (inr (inr (inr (inr e)))) = omega (arith, is, e)
+told_fault status a b (inr is) source files =
+    no_device_fault status _ _ (λ e. omega (arith, is, e)) (λ e. omega (arith, is, e)) (λ e. omega (arith, is, e)) loud source files
+  where
+    loud : IsQuiet status → ⊥
+    loud (inl e) = omega (arith, is, e)
+    loud (inr (inl e)) = omega (arith, is, e)
+    loud (inr (inr (inl e))) = omega (arith, is, e)
+    loud (inr (inr (inr (inl e)))) = omega (arith, is, e)
+    loud (inr (inr (inr (inr e)))) = omega (arith, is, e)
+
+-- ---- at a `Stop`
+
+-- the statuses of the four reasons
+pub stop_statuses : (stop : Stop) (status : ℕ) (t u : Option (List ℕ)) (m n : ℕ) → TellsStop stop status t u m n → (status ≡ 1) ⊎ (status ≡ 5) ⊎ (status ≡ 7) ⊎ (status ≡ 8)
+stop_statuses s.Missing status t u m n told = inl told.0
+stop_statuses s.Outside status t u m n told = inr (inl told.0)
+stop_statuses (s.Refused notice) status t u m n told = inr (inr (inl told.0))
+stop_statuses s.Memory status t u m n told = inr (inr (inr told.0))
+
+pub never_among : (status n : ℕ) → (status ≡ 1) ⊎ (status ≡ 5) ⊎ (status ≡ 7) ⊎ (status ≡ 8) → ¬ (n ≡ 1) → ¬ (n ≡ 5) → ¬ (n ≡ 7) → ¬ (n ≡ 8) → status ≡ n → ⊥
+never_among status n (inl e) one five seven eight is = one (omega (arith, is, e))
+never_among status n (inr (inl e)) one five seven eight is = five (omega (arith, is, e))
+never_among status n (inr (inr (inl e))) one five seven eight is = seven (omega (arith, is, e))
+never_among status n (inr (inr (inr e))) one five seven eight is = eight (omega (arith, is, e))
+
+module _ (before after : Outside) (untouched : IsUntouched before after) (source : after.faults.source ≡ before.faults.source) where
+  abbrev Told : Stop → ℕ → Type 0
+  Told stop status = TellsStop stop status before.taken after.taken before.faults.sink after.faults.sink
+
+  pub stop_outcome : (stop : Stop) (status : ℕ) → IsReason before.file stop → (stop ≡ s.Outside → Rose before.faults.files after.faults.files) → (¬ (stop ≡ s.Outside) → after.faults.files ≡ before.faults.files) → Told stop status
+      → StopOutcome status before after
+  stop_outcome s.Missing status reason failed same told = record {
+    missing = λ _. (reason.missing refl, untouched, told.1);
+    refused = λ e. absurd (omega (arith, told.0, e));
+    memory = λ e. absurd (omega (arith, told.0, e));
+    first = told_fault status _ _ (inl told.0) source (same (if_missing _ refl));
+  }
+  stop_outcome s.Outside status reason failed same told = record {
+    missing = λ e. absurd (omega (arith, told.0, e));
+    refused = λ e. absurd (omega (arith, told.0, e));
+    memory = λ e. absurd (omega (arith, told.0, e));
+    first = rw told.0 (files_fault _ _ source told.1.1 (failed refl));
+  }
+  stop_outcome (s.Refused notice) status reason failed same told = record {
+    missing = λ e. absurd (omega (arith, told.0, e));
+    refused = λ _. (notice, reason.refused notice refl, untouched, told.1);
+    memory = λ e. absurd (omega (arith, told.0, e));
+    first = told_fault status _ _ (inr told.0) source (same (if_refused _ notice refl));
+  }
+  stop_outcome s.Memory status reason failed same told = record {
+    missing = λ e. absurd (omega (arith, told.0, e));
+    refused = λ e. absurd (omega (arith, told.0, e));
+    memory = λ _. record { untouched = untouched; taken = told.1.0 };
+    first = no_fault status _ _ (λ e. omega (arith, told.0, e)) (λ e. omega (arith, told.0, e)) (λ e. omega (arith, told.0, e)) source told.1.1 (same (if_memory _ refl));
+  }
+
+  pub stop_idle : (stop : Stop) (status : ℕ) → Told stop status → status ≡ 5 → IsIdle before after
+  stop_idle s.Missing status told e = absurd (omega (arith, told.0, e))
+  stop_idle s.Outside status told e = record { untouched = untouched; taken = told.1.0 }
+  stop_idle (s.Refused notice) status told e = absurd (omega (arith, told.0, e))
+  stop_idle s.Memory status told e = absurd (omega (arith, told.0, e))
+
+-- a status of another kind
+pub no_stop : (before after : Outside) (status : ℕ) → ¬ (status ≡ 1) → ¬ (status ≡ 7) → ¬ (status ≡ 8) → IsFirstFault status before.faults after.faults → StopOutcome status before after
+no_stop before after status one seven eight first = record { missing = λ e. absurd (one e); refused = λ e. absurd (seven e); memory = λ e. absurd (eight e); first = first }
+
+-- want of memory gives no cause
+pub memory_reason : (known : Known) → IsReason known s.Memory
+memory_reason known = record {
+  missing = λ e. absurd (let no : ◌≡◌ {A = Stop} s.Memory s.Missing = e in cc);
+  refused = λ notice e. absurd (no_refusal notice e);
+}
+
+-- ---- a program that reads its file alone
+
+module _ (Tells : List ℕ → Type 0) (before after : Outside) (untouched : IsUntouched before after) (flushed : after.is_flushed ≡ before.is_flushed) (source : after.faults.source ≡ before.faults.source) where
+  read_outcome : (status : ℕ) → (status ≡ 0 → (text : List ℕ) × Tells text × Appends before.taken after.taken text) → (status ≡ 4 → (text : List ℕ) × Tells text × TakesPart text before.taken after.taken)
+      → (status ≡ 5 → IsIdle before after) → StopOutcome status before after
+      → (status ≡ 0) ⊎ (status ≡ 1) ⊎ (status ≡ 4) ⊎ (status ≡ 5) ⊎ (status ≡ 7) ⊎ (status ≡ 8) → ReadOutcome Tells status before after
+  read_outcome status whole sink files stops one_of = record {
+    whole = whole;
+    sink = sink;
+    files = files;
+    stops = stops;
+    untouched = untouched;
+    flushed = flushed;
+    complete = read_complete status before after (λ e. (stops.missing e).0) stops.first.sink stops.first.files (λ e. let why = stops.refused e in (why.0, why.1)) one_of;
+    one_of = one_of;
+  }
+
+  pub read_stopped : (stop : Stop) (status : ℕ) → IsReason before.file stop → (stop ≡ s.Outside → Rose before.faults.files after.faults.files) → (¬ (stop ≡ s.Outside) → after.faults.files ≡ before.faults.files)
+      → TellsStop stop status before.taken after.taken before.faults.sink after.faults.sink → ReadOutcome Tells status before after
+  read_stopped stop status reason failed same told =
+      let among = stop_statuses stop status _ _ _ _ told in
+      read_outcome status
+      (λ e. absurd (never_among status 0 among (λ z. omega (arith, z)) (λ z. omega (arith, z)) (λ z. omega (arith, z)) (λ z. omega (arith, z)) e))
+      (λ e. absurd (never_among status 4 among (λ z. omega (arith, z)) (λ z. omega (arith, z)) (λ z. omega (arith, z)) (λ z. omega (arith, z)) e))
+      (stop_idle before after untouched source stop status told) (stop_outcome before after untouched source stop status reason failed same told)
+      (elim among [
+        | inl e ↦ inr (inl e)
+        | inr (inl e) ↦ inr (inr (inr (inl e)))
+        | inr (inr (inl e)) ↦ inr (inr (inr (inr (inl e))))
+        | inr (inr (inr e)) ↦ inr (inr (inr (inr (inr e))))
+      ])
+
+  -- the text was taken, or a front of it
+  pub read_done : (text : List ℕ) → Tells text → Appends before.taken after.taken text → after.faults.sink ≡ before.faults.sink → after.faults.files ≡ before.faults.files → ReadOutcome Tells 0 before after
+  read_done text tells taken sink files =
+      read_outcome 0 (λ _. (text, tells, taken)) (λ e. absurd (omega (arith, e))) (λ e. absurd (omega (arith, e)))
+      (no_stop before after 0 (λ e. omega (arith, e)) (λ e. omega (arith, e)) (λ e. omega (arith, e))
+      (no_fault 0 _ _ (λ e. omega (arith, e)) (λ e. omega (arith, e)) (λ e. omega (arith, e)) source sink files)) (inl refl)
+
+  pub read_cut : (text : List ℕ) → Tells text → TakesPart text before.taken after.taken → Rose before.faults.sink after.faults.sink → after.faults.files ≡ before.faults.files → ReadOutcome Tells 4 before after
+  read_cut text tells part rose files =
+      read_outcome 4 (λ e. absurd (omega (arith, e))) (λ _. (text, tells, part)) (λ e. absurd (omega (arith, e)))
+      (no_stop before after 4 (λ e. omega (arith, e)) (λ e. omega (arith, e)) (λ e. omega (arith, e)) (sink_fault _ _ source rose files)) (inr (inr (inl refl)))

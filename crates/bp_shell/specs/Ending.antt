@@ -1,0 +1,62 @@
+-- How a program ends before it serves or tells of its file, and what one answers that reads its file alone.
+use Rattle.std.specs.Prelude.{Some, ◌≡◌, ◌⊎◌, ℕ, List, Option}
+use Rattle.std.specs.Io.KnownBytes.{Appends}
+use Rattle.bp_layout.specs.Bytes.{image_bytes}
+use Rattle.bp_layout.specs.WellFormed.{IsWellFormed}
+use Rattle.bp_layout.specs.Words.{Image}
+use Rattle.bp_script.specs.Sayings.{notice_text}
+use Rattle.bp_script.specs.declared.notices.Notice.{Notice}
+use Rattle.bp_script.specs.declared.notices.Notice.TheVariants.{NoFile}
+use Rattle.bp_session.specs.Files.{AreWordsOf64Bits, IsAbsent}
+use Rattle.bp_session.specs.Outside.{Outside, FilesFailed, SinkFailed}
+use Rattle.bp_session.specs.Outside.{IsFirstFault, IsIdle, IsUntouched, Prints, TellsLine}
+use Rattle.bp_session.specs.Taking.{TakesPart}
+use Rattle.bp_shell.specs.Opening.{RefusesFile}
+use Rattle.bp_shell.specs.declared.stop.Stop.{Stop}
+use Rattle.bp_shell.specs.declared.stop.Stop.TheVariants as stop
+
+-- ---- at a `Stop`
+
+-- nothing is told
+abbrev pub TellsNothing : Option (List ℕ) → Option (List ℕ) → ℕ → ℕ → Type 0
+TellsNothing taken taken_now faults faults_now = (taken_now ≡ taken) × (faults_now ≡ faults)
+
+-- the status of a program that ends for this reason, and what it tells
+abbrev pub TellsStop : Stop → ℕ → Option (List ℕ) → Option (List ℕ) → ℕ → ℕ → Type 0
+TellsStop stop.Missing status taken taken_now faults faults_now =
+    (status ≡ 1) × Prints (notice_text NoFile) taken taken_now faults faults_now
+TellsStop stop.Outside status taken taken_now faults faults_now =
+    (status ≡ 5) × TellsNothing taken taken_now faults faults_now
+TellsStop (stop.Refused notice) status taken taken_now faults faults_now =
+    (status ≡ 7) × Prints (notice_text notice) taken taken_now faults faults_now
+TellsStop stop.Memory status taken taken_now faults faults_now =
+    (status ≡ 8) × TellsNothing taken taken_now faults faults_now
+
+-- What `run`, `check` and `play` answer alike: FILE is not there, is refused, or memory is wanting, before a byte is
+-- read; and the first fault ends them.
+pub record StopOutcome (status : ℕ) (before after : Outside) : Type 0 where
+  pub missing : status ≡ 1 → IsAbsent before.file × IsUntouched before after × TellsLine NoFile before after
+  pub refused : status ≡ 7 → (notice : Notice) × RefusesFile before.file notice × IsUntouched before after
+      × TellsLine notice before after
+  pub memory : status ≡ 8 → IsIdle before after
+  pub first : IsFirstFault status before.faults after.faults
+
+-- ---- a program that reads FILE alone
+
+-- Where FILE is told to have the bytes of a well-formed image, and nothing fails, the status is 0, or 8 for want of
+-- memory.
+abbrev pub IsReadComplete : ℕ → Outside → Outside → Type 0
+IsReadComplete status before after =
+    (image : Image) → before.file ≡ Some (Some (image_bytes image)) → AreWordsOf64Bits image
+    → IsWellFormed image → ¬ SinkFailed before after → ¬ FilesFailed before after → (status ≡ 0) ⊎ (status ≡ 8)
+
+-- What `check` and `play` answer, and when: they tell a text of this kind. They read no input, and FILE stays as it is.
+pub record ReadOutcome (Tells : List ℕ → Type 0) (status : ℕ) (before after : Outside) : Type 0 where
+  pub whole : status ≡ 0 → (text : List ℕ) × Tells text × Appends before.taken after.taken text
+  pub sink : status ≡ 4 → (text : List ℕ) × Tells text × TakesPart text before.taken after.taken
+  pub files : status ≡ 5 → IsIdle before after
+  pub stops : StopOutcome status before after
+  pub untouched : IsUntouched before after
+  pub flushed : after.is_flushed ≡ before.is_flushed
+  pub complete : IsReadComplete status before after
+  pub one_of : (status ≡ 0) ⊎ (status ≡ 1) ⊎ (status ≡ 4) ⊎ (status ≡ 5) ⊎ (status ≡ 7) ⊎ (status ≡ 8)

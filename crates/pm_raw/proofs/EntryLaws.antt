@@ -3,7 +3,6 @@ use Rattle.std.proofs.Common.{◌≡◌, ℕ, zero, suc, ◌+◌, ◌<◌, ◌�
 use Rattle.std.specs.Prelude.{Some, slice_get}
 use Rattle.std.specs.List.{range_with_len}
 use Rattle.std.proofs.lemmas.Bool.Decides.{eqb_tells}
-use Rattle.std.proofs.lemmas.List.{at_drop_more}
 use Rattle.pm_epochs.specs.declared.event.Event.{Event}
 use Rattle.pm_epochs.specs.declared.event.Event.TheVariants.{Store}
 use Rattle.pm_region.specs.Memory.{stores_from}
@@ -81,10 +80,6 @@ pub log-pushed : (words values new_words new_values more_words more_values : Lis
 log-pushed words values new_words new_values more_words more_values same words_are values_are =
     ap (λ ws. events_of ws new_values) words_are ∙ ap (events_of (words ++ more_words)) values_are
     ∙ events_of-append words more_words values more_values same
-
--- a function of the rest of a log, by the event at a place
-pub at_event : {Y : Type 0} (F : List Event → Y) (events : List Event) (i : ℕ) (event : Event) → i < length events → event ≡ get_or events i event → F (drop i events) ≡ F (event ∷ drop (i + 1) events)
-at_event F events i event low is = at_drop_more F events i event low ∙ ap (λ e. F (e ∷ drop (i + 1) events)) (sym is)
 
 -- what stands at a place, by what a look there gives
 pub slice_get_read : (events : List Event) (i : ℕ) (event : Event) → i < length events → event ≡ get_or events i event → slice_get events i ≡ Some event

@@ -42,12 +42,6 @@ marks-split (suc n) (Store word value ∷ events) = marks-split n events
 marks-split (suc n) (Barrier ∷ events) = marks-split n events
 marks-split (suc n) (Mark ∷ events) = let rest = marks-split n events in omega arith
 
--- nothing behind a barrier is kept
-pub stores-stop : (mask : List Bool) (events : List Event) → stores_of 0 mask (Barrier ∷ events) ≡ []
-stores-stop [] events = refl
-stores-stop (true ∷ mask) events = refl
-stores-stop (false ∷ mask) events = refl
-
 pub marks-low : (events : List Event) → marks events ≤ length events
 marks-low [] = omega arith
 marks-low (Store word value ∷ events) = let rest = marks-low events in omega arith

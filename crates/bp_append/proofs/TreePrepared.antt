@@ -69,9 +69,6 @@ module _ (first new : Memory) (free_old free_new : List ℕ) (t place from to : 
   abbrev taken : List ℕ
   taken = grows.visited ++ grows.raised
 
-  abbrev top_root : ℕ
-  top_root = raised_by (root_of (current_words first) t) grows.chain
-
   order : size_of old t ≤ to
   order = le_trans can.behind can.order
 

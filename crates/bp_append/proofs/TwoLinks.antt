@@ -29,10 +29,6 @@ pub any_root_link : (image : Image) → IsWellFormed image → (t place other : 
     AnyOf Same image image ((place, other) ∷ [])
 any_root_link image wf t place other reached at reads = (same_self image wf, root_link_same image wf t place other reached at reads)
 
--- one null link alone
-pub any_null_link : (image : Image) → IsWellFormed image → (t d k place block : ℕ) → CanHang image t d k place block → AnyOf Same image image ((place, 4096 * block) ∷ [])
-any_null_link image wf t d k place block hang = (same_self image wf, null_link.null_link_same image wf t d k place block hang)
-
 -- both
 module _ (old : Image) (wf : IsWellFormed old) (t d k place block : ℕ) (hang : CanHang old t d k place block) (blocks : List ℕ) (chain : IsChain old (root_of old t) blocks)
     (beside : (b : ℕ) → null_link.InSubtree old wf t d k place block hang b → Each (λ c. c ≢ b) blocks) where

@@ -1,5 +1,5 @@
 -- What a preparation keeps: inodes, entries, blocks, and what is free.
-use Rattle.std.proofs.Common.{◌≡◌, ℕ, zero, suc, ◌<◌, Bool, true, false, ◌==◌, Some, refl, sym, ◌∙◌, ap, arith}
+use Rattle.std.proofs.Common.{◌≡◌, ℕ, zero, suc, ◌<◌, Bool, true, false, ◌==◌, refl, ◌∙◌, ap, arith}
 use Rattle.std.proofs.lemmas.Bool.{eqb-false}
 use Rattle.bp_layout.specs.Words.{Image}
 use Rattle.bp_layout.specs.Inode.{kind_of, size_of}
@@ -9,15 +9,13 @@ use Rattle.bp_layout.specs.Reached.IsReached.{inode_file, root_directory, named}
 use Rattle.bp_layout.specs.WellFormed.{IsWellFormed}
 use Rattle.bp_layout.specs.Free.{IsFreeInode}
 use Rattle.bp_changes.specs.Harmless.{Agrees}
-use Rattle.bp_layout.specs.Lookup.{Path, lookup}
 use Rattle.bp_layout.specs.Same.{Same}
 use Rattle.bp_changes.specs.Effects.{KeepsBlocks}
 use Rattle.bp_changes.specs.SameMeaning.{SameMeaning}
 use Rattle.bp_layout.proofs.Finding.{find-same}
-use Rattle.bp_layout.proofs.View.{SameDirectories, lookup_from-same}
+use Rattle.bp_layout.proofs.View.{SameDirectories}
 use Rattle.bp_changes.proofs.SameMeaning.{view-same, reached-back, well_formed-same, same-by_meaning}
 use Rattle.bp_changes.proofs.Frame as frame
-use Rattle.bp_changes.proofs.ReachedOn.{meaning_on}
 
 -- The second image means the same, with the same blocks and as many inodes. Words that nobody reads may be others.
 pub record IsPrepared (old new : Image) : Type 0 where
@@ -116,46 +114,10 @@ module _ (old new : Image) (wf : IsWellFormed old) (prepared : IsPrepared old ne
 
   -- ---- paths
 
-  pub lookup_after : (here : Path) (i : ℕ) → lookup old here ≡ Some i → lookup new here ≡ Some i
-  lookup_after here i found = lookup_from-same old new alike 1 here root_directory ∙ found
-
-  pub lookup_before : (here : Path) (i : ℕ) → lookup new here ≡ Some i → lookup old here ≡ Some i
-  lookup_before here i found = sym (lookup_from-same old new alike 1 here root_directory) ∙ found
-
 -- ---- one preparation after another
 
-pub prepared_self : (image : Image) → IsWellFormed image → IsPrepared image image
-prepared_self image wf = record {
-  meaning = record {
-    trees = record {
-      whole = refl;
-      marked = refl;
-      counted = refl;
-      sound = wf.sound;
-      apart = wf.apart;
-      full_inode_file = wf.full_inode_file;
-      full_directories = wf.full_directories;
-    };
-    kind = λ t r. refl;
-    size = λ i r. refl;
-    inode_blocks = wf.inode_blocks;
-    inodes = omega arith;
-    inumber = λ i s r kind low. refl;
-    entry = λ i s j f r n low. refl;
-    bytes = λ i o r kind low. refl;
-  };
-  blocks = record { back = λ t b r has. has; stay = λ t b r has. has };
-  inode_bytes = refl;
 }
 
-pub prepared_on : (first second third : Image) → IsWellFormed first → IsPrepared first second → IsPrepared second third → IsPrepared first third
-prepared_on first second third wf one two = record {
-  meaning = meaning_on first second third one.meaning two.meaning;
-  blocks = record {
-    back = λ t b r has. one.blocks.back t b r (two.blocks.back t b (on t r) has);
-    stay = λ t b r has. two.blocks.stay t b (on t r) (one.blocks.stay t b r has);
-  };
-  inode_bytes = two.inode_bytes ∙ one.inode_bytes;
 }
   where
     on : (t : ℕ) → IsReached first t → IsReached second t

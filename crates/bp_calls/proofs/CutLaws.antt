@@ -50,9 +50,6 @@ module _ (image : Image) (root : ℕ) where
     not_null = has.not_null;
   }
 
-  pub nothing_cut : (size cut b : ℕ) → size ≤ cut → IsCutOff image root size cut b → ⊥
-  nothing_cut size cut b order gone = let live = gone.has.pointer.live in omega (arith, live, gone.past, order)
-
   -- what is cut off the tree has not under a size up to the smaller one
   pub cut_not_kept : (size cut less b : ℕ) → IsSound image root size → less ≤ cut → less ≤ size → IsCutOff image root size cut b → HasBlock image root less b → ⊥
   cut_not_kept size cut less b sound low smaller gone has =

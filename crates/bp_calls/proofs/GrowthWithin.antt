@@ -8,7 +8,7 @@ use Rattle.bp_layout.specs.Same.{Same}
 use Rattle.bp_layout.specs.WellFormed.{IsWellFormed}
 use Rattle.bp_layout.specs.WordPaths.{address}
 use Rattle.bp_layout.specs.Words.{Image}
-use Rattle.bp_tree.specs.Performs.{InBlock, IsOpen, TakesBlocks, AddsTaking, Performs, most_stores}
+use Rattle.bp_tree.specs.Performs.{InBlock, IsOpen, TakesBlocks, Performs, most_stores}
 use Rattle.pm_epochs.specs.Crash.{IsPartialEquivalence, commit}
 use Rattle.pm_epochs.specs.Log.{StoresTo}
 use Rattle.pm_epochs.specs.May.{AnyAt, EachMay}
@@ -50,19 +50,6 @@ module _ (old new : Memory) (change : Change) (Effect : Image → Image → Type
         well_formed = well_formed;
         effect = effect;
       }
-
-  -- a preparation, and then the commit of one word in its place
-  pub within_word : (middle : Memory) (word value most_barriers most : ℕ) (taken : List ℕ) → AddsTaking taken most_barriers most old middle → Adds middle new (commit word value) → word ≡ covered →
-      length taken ≡ need (current_words old) change → IsOpen (current_words old) taken word → IsWellFormed (current_words new) → Effect (current_words old) (current_words new) →
-      PerformsWithin (most_barriers + 2) (most + 1) old new change Effect
-  within_word middle word value most_barriers most taken first adds at number inside well_formed effect =
-      within_committed word value (most_barriers + 2) (most + 1) taken
-      (record {
-        prepared = first.part.added;
-        adds = adds_both old middle new first.part.added (commit word value) first.part.adds adds;
-        quiet = first.part.quiet;
-        piece = IsPiece-append most_barriers most 2 1 first.part.added (commit word value) first.part.piece (IsPiece-commit word value);
-      }) first.takes at number inside well_formed effect
 
   -- stores that nobody sees, and then the commit of one word in its place
   pub within_stores : (May : ℕ → ℕ → Type 0) (most : ℕ) (middle : Memory) (word value : ℕ) (taken : List ℕ) → ((image : Image) → EachMay May (current_words old) image → Same (current_words old) image) →

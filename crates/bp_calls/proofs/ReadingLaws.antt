@@ -63,9 +63,6 @@ module _ (image : Image) (wf : IsWellFormed image) where
     name_length : word_in image root slot 1 ≡ length (name_at image i slot)
     name_length = ap (λ r. word_in image r slot 1) root_is ∙ sym (length-map-range_with_len _ 0 (word_in image (root_of image i) slot 1))
 
-    pub name_least : 1 ≤ word_in image root slot 1
-    name_least = omega (arith, name_length, name_here.not_empty)
-
     pub name_most : word_in image root slot 1 ≤ 240
     name_most = omega (arith, name_length, name_here.short)
 

@@ -10,38 +10,14 @@ use Rattle.bp_layout.specs.Directory.{EntryNames, Name, entry_count, inumber_at,
 use Rattle.bp_layout.specs.Inode.{kind_of, root_of, size_of, inode_word, inode_count}
 use Rattle.bp_layout.specs.Reached.{IsReached, IsLiveBlock, IsFreeBlock}
 use Rattle.bp_layout.specs.Reached.IsReached.{inode_file, root_directory, named}
-use Rattle.bp_layout.specs.Stores.{after_stores}
 use Rattle.bp_layout.specs.Tree.{HasBlock, IsFull, IsSound}
 use Rattle.bp_layout.specs.WellFormed.{IsWellFormed}
 use Rattle.bp_layout.specs.Words.{Image, word, block_count, block_of, slot_word}
-use Rattle.bp_limits.specs.Limits.{magic}
 use Rattle.bp_layout.proofs.FewLeaves.{few_inodes}
 use Rattle.bp_layout.proofs.Reached.{reached-in_file}
 use Rattle.bp_layout.proofs.Finding.{Finds, find-passes}
 use Rattle.bp_layout.proofs.View.{named_true}
-use Rattle.bp_layout.proofs.LastValue.{AllWithinImage, length-after_stores, word-after_stores}
 use Rattle.bp_layout.proofs.SmallTrees.{content_word-leaf, leaf_sound, leaf_full, node-zero, one_live}
-
--- the stores that make it
-abbrev pub sample_stores : List (ℕ × ℕ)
-sample_stores = (0, magic) ∷ (1, 8) ∷ (2, 4096) ∷ (3, 4096) ∷ (520, 2) ∷ (521, 8192) ∷ (522, 512) ∷ (1024, 0) ∷ (1056, 0) ∷ []
-
-pub sample_stored : (image : Image) → length image ≡ 4096 → IsSample (after_stores image sample_stores)
-sample_stored image whole =
-    let within : AllWithinImage (length image) sample_stores = omega arith in
-    let stored = λ (place : ℕ). word-after_stores image sample_stores place within in
-    record {
-      whole = length-after_stores image sample_stores ∙ whole;
-      marked = stored 0;
-      counted = stored 1;
-      root = stored 2;
-      size = stored 3;
-      root_kind = stored 520;
-      root_root = stored 521;
-      root_size = stored 522;
-      first_empty = stored 1024;
-      second_empty = stored 1056;
-    }
 
 -- no number is in the empty set
 empty_has_no : (room k : ℕ) → has (empty room) k ≡ false

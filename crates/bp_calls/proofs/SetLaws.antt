@@ -11,14 +11,13 @@ use Rattle.bp_layout.specs.Directory.{Name, IsName, slot_named}
 use Rattle.bp_layout.specs.Reached.{IsReached, IsLiveBlock, IsFreeBlock}
 use Rattle.bp_layout.specs.WellFormed.{IsWellFormed}
 use Rattle.bp_layout.specs.Free.{AreFreeBlocks, AreFreeInodes, IsFreeInode}
-use Rattle.bp_changes.specs.Harmless.{Agrees}
 use Rattle.bp_layout.proofs.SmallTrees.{empty_has_none}
 use Rattle.bp_changes.specs.Effects.{AddsNames, KeepsBlocks}
 use Rattle.bp_changes.proofs.AddsNames.{reached_cases, reached_stays}
 use Rattle.bp_calls.specs.Entered.{IsNewInode, IsReadyEntry}
 use Rattle.bp_shapes.specs.Sets.{AreExact}
 use Rattle.bp_calls.proofs.EnteredLaws.{entered, entered_blocks, entered_file}
-use Rattle.bp_calls.proofs.AfterLaws.{IsPrepared, agrees_prepared, live_before_too, live_after, reached_before, reached_after}
+use Rattle.bp_calls.proofs.AfterLaws.{IsPrepared, live_before_too, live_after, reached_before, reached_after}
 
 -- ---- one number less
 
@@ -81,9 +80,6 @@ exact_prepared old new wf prepared blocks inodes exact = record {
   free_blocks = free_blocks_stay old new (has blocks) prepared.meaning.trees.whole (live_before_too old new wf prepared) (live_after old new wf prepared) exact.free_blocks;
   free_inodes = free_inodes_stay old new (has inodes) prepared.inode_bytes (reached_before old new wf prepared) (reached_after old new wf prepared) exact.free_inodes;
 }
-
-pub exact_agrees : (old new : Image) → IsWellFormed old → Agrees old new → (blocks inodes : Set) → AreExact old blocks inodes → AreExact new blocks inodes
-exact_agrees old new wf agrees = exact_prepared old new wf (agrees_prepared old new wf agrees)
 
 -- ---- over one more name
 

@@ -13,7 +13,7 @@ use Rattle.bp_layout.specs.Reached.IsReached.{inode_file}
 use Rattle.bp_layout.specs.WellFormed.{IsWellFormed}
 use Rattle.bp_layout.proofs.Reached.{reached-in_file}
 use Rattle.bp_changes.specs.Commits.{Changes, changed_word, CommitsOnly}
-use Rattle.bp_changes.specs.Effects.{SetsInumber, CanMoveEntry, MovesEntry, CarriesEntry, IsNewEntry, IsOldEntry, RespellsEntry, ChangesFile}
+use Rattle.bp_changes.specs.Effects.{CanMoveEntry, MovesEntry, CarriesEntry, IsNewEntry, IsOldEntry, RespellsEntry, ChangesFile}
 use Rattle.bp_changes.specs.SameContent.{IsReadByWords}
 
 no_directory : (image : Image) (t : ℕ) → kind_of image t ≡ 2 → t ≢ 0
@@ -49,19 +49,6 @@ module _ (old new : Image) (changes : Changes) (Changed : ℕ → ℕ → Type 0
 
 -- ---- an inumber
 
-pub commit_sets : (old new : Image) (changes : Changes) (i s value : ℕ) → IsReached old i → kind_of old i ≡ 2 → s < entry_count old i →
-    CommitsOnly old new changes (λ t k. (t ≡ i) × (k ≡ 32 * s + 0)) → changed_word changes old i (32 * s + 0) ≡ value → SetsInumber old new i s value
-commit_sets old new changes i s value reached directory in_size only is = record {
-  trees = only.commits.trees;
-  kind = λ u low. kind-kept old new changes _ only u low (λ here. no_directory old i directory (sym here.0));
-  size = λ u low. size-kept old new changes _ only u low (λ here. no_directory old i directory (sym here.0));
-  inumber =
-      word_committed old new changes _ only i (32 * s + 0) reached (inr directory) (omega (arith, in_size)) (λ e. absurd (no_directory old i directory e)) ∙ is;
-  entry = λ u r f also kind low few other.
-      word-kept old new changes _ only u (32 * r + f) also (inr kind) (omega (arith, low, few)) (λ e. absurd (no_directory old u kind e)) (λ here. other (sym here.0) (sym here.1));
-  bytes = λ u o also kind low.
-      byte-kept old new changes _ only u o also kind low
-      (λ here. let two : kind_of old u ≡ 2 = subst (λ x. kind_of old x ≡ 2) (sym here.0) directory in omega (arith, kind, two));
 }
 
 -- ---- a name moved

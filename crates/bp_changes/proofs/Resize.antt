@@ -145,9 +145,6 @@ module _ (old : Image) (wf : IsWellFormed old) (n size place : ℕ) (can : CanRe
       subst₂ (λ r z. HasBlock (set old place size) r z b) (sym (root_stays t (in_file t reached))) (sym (size_stays t (in_file t reached) other))
       (has_block-stays old (set old place size) (root_of old t) (size_of old t) (keeps t reached) b has)
 
-  HasAt : ℕ → ℕ → Type 0
-  HasAt t b = HasBlock (set old place size) (root_of (set old place size) t) (size_of (set old place size) t) b
-
   apart_cases : (t u b : ℕ) → IsReached old t → IsReached old u → (t ≡ suc n) ⊎ (t ≡ suc n → ⊥) → (u ≡ suc n) ⊎ (u ≡ suc n → ⊥) →
       HasBlock (set old place size) (root_of (set old place size) t) (size_of (set old place size) t) b → HasBlock (set old place size) (root_of (set old place size) u) (size_of (set old place size) u) b → t ≡ u
   apart_cases t u b r q (inl e) (inl f) one two = e ∙ sym f

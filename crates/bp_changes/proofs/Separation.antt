@@ -73,26 +73,6 @@ free-harmless image wf b s value low in_block free =
       bytes = λ i o reached kind below stands. absurd (not_live i _ (o / 8) reached (live_content _ _ (o / 8) (omega (arith, below))) stands);
     }
 
--- the root word of a file or a directory without bytes may be anything
-pub dead_root-harmless : (image : Image) → IsWellFormed image → (i place value : ℕ) → IsReached image (suc i) → size_of image (suc i) ≡ 0 →
-    ContentStandsAt image 0 (8 * suc i + 1) place → IsHarmless image place value
-dead_root-harmless image wf i place value reached none stands = record {
-  superblock = λ low. absurd (stands.present (omega (arith, stands.at, low)));
-  pointers = λ t d k also live stand.
-      let same = same_word t d k also (live_pointer_word _ _ (suc d) k live) stand in
-      let root : height_of (root_of image 0) ≡ height_of (root_of image t) = ap (λ (x : ℕ). height_of (root_of image x)) same.tree in
-      absurd (omega (arith, live.height, root, same.depth));
-  inodes = λ j f also few read stand.
-      let in_file : suc j < inode_count image = reached-in_file image wf (suc j) also in
-      let same = same_content 0 (8 * suc j + f) inode_file (omega (arith, in_file, few)) stand in
-      let inode : j ≡ i = omega (arith, same.index, few) in
-      let some : 0 < size_of image (suc j) = read (omega (arith, same.index, few)) in
-      let empty : size_of image (suc j) ≡ 0 = ap (λ (x : ℕ). size_of image (suc x)) inode ∙ none in
-      absurd (omega (arith, some, empty));
-  inumbers = λ t s also kind in_size stand. absurd (no_kind t 2 kind (omega arith) (same_content t (32 * s + 0) also (omega (arith, in_size)) stand).tree);
-  names = λ t s j f also names few stand.
-      absurd (no_kind t 2 names.directory (omega arith) (same_content t (32 * s + f) also (omega (arith, names.in_size, few)) stand).tree);
-  bytes = λ t o also kind below stand. absurd (no_kind t 1 kind (omega arith) (same_content t (o / 8) also (omega (arith, below)) stand).tree);
 }
   where
     below_size : 8 * (8 * suc i + 1) < size_of image 0

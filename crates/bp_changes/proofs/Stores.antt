@@ -3,11 +3,9 @@ use Rattle.std.proofs.Common.{◌≡◌, ◌⊎◌, ℕ, ◌<◌, ◌≤◌, Lis
 use Rattle.std.proofs.lemmas.List.{length-set, set_past}
 use Rattle.std.proofs.lemmas.Bool.{cases_eq, cases_lt}
 use Rattle.bp_layout.specs.Words.{Image, word}
-use Rattle.bp_layout.specs.WellFormed.{IsWellFormed}
 use Rattle.bp_layout.specs.Same.{Same}
 use Rattle.bp_changes.specs.Harmless.{IsHarmless, Agrees}
 use Rattle.bp_layout.specs.Stores.{after_stores}
-use Rattle.bp_changes.proofs.Frame.{same-by_agreement}
 
 -- what stands there may stand there
 pub harmless_here : (image : Image) (place : ℕ) → IsHarmless image place (word image place)
@@ -19,9 +17,6 @@ harmless_here image place = record {
   names = λ i s j f reached names few stands. refl;
   bytes = λ i o reached kind below stands. refl;
 }
-
-pub agrees_self : (image : Image) → Agrees image image
-agrees_self image = record { whole = refl; each = harmless_here image }
 
 -- a store of a value that may stand in the first image
 pub agrees-store : (old new : Image) (place value : ℕ) → IsHarmless old place value → Agrees old new → Agrees old (set new place value)
@@ -45,6 +40,3 @@ AllHarmless image (store ∷ stores) = IsHarmless image store.0 store.1 × AllHa
 pub agrees-stores : (old new : Image) (stores : List (ℕ × ℕ)) → AllHarmless old stores → Agrees old new → Agrees old (after_stores new stores)
 agrees-stores old new [] harmless agrees = agrees
 agrees-stores old new (store ∷ stores) harmless agrees = agrees-stores old (set new store.0 store.1) stores harmless.1 (agrees-store old new store.0 store.1 harmless.0 agrees)
-
-pub same_after_stores : (image : Image) (stores : List (ℕ × ℕ)) → IsWellFormed image → AllHarmless image stores → Same image (after_stores image stores)
-same_after_stores image stores wf harmless = same-by_agreement image (after_stores image stores) wf (agrees-stores image image stores harmless (agrees_self image))

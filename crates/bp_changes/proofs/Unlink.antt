@@ -77,9 +77,6 @@ module _ (old new : Image) (wf : IsWellFormed old) (i s j : ℕ) (can : CanUnlin
   entry_back : (u r k : ℕ) → IsReached new u → EntryNames new u r k → IsReached old u × EntryNames old u r k
   entry_back u r k reached n = (reached_back u reached, (names_back u r k (reached_back u reached) n).before)
 
-  name_back : (u r k : ℕ) → IsReached new u → EntryNames new u r k → name_at new u r ≡ name_at old u r
-  name_back u r k reached n = let e : IsReached old u × EntryNames old u r k = entry_back u r k reached n in name_stays u r k e.0 e.1
-
   -- the inode of the entry is not reached any more
   pub not_reached : IsReached new j → ⊥
   not_reached reached = go j reached refl

@@ -5,7 +5,7 @@ use Rattle.std.proofs.lemmas.List.{length-set}
 use Rattle.std.proofs.lemmas.Slice.Eq.{bytes_eq-Decides}
 use Rattle.std.specs.Str.{bytes_eq}
 use Rattle.bp_layout.specs.Words.{Image, word, block_count, block_of}
-use Rattle.bp_shapes.specs.Trail.{Trail, word_on, block_on, place_on, ArePointers, LeadsTo}
+use Rattle.bp_shapes.specs.Trail.{Trail, word_on, block_on, place_on, ArePointers}
 use Rattle.bp_shapes.proofs.PathTrails.{word-placed, low-placed, length-trail_of}
 use Rattle.bp_cow.specs.Stage.{IsBuilding}
 use Rattle.bp_cow.specs.Job.{Job, front, end_of, word_trail, value_upto, laid_upto, laid_on, IsBegun, IsAnew}
@@ -100,20 +100,6 @@ module _ (old words : Image) (place pointer : ℕ) (cover : Trail) (Pointer : Tr
     module _ (pointed : Pointer (slot ∷ p)) where
       pub from_low : 512 * block_of (word words (512 * block_on (set words place pointer) p + slot)) + 512 ≤ length words
       from_low = in_image _ (rw from_is (building.stage.skeleton.in_range (slot ∷ p) pointed))
-
-      pub from_used : free (block_of (word words (512 * block_on (set words place pointer) p + slot))) ≡ false
-      from_used = ap free from_is ∙ led_used (slot ∷ p) pointed
-
-    pub at_unseen : (LeadsTo old Pointer ((512 * block_on (set words place pointer) p + slot) / 512) → ⊥) × (512 ≤ 512 * block_on (set words place pointer) p + slot)
-    at_unseen =
-        let fresh = building.stage.fresh p live made in
-        let some : block_on (set words place pointer) p ≢ 0 = fresh.0 in
-        (λ has. fresh.1 (subst (LeadsTo old Pointer) at_block has), omega (arith, some))
-
-  pub copy_unseen : (copy place_in : ℕ) → free copy ≡ true → place_in / 512 ≡ copy → (LeadsTo old Pointer (place_in / 512) → ⊥) × (512 ≤ place_in)
-  copy_unseen copy place_in is e =
-      let range : 1 ≤ copy = (building.stage.in_range copy is).0 in
-      (λ has. let full : free copy ≡ false = building.stage.taken copy (inl (subst (LeadsTo old Pointer) e has)) in absurd (cc), omega (arith, range, e))
 
 -- ---- the pointers that were turned, told by the words
 

@@ -211,9 +211,6 @@ module _ (old mid : Image) (cover : Trail) (Pointer : Trail → Type 0) (pointer
       store_turns old mid Pointer pointers skeleton some copy equal first_not_null first_unnamed cover (pointing_to (word_on old cover) copy) placed
       (λ _ s l. ap (λ b. slot_word (set mid (place_on old cover) (pointing_to (word_on old cover) copy)) b s) first_leads ∙ first_stored_slot s (pointers.slots s cover l) ∙ plain s (word_on old (s ∷ cover)) l)
 
-  pub start_block : block_on (set mid (place_on old cover) (pointing_to (word_on old cover) copy)) cover ≡ copy
-  start_block = ap block_of turns_first.turned ∙ first_leads
-
   pub building_start : IsBuilding old mid (place_on old cover) (pointing_to (word_on old cover) copy) cover Pointer (λ q. ⊥ ⊎ (q ≡ cover)) value laid free_after
   building_start =
       let still = placed-turned old (set mid (place_on old cover) (pointing_to (word_on old cover) copy)) Pointer pointers cover (pointing_to (word_on old cover) copy) turns_first cover (omega arith) placed in

@@ -3,7 +3,7 @@ use Rattle.std.proofs.Common.{◌≡◌, ℕ, zero, suc, ◌<◌, ◌≤◌, Lis
 use Rattle.std.specs.List.{fold}
 use Rattle.std.specs.Prelude.{◌==◌}
 use Rattle.std.proofs.lemmas.Bool.{eq-eqb, eqb-true}
-use Rattle.std.proofs.lemmas.List.{append-nil, length-take, take-take}
+use Rattle.std.proofs.lemmas.List.{append-nil, take-take}
 use Rattle.bp_layout.specs.Members.{Has}
 use Rattle.bp_layout.specs.Need.{existing_from, common, common_all}
 use Rattle.bp_layout.specs.WordPaths.{WordPath}
@@ -22,11 +22,6 @@ begins-then p q r one two = record {
   long = omega (arith, one.long, two.long);
   same = sym (take-take (length p) (length q) r one.long) ∙ ap (take (length p)) two.same ∙ one.same;
 }
-
-pub begins-take : (n : ℕ) (p : WordPath) → n ≤ length p → Begins (take n p) p
-begins-take n p low =
-    let size : length (take n p) ≡ n = length-take n p ∙ omega (arith, low) in
-    record { long = omega (arith, low, size); same = ap (λ k. take k p) size }
 
 -- ---- with what two paths begin
 

@@ -48,12 +48,6 @@ end-short touched is i here = go touched.run i is.run here
     go (Some run) (suc zero) has here = omega (arith, length-run_path run ((run_end run - 1) / 8), has.short)
     go (Some run) (suc (suc i)) has here = is.short i (omega (arith, here))
 
--- one slot more
-pub alike-more : (touched : Touched) (count : ℕ) → BeginAlike touched count → ((i : ℕ) → i < ends touched → count < length (end_path touched i)) →
-    ((i : ℕ) → i < ends touched → slice_index (end_path touched i) count ≡ slice_index (end_path touched 0) count) → BeginAlike touched (count + 1)
-alike-more touched count alike long same = record {
-  long = λ i here. omega (arith, long i here);
-  same = λ i here. trail_of-next (end_path touched i) count ∙ cons (same i here) (alike.same i here) ∙ sym (trail_of-next (end_path touched 0) count);
 }
   where
     cons : {s t : ℕ} {p q : Trail} → s ≡ t → p ≡ q → s ∷ p ≡ t ∷ q

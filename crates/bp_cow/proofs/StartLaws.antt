@@ -1,6 +1,5 @@
 -- The first copy, that of the cover's block.
-use Rattle.std.proofs.Common.{◌≡◌, ◌⊎◌, ℕ, ◌+◌, ◌*◌, ◌/◌, ◌-◌, ◌<◌, ◌≤◌, length, Bool, true, false, refl, sym, ◌∙◌, ap, subst, arith, inl, inr}
-use Rattle.std.proofs.lemmas.Bool.{cases_eq}
+use Rattle.std.proofs.Common.{◌≡◌, ◌⊎◌, ℕ, ◌+◌, ◌*◌, ◌/◌, ◌-◌, ◌<◌, ◌≤◌, length, Bool, refl, sym, ◌∙◌, ap, subst, arith}
 use Rattle.bp_layout.specs.Words.{Image, word, block_count, block_of, slot_word}
 use Rattle.bp_shapes.specs.Trail.{Trail, word_on, block_on, IsSkeleton}
 use Rattle.bp_layout.specs.Stores.{EqualBut}
@@ -38,17 +37,6 @@ module _ (plan : Plan) (from : ℕ) (can : CanMake plan from) where
   start_from =
       let range : block_on plan.old cover < block_count plan.old = bones.in_range cover pointed in
       rw start_word (omega (arith, range, can.whole))
-
-  start_used : plan.free (block_of (word plan.old plan.place)) ≡ false
-  start_used = rw start_word (go (cases_eq (block_on plan.old cover) 0))
-    where
-      null : (x : Bool) → plan.free 0 ≡ x → plan.free 0 ≡ false
-      null false e = e
-      null true e = absurd (omega (arith, (can.exact.in_range 0 e).0))
-
-      go : (block_on plan.old cover ≡ 0) ⊎ (block_on plan.old cover ≡ 0 → ⊥) → plan.free (block_on plan.old cover) ≡ false
-      go (inl e) = ap plan.free e ∙ null (plan.free 0) refl
-      go (inr some) = can.exact.live _ (record { trail = cover; pointer = pointed; named = refl; not_null = some })
 
   module _ (copy : ℕ) (free_after : ℕ → Bool) (takes : TakesBlock plan.free free_after copy) where
     pub start_to : (0 < copy) × (512 * copy + 512 ≤ length plan.old)

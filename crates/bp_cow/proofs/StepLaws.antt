@@ -14,7 +14,7 @@ use Rattle.bp_cow.specs.Adds.{IsTakenWord}
 use Rattle.bp_cow.specs.Stage.{IsBuilding}
 use Rattle.bp_cow.specs.Plan.{Plan, seen, IsMade, CanMake, reached}
 use Rattle.bp_cow.proofs.BuildingLaws.{building_turn, building_block, building_store}
-use Rattle.bp_cow.proofs.BuildFacts.{top, building_same, at_low, at_used, from_is, from_low, from_used, anew_more, anew_more_back, not_anew, anew_next, anew_next_back, value-here, value-other}
+use Rattle.bp_cow.proofs.BuildFacts.{top, building_same, at_low, at_used, from_is, from_low, anew_more, anew_more_back, not_anew, anew_next, anew_next_back, value-here, value-other}
 use Rattle.bp_cow.proofs.LayLaws.{lay_plain, lay_laid}
 
 -- a block that is fresh, or free now, was free at the start
@@ -80,9 +80,6 @@ module _ (plan : Plan) (from i depth : ℕ) (now : Image) (free : ℕ → Bool) 
 
       pub loaded_low : 512 * block_of (word now (512 * block + slot)) + 512 ≤ length now
       loaded_low = rw is (from_low plan.old now plan.place _ _ Pointer (pointers plan.old plan.bound can.forest) _ _ _ free made way slot live anew_here slot_low pointed)
-
-      pub loaded_used : free (block_of (word now (512 * block + slot))) ≡ false
-      loaded_used = rw is (from_used plan.old now plan.place _ _ Pointer (pointers plan.old plan.bound can.forest) _ _ _ free made way slot live anew_here slot_low pointed)
 
       -- an earlier way has had the block copied
       pub made_before : IsBegun plan.job from i (front plan.job i (depth + 1)) → IsMade plan from i (depth + 1) now free

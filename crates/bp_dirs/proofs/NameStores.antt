@@ -8,11 +8,11 @@ use Rattle.pm_region.specs.Safe.{AddsMay}
 use Rattle.pm_epochs.proofs.MayLaws.{StoresMay-weaker}
 use Rattle.pm_epochs.proofs.PieceLaws.{IsPiece-append, IsPiece-store}
 use Rattle.pm_region.proofs.MemoryLaws.{adds_both, base-adds}
-use Rattle.pm_region.proofs.MayLaws.{may_one, may_store, may_more, may_frame, room_after_may}
+use Rattle.pm_region.proofs.MayLaws.{may_one, may_store, may_frame, room_after_may}
 use Rattle.bp_layout.specs.Words.{word, byte_of}
 use Rattle.bp_tree.specs.Within.{IsWithin}
 use Rattle.bp_tree.proofs.OneStore.{stored_here, stored_elsewhere}
-use Rattle.bp_dirs.specs.Written.{AddsFrom, HasNameAt}
+use Rattle.bp_dirs.specs.Written.{AddsFrom}
 
 -- the length of a name and its first words
 pub record NameSoFar (old new : Memory) (place words : ℕ) (name : List ℕ) : Type 0 where
@@ -52,12 +52,6 @@ module _ (old middle : Memory) (place words : ℕ) (name : List ℕ) (before : N
       count = stored_elsewhere middle new (place + 2 + words) value adds (place + 1) (λ e. omega (arith, e)) ∙ before.count;
       bytes = λ o low done. here_or_before o low done (cases_eq (o / 8) words);
     }
-
-  pub name_done : words ≤ 30 → length name ≤ 8 * words → HasNameAt (current_words middle) place name
-  name_done few all = record { count = before.count; bytes = λ o low. before.bytes o low (omega (arith, low, all)) }
-
-  pub name_stores : words ≤ 30 → AddsMay (AnyAt (IsWithin (place + 1) 31)) 0 31 old middle
-  name_stores few = may_more (AnyAt (IsWithin (place + 1) 31)) 0 (words + 1) 0 31 old middle (omega arith) (omega (arith, few)) before.stores
 
 -- the inumber, and then the length and the name
 module _ (old middle new : Memory) (place j : ℕ) (in_range : place < length old.base) (enters : Adds old middle (Store place j ∷ [])) (spells : AddsMay (AnyAt (IsWithin (place + 1) 31)) 0 31 middle new) where

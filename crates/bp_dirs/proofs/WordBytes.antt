@@ -1,10 +1,7 @@
 -- The number that bytes spell.
-use Rattle.std.proofs.Common.{◌≡◌, ℕ, zero, suc, ◌+◌, ◌*◌, ◌/◌, ◌%◌, ◌^◌, ◌<◌, ◌-◌, min, List, [], ◌∷◌, ◌++◌, length, take, drop, slice_index, inl, inr, ◌⊎◌, refl, sym, ◌∙◌, ap, arith, pow-suc}
+use Rattle.std.proofs.Common.{◌≡◌, ℕ, zero, suc, ◌+◌, ◌*◌, ◌/◌, ◌%◌, ◌^◌, ◌<◌, ◌-◌, List, [], ◌∷◌, ◌++◌, length, drop, slice_index, ◌⊎◌, refl, sym, ◌∙◌, ap, arith, pow-suc}
 use Rattle.std.proofs.Math.Nat.{div-div-eq-div-mul, pow-succ'}
 use Rattle.std.proofs.Math.Arith.{mod-mul}
-use Rattle.std.proofs.lemmas.Bool.{cases_eq}
-use Rattle.std.proofs.lemmas.List.{length-drop, take_min, get_or-set_same, get_or-set_other}
-use Rattle.std.proofs.Math.ListN.{set}
 use Rattle.bp_layout.specs.Words.{byte_of}
 use Rattle.pm_words.specs.Bytes.{word_of}
 
@@ -56,19 +53,3 @@ onto_zeros (b ∷ bytes) zeros none = omega (arith, onto_zeros bytes zeros none)
 
 pub filled_up : (whole bytes zeros : List ℕ) (n : ℕ) → word_of zeros ≡ 0 → whole ≡ bytes → word_of (whole ++ drop n zeros) ≡ word_of bytes
 filled_up whole bytes zeros n none is = ap (λ xs. word_of (xs ++ drop n zeros)) is ∙ onto_zeros bytes (drop n zeros) (zeros_less zeros n none)
-
--- a part of a name, cut at its end
-pub cut_part : (name : List ℕ) (part end : ℕ) → end ≡ min (length name) (8 * part + 8) → take (end - 8 * part) (drop (8 * part) name) ≡ take 8 (drop (8 * part) name)
-cut_part name part end is =
-    let long : end - 8 * part ≡ min 8 (length (drop (8 * part) name)) = omega (arith, is, length-drop (8 * part) name) in
-    rw long (take_min 8 (drop (8 * part) name))
-
--- one more word of a name
-pub one_more_word : (words name : List ℕ) (part value : ℕ) → part < length words → value ≡ word_of (take 8 (drop (8 * part) name)) →
-    ((k : ℕ) → k < part → slice_index words k ≡ word_of (take 8 (drop (8 * k) name))) →
-    (k : ℕ) → k < part + 1 → slice_index (set words part value) k ≡ word_of (take 8 (drop (8 * k) name))
-one_more_word words name part value inside is before k below = go (cases_eq k part)
-  where
-    go : (k ≡ part) ⊎ (k ≡ part → ⊥) → slice_index (set words part value) k ≡ word_of (take 8 (drop (8 * k) name))
-    go (inl here) = rw here (get_or-set_same words part value 0 inside ∙ is)
-    go (inr other) = get_or-set_other words part k value 0 other ∙ before k (omega (arith, other, below))

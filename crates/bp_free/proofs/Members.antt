@@ -2,7 +2,7 @@
 use Rattle.std.proofs.Common.{◌≡◌, ℕ, zero, suc, ◌+◌, ◌-◌, ◌<◌, ◌≤◌, ◌≢◌, [], ◌∷◌, ◌++◌, ◌↔◌, length, Bool, true, false, cond, set, get_or, refl, sym, ◌∙◌, ap, arith}
 use Rattle.std.specs.List.{filter, range_with_len, Contains}
 use Rattle.std.specs.List.Sorted.{IsStrictlyIncreasing}
-use Rattle.std.proofs.lemmas.List.{get_or-set_same, get_or-set_other, get_or_past, get_or-replicate, length-set, length-append, append-nil, length-replicate, get_or_at, ext_get_or}
+use Rattle.std.proofs.lemmas.List.{get_or-set_same, get_or-set_other, get_or_past, get_or-replicate, length-set, length-append, length-replicate, get_or_at}
 use Rattle.std.proofs.lemmas.List.Elements.{filter-append, filter_passes, All-contains}
 use Rattle.std.proofs.lemmas.List.Kept.{IsStrictlyIncreasing-filter}
 use Rattle.std.proofs.lemmas.List.Sums.{length-filter, count_by-le-length}
@@ -150,36 +150,6 @@ members_tell s i low = (members_has s i, members_all s i low)
 -- the members rise
 pub members_rise : (s : Set) → IsStrictlyIncreasing (members s)
 members_rise s = IsStrictlyIncreasing-filter (has s) (range_with_len 0 (length s)) (range_rises (length s))
-
--- two sets of one room with the same numbers are one
-pub same_set : (s t : Set) → length s ≡ length t → ((i : ℕ) → i < length s → has s i ≡ has t i) → s ≡ t
-same_set s t size same = ext_get_or false s t size same
-
--- the members of a set that was empty and was filled
-pub members_filled : (from to : ℕ) (old new : Set) → from ≤ to → to ≤ length old → ((k : ℕ) → has old k ≡ false) → Fills from to old new → members new ≡ range_with_len from (to - from)
-members_filled from to old new order within none fills =
-    let size : length new ≡ from + (to - from) + (length new - to) = omega (arith, order, within, fills.room) in
-    let here : 0 + from ≡ from = omega arith in
-    let there : 0 + (from + (to - from)) ≡ to = omega (arith, order) in
-    let parts : range_with_len 0 (length new) ≡ (range_with_len 0 from ++ range_with_len from (to - from)) ++ range_with_len to (length new - to) =
-    ap (range_with_len 0) size
-    ∙ range_split 0 (from + (to - from)) (length new - to)
-    ∙ ap (λ xs. xs ++ range_with_len (0 + (from + (to - from))) (length new - to)) (range_split 0 from (to - from))
-    ∙ ap (λ a. (range_with_len 0 from ++ range_with_len a (to - from)) ++ range_with_len (0 + (from + (to - from))) (length new - to)) here
-    ∙ ap (λ a. (range_with_len 0 from ++ range_with_len from (to - from)) ++ range_with_len a (length new - to)) there in
-    let front : filter (has new) (range_with_len 0 from) ≡ [] =
-    filter_none (has new) 0 from (λ k low high. fills.below k (omega (arith, high)) ∙ none k) in
-    let middle : filter (has new) (range_with_len from (to - from)) ≡ range_with_len from (to - from) =
-    filter_all (has new) from (to - from) (λ k low high. fills.inside k low (omega (arith, low, high, order))) in
-    let back : filter (has new) (range_with_len to (length new - to)) ≡ [] =
-    filter_none (has new) to (length new - to) (λ k low high. fills.above k low ∙ none k) in
-    ap (filter (has new)) parts
-    ∙ filter-append (has new) (range_with_len 0 from ++ range_with_len from (to - from)) (range_with_len to (length new - to))
-    ∙ ap (λ xs. xs ++ filter (has new) (range_with_len to (length new - to))) (filter-append (has new) (range_with_len 0 from) (range_with_len from (to - from)))
-    ∙ ap (λ xs. (xs ++ filter (has new) (range_with_len from (to - from))) ++ filter (has new) (range_with_len to (length new - to))) front
-    ∙ ap (λ xs. xs ++ filter (has new) (range_with_len to (length new - to))) middle
-    ∙ ap (λ xs. range_with_len from (to - from) ++ xs) back
-    ∙ append-nil (range_with_len from (to - from))
 
 -- ---- how many
 

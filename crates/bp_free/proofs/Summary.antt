@@ -204,16 +204,6 @@ fills_more from i old s new order fills low is =
       above = λ k high. has_with_other s i k (omega (arith, high)) ∙ fills.above k (omega (arith, high));
     })
 
--- two runs in a row
-pub fills_on : (from middle to : ℕ) (old s new : Set) → from ≤ middle → middle ≤ to → Fills from middle old s → Fills middle to s new → Fills from to old new
-fills_on from middle to old s new first second fills more = record {
-  room = more.room ∙ fills.room;
-  inside = λ k low high. elim (cases_lt k middle) [
-    | inl before ↦ more.below k before ∙ fills.inside k low before
-    | inr after ↦ more.inside k after high
-  ];
-  below = λ k low. more.below k (omega (arith, low, first)) ∙ fills.below k low;
-  above = λ k high. more.above k high ∙ fills.above k (omega (arith, high, second));
 }
 
 -- a number that was in stays in

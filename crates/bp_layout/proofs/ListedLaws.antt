@@ -1,8 +1,8 @@
 -- The names of a listing stay where another is added, and what is told of them in order is told of their bytes.
 use Rattle.std.proofs.Common.{◌≡◌, ℕ, ◌+◌, ◌<◌, ◌≤◌, List, [], ◌∷◌, ◌++◌, length, map, take, drop, Bool, refl, ◌∙◌, ap, ap₂, arith, IsSortedBy}
 use Rattle.std.proofs.Math.Seq.{drop-append_seam, take-length}
-use Rattle.std.proofs.lemmas.List.{drop-append-le, take-append-le, length-drop, length-append, length-map, map-append, get_or-map}
-use Rattle.std.proofs.lemmas.List.Elements.{All-append, All-cons, All-nil, All-tail}
+use Rattle.std.proofs.lemmas.List.{drop-append-le, take-append-le, length-drop, length-map, map-append, get_or-map}
+use Rattle.std.proofs.lemmas.List.Elements.{All-tail}
 use Rattle.bp_limits.specs.Limits.{max_name}
 use Rattle.bp_layout.specs.declared.listing.Listed.{Listed}
 use Rattle.bp_layout.specs.Listed.{AreWithin, listed_name, listed_names}
@@ -31,19 +31,6 @@ pub names_pushed : (bytes name : List ℕ) (entries : List Listed) (entry : List
 names_pushed bytes name entries entry within first len =
     map-append (listed_name (bytes ++ name)) entries (entry ∷ [])
     ∙ ap₂ (λ xs x. xs ++ x ∷ []) (names_kept bytes name entries within) (name_added bytes name entry first len)
-
--- and its names are as they have to be
-pub within_pushed : (bytes name : List ℕ) (entries : List Listed) (entry : Listed) → AreWithin bytes entries → entry.first ≡ length bytes → entry.len ≡ length name →
-    length name ≤ max_name → AreWithin (bytes ++ name) (entries ++ entry ∷ [])
-within_pushed bytes name entries entry within first len short =
-    All-append P entries (entry ∷ []) (λ k d low. let here = within k d low in (omega (arith, here.0, both), here.1))
-    (All-cons P entry [] (omega (arith, first, len, both), omega (arith, len, short)) (All-nil P))
-  where
-    P : Listed → Type 0
-    P x = (x.first + x.len ≤ length (bytes ++ name)) × (x.len ≤ max_name)
-
-    both : length (bytes ++ name) ≡ length bytes + length name
-    both = length-append bytes name
 
 -- what is sorted stays so where each element is told by another
 pub sorted-map : {A B : Type 0} (f : A → B) (before : B → B → Bool) (xs : List A) → IsSortedBy (λ x y. before (f x) (f y)) xs → IsSortedBy before (map f xs)

@@ -22,9 +22,6 @@ pub record SamePointer (t d k u e l : ℕ) : Type 0 where
   pub depth : d ≡ e
   pub index : k ≡ l
 
-pub swapped : {t d k u e l : ℕ} → SamePointer t d k u e l → SamePointer u e l t d k
-swapped s = record { tree = sym s.tree; depth = sym s.depth; index = sym s.index }
-
 -- an inode that is found stands in a block of the inode file
 pub inode_followed : (image : Image) (i : ℕ) → IsFound image (suc i) → ContentFollowed image 0 (8 * suc i)
 inode_followed image _ (root_directory f) = f

@@ -5,7 +5,7 @@ use Rattle.std.proofs.lemmas.List.Folds.{list_all-append}
 use Rattle.std.proofs.lemmas.List.{get_or-drop, length-drop}
 use Rattle.std.proofs.Math.Bool.{and-true}
 use Rattle.bp_layout.specs.PathText.{is_name, parts}
-use Rattle.bp_layout.proofs.Parts.{cut_at, first_part, only_part, parts-append, parts-one, parts-some}
+use Rattle.bp_layout.proofs.Parts.{cut_at, first_part, only_part, parts-append, parts-one}
 use Rattle.bp_path.specs.Names.{path_parts}
 
 pub and_parts : (a b : Bool) → (a && b) ≡ true → (a ≡ true) × (b ≡ true)
@@ -65,10 +65,6 @@ all_behind text end found name = ap (list_all is_name) (first_part text end foun
 
 pub all_one : (text : List ℕ) → position (λ b. b == 47) text ≡ None → list_all is_name (parts text) ≡ is_name text
 all_one text none = ap (list_all is_name) (only_part text none) ∙ and-true (is_name text)
-
-pub empty_text : (text : List ℕ) → path_parts text ≡ [] → length text ≡ 0
-empty_text [] none = refl
-empty_text (b ∷ text) none = absurd (parts-some (b ∷ text) none)
 
 pub no_text : (text : List ℕ) → length text ≡ 0 → path_parts text ≡ []
 no_text [] none = refl

@@ -11,7 +11,7 @@ use Rattle.bp_layout.proofs.View.{lookup_in-reached, lookup_from-reached, named_
 use Rattle.bp_layout.proofs.Finding.{Finds, find-passes}
 use Rattle.bp_layout.proofs.FewLeaves.{few_inodes}
 use Rattle.bp_path.specs.Walk.{Walked, onward, walk_from, WalkIsLookup}
-use Rattle.bp_path.specs.Walk.Walked.{found, missing, in_file}
+use Rattle.bp_path.specs.Walk.Walked.{found, in_file}
 
 -- a name that is looked up
 abbrev pub stepped : Image → ℕ → Path → Option ℕ → Walked
@@ -30,12 +30,6 @@ walk-dir image i name names at = rw at refl
 -- a walk over a name that a directory has
 pub walk-step : (image : Image) (i j : ℕ) (name : Name) (names : Path) → lookup_in image i name ≡ Some j → walk_from image i (name ∷ names) ≡ walk_from image j names
 walk-step image i j name names e = walk-dir image i name names (lookup_in-dir image i j name e) ∙ ap (λ o. stepped image i names o) e
-
-pub walk-file : (image : Image) (i : ℕ) (name : Name) (names : Path) → kind_of image i ≡ 1 → walk_from image i (name ∷ names) ≡ in_file
-walk-file image i name names kind = rw kind refl
-
-pub walk-missing : (image : Image) (i : ℕ) (name : Name) (names : Path) → kind_of image i ≡ 2 → slot_named image i name ≡ None → walk_from image i (name ∷ names) ≡ missing
-walk-missing image i name names kind none = rw (kind, none) refl
 
 pub lookup_in-slot : (image : Image) (i j slot : ℕ) (name : Name) → kind_of image i ≡ 2 → slot_named image i name ≡ Some slot → inumber_at image i slot ≡ j → lookup_in image i name ≡ Some j
 lookup_in-slot image i j slot name kind at is = rw (kind, at) (ap Some is)

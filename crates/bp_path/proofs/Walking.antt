@@ -72,9 +72,6 @@ fails image text rest behind name place here split =
 pub all_before : (image : Image) (text rest : List ℕ) (place : Place) → (here : HasCome image text rest place) → length rest ≡ 0 → path_parts text ≡ here.before
 all_before image text rest place here none = here.splits ∙ ap (λ ps. here.before ++ ps) (no_text rest none) ∙ append-nil here.before
 
-pub arrives : (image : Image) (text rest : List ℕ) (place : Place) → HasCome image text rest place → length rest ≡ 0 → lookup image (path_parts text) ≡ Some place.inumber
-arrives image text rest place here none = ap (lookup image) (all_before image text rest place here none) ∙ here.leads
-
 pub walked : (image : Image) (text rest : List ℕ) (place : Place) → HasCome image text rest place → length rest ≡ 0 → found place.inumber ≡ walk_from image 1 (path_parts text)
 walked image text rest place here none =
     sym (ap (walk_from image 1) (here.splits ∙ ap (λ ps. here.before ++ ps) (no_text rest none)) ∙ walk_on image 1 place.inumber here.before [] here.leads)

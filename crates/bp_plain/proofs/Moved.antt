@@ -69,9 +69,6 @@ module _ (p q : Path) (can : CanMove p q) where
       not_there : (n : Name) (s : Path) → e.0 ≡ q ++ n ∷ s → ⊥
       not_there n s here = let some : ◌≡◌ {A = Option Node} (Some e.1) None = rw (ties (q ++ n ∷ s) e.0 (sym here)) at (none n s) in absurd (cc)
 
-      Goal : Type 0
-      Goal = find path_cmp (q ++ r) (filter_map (moved_entry p q) (e ∷ es)) ≡ find path_cmp (p ++ r) (e ∷ es)
-
       go : (((n : Name) (s : Path) → find path_cmp (q ++ n ∷ s) es ≡ None) → find path_cmp (q ++ r) (filter_map (moved_entry p q) es) ≡ find path_cmp (p ++ r) es) →
           (b : Bool) → same_path e.0 q ≡ b → Key e.0 →
           find path_cmp (q ++ r) (filter_map (moved_entry p q) (e ∷ es)) ≡ find path_cmp (p ++ r) (e ∷ es)

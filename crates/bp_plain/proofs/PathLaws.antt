@@ -22,12 +22,6 @@ use Rattle.bp_plain.specs.SeenTree.{names_of}
 abbrev pub refusals_of : List (Option FsError) → List (Option Refusal)
 refusals_of found = map (option_map refusal_of) found
 
-pub first_here : (found : List (Option FsError)) (i : ℕ) (d : Option FsError) (error : FsError) → i < length found → get_or found i d ≡ Some error → first (refusals_of (drop i found)) ≡ Some (refusal_of error)
-first_here found i d error low at = rw (drop_more found i d low, at) refl
-
-pub first_later : (found : List (Option FsError)) (i : ℕ) (d : Option FsError) → i < length found → get_or found i d ≡ None → first (refusals_of (drop (i + 1) found)) ≡ first (refusals_of (drop i found))
-first_later found i d low at = rw (drop_more found i d low, at) refl
-
 pub first_of_four : (a b c d : Option FsError) (e f g h : Option Refusal) →
     option_map refusal_of a ≡ e → option_map refusal_of b ≡ f → option_map refusal_of c ≡ g → option_map refusal_of d ≡ h → first (refusals_of (a ∷ b ∷ c ∷ d ∷ [])) ≡ first (e ∷ f ∷ g ∷ h ∷ [])
 first_of_four a b c d e f g h one two three four = rw (one, two, three, four) refl

@@ -8,7 +8,6 @@ use Rattle.bp_layout.specs.Tree.{IsSound, IsFull}
 use Rattle.bp_layout.specs.Inode.{kind_of, root_of, size_of}
 use Rattle.bp_layout.specs.Checks.{Fails}
 use Rattle.bp_layout.specs.declared.check.Check.{Check}
-use Rattle.bp_spelling.specs.Names.{AreNames}
 use Rattle.bp_walk.proofs.TakenLaws.{known, length_without, has_without}
 use Rattle.bp_scan.specs.Misspelled.{FailsNames}
 use Rattle.bp_scan.specs.Reading.{HasWholeInodes, IsReading, IsAtHand, IsInside, work}
@@ -50,9 +49,6 @@ module _ (image : Image) (ready : HasWholeInodes image) (blocks inodes todo : Se
   pub begun_names_fail : (c : Check) (p : ℕ) → FailsNames image directory.tree.root directory.tree.size c p → Fails image c p
   begun_names_fail c p fails =
       names_fail image ready blocks inodes todo directory.inode 0 at.reading at.entered at.kind c p (along (λ x y. FailsNames image x y c p) _ _ _ _ root size fails)
-
-  pub begun_inside : AreNames image directory.tree.root directory.tree.size → IsInside image blocks inodes todo directory 0
-  begun_inside names = record { at = at; root = sym root; size = sym size; names = names }
 
 -- its last slot is past
 pub finished : (image : Image) (blocks inodes todo : Set) (directory : Directory) → IsInside image blocks inodes todo directory (directory.tree.size / 256) → IsReading image blocks inodes todo 0 0

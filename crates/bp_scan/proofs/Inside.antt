@@ -50,12 +50,6 @@ module _ (image : Image) (ready : HasWholeInodes image) (blocks inodes todo : Se
       let few : inode_count image ≤ 64 * block_count image = few_inodes image (root_of image 0) (size_of image 0) inodes_sound inodes_full (omega (arith, ready.formatted.at_least)) ready.inode_blocks in
       omega (arith, few, reading.room)
 
-  pub blocks_room : length blocks ≡ block_count image
-  blocks_room = scanned.takes.room ∙ reading.midway.whole.room
-
-  pub blocks_not_first : has blocks 0 ≡ false
-  blocks_not_first = scanned.takes.less 0 reading.midway.whole.not_first
-
   -- an inode in the set is not to do
   pub new_not_to_do : (j : ℕ) → has inodes j ≡ true → has todo j ≡ false
   new_not_to_do j new = go (known (has todo j))

@@ -29,14 +29,6 @@ asked_one : (verb : List ℕ) → asked_by (verb ∷ []) ≡ bare_command verb
 asked_one [] = refl
 asked_one (v ∷ verb) = rw (filled (v ∷ verb) (omega arith)) refl
 
-pub asked_two : (verb word : List ℕ) → 0 < length word → asked_by (verb ∷ word ∷ []) ≡ word_command verb word
-asked_two [] word some = refl
-asked_two (v ∷ verb) word some = rw (filled (v ∷ verb) (omega arith), filled word some) refl
-
-pub asked_three : (verb first second : List ℕ) → 0 < length first → 0 < length second → asked_by (verb ∷ first ∷ second ∷ []) ≡ pair_command verb first second
-asked_three [] first second some some_second = refl
-asked_three (v ∷ verb) first second some some_second = rw (filled (v ∷ verb) (omega arith), filled first some, filled second some_second) refl
-
 asked_four : (verb first second third : List ℕ) → 0 < length first → 0 < length second → 0 < length third → asked_by (verb ∷ first ∷ second ∷ third ∷ []) ≡ long_command verb first second third
 asked_four [] first second third some some_second some_third = refl
 asked_four (v ∷ verb) first second third some some_second some_third =
@@ -58,17 +50,6 @@ either_true false = refl
 pub second_empty : (verb word : List ℕ) (more : List (List ℕ)) → length word ≡ 0 → asked_by (verb ∷ word ∷ more) ≡ bad_syntax
 second_empty verb (w ∷ word) more none = absurd (omega (arith, none))
 second_empty verb [] more none = rw (either_true (is_empty_word verb)) refl
-
-pub third_empty : (verb first word : List ℕ) (more : List (List ℕ)) → length word ≡ 0 → asked_by (verb ∷ first ∷ word ∷ more) ≡ bad_syntax
-third_empty verb first (w ∷ word) more none = absurd (omega (arith, none))
-third_empty verb first [] more none = rw (either_true (is_empty_word first), either_true (is_empty_word verb)) refl
-
-fourth_empty : (verb first second : List ℕ) → asked_by (verb ∷ first ∷ second ∷ [] ∷ []) ≡ bad_syntax
-fourth_empty verb first second = rw (either_true (is_empty_word second), either_true (is_empty_word first), either_true (is_empty_word verb)) refl
-
-pub nothing_behind : (verb first second rest : List ℕ) → length rest ≡ 0 → asked_by (verb ∷ first ∷ second ∷ words_of rest) ≡ bad_syntax
-nothing_behind verb first second (r ∷ rest) none = absurd (omega (arith, none))
-nothing_behind verb first second [] none = fourth_empty verb first second
 
 -- ---- a fourth word with a space: there are more words, and it is neither a number nor bytes
 
@@ -177,18 +158,6 @@ decoded-bare verb = go (bytes_eq verb (codes "sync")) (bytes_eq verb (codes "spa
 
 pub bare_asked : (verb : List ℕ) → bare_command verb ≡ decoded (asked_by (verb ∷ []))
 bare_asked verb = decoded-bare verb ∙ ap decoded (sym (asked_one verb))
-
-pub decoded-whole : (word : List ℕ) → whole_crash word ≡ decoded (whole_crash word)
-decoded-whole word = go (bytes_eq word (codes "all")) (bytes_eq word (codes "none"))
-  where
-    go : (a b : Bool) → (if a then crash all else if b then crash nothing else bad_syntax) ≡ decoded (if a then crash all else if b then crash nothing else bad_syntax)
-    go true b = refl
-    go false true = refl
-    go false false = refl
-
-pub decoded-storm : (seed : Option ℕ) → storm_command seed ≡ decoded (storm_command seed)
-decoded-storm None = refl
-decoded-storm (Some seed) = refl
 
 pub decoded-truncate : (path : List ℕ) (size : Option ℕ) → truncate_command (path_bytes path) size ≡ decoded (truncate_command path size)
 decoded-truncate path None = refl

@@ -197,11 +197,6 @@ does_log memory outcome answer is = record {
   words = λ _. refl;
 }
 
--- a cut that the log allows is crashed to
-pub has_crashed : (old new : Memory) (cut : Cut) (outcome : Outcome) → IsRight old.events cut → CrashesTo old cut outcome new → HasCrashed old cut outcome new
-has_crashed old new cut outcome right (inl does) = does
-has_crashed old new cut outcome right (inr does) = absurd (does.wrong right)
-
 -- ---- the counts of a log
 
 pub one_more_event : (events : List Event) (i : ℕ) (event : Event) → slice_get events i ≡ Some event → take (i + 1) events ≡ take i events ++ event ∷ []
@@ -217,15 +212,6 @@ one_more_mark events i event at = ap marks (one_more_event events i event at) �
 
 -- ---- more of what a line did
 
-pub does_syntax : (memory : Memory) (answer : Answer) → Does memory bad_syntax BadSyntax answer memory
-does_syntax memory answer = record {
-  line = λ saved. record { told = refl; same = refl };
-  size = refl;
-  capacity = refl;
-  is_sync = λ e. absurd (let no : ◌≡◌ {A = Outcome} BadSyntax Synced = e in cc);
-  synced = λ e. absurd (let no : bad_syntax ≡ sync = e in cc);
-  others = λ _ saved. refl;
-  words = λ _. refl;
 }
 
 pub does_long : (memory : Memory) (answer : Answer) → Does memory too_long TooLong answer memory

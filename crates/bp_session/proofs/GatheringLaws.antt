@@ -45,10 +45,6 @@ part_then x y a b t u v one part =
     let whole : a ++ (x ++ y) ≡ one.sent ++ (b ++ y) = sym (append_assoc a x y) ∙ ap (λ l. l ++ y) one.whole ∙ append_assoc one.sent b y in
     part_behind (a ++ (x ++ y)) one.sent (b ++ y) t u v whole one.took part
 
--- what passed and then was handed over
-pub passed_all : (x a b : List ℕ) (t u v : Option (List ℕ)) → PassesOn x a b t u → Appends u v b → Appends t v (a ++ x)
-passed_all x a b t u v one handed = rw one.whole (Appends-trans t u v one.sent b one.took handed)
-
 pub passed_part : (x a b : List ℕ) (t u v : Option (List ℕ)) → PassesOn x a b t u → TakesPart b u v → TakesPart (a ++ x) t v
 passed_part x a b t u v one part = part_behind (a ++ x) one.sent b t u v one.whole one.took part
 

@@ -7,8 +7,8 @@ use Rattle.memchr.specs.Find.{IsFirst, IsFirstByte, Nowhere, Passes, is_byte}
 use Rattle.bp_session.specs.Lines.{commands_from}
 use Rattle.bp_script.specs.Commands.{command_of}
 use Rattle.bp_session.specs.Gathering.{LineGathers, Reaches}
-use Rattle.bp_session.specs.Serving.{Keeps, Moment, PieceOutcome}
-use Rattle.bp_session.proofs.AheadLaws.{Waits, line_ends, line_keeps, line_waits, reaches_then, waits_run}
+use Rattle.bp_session.specs.Serving.{Moment, PieceOutcome}
+use Rattle.bp_session.proofs.AheadLaws.{Waits, line_ends, line_waits, reaches_then, waits_run}
 use Rattle.bp_session.proofs.OutcomeLaws.{piece_stops}
 use Rattle.bp_session.proofs.ServingLaws.{commands_at_run, commands_kept, take_more, take_next}
 
@@ -83,6 +83,3 @@ module _ (start : Moment) (most : ℕ) (xs held middle kept a : List ℕ) (at en
     next_ends status count keeps other inside line =
         reaches_then status most _ _ new (λ moment piece. line_stops status xs held keeps (end + 1) count start moment other inside piece)
         (subst (λ (l : List ℕ). Reaches status most (PieceOutcome status held l keeps start) new) next (line_ends start most held (take end xs) kept a now run_waits new status b keeps other line))
-
-    pub next_keeps : (status : ℕ) → LineGathers status (command_of kept) a b now new → Keeps status start new
-    next_keeps status line = line_keeps start most held (take end xs) kept a now run_waits new status b line

@@ -14,7 +14,7 @@ use Rattle.bp_script.specs.Texts.{LineReply, reply_text}
 use Rattle.bp_session.specs.Lines.{text_of}
 use Rattle.bp_session.specs.Session.{State, Line, Session}
 use Rattle.bp_session.specs.Acting.{state}
-use Rattle.bp_session.specs.Serving.{Acts, SyncFails, Told, Serves, ServesAll, Cuts, Stops}
+use Rattle.bp_session.specs.Serving.{Acts, Told, Serves, ServesAll, Cuts, Stops}
 
 -- ---- sessions
 
@@ -110,8 +110,6 @@ commands_of_nothing = refl
 -- ---- serving
 
 module _ (holds : Image → Type 0) where
-  pub serves_nothing : (memory : Memory) (saved : Image) (held : List ℕ) (t : Option (List ℕ)) → holds saved → Serves (state memory saved) memory holds held [] held t t
-  serves_nothing memory saved held t file = record { commands = []; lines = λ rest. refl; after = saved; file = file; told = told_none (state memory saved) t }
 
   -- input that ends no line
   pub serves_quietly : (memory : Memory) (saved : Image) (held input keeps : List ℕ) (t : Option (List ℕ)) → holds saved → ((rest : List ℕ) → commands_from held (input ++ rest) ≡ commands_from keeps rest) → Serves (state memory saved) memory holds held input keeps t t
@@ -174,9 +172,6 @@ stops_then old middle new partly xs ys t u v first stop = record {
   told = told_then old middle stop.middle xs stop.front t u v first stop.told;
   fails = stop.fails;
 }
-
-pub stops_line : (old : State) (memory : Memory) (partly : Image → Image → Type 0) (command : Command) (more : List Command) (t : Option (List ℕ)) → SyncFails old memory partly command → Stops old memory partly (command ∷ more) t t
-stops_line old memory partly command more t fails = record { front = []; last = command; more = more; are = refl; middle = old; told = told_none old t; fails = fails }
 
 -- ---- what a line's end adds
 

@@ -55,6 +55,3 @@ module _ (image : Image) (bound : ℕ → ℕ) (forest : IsForest image bound) w
 
   pub unheld_exact : (set : ℕ → Bool) → AreUnheld image (IsReached image) bound set → IsExactSet image (IsTreePointer image bound) set
   unheld_exact set unheld = unheld-exact image (IsTreePointer image bound) (IsReached image) bound set held_led led_held unheld
-
-  pub exact_unheld : (set : ℕ → Bool) → IsExactSet image (IsTreePointer image bound) set → AreUnheld image (IsReached image) bound set
-  exact_unheld set exact = exact-unheld image (IsTreePointer image bound) (IsReached image) bound set held_led led_held exact

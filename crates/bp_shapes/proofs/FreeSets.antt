@@ -1,18 +1,16 @@
 -- What a well-formed image gives under the sizes that it has: its free blocks by pointers, and the word paths of content words.
-use Rattle.std.proofs.Common.{◌≡◌, ◌≢◌, ◌⊎◌, ℕ, zero, suc, ◌*◌, ◌/◌, ◌%◌, ◌<◌, ◌≤◌, List, Bool, true, false, refl, sym, ◌∙◌, ap, subst, arith, inl, inr}
-use Rattle.std.specs.List.{slice_index}
+use Rattle.std.proofs.Common.{◌≡◌, ◌≢◌, ◌⊎◌, ℕ, zero, suc, ◌*◌, ◌/◌, ◌%◌, ◌<◌, ◌≤◌, List, Bool, sym, ◌∙◌, ap, subst, arith, inl, inr}
 use Rattle.std.proofs.lemmas.Bool.{cases_eq}
 use Rattle.bp_layout.specs.Words.{Image, word, height_of}
 use Rattle.bp_layout.specs.Tree.{IsLivePointer}
 use Rattle.bp_layout.proofs.TreeLaws.{live_above, live_content}
-use Rattle.bp_shapes.specs.Trail.{trail_of, block_on, LeadsTo}
+use Rattle.bp_shapes.specs.Trail.{trail_of}
 use Rattle.bp_layout.specs.Inode.{root_of, size_of, inode_count}
-use Rattle.bp_layout.specs.Reached.{IsReached, IsLiveBlock, IsFreeBlock}
+use Rattle.bp_layout.specs.Reached.{IsReached}
 use Rattle.bp_layout.specs.WellFormed.{IsWellFormed}
 use Rattle.bp_layout.proofs.Reached.{reached-in_file}
-use Rattle.bp_shapes.specs.Forest.{IsExactSet, IsForest, IsTreePointer, tree_trail}
-use Rattle.bp_shapes.proofs.ForestLaws.{block-tree, pointers, same_trail, short}
-use Rattle.bp_shapes.proofs.Unseen.{live_leads}
+use Rattle.bp_shapes.specs.Forest.{IsForest, IsTreePointer, tree_trail}
+use Rattle.bp_shapes.proofs.ForestLaws.{pointers, same_trail, short}
 
 pub wf_forest : (image : Image) → IsWellFormed image → IsForest image (size_of image)
 wf_forest image wf =
@@ -24,30 +22,7 @@ wf_forest image wf =
       apart = wf.apart;
     }
 
-pub leads_live : (image : Image) (bound : ℕ → ℕ) → IsForest image bound → ((t : ℕ) → bound t ≡ size_of image t) → (b : ℕ) → LeadsTo image (IsTreePointer image bound) b → IsLiveBlock image b
-leads_live image bound forest same b has = record {
-  tree = has.pointer.tree;
-  reached = has.pointer.reached;
-  has = record {
-    depth = has.pointer.depth;
-    index = has.pointer.index;
-    pointer = record { level = has.pointer.live.level; height = has.pointer.live.height; live = rw (sym (same has.pointer.tree)) has.pointer.live.live };
-    named = sym (block-tree image bound forest has.pointer.tree has.pointer.depth has.pointer.index) ∙ ap (block_on image) has.pointer.named ∙ has.named;
-    not_null = has.not_null;
-  };
 }
-
--- an exact set under the sizes of the image has just the free blocks
-pub exact_free : (image : Image) (free : ℕ → Bool) → IsWellFormed image → IsExactSet image (IsTreePointer image (size_of image)) free → (b : ℕ) → free b ≡ true → IsFreeBlock image b
-exact_free image free wf exact b is =
-    let range = exact.in_range b is in
-    record { low = range.0; high = range.1; free = λ live. clash (exact.live b (live_leads image (size_of image) (wf_forest image wf) (λ t r. omega arith) b live)) }
-  where
-    clash : free b ≡ false → ⊥
-    clash used = absurd (cc)
-
-pub free_exact : (image : Image) (free : ℕ → Bool) → IsWellFormed image → IsExactSet image (IsTreePointer image (size_of image)) free → (b : ℕ) → IsFreeBlock image b → free b ≡ true
-free_exact image free wf exact b open_block = exact.dead b open_block.low open_block.high (λ has. open_block.free (leads_live image (size_of image) (wf_forest image wf) (λ t. refl) b has))
 
 -- ---- what the path of a content word gives a caller
 
@@ -70,9 +45,6 @@ module _ (image : Image) (bound : ℕ → ℕ) (forest : IsForest image bound) (
     content_fronts d low =
         let up : trail_of path count ≡ tree_trail (height_of (word image 2)) t (height_of (root_of image t)) (k / 512) = cc in
         pointer_fronts count d low (record { tree = t; depth = height_of (root_of image t); index = k / 512; reached = reached; live = leaf; named = sym up })
-
-    pub content_slot : slice_index path count < 512
-    content_slot = let e : slice_index path count ≡ k % 512 = cc in omega (arith, e)
 
     pub content_no_pointer : (t ≡ 0 → k % 8 ≢ 1) → IsTreePointer image bound (trail_of path (suc count)) → ⊥
     content_no_pointer no_root one =

@@ -16,7 +16,7 @@ use Rattle.bp_changes.proofs.ContentStore.{word-stored, word-elsewhere}
 use Rattle.bp_changes.specs.SameContent.{SameContent, IsReadByWords}
 use Rattle.bp_shapes.specs.Links.{IsUnder, CanHang}
 use Rattle.bp_shapes.specs.Links.IsUnder.{here, under}
-use Rattle.bp_shapes.proofs.Reshape.{Reshapes, reshaped_same}
+use Rattle.bp_shapes.proofs.Reshape.{Reshapes}
 use Rattle.bp_shapes.proofs.RootLink.{inode_root}
 
 pub below_depth : (d k e l q : ℕ) → IsUnder d k e l q → e ≡ suc d + q
@@ -287,7 +287,3 @@ module _ (old : Image) (wf : IsWellFormed old) (t d k place block : ℕ) (hang :
     blocks = blocks;
     full = λ full. absurd (full (suc d) k hang.live hang.null);
   }
-
-  -- the link of a null
-  pub null_link_same : Same old new
-  null_link_same = reshaped_same old new wf t r hung_reshapes

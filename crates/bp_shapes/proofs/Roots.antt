@@ -6,7 +6,6 @@ use Rattle.bp_layout.specs.Reached.{IsLiveBlock}
 use Rattle.bp_layout.proofs.TreeLaws.{word_at-suc, word_at-zero, live_pointer_word, live_above}
 use Rattle.bp_shapes.proofs.Raising.{Raises, node-raised, content-raised, live_lowered}
 use Rattle.bp_layout.proofs.TreeLaws.{first_index}
-use Rattle.bp_layout.proofs.SmallTrees.{empty_sound, empty_has_none, none_live}
 use Rattle.bp_changes.specs.SameContent.{ReadsAs}
 
 pub reads_self : (ByWords : Type 0) (image : Image) (size root : ℕ) → IsSound image root size → ReadsAs ByWords image size root root
@@ -133,30 +132,6 @@ null_tree image root null (suc d) k = ap block_of (null_word image root d k (nul
 pub null_words : (image : Image) (root : ℕ) → block_of root ≡ 0 → (d k : ℕ) → word_at image root (suc d) k ≡ 0
 null_words image root null d k = word_at-suc image root d k ∙ ap (λ b. slot_word image b (k % 512)) (null_tree image root null d (k / 512))
 
--- a null root of another height
-pub null_reads : (ByWords : Type 0) (image : Image) (size root other : ℕ) → 0 < block_count image → block_of root ≡ 0 → block_of other ≡ 0 → height_of other ≤ 3 → other / 8 % 512 ≡ 0 → size ≤ covered (suc (height_of other)) → ReadsAs ByWords image size root other
-null_reads ByWords image size root other some null also low bits fits = record {
-  sound = record {
-    low = λ h. low;
-    root_bits = λ h. bits;
-    pointer_bits = λ d k live. ap (λ w. w % 4096) (null_words image other also d k);
-    in_range = λ d k live. rw (null_tree image other also d k) some;
-    once = λ d k e l live alive present same. absurd (present (null_tree image other also d k));
-    fits = fits;
-  };
-  content = record {
-    words = λ exact k below. null_words image other also (height_of other) k ∙ sym (null_words image root null (height_of root) k);
-    bytes = λ o below. ap (λ w. byte_of w (o % 8)) (null_words image other also (height_of other) (o / 8) ∙ sym (null_words image root null (height_of root) (o / 8)));
-  };
-  blocks = λ b has. absurd (has.not_null (sym has.named ∙ null_tree image other also has.depth has.index));
-  full = λ full d k live is_null. full 0 0 (record { level = height_of root; height = omega arith; live = omega (arith, live.live) }) (null_tree image root null 0 0);
 }
 
--- at size 0 any root word reads as any other
-pub empty_reads : (ByWords : Type 0) (image : Image) (root other : ℕ) → ReadsAs ByWords image 0 root other
-empty_reads ByWords image root other = record {
-  sound = empty_sound image other;
-  content = record { words = λ exact k below. absurd (omega (arith, below)); bytes = λ o below. absurd (omega (arith, below)) };
-  blocks = λ b has. absurd (empty_has_none image other b has);
-  full = λ full d k live. absurd (none_live other d k live);
 }

@@ -173,12 +173,6 @@ never_missing (f.BadSize found wanted) e = cc
 never_missing (f.Damaged check place) e = cc
 never_missing f.Memory e = cc
 
-pub never_outside : (fault : MountFault) → stop_by fault ≡ Outside → ⊥
-never_outside f.NotFormatted e = cc
-never_outside (f.BadSize found wanted) e = cc
-never_outside (f.Damaged check place) e = cc
-never_outside f.Memory e = cc
-
 pub if_missing : (stop : Stop) → stop ≡ Missing → stop ≡ Outside → ⊥
 if_missing stop is e = let no : ◌≡◌ {A = Stop} Missing Outside = sym is ∙ e in cc
 

@@ -1,5 +1,5 @@
 -- One more slot of a walk over the entries.
-use Rattle.std.proofs.Common.{◌≡◌, ◌≢◌, ◌⊎◌, ℕ, ◌+◌, ◌-◌, ◌<◌, ◌≤◌, suc, List, [], ◌∷◌, ◌++◌, length, take, sym, ◌∙◌, ap, subst, arith, inl, inr, append_assoc, append-nil}
+use Rattle.std.proofs.Common.{◌≡◌, ◌≢◌, ◌⊎◌, ℕ, ◌+◌, ◌-◌, ◌<◌, ◌≤◌, suc, List, [], ◌∷◌, ◌++◌, length, take, sym, ◌∙◌, ap, subst, arith, inl, inr, append_assoc}
 use Rattle.std.specs.List.{range_with_len, All}
 use Rattle.std.proofs.Math.ListN.{set}
 use Rattle.std.proofs.lemmas.Bool.{cases_eq}
@@ -19,13 +19,6 @@ next_slot : (slot end : ℕ) → slot < end → range_with_len slot (end - slot)
 next_slot slot end below = let n : end - slot ≡ suc (end - (slot + 1)) = omega (arith, below) in ap (range_with_len slot) n
 
 module _ (image : Image) (root end : ℕ) (entries : List Spelled) where
-  pub gathered_none : IsGathered image root end 0 entries 0
-  gathered_none = record {
-    few = omega arith;
-    gathered = let n : end - 0 ≡ end = omega arith in ap (λ k. used_places image root (range_with_len 0 k)) n;
-    hashed = λ k d low. absurd (omega (arith, low));
-    present = λ k d low. absurd (omega (arith, low));
-    forms = λ k low. absurd (omega (arith, low));
   }
 
   more_forms : (slot : ℕ) → ((k : ℕ) → k < slot → inumber_in image root k ≢ 0 → IsName (name_in image root k)) → (inumber_in image root slot ≢ 0 → IsName (name_in image root slot)) →
@@ -66,8 +59,3 @@ module _ (image : Image) (root end : ℕ) (entries : List Spelled) where
         present = subst (All IsPresent) (sym (take_more_set entries count entry inside)) (All-push IsPresent (take count entries) entry is.present present);
         forms = more_forms slot is.forms (λ also. form);
       }
-
-  pub gathered_all : (slot count : ℕ) → end ≤ slot → IsGathered image root end slot entries count → places_of (take count entries) ≡ used_places image root (range_with_len 0 end)
-  gathered_all slot count late is =
-      let none : end - slot ≡ 0 = omega (arith, late) in
-      sym (append-nil (places_of (take count entries))) ∙ sym (ap (λ n. places_of (take count entries) ++ used_places image root (range_with_len slot n)) none) ∙ is.gathered

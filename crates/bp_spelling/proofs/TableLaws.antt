@@ -1,8 +1,8 @@
 -- A table of names, cell by cell, and what it tells of the entries that were put into it.
-use Rattle.std.proofs.Common.{◌≡◌, ◌≢◌, ℕ, ◌+◌, ◌<◌, ◌≤◌, List, ◌∷◌, length, set, replicate, sym, ◌∙◌, ap, ap₂, subst, arith, inl, inr}
+use Rattle.std.proofs.Common.{◌≡◌, ◌≢◌, ℕ, ◌+◌, ◌<◌, ◌≤◌, List, ◌∷◌, length, set, sym, ◌∙◌, ap, ap₂, subst, arith, inl, inr}
 use Rattle.std.specs.List.{All}
 use Rattle.std.proofs.lemmas.Bool.{cases_eq, cases_lt}
-use Rattle.std.proofs.lemmas.List.{get_or-set_same, get_or-set_other, get_or_past, get_or-replicate, length-set, length-replicate}
+use Rattle.std.proofs.lemmas.List.{get_or-set_same, get_or-set_other, length-set}
 use Rattle.bp_layout.specs.Words.{Image}
 use Rattle.bp_spelling.specs.declared.entry.Spelled.{Spelled}
 use Rattle.bp_spelling.specs.Hashes.{IsSpelled, places_of, spelled_key}
@@ -33,11 +33,6 @@ module _ (image : Image) (table : List Spelled) (entry : Spelled) where
     pub taken : (before : ℕ) → home (length table) entry.hash ≤ before → before < cell → (cell_at table before).place ≢ 0
     pub others : (before : ℕ) → home (length table) entry.hash ≤ before → before < cell → spelled_key image (cell_at table before) ≡ spelled_key image entry → ⊥
 
-  pub passes_none : PassesBy (home (length table) entry.hash)
-  passes_none = record {
-    from = omega arith;
-    taken = λ before low high. absurd (omega (arith, low, high));
-    others = λ before low high. absurd (omega (arith, low, high));
   }
 
   pub passes_more : (cell : ℕ) → PassesBy cell → (cell_at table cell).place ≢ 0 → (spelled_key image (cell_at table cell) ≡ spelled_key image entry → ⊥) → PassesBy (cell + 1)
@@ -124,39 +119,11 @@ pub record IsHeld (image : Image) (entries : List Spelled) (count : ℕ) (table 
   pub apart : (i j : ℕ) → i < j → j < count → spelled_key image (cell_at entries i) ≡ spelled_key image (cell_at entries j) → ⊥
   pub cells : (c : ℕ) → IsPresent (cell_at table c) → IsOneOf entries count (cell_at table c)
 
-blank_at : (n c : ℕ) → (cell_at (replicate n empty_cell) c).place ≡ 0
-blank_at n c = elim (cases_lt c n) [
-  | inl low ↦ ap (λ (e : Spelled). e.place) (get_or-replicate n c empty_cell empty_cell low)
-  | inr past ↦
-      let long : length {A = Spelled} (replicate n empty_cell) ≡ n = length-replicate n empty_cell in
-      ap (λ (e : Spelled). e.place) (get_or_past (replicate n empty_cell) c empty_cell (omega (arith, past, long)))
 ]
 
 module _ (image : Image) (entries : List Spelled) where
-  pub held_none : (n : ℕ) (table : List Spelled) → table ≡ replicate n empty_cell → IsHeld image entries 0 table
-  held_none n table blank = record {
-    kept = λ k low. absurd (omega (arith, low));
-    apart = λ i j order low. absurd (omega (arith, low));
-    cells = λ c some. absurd (some (ap (λ (t : List Spelled). (cell_at t c).place) blank ∙ blank_at n c));
   }
 
-  pub held_more : All IsPresent entries → (count : ℕ) → count < length entries → (old new : List Spelled) → IsHeld image entries count old → Puts image old new (cell_at entries count) →
-      IsHeld image entries (count + 1) new
-  held_more present count within old new held joins = record {
-    kept = λ k low. elim (cases_eq k count) [
-      | inl here ↦ subst (λ (x : ℕ). IsKept new (cell_at entries x)) (sym here) joins.here
-      | inr apart ↦ joins.keeps (cell_at entries k) (some k (omega (arith, low, within))) (held.kept k (omega (arith, low, apart)))
-    ];
-    apart = λ i j order low. elim (cases_eq j count) [
-      | inl here ↦ λ same. joins.alone (cell_at entries i) (some i (omega (arith, order, low, within))) (held.kept i (omega (arith, order, here))) (same ∙ ap (λ (x : ℕ). spelled_key image (cell_at entries x)) here)
-      | inr apart ↦ held.apart i j order (omega (arith, low, apart))
-    ];
-    cells = λ c some. elim (joins.cells c) [
-      | inl was ↦
-          let at = held.cells c (λ none. some (ap (λ (e : Spelled). e.place) was ∙ none)) in
-          record { index = at.index; low = omega (arith, at.low); is = at.is ∙ sym was }
-      | inr is ↦ record { index = count; low = omega arith; is = sym is }
-    ];
   }
     where
       some : (k : ℕ) → k < length entries → IsPresent (cell_at entries k)

@@ -1,5 +1,5 @@
 -- The plain tree of an image in which the bytes of one file have changed.
-use Rattle.std.proofs.Common.{◌≡◌, ◌⊎◌, ℕ, suc, List, Bool, true, false, set, Option, None, Some, refl, sym, ◌∙◌, subst, inl, inr}
+use Rattle.std.proofs.Common.{◌≡◌, ◌⊎◌, ℕ, List, Bool, true, false, Option, None, Some, refl, sym, ◌∙◌, subst, inl, inr}
 use Rattle.std.proofs.lemmas.Bool.{cases_eq}
 use Rattle.std.specs.FinMap.{get, get-insert}
 use Rattle.std.specs.Ordering.{eq_by_cmp}
@@ -12,7 +12,6 @@ use Rattle.bp_layout.specs.WellFormed.{IsWellFormed}
 use Rattle.bp_layout.proofs.Paths.{path_once}
 use Rattle.bp_changes.specs.Effects.{ChangesFile}
 use Rattle.bp_changes.proofs.ChangesFile.{well_formed-same, shown_file, shown_other}
-use Rattle.bp_changes.proofs.Resize.{CanResize, resize_changes, bytes_of_file}
 use Rattle.bp_plain.specs.Plain.{with_bytes}
 use Rattle.bp_plain.specs.PlainTree.{FileTree, path_cmp}
 use Rattle.bp_plain.specs.Stands.{Stands}
@@ -65,13 +64,3 @@ one_path old x bytes wf tree path at = record {
     go : (other : Path) → (lookup old other ≡ Some x → ⊥) → (b : Bool) → eq_by_cmp path_cmp other path ≡ b → get (with_bytes tree path bytes) other ≡ get tree other
     go other apart true e = absurd (apart (subst (λ p. lookup old p ≡ Some x) (sym (same_path_from other path e)) at))
     go other apart false e = get-insert path_cmp-IsTotalOrder tree path (file bytes) other ∙ rw e refl
-
--- the tree has the file with the bytes below its new size
-pub resize_stands : (old : Image) (wf : IsWellFormed old) (n size place : ℕ) → CanResize old n size place → (tree : FileTree) (path : Path) →
-    Stands old tree → lookup old path ≡ Some (suc n) →
-    Stands (set old place size) (with_bytes tree path (content old (root_of old (suc n)) size))
-resize_stands old wf n size place can tree path stands at =
-    let changes : ChangesFile old (set old place size) (suc n) = resize_changes old wf n size place can in
-    let bytes : List ℕ = content (set old place size) (root_of (set old place size) (suc n)) (size_of (set old place size) (suc n)) in
-    rw (← bytes_of_file old wf n size place can)
-    (file_stands old (set old place size) (suc n) wf changes tree _ stands (one_path old (suc n) bytes wf tree path at))

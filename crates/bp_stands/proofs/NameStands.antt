@@ -1,18 +1,16 @@
 -- The plain tree of an image that has one more name, or one fewer.
-use Rattle.std.proofs.Common.{◌≡◌, ℕ, ◌+◌, ◌*◌, [], ◌∷◌, ◌++◌, Bool, true, false, ◌==◌, if◌then◌else◌, set, Some, refl, sym, ◌∙◌, subst₂}
+use Rattle.std.proofs.Common.{◌≡◌, ℕ, ◌+◌, ◌*◌, [], ◌∷◌, ◌++◌, Bool, true, false, ◌==◌, if◌then◌else◌, Some, refl, sym, ◌∙◌, subst₂}
 use Rattle.std.specs.FinMap.{get, get-insert, get-remove}
 use Rattle.std.specs.Ordering.{eq_by_cmp}
 use Rattle.bp_layout.specs.Words.{Image}
-use Rattle.bp_layout.specs.Inode.{kind_of, ContentStandsAt}
+use Rattle.bp_layout.specs.Inode.{kind_of}
 use Rattle.bp_layout.specs.Directory.{Name, name_at}
 use Rattle.bp_layout.specs.Lookup.{Path, node_of, lookup, shown}
 use Rattle.bp_layout.specs.Lookup.Node.{dir, file}
 use Rattle.bp_layout.specs.WellFormed.{IsWellFormed}
 use Rattle.bp_layout.proofs.Paths.{AddsName, shown_there, shown_elsewhere}
-use Rattle.bp_changes.specs.Effects.{SetsInumber, AddsNames, CanUnlink, RemovesEntry}
+use Rattle.bp_changes.specs.Effects.{AddsNames, CanUnlink, RemovesEntry}
 use Rattle.bp_changes.proofs.AddsNames.{names_added, node_of_new, linked_well_formed}
-use Rattle.bp_changes.proofs.Link.{CanLink, entry_adds, name_of_new}
-use Rattle.bp_changes.proofs.LinkInPlace.{store_adds}
 use Rattle.bp_changes.proofs.Unlink as unlink
 use Rattle.bp_plain.specs.Plain.{with_node, with_nothing_at}
 use Rattle.bp_plain.specs.PlainTree.{FileTree, path_cmp}
@@ -41,21 +39,6 @@ pub names_stand : (old new : Image) (wf : IsWellFormed old) (i s j : ℕ) → Ad
 names_stand old new wf i s j adds tree parent stands at =
     rw (← node_of_new old new wf i s j adds)
     (added_stands old new i (name_at new i s) j (names_added old new wf i s j adds) parent at tree stands (linked_well_formed old new wf i s j adds))
-
--- the same where an inumber comes into an empty entry
-pub link_stands : (old new : Image) (wf : IsWellFormed old) (i s j : ℕ) → CanLink old i s j → SetsInumber old new i s j →
-    (tree : FileTree) (parent : Path) → Stands old tree → lookup old parent ≡ Some i →
-    Stands new (with_node tree (parent ++ name_at old i s ∷ []) (if kind_of old j == 1 then file [] else dir))
-link_stands old new wf i s j can adds tree parent stands at =
-    subst₂ (λ n k. Stands new (with_node tree (parent ++ n ∷ []) (if k == 1 then file [] else dir))) (name_of_new old new wf i s j can adds) (adds.kind j can.in_file)
-    (names_stand old new wf i s j (entry_adds old new wf i s j can adds) tree parent stands at)
-
--- the same by one store in place
-pub store_stands : (old : Image) (wf : IsWellFormed old) (i s j place : ℕ) → CanLink old i s j → ContentStandsAt old i (32 * s + 0) place →
-    (tree : FileTree) (parent : Path) → Stands old tree → lookup old parent ≡ Some i →
-    Stands (set old place j) (with_node tree (parent ++ name_at old i s ∷ []) (if kind_of old j == 1 then file [] else dir))
-store_stands old wf i s j place can stands tree parent at found =
-    link_stands old (set old place j) wf i s j can (store_adds old wf i s j place can stands) tree parent at found
 
 -- ---- one name fewer
 

@@ -1,7 +1,6 @@
 -- The digits of a number, the highest first.
 use Rattle.std.proofs.Common.{◌≡◌, ℕ, zero, suc, ◌-◌, ◌*◌, ◌/◌, ◌%◌, ◌^◌, ◌<◌, ◌≤◌, List, [], ◌∷◌, ◌++◌, length, bit_and, refl, ◌∙◌, ap, ap₂, arith, length-append}
 use Rattle.std.proofs.lemmas.Nat.{and_mask}
-use Rattle.bp_layout.specs.Words.{height_of}
 use Rattle.bp_layout.specs.WordPaths.{digits}
 use Rattle.bp_tree.proofs.StepDown.{shift, quotient}
 
@@ -15,11 +14,6 @@ all_digits count index zero path none so_far =
     let all : index / 512 ^ 0 ≡ index = omega arith in
     so_far ∙ ap₂ digits here all
 all_digits count index (suc l) path none so_far = absurd (omega arith)
-
-pub no_digits : (root index count : ℕ) → count ≡ suc (height_of root) → [] ≡ digits (suc (height_of root) - count) (index / 512 ^ count)
-no_digits root index count is =
-    let none : suc (height_of root) - count ≡ 0 = omega (arith, is) in
-    rw none refl
 
 -- one digit more, as the code has it
 pub next_digit : (count index levels : ℕ) (path : List ℕ) → 0 < levels → levels ≤ count → path ≡ digits (count - levels) (index / 512 ^ levels) →

@@ -1,8 +1,8 @@
 -- A memory after one store.
 use Rattle.std.proofs.Common.{◌≡◌, ◌≢◌, ℕ, ◌+◌, ◌<◌, ◌≤◌, [], ◌∷◌, length, ap, arith, get_or-set_same, get_or-set_other}
 use Rattle.pm_epochs.specs.declared.event.Event.TheVariants.{Store}
-use Rattle.pm_region.specs.Memory.{Memory, current_words, room_in, Adds}
-use Rattle.pm_region.proofs.MemoryLaws.{base-adds, current_words-adds, room_in-adds, length-current_words}
+use Rattle.pm_region.specs.Memory.{Memory, current_words, Adds}
+use Rattle.pm_region.proofs.MemoryLaws.{base-adds, current_words-adds, length-current_words}
 use Rattle.bp_layout.specs.Words.{word}
 
 module _ (old new : Memory) (place value : ℕ) (adds : Adds old new (Store place value ∷ [])) where
@@ -16,6 +16,3 @@ module _ (old new : Memory) (place value : ℕ) (adds : Adds old new (Store plac
 
   pub base_stays : length new.base ≡ length old.base
   base_stays = ap length (base-adds old new _ adds)
-
-  pub room_less : room_in old ≤ room_in new + 1
-  room_less = let left = room_in-adds old new _ adds in omega (arith, left)

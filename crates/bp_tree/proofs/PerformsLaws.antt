@@ -8,13 +8,13 @@ use Rattle.std.proofs.lemmas.List.{append_assoc, length-append}
 use Rattle.pm_epochs.specs.declared.event.Event.{Event}
 use Rattle.pm_epochs.specs.declared.event.Event.TheVariants.{Store, Barrier, Mark}
 use Rattle.pm_epochs.specs.Log.{words_after, StoresTo, marks}
-use Rattle.pm_epochs.specs.May.{AnyAt, StoresMay, EachMay}
+use Rattle.pm_epochs.specs.May.{AnyAt, StoresMay}
 use Rattle.pm_epochs.specs.Crash.{IsPartialEquivalence, commit}
-use Rattle.pm_epochs.proofs.MayLaws.{quiet_may, StoresMay-weaker, StoresMay-append}
+use Rattle.pm_epochs.proofs.MayLaws.{StoresMay-weaker, StoresMay-append}
 use Rattle.pm_epochs.proofs.CrashLaws.{IsClosed-append, quiet-append}
 use Rattle.pm_epochs.proofs.PieceLaws.{IsPiece-append, IsPiece-more, IsPiece-commit, last_stored-commit, StoresTo-append, StoresTo-front, StoresTo-behind}
 use Rattle.pm_region.specs.Memory.{Memory, current_words, events_between, Adds}
-use Rattle.pm_region.specs.Safe.{IsSafe, AddsMay, AddsCommit}
+use Rattle.pm_region.specs.Safe.{IsSafe, AddsCommit}
 use Rattle.pm_region.proofs.MemoryLaws.{adds_both, current_words-adds}
 use Rattle.pm_region.proofs.SafeLaws.{safe_committed}
 use Rattle.bp_layout.proofs.SameLaws.{same_self, same_symmetric, same_transitive}
@@ -225,21 +225,6 @@ module _ (old new : Memory) (change : Change) (Effect : Image → Image → Type
         quiet = first.part.quiet;
         piece = IsPiece-append most_barriers most 2 1 first.part.added (commit word value) first.part.piece (IsPiece-commit word value);
       }) first.takes at low few number inside well_formed effect
-
-  -- stores that nobody sees, and then the commit of one word in its place
-  pub performs_stores : (May : ℕ → ℕ → Type 0) (most : ℕ) (middle : Memory) (word value : ℕ) (taken : List ℕ) → ((image : Image) → EachMay May (current_words old) image → Same (current_words old) image) →
-      (part : AddsMay May 0 most old middle) → Adds middle new (commit word value) → AreApart taken → Each (IsFreeBlock (current_words old)) taken → Each (λ b. StoresTo (InBlock b) part.added) taken →
-      ((place stored : ℕ) → May place stored → IsOpen (current_words old) taken place) → word ≡ covered → most + 1 ≤ most_stores needed → length taken ≡ needed → IsOpen (current_words old) taken word →
-      IsWellFormed (current_words new) → Effect (current_words old) (current_words new) → Performs old new change Effect
-  performs_stores May most middle word value taken unseen part adds once free stored inside at few number open_word well_formed effect =
-      performs_committed word value 2 (most + 1) taken
-      (record {
-        prepared = part.added;
-        adds = adds_both old middle new part.added (commit word value) part.adds adds;
-        quiet = quiet_may Same equivalence May (current_words old) part.added unseen part.may;
-        piece = IsPiece-append 0 most 2 1 part.added (commit word value) part.piece (IsPiece-commit word value);
-      })
-      (record { once = once; free = free; stored = stored; only = StoresMay-weaker May (AnyAt (IsOpen (current_words old) taken)) inside part.added part.may }) at (omega arith) few number open_word well_formed effect
 
   -- a preparation, and then one more with its commit, as where blocks are copied
   pub performs_twice : (middle : Memory) (word value most_barriers most more_barriers more : ℕ) (first second : List ℕ) (one : AddsTaking first most_barriers most old middle)

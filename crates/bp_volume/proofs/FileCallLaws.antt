@@ -4,10 +4,10 @@ use Rattle.pm_epochs.specs.declared.event.Event.TheVariants.{Mark}
 use Rattle.pm_epochs.specs.Crash.{IsPartialEquivalence}
 use Rattle.bp_tree.specs.Performs.{IsShort}
 use Rattle.bp_tree.proofs.PerformsLaws.{performed, performs_short, performs_unmarked, performs_adds, performs_safe}
-use Rattle.pm_region.specs.Memory.{Memory, current_words, with_room, drained, Adds}
+use Rattle.pm_region.specs.Memory.{Memory, current_words, with_room, Adds}
 use Rattle.pm_region.specs.Safe.{IsSafe}
 use Rattle.pm_region.proofs.MemoryLaws.{adds_both, current_words-adds, capacity-adds, current_words-with_room}
-use Rattle.pm_region.proofs.SafeLaws.{safe_mark, safe_drained}
+use Rattle.pm_region.proofs.SafeLaws.{safe_mark}
 use Rattle.bp_free.specs.Set.{Set}
 use Rattle.bp_layout.specs.Same.{Same}
 use Rattle.bp_plain.specs.Calls.{Call, Answer}
@@ -23,11 +23,6 @@ same-equivalence = record {
   symmetric = λ first second same. record { old_well_formed = same.new_well_formed; new_well_formed = same.old_well_formed; shows = λ path. sym (same.shows path) };
   transitive = λ first second third same more. record { old_well_formed = same.old_well_formed; new_well_formed = more.new_well_formed; shows = λ path. more.shows path ∙ same.shows path };
 }
-
--- a drain and a mark leave a volume
-pub volume-drained : (memory : Memory) (blocks inodes : Set) (pending : ℕ) → IsVolume memory blocks inodes pending → IsVolume (drained memory) blocks inodes pending
-volume-drained memory blocks inodes pending volume =
-    record { safe = safe_drained Same same-equivalence memory volume.safe; roomy = volume.roomy; well_formed = volume.well_formed; exact = volume.exact; scans = volume.scans }
 
 pub volume-marked : (old new : Memory) (blocks inodes : Set) (pending : ℕ) → IsVolume old blocks inodes pending → Adds old new (Mark ∷ []) → IsVolume new blocks inodes pending
 volume-marked old new blocks inodes pending volume adds =

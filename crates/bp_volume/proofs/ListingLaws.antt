@@ -44,11 +44,6 @@ right : (a b : Bool) → T (a && b) → T b
 right true b p = p
 right false b p = absurd p
 
-is_less : (o : Ordering) → T (is_lt o) → o ≡ Less
-is_less Less p = refl
-is_less Equal p = absurd p
-is_less Greater p = absurd p
-
 then_equal : (o : Ordering) → ordering_then o Equal ≡ o
 then_equal Less = refl
 then_equal Equal = refl

@@ -20,7 +20,7 @@ use Rattle.bp_plain.specs.Calls.{Refusal}
 use Rattle.bp_plain.specs.Calls.Answer.{done}
 use Rattle.bp_plain.specs.Calls.Call.{rename}
 use Rattle.bp_plain.specs.Calls.Refusal.{bad_path, into_self, is_dir, is_root, not_dir, not_empty}
-use Rattle.bp_plain.specs.Plain.{changes, first, is_a_dir, is_dir_at, is_empty_dir, is_root_path, move_refusal, moves_below, moves_dir_onto_file, moves_file_onto_dir, moves_onto_names, on_parsed, on_path, parent_of, path_named, refusal, walk, walk_parent, when}
+use Rattle.bp_plain.specs.Plain.{changes, first, is_a_dir, is_dir_at, is_empty_dir, move_refusal, moves_below, moves_dir_onto_file, moves_file_onto_dir, moves_onto_names, on_parsed, on_path, parent_of, path_named, refusal, walk, walk_parent, when}
 use Rattle.bp_plain.specs.PlainTree.{FileTree}
 use Rattle.bp_plain.specs.Stands.{Stands}
 use Rattle.bp_volume.specs.Renaming.{Allows, AreEnds, FindsEnds, IsTarget, MayMove, are_same, is_inode}
@@ -66,10 +66,6 @@ kinds-same false empty = refl
 
 -- ---- refusals in their order
 
-either_root : (b : Bool) (rest : List (Option Refusal)) → first (when b is_root ∷ Some is_root ∷ rest) ≡ Some is_root
-either_root true rest = refl
-either_root false rest = refl
-
 module _ (image : Image) (p q : Path) where
   abbrev at_kinds : FileTree → List (Option Refusal)
   at_kinds tree =
@@ -77,14 +73,6 @@ module _ (image : Image) (p q : Path) where
 
   abbrev behind : FileTree → List (Option Refusal)
   behind tree = when (moves_below p q) into_self ∷ at_kinds tree
-
-  pub root_source : p ≡ [] → RefusesRename image p q is_root
-  root_source e tree stands = ap (λ b. first (when b is_root ∷ when (is_root_path q) is_root ∷ walk tree p ∷ walk_parent tree q ∷ behind tree)) (ap is_root_path e)
-
-  pub root_target : q ≡ [] → RefusesRename image p q is_root
-  root_target e tree stands =
-      ap (λ b. first (when (is_root_path p) is_root ∷ when b is_root ∷ walk tree p ∷ walk_parent tree q ∷ behind tree)) (ap is_root_path e)
-      ∙ either_root (is_root_path p) (walk tree p ∷ walk_parent tree q ∷ behind tree)
 
   module _ (below : p ≢ []) (target_below : q ≢ []) where
     past_roots : (tree : FileTree) → move_refusal tree p q ≡ first (walk tree p ∷ walk_parent tree q ∷ behind tree)

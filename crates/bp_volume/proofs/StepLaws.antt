@@ -6,7 +6,7 @@ use Rattle.bp_layout.specs.Lookup.{Path}
 use Rattle.bp_layout.specs.PathText.{parse}
 use Rattle.bp_plain.specs.PlainTree.{FileTree}
 use Rattle.bp_plain.specs.Calls.{Call, Refusal, Answer}
-use Rattle.bp_plain.specs.Calls.Call.{list, read, stat}
+use Rattle.bp_plain.specs.Calls.Call.{list, read}
 use Rattle.bp_plain.specs.Calls.Refusal.{not_dir, is_dir, no_memory, no_space}
 use Rattle.bp_plain.specs.Calls.Answer.{refused}
 use Rattle.bp_plain.specs.Plain.{plain, is_changing, refusal, walk, changes, answer, answer_or, on_parsed, on_path, first, when, is_dir_at}
@@ -47,8 +47,6 @@ first_two None (Some other) rest why e = e
 first_two None None rest why e = absurd (cc)
 
 module _ (tree : FileTree) (text : List ℕ) where
-  pub refusal-stat : refusal tree (stat text) ≡ on_path text (walk tree)
-  refusal-stat = refl
 
   -- the refusal of the walk comes before others
   walk_first : (others : Path → List (Option Refusal)) (why : Refusal) → on_path text (walk tree) ≡ Some why → on_path text (λ p. first (walk tree p ∷ others p)) ≡ Some why

@@ -2,13 +2,13 @@
 use Rattle.std.proofs.Common.{◌≡◌, ℕ, zero, suc, ◌+◌, ◌<◌, ◌≤◌, true, false, eqb, inl, inr, List, [], ◌∷◌, ◌++◌, length, take, drop, get_or, set, refl, sym, ◌∙◌, ap, arith}
 use Rattle.std.specs.Prelude.{if◌then◌else◌}
 use Rattle.std.proofs.lemmas.Bool.Decides.{eqb_tells}
-use Rattle.std.proofs.lemmas.List.{append_assoc, drop-set-lt, drop_more, get_or-set_other, get_or-set_same, length-append, length-set, length-take, length-take-le, set-get_or, set-set, take_at, take_more, take_more_set}
+use Rattle.std.proofs.lemmas.List.{append_assoc, drop-set-lt, drop_more, get_or-set_other, get_or-set_same, length-append, length-set, length-take-le, set-get_or, set-set, take_at, take_more, take_more_set}
 use Rattle.pm_epochs.specs.declared.event.Event.{Event}
 use Rattle.pm_epochs.specs.declared.event.Event.TheVariants.{Store, Barrier, Mark}
 use Rattle.pm_epochs.specs.Log.{words_after}
 use Rattle.pm_epochs.proofs.CrashLaws.{words_after-append}
 use Rattle.pm_region.specs.Memory.{Memory, stores_from, with_values}
-use Rattle.pm_region.proofs.MemoryLaws.{length-with_values, with_values-none}
+use Rattle.pm_region.proofs.MemoryLaws.{with_values-none}
 use Rattle.pm_raw.specs.Entries.{Entered, events_of, signal_of}
 use Rattle.pm_raw.specs.Undo.{is_store_to, saved_of, undone}
 
@@ -167,10 +167,6 @@ module _ (words : List ℕ) (events : List Event) (replaced : List ℕ) (none : 
       ∙ word-undone-other behind (get_or events i none) (get_or replaced i 0) word missed
 
 -- ## Memories
-
--- what is put into a log leaves it as long
-pub length-saved : (values words : List ℕ) (at first wanted : ℕ) → at + wanted ≤ length values → length (with_values values at (take wanted (drop first words))) ≡ length values
-length-saved values words at first wanted fits = length-with_values values at (take wanted (drop first words)) (omega (arith, length-take wanted (drop first words)))
 
 abbrev pub memory_with : List ℕ → List Event → ℕ → ℕ → Memory
 memory_with base events capacity drains = record { base = base; events = events; capacity = capacity; drains = drains }

@@ -1,9 +1,9 @@
 -- Stores of values that may stand at their words, one after another.
 use Rattle.std.proofs.Common.{◌≡◌, ℕ, ◌+◌, ◌≤◌, [], ◌∷◌, ◌++◌, get_or, arith}
-use Rattle.pm_epochs.specs.declared.event.Event.TheVariants.{Store, Barrier}
+use Rattle.pm_epochs.specs.declared.event.Event.TheVariants.{Store}
 use Rattle.pm_epochs.specs.May.{EachMay}
 use Rattle.pm_epochs.proofs.MayLaws.{StoresMay-append, StoresMay-weaker, EachMay-stored, same_where_none}
-use Rattle.pm_epochs.proofs.PieceLaws.{IsPiece-append, IsPiece-more, IsPiece-none, IsPiece-store, IsPiece-barrier}
+use Rattle.pm_epochs.proofs.PieceLaws.{IsPiece-append, IsPiece-more, IsPiece-none, IsPiece-store}
 use Rattle.pm_region.specs.Memory.{Memory, current_words, room_in, Adds}
 use Rattle.pm_region.specs.Safe.{AddsMay}
 use Rattle.pm_region.proofs.MemoryLaws.{adds_none, adds_both, current_words-adds, room_in-piece}
@@ -44,12 +44,6 @@ module _ (May : ℕ → ℕ → Type 0) where
     pub may_store : (middle new : Memory) (word value : ℕ) → AddsMay May most_barriers most_stores old middle → May word value → Adds middle new (Store word value ∷ []) → AddsMay May most_barriers (most_stores + 1) old new
     may_store middle new word value first may adds =
         may_more (most_barriers + 0) (most_stores + 1) most_barriers (most_stores + 1) old new (omega arith) (omega arith) (may_twice 0 1 middle new first (may_one middle new word value may adds))
-
-    -- one more barrier
-    pub may_barrier : (middle new : Memory) → AddsMay May most_barriers most_stores old middle → Adds middle new (Barrier ∷ []) → AddsMay May (most_barriers + 1) most_stores old new
-    may_barrier middle new first adds =
-        may_more (most_barriers + 1) (most_stores + 0) (most_barriers + 1) most_stores old new (omega arith) (omega arith)
-        (may_twice 1 0 middle new first (record { added = Barrier ∷ []; adds = adds; may = tt; piece = IsPiece-barrier }))
 
     -- each word is as before, or has a value that may stand there
     pub each_after : (new : Memory) → AddsMay May most_barriers most_stores old new → EachMay May (current_words old) (current_words new)

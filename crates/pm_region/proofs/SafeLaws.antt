@@ -37,9 +37,6 @@ module _ (Same : Likeness) (equivalence : IsPartialEquivalence Same) where
     well = rw empty well;
   }
 
-  pub safe_drained : (memory : Memory) → IsSafe Same memory → IsSafe Same (drained memory)
-  safe_drained memory safe = safe_empty (drained memory) refl safe.well
-
   -- what a crash leaves is well formed
   pub well_crashed : (memory : Memory) (cut : Cut) → IsSafe Same memory → IsRight memory.events cut → Same (replay memory.base memory.events cut) (replay memory.base memory.events cut)
   well_crashed memory cut safe right = well_left _ _ (safe.right.each cut right)

@@ -15,7 +15,6 @@ pub mod PutsLaws
 pub mod ReadyKept
 pub mod InBehind
 pub mod Refusals
-pub mod Samples
 pub mod OpenPlaces
 pub mod ReadingLaws
 pub mod AskedLaws

@@ -2,7 +2,6 @@ pub mod Entered
 pub mod Created
 pub mod Spare
 pub mod Steps
-pub mod Sample
 pub mod Asked
 pub mod Removed
 pub mod Resized

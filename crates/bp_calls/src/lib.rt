@@ -10,8 +10,6 @@ mod listing;
 mod reading;
 mod removing;
 mod resizing;
-#[cfg(test)]
-mod tests;
 mod writing;
 
 pub use creating::{create, create_in};

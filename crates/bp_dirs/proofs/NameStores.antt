@@ -1,18 +1,15 @@
--- The stores of a name, one after another, and of an entry.
-use Rattle.std.proofs.Common.{◌≡◌, ◌⊎◌, ℕ, ◌+◌, ◌*◌, ◌/◌, ◌%◌, ◌<◌, ◌≤◌, List, [], ◌∷◌, length, get_or, ◌∙◌, ap, arith, inl, inr, refl}
+-- The stores of a name, one after another.
+use Rattle.std.proofs.Common.{◌≡◌, ◌⊎◌, ℕ, ◌+◌, ◌*◌, ◌/◌, ◌%◌, ◌<◌, ◌≤◌, List, [], ◌∷◌, length, get_or, ◌∙◌, ap, arith, inl, inr}
 use Rattle.std.proofs.lemmas.Bool.{cases_eq}
 use Rattle.pm_epochs.specs.declared.event.Event.TheVariants.{Store}
 use Rattle.pm_epochs.specs.May.{AnyAt}
 use Rattle.pm_region.specs.Memory.{Memory, current_words, room_in, Adds}
 use Rattle.pm_region.specs.Safe.{AddsMay}
-use Rattle.pm_epochs.proofs.MayLaws.{StoresMay-weaker}
-use Rattle.pm_epochs.proofs.PieceLaws.{IsPiece-append, IsPiece-store}
-use Rattle.pm_region.proofs.MemoryLaws.{adds_both, base-adds}
-use Rattle.pm_region.proofs.MayLaws.{may_one, may_store, may_frame, room_after_may}
+use Rattle.pm_region.proofs.MemoryLaws.{base-adds}
+use Rattle.pm_region.proofs.MayLaws.{may_one, may_store, room_after_may}
 use Rattle.bp_layout.specs.Words.{word, byte_of}
 use Rattle.bp_tree.specs.Within.{IsWithin}
 use Rattle.bp_tree.proofs.OneStore.{stored_here, stored_elsewhere}
-use Rattle.bp_dirs.specs.Written.{AddsFrom}
 
 -- the length of a name and its first words
 pub record NameSoFar (old new : Memory) (place words : ℕ) (name : List ℕ) : Type 0 where
@@ -52,28 +49,3 @@ module _ (old middle : Memory) (place words : ℕ) (name : List ℕ) (before : N
       count = stored_elsewhere middle new (place + 2 + words) value adds (place + 1) (λ e. omega (arith, e)) ∙ before.count;
       bytes = λ o low done. here_or_before o low done (cases_eq (o / 8) words);
     }
-
--- the inumber, and then the length and the name
-module _ (old middle new : Memory) (place j : ℕ) (in_range : place < length old.base) (enters : Adds old middle (Store place j ∷ [])) (spells : AddsMay (AnyAt (IsWithin (place + 1) 31)) 0 31 middle new) where
-  pub entry_stores : AddsFrom place 32 32 old new
-  entry_stores = record {
-    part = record {
-      added = Store place j ∷ spells.added;
-      adds = adds_both old middle new (Store place j ∷ []) spells.added enters spells.adds;
-      may = (
-        record { low = omega arith; high = omega arith },
-        StoresMay-weaker (AnyAt (IsWithin (place + 1) 31)) (AnyAt (IsWithin place 32))
-            (λ w v inside.
-            let low : place + 1 ≤ w = inside.low in
-            let high : w < place + 1 + 31 = inside.high in
-            record { low = omega arith; high = omega arith }) spells.added spells.may,
-      );
-      piece = IsPiece-append 0 1 0 31 (Store place j ∷ []) spells.added (IsPiece-store place j) spells.piece;
-    };
-    starts = inl refl;
-  }
-
-  pub entry_inumber : word (current_words new) place ≡ j
-  entry_inumber =
-      may_frame (AnyAt (IsWithin (place + 1) 31)) 0 31 middle new spells place (λ v inside. let above : place + 1 ≤ place = inside.low in omega (arith, above))
-      ∙ stored_here old middle place j enters in_range

@@ -15,4 +15,4 @@ pub use directory::{
     count, entry_place, find, find_entry, find_or_free, free_slot, inumber, is_empty,
 };
 pub use spot::{Found, Spot};
-pub use writing::{put_entry, put_name};
+pub use writing::put_name;

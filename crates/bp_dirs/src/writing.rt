@@ -1,8 +1,7 @@
-//! Stores of an entry.
+//! Stores of a name.
 
 ghost use Rattle.std.specs.Prelude.{◌≡◌, ◌+◌, ◌≤◌, length};
-ghost use Rattle.bp_dirs.specs.Written.{AddsFrom, HasNameAt};
-ghost use Rattle.bp_layout.specs.Words.{word};
+ghost use Rattle.bp_dirs.specs.Written.{HasNameAt};
 ghost use Rattle.bp_limits.specs.Limits.{max_name};
 ghost use Rattle.bp_tree.specs.Within.{IsWithin};
 ghost use Rattle.pm_epochs.specs.May.{AnyAt};
@@ -25,17 +24,4 @@ pub fn put_name<R: Region>(region: &mut R, place: u32, name: &[u8])
     for i in 0..name.len().div_ceil(8) {
         region.store(place + 2 + i as u32, name_word(name, i));
     }
-}
-
-/// Writes an inumber and a name into the entry at a word of the region.
-pub fn put_entry<R: Region>(region: &mut R, place: u32, inode: u32, name: &[u8])
-    requires in_range { place + 32 ≤ length (R.memory region.old).base }
-    requires short { length name.now ≤ max_name }
-    requires room { 32 ≤ room_in (R.memory region.old) }
-    ensures stores { AddsFrom place 32 32 (R.memory region.old) (R.memory region.new) }
-    ensures inumber { word (current_words (R.memory region.new)) place ≡ inode }
-    ensures name { HasNameAt (current_words (R.memory region.new)) place name.now }
-{
-    region.store(place, u64::from(inode));
-    put_name(region, place, name);
 }

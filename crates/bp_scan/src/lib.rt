@@ -13,8 +13,6 @@ mod length;
 mod pending;
 mod reading;
 mod scanning;
-#[cfg(test)]
-mod tests;
 mod totalling;
 mod totals;
 mod trees;

@@ -8,8 +8,6 @@ mod playing;
 mod printing;
 mod running;
 mod stop;
-#[cfg(test)]
-mod tests;
 
 pub use opening::open;
 pub use running::run;

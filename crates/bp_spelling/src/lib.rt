@@ -11,8 +11,6 @@ mod hashing;
 mod name_words;
 mod rows;
 mod table;
-#[cfg(test)]
-mod tests;
 
 pub use checking::check_names;
 pub use entry::Spelled;

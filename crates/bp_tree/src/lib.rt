@@ -12,8 +12,6 @@ pub mod nulls;
 pub mod paths;
 pub mod reading;
 mod subtrees;
-#[cfg(test)]
-mod tests;
 pub mod tree;
 
 pub use counts::count_live;

@@ -13,8 +13,6 @@ mod rescanning;
 mod resizing;
 mod sets;
 mod space;
-#[cfg(test)]
-mod tests;
 mod volume;
 mod walking;
 mod writing;

@@ -4,8 +4,6 @@
 //! is free. A pointer that names a block which has left the set is the second one that names it.
 #![tactic(auto)]
 
-#[cfg(test)]
-mod tests;
 pub mod walk;
 
 pub use walk::{CheckFault, take_tree};

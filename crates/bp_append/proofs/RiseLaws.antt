@@ -353,7 +353,6 @@ down_kept old new root (x ∷ xs) same down = (same x (inl refl) ∙ down.0, dow
 
 module _ (first middle last : Memory) (free_first free_middle free_last raw : List ℕ) (root mid_root top low mid high from to : ℕ) (usable : AreApart free_first) (order : low ≤ mid) (rest : mid < high) (one_more : high ≡ suc mid) (height_mid : height_of mid_root ≡ mid)
     (one : Rises first middle free_first free_middle root mid_root low mid from to raw) (two : Rises middle last free_middle free_last mid_root top mid high from to raw) where
-
   in_middle : (x : ℕ) → Has free_middle x → Has free_first x
   in_middle x m = subst (λ f. Has f x) (sym one.takes) (has-behind one.taken free_middle x m)
 

@@ -111,14 +111,3 @@ module _ (old new : Image) (wf : IsWellFormed old) (prepared : IsPrepared old ne
 
   pub slot_named_after : (i : ℕ) (name : Name) → IsReached old i → kind_of old i ≡ 2 → slot_named new i name ≡ slot_named old i name
   slot_named_after = slot_named_over old new wf prepared.meaning
-
-  -- ---- paths
-
--- ---- one preparation after another
-
-}
-
-}
-  where
-    on : (t : ℕ) → IsReached first t → IsReached second t
-    on = reached_after first second wf one

@@ -33,7 +33,6 @@ use Rattle.bp_calls.proofs.TakenBlocks.{exact_taken, unused_members, usable_memb
 -- ---- one byte
 
 module _ (off : ℕ) (bytes : List ℕ) (size : ℕ) (old : ℕ → ℕ) (o : ℕ) where
-
   pub written_inside : off ≤ o → o < off + length bytes → written_byte off bytes size old o ≡ slice_index bytes (o - off)
   written_inside low high = rw (le-leb off o low, lt-ltb o (off + length bytes) high) refl
 

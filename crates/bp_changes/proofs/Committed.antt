@@ -47,10 +47,6 @@ module _ (old new : Image) (changes : Changes) (Changed : ℕ → ℕ → Type 0
   size-kept zero low still = only.commits.inode_bytes
   size-kept (suc i) low still = inode_word-kept i 2 low (omega arith) (λ e. omega (arith, e)) still
 
--- ---- an inumber
-
-}
-
 -- ---- a name moved
 
 pub commit_moves : (old new : Image) (changes : Changes) (i s k r j : ℕ) → CanMoveEntry old i s k r j →

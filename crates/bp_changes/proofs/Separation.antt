@@ -1,8 +1,8 @@
 -- Where the live words of an image stand: in live blocks, and no two at one place. So words that are none may be any.
 use Rattle.std.proofs.Common.{◌≡◌, ℕ, suc, ◌+◌, ◌*◌, ◌/◌, ◌%◌, ◌<◌, ◌≤◌, refl, sym, ◌∙◌, ap, subst, arith}
-use Rattle.bp_layout.specs.Words.{Image, height_of}
+use Rattle.bp_layout.specs.Words.{Image}
 use Rattle.bp_layout.specs.Tree.{node, IsLiveWord, IsLivePointer, HasBlock}
-use Rattle.bp_layout.specs.Inode.{kind_of, root_of, size_of, inode_count, StandsAt, ContentStandsAt}
+use Rattle.bp_layout.specs.Inode.{root_of, size_of, inode_count, StandsAt}
 use Rattle.bp_layout.specs.Reached.{IsReached, IsLiveBlock}
 use Rattle.bp_layout.specs.Reached.IsReached.{inode_file}
 use Rattle.bp_layout.specs.WellFormed.{IsWellFormed}
@@ -72,20 +72,3 @@ free-harmless image wf b s value low in_block free =
       names = λ i slot j f reached names few stands. absurd (not_live i _ (32 * slot + f) reached (live_content _ _ (32 * slot + f) (omega (arith, names.in_size, few))) stands);
       bytes = λ i o reached kind below stands. absurd (not_live i _ (o / 8) reached (live_content _ _ (o / 8) (omega (arith, below))) stands);
     }
-
-}
-  where
-    below_size : 8 * (8 * suc i + 1) < size_of image 0
-    below_size = let in_file : suc i < inode_count image = reached-in_file image wf (suc i) reached in omega (arith, in_file)
-
-    same_word : (t d k : ℕ) → IsReached image t → IsLiveWord (root_of image t) (size_of image t) (suc d) k → StandsAt image t d k place →
-        SameWord 0 (height_of (root_of image 0)) (8 * suc i + 1) t d k
-    same_word t d k also live stand =
-        one_place image wf 0 (height_of (root_of image 0)) (8 * suc i + 1) t d k place inode_file also (live_content _ _ (8 * suc i + 1) below_size) live stands stand
-
-    same_content : (t k : ℕ) → IsReached image t → 8 * k < size_of image t → ContentStandsAt image t k place →
-        SameWord 0 (height_of (root_of image 0)) (8 * suc i + 1) t (height_of (root_of image t)) k
-    same_content t k also low stand = same_word t (height_of (root_of image t)) k also (live_content _ _ k low) stand
-
-    no_kind : (t kind : ℕ) → kind_of image t ≡ kind → 1 ≤ kind → 0 ≡ t → ⊥
-    no_kind t kind is some e = let zero_kind : 0 ≡ kind = subst (λ (x : ℕ). kind_of image x ≡ kind) (sym e) is in omega (arith, zero_kind, some)

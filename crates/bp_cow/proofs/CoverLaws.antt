@@ -48,11 +48,6 @@ end-short touched is i here = go touched.run i is.run here
     go (Some run) (suc zero) has here = omega (arith, length-run_path run ((run_end run - 1) / 8), has.short)
     go (Some run) (suc (suc i)) has here = is.short i (omega (arith, here))
 
-}
-  where
-    cons : {s t : ℕ} {p q : Trail} → s ≡ t → p ≡ q → s ∷ p ≡ t ∷ q
-    cons e f = cc
-
 pub alike-slot : (touched : Touched) (count i : ℕ) → i < ends touched → BeginAlike touched (count + 1) → slice_index (end_path touched i) count ≡ slice_index (end_path touched 0) count
 alike-slot touched count i here alike = slot-trail_of (end_path touched i) (end_path touched 0) (count + 1) count (alike.same i here) (omega arith)
 

@@ -204,8 +204,6 @@ fills_more from i old s new order fills low is =
       above = λ k high. has_with_other s i k (omega (arith, high)) ∙ fills.above k (omega (arith, high));
     })
 
-}
-
 -- a number that was in stays in
 fills_keeps : (from to : ℕ) (old new : Set) → Fills from to old new → (k : ℕ) → has old k ≡ true → has new k ≡ true
 fills_keeps from to old new fills k there = elim (cases_lt k from) [

@@ -5,7 +5,7 @@ use Rattle.pm_epochs.proofs.CrashLaws.{barriers-append, length-words_after, mark
 use Rattle.pm_epochs.specs.declared.event.Event.{Event}
 use Rattle.pm_epochs.specs.declared.event.Event.TheVariants.{Mark}
 use Rattle.pm_epochs.specs.Log.{barriers, marks}
-use Rattle.pm_epochs.specs.Replay.{Cut, IsRight, kept_calls, kept_stores}
+use Rattle.pm_epochs.specs.Replay.{Cut, kept_calls, kept_stores}
 use Rattle.pm_region.specs.Memory.{Memory, crashed, current_words, drained, with_room, room_in}
 use Rattle.bp_layout.specs.Words.{Image}
 use Rattle.bp_layout.specs.Bytes.{image_bytes}
@@ -30,14 +30,14 @@ use Rattle.bp_replay.specs.declared.cut.Cut.{Cut as Asked}
 use Rattle.bp_replay.specs.declared.cut.Cut.TheVariants.{All, Nothing, At}
 use Rattle.bp_replay.specs.Storm.{storm_cut}
 use Rattle.bp_script.specs.Commands.{Command, command_of, in_grammar, mask_in}
-use Rattle.bp_script.specs.Commands.Command.{file_call, sync, space, crash, storm, log, bad_syntax, too_long}
+use Rattle.bp_script.specs.Commands.Command.{file_call, sync, space, crash, storm, log, too_long}
 use Rattle.bp_script.specs.Texts.LineReply.{synced}
 use Rattle.bp_session.specs.Files.{Holds, HoldsAs, HoldsBytes}
 use Rattle.bp_session.specs.Acting.{CrashesTo, Does, HasCrashed, is_done, may_have_changed, reply_of, state, to_save}
 use Rattle.bp_session.specs.Serving.{Acts, SyncFails}
 use Rattle.bp_session.specs.Session.{Crashes, Line, State}
 use Rattle.bp_session.specs.declared.outcome.Outcome.{Outcome}
-use Rattle.bp_session.specs.declared.outcome.Outcome.TheVariants.{Answered, Synced, Counted, Kept, Logged, BadChoice, BadSyntax, TooLong}
+use Rattle.bp_session.specs.declared.outcome.Outcome.TheVariants.{Answered, Synced, Counted, Kept, Logged, BadChoice, TooLong}
 use Rattle.bp_session.proofs.BlockLaws.{length-image_bytes}
 
 -- ---- sizes
@@ -211,8 +211,6 @@ pub one_more_mark : (events : List Event) (i : ℕ) (event : Event) → slice_ge
 one_more_mark events i event at = ap marks (one_more_event events i event at) ∙ marks-append (take i events) (event ∷ [])
 
 -- ---- more of what a line did
-
-}
 
 pub does_long : (memory : Memory) (answer : Answer) → Does memory too_long TooLong answer memory
 does_long memory answer = record {

@@ -95,7 +95,6 @@ waits_nothing start most held waits none piece = record {
 }
 
 module _ (start : Moment) (most : ℕ) (held input middle a : List ℕ) (now : Moment) (one : Waits start most held input middle a now) where
-
   -- the reply of the next line is cut
   cut_new : (memory : Memory) (files : View) (reply : LineReply) (n : ℕ) (taken : Option (List ℕ)) → ((name : List ℕ) (saved : Image) → HoldsAt now name saved → Acts (state now.memory saved) memory (Holds files name) (command_of middle) reply)
       → n < length (reply_text reply) → Appends (with_waiting now.taken a) taken (take n (reply_text reply)) → (rest : List ℕ)

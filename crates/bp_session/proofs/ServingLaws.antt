@@ -110,7 +110,6 @@ commands_of_nothing = refl
 -- ---- serving
 
 module _ (holds : Image → Type 0) where
-
   -- input that ends no line
   pub serves_quietly : (memory : Memory) (saved : Image) (held input keeps : List ℕ) (t : Option (List ℕ)) → holds saved → ((rest : List ℕ) → commands_from held (input ++ rest) ≡ commands_from keeps rest) → Serves (state memory saved) memory holds held input keeps t t
   serves_quietly memory saved held input keeps t file same = record { commands = []; lines = same; after = saved; file = file; told = told_none (state memory saved) t }

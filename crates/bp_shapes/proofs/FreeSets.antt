@@ -22,8 +22,6 @@ wf_forest image wf =
       apart = wf.apart;
     }
 
-}
-
 -- ---- what the path of a content word gives a caller
 
 module _ (image : Image) (bound : ℕ → ℕ) (forest : IsForest image bound) (path : List ℕ) where

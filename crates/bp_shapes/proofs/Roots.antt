@@ -131,7 +131,3 @@ null_tree image root null (suc d) k = ap block_of (null_word image root d k (nul
 
 pub null_words : (image : Image) (root : ℕ) → block_of root ≡ 0 → (d k : ℕ) → word_at image root (suc d) k ≡ 0
 null_words image root null d k = word_at-suc image root d k ∙ ap (λ b. slot_word image b (k % 512)) (null_tree image root null d (k / 512))
-
-}
-
-}

@@ -19,8 +19,6 @@ next_slot : (slot end : ℕ) → slot < end → range_with_len slot (end - slot)
 next_slot slot end below = let n : end - slot ≡ suc (end - (slot + 1)) = omega (arith, below) in ap (range_with_len slot) n
 
 module _ (image : Image) (root end : ℕ) (entries : List Spelled) where
-  }
-
   more_forms : (slot : ℕ) → ((k : ℕ) → k < slot → inumber_in image root k ≢ 0 → IsName (name_in image root k)) → (inumber_in image root slot ≢ 0 → IsName (name_in image root slot)) →
       (k : ℕ) → k < slot + 1 → inumber_in image root k ≢ 0 → IsName (name_in image root k)
   more_forms slot before here k low some = go (cases_eq k slot)

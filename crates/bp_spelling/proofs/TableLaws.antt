@@ -33,8 +33,6 @@ module _ (image : Image) (table : List Spelled) (entry : Spelled) where
     pub taken : (before : ℕ) → home (length table) entry.hash ≤ before → before < cell → (cell_at table before).place ≢ 0
     pub others : (before : ℕ) → home (length table) entry.hash ≤ before → before < cell → spelled_key image (cell_at table before) ≡ spelled_key image entry → ⊥
 
-  }
-
   pub passes_more : (cell : ℕ) → PassesBy cell → (cell_at table cell).place ≢ 0 → (spelled_key image (cell_at table cell) ≡ spelled_key image entry → ⊥) → PassesBy (cell + 1)
   passes_more cell passes some other = record {
     from = omega (arith, passes.from);
@@ -119,16 +117,7 @@ pub record IsHeld (image : Image) (entries : List Spelled) (count : ℕ) (table 
   pub apart : (i j : ℕ) → i < j → j < count → spelled_key image (cell_at entries i) ≡ spelled_key image (cell_at entries j) → ⊥
   pub cells : (c : ℕ) → IsPresent (cell_at table c) → IsOneOf entries count (cell_at table c)
 
-]
-
 module _ (image : Image) (entries : List Spelled) where
-  }
-
-  }
-    where
-      some : (k : ℕ) → k < length entries → IsPresent (cell_at entries k)
-      some k low = present k empty_cell low
-
   -- no two keys are equal, so no two names are
   pub held_apart : All (IsSpelled image) entries → (count : ℕ) → length entries ≤ count → (table : List Spelled) → IsHeld image entries count table → HaveOwnNames image (places_of entries)
   held_apart exact count all table held i j order high same =

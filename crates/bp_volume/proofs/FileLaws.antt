@@ -46,7 +46,6 @@ module _ (tree : FileTree) (text : List ℕ) where
       ap (λ b. on_path text (λ p. first (when b too_long ∷ walk tree p ∷ when (is_dir_at tree p) is_dir ∷ when (nat_lt 0 (length new) && nat_lt max_size (off + length new)) too_big ∷ []))) (le-ltb max_write (length new) short)
 
 module _ (image : Image) (text : List ℕ) where
-
   pub write_stops : (off : ℕ) (new : List ℕ) (path : Path) (why : Refusal) → parse text ≡ Some path → length new ≤ max_write → RefusesFileAt image path why → Refuses image (write text off new) why
   write_stops off new path why parsed short stops tree stands =
       refusal-write tree text off new short

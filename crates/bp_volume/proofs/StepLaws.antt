@@ -47,7 +47,6 @@ first_two None (Some other) rest why e = e
 first_two None None rest why e = absurd (cc)
 
 module _ (tree : FileTree) (text : List ℕ) where
-
   -- the refusal of the walk comes before others
   walk_first : (others : Path → List (Option Refusal)) (why : Refusal) → on_path text (walk tree) ≡ Some why → on_path text (λ p. first (walk tree p ∷ others p)) ≡ Some why
   walk_first others why stops = go (parse text) refl

@@ -6,7 +6,7 @@ use Rattle.pm_epochs.specs.Log.{words_after, marks, IsClosed}
 use Rattle.pm_epochs.specs.Replay.{Cut, IsRight, replay}
 use Rattle.pm_epochs.specs.Crash.{Likeness, IsPartialEquivalence, CrashRight, commit}
 use Rattle.pm_epochs.proofs.CrashLaws.{words_after-append, marks-append, IsClosed-append, IsClosed-commit, crash_right-append, crash_right_commit, crash_right_mark, crash_right_none}
-use Rattle.pm_region.specs.Memory.{Memory, current_words, room_in, Adds, drained}
+use Rattle.pm_region.specs.Memory.{Memory, current_words, room_in, Adds}
 use Rattle.pm_region.specs.Safe.{IsSafe, AddsQuiet, AddsCommit}
 use Rattle.pm_region.proofs.MemoryLaws.{adds_both, current_words-adds, room_in-piece}
 

@@ -58,14 +58,14 @@ module _ (old : Memory) (blocks inodes : Set) (off : ℕ) (bytes : List ℕ) (to
   not_inodes : (P : Type 0) → WritesAcross old blocks inodes 0 off bytes touched → P
   not_inodes P across = absurd (omega (arith, across.can.file))
 
-  -- the bytes are cut at the size
-  pub cut_at : (i size : ℕ) (below : List ℕ) → CanWrite old blocks inodes i off bytes → off < size_of (current_words old) i → size_of (current_words old) i < off + length bytes → size ≡ size_of (current_words old) i →
+  -- the bytes are split at the size
+  pub splits_at : (i size : ℕ) (below : List ℕ) → CanWrite old blocks inodes i off bytes → off < size_of (current_words old) i → size_of (current_words old) i < off + length bytes → size ≡ size_of (current_words old) i →
       below ≡ take (size - off) bytes → TouchesAcross (current_words old) i off (off + length bytes) below touched → WritesAcross old blocks inodes i off bytes touched
-  cut_at i size below can low past is cut touches = record {
+  splits_at i size below can low past is split touches = record {
     can = can;
     below = low;
     past = past;
-    touches = subst (λ bs. TouchesAcross (current_words old) i off (off + length bytes) bs touched) (cut ∙ ap (λ s. take (s - off) bytes) is) touches;
+    touches = subst (λ bs. TouchesAcross (current_words old) i off (off + length bytes) bs touched) (split ∙ ap (λ s. take (s - off) bytes) is) touches;
   }
 
   pub at_shape : (i : ℕ) → WritesAcross old blocks inodes i off bytes touched → IsTouched touched
@@ -127,8 +127,8 @@ module _ (old : Memory) (blocks inodes : Set) (off : ℕ) (bytes : List ℕ) (to
     -- the preparation, told at the size of the file
     pub at_prepared : (i size : ℕ) (beyond : List ℕ) → PreparesWith old middle (members blocks) (members after) i size (off + length bytes) beyond → size ≡ size_of (current_words old) i → beyond ≡ drop (size - off) bytes →
         PreparesWith old middle (members blocks) (members after) i (size_of (current_words old) i) (off + length bytes) (drop (size_of (current_words old) i - off) bytes)
-    at_prepared i size beyond prepared is cut =
-        subst₂ (λ s bs. PreparesWith old middle (members blocks) (members after) i s (off + length bytes) bs) is (cut ∙ ap (λ s. drop (s - off) bytes) is) prepared
+    at_prepared i size beyond prepared is split =
+        subst₂ (λ s bs. PreparesWith old middle (members blocks) (members after) i s (off + length bytes) bs) is (split ∙ ap (λ s. drop (s - off) bytes) is) prepared
 
     pub at_commit : (i root size made : ℕ) → WritesAcross old blocks inodes i off bytes touched → root ≡ root_of (current_words old) i → size ≡ size_of (current_words old) i →
         made ≡ length (nodes_for (current_words old) root size size (off + length bytes)) → made + copied_count (current_words old) touched ≤ length (members blocks) →

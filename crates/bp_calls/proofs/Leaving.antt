@@ -3,7 +3,7 @@ use Rattle.std.proofs.Common.{◌≡◌, ◌≢◌, ◌⊎◌, ℕ, suc, ◌+◌
 use Rattle.std.proofs.lemmas.Bool.{cases_Bool}
 use Rattle.std.proofs.lemmas.List.{length-set}
 use Rattle.bp_calls.specs.GivenBack.{GivesBack}
-use Rattle.bp_calls.proofs.CutLaws.{gives_as}
+use Rattle.bp_calls.proofs.GivenUpLaws.{gives_as}
 use Rattle.bp_calls.proofs.OpenPlaces.{content_address, content_open, root_word_stays, stands_stored}
 use Rattle.bp_calls.proofs.ReadingLaws.{few_inode}
 use Rattle.bp_calls.proofs.Shorter.{CanGiveBack}
@@ -28,7 +28,7 @@ use Rattle.bp_layout.specs.Words.{Image, block_count, height_of}
 use Rattle.bp_layout.proofs.Reached.{reached-in_file}
 use Rattle.bp_layout.proofs.SameLaws.{same_self}
 use Rattle.bp_layout.proofs.TreeLaws.{KeepsPointers, has_block-kept, has_block-stays, sound-kept}
-use Rattle.bp_shapes.specs.Freed.{IsCutOff}
+use Rattle.bp_shapes.specs.Freed.{IsGivenUp}
 use Rattle.bp_shapes.specs.Sets.{AreExact}
 use Rattle.bp_shapes.proofs.Freed.{freed_blocks, remove_frees, removed_inode}
 use Rattle.bp_tree.specs.Performs.{Performs}
@@ -131,10 +131,10 @@ module _ (image : Image) (i s j place : ℕ) (can : CanLeave image i s j place) 
   keeps : KeepsPointers image last root size
   keeps = pointers_stay image wf i (32 * s + 0) place 0 reached not_file below can.stands j named_reached
 
-  gone_back : (b : ℕ) → IsCutOff last root size 0 b → HasBlock image root size b
+  gone_back : (b : ℕ) → IsGivenUp last root size 0 b → HasBlock image root size b
   gone_back b gone = has_block-kept image last root size keeps b gone.has
 
-  gone_on : (b : ℕ) → HasBlock image root size b → IsCutOff last root size 0 b
+  gone_on : (b : ℕ) → HasBlock image root size b → IsGivenUp last root size 0 b
   gone_on b has = record { has = has_block-stays image last root size keeps b has; past = omega arith }
 
   module _ (blocks inodes : Set) (exact : AreExact image blocks inodes) where
@@ -162,7 +162,7 @@ module _ (image : Image) (i s j place : ℕ) (can : CanLeave image i s j place) 
         go (inl is) = absurd ((exact.free_inodes.free j is).free named_reached)
         go (inr not) = not
 
-    exact_last : (after : Set) → GivesBack (IsCutOff last root size 0) blocks after → AreExact last after (with inodes j)
+    exact_last : (after : Set) → GivesBack (IsGivenUp last root size 0) blocks after → AreExact last after (with inodes j)
     exact_last after gives = record {
       block_room = rw (length-set image place 0) (gives.room ∙ exact.block_room);
       inode_room = rw (length-set image place 0) (length-set inodes j true ∙ exact.inode_room);
@@ -171,7 +171,7 @@ module _ (image : Image) (i s j place : ℕ) (can : CanLeave image i s j place) 
     }
       where
         told : GivesBack (HasBlock image root size) blocks after
-        told = gives_as (IsCutOff last root size 0) (HasBlock image root size) blocks after gone_back gone_on gives
+        told = gives_as (IsGivenUp last root size 0) (HasBlock image root size) blocks after gone_back gone_on gives
 
 module _ (old new : Memory) (i s j place : ℕ) (can : CanLeave (current_words old) i s j place) (adds : Adds old new (commit place 0)) where
   stored : current_words new ≡ set (current_words old) place 0
@@ -198,5 +198,5 @@ module _ (old new : Memory) (i s j place : ℕ) (can : CanLeave (current_words o
     pub can_give : CanGiveBack (current_words new) (root_of (current_words old) j) (size_of (current_words old) j) blocks
     can_give = rw stored (can_give_blocks (current_words old) i s j place can blocks inodes exact)
 
-    pub leaving_exact : (after : Set) → GivesBack (IsCutOff (current_words new) (root_of (current_words old) j) (size_of (current_words old) j) 0) blocks after → AreExact (current_words new) after (with inodes j)
+    pub leaving_exact : (after : Set) → GivesBack (IsGivenUp (current_words new) (root_of (current_words old) j) (size_of (current_words old) j) 0) blocks after → AreExact (current_words new) after (with inodes j)
     leaving_exact after gives = rw stored (exact_last (current_words old) i s j place can blocks inodes exact after (rw stored at gives))

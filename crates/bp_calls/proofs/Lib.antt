@@ -18,7 +18,7 @@ pub mod Refusals
 pub mod OpenPlaces
 pub mod ReadingLaws
 pub mod AskedLaws
-pub mod CutLaws
+pub mod GivenUpLaws
 pub mod Leaving
 pub mod MayLeave
 pub mod TakenBlocks

@@ -5,7 +5,7 @@ use Rattle.std.proofs.lemmas.List.{length-set}
 use Rattle.std.proofs.lemmas.List.FromFn.{get_or-map-range_with_len}
 use Rattle.bp_calls.specs.GivenBack.{GivesBack}
 use Rattle.bp_calls.specs.Resized.{ResizesFile}
-use Rattle.bp_calls.proofs.CutLaws.{gives_as, has_larger}
+use Rattle.bp_calls.proofs.GivenUpLaws.{gives_as, has_larger}
 use Rattle.bp_calls.proofs.OpenPlaces.{content_open, inode_address, root_word_stays, stands_stored}
 use Rattle.bp_calls.proofs.SetLaws.{free_inodes_stay}
 use Rattle.bp_changes.specs.Effects.{ChangesFile}
@@ -28,7 +28,7 @@ use Rattle.bp_layout.proofs.Reached.{reached-in_file}
 use Rattle.bp_layout.proofs.SameLaws.{same_self}
 use Rattle.bp_layout.proofs.TreeLaws.{KeepsPointers, node-kept, sound-kept, has_block-kept, live_content, live_pointer_word}
 use Rattle.bp_shapes.specs.Sets.{AreExact}
-use Rattle.bp_shapes.specs.Freed.{IsCutOff}
+use Rattle.bp_shapes.specs.Freed.{IsGivenUp}
 use Rattle.bp_shapes.proofs.Freed.{freed_blocks, resize_frees}
 use Rattle.bp_tree.specs.Performs.{Performs}
 use Rattle.bp_tree.proofs.ExistingPaths.{AllThere, inode_path-there, cover-one, copied-one}
@@ -153,8 +153,8 @@ module _ (image : Image) (blocks inodes : Set) (n size place : ℕ) (shrinks : S
       go (inl is) = absurd ((shrinks.exact.free_blocks.free b is).free (record { tree = file; reached = shrinks.reached; has = here }))
       go (inr not) = not
 
-  cut_back : (b : ℕ) → IsCutOff last (root_of image file) (size_of image file) size b → IsCutOff image (root_of image file) (size_of image file) size b
-  cut_back b gone = record {
+  given_up_back : (b : ℕ) → IsGivenUp last (root_of image file) (size_of image file) size b → IsGivenUp image (root_of image file) (size_of image file) size b
+  given_up_back b gone = record {
     has = record {
       depth = gone.has.depth;
       index = gone.has.index;
@@ -165,8 +165,8 @@ module _ (image : Image) (blocks inodes : Set) (n size place : ℕ) (shrinks : S
     past = gone.past;
   }
 
-  cut_on : (b : ℕ) → IsCutOff image (root_of image file) (size_of image file) size b → IsCutOff last (root_of image file) (size_of image file) size b
-  cut_on b gone = record {
+  given_up_on : (b : ℕ) → IsGivenUp image (root_of image file) (size_of image file) size b → IsGivenUp last (root_of image file) (size_of image file) size b
+  given_up_on b gone = record {
     has = record {
       depth = gone.has.depth;
       index = gone.has.index;
@@ -177,18 +177,18 @@ module _ (image : Image) (blocks inodes : Set) (n size place : ℕ) (shrinks : S
     past = gone.past;
   }
 
-  exact_last : (after : Set) → GivesBack (IsCutOff last (root_of image file) (size_of image file) size) blocks after → AreExact last after inodes
+  exact_last : (after : Set) → GivesBack (IsGivenUp last (root_of image file) (size_of image file) size) blocks after → AreExact last after inodes
   exact_last after gives = record {
     block_room = rw (length-set image place size) (gives.room ∙ shrinks.exact.block_room);
     inode_room = rw (length-set image place size) shrinks.exact.inode_room;
-    free_blocks = freed_blocks image last wf (length-set image place size) (IsCutOff image (root_of image file) (size_of image file) size)
+    free_blocks = freed_blocks image last wf (length-set image place size) (IsGivenUp image (root_of image file) (size_of image file) size)
         (resize_frees image wf n size place can (omega (arith, shrinks.smaller))) (has blocks) (has after) shrinks.exact.free_blocks told.only told.still told.given;
     free_inodes = free_inodes_stay image last (has inodes) (changes.size 0 inode_file (λ e. suc-ne-zero n (sym e)))
         (changed.reached-back image last file wf changes) (changed.reached-on image last file wf changes) shrinks.exact.free_inodes;
   }
     where
-      told : GivesBack (IsCutOff image (root_of image file) (size_of image file) size) blocks after
-      told = gives_as (IsCutOff last (root_of image file) (size_of image file) size) (IsCutOff image (root_of image file) (size_of image file) size) blocks after cut_back cut_on gives
+      told : GivesBack (IsGivenUp image (root_of image file) (size_of image file) size) blocks after
+      told = gives_as (IsGivenUp last (root_of image file) (size_of image file) size) (IsGivenUp image (root_of image file) (size_of image file) size) blocks after given_up_back given_up_on gives
 
   -- the store is at the cover
   at_cover : address last (cover image (resizes file size)) ≡ place
@@ -239,7 +239,7 @@ can_give_back old new blocks inodes (suc n) size place root was at here shrinks 
 })
 
 pub shrunk : (old new : Memory) (blocks after inodes : Set) (i size place root was : ℕ) → root ≡ root_of (current_words old) i → was ≡ size_of (current_words old) i → Shrinks (current_words old) blocks inodes i size place → Adds old new (commit place size) →
-    GivesBack (IsCutOff (current_words new) root was size) blocks after → Performs old new (resizes i size) (ResizesFile i size) × AreExact (current_words new) after inodes
+    GivesBack (IsGivenUp (current_words new) root was size) blocks after → Performs old new (resizes i size) (ResizesFile i size) × AreExact (current_words new) after inodes
 shrunk old new blocks after inodes zero size place root was at here shrinks adds gives = absurd (no_file (current_words old) shrinks.is_file)
 shrunk old new blocks after inodes (suc n) size place root was at here shrinks adds gives = (
   shorter_performs old new blocks inodes n size place shrinks adds,

@@ -7,7 +7,7 @@ pub mod Removed
 pub mod Resized
 pub mod CanGrow
 pub mod GivenBack
-pub mod CutBelow
+pub mod GivenUp
 pub mod Space
 pub mod CanWrite
 pub mod WritesFile

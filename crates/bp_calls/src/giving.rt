@@ -1,13 +1,13 @@
 //! The blocks of a tree that lie behind a smaller size are given back.
 
 ghost use Rattle.std.specs.Prelude.{◌≡◌, ℕ, ◌-◌, ◌*◌, ◌<◌, ◌≤◌, false, length, IfNone, IfSome};
-ghost use Rattle.bp_calls.specs.CutBelow.{IsCutTop};
+ghost use Rattle.bp_calls.specs.GivenUp.{IsTopGivenUp};
 ghost use Rattle.bp_calls.specs.GivenBack.{GivesBack};
 ghost use Rattle.bp_free.specs.Set.{has};
 ghost use Rattle.bp_layout.specs.Pieces.{child, piece};
 ghost use Rattle.bp_layout.specs.Tree.{HasBlock, IsSound, span};
 ghost use Rattle.bp_layout.specs.Words.{block_count, block_of, height_of, slot_word};
-ghost use Rattle.bp_shapes.specs.Freed.{IsCutOff};
+ghost use Rattle.bp_shapes.specs.Freed.{IsGivenUp};
 ghost use Rattle.pm_region.specs.Memory.{current_words};
 
 use bp_free::Blocks;
@@ -37,42 +37,43 @@ fn subtree<R: Region>(region: &R, tree: Tree, slot: u64) -> Option<Tree>
 }
 
 /// Gives the topmost block of a tree back, where nothing is left of the tree.
-fn give_top(blocks: &mut Blocks, top: u32, cut: u64)
+fn give_top(blocks: &mut Blocks, top: u32, shorter: u64)
     requires in_range { top < length blocks.old }
     requires taken { has blocks.old top ≡ false }
-    ensures { GivesBack (IsCutTop top cut) blocks.old blocks.new }
+    ensures { GivesBack (IsTopGivenUp top shorter) blocks.old blocks.new }
 {
-    if cut == 0 {
+    if shorter == 0 {
         blocks.give(top);
     }
 }
 
-/// Gives back the blocks of a tree that hold no byte below `cut`, a size in bytes: all of them where that is 0. The
+/// Gives back the blocks of a tree that hold no byte below `shorter`, a size in bytes: all of them where that is 0. The
 /// size of `tree` is the one that it had before, and the words of its blocks are still as they were then.
-pub fn give_back<R: Region>(region: &R, tree: Tree, cut: u64, blocks: &mut Blocks)
+pub fn give_back<R: Region>(region: &R, tree: Tree, shorter: u64, blocks: &mut Blocks)
     requires sound { IsSound (current_words (R.memory region.now)) tree.root tree.size }
     requires room { length blocks.old ≡ block_count (current_words (R.memory region.now)) }
     requires taken { (b : ℕ) → HasBlock (current_words (R.memory region.now)) tree.root tree.size b →
         has blocks.old b ≡ false }
-    ensures { GivesBack (IsCutOff (current_words (R.memory region.now)) tree.root tree.size cut) blocks.old blocks.new }
+    ensures { GivesBack (IsGivenUp (current_words (R.memory region.now)) tree.root tree.size shorter)
+        blocks.old blocks.new }
 {
     let _words = region.words();
-    if tree.size <= cut {
+    if tree.size <= shorter {
         return;
     }
     let top = tree.block() as u32;
     if top == 0 {
         return;
     }
-    give_top(blocks, top, cut);
+    give_top(blocks, top, shorter);
     let height = tree.height();
     if height == 0 {
         return;
     }
     let step = span(height - 1);
-    for slot in cut / step..(tree.size - 1) / step + 1 {
+    for slot in shorter / step..(tree.size - 1) / step + 1 {
         match subtree(region, tree, slot) {
-            Some(below) => give_back(region, below, cut.saturating_sub(slot * step), blocks),
+            Some(below) => give_back(region, below, shorter.saturating_sub(slot * step), blocks),
             None => {}
         }
     }

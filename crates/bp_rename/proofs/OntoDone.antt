@@ -21,7 +21,7 @@ use Rattle.bp_changes.proofs.Committed.{commit_moves}
 use Rattle.bp_changes.proofs.Move.{moved_well_formed}
 use Rattle.bp_shapes.proofs.MovedSets.{replaced_blocks, replaced_inode}
 use Rattle.bp_shapes.specs.Forest.{tree_trail}
-use Rattle.bp_shapes.specs.Freed.{IsCutOff}
+use Rattle.bp_shapes.specs.Freed.{IsGivenUp}
 use Rattle.bp_shapes.specs.Sets.{AreExact}
 use Rattle.bp_shapes.proofs.FreeSets.{wf_forest}
 use Rattle.bp_tree.specs.Performs.{Performs}
@@ -36,7 +36,7 @@ use Rattle.bp_cow.proofs.CommitTaking.{commit_performs, copied_few, cover_open, 
 use Rattle.bp_cow.proofs.CopiesNeed.{has-word}
 use Rattle.pm_region.specs.Memory.{Memory, current_words, room_in}
 use Rattle.bp_calls.specs.GivenBack.{GivesBack}
-use Rattle.bp_calls.proofs.CutLaws.{gives_as}
+use Rattle.bp_calls.proofs.GivenUpLaws.{gives_as}
 use Rattle.bp_calls.proofs.Shorter.{CanGiveBack}
 use Rattle.bp_rename.specs.CanRename.{CanRename, moved_inode}
 use Rattle.bp_rename.specs.TouchesTwo.{TouchesTwo, inumber_path}
@@ -182,11 +182,11 @@ module _ (old new : Memory) (move : Move) (r : ℕ) (can : CanRename (current_wo
       go (inl e) = absurd ((exact.free_inodes.free (inumber_at (current_words old) move.to_dir r) e).free was_there)
       go (inr e) = e
 
-  module _ (final : Set) (gives : GivesBack (IsCutOff (current_words new) (root_of (current_words new) (inumber_at (current_words old) move.to_dir r)) (size_of (current_words new) (inumber_at (current_words old) move.to_dir r)) 0) left final) where
+  module _ (final : Set) (gives : GivesBack (IsGivenUp (current_words new) (root_of (current_words new) (inumber_at (current_words old) move.to_dir r)) (size_of (current_words new) (inumber_at (current_words old) move.to_dir r)) 0) left final) where
     told : GivesBack (HasBlock (current_words new) (root_of (current_words new) (inumber_at (current_words old) move.to_dir r)) (size_of (current_words new) (inumber_at (current_words old) move.to_dir r))) left final
-    told = gives_as (IsCutOff (current_words new) (root_of (current_words new) (inumber_at (current_words old) move.to_dir r)) (size_of (current_words new) (inumber_at (current_words old) move.to_dir r)) 0)
+    told = gives_as (IsGivenUp (current_words new) (root_of (current_words new) (inumber_at (current_words old) move.to_dir r)) (size_of (current_words new) (inumber_at (current_words old) move.to_dir r)) 0)
         (HasBlock (current_words new) (root_of (current_words new) (inumber_at (current_words old) move.to_dir r)) (size_of (current_words new) (inumber_at (current_words old) move.to_dir r))) left final
-        (λ b cut. cut.has) (λ b held. record { has = held; past = omega arith }) gives
+        (λ b gone. gone.has) (λ b held. record { has = held; past = omega arith }) gives
 
     pub onto_exact : AreExact (current_words new) final (with inodes (inumber_at (current_words old) move.to_dir r))
     onto_exact = record {

@@ -13,9 +13,9 @@ pub record FreesBlocks (old new : Image) (Gone : ℕ → Type 0) : Type 0 where
   pub stay : (b : ℕ) → IsLiveBlock old b → (Gone b → ⊥) → IsLiveBlock new b
 
 -- a block of a tree to which a pointer leads that covers no byte below the smaller size
-pub record IsCutOff (image : Image) (root size cut block : ℕ) : Type 0 where
+pub record IsGivenUp (image : Image) (root size shorter block : ℕ) : Type 0 where
   pub has : HasBlock image root size block
-  pub past : cut ≤ has.index * covered (suc has.pointer.level)
+  pub past : shorter ≤ has.index * covered (suc has.pointer.level)
 
 -- Each tree has the blocks that it had, and tree x those that it has under its new size.
 pub record ResizesBlocks (old new : Image) (x : ℕ) : Type 0 where

@@ -6,36 +6,36 @@ use Rattle.bp_layout.proofs.TreeLaws.{span-is}
 use Rattle.pm_region.specs.Memory.{current_words}
 use Rattle.bp_tree.proofs.RegionWords.{length_now}
 use Rattle.bp_append.proofs.TallyLaws.{span-positive}
-use Rattle.bp_calls.proofs.CutLaws.{null_cut, gives_none, leaf_gives, top_in_range, top_block, slots_begin, slots_step, slots_end, not_yet, child_is_sound, child_is_lower, slot_live, slots_order}
+use Rattle.bp_calls.proofs.GivenUpLaws.{null_given_up, gives_none, leaf_gives, top_in_range, top_block, slots_begin, slots_step, slots_end, not_yet, child_is_sound, child_is_lower, slot_live, slots_order}
 use Rattle.bp_calls.proofs.giving.+give_back.Goals as goal
 use Rattle.bp_calls.proofs.giving.+give_back.Goals.{in-Some, in-None}
 
 pub overflow_cast-top : goal.overflow_cast-top
 overflow_cast-top g t c =
     let image = current_words (g.R.Region.memory c.args.region.now) in
-    let low = top_in_range image c.args.tree.root c.args.tree.size c.requires.sound (omega (arith, c.if-tree-cut.false)) in
+    let low = top_in_range image c.args.tree.root c.args.tree.size c.requires.sound (omega (arith, c.if-tree-shorter.false)) in
     omega (arith, low, c.block-top.ensures, c.words-words.ensures, c.words-words.type_inv, length_now (g.R.Region.memory c.args.region.now))
 
 pub returns-then-top-eq0 : goal.returns-then-top-eq0
 returns-then-top-eq0 g t c =
     let image = current_words (g.R.Region.memory c.args.region.now) in
-    gives_none _ c.args.blocks.now (λ b. null_cut image c.args.tree.root c.args.tree.size c.args.cut b (sym c.block-top.ensures ∙ c.if-top-eq0.true))
+    gives_none _ c.args.blocks.now (λ b. null_given_up image c.args.tree.root c.args.tree.size c.args.shorter b (sym c.block-top.ensures ∙ c.if-top-eq0.true))
 
 pub give_top-requires-clause-in_range : goal.give_top-requires-clause-in_range
 give_top-requires-clause-in_range g t c =
     let image = current_words (g.R.Region.memory c.args.region.now) in
-    let low = top_in_range image c.args.tree.root c.args.tree.size c.requires.sound (omega (arith, c.if-tree-cut.false)) in
+    let low = top_in_range image c.args.tree.root c.args.tree.size c.requires.sound (omega (arith, c.if-tree-shorter.false)) in
     omega (arith, low, c.block-top.ensures, c.requires.room)
 
 pub give_top-requires-clause-taken : goal.give_top-requires-clause-taken
 give_top-requires-clause-taken g t c =
     let image = current_words (g.R.Region.memory c.args.region.now) in
-    rw c.block-top.ensures (c.requires.taken (block_of c.args.tree.root) (top_block image c.args.tree.root c.args.tree.size (omega (arith, c.if-tree-cut.false)) (rw c.block-top.ensures at c.if-top-eq0.false)))
+    rw c.block-top.ensures (c.requires.taken (block_of c.args.tree.root) (top_block image c.args.tree.root c.args.tree.size (omega (arith, c.if-tree-shorter.false)) (rw c.block-top.ensures at c.if-top-eq0.false)))
 
 pub returns-then-height-eq0 : goal.returns-then-height-eq0
 returns-then-height-eq0 g t c =
     let image = current_words (g.R.Region.memory c.args.region.now) in
-    leaf_gives image c.args.tree.root c.args.tree.size c.args.cut c.requires.sound c.if-tree-cut.false (rw c.block-top.ensures at c.if-top-eq0.false) (sym c.height-height.ensures ∙ c.if-height-eq0.true) c.args.blocks.now c.give_top.new.blocks (rw c.block-top.ensures at c.give_top.ensures)
+    leaf_gives image c.args.tree.root c.args.tree.size c.args.shorter c.requires.sound c.if-tree-shorter.false (rw c.block-top.ensures at c.if-top-eq0.false) (sym c.height-height.ensures ∙ c.if-height-eq0.true) c.args.blocks.now c.give_top.new.blocks (rw c.block-top.ensures at c.give_top.ensures)
 
 pub overflow_step-slot : goal.overflow_step-slot
 overflow_step-slot g t c =
@@ -51,7 +51,7 @@ pub loop-slot-init : goal.loop-slot-init
 loop-slot-init g t c =
     let image = current_words (g.R.Region.memory c.args.region.now) in
     let is : c.span-step.result ≡ span (height_of c.args.tree.root - 1) = c.span-step.ensures ∙ sym (span-is (c.height-height.result - 1)) ∙ ap (λ h. span (h - 1)) c.height-height.ensures in
-    rw is (slots_begin image c.args.tree.root c.args.tree.size (height_of c.args.tree.root - 1) c.args.cut c.requires.sound c.if-tree-cut.false (rw c.block-top.ensures at c.if-top-eq0.false) (omega (arith, c.height-height.ensures, c.if-height-eq0.false)) c.args.blocks.now c.give_top.new.blocks (rw c.block-top.ensures at c.give_top.ensures))
+    rw is (slots_begin image c.args.tree.root c.args.tree.size (height_of c.args.tree.root - 1) c.args.shorter c.requires.sound c.if-tree-shorter.false (rw c.block-top.ensures at c.if-top-eq0.false) (omega (arith, c.height-height.ensures, c.if-height-eq0.false)) c.args.blocks.now c.give_top.new.blocks (rw c.block-top.ensures at c.give_top.ensures))
 
 pub give_back-requires : goal.give_back-requires
 give_back-requires g t c κs within =
@@ -59,16 +59,16 @@ give_back-requires g t c κs within =
     let is : c.span-step.result ≡ span (height_of c.args.tree.root - 1) = c.span-step.ensures ∙ sym (span-is (c.height-height.result - 1)) ∙ ap (λ h. span (h - 1)) c.height-height.ensures in
     let high : height_of c.args.tree.root ≡ suc (height_of c.args.tree.root - 1) = omega (arith, c.height-height.ensures, c.if-height-eq0.false) in
     let live : c.loop-slot.slot * span (height_of c.args.tree.root - 1) < c.args.tree.size =
-    slot_live image c.args.tree.root c.args.tree.size (height_of c.args.tree.root - 1) c.args.cut c.requires.sound c.if-tree-cut.false (rw c.block-top.ensures at c.if-top-eq0.false) high c.loop-slot.slot (rw is at c.loop-slot-test.true) in
-    let lower : height_of c.in-Some.below.root ≡ height_of c.args.tree.root - 1 = ap height_of c.in-Some.ensures.root ∙ child_is_lower image c.args.tree.root c.args.tree.size (height_of c.args.tree.root - 1) c.args.cut c.requires.sound c.if-tree-cut.false (rw c.block-top.ensures at c.if-top-eq0.false) high c.loop-slot.slot live in (
+    slot_live image c.args.tree.root c.args.tree.size (height_of c.args.tree.root - 1) c.args.shorter c.requires.sound c.if-tree-shorter.false (rw c.block-top.ensures at c.if-top-eq0.false) high c.loop-slot.slot (rw is at c.loop-slot-test.true) in
+    let lower : height_of c.in-Some.below.root ≡ height_of c.args.tree.root - 1 = ap height_of c.in-Some.ensures.root ∙ child_is_lower image c.args.tree.root c.args.tree.size (height_of c.args.tree.root - 1) c.args.shorter c.requires.sound c.if-tree-shorter.false (rw c.block-top.ensures at c.if-top-eq0.false) high c.loop-slot.slot live in (
       omega (arith, c.decreases, lower, high),
       (
         within,
         (
-          rw (c.in-Some.ensures.root, c.in-Some.ensures.size) (child_is_sound image c.args.tree.root c.args.tree.size (height_of c.args.tree.root - 1) c.args.cut c.requires.sound c.if-tree-cut.false (rw c.block-top.ensures at c.if-top-eq0.false) high c.loop-slot.slot live),
+          rw (c.in-Some.ensures.root, c.in-Some.ensures.size) (child_is_sound image c.args.tree.root c.args.tree.size (height_of c.args.tree.root - 1) c.args.shorter c.requires.sound c.if-tree-shorter.false (rw c.block-top.ensures at c.if-top-eq0.false) high c.loop-slot.slot live),
           (
             c.loop-slot.invariant.room ∙ c.requires.room,
-            rw (c.in-Some.ensures.root, c.in-Some.ensures.size) (not_yet image c.args.tree.root c.args.tree.size (height_of c.args.tree.root - 1) c.args.cut c.requires.sound c.if-tree-cut.false (rw c.block-top.ensures at c.if-top-eq0.false) high c.loop-slot.slot c.args.blocks.now c.loop-slot.blocks live c.requires.taken c.loop-slot.invariant),
+            rw (c.in-Some.ensures.root, c.in-Some.ensures.size) (not_yet image c.args.tree.root c.args.tree.size (height_of c.args.tree.root - 1) c.args.shorter c.requires.sound c.if-tree-shorter.false (rw c.block-top.ensures at c.if-top-eq0.false) high c.loop-slot.slot c.args.blocks.now c.loop-slot.blocks live c.requires.taken c.loop-slot.invariant),
           ),
         ),
       ),
@@ -80,20 +80,20 @@ loop-slot-preserved g t c =
     let is : c.span-step.result ≡ span (height_of c.args.tree.root - 1) = c.span-step.ensures ∙ sym (span-is (c.height-height.result - 1)) ∙ ap (λ h. span (h - 1)) c.height-height.ensures in
     let high : height_of c.args.tree.root ≡ suc (height_of c.args.tree.root - 1) = omega (arith, c.height-height.ensures, c.if-height-eq0.false) in
     let live : c.loop-slot.slot * span (height_of c.args.tree.root - 1) < c.args.tree.size =
-    slot_live image c.args.tree.root c.args.tree.size (height_of c.args.tree.root - 1) c.args.cut c.requires.sound c.if-tree-cut.false (rw c.block-top.ensures at c.if-top-eq0.false) high c.loop-slot.slot (rw is at c.loop-slot-test.true) in
+    slot_live image c.args.tree.root c.args.tree.size (height_of c.args.tree.root - 1) c.args.shorter c.requires.sound c.if-tree-shorter.false (rw c.block-top.ensures at c.if-top-eq0.false) high c.loop-slot.slot (rw is at c.loop-slot-test.true) in
     elim c.match-subtree.branch [
       | in-Some w ↦
-          let cut : w.saturating_sub.result ≡ c.args.cut - c.loop-slot.slot * span (height_of c.args.tree.root - 1) = w.saturating_sub.ensures ∙ ap (λ s. c.args.cut - c.loop-slot.slot * s) is in
+          let shorter : w.saturating_sub.result ≡ c.args.shorter - c.loop-slot.slot * span (height_of c.args.tree.root - 1) = w.saturating_sub.ensures ∙ ap (λ s. c.args.shorter - c.loop-slot.slot * s) is in
           rw w.blocks-is
-          (slots_step image c.args.tree.root c.args.tree.size (height_of c.args.tree.root - 1) c.args.cut c.requires.sound c.if-tree-cut.false (rw c.block-top.ensures at c.if-top-eq0.false) high c.loop-slot.slot c.args.blocks.now c.loop-slot.blocks w.give_back.new.blocks live c.loop-slot.invariant
-          (rw (w.in-Some.ensures.root, w.in-Some.ensures.size, cut) at w.give_back.ensures))
+          (slots_step image c.args.tree.root c.args.tree.size (height_of c.args.tree.root - 1) c.args.shorter c.requires.sound c.if-tree-shorter.false (rw c.block-top.ensures at c.if-top-eq0.false) high c.loop-slot.slot c.args.blocks.now c.loop-slot.blocks w.give_back.new.blocks live c.loop-slot.invariant
+          (rw (w.in-Some.ensures.root, w.in-Some.ensures.size, shorter) at w.give_back.ensures))
       | in-None w ↦
           let low : height_of c.args.tree.root - 1 < 4096 = omega arith in
           let null : block_of (child image (block_of c.args.tree.root) (height_of c.args.tree.root - 1) c.loop-slot.slot) ≡ 0 = omega (arith, low, w.in-None.ensures.none) in
           rw w.blocks-is
-          (slots_step image c.args.tree.root c.args.tree.size (height_of c.args.tree.root - 1) c.args.cut c.requires.sound c.if-tree-cut.false (rw c.block-top.ensures at c.if-top-eq0.false) high c.loop-slot.slot c.args.blocks.now c.loop-slot.blocks c.loop-slot.blocks live c.loop-slot.invariant
-          (gives_none _ c.loop-slot.blocks (λ b. null_cut image (child image (block_of c.args.tree.root) (height_of c.args.tree.root - 1) c.loop-slot.slot) (piece c.args.tree.size (height_of c.args.tree.root - 1) c.loop-slot.slot)
-          (c.args.cut - c.loop-slot.slot * span (height_of c.args.tree.root - 1)) b null)))
+          (slots_step image c.args.tree.root c.args.tree.size (height_of c.args.tree.root - 1) c.args.shorter c.requires.sound c.if-tree-shorter.false (rw c.block-top.ensures at c.if-top-eq0.false) high c.loop-slot.slot c.args.blocks.now c.loop-slot.blocks c.loop-slot.blocks live c.loop-slot.invariant
+          (gives_none _ c.loop-slot.blocks (λ b. null_given_up image (child image (block_of c.args.tree.root) (height_of c.args.tree.root - 1) c.loop-slot.slot) (piece c.args.tree.size (height_of c.args.tree.root - 1) c.loop-slot.slot)
+          (c.args.shorter - c.loop-slot.slot * span (height_of c.args.tree.root - 1)) b null)))
     ]
 
 pub returns : goal.returns
@@ -101,7 +101,7 @@ returns g t c =
     let image = current_words (g.R.Region.memory c.args.region.now) in
     let is : c.span-step.result ≡ span (height_of c.args.tree.root - 1) = c.span-step.ensures ∙ sym (span-is (c.height-height.result - 1)) ∙ ap (λ h. span (h - 1)) c.height-height.ensures in
     let high : height_of c.args.tree.root ≡ suc (height_of c.args.tree.root - 1) = omega (arith, c.height-height.ensures, c.if-height-eq0.false) in
-    let order : c.args.cut / span (height_of c.args.tree.root - 1) ≤ (c.args.tree.size - 1) / span (height_of c.args.tree.root - 1) + 1 = slots_order image c.args.tree.root c.args.tree.size (height_of c.args.tree.root - 1) c.args.cut c.requires.sound c.if-tree-cut.false (rw c.block-top.ensures at c.if-top-eq0.false) high in
+    let order : c.args.shorter / span (height_of c.args.tree.root - 1) ≤ (c.args.tree.size - 1) / span (height_of c.args.tree.root - 1) + 1 = slots_order image c.args.tree.root c.args.tree.size (height_of c.args.tree.root - 1) c.args.shorter c.requires.sound c.if-tree-shorter.false (rw c.block-top.ensures at c.if-top-eq0.false) high in
     let low : c.loop-slot.slot ≤ (c.args.tree.size - 1) / c.span-step.result + 1 = c.loop-slot.auto.slot-end (rw is order) in
     let end : c.loop-slot.slot ≡ (c.args.tree.size - 1) / span (height_of c.args.tree.root - 1) + 1 = le_antisymm (rw is at low) (rw is at c.loop-slot-test.false) in
-    slots_end image c.args.tree.root c.args.tree.size (height_of c.args.tree.root - 1) c.args.cut c.requires.sound c.if-tree-cut.false (rw c.block-top.ensures at c.if-top-eq0.false) high c.args.blocks.now c.loop-slot.blocks (rw end at c.loop-slot.invariant)
+    slots_end image c.args.tree.root c.args.tree.size (height_of c.args.tree.root - 1) c.args.shorter c.requires.sound c.if-tree-shorter.false (rw c.block-top.ensures at c.if-top-eq0.false) high c.args.blocks.now c.loop-slot.blocks (rw end at c.loop-slot.invariant)

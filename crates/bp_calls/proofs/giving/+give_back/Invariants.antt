@@ -1,13 +1,13 @@
 use Rattle.std.proofs.Common.{◌-◌}
 use Rattle.bp_layout.specs.Words.{height_of}
 use Rattle.pm_region.specs.Memory.{current_words}
-use Rattle.bp_calls.specs.CutBelow.{IsCutIn}
+use Rattle.bp_calls.specs.GivenUp.{IsGivenUpIn}
 use Rattle.bp_calls.specs.GivenBack.{GivesBack}
 use Rattle.bp_calls.proofs.giving.+give_back.Given as goal
 
 abbrev pub decreases-give_back : goal.decreases-give_back
 decreases-give_back g l = height_of l.tree.root
 
--- what is cut off in the slots so far is back
+-- what is given up in the slots so far is back
 abbrev pub invariant-loop-slot : goal.invariant-loop-slot
-invariant-loop-slot g l = GivesBack (IsCutIn (current_words (g.R.Region.memory l.region)) l.tree.root l.tree.size (height_of l.tree.root - 1) l.cut l.slot) l.fn.blocks l.blocks
+invariant-loop-slot g l = GivesBack (IsGivenUpIn (current_words (g.R.Region.memory l.region)) l.tree.root l.tree.size (height_of l.tree.root - 1) l.shorter l.slot) l.fn.blocks l.blocks

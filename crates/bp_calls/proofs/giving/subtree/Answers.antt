@@ -2,7 +2,7 @@ use Rattle.std.proofs.Common.{◌≡◌, ◌-◌, ◌%◌, ap, ◌∙◌, arith}
 use Rattle.bp_layout.specs.Words.{block_of, height_of, slot_word}
 use Rattle.bp_layout.proofs.Pieces.{sound_shape}
 use Rattle.pm_region.specs.Memory.{current_words}
-use Rattle.bp_calls.proofs.CutLaws.{top_in_range}
+use Rattle.bp_calls.proofs.GivenUpLaws.{top_in_range}
 use Rattle.bp_calls.proofs.giving.subtree.Goals as goal
 
 pub load_slot-pointer-requires-clause-block : goal.load_slot-pointer-requires-clause-block

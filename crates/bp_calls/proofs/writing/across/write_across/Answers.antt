@@ -3,34 +3,34 @@ use Rattle.pm_region.specs.Memory.{current_words}
 use Rattle.bp_free.specs.Set.{members}
 use Rattle.bp_cow.specs.Cover.{copied_count}
 use Rattle.bp_calls.specs.TouchedAcross.{WritesAcross}
-use Rattle.bp_calls.proofs.AcrossCalls.{at_apart, at_commit, at_done, at_few, at_inside, at_lacks, at_prepare, at_prepared, at_shape, cut_at}
+use Rattle.bp_calls.proofs.AcrossCalls.{at_apart, at_commit, at_done, at_few, at_inside, at_lacks, at_prepare, at_prepared, at_shape, splits_at}
 use Rattle.bp_calls.proofs.writing.across.write_across.Goals as goal
 
 pub need_cover-requires-clause-touched : goal.need_cover-requires-clause-touched
 need_cover-requires-clause-touched g c =
     let across : WritesAcross (g.R.Region.memory c.args.parts.now.region) c.args.parts.now.blocks c.args.parts.now.inodes c.args.i c.args.off c.args.bytes.now c.touched_across-touched.result =
-    cut_at (g.R.Region.memory c.args.parts.now.region) c.args.parts.now.blocks c.args.parts.now.inodes c.args.off c.args.bytes.now c.touched_across-touched.result c.args.i c.tree_of-tree.result.size c.split_at.result.0.now
+    splits_at (g.R.Region.memory c.args.parts.now.region) c.args.parts.now.blocks c.args.parts.now.inodes c.args.off c.args.bytes.now c.touched_across-touched.result c.args.i c.tree_of-tree.result.size c.split_at.result.0.now
     c.requires.can c.requires.below c.requires.past c.tree_of-tree.ensures.size c.split_at.ensures.front c.touched_across-touched.ensures in
     at_shape (g.R.Region.memory c.args.parts.now.region) c.args.parts.now.blocks c.args.parts.now.inodes c.args.off c.args.bytes.now c.touched_across-touched.result c.args.i across
 
 pub need_cover-requires-clause-in_range : goal.need_cover-requires-clause-in_range
 need_cover-requires-clause-in_range g c =
     let across : WritesAcross (g.R.Region.memory c.args.parts.now.region) c.args.parts.now.blocks c.args.parts.now.inodes c.args.i c.args.off c.args.bytes.now c.touched_across-touched.result =
-    cut_at (g.R.Region.memory c.args.parts.now.region) c.args.parts.now.blocks c.args.parts.now.inodes c.args.off c.args.bytes.now c.touched_across-touched.result c.args.i c.tree_of-tree.result.size c.split_at.result.0.now
+    splits_at (g.R.Region.memory c.args.parts.now.region) c.args.parts.now.blocks c.args.parts.now.inodes c.args.off c.args.bytes.now c.touched_across-touched.result c.args.i c.tree_of-tree.result.size c.split_at.result.0.now
     c.requires.can c.requires.below c.requires.past c.tree_of-tree.ensures.size c.split_at.ensures.front c.touched_across-touched.ensures in
     at_inside (g.R.Region.memory c.args.parts.now.region) c.args.parts.now.blocks c.args.parts.now.inodes c.args.off c.args.bytes.now c.touched_across-touched.result c.args.i across
 
 pub need_cover-requires-clause-apart : goal.need_cover-requires-clause-apart
 need_cover-requires-clause-apart g c =
     let across : WritesAcross (g.R.Region.memory c.args.parts.now.region) c.args.parts.now.blocks c.args.parts.now.inodes c.args.i c.args.off c.args.bytes.now c.touched_across-touched.result =
-    cut_at (g.R.Region.memory c.args.parts.now.region) c.args.parts.now.blocks c.args.parts.now.inodes c.args.off c.args.bytes.now c.touched_across-touched.result c.args.i c.tree_of-tree.result.size c.split_at.result.0.now
+    splits_at (g.R.Region.memory c.args.parts.now.region) c.args.parts.now.blocks c.args.parts.now.inodes c.args.off c.args.bytes.now c.touched_across-touched.result c.args.i c.tree_of-tree.result.size c.split_at.result.0.now
     c.requires.can c.requires.below c.requires.past c.tree_of-tree.ensures.size c.split_at.ensures.front c.touched_across-touched.ensures in
     at_apart (g.R.Region.memory c.args.parts.now.region) c.args.parts.now.blocks c.args.parts.now.inodes c.args.off c.args.bytes.now c.touched_across-touched.result c.args.i across
 
 pub overflow_add-need : goal.overflow_add-need
 overflow_add-need g c =
     let across : WritesAcross (g.R.Region.memory c.args.parts.now.region) c.args.parts.now.blocks c.args.parts.now.inodes c.args.i c.args.off c.args.bytes.now c.touched_across-touched.result =
-    cut_at (g.R.Region.memory c.args.parts.now.region) c.args.parts.now.blocks c.args.parts.now.inodes c.args.off c.args.bytes.now c.touched_across-touched.result c.args.i c.tree_of-tree.result.size c.split_at.result.0.now
+    splits_at (g.R.Region.memory c.args.parts.now.region) c.args.parts.now.blocks c.args.parts.now.inodes c.args.off c.args.bytes.now c.touched_across-touched.result c.args.i c.tree_of-tree.result.size c.split_at.result.0.now
     c.requires.can c.requires.below c.requires.past c.tree_of-tree.ensures.size c.split_at.ensures.front c.touched_across-touched.ensures in
     let few = at_few (g.R.Region.memory c.args.parts.now.region) c.args.parts.now.blocks c.args.parts.now.inodes c.args.off c.args.bytes.now c.touched_across-touched.result c.args.i c.tree_of-tree.result.root c.tree_of-tree.result.size across c.tree_of-tree.ensures.root c.tree_of-tree.ensures.size in
     omega (arith, few, c.need_prep-behind.ensures, c.need_cover.ensures)
@@ -38,7 +38,7 @@ overflow_add-need g c =
 pub returns-then-free-need-clause-refused : goal.returns-then-free-need-clause-refused
 returns-then-free-need-clause-refused g c =
     let across : WritesAcross (g.R.Region.memory c.args.parts.now.region) c.args.parts.now.blocks c.args.parts.now.inodes c.args.i c.args.off c.args.bytes.now c.touched_across-touched.result =
-    cut_at (g.R.Region.memory c.args.parts.now.region) c.args.parts.now.blocks c.args.parts.now.inodes c.args.off c.args.bytes.now c.touched_across-touched.result c.args.i c.tree_of-tree.result.size c.split_at.result.0.now
+    splits_at (g.R.Region.memory c.args.parts.now.region) c.args.parts.now.blocks c.args.parts.now.inodes c.args.off c.args.bytes.now c.touched_across-touched.result c.args.i c.tree_of-tree.result.size c.split_at.result.0.now
     c.requires.can c.requires.below c.requires.past c.tree_of-tree.ensures.size c.split_at.ensures.front c.touched_across-touched.ensures in
     at_lacks (g.R.Region.memory c.args.parts.now.region) c.args.parts.now.blocks c.args.parts.now.inodes c.args.off c.args.bytes.now c.touched_across-touched.result c.args.i c.tree_of-tree.result.root c.tree_of-tree.result.size c.need_prep-behind.result c.need_cover.result c.count-free.result
     across c.tree_of-tree.ensures.root c.tree_of-tree.ensures.size c.need_prep-behind.ensures c.need_cover.ensures c.count-free.ensures c.if-free-need.true
@@ -46,7 +46,7 @@ returns-then-free-need-clause-refused g c =
 pub prep-requires : goal.prep-requires
 prep-requires g c =
     let across : WritesAcross (g.R.Region.memory c.args.parts.now.region) c.args.parts.now.blocks c.args.parts.now.inodes c.args.i c.args.off c.args.bytes.now c.touched_across-touched.result =
-    cut_at (g.R.Region.memory c.args.parts.now.region) c.args.parts.now.blocks c.args.parts.now.inodes c.args.off c.args.bytes.now c.touched_across-touched.result c.args.i c.tree_of-tree.result.size c.split_at.result.0.now
+    splits_at (g.R.Region.memory c.args.parts.now.region) c.args.parts.now.blocks c.args.parts.now.inodes c.args.off c.args.bytes.now c.touched_across-touched.result c.args.i c.tree_of-tree.result.size c.split_at.result.0.now
     c.requires.can c.requires.below c.requires.past c.tree_of-tree.ensures.size c.split_at.ensures.front c.touched_across-touched.ensures in
     let enough : c.need_prep-behind.result + copied_count (current_words (g.R.Region.memory c.args.parts.now.region)) c.touched_across-touched.result ≤ length (members c.args.parts.now.blocks) =
     omega (arith, c.if-free-need.false, c.count-free.ensures, c.need_cover.ensures) in
@@ -61,7 +61,7 @@ prep-requires g c =
 pub commit-requires : goal.commit-requires
 commit-requires g c κs within =
     let across : WritesAcross (g.R.Region.memory c.args.parts.now.region) c.args.parts.now.blocks c.args.parts.now.inodes c.args.i c.args.off c.args.bytes.now c.touched_across-touched.result =
-    cut_at (g.R.Region.memory c.args.parts.now.region) c.args.parts.now.blocks c.args.parts.now.inodes c.args.off c.args.bytes.now c.touched_across-touched.result c.args.i c.tree_of-tree.result.size c.split_at.result.0.now
+    splits_at (g.R.Region.memory c.args.parts.now.region) c.args.parts.now.blocks c.args.parts.now.inodes c.args.off c.args.bytes.now c.touched_across-touched.result c.args.i c.tree_of-tree.result.size c.split_at.result.0.now
     c.requires.can c.requires.below c.requires.past c.tree_of-tree.ensures.size c.split_at.ensures.front c.touched_across-touched.ensures in
     let enough : c.need_prep-behind.result + copied_count (current_words (g.R.Region.memory c.args.parts.now.region)) c.touched_across-touched.result ≤ length (members c.args.parts.now.blocks) =
     omega (arith, c.if-free-need.false, c.count-free.ensures, c.need_cover.ensures) in
@@ -76,7 +76,7 @@ commit-requires g c κs within =
 pub returns-clause-performs : goal.returns-clause-performs
 returns-clause-performs g c =
     let across : WritesAcross (g.R.Region.memory c.args.parts.now.region) c.args.parts.now.blocks c.args.parts.now.inodes c.args.i c.args.off c.args.bytes.now c.touched_across-touched.result =
-    cut_at (g.R.Region.memory c.args.parts.now.region) c.args.parts.now.blocks c.args.parts.now.inodes c.args.off c.args.bytes.now c.touched_across-touched.result c.args.i c.tree_of-tree.result.size c.split_at.result.0.now
+    splits_at (g.R.Region.memory c.args.parts.now.region) c.args.parts.now.blocks c.args.parts.now.inodes c.args.off c.args.bytes.now c.touched_across-touched.result c.args.i c.tree_of-tree.result.size c.split_at.result.0.now
     c.requires.can c.requires.below c.requires.past c.tree_of-tree.ensures.size c.split_at.ensures.front c.touched_across-touched.ensures in
     let enough : c.need_prep-behind.result + copied_count (current_words (g.R.Region.memory c.args.parts.now.region)) c.touched_across-touched.result ≤ length (members c.args.parts.now.blocks) =
     omega (arith, c.if-free-need.false, c.count-free.ensures, c.need_cover.ensures) in
@@ -91,7 +91,7 @@ returns-clause-performs g c =
 pub returns-clause-exact : goal.returns-clause-exact
 returns-clause-exact g c =
     let across : WritesAcross (g.R.Region.memory c.args.parts.now.region) c.args.parts.now.blocks c.args.parts.now.inodes c.args.i c.args.off c.args.bytes.now c.touched_across-touched.result =
-    cut_at (g.R.Region.memory c.args.parts.now.region) c.args.parts.now.blocks c.args.parts.now.inodes c.args.off c.args.bytes.now c.touched_across-touched.result c.args.i c.tree_of-tree.result.size c.split_at.result.0.now
+    splits_at (g.R.Region.memory c.args.parts.now.region) c.args.parts.now.blocks c.args.parts.now.inodes c.args.off c.args.bytes.now c.touched_across-touched.result c.args.i c.tree_of-tree.result.size c.split_at.result.0.now
     c.requires.can c.requires.below c.requires.past c.tree_of-tree.ensures.size c.split_at.ensures.front c.touched_across-touched.ensures in
     let enough : c.need_prep-behind.result + copied_count (current_words (g.R.Region.memory c.args.parts.now.region)) c.touched_across-touched.result ≤ length (members c.args.parts.now.blocks) =
     omega (arith, c.if-free-need.false, c.count-free.ensures, c.need_cover.ensures) in

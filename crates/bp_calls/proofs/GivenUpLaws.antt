@@ -9,10 +9,10 @@ use Rattle.bp_layout.specs.Words.{Image, block_count, block_of, height_of}
 use Rattle.bp_layout.proofs.Addresses.{present_above}
 use Rattle.bp_layout.proofs.Pieces.{InChild, sound_shape, joined_block, child_block, splits}
 use Rattle.bp_layout.proofs.TreeLaws.{first_index, word_at-zero}
-use Rattle.bp_shapes.specs.Freed.{IsCutOff}
+use Rattle.bp_shapes.specs.Freed.{IsGivenUp}
 use Rattle.bp_append.proofs.TallyLaws.{span-positive, div_order}
-use Rattle.bp_calls.specs.CutBelow.{IsCutTop, IsCutIn}
-use Rattle.bp_calls.specs.CutBelow.IsCutIn.{top, below}
+use Rattle.bp_calls.specs.GivenUp.{IsTopGivenUp, IsGivenUpIn}
+use Rattle.bp_calls.specs.GivenUp.IsGivenUpIn.{top, below}
 use Rattle.bp_calls.specs.GivenBack.{GivesBack}
 
 -- ---- sets
@@ -41,8 +41,8 @@ gives_twice P Q R old mid new first second both one two = record {
 -- ---- one tree under two sizes
 
 module _ (image : Image) (root : ℕ) where
-  pub has_larger : (cut size b : ℕ) → cut ≤ size → HasBlock image root cut b → HasBlock image root size b
-  has_larger cut size b smaller has = record {
+  pub has_larger : (shorter size b : ℕ) → shorter ≤ size → HasBlock image root shorter b → HasBlock image root size b
+  has_larger shorter size b smaller has = record {
     depth = has.depth;
     index = has.index;
     pointer = record { level = has.pointer.level; height = has.pointer.height; live = lt_of_lt_of_le has.pointer.live smaller };
@@ -50,9 +50,9 @@ module _ (image : Image) (root : ℕ) where
     not_null = has.not_null;
   }
 
-  -- what is cut off the tree has not under a size up to the smaller one
-  pub cut_not_kept : (size cut less b : ℕ) → IsSound image root size → less ≤ cut → less ≤ size → IsCutOff image root size cut b → HasBlock image root less b → ⊥
-  cut_not_kept size cut less b sound low smaller gone has =
+  -- what is given up the tree has not under a size up to the smaller one
+  pub given_up_not_kept : (size shorter less b : ℕ) → IsSound image root size → less ≤ shorter → less ≤ size → IsGivenUp image root size shorter b → HasBlock image root less b → ⊥
+  given_up_not_kept size shorter less b sound low smaller gone has =
       let one : HasBlock image root size b = record {
         depth = has.depth;
         index = has.index;
@@ -63,14 +63,14 @@ module _ (image : Image) (root : ℕ) where
       let same : (has.depth ≡ gone.has.depth) × (has.index ≡ gone.has.index) =
       sound.once has.depth has.index gone.has.depth gone.has.index one.pointer gone.has.pointer (λ null. has.not_null (sym has.named ∙ null)) (has.named ∙ sym gone.has.named) in
       let level : gone.has.pointer.level ≡ has.pointer.level = omega (arith, has.pointer.height, gone.has.pointer.height, same.0) in
-      let past : cut ≤ has.index * covered (suc has.pointer.level) = subst₂ (λ k l. cut ≤ k * covered (suc l)) (sym same.1) level gone.past in
+      let past : shorter ≤ has.index * covered (suc has.pointer.level) = subst₂ (λ k l. shorter ≤ k * covered (suc l)) (sym same.1) level gone.past in
       let live : has.index * covered (suc has.pointer.level) < less = has.pointer.live in
       omega (arith, past, live, low)
 
-  pub cut_of : (size cut b : ℕ) → HasBlock image root size b → (HasBlock image root cut b → ⊥) → IsCutOff image root size cut b
-  cut_of size cut b has none = go (cases_lt (has.index * covered (suc has.pointer.level)) cut)
+  pub given_up_of : (size shorter b : ℕ) → HasBlock image root size b → (HasBlock image root shorter b → ⊥) → IsGivenUp image root size shorter b
+  given_up_of size shorter b has none = go (cases_lt (has.index * covered (suc has.pointer.level)) shorter)
     where
-      go : (has.index * covered (suc has.pointer.level) < cut) ⊎ (cut ≤ has.index * covered (suc has.pointer.level)) → IsCutOff image root size cut b
+      go : (has.index * covered (suc has.pointer.level) < shorter) ⊎ (shorter ≤ has.index * covered (suc has.pointer.level)) → IsGivenUp image root size shorter b
       go (inl low) = absurd (none (record {
         depth = has.depth;
         index = has.index;
@@ -85,8 +85,8 @@ module _ (image : Image) (root : ℕ) where
   present_top (suc d) k present null = present_top d (k / 512) (present_above image root d k present) null
 
   -- a tree without a topmost block has none
-  pub null_cut : (size cut b : ℕ) → block_of root ≡ 0 → IsCutOff image root size cut b → ⊥
-  null_cut size cut b null gone = present_top gone.has.depth gone.has.index (λ none. gone.has.not_null (sym gone.has.named ∙ none)) null
+  pub null_given_up : (size shorter b : ℕ) → block_of root ≡ 0 → IsGivenUp image root size shorter b → ⊥
+  null_given_up size shorter b null gone = present_top gone.has.depth gone.has.index (λ none. gone.has.not_null (sym gone.has.named ∙ none)) null
 
   top_live : (size : ℕ) → 0 < size → IsLivePointer root size 0 0
   top_live size some = record { level = height_of root; height = omega arith; live = omega (arith, some) }
@@ -99,30 +99,30 @@ module _ (image : Image) (root : ℕ) where
 
   -- ---- a leaf
 
-  module _ (size cut : ℕ) (sound : IsSound image root size) (some : cut < size) (present : block_of root ≢ 0) (leaf : height_of root ≡ 0) where
-    leaf_there : (b : ℕ) → IsCutTop (block_of root) cut b → IsCutOff image root size cut b
+  module _ (size shorter : ℕ) (sound : IsSound image root size) (some : shorter < size) (present : block_of root ≢ 0) (leaf : height_of root ≡ 0) where
+    leaf_there : (b : ℕ) → IsTopGivenUp (block_of root) shorter b → IsGivenUp image root size shorter b
     leaf_there b is = record { has = subst (HasBlock image root size) (sym is.is) (top_block size (omega (arith, some)) present); past = omega (arith, is.whole) }
 
-    leaf_back : (b : ℕ) → IsCutOff image root size cut b → IsCutTop (block_of root) cut b
+    leaf_back : (b : ℕ) → IsGivenUp image root size shorter b → IsTopGivenUp (block_of root) shorter b
     leaf_back b gone = go gone.has.depth gone.has.index gone.has.pointer gone.has.named gone.past
       where
-        go : (d k : ℕ) (live : IsLivePointer root size d k) → node image root d k ≡ b → cut ≤ k * covered (suc live.level) → IsCutTop (block_of root) cut b
+        go : (d k : ℕ) (live : IsLivePointer root size d k) → node image root d k ≡ b → shorter ≤ k * covered (suc live.level) → IsTopGivenUp (block_of root) shorter b
         go zero k live named past =
             let first : k ≡ 0 = first_index root size k sound.fits live in
             record { whole = omega (arith, rw first at past); is = sym named ∙ ap block_of (word_at-zero image root k) }
         go (suc d) k live named past = absurd (omega (arith, live.height, leaf))
 
-    pub leaf_gives : (old new : Set) → GivesBack (IsCutTop (block_of root) cut) old new → GivesBack (IsCutOff image root size cut) old new
-    leaf_gives old new gives = gives_as (IsCutTop (block_of root) cut) (IsCutOff image root size cut) old new leaf_there leaf_back gives
+    pub leaf_gives : (old new : Set) → GivesBack (IsTopGivenUp (block_of root) shorter) old new → GivesBack (IsGivenUp image root size shorter) old new
+    leaf_gives old new gives = gives_as (IsTopGivenUp (block_of root) shorter) (IsGivenUp image root size shorter) old new leaf_there leaf_back gives
 
 -- ---- a tree that is higher
 
-module _ (image : Image) (root size level cut : ℕ) (sound : IsSound image root size) (some : cut < size) (present : block_of root ≢ 0) (height : height_of root ≡ suc level) where
+module _ (image : Image) (root size level shorter : ℕ) (sound : IsSound image root size) (some : shorter < size) (present : block_of root ≢ 0) (height : height_of root ≡ suc level) where
   pub shape : HasChildren image root size level
   shape = sound_shape image root size level sound (omega (arith, some)) height
 
-  shape_cut : HasChildren image root cut level
-  shape_cut = record {
+  shape_shorter : HasChildren image root shorter level
+  shape_shorter = record {
     height = height;
     low = shape.low;
     fits = omega (arith, shape.fits, some);
@@ -135,16 +135,16 @@ module _ (image : Image) (root size level cut : ℕ) (sound : IsSound image root
   abbrev pub Child : ℕ → ℕ → ℕ → Type 0
   Child slot z b = HasBlock image (child image (block_of root) level slot) z b
 
-  abbrev pub Cut : ℕ → ℕ → Type 0
-  Cut slot b = IsCutOff image (child image (block_of root) level slot) (piece size level slot) (cut - slot * span level) b
+  abbrev pub GivenUpAt : ℕ → ℕ → Type 0
+  GivenUpAt slot b = IsGivenUp image (child image (block_of root) level slot) (piece size level slot) (shorter - slot * span level) b
 
-  -- the slots before the first hold nothing that is cut off
-  before_first : (slot b : ℕ) → slot < cut / span level → Cut slot b → ⊥
+  -- the slots before the first hold nothing that is given up
+  before_first : (slot b : ℕ) → slot < shorter / span level → GivenUpAt slot b → ⊥
   before_first slot b low gone =
-      let next : (slot + 1) * span level ≤ cut = (le-div_iff_mul-le {k = span level} {x = slot + 1} {y = cut} (span-positive level)).0 (omega (arith, low)) in
+      let next : (slot + 1) * span level ≤ shorter = (le-div_iff_mul-le {k = span level} {x = slot + 1} {y = shorter} (span-positive level)).0 (omega (arith, low)) in
       go (span level) next gone.past gone.has.pointer.live
     where
-      go : (s : ℕ) → (slot + 1) * s ≤ cut → cut - slot * s ≤ gone.has.index * covered (suc gone.has.pointer.level) → gone.has.index * covered (suc gone.has.pointer.level) < min (size - slot * s) s → ⊥
+      go : (s : ℕ) → (slot + 1) * s ≤ shorter → shorter - slot * s ≤ gone.has.index * covered (suc gone.has.pointer.level) → gone.has.index * covered (suc gone.has.pointer.level) < min (size - slot * s) s → ⊥
       go s next past live = omega (arith, next, past, live)
 
   -- a live slot is one of those up to the last
@@ -159,8 +159,8 @@ module _ (image : Image) (root size level cut : ℕ) (sound : IsSound image root
       omega (arith, at, some)
 
   -- the first slot is no later than the one behind the last
-  pub slots_order : cut / span level ≤ (size - 1) / span level + 1
-  slots_order = let order = div_order cut (size - 1) level (omega (arith, some)) in omega (arith, order)
+  pub slots_order : shorter / span level ≤ (size - 1) / span level + 1
+  slots_order = let order = div_order shorter (size - 1) level (omega (arith, some)) in omega (arith, order)
 
   pub child_is_sound : (slot : ℕ) → slot * span level < size → IsSound image (child image (block_of root) level slot) (piece size level slot)
   child_is_sound = joins.sound
@@ -169,13 +169,13 @@ module _ (image : Image) (root size level cut : ℕ) (sound : IsSound image root
   pub child_is_lower : (slot : ℕ) → slot * span level < size → height_of (child image (block_of root) level slot) ≡ level
   child_is_lower slot live = let word = shape.words slot live in omega (arith, word, shape.low)
 
-  top_cut : (b : ℕ) → IsCutTop (block_of root) cut b → IsCutOff image root size cut b
-  top_cut b is = record { has = subst (HasBlock image root size) (sym is.is) (top_block image root size (omega (arith, some)) present); past = omega (arith, is.whole) }
+  top_given_up : (b : ℕ) → IsTopGivenUp (block_of root) shorter b → IsGivenUp image root size shorter b
+  top_given_up b is = record { has = subst (HasBlock image root size) (sym is.is) (top_block image root size (omega (arith, some)) present); past = omega (arith, is.whole) }
 
   -- what a child has under both sizes the tree has under the smaller one
-  kept_below : (slot b : ℕ) → slot * span level < size → (has : Child slot (piece size level slot) b) → has.index * covered (suc has.pointer.level) < cut - slot * span level → HasBlock image root cut b
+  kept_below : (slot b : ℕ) → slot * span level < size → (has : Child slot (piece size level slot) b) → has.index * covered (suc has.pointer.level) < shorter - slot * span level → HasBlock image root shorter b
   kept_below slot b live has low =
-      child_block image root cut level shape_cut slot b (omega (arith, low)) (record {
+      child_block image root shorter level shape_shorter slot b (omega (arith, low)) (record {
         depth = has.depth;
         index = has.index;
         pointer = record { level = has.pointer.level; height = has.pointer.height; live = let in_piece = has.pointer.live in omega (arith, low, in_piece) };
@@ -183,76 +183,76 @@ module _ (image : Image) (root size level cut : ℕ) (sound : IsSound image root
         not_null = has.not_null;
       })
 
-  cut_in : (b : ℕ) → IsCutOff image root size cut b → IsCutIn image root size level cut ((size - 1) / span level + 1) b
-  cut_in b gone = go (joined_block image root size level shape b gone.has)
+  given_up_in : (b : ℕ) → IsGivenUp image root size shorter b → IsGivenUpIn image root size level shorter ((size - 1) / span level + 1) b
+  given_up_in b gone = go (joined_block image root size level shape b gone.has)
     where
-      at_top : b ≡ block_of root → (cut ≡ 0) ⊎ (cut ≡ 0 → ⊥) → IsCutIn image root size level cut ((size - 1) / span level + 1) b
+      at_top : b ≡ block_of root → (shorter ≡ 0) ⊎ (shorter ≡ 0 → ⊥) → IsGivenUpIn image root size level shorter ((size - 1) / span level + 1) b
       at_top is (inl none) = top (record { whole = none; is = is })
       at_top is (inr more) =
-          absurd (cut_not_kept image root size cut cut b sound (omega arith) (omega (arith, some)) gone (subst (HasBlock image root cut) (sym is) (top_block image root cut (omega (arith, more)) present)))
+          absurd (given_up_not_kept image root size shorter shorter b sound (omega arith) (omega (arith, some)) gone (subst (HasBlock image root shorter) (sym is) (top_block image root shorter (omega (arith, more)) present)))
 
       in_child : (slot : ℕ) → slot * span level < size → (has : Child slot (piece size level slot) b) →
-          (has.index * covered (suc has.pointer.level) < cut - slot * span level) ⊎ (cut - slot * span level ≤ has.index * covered (suc has.pointer.level)) →
-          IsCutIn image root size level cut ((size - 1) / span level + 1) b
-      in_child slot live has (inl low) = absurd (cut_not_kept image root size cut cut b sound (omega arith) (omega (arith, some)) gone (kept_below slot b live has low))
+          (has.index * covered (suc has.pointer.level) < shorter - slot * span level) ⊎ (shorter - slot * span level ≤ has.index * covered (suc has.pointer.level)) →
+          IsGivenUpIn image root size level shorter ((size - 1) / span level + 1) b
+      in_child slot live has (inl low) = absurd (given_up_not_kept image root size shorter shorter b sound (omega arith) (omega (arith, some)) gone (kept_below slot b live has low))
       in_child slot live has (inr past) = below slot (last_slot slot live) live (record { has = has; past = past })
 
-      go : (b ≡ block_of root) ⊎ InChild image root size level shape b → IsCutIn image root size level cut ((size - 1) / span level + 1) b
-      go (inl is) = at_top is (cases_eq cut 0)
-      go (inr inside) = in_child inside.slot inside.below inside.has (cases_lt (inside.has.index * covered (suc inside.has.pointer.level)) (cut - inside.slot * span level))
+      go : (b ≡ block_of root) ⊎ InChild image root size level shape b → IsGivenUpIn image root size level shorter ((size - 1) / span level + 1) b
+      go (inl is) = at_top is (cases_eq shorter 0)
+      go (inr inside) = in_child inside.slot inside.below inside.has (cases_lt (inside.has.index * covered (suc inside.has.pointer.level)) (shorter - inside.slot * span level))
 
-  cut_out : (slots b : ℕ) → IsCutIn image root size level cut slots b → IsCutOff image root size cut b
-  cut_out slots b (top is) = top_cut b is
-  cut_out slots b (below slot low live gone) = cut_of image root size cut b (child_block image root size level shape slot b live gone.has) none
+  given_up_out : (slots b : ℕ) → IsGivenUpIn image root size level shorter slots b → IsGivenUp image root size shorter b
+  given_up_out slots b (top is) = top_given_up b is
+  given_up_out slots b (below slot low live gone) = given_up_of image root size shorter b (child_block image root size level shape slot b live gone.has) none
     where
-      smaller : (c : ℕ) → piece cut level c ≤ piece size level c
+      smaller : (c : ℕ) → piece shorter level c ≤ piece size level c
       smaller c = omega (arith, some)
 
-      none : HasBlock image root cut b → ⊥
-      none kept = go (joined_block image root cut level shape_cut b kept)
+      none : HasBlock image root shorter b → ⊥
+      none kept = go (joined_block image root shorter level shape_shorter b kept)
         where
-          go : (b ≡ block_of root) ⊎ InChild image root cut level shape_cut b → ⊥
+          go : (b ≡ block_of root) ⊎ InChild image root shorter level shape_shorter b → ⊥
           go (inl is) = joins.own slot live (subst (Child slot (piece size level slot)) is gone.has)
           go (inr inside) =
               let there : inside.slot * span level < size = omega (arith, inside.below, some) in
-              let also : Child inside.slot (piece size level inside.slot) b = has_larger image (child image (block_of root) level inside.slot) (piece cut level inside.slot) (piece size level inside.slot) b (smaller inside.slot) inside.has in
+              let also : Child inside.slot (piece size level inside.slot) b = has_larger image (child image (block_of root) level inside.slot) (piece shorter level inside.slot) (piece size level inside.slot) b (smaller inside.slot) inside.has in
               let same : inside.slot ≡ slot = joins.apart inside.slot slot b there live also gone.has in
-              let here : Child slot (piece cut level slot) b = subst (λ c. Child c (piece cut level c) b) same inside.has in
-              cut_not_kept image (child image (block_of root) level slot) (piece size level slot) (cut - slot * span level) (piece cut level slot) b (joins.sound slot live) (omega arith) (smaller slot) gone here
+              let here : Child slot (piece shorter level slot) b = subst (λ c. Child c (piece shorter level c) b) same inside.has in
+              given_up_not_kept image (child image (block_of root) level slot) (piece size level slot) (shorter - slot * span level) (piece shorter level slot) b (joins.sound slot live) (omega arith) (smaller slot) gone here
 
   -- ---- the walk over the slots
 
-  pub slots_begin : (old new : Set) → GivesBack (IsCutTop (block_of root) cut) old new → GivesBack (IsCutIn image root size level cut (cut / span level)) old new
-  slots_begin old new gives = gives_as (IsCutTop (block_of root) cut) (IsCutIn image root size level cut (cut / span level)) old new (λ b is. top is) back gives
+  pub slots_begin : (old new : Set) → GivesBack (IsTopGivenUp (block_of root) shorter) old new → GivesBack (IsGivenUpIn image root size level shorter (shorter / span level)) old new
+  slots_begin old new gives = gives_as (IsTopGivenUp (block_of root) shorter) (IsGivenUpIn image root size level shorter (shorter / span level)) old new (λ b is. top is) back gives
     where
-      back : (b : ℕ) → IsCutIn image root size level cut (cut / span level) b → IsCutTop (block_of root) cut b
+      back : (b : ℕ) → IsGivenUpIn image root size level shorter (shorter / span level) b → IsTopGivenUp (block_of root) shorter b
       back b (top is) = is
       back b (below slot low live gone) = absurd (before_first slot b low gone)
 
-  pub slots_step : (slot : ℕ) (old now new : Set) → slot * span level < size → GivesBack (IsCutIn image root size level cut slot) old now → GivesBack (Cut slot) now new → GivesBack (IsCutIn image root size level cut (slot + 1)) old new
+  pub slots_step : (slot : ℕ) (old now new : Set) → slot * span level < size → GivesBack (IsGivenUpIn image root size level shorter slot) old now → GivesBack (GivenUpAt slot) now new → GivesBack (IsGivenUpIn image root size level shorter (slot + 1)) old new
   slots_step slot old now new live one two =
-      gives_twice (IsCutIn image root size level cut slot) (Cut slot) (IsCutIn image root size level cut (slot + 1)) old now new there (λ b gone. below slot (omega arith) live gone) both one two
+      gives_twice (IsGivenUpIn image root size level shorter slot) (GivenUpAt slot) (IsGivenUpIn image root size level shorter (slot + 1)) old now new there (λ b gone. below slot (omega arith) live gone) both one two
     where
-      there : (b : ℕ) → IsCutIn image root size level cut slot b → IsCutIn image root size level cut (slot + 1) b
+      there : (b : ℕ) → IsGivenUpIn image root size level shorter slot b → IsGivenUpIn image root size level shorter (slot + 1) b
       there b (top is) = top is
       there b (below c low at gone) = below c (omega (arith, low)) at gone
 
-      both : (b : ℕ) → IsCutIn image root size level cut (slot + 1) b → IsCutIn image root size level cut slot b ⊎ Cut slot b
+      both : (b : ℕ) → IsGivenUpIn image root size level shorter (slot + 1) b → IsGivenUpIn image root size level shorter slot b ⊎ GivenUpAt slot b
       both b (top is) = inl (top is)
-      both b (below c low at gone) = elim (cases_eq c slot) [ inl e ↦ inr (subst (λ x. Cut x b) e gone) | inr other ↦ inl (below c (omega (arith, low, other)) at gone) ]
+      both b (below c low at gone) = elim (cases_eq c slot) [ inl e ↦ inr (subst (λ x. GivenUpAt x b) e gone) | inr other ↦ inl (below c (omega (arith, low, other)) at gone) ]
 
-  pub slots_end : (old new : Set) → GivesBack (IsCutIn image root size level cut ((size - 1) / span level + 1)) old new → GivesBack (IsCutOff image root size cut) old new
-  slots_end old new gives = gives_as (IsCutIn image root size level cut ((size - 1) / span level + 1)) (IsCutOff image root size cut) old new (cut_out _) cut_in gives
+  pub slots_end : (old new : Set) → GivesBack (IsGivenUpIn image root size level shorter ((size - 1) / span level + 1)) old new → GivesBack (IsGivenUp image root size shorter) old new
+  slots_end old new gives = gives_as (IsGivenUpIn image root size level shorter ((size - 1) / span level + 1)) (IsGivenUp image root size shorter) old new (given_up_out _) given_up_in gives
 
   -- the blocks in a slot are not yet in the set
-  pub not_yet : (slot : ℕ) (old now : Set) → slot * span level < size → ((b : ℕ) → HasBlock image root size b → has old b ≡ false) → GivesBack (IsCutIn image root size level cut slot) old now →
+  pub not_yet : (slot : ℕ) (old now : Set) → slot * span level < size → ((b : ℕ) → HasBlock image root size b → has old b ≡ false) → GivesBack (IsGivenUpIn image root size level shorter slot) old now →
       (b : ℕ) → Child slot (piece size level slot) b → has now b ≡ false
   not_yet slot old now live taken gives b here = go (cases_Bool (has now b))
     where
       out : has old b ≡ false
       out = taken b (child_block image root size level shape slot b live here)
 
-      never : IsCutIn image root size level cut slot b → ⊥
+      never : IsGivenUpIn image root size level shorter slot b → ⊥
       never (top is) = joins.own slot live (subst (Child slot (piece size level slot)) is.is here)
       never (below c low at gone) = let same : c ≡ slot = joins.apart c slot b at live gone.has here in omega (arith, low, same)
 

@@ -1,4 +1,4 @@
--- A walk that has come to a place.
+-- A walk that has come to a entry.
 use Rattle.std.proofs.Common.{◌≡◌, ◌≢◌, ℕ, ◌≤◌, List, [], ◌∷◌, ◌++◌, length, true, option_and_then, Some, append_assoc, append-nil, refl, sym, ◌∙◌, ap, arith}
 use Rattle.std.specs.List.{list_all}
 use Rattle.std.proofs.lemmas.List.{same_from_push}
@@ -9,21 +9,21 @@ use Rattle.bp_layout.specs.Lookup.{Path, lookup}
 use Rattle.bp_layout.specs.PathText.{is_name}
 use Rattle.bp_layout.specs.Reached.{IsReached}
 use Rattle.bp_layout.proofs.Paths.{lookup_from-append}
-use Rattle.bp_path.specs.declared.steps.Place.{Place}
+use Rattle.bp_path.specs.declared.steps.FoundEntry.{FoundEntry}
 use Rattle.bp_path.specs.Names.{path_parts}
 use Rattle.bp_path.specs.Walk.{walk_from}
 use Rattle.bp_path.specs.Walk.Walked.{found}
-use Rattle.bp_path.specs.Places.{IsEntryOf}
+use Rattle.bp_path.specs.FoundEntries.{IsEntryOf}
 use Rattle.bp_path.proofs.WalkLaws.{walk_on, lookup_in-slot, lookup-reached}
 use Rattle.bp_path.proofs.PartsLaws.{no_text}
 
-pub record HasCome (image : Image) (text rest : List ℕ) (place : Place) : Type 0 where
+pub record HasCome (image : Image) (text rest : List ℕ) (entry : FoundEntry) : Type 0 where
   pub before : Path
   pub splits : path_parts text ≡ before ++ path_parts rest
-  pub leads : lookup image before ≡ Some place.inumber
-  pub entry : IsEntryOf image before place
+  pub leads : lookup image before ≡ Some entry.inumber
+  pub is_entry : IsEntryOf image before entry
   pub right : list_all is_name (path_parts rest) ≡ true
-  pub some : 1 ≤ place.inumber
+  pub some : 1 ≤ entry.inumber
 
 snoc-some : (before : Path) (name : Name) → before ++ name ∷ [] ≢ []
 snoc-some [] name e = absurd (cc)
@@ -37,22 +37,22 @@ start image text right = record {
   before = [];
   splits = refl;
   leads = refl;
-  entry = record { top = λ root. (refl, refl); below = λ parent name is. absurd (some-snoc parent name is) };
+  is_entry = record { top = λ root. (refl, refl); below = λ parent name is. absurd (some-snoc parent name is) };
   right = right;
   some = omega arith;
 }
 
 -- one name further
-pub come_on : (image : Image) (text rest behind : List ℕ) (name : Name) (place next : Place) → HasCome image text rest place →
+pub come_on : (image : Image) (text rest behind : List ℕ) (name : Name) (entry next : FoundEntry) → HasCome image text rest entry →
     path_parts rest ≡ name ∷ path_parts behind → list_all is_name (path_parts behind) ≡ true →
-    kind_of image place.inumber ≡ 2 → next.dir ≡ place.inumber → slot_named image place.inumber name ≡ Some next.slot →
-    inumber_at image place.inumber next.slot ≡ next.inumber → 1 ≤ next.inumber → HasCome image text behind next
-come_on image text rest behind name place next here split right kind dir slot is some = record {
+    kind_of image entry.inumber ≡ 2 → next.dir ≡ entry.inumber → slot_named image entry.inumber name ≡ Some next.slot →
+    inumber_at image entry.inumber next.slot ≡ next.inumber → 1 ≤ next.inumber → HasCome image text behind next
+come_on image text rest behind name entry next here split right kind dir slot is some = record {
   before = here.before ++ name ∷ [];
   splits = here.splits ∙ ap (λ ps. here.before ++ ps) split ∙ sym (append_assoc here.before (name ∷ []) (path_parts behind));
   leads =
-      lookup_from-append image 1 here.before name ∙ ap (option_and_then (λ k. lookup_in image k name)) here.leads ∙ lookup_in-slot image place.inumber next.inumber next.slot name kind slot is;
-  entry = record {
+      lookup_from-append image 1 here.before name ∙ ap (option_and_then (λ k. lookup_in image k name)) here.leads ∙ lookup_in-slot image entry.inumber next.inumber next.slot name kind slot is;
+  is_entry = record {
     top = λ none. absurd (snoc-some here.before name none);
     below = λ parent last same.
         let both : (here.before ≡ parent) × (name ≡ last) = same_from_push here.before parent name last same in
@@ -63,21 +63,21 @@ come_on image text rest behind name place next here split right kind dir slot is
 }
 
 -- the walk fails at the name where it has come to
-pub fails : (image : Image) (text rest behind : List ℕ) (name : Name) (place : Place) → HasCome image text rest place →
-    path_parts rest ≡ name ∷ path_parts behind → walk_from image 1 (path_parts text) ≡ walk_from image place.inumber (name ∷ path_parts behind)
-fails image text rest behind name place here split =
-    ap (walk_from image 1) (here.splits ∙ ap (λ ps. here.before ++ ps) split) ∙ walk_on image 1 place.inumber here.before (name ∷ path_parts behind) here.leads
+pub fails : (image : Image) (text rest behind : List ℕ) (name : Name) (entry : FoundEntry) → HasCome image text rest entry →
+    path_parts rest ≡ name ∷ path_parts behind → walk_from image 1 (path_parts text) ≡ walk_from image entry.inumber (name ∷ path_parts behind)
+fails image text rest behind name entry here split =
+    ap (walk_from image 1) (here.splits ∙ ap (λ ps. here.before ++ ps) split) ∙ walk_on image 1 entry.inumber here.before (name ∷ path_parts behind) here.leads
 
 -- all names are gone through
-pub all_before : (image : Image) (text rest : List ℕ) (place : Place) → (here : HasCome image text rest place) → length rest ≡ 0 → path_parts text ≡ here.before
-all_before image text rest place here none = here.splits ∙ ap (λ ps. here.before ++ ps) (no_text rest none) ∙ append-nil here.before
+pub all_before : (image : Image) (text rest : List ℕ) (entry : FoundEntry) → (here : HasCome image text rest entry) → length rest ≡ 0 → path_parts text ≡ here.before
+all_before image text rest entry here none = here.splits ∙ ap (λ ps. here.before ++ ps) (no_text rest none) ∙ append-nil here.before
 
-pub walked : (image : Image) (text rest : List ℕ) (place : Place) → HasCome image text rest place → length rest ≡ 0 → found place.inumber ≡ walk_from image 1 (path_parts text)
-walked image text rest place here none =
-    sym (ap (walk_from image 1) (here.splits ∙ ap (λ ps. here.before ++ ps) (no_text rest none)) ∙ walk_on image 1 place.inumber here.before [] here.leads)
+pub walked : (image : Image) (text rest : List ℕ) (entry : FoundEntry) → HasCome image text rest entry → length rest ≡ 0 → found entry.inumber ≡ walk_from image 1 (path_parts text)
+walked image text rest entry here none =
+    sym (ap (walk_from image 1) (here.splits ∙ ap (λ ps. here.before ++ ps) (no_text rest none)) ∙ walk_on image 1 entry.inumber here.before [] here.leads)
 
-pub enters : (image : Image) (text rest : List ℕ) (place : Place) → (here : HasCome image text rest place) → length rest ≡ 0 → IsEntryOf image (path_parts text) place
-enters image text rest place here none = let same = all_before image text rest place here none in rw same here.entry
+pub enters : (image : Image) (text rest : List ℕ) (entry : FoundEntry) → (here : HasCome image text rest entry) → length rest ≡ 0 → IsEntryOf image (path_parts text) entry
+enters image text rest entry here none = let same = all_before image text rest entry here none in rw same here.is_entry
 
-pub reaches : (image : Image) (text rest : List ℕ) (place : Place) → HasCome image text rest place → IsReached image place.inumber
-reaches image text rest place here = lookup-reached image place.inumber here.before here.leads
+pub reaches : (image : Image) (text rest : List ℕ) (entry : FoundEntry) → HasCome image text rest entry → IsReached image entry.inumber
+reaches image text rest entry here = lookup-reached image entry.inumber here.before here.leads

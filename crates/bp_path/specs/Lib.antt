@@ -1,3 +1,3 @@
 pub mod Names
-pub mod Places
+pub mod FoundEntries
 pub mod Walk

@@ -7,4 +7,4 @@ pub mod path;
 pub mod steps;
 
 pub use path::{BadPath, Path, parse};
-pub use steps::{Place, WalkFault, step, walk, walk_parent};
+pub use steps::{FoundEntry, WalkFault, step, walk, walk_parent};

@@ -12,7 +12,7 @@ ghost use Rattle.bp_layout.specs.WellFormed.{IsWellFormed};
 ghost use Rattle.pm_region.specs.Memory.{current_words};
 ghost use Rattle.bp_path.specs.Names.{path_parts};
 ghost use Rattle.bp_path.specs.Walk.{walk_from, in_directory};
-ghost use Rattle.bp_path.specs.Places.{IsEntryOf, fault_of, walked_of, dir_of};
+ghost use Rattle.bp_path.specs.FoundEntries.{IsEntryOf, fault_of, walked_of, dir_of};
 
 use crate::names::{split_first, split_last};
 use crate::path::Path;
@@ -25,14 +25,14 @@ use pm_region::Region;
 /// The number of the root directory's inode.
 const ROOT: u32 = 1;
 
-/// The inode to which a path leads.
+/// The directory entry that a path finds, and the inode that it names. The path `/` has an inode and no entry.
 #[derive(Clone, Copy, Debug, PartialEq, Eq)]
-pub struct Place {
-    /// Its number.
+pub struct FoundEntry {
+    /// The number of the inode.
     pub inumber: u32,
-    /// The directory whose entry names it, 0 for `/`.
+    /// The number of the directory's inode, 0 for `/`.
     pub dir: u32,
-    /// The slot of that entry, 0 for `/`.
+    /// The entry's slot in the directory, 0 for `/`.
     pub slot: u64,
 }
 
@@ -50,17 +50,17 @@ pub enum WalkFault {
 /// # Errors
 ///
 /// `NotDir` where the name is sought in a file, `NotFound` where the directory lacks it.
-pub fn step<R: Region>(region: &R, dir: u32, name: &[u8]) -> Result<Place, WalkFault>
+pub fn step<R: Region>(region: &R, dir: u32, name: &[u8]) -> Result<FoundEntry, WalkFault>
     requires well { IsWellFormed (current_words (R.memory region.now)) }
     requires reached { IsReached (current_words (R.memory region.now)) dir }
     requires some { 1 ≤ dir }
     requires short { length name.now ≤ max_name }
-    ensures kind { IfOk result (λ place. kind_of (current_words (R.memory region.now)) dir ≡ 2) }
-    ensures dir { IfOk result (λ place. place.dir ≡ dir) }
+    ensures kind { IfOk result (λ entry. kind_of (current_words (R.memory region.now)) dir ≡ 2) }
+    ensures dir { IfOk result (λ entry. entry.dir ≡ dir) }
     ensures slot { let words = current_words (R.memory region.now) in
-        IfOk result (λ place. slot_named words dir name.now ≡ Some place.slot) }
+        IfOk result (λ entry. slot_named words dir name.now ≡ Some entry.slot) }
     ensures inumber { let words = current_words (R.memory region.now) in
-        IfOk result (λ place. inumber_at words dir place.slot ≡ place.inumber) }
+        IfOk result (λ entry. inumber_at words dir entry.slot ≡ entry.inumber) }
     ensures fault { let words = current_words (R.memory region.now) in
         IfErr result (λ fault. (rest : List (List ℕ)) → walk_from words dir (name.now ∷ rest) ≡ fault_of fault) }
 {
@@ -70,7 +70,7 @@ pub fn step<R: Region>(region: &R, dir: u32, name: &[u8]) -> Result<Place, WalkF
         Kind::File => Err(WalkFault::NotDir),
         Kind::Dir => match find_entry(region, tree, name) {
             None => Err(WalkFault::NotFound),
-            Some(found) => Ok(Place {
+            Some(found) => Ok(FoundEntry {
                 inumber: found.inumber as u32,
                 dir,
                 slot: found.slot,
@@ -80,17 +80,17 @@ pub fn step<R: Region>(region: &R, dir: u32, name: &[u8]) -> Result<Place, WalkF
 }
 
 /// The inode to which names lead that stand with a `/` between them.
-fn walk_names<R: Region>(region: &R, text: &[u8]) -> Result<Place, WalkFault>
+fn walk_names<R: Region>(region: &R, text: &[u8]) -> Result<FoundEntry, WalkFault>
     requires well { IsWellFormed (current_words (R.memory region.now)) }
     requires names { list_all is_name (path_parts text.now) ≡ true }
     ensures walked { walked_of result ≡ walk_from (current_words (R.memory region.now)) 1 (path_parts text.now) }
     ensures lookup { let words = current_words (R.memory region.now) in
-        IfOk result (λ place. lookup words (path_parts text.now) ≡ Some place.inumber) }
-    ensures entry { IfOk result (λ place. IsEntryOf (current_words (R.memory region.now)) (path_parts text.now) place) }
-    ensures reached { IfOk result (λ place. IsReached (current_words (R.memory region.now)) place.inumber) }
-    ensures some { IfOk result (λ place. 1 ≤ place.inumber) }
+        IfOk result (λ entry. lookup words (path_parts text.now) ≡ Some entry.inumber) }
+    ensures entry { IfOk result (λ entry. IsEntryOf (current_words (R.memory region.now)) (path_parts text.now) entry) }
+    ensures reached { IfOk result (λ entry. IsReached (current_words (R.memory region.now)) entry.inumber) }
+    ensures some { IfOk result (λ entry. 1 ≤ entry.inumber) }
 {
-    let mut place = Place {
+    let mut entry = FoundEntry {
         inumber: ROOT,
         dir: 0,
         slot: 0,
@@ -98,10 +98,10 @@ fn walk_names<R: Region>(region: &R, text: &[u8]) -> Result<Place, WalkFault>
     let mut rest = text;
     while !rest.is_empty() {
         let (name, behind) = split_first(rest);
-        place = step(region, place.inumber, name)?;
+        entry = step(region, entry.inumber, name)?;
         rest = behind;
     }
-    Ok(place)
+    Ok(entry)
 }
 
 /// The inode to which a path leads.
@@ -109,14 +109,14 @@ fn walk_names<R: Region>(region: &R, text: &[u8]) -> Result<Place, WalkFault>
 /// # Errors
 ///
 /// The first name that fails, in order: `NotDir` where it is sought in a file, `NotFound` where a directory lacks it.
-pub fn walk<R: Region>(region: &R, path: &Path<'_>) -> Result<Place, WalkFault>
+pub fn walk<R: Region>(region: &R, path: &Path<'_>) -> Result<FoundEntry, WalkFault>
     requires { IsWellFormed (current_words (R.memory region.now)) }
     ensures walked { walked_of result ≡ walk_from (current_words (R.memory region.now)) 1 path.now }
     ensures lookup { let words = current_words (R.memory region.now) in
-        IfOk result (λ place. lookup words path.now ≡ Some place.inumber) }
-    ensures entry { IfOk result (λ place. IsEntryOf (current_words (R.memory region.now)) path.now place) }
-    ensures reached { IfOk result (λ place. IsReached (current_words (R.memory region.now)) place.inumber) }
-    ensures some { IfOk result (λ place. 1 ≤ place.inumber) }
+        IfOk result (λ entry. lookup words path.now ≡ Some entry.inumber) }
+    ensures entry { IfOk result (λ entry. IsEntryOf (current_words (R.memory region.now)) path.now entry) }
+    ensures reached { IfOk result (λ entry. IsReached (current_words (R.memory region.now)) entry.inumber) }
+    ensures some { IfOk result (λ entry. 1 ≤ entry.inumber) }
 {
     walk_names(region, path.text())
 }

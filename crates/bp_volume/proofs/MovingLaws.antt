@@ -16,7 +16,7 @@ use Rattle.bp_layout.specs.PathText.{parse}
 use Rattle.bp_layout.specs.WellFormed.{IsWellFormed}
 use Rattle.bp_layout.specs.Words.{Image}
 use Rattle.bp_layout.proofs.Below.{rest_below-append, rest_below-is}
-use Rattle.bp_path.specs.declared.steps.Place.{Place}
+use Rattle.bp_path.specs.declared.steps.FoundEntry.{FoundEntry}
 use Rattle.bp_plain.specs.Calls.Call.{rename}
 use Rattle.bp_plain.specs.Plain.{moved, moves_below, parent_of, path_named, tree_after}
 use Rattle.bp_plain.specs.PlainTree.{FileTree}
@@ -151,9 +151,9 @@ module _ (image : Image) (from to : List ℕ) (ends : Ends) (may : MayMove image
   -- ---- the move
 
   module _ (wf : IsWellFormed image) (move : Move) (is : IsMoveOf ends move) where
-    slot_is : (there : Option Place) → ends.target.there ≡ there → slot_named image j name ≡ option_map (λ place. place.slot) there
+    slot_is : (there : Option FoundEntry) → ends.target.there ≡ there → slot_named image j name ≡ option_map (λ entry. entry.slot) there
     slot_is None at = found.are.target.new at
-    slot_is (Some place) at = ap (slot_named image j) (sym found.are.target.last) ∙ (found.are.target.there place at).slot
+    slot_is (Some entry) at = ap (slot_named image j) (sym found.are.target.last) ∙ (found.are.target.there entry at).slot
 
     slot : slot_named image j name ≡ move.to_slot
     slot = slot_is ends.target.there refl ∙ sym is.to_slot
@@ -184,12 +184,12 @@ module _ (image : Image) (from to : List ℕ) (ends : Ends) (may : MayMove image
       leaves = λ r has. subst (λ d. CanUnlink image d r (inumber_at image d r)) (sym is.to_dir) (may_leave r (sym is.to_slot ∙ has) ends.target.there refl);
     }
       where
-        may_leave : (r : ℕ) → option_map (λ place. place.slot) ends.target.there ≡ Some r → (there : Option Place) → ends.target.there ≡ there → CanUnlink image j r (inumber_at image j r)
+        may_leave : (r : ℕ) → option_map (λ entry. entry.slot) ends.target.there ≡ Some r → (there : Option FoundEntry) → ends.target.there ≡ there → CanUnlink image j r (inumber_at image j r)
         may_leave r has None at = let none : ◌≡◌ {A = Option ℕ} None (Some r) = rw at at has in absurd (cc)
-        may_leave r has (Some place) at =
-            let slots : ◌≡◌ {A = Option ℕ} (Some place.slot) (Some r) = rw at at has in
-            let slot : place.slot ≡ r = cc in
-            subst (λ t. CanUnlink image j t (inumber_at image j t)) slot (may.leaves place at)
+        may_leave r has (Some entry) at =
+            let slots : ◌≡◌ {A = Option ℕ} (Some entry.slot) (Some r) = rw at at has in
+            let slot : entry.slot ≡ r = cc in
+            subst (λ t. CanUnlink image j t (inumber_at image j t)) slot (may.leaves entry at)
 
     pub may_rename : CanRename image move
     may_rename = found_can_rename image wf move (parent_of p) (parent_of q) (last_of p) ends.source.inumber source_found target_found

@@ -15,7 +15,7 @@ use Rattle.bp_layout.specs.WellFormed.{IsWellFormed}
 use Rattle.bp_layout.specs.Words.{Image}
 use Rattle.bp_layout.proofs.Below.{same_path-is, same_path-self}
 use Rattle.bp_layout.proofs.Paths.{path_once}
-use Rattle.bp_path.specs.declared.steps.Place.{Place}
+use Rattle.bp_path.specs.declared.steps.FoundEntry.{FoundEntry}
 use Rattle.bp_plain.specs.Calls.{Refusal}
 use Rattle.bp_plain.specs.Calls.Answer.{done}
 use Rattle.bp_plain.specs.Calls.Call.{rename}
@@ -119,7 +119,7 @@ module _ (image : Image) (p q : Path) (ends : Ends) (are : AreEnds image p q end
       ∙ ap (λ o. by_kinds (is_dir_at tree p) (is_a_dir o) (is_some o) (same_path p q) (is_empty_dir tree q)) missing
       ∙ kinds-new (is_dir_at tree p) (same_path p q) (is_empty_dir tree q)
 
-  module _ (there : Place) (at : ends.target.there ≡ Some there) where
+  module _ (there : FoundEntry) (at : ends.target.there ≡ Some there) where
     has : IsEntryOn image q ends.target.dir there.slot there.inumber
     has = are.target.there there at
 
@@ -169,14 +169,14 @@ module _ (image : Image) (p q : Path) (ends : Ends) (are : AreEnds image p q end
   pub same_ends : IsWellFormed image → are_same ends ≡ true → p ≡ q
   same_ends wf same = go ends.target.there refl same
     where
-      go : (o : Option Place) → ends.target.there ≡ o → is_inode ends.source.inumber o ≡ true → p ≡ q
+      go : (o : Option FoundEntry) → ends.target.there ≡ o → is_inode ends.source.inumber o ≡ true → p ≡ q
       go None at e = absurd (true≢false (sym e))
       go (Some there) at e = path_once image wf p q ends.source.inumber are.source.inode ((are.target.there there at).inode ∙ ap Some (eqb-true there.inumber ends.source.inumber e))
 
   pub other_ends : are_same ends ≡ false → p ≢ q
   other_ends other same = go ends.target.there refl other
     where
-      go : (o : Option Place) → ends.target.there ≡ o → is_inode ends.source.inumber o ≡ false → ⊥
+      go : (o : Option FoundEntry) → ends.target.there ≡ o → is_inode ends.source.inumber o ≡ false → ⊥
       go None at e =
           let last : last_of p ≡ ends.target.name.now = ap last_of same ∙ are.target.last in
           let found : ◌≡◌ {A = Option ℕ} (Some ends.source.dir) (Some ends.target.dir) = sym are.source.parent ∙ ap (λ r. lookup image (parent_of r)) same ∙ are.target.parent in
@@ -230,14 +230,14 @@ module _ (image : Image) (from to : List ℕ) (ends : Ends) (found : FindsEnds i
   changes_then other tree = ap₂ (λ a b. not (same_path a b)) source_is target_is ∙ ap not (other_path found.source_path found.target_path (other_ends image found.source_path found.target_path ends found.are other))
 
   -- the entry that has the new name
-  pub target_entry : (place : Place) → ends.target.there ≡ Some place → FindsEntry image to ends.target.dir place.slot place.inumber
-  target_entry place at = record { path = found.target_path; parsed = found.target_parsed; entry = found.are.target.there place at }
+  pub target_entry : (entry : FoundEntry) → ends.target.there ≡ Some entry → FindsEntry image to ends.target.dir entry.slot entry.inumber
+  target_entry entry at = record { path = found.target_path; parsed = found.target_parsed; entry = found.are.target.there entry at }
 
   -- a new name has nothing in its way
   pub new_may : are_same ends ≡ false → ends.target.there ≡ None → MayMove image from to ends
   new_may other none = record {
     found = found;
     other = other;
-    leaves = λ place at. let clash : ◌≡◌ {A = Option Place} None (Some place) = sym none ∙ at in absurd (cc);
+    leaves = λ entry at. let clash : ◌≡◌ {A = Option FoundEntry} None (Some entry) = sym none ∙ at in absurd (cc);
     allowed = found_goes (new_goes image found.source_path found.target_path ends found.are none);
   }

@@ -9,7 +9,7 @@ use Rattle.bp_layout.specs.PathText.{is_name}
 use Rattle.bp_layout.specs.Words.{Image}
 use Rattle.bp_layout.proofs.Paths.{lookup_from-append}
 use Rattle.bp_path.specs.Walk.{Walked, in_directory, walk_from}
-use Rattle.bp_path.specs.declared.steps.Place.{Place}
+use Rattle.bp_path.specs.declared.steps.FoundEntry.{FoundEntry}
 use Rattle.bp_plain.specs.Calls.{Refusal}
 use Rattle.bp_plain.specs.Plain.{parent_of}
 use Rattle.bp_rename.specs.CanRename.{IsSlotAcross}
@@ -26,28 +26,28 @@ use Rattle.bp_volume.proofs.WalkingLaws.{name_form}
 module _ (image : Image) (path : Path) (target : Target) (below : path ≢ []) (parent : lookup image (parent_of path) ≡ Some target.dir) (directory : kind_of image target.dir ≡ 2)
     (last : target.name.now ≡ last_of path) (form : is_name target.name.now ≡ true) where
   -- an entry has the name
-  pub name_taken : (place : Place) → target.there ≡ Some place → slot_named image target.dir target.name.now ≡ Some place.slot → inumber_at image target.dir place.slot ≡ place.inumber → IsTarget image path target
-  name_taken place is slot inumber = record {
+  pub name_taken : (entry : FoundEntry) → target.there ≡ Some entry → slot_named image target.dir target.name.now ≡ Some entry.slot → inumber_at image target.dir entry.slot ≡ entry.inumber → IsTarget image path target
+  name_taken entry is slot inumber = record {
     below = below;
     parent = parent;
     directory = directory;
     last = sym last;
     form = name_form target.name.now form;
-    new = λ none. let clash : ◌≡◌ {A = Option Place} None (Some place) = sym none ∙ is in absurd (cc);
-    there = λ other at. subst (λ (o : Place). IsEntryOn image path target.dir o.slot o.inumber) (same other at) entry;
-    empty = λ none. let clash : ◌≡◌ {A = Option Place} None (Some place) = sym none ∙ is in absurd (cc);
+    new = λ none. let clash : ◌≡◌ {A = Option FoundEntry} None (Some entry) = sym none ∙ is in absurd (cc);
+    there = λ other at. subst (λ (o : FoundEntry). IsEntryOn image path target.dir o.slot o.inumber) (same other at) is_entry;
+    empty = λ none. let clash : ◌≡◌ {A = Option FoundEntry} None (Some entry) = sym none ∙ is in absurd (cc);
   }
     where
-      same : (other : Place) → target.there ≡ Some other → place ≡ other
-      same other at = let both : ◌≡◌ {A = Option Place} (Some place) (Some other) = sym is ∙ at in cc
+      same : (other : FoundEntry) → target.there ≡ Some other → entry ≡ other
+      same other at = let both : ◌≡◌ {A = Option FoundEntry} (Some entry) (Some other) = sym is ∙ at in cc
 
-      in_it : lookup_in image target.dir (last_of path) ≡ Some place.inumber
+      in_it : lookup_in image target.dir (last_of path) ≡ Some entry.inumber
       in_it =
           ap (λ b. if b then option_map (inumber_at image target.dir) (slot_named image target.dir (last_of path)) else None) (ap (λ k. k == 2) directory)
           ∙ ap (option_map (inumber_at image target.dir)) (ap (slot_named image target.dir) (sym last) ∙ slot) ∙ ap Some inumber
 
-      entry : IsEntryOn image path target.dir place.slot place.inumber
-      entry = record {
+      is_entry : IsEntryOn image path target.dir entry.slot entry.inumber
+      is_entry = record {
         below = below;
         parent = parent;
         slot = ap (slot_named image target.dir) (sym last) ∙ slot;
@@ -63,7 +63,7 @@ module _ (image : Image) (path : Path) (target : Target) (below : path ≢ []) (
     last = sym last;
     form = name_form target.name.now form;
     new = λ none. free;
-    there = λ other at. let clash : ◌≡◌ {A = Option Place} None (Some other) = sym is ∙ at in absurd (cc);
+    there = λ other at. let clash : ◌≡◌ {A = Option FoundEntry} None (Some other) = sym is ∙ at in absurd (cc);
     empty = λ none. empty;
   }
 
@@ -75,6 +75,6 @@ parent_ends image path walked why is told tree stands = walk_parent-image image 
 pub slot_handed : (image : Image) (ends : Ends) (move : Move) → IsMoveOf ends move → (ends.target.there ≡ None → ends.target.empty ≡ empty_slot image ends.target.dir) → IsSlotAcross image move ends.target.empty
 slot_handed image ends move is empty none other = empty (nothing ends.target.there (sym is.to_slot ∙ none)) ∙ ap (empty_slot image) (sym is.to_dir)
   where
-    nothing : (o : Option Place) → option_map (λ place. place.slot) o ≡ None → o ≡ None
+    nothing : (o : Option FoundEntry) → option_map (λ entry. entry.slot) o ≡ None → o ≡ None
     nothing None at = refl
-    nothing (Some place) at = absurd (cc)
+    nothing (Some entry) at = absurd (cc)

@@ -13,9 +13,9 @@ use Rattle.bp_layout.specs.PathText.{is_name, parse}
 use Rattle.bp_plain.specs.Calls.{Refusal}
 use Rattle.bp_plain.specs.Calls.Refusal.{exists, is_dir}
 use Rattle.bp_plain.specs.Plain.{on_parsed, first, when, is_dir_at, walk, parent_of}
-use Rattle.bp_path.specs.Places.{IsEntryOf}
+use Rattle.bp_path.specs.FoundEntries.{IsEntryOf}
 use Rattle.bp_path.specs.Walk.{Walked, walk_from, in_directory}
-use Rattle.bp_path.specs.declared.steps.Place.{Place}
+use Rattle.bp_path.specs.declared.steps.FoundEntry.{FoundEntry}
 use Rattle.bp_volume.specs.Step.{IsEntryOn, IsNewOn, last_of}
 use Rattle.bp_volume.specs.Told.{StopsAtEntry, StopsWalk, RefusesEntry, RefusesFileAt, RefusesNew, RefusesWalk, refusal_of_entry, refusal_of_new, refusal_of_walk}
 use Rattle.bp_volume.proofs.WalkLaws.{first_one, walk-image, walk-found, walk_parent-image, dir_at}
@@ -57,9 +57,9 @@ walk_stops image text path why parsed ends tree stands = ap (λ o. on_parsed o (
 
 -- ---- the entry at a path
 
-pub entry_found : (image : Image) (path : Path) (place : Place) → path ≢ [] → IsEntryOf image path place → lookup image path ≡ Some place.inumber → IsEntryOn image path place.dir place.slot place.inumber
-entry_found image path place below entry found =
-    let both = entry.below (parent_of path) (last_of path) (by_parent path below) in
+pub entry_found : (image : Image) (path : Path) (entry : FoundEntry) → path ≢ [] → IsEntryOf image path entry → lookup image path ≡ Some entry.inumber → IsEntryOn image path entry.dir entry.slot entry.inumber
+entry_found image path entry below is_entry found =
+    let both = is_entry.below (parent_of path) (last_of path) (by_parent path below) in
     record { below = below; parent = both.0; slot = both.1; inode = found }
 
 pub entry_ends : (image : Image) (path : Path) (root why : Refusal) → path ≢ [] → RefusesWalk image path why → RefusesEntry image path root why

@@ -6,7 +6,7 @@ use Rattle.bp_layout.specs.Inode.{kind_of}
 use Rattle.bp_layout.specs.Lookup.{Path, lookup}
 use Rattle.bp_layout.specs.PathText.{parse}
 use Rattle.bp_layout.specs.Words.{Image}
-use Rattle.bp_path.specs.declared.steps.Place.{Place}
+use Rattle.bp_path.specs.declared.steps.FoundEntry.{FoundEntry}
 use Rattle.bp_plain.specs.Calls.{Call}
 use Rattle.bp_plain.specs.Calls.Call.{rename}
 use Rattle.bp_plain.specs.Plain.{moves_below, parent_of, refusal}
@@ -26,7 +26,7 @@ pub record IsTarget (image : Image) (path : Path) (target : Target) : Type 0 whe
   pub last : last_of path ≡ target.name.now
   pub form : IsName target.name.now
   pub new : target.there ≡ None → slot_named image target.dir target.name.now ≡ None
-  pub there : (place : Place) → target.there ≡ Some place → IsEntryOn image path target.dir place.slot place.inumber
+  pub there : (entry : FoundEntry) → target.there ≡ Some entry → IsEntryOn image path target.dir entry.slot entry.inumber
   pub empty : target.there ≡ None → target.empty ≡ empty_slot image target.dir
 
 -- The first path finds an entry. The second is a name in a directory, and not below the first.
@@ -44,9 +44,9 @@ pub record FindsEnds (image : Image) (from to : List ℕ) (ends : Ends) : Type 0
   pub are : AreEnds image source_path target_path ends
 
 -- there is something, and it is this inode
-abbrev pub is_inode : ℕ → Option Place → Bool
+abbrev pub is_inode : ℕ → Option FoundEntry → Bool
 is_inode i None = false
-is_inode i (Some place) = place.inumber == i
+is_inode i (Some entry) = entry.inumber == i
 
 -- both ends are one entry
 abbrev pub are_same : Ends → Bool
@@ -60,8 +60,8 @@ Allows image call = (tree : FileTree) → Stands image tree → refusal tree cal
 pub record MayMove (image : Image) (from to : List ℕ) (ends : Ends) : Type 0 where
   pub found : FindsEnds image from to ends
   pub other : are_same ends ≡ false
-  pub leaves : (place : Place) → ends.target.there ≡ Some place →
-      CanUnlink image ends.target.dir place.slot (inumber_at image ends.target.dir place.slot)
+  pub leaves : (entry : FoundEntry) → ends.target.there ≡ Some entry →
+      CanUnlink image ends.target.dir entry.slot (inumber_at image ends.target.dir entry.slot)
   pub allowed : Allows image (rename from to)
 
 -- the move from end to end
@@ -69,5 +69,5 @@ pub record IsMoveOf (ends : Ends) (move : Move) : Type 0 where
   pub from_dir : move.from_dir ≡ ends.source.dir
   pub from_slot : move.from_slot ≡ ends.source.slot
   pub to_dir : move.to_dir ≡ ends.target.dir
-  pub to_slot : move.to_slot ≡ option_map (λ place. place.slot) ends.target.there
+  pub to_slot : move.to_slot ≡ option_map (λ entry. entry.slot) ends.target.there
   pub name : move.name.now ≡ ends.target.name.now

@@ -20,23 +20,23 @@ use bp_dirs::is_empty;
 use bp_free::Parts;
 use bp_inodes::get;
 use bp_layout::Kind;
-use bp_path::Place;
+use bp_path::FoundEntry;
 use bp_plain::FsError;
 use bp_tree::Tree;
 use pm_region::Region;
 
 /// The entry by which a path text finds a file.
-fn file_entry<R: Region>(region: &R, text: &[u8]) -> Result<Place, FsError>
+fn file_entry<R: Region>(region: &R, text: &[u8]) -> Result<FoundEntry, FsError>
     requires { IsWellFormed (current_words (R.memory region.now)) }
     ensures found { IfOk result
-        (λ place. FindsEntry (current_words (R.memory region.now)) text.now place.dir place.slot place.inumber) }
-    ensures file { IfOk result (λ place. kind_of (current_words (R.memory region.now)) place.inumber ≡ 1) }
+        (λ entry. FindsEntry (current_words (R.memory region.now)) text.now entry.dir entry.slot entry.inumber) }
+    ensures file { IfOk result (λ entry. kind_of (current_words (R.memory region.now)) entry.inumber ≡ 1) }
     ensures refused { IfErr result
         (λ e. Refuses (current_words (R.memory region.now)) (unlink text.now) (refusal_of e)) }
 {
     match entry_at(region, text, FsError::IsDir) {
-        Ok(place) => match get(region, place.inumber).kind {
-            Kind::File => Ok(place),
+        Ok(entry) => match get(region, entry.inumber).kind {
+            Kind::File => Ok(entry),
             Kind::Dir => Err(FsError::IsDir),
         },
         Err(error) => Err(error),
@@ -44,23 +44,27 @@ fn file_entry<R: Region>(region: &R, text: &[u8]) -> Result<Place, FsError>
 }
 
 /// The same entry, where it names a directory without names.
-fn empty_place<R: Region>(region: &R, text: &[u8], place: Place) -> Result<Place, FsError>
+fn without_names<R: Region>(
+    region: &R,
+    text: &[u8],
+    entry: FoundEntry,
+) -> Result<FoundEntry, FsError>
     requires well_formed { IsWellFormed (current_words (R.memory region.now)) }
-    requires at { FindsEntry (current_words (R.memory region.now)) text.now place.dir place.slot place.inumber }
-    ensures same { IfOk result (λ empty. empty ≡ place) }
-    ensures directory { OnOk result (kind_of (current_words (R.memory region.now)) place.inumber ≡ 2) }
+    requires at { FindsEntry (current_words (R.memory region.now)) text.now entry.dir entry.slot entry.inumber }
+    ensures same { IfOk result (λ empty. empty ≡ entry) }
+    ensures directory { OnOk result (kind_of (current_words (R.memory region.now)) entry.inumber ≡ 2) }
     ensures empty { let words = current_words (R.memory region.now) in
-        OnOk result (name_count words (root_of words place.inumber) (size_of words place.inumber) ≡ 0) }
+        OnOk result (name_count words (root_of words entry.inumber) (size_of words entry.inumber) ≡ 0) }
     ensures refused { IfErr result
         (λ e. Refuses (current_words (R.memory region.now)) (rmdir text.now) (refusal_of e)) }
 {
-    let inode = get(region, place.inumber);
+    let inode = get(region, entry.inumber);
     let tree = Tree::of(&inode);
     match inode.kind {
         Kind::File => Err(FsError::NotDir),
         Kind::Dir => {
             if is_empty(region, tree) {
-                Ok(place)
+                Ok(entry)
             } else {
                 Err(FsError::NotEmpty)
             }
@@ -69,18 +73,18 @@ fn empty_place<R: Region>(region: &R, text: &[u8], place: Place) -> Result<Place
 }
 
 /// The entry by which a path text finds a directory without names.
-fn empty_entry<R: Region>(region: &R, text: &[u8]) -> Result<Place, FsError>
+fn empty_entry<R: Region>(region: &R, text: &[u8]) -> Result<FoundEntry, FsError>
     requires { IsWellFormed (current_words (R.memory region.now)) }
     ensures found { IfOk result
-        (λ place. FindsEntry (current_words (R.memory region.now)) text.now place.dir place.slot place.inumber) }
-    ensures directory { IfOk result (λ place. kind_of (current_words (R.memory region.now)) place.inumber ≡ 2) }
+        (λ entry. FindsEntry (current_words (R.memory region.now)) text.now entry.dir entry.slot entry.inumber) }
+    ensures directory { IfOk result (λ entry. kind_of (current_words (R.memory region.now)) entry.inumber ≡ 2) }
     ensures empty { let words = current_words (R.memory region.now) in
-        IfOk result (λ place. name_count words (root_of words place.inumber) (size_of words place.inumber) ≡ 0) }
+        IfOk result (λ entry. name_count words (root_of words entry.inumber) (size_of words entry.inumber) ≡ 0) }
     ensures refused { IfErr result
         (λ e. Refuses (current_words (R.memory region.now)) (rmdir text.now) (refusal_of e)) }
 {
     match entry_at(region, text, FsError::IsRoot) {
-        Ok(place) => empty_place(region, text, place),
+        Ok(entry) => without_names(region, text, entry),
         Err(error) => Err(error),
     }
 }
@@ -95,8 +99,8 @@ pub(crate) fn unlink_at<R: Region>(parts: &mut Parts<R>, text: &[u8]) -> Result<
     ensures exact { AreExact (current_words (R.memory parts.new.region)) parts.new.blocks parts.new.inodes }
 {
     match file_entry(&parts.region, text) {
-        Ok(place) => {
-            remove(parts, place.dir, place.slot);
+        Ok(entry) => {
+            remove(parts, entry.dir, entry.slot);
             Ok(())
         }
         Err(error) => Err(error),
@@ -113,8 +117,8 @@ pub(crate) fn rmdir_at<R: Region>(parts: &mut Parts<R>, text: &[u8]) -> Result<(
     ensures exact { AreExact (current_words (R.memory parts.new.region)) parts.new.blocks parts.new.inodes }
 {
     match empty_entry(&parts.region, text) {
-        Ok(place) => {
-            remove(parts, place.dir, place.slot);
+        Ok(entry) => {
+            remove(parts, entry.dir, entry.slot);
             Ok(())
         }
         Err(error) => Err(error),

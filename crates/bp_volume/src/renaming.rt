@@ -21,7 +21,7 @@ use bp_dirs::is_empty;
 use bp_free::Parts;
 use bp_inodes::get;
 use bp_layout::Kind;
-use bp_path::{Path, Place, parse};
+use bp_path::{FoundEntry, Path, parse};
 use bp_plain::FsError;
 use bp_rename::{Move, rename_in};
 use bp_tree::Tree;
@@ -31,7 +31,7 @@ use pm_region::Region;
 #[derive(Clone, Copy)]
 pub(crate) struct Ends<'a> {
     /// The entry.
-    pub source: Place,
+    pub source: FoundEntry,
     /// The new name, and what has it.
     pub target: Target<'a>,
 }
@@ -40,7 +40,7 @@ pub(crate) struct Ends<'a> {
 fn ends_from<'a, R: Region>(
     region: &R,
     from: &Path<'_>,
-    source: Place,
+    source: FoundEntry,
     to: &Path<'a>,
 ) -> Result<Ends<'a>, FsError>
     requires well_formed { IsWellFormed (current_words (R.memory region.now)) }
@@ -104,7 +104,7 @@ fn may_replace<R: Region>(
     from: &[u8],
     to: &[u8],
     ends: &Ends<'_>,
-    there: Place,
+    there: FoundEntry,
 ) -> Result<(), FsError>
     requires well_formed { IsWellFormed (current_words (R.memory region.now)) }
     requires found { FindsEnds (current_words (R.memory region.now)) from.now to.now ends.now }
@@ -163,11 +163,11 @@ fn are_same(ends: &Ends<'_>) -> bool
 }
 
 /// The slot of an entry.
-fn slot_of(place: Option<Place>) -> Option<u64>
-    ensures { result ≡ option_map (λ there. there.slot) place }
+fn slot_of(entry: Option<FoundEntry>) -> Option<u64>
+    ensures { result ≡ option_map (λ there. there.slot) entry }
 {
-    match place {
-        Some(place) => Some(place.slot),
+    match entry {
+        Some(entry) => Some(entry.slot),
         None => None,
     }
 }

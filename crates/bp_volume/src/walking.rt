@@ -8,7 +8,7 @@ ghost use Rattle.bp_layout.specs.Lookup.{lookup};
 ghost use Rattle.bp_limits.specs.Limits.{max_name};
 ghost use Rattle.bp_layout.specs.Reached.{IsReached};
 ghost use Rattle.bp_layout.specs.WellFormed.{IsWellFormed};
-ghost use Rattle.bp_path.specs.Places.{fault_of};
+ghost use Rattle.bp_path.specs.FoundEntries.{fault_of};
 ghost use Rattle.bp_plain.specs.Calls.{Refusal};
 ghost use Rattle.bp_plain.specs.Seen.{refusal_of};
 ghost use Rattle.bp_volume.specs.Renaming.{IsTarget};
@@ -21,7 +21,7 @@ use bp_calls::tree_of;
 use bp_dirs::{Spot, find_or_free, inumber};
 use bp_inodes::get;
 use bp_layout::Kind;
-use bp_path::{Path, Place, WalkFault, parse, walk, walk_parent};
+use bp_path::{FoundEntry, Path, WalkFault, parse, walk, walk_parent};
 use bp_plain::FsError;
 use pm_region::Region;
 
@@ -44,7 +44,7 @@ pub(crate) struct Target<'a> {
     /// The name.
     pub name: &'a [u8],
     /// What has that name there, None where nothing has it.
-    pub there: Option<Place>,
+    pub there: Option<FoundEntry>,
     /// Where nothing has it, the least slot of the directory whose entry is empty, None where no entry is.
     pub empty: Option<u64>,
 }
@@ -75,7 +75,7 @@ pub(crate) fn inode_on<R: Region>(region: &R, path: &Path<'_>) -> Result<u32, Fs
     ensures stopped { IfErr result (λ e. RefusesWalk (current_words (R.memory region.now)) path.now (refusal_of e)) }
 {
     match walk(region, path) {
-        Ok(place) => Ok(place.inumber),
+        Ok(entry) => Ok(entry.inumber),
         Err(fault) => Err(refused(fault)),
     }
 }
@@ -136,25 +136,29 @@ pub(crate) fn file_at<R: Region>(region: &R, text: &[u8]) -> Result<FoundFile, F
 }
 
 /// The entry at a path below the root directory.
-pub(crate) fn entry_on<R: Region>(region: &R, path: &Path<'_>) -> Result<Place, FsError>
+pub(crate) fn entry_on<R: Region>(region: &R, path: &Path<'_>) -> Result<FoundEntry, FsError>
     requires well_formed { IsWellFormed (current_words (R.memory region.now)) }
     requires below { path.now ≢ [] }
     ensures found { IfOk result
-        (λ place. IsEntryOn (current_words (R.memory region.now)) path.now place.dir place.slot place.inumber) }
+        (λ entry. IsEntryOn (current_words (R.memory region.now)) path.now entry.dir entry.slot entry.inumber) }
     ensures refused { IfErr result
         (λ e. (root : Refusal) → RefusesEntry (current_words (R.memory region.now)) path.now root (refusal_of e)) }
 {
     match walk(region, path) {
-        Ok(place) => Ok(place),
+        Ok(entry) => Ok(entry),
         Err(fault) => Err(refused(fault)),
     }
 }
 
 /// The entry by which a path text finds what stands there. The root directory has none: there it is the error `root`.
-pub(crate) fn entry_at<R: Region>(region: &R, text: &[u8], root: FsError) -> Result<Place, FsError>
+pub(crate) fn entry_at<R: Region>(
+    region: &R,
+    text: &[u8],
+    root: FsError,
+) -> Result<FoundEntry, FsError>
     requires { IsWellFormed (current_words (R.memory region.now)) }
     ensures found { IfOk result
-        (λ place. FindsEntry (current_words (R.memory region.now)) text.now place.dir place.slot place.inumber) }
+        (λ entry. FindsEntry (current_words (R.memory region.now)) text.now entry.dir entry.slot entry.inumber) }
     ensures refused { IfErr result
         (λ e. StopsAtEntry (current_words (R.memory region.now)) text.now (refusal_of root) (refusal_of e)) }
 {
@@ -164,7 +168,7 @@ pub(crate) fn entry_at<R: Region>(region: &R, text: &[u8], root: FsError) -> Res
                 return Err(root);
             }
             match entry_on(region, &path) {
-                Ok(place) => Ok(place),
+                Ok(entry) => Ok(entry),
                 Err(error) => Err(error),
             }
         }
@@ -216,7 +220,7 @@ pub(crate) fn target_on<'a, R: Region>(region: &R, path: &Path<'a>) -> Result<Ta
             let name = path.last();
             match spot_of(region, dir, name) {
                 Spot::Named(slot) => {
-                    let place = Place {
+                    let entry = FoundEntry {
                         inumber: inumber(region, tree_of(region, dir), slot) as u32,
                         dir,
                         slot,
@@ -224,7 +228,7 @@ pub(crate) fn target_on<'a, R: Region>(region: &R, path: &Path<'a>) -> Result<Ta
                     Ok(Target {
                         dir,
                         name,
-                        there: Some(place),
+                        there: Some(entry),
                         empty: None,
                     })
                 }

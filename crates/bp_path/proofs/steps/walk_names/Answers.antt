@@ -3,7 +3,7 @@ use Rattle.std.proofs.lemmas.Result.{err_from_is_err_and}
 use Rattle.std.proofs.lemmas.Bool.{eqb-true}
 use Rattle.pm_region.specs.Memory.{current_words}
 use Rattle.bp_path.specs.Names.{path_parts}
-use Rattle.bp_path.specs.Places.{walked_of, fault_of}
+use Rattle.bp_path.specs.FoundEntries.{walked_of, fault_of}
 use Rattle.bp_path.proofs.WalkLaws.{not_inode_file}
 use Rattle.bp_path.proofs.Walking.{start, come_on, fails, walked, reaches}
 use Rattle.bp_path.proofs.steps.walk_names.Goals as goal
@@ -12,28 +12,28 @@ pub loop-rest-init : goal.loop-rest-init
 loop-rest-init g c = start (current_words (g.R.Region.memory c.args.region.now)) c.args.text.now c.requires.names
 
 pub step-requires-clause-reached : goal.step-requires-clause-reached
-step-requires-clause-reached g c = reaches (current_words (g.R.Region.memory c.args.region.now)) c.args.text.now c.loop-rest.rest.now c.loop-rest.place c.loop-rest.invariant
+step-requires-clause-reached g c = reaches (current_words (g.R.Region.memory c.args.region.now)) c.args.text.now c.loop-rest.rest.now c.loop-rest.entry c.loop-rest.invariant
 
-pub returns-in_err-place-clause-walked : goal.returns-in_err-place-clause-walked
-returns-in_err-place-clause-walked g c =
+pub returns-in_err-entry-clause-walked : goal.returns-in_err-entry-clause-walked
+returns-in_err-entry-clause-walked g c =
     let p = err_from_is_err_and c.from_residual.result c.from_residual.ensures.1 in
     let image = current_words (g.R.Region.memory c.args.region.now) in
-    let here = fails image c.args.text.now c.loop-rest.rest.now c.split_first.result.1.now c.split_first.result.0.now c.loop-rest.place c.loop-rest.invariant c.split_first.ensures.split in
-    ap walked_of p.1 ∙ ap fault_of p.2 ∙ sym (c.in_err-place.ensures.fault (path_parts c.split_first.result.1.now)) ∙ sym here
+    let here = fails image c.args.text.now c.loop-rest.rest.now c.split_first.result.1.now c.split_first.result.0.now c.loop-rest.entry c.loop-rest.invariant c.split_first.ensures.split in
+    ap walked_of p.1 ∙ ap fault_of p.2 ∙ sym (c.in_err-entry.ensures.fault (path_parts c.split_first.result.1.now)) ∙ sym here
 
 pub loop-rest-preserved : goal.loop-rest-preserved
 loop-rest-preserved g c =
     let image = current_words (g.R.Region.memory c.args.region.now) in
     let name = c.split_first.result.0.now in
-    let found = c.in_ok-place.ensures in
-    come_on image c.args.text.now c.loop-rest.rest.now c.split_first.result.1.now name c.loop-rest.place c.in_ok-place.place c.loop-rest.invariant
+    let found = c.in_ok-entry.ensures in
+    come_on image c.args.text.now c.loop-rest.rest.now c.split_first.result.1.now name c.loop-rest.entry c.in_ok-entry.entry c.loop-rest.invariant
     c.split_first.ensures.split c.split_first.ensures.rest found.kind found.dir found.slot found.inumber
-    (not_inode_file image c.loop-rest.place.inumber c.in_ok-place.place.inumber c.in_ok-place.place.slot name found.slot found.inumber)
+    (not_inode_file image c.loop-rest.entry.inumber c.in_ok-entry.entry.inumber c.in_ok-entry.entry.slot name found.slot found.inumber)
 
 pub returns-clause-walked : goal.returns-clause-walked
 returns-clause-walked g c =
-    walked (current_words (g.R.Region.memory c.args.region.now)) c.args.text.now c.loop-rest.rest.now c.loop-rest.place c.loop-rest.invariant
+    walked (current_words (g.R.Region.memory c.args.region.now)) c.args.text.now c.loop-rest.rest.now c.loop-rest.entry c.loop-rest.invariant
     (eqb-true _ _ (sym c.is_empty.ensures ∙ c.loop-rest-test.false))
 
 pub returns-clause-reached : goal.returns-clause-reached
-returns-clause-reached g c = reaches (current_words (g.R.Region.memory c.args.region.now)) c.args.text.now c.loop-rest.rest.now c.loop-rest.place c.loop-rest.invariant
+returns-clause-reached g c = reaches (current_words (g.R.Region.memory c.args.region.now)) c.args.text.now c.loop-rest.rest.now c.loop-rest.entry c.loop-rest.invariant

@@ -14,7 +14,7 @@ remove-requires-clause-can g c = file_leaves _ c.args.text.now _ _ _ c.in-Ok.ens
 pub returns-in-Ok-clause-called : goal.returns-in-Ok-clause-called
 returns-in-Ok-clause-called g c =
     let can = file_leaves _ c.args.text.now _ _ _ c.in-Ok.ensures.found c.in-Ok.ensures.file in
-    changed (performs_call _ _ _ (leaves c.in-Ok.place.dir c.in-Ok.place.slot) _ (unlink_makes _ c.args.text.now _ _ _ c.in-Ok.ensures.found c.in-Ok.ensures.file) c.remove.ensures.performs
+    changed (performs_call _ _ _ (leaves c.in-Ok.entry.dir c.in-Ok.entry.slot) _ (unlink_makes _ c.args.text.now _ _ _ c.in-Ok.ensures.found c.in-Ok.ensures.file) c.remove.ensures.performs
     (λ removes. name_lost _ c.args.text.now _ _ _ c.in-Ok.ensures.found _ (λ tree here stands at. unlink_stands _ _ c.requires.well_formed _ _ _ can removes here at tree stands))
     (performs_room _ _ _ _ c.remove.ensures.performs (leaves_few _ c.args.text.now _ _ _ c.in-Ok.ensures.found c.requires.well_formed can) c.requires.room))
 

@@ -19,8 +19,8 @@ inumber-requires-clause-live g c =
     let at : slot_named image c.in-Ok.dir c.last-name.result.now ≡ Some c.in-Named.slot = sym c.spot_of.ensures.named ∙ ap named_slot c.in-Named.is in
     omega (arith, slot_there image c.in-Ok.dir c.in-Named.slot c.last-name.result.now at, c.tree_of.ensures.size)
 
-pub overflow_cast-place : goal.overflow_cast-place
-overflow_cast-place g c =
+pub overflow_cast-entry : goal.overflow_cast-entry
+overflow_cast-entry g c =
     let image = current_words (g.R.Region.memory c.args.region.now) in
     let at : slot_named image c.in-Ok.dir c.last-name.result.now ≡ Some c.in-Named.slot = sym c.spot_of.ensures.named ∙ ap named_slot c.in-Named.is in
     let is : inumber_at image c.in-Ok.dir c.in-Named.slot ≡ c.inumber.result = ap (λ r. inumber_in image r c.in-Named.slot) (sym c.tree_of.ensures.root) ∙ sym c.inumber.ensures in

@@ -5,7 +5,7 @@ use Rattle.bp_layout.specs.Directory.{Name, slot_named}
 use Rattle.bp_layout.specs.Lookup.{Path, lookup}
 use Rattle.bp_path.specs.Walk.{Walked}
 use Rattle.bp_path.specs.Walk.Walked.{found, missing, in_file}
-use Rattle.bp_path.specs.declared.steps.Place.{Place}
+use Rattle.bp_path.specs.declared.steps.FoundEntry.{FoundEntry}
 use Rattle.bp_path.specs.declared.steps.WalkFault.{WalkFault}
 use Rattle.bp_path.specs.declared.steps.WalkFault.TheVariants.{NotFound, NotDir}
 
@@ -14,8 +14,8 @@ fault_of NotFound = missing
 fault_of NotDir = in_file
 
 -- where a walk ended, and where a walk to a parent did
-abbrev pub walked_of : Result Place WalkFault → Walked
-walked_of (Ok place) = found place.inumber
+abbrev pub walked_of : Result FoundEntry WalkFault → Walked
+walked_of (Ok entry) = found entry.inumber
 walked_of (Err fault) = fault_of fault
 
 abbrev pub dir_of : Result ℕ WalkFault → Walked
@@ -23,6 +23,6 @@ dir_of (Ok dir) = found dir
 dir_of (Err fault) = fault_of fault
 
 -- the directory and the slot by which a path leads to its inode, both 0 for `/`
-pub record IsEntryOf (image : Image) (path : Path) (place : Place) : Type 0 where
-  pub top : path ≡ [] → (place.dir ≡ 0) × (place.slot ≡ 0)
-  pub below : (parent : Path) (name : Name) → path ≡ parent ++ name ∷ [] → (lookup image parent ≡ Some place.dir) × (slot_named image place.dir name ≡ Some place.slot)
+pub record IsEntryOf (image : Image) (path : Path) (entry : FoundEntry) : Type 0 where
+  pub top : path ≡ [] → (entry.dir ≡ 0) × (entry.slot ≡ 0)
+  pub below : (parent : Path) (name : Name) → path ≡ parent ++ name ∷ [] → (lookup image parent ≡ Some entry.dir) × (slot_named image entry.dir name ≡ Some entry.slot)

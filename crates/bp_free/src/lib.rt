@@ -9,8 +9,6 @@ pub mod laws;
 mod numbers;
 mod parts;
 mod steps;
-#[cfg(test)]
-mod tests;
 
 pub use numbers::{BlockNumbers, Blocks, InodeNumbers, Inodes, Numbers};
 pub use parts::{NoSpace, Parts};

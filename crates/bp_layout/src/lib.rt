@@ -12,6 +12,3 @@ pub use check::Check;
 pub use entry::{Entry, name_word};
 pub use fields::{BadPointer, Inode, Kind, Name, RootWord, Stat, Super, pointer, pointer_word};
 pub use listing::Listing;
-
-#[cfg(test)]
-mod tests;

@@ -12,6 +12,3 @@ pub use calls::Call;
 pub use errors::FsError;
 pub use replies::{Answer, Reply};
 pub use trees::Plain;
-
-#[cfg(test)]
-mod tests;

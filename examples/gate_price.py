@@ -1,65 +1,105 @@
 #!/usr/bin/env python3
-"""Measures what each crate costs the gate from nothing: processor seconds of its proofs, of its tests and of its must-fail edits.
+"""Tells what each crate costs the gate from nothing: processor seconds of its proofs, of its tests and of its must-fail edits.
 
-    gate_price.py [CRATE ..]
+    gate_price.py watch FILE     notes in FILE what the gates of this machine use while they run, until it is stopped
+    gate_price.py table FILE     prints what FILE has as a table for docs/gate.md
 
-It works in a clone of its own in a folder of TMPDIR, crate after crate, the lowest first, and prints a table for docs/gate.md. With
-names it measures these alone, over the crates below them. The whole takes hours on one processor: the gate itself uses all.
+It looks at the processes twice a second and starts none, so it costs a gate nothing. Only a gate that has kept nothing tells the whole price: on a machine
+whose first gate this is, or with `rt ci --anew`. A process that ends between two looks is noted up to the first of them.
 """
+import collections
+import json
 import os
-import resource
-import shutil
-import subprocess
+import re
 import sys
-import tempfile
+import time
 
 TOP = os.path.dirname(os.path.dirname(os.path.abspath(__file__)))
+# The kit's prover, and the parts of the price by what it is asked for: `build --test` proves tests, `build` a crate, `check` an edit.
+PROVER = "/opt/rattle/bin/rattle"
+KINDS = ("proofs", "tests", "edits")
+TICKS = os.sysconf("SC_CLK_TCK")
+# The folders in which a gate works: copies of the checkout, which other checks don't use.
+COPY = re.compile(r"/rt-[a-z]+-[^/]*")
+
+
+def kind_of(words):
+    """The part of the price that a prover with these words counts to, or None for a process that is none."""
+    if len(words) < 2 or words[0] != PROVER:
+        return None
+    if words[1] == "check":
+        return "edits"
+    return ("tests" if "--test" in words else "proofs") if words[1] == "build" else None
+
+
+def look():
+    """The provers that run now for a gate: by process and start, the crate, the part, the processor seconds so far, and the copy that the gate works in."""
+    found = {}
+    for pid in filter(str.isdigit, os.listdir("/proc")):
+        try:
+            with open(f"/proc/{pid}/cmdline", "rb") as it:
+                words = it.read().decode(errors="replace").split("\0")
+            kind = kind_of(words)
+            copy = COPY.search(os.readlink(f"/proc/{pid}/cwd"))
+            if kind is None or not copy:
+                continue
+            with open(f"/proc/{pid}/stat", encoding="ascii", errors="replace") as it:
+                fields = it.read().rpartition(")")[2].split()
+        except OSError:
+            continue
+        # (user and system time, of the process and of those children that it has waited for)
+        seconds = sum(int(it) for it in fields[11:15]) / TICKS
+        crate = words[words.index("--crate-name") + 1] if "--crate-name" in words else "?"
+        found[f"{pid}.{fields[19]}"] = [crate, kind, seconds, copy.group()]
+    return found
+
+
+def watch(file):
+    noted = {}
+    if os.path.exists(file):
+        with open(file, encoding="utf-8") as it:
+            noted = json.load(it)
+    while True:
+        noted.update(look())
+        with open(f"{file}.new", "w", encoding="utf-8") as it:
+            json.dump(noted, it)
+        os.replace(f"{file}.new", file)
+        time.sleep(0.5)
 
 
 def crates():
     """The crates, lowest first, as crates.txt lists them."""
-    with open(f"{TOP}/crates.txt") as it:
-        lines = [line.strip() for line in it if line.strip() and not line.startswith("#")]
-    return [line.partition(":")[0].split()[0] for line in lines]
+    with open(f"{TOP}/crates.txt", encoding="utf-8") as it:
+        return [line.partition(":")[0] for line in it if line.strip() and not line.startswith("#")]
 
 
-def seconds(words, folder):
-    """The processor seconds of a command and of all that it starts, and whether it ended well."""
-    before = resource.getrusage(resource.RUSAGE_CHILDREN)
-    status = subprocess.run(words, cwd=folder, stdout=subprocess.DEVNULL, stderr=subprocess.DEVNULL).returncode
-    after = resource.getrusage(resource.RUSAGE_CHILDREN)
-    return after.ru_utime + after.ru_stime - before.ru_utime - before.ru_stime, status == 0
+def edits(crate):
+    folder = f"{TOP}/crates/{crate}/must-fail"
+    return len(os.listdir(folder)) if os.path.isdir(folder) else 0
 
 
-def count(folder, name, ending):
-    at = f"{folder}/{name}"
-    return len([it for it in os.listdir(at) if it.endswith(ending)]) if os.path.isdir(at) else 0
+def row(name, price, count):
+    return f"| {name} | " + " | ".join(f"{price[it]:.0f}" if price[it] else "" for it in KINDS) + f" | {count or ''} |"
+
+
+def table(file):
+    with open(file, encoding="utf-8") as it:
+        noted = json.load(it)
+    price = collections.defaultdict(lambda: dict.fromkeys(KINDS, 0.0))
+    for crate, kind, seconds, _ in noted.values():
+        price[crate][kind] += seconds
+    print("| Crate | proofs, s | tests, s | edits, s | edits |\n|---|---|---|---|---|")
+    for name in crates():
+        print(row(f"`{name}`", price[name], edits(name)))
+    total = {kind: sum(it[kind] for it in price.values()) / 60 for kind in KINDS}
+    print(row("all, minutes", total, sum(edits(it) for it in crates())))
 
 
 def main():
-    asked = set(sys.argv[1:])
-    room = tempfile.mkdtemp(prefix="gate-price-")
-    total = [0.0, 0.0, 0.0]
-    try:
-        subprocess.run(["git", "clone", "-q", TOP, f"{room}/clone"], check=True)
-        print("| Crate | proofs, s | tests, s | edits, s | edits |\n|---|---|---|---|---|")
-        for name in crates():
-            folder = f"{room}/clone/crates/{name}"
-            is_program = os.path.isfile(f"{folder}/src/main.rt")
-            took, well = seconds(["rt", "check" if is_program else "lib"], folder)
-            if not well:
-                sys.exit(f"{name} is not proved")
-            if asked and name not in asked:
-                continue
-            has_tests = subprocess.run(["grep", "-rq", "#\\[test\\]", f"{folder}/src"]).returncode == 0
-            tests = seconds(["rt", "test"], folder)[0] if has_tests else 0.0
-            edits = count(folder, "must-fail", ".edit")
-            tried = seconds(["rt", "must-fail", name], f"{room}/clone")[0] if edits else 0.0
-            total = [total[0] + took, total[1] + tests, total[2] + tried]
-            print(f"| `{name}` | {took:.0f} | {tests:.0f} | {tried:.0f} | {edits} |", flush=True)
-        print("| all, minutes | " + " | ".join(f"{it / 60:.0f}" for it in total) + " | |")
-    finally:
-        shutil.rmtree(room)
+    words = {"watch": watch, "table": table}
+    if len(sys.argv) != 3 or sys.argv[1] not in words:
+        sys.exit(__doc__)
+    words[sys.argv[1]](sys.argv[2])
 
 
 main()

@@ -1,3 +1,5 @@
+//! What a cut of the power leaves of a log, and how many calls it keeps.
+
 ghost use Rattle.std.specs.Prelude.{◌≡◌, ◌^◌, ◌<◌, ◌≤◌, ◌↔◌, IsOk, IfOk, length};
 ghost use Rattle.pm_epochs.specs.Log.{barriers, epoch_stores, marks, words_after};
 ghost use Rattle.pm_epochs.specs.Replay.{IsRight, kept_calls as kept_calls_of, marks_of, stores_of};

@@ -1,3 +1,5 @@
+//! A log as it stands in two arrays.
+
 ghost use Rattle.std.specs.Prelude.{◌≡◌, ◌<◌, ◌≤◌, length, take, drop, slice_get, slice_index_or, Some};
 ghost use Rattle.pm_epochs.specs.declared.event.Event.TheVariants.{Mark};
 ghost use Rattle.pm_raw.specs.Entries.{event_of, events_of, event_word};

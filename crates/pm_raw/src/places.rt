@@ -1,3 +1,5 @@
+//! Where the events of one kind stand in a log.
+
 ghost use Rattle.std.specs.Prelude.{◌≡◌, ◌<◌, ◌≤◌, ◌++◌, [], ◌∷◌, IfOk, length, slice_index};
 ghost use Rattle.pm_raw.specs.Places.{count_below};
 

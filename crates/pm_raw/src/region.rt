@@ -1,3 +1,5 @@
+//! A region over raw memory.
+
 ghost use Rattle.std.specs.Prelude.{◌≡◌, ℕ, ◌+◌, ◌^◌, ◌<◌, ◌≤◌, [], ◌∷◌, ◌++◌, IfOk, length, replicate};
 ghost use Rattle.pm_region.specs.Memory.{with_values};
 ghost use Rattle.pm_raw.specs.Entries.{signal_of};

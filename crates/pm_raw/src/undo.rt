@@ -1,3 +1,5 @@
+//! Words as they were before the last events of a log.
+
 ghost use Rattle.std.specs.Prelude.{◌≡◌, ◌^◌, ◌<◌, ◌≤◌, [], ◌∷◌, drop, length, slice_index};
 ghost use Rattle.pm_epochs.specs.declared.event.Event.{Event};
 ghost use Rattle.pm_raw.specs.Entries.{event_word};

@@ -27,6 +27,11 @@ taken_check : (called : Text) (x : ℕ) (xs : Text) → nat_eq x 45 ≡ false �
 unfolding IsTaken clap_on_literals
 taken_check called x xs h = simp h refl
 
+taken_format : (called : Text) (x d : ℕ) (xs ds : Text) → nat_eq x 45 ≡ false → nat_eq d 45 ≡ false → accepts false (vp.Unsigned 8 16384) (d ∷ ds) ≡ true →
+    IsTaken (called ∷ codes "format" ∷ (x ∷ xs) ∷ codes "--blocks" ∷ (d ∷ ds) ∷ [])
+unfolding IsTaken clap_on_literals
+taken_format called x d xs ds h k a = simp (h, k, a) refl
+
 met_run : (called : Text) (x : ℕ) (xs : Text) → nat_eq x 45 ≡ false → parts (subcommand_named (called ∷ codes "run" ∷ (x ∷ xs) ∷ [])) ≡ Some (codes "run", Some (x ∷ xs), (None, None, None))
 unfolding subcommand_named clap_on_literals
 met_run called x xs h = simp h refl

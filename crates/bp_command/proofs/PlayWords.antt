@@ -67,9 +67,22 @@ file_turn : (x : ℕ) (xs : Text) → nat_eq x 45 ≡ false → Turn (walk_from 
 unfolding clap_on_literals
 file_turn x xs h = record { passes = simp h refl; goes = simp h refl }
 
+seed_turn : (name : Text) → Turn (behind [] (codes "FILE") (name ∷ []) idle) (codes "--seed") (behind (row file_arg name ∷ []) (codes "seed") [] (option (codes "seed")))
+unfolding clap_on_literals
+seed_turn name = record { passes = refl; goes = refl }
+
 seed_value : (rows : List Row) (d : ℕ) (ds : Text) → nat_eq d 45 ≡ false → Turn (behind rows (codes "seed") [] (option (codes "seed"))) (d ∷ ds) (behind rows (codes "seed") ((d ∷ ds) ∷ []) idle)
 unfolding clap_on_literals
 seed_value rows d ds k = record { passes = simp k refl; goes = simp k refl }
+
+count_turn : (name seed : Text) → accepts false (vp.Unsigned 0 18446744073709551615) seed ≡ true →
+    Turn (behind (row file_arg name ∷ []) (codes "seed") (seed ∷ []) idle) (codes "--count") (behind (row file_arg name ∷ row seed_arg seed ∷ []) (codes "count") [] (option (codes "count")))
+unfolding clap_on_literals
+count_turn name seed a = record { passes = simp a refl; goes = refl }
+
+count_value : (rows : List Row) (e : ℕ) (es : Text) → nat_eq e 45 ≡ false → Turn (behind rows (codes "count") [] (option (codes "count"))) (e ∷ es) (behind rows (codes "count") ((e ∷ es) ∷ []) idle)
+unfolding clap_on_literals
+count_value rows e es l = record { passes = simp l refl; goes = simp l refl }
 
 -- ---- the words
 

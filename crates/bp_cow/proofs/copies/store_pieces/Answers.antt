@@ -1,9 +1,9 @@
-use Rattle.std.proofs.Common.{◌≡◌, ℕ, ◌+◌, ◌*◌, ◌≤◌, length, get_or, nat_eq, refl, ap, subst, arith}
+use Rattle.std.proofs.Common.{◌≡◌, ℕ, ◌+◌, ◌*◌, ◌≤◌, length, get_or, slice_range, nat_eq, refl, ap, subst, arith}
 use Rattle.pm_region.specs.Memory.{current_words}
 use Rattle.pm_region.proofs.MemoryLaws.{length-current_words}
+use Rattle.bp_tree.proofs.LoadedWords.{length-loaded, loaded_word}
 use Rattle.bp_cow.specs.Copies.{HoldsFront}
-use Rattle.bp_cow.proofs.CopyLaws.{part_of, length-part, front_none, front_more, front_room, front_long, front_base, stored_into, stored_words, stored_equal}
-use Rattle.bp_cow.proofs.SlotLaws.{part_at}
+use Rattle.bp_cow.proofs.CopyLaws.{front_none, front_more, front_room, front_long, front_base, stored_into, stored_words, stored_equal}
 use Rattle.bp_cow.proofs.copies.store_pieces.Goals as goal
 
 pub loop-piece-init : goal.loop-piece-init
@@ -21,7 +21,7 @@ set_words-requires-clause-in_range g c =
       arith,
       c.requires.to,
       c.loop-piece-test.true,
-      length-part (8 * c.loop-piece.piece) 8 c.args.words.now (omega (arith, c.loop-piece-test.true)),
+      length-loaded c.args.words.now _ (8 * c.loop-piece.piece) 8 refl (omega (arith, c.loop-piece-test.true)),
       front_long c.args.to _ (8 * c.loop-piece.piece) (g.R.Region.memory c.args.region.now) (g.R.Region.memory c.loop-piece.region) c.loop-piece.invariant.front,
     )
 
@@ -31,12 +31,12 @@ set_words-requires-clause-room g c =
       arith,
       c.requires.room,
       c.loop-piece-test.true,
-      length-part (8 * c.loop-piece.piece) 8 c.args.words.now (omega (arith, c.loop-piece-test.true)),
+      length-loaded c.args.words.now _ (8 * c.loop-piece.piece) 8 refl (omega (arith, c.loop-piece-test.true)),
       front_room c.args.to _ (8 * c.loop-piece.piece) (g.R.Region.memory c.args.region.now) (g.R.Region.memory c.loop-piece.region) c.loop-piece.invariant.front,
     )
 
 pub set_words-requires-clause-few : goal.set_words-requires-clause-few
-set_words-requires-clause-few g c = omega (arith, length-part (8 * c.loop-piece.piece) 8 c.args.words.now (omega (arith, c.loop-piece-test.true)))
+set_words-requires-clause-few g c = omega (arith, length-loaded c.args.words.now _ (8 * c.loop-piece.piece) 8 refl (omega (arith, c.loop-piece-test.true)))
 
 pub loop-piece-preserved : goal.loop-piece-preserved
 loop-piece-preserved g c =
@@ -52,8 +52,8 @@ loop-piece-preserved g c =
     record {
       front = subst (λ n. HoldsFront c.args.to value n old new) next
           (front_more c.args.to count 8 value old middle front (omega (arith, c.loop-piece-test.true)) (omega arith) inside
-          (part_of count 8 c.args.words.now) (length-part count 8 c.args.words.now (omega (arith, c.loop-piece-test.true)))
-          (λ i few. part_at c.args.words.now (part_of count 8 c.args.words.now) count 8 i few refl)
+          (slice_range c.args.words.now count (count + 8)) (length-loaded c.args.words.now _ count 8 refl (omega (arith, c.loop-piece-test.true)))
+          (λ i few. loaded_word c.args.words.now _ count 8 refl i few)
           (nat_eq c.loop-piece.piece 0) new (λ none. ap (λ p. nat_eq p 0) (start none)) c.set_words.ensures);
     }
 

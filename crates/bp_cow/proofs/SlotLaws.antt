@@ -1,7 +1,6 @@
 -- Slots of a leaf over which a run is laid, one after the other.
-use Rattle.std.proofs.Common.{◌≡◌, ◌⊎◌, ℕ, List, ◌+◌, ◌-◌, ◌<◌, ◌≤◌, length, take, drop, get_or, set, ◌∙◌, refl, ap, arith, inl, inr, get_or-set_other, get_or-set_same}
+use Rattle.std.proofs.Common.{◌≡◌, ◌⊎◌, ℕ, List, ◌+◌, ◌<◌, ◌≤◌, length, get_or, set, ◌∙◌, refl, ap, arith, inl, inr, get_or-set_other, get_or-set_same}
 use Rattle.std.proofs.lemmas.Bool.{cases_eq, cases_lt}
-use Rattle.std.proofs.lemmas.List.{get_or-drop, get_or-take}
 use Rattle.bp_cow.specs.declared.touched.Run.{Run}
 use Rattle.bp_cow.specs.Touched.{LaysSlots, run_word}
 
@@ -50,7 +49,3 @@ lays_empty run first from to old none = record {
   laid = λ slot low high. absurd (omega (arith, low, high, none));
   rest = λ slot any. refl;
 }
-
--- a place in some of the items of a list
-pub part_at : (items part : List ℕ) (from count i : ℕ) → i < count → part ≡ take (from + count - from) (drop from items) → get_or part i 0 ≡ get_or items (from + i) 0
-part_at items part from count i low is = rw is (get_or-take (from + count - from) (drop from items) i 0 (omega (arith, low)) ∙ get_or-drop from items i 0)

@@ -1,10 +1,10 @@
 -- The stores that make copies: they go to blocks that were free, and to each of them that is taken.
-use Rattle.std.specs.Prelude.{◌≡◌, ◌⊎◌, ℕ, Bool, true, false}
+use Rattle.std.specs.Prelude.{◌≡◌, ◌⊎◌, ℕ, ◌+◌, length, Bool, true, false}
 use Rattle.pm_epochs.specs.Log.{StoresTo}
 use Rattle.pm_epochs.specs.May.{AnyAt, StoresMay}
 use Rattle.bp_layout.specs.Same.{Same}
 use Rattle.pm_region.specs.Memory.{Memory}
-use Rattle.bp_free.specs.Set.{Set, has}
+use Rattle.bp_free.specs.Set.{Set, has, members}
 use Rattle.bp_tree.specs.Performs.{InBlock}
 use Rattle.pm_region.specs.Safe.{AddsMay, AddsCommit}
 
@@ -30,9 +30,12 @@ pub record AddsCopies (start before after : ℕ → Bool) (most : ℕ) (old new 
   pub each : (b : ℕ) → before b ≡ true → after b ≡ false → StoresTo (InBlock b) part.added
   pub fewer : (b : ℕ) → after b ≡ true → before b ≡ true
 
--- the same by the sets themselves
-abbrev pub StoresCopies : (ℕ → Bool) → Set → Set → ℕ → Memory → Memory → Type 0
-StoresCopies start before after most old new = AddsCopies start (has before) (has after) most old new
+-- Blocks are taken for copies, `taken` of them, and at most `most` stores make these.
+pub record MakesCopies (start : ℕ → Bool) (taken most : ℕ) (before after : Set) (old new : Memory) : Type 0 where
+  pub stores : AddsCopies start (has before) (has after) most old new
+  pub count : length (members before) ≡ length (members after) + taken
+  pub size : length after ≡ length before
+  pub base : length new.base ≡ length old.base
 
 -- A quiet preparation and one store alone in its epoch, at this word. The stores before it go to blocks that have been taken since the start, to each of them one at least.
 pub record AddsCopyCommit (start taken : ℕ → Bool) (word most : ℕ) (old new : Memory) : Type 0 where

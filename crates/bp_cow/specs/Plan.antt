@@ -2,7 +2,7 @@
 use Rattle.std.specs.Prelude.{◌≡◌, ℕ, ◌+◌, ◌*◌, ◌-◌, ◌<◌, ◌≤◌, ◌∷◌, length, slice_index, slice_set, Bool}
 use Rattle.pm_region.specs.Memory.{Memory, current_words}
 use Rattle.bp_limits.specs.Limits.{block_words}
-use Rattle.bp_free.specs.Set.{Set, has}
+use Rattle.bp_free.specs.Set.{Set, has, members}
 use Rattle.bp_layout.specs.Words.{Image, word, block_count}
 use Rattle.bp_shapes.specs.Trail.{block_on, place_on, IsPlaced}
 use Rattle.bp_shapes.specs.Forest.{IsExactSet, IsForest, IsTreePointer}
@@ -99,3 +99,10 @@ pub record IsOnWay (plan : Plan) (from i depth : ℕ) : Type 0 where
   pub here : i < ways plan.job
   pub low : from ≤ depth
   pub high : depth ≤ length (plan.job.way i)
+
+-- The next way can be gone from the cover's copy `top` down: those before it are done, and there is a block for each pointer that is turned for it.
+pub record CanGo (plan : Plan) (touched : Touched) (from i top : ℕ) (blocks : Set) (memory : Memory) : Type 0 where
+  pub way : IsOnWay (planned plan touched) from i from
+  pub copy : top ≡ plan.top
+  pub made : MadeIn plan touched from i from memory blocks
+  pub some : way_turns touched from i ≤ length (members blocks)

@@ -1,10 +1,11 @@
 -- The blocks that a commit left are given back.
 use Rattle.std.specs.Prelude.{◌≡◌, ◌≢◌, ◌⊎◌, ℕ, ◌<◌, ◌≤◌, length, Bool, true, false}
-use Rattle.bp_layout.specs.Words.{Image, slot_word}
+use Rattle.bp_free.specs.Set.{Set, has}
+use Rattle.bp_layout.specs.Words.{Image, block_count, slot_word}
 use Rattle.bp_shapes.specs.Trail.{Trail, block_on, LeadsTo}
 use Rattle.bp_shapes.specs.Forest.{IsTreePointer}
 use Rattle.bp_cow.specs.Job.{IsAnew}
-use Rattle.bp_cow.specs.Plan.{Plan, CanMake}
+use Rattle.bp_cow.specs.Plan.{Plan, CanMake, IsOnWay}
 
 -- the free set has grown by the blocks to which some pointers led before
 pub record IsReturned (old : Image) (Pointer anew : Trail → Type 0) (before after : ℕ → Bool) : Type 0 where
@@ -21,3 +22,10 @@ pub record IsLeft (plan : Plan) (from : ℕ) (before : ℕ → Bool) (now : Imag
 
 abbrev pub IsBack : Plan → ℕ → ℕ → ℕ → (ℕ → Bool) → (ℕ → Bool) → Type 0
 IsBack plan from i depth before after = IsReturned plan.old (IsTreePointer plan.old plan.bound) (IsAnew plan.job from i depth) before after
+
+-- the old blocks on a way can be given back from a depth on, behind those that have been
+pub record CanGive (plan : Plan) (from i depth : ℕ) (blocks : Set) (now : Image) : Type 0 where
+  pub left : IsLeft plan from plan.taken now
+  pub way : IsOnWay plan from i depth
+  pub back : IsBack plan from i depth plan.taken (has blocks)
+  pub fits : block_count plan.old ≤ length blocks

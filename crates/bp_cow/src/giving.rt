@@ -6,8 +6,8 @@ ghost use Rattle.bp_shapes.specs.Trail.{block_on};
 ghost use Rattle.bp_layout.specs.Words.{block_count};
 ghost use Rattle.pm_region.specs.Memory.{current_words};
 ghost use Rattle.bp_cow.specs.Job.{ways, front};
-ghost use Rattle.bp_cow.specs.Plan.{Plan, planned, IsOnWay};
-ghost use Rattle.bp_cow.specs.Return.{IsLeft, IsBack};
+ghost use Rattle.bp_cow.specs.Plan.{Plan, planned};
+ghost use Rattle.bp_cow.specs.Return.{IsLeft, IsBack, CanGive};
 ghost use Rattle.bp_cow.specs.Touched.{IsTouched, job_of};
 
 use crate::copies::give;
@@ -29,12 +29,9 @@ fn give_step<R: Region>(
 ) -> u32
     ghost plan: { Plan }
     requires touched { IsTouched touched.now }
-    requires left { IsLeft (planned plan touched.now) from plan.taken (current_words (R.memory region.now)) }
-    requires way { IsOnWay (planned plan touched.now) from i depth }
+    requires can { CanGive (planned plan touched.now) from i depth blocks.old (current_words (R.memory region.now)) }
     requires more { depth < length ((job_of touched.now).way i) }
-    requires back { IsBack (planned plan touched.now) from i depth plan.taken (has blocks.old) }
     requires block { block ≡ block_on plan.old (front (job_of touched.now) i depth) }
-    requires fits { block_count plan.old ≤ length blocks.old }
     ensures back { IsBack (planned plan touched.now) from i (depth + 1) plan.taken (has blocks.new) }
     ensures block { result ≡ block_on plan.old (front (job_of touched.now) i (depth + 1)) }
     ensures size { length blocks.new ≡ length blocks.old }
@@ -59,11 +56,8 @@ fn give_way<R: Region>(
 )
     ghost plan: { Plan }
     requires touched { IsTouched touched.now }
-    requires left { IsLeft (planned plan touched.now) from plan.taken (current_words (R.memory region.now)) }
-    requires way { IsOnWay (planned plan touched.now) from i from }
-    requires back { IsBack (planned plan touched.now) from i from plan.taken (has blocks.old) }
+    requires can { CanGive (planned plan touched.now) from i from blocks.old (current_words (R.memory region.now)) }
     requires top { top ≡ block_on plan.old (front (job_of touched.now) 0 from) }
-    requires fits { block_count plan.old ≤ length blocks.old }
     ensures back { IsBack (planned plan touched.now) from (i + 1) from plan.taken (has blocks.new) }
     ensures size { length blocks.new ≡ length blocks.old }
 {

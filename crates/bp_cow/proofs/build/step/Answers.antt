@@ -1,4 +1,4 @@
-use Rattle.std.proofs.Common.{◌≡◌, ◌⊎◌, ◌+◌, ◌*◌, ◌/◌, ◌∙◌, ap, subst, arith}
+use Rattle.std.proofs.Common.{◌≡◌, ◌⊎◌, ◌+◌, ◌*◌, ◌/◌, refl, ◌∙◌, ap, subst, arith}
 use Rattle.std.specs.List.{slice_index}
 use Rattle.bp_free.specs.Set.{has}
 use Rattle.pm_region.specs.Memory.{current_words}
@@ -83,15 +83,16 @@ pub returns-then-is_new-clause-block : goal.returns-then-is_new-clause-block
 returns-then-is_new-clause-block g c =
     copy_reached (planned g.plan c.args.touched.now) c.args.from c.args.i c.args.depth (current_words (g.R.Region.memory c.args.region.now)) (has c.args.blocks.now) c.requires.1.1.0.can c.requires.1.1.0.here c.requires.1.1.0.low c.requires.1.1.0.high c.requires.1.1.1.1.0 c.args.block c.requires.1.1.1.1.1.0 c.requires.1.1.1.0 (current_words (g.R.Region.memory c.turn.new.region)) c.turn.result (has c.turn.new.blocks) (c.is_new.ensures.first c.if-is_new.true) (subst (λ s. TurnsTo (patch_at (job_of c.args.touched.now) c.args.i (c.args.depth + 1)) (current_words (g.R.Region.memory c.args.region.now)) (current_words (g.R.Region.memory c.turn.new.region)) (512 * c.args.block + s) c.turn.result) c.slot.ensures c.turn.ensures.words) c.turn.ensures.taken
 
-pub returns-then-is_new-clause-stores : goal.returns-then-is_new-clause-stores
-returns-then-is_new-clause-stores g c =
-    copies_as g.plan.free (has c.args.blocks.now) (has c.turn.new.blocks) 513 (513 * turns_at (job_of c.args.touched.now) c.args.from c.args.i (c.args.depth + 1)) (g.R.Region.memory c.args.region.now) (g.R.Region.memory c.turn.new.region) (omega (arith, turns_one (job_of c.args.touched.now) c.args.from c.args.i (c.args.depth + 1) (c.is_new.ensures.first c.if-is_new.true)))
-    (copies_into g.plan.free (has c.args.blocks.now) (has c.turn.new.blocks) (λ word. (word / 512 ≡ c.turn.result) ⊎ (word ≡ 512 * c.args.block + c.slot.result)) c.turn.result 513 (g.R.Region.memory c.args.region.now) (g.R.Region.memory c.turn.new.region)
-    (λ place either. stored_taken (planned g.plan c.args.touched.now) c.args.from c.args.i c.args.depth (current_words (g.R.Region.memory c.args.region.now)) (has c.args.blocks.now) c.requires.1.1.0.can c.requires.1.1.0.here c.requires.1.1.0.low c.requires.1.1.0.high c.requires.1.1.1.1.0 c.args.block c.requires.1.1.1.1.1.0 c.requires.1.1.1.0 (current_words (g.R.Region.memory c.turn.new.region)) c.turn.result (has c.turn.new.blocks) (c.is_new.ensures.first c.if-is_new.true) (subst (λ s. TurnsTo (patch_at (job_of c.args.touched.now) c.args.i (c.args.depth + 1)) (current_words (g.R.Region.memory c.args.region.now)) (current_words (g.R.Region.memory c.turn.new.region)) (512 * c.args.block + s) c.turn.result) c.slot.ensures c.turn.ensures.words) c.turn.ensures.taken place (subst (λ s. (place / 512 ≡ c.turn.result) ⊎ (place ≡ 512 * c.args.block + s)) c.slot.ensures either)) c.turn.ensures.taken c.turn.ensures.stores)
-
-pub returns-then-is_new-clause-count : goal.returns-then-is_new-clause-count
-returns-then-is_new-clause-count g c =
-    omega (arith, c.turn.ensures.count, turns_one (job_of c.args.touched.now) c.args.from c.args.i (c.args.depth + 1) (c.is_new.ensures.first c.if-is_new.true))
+pub returns-then-is_new-clause-makes : goal.returns-then-is_new-clause-makes
+returns-then-is_new-clause-makes g c = record {
+  stores =
+      copies_as g.plan.free (has c.args.blocks.now) (has c.turn.new.blocks) 513 (513 * turns_at (job_of c.args.touched.now) c.args.from c.args.i (c.args.depth + 1)) (g.R.Region.memory c.args.region.now) (g.R.Region.memory c.turn.new.region) (omega (arith, turns_one (job_of c.args.touched.now) c.args.from c.args.i (c.args.depth + 1) (c.is_new.ensures.first c.if-is_new.true)))
+      (copies_into g.plan.free (has c.args.blocks.now) (has c.turn.new.blocks) (λ word. (word / 512 ≡ c.turn.result) ⊎ (word ≡ 512 * c.args.block + c.slot.result)) c.turn.result 513 (g.R.Region.memory c.args.region.now) (g.R.Region.memory c.turn.new.region)
+      (λ place either. stored_taken (planned g.plan c.args.touched.now) c.args.from c.args.i c.args.depth (current_words (g.R.Region.memory c.args.region.now)) (has c.args.blocks.now) c.requires.1.1.0.can c.requires.1.1.0.here c.requires.1.1.0.low c.requires.1.1.0.high c.requires.1.1.1.1.0 c.args.block c.requires.1.1.1.1.1.0 c.requires.1.1.1.0 (current_words (g.R.Region.memory c.turn.new.region)) c.turn.result (has c.turn.new.blocks) (c.is_new.ensures.first c.if-is_new.true) (subst (λ s. TurnsTo (patch_at (job_of c.args.touched.now) c.args.i (c.args.depth + 1)) (current_words (g.R.Region.memory c.args.region.now)) (current_words (g.R.Region.memory c.turn.new.region)) (512 * c.args.block + s) c.turn.result) c.slot.ensures c.turn.ensures.words) c.turn.ensures.taken place (subst (λ s. (place / 512 ≡ c.turn.result) ⊎ (place ≡ 512 * c.args.block + s)) c.slot.ensures either)) c.turn.ensures.taken c.turn.ensures.stores);
+  count = omega (arith, c.turn.ensures.count, turns_one (job_of c.args.touched.now) c.args.from c.args.i (c.args.depth + 1) (c.is_new.ensures.first c.if-is_new.true));
+  size = c.turn.ensures.size;
+  base = c.turn.ensures.base;
+}
 
 pub returns-else-is_new-clause-made : goal.returns-else-is_new-clause-made
 returns-else-is_new-clause-made g c =
@@ -101,11 +102,12 @@ pub returns-else-is_new-clause-block : goal.returns-else-is_new-clause-block
 returns-else-is_new-clause-block g c =
     ap (λ w. w / 4096) c.load.ensures ∙ ap (λ s. word (current_words (g.R.Region.memory c.args.region.now)) (512 * c.args.block + s) / 4096) c.slot.ensures ∙ loaded (planned g.plan c.args.touched.now) c.args.from c.args.i c.args.depth (current_words (g.R.Region.memory c.args.region.now)) (has c.args.blocks.now) c.requires.1.1.0.can c.requires.1.1.0.here c.requires.1.1.0.low c.requires.1.1.0.high c.requires.1.1.1.1.0 c.args.block c.requires.1.1.1.1.1.0 c.requires.1.1.1.0
 
-pub returns-else-is_new-clause-stores : goal.returns-else-is_new-clause-stores
-returns-else-is_new-clause-stores g c =
-    copies_as g.plan.free (has c.args.blocks.now) (has c.args.blocks.now) 0 (513 * turns_at (job_of c.args.touched.now) c.args.from c.args.i (c.args.depth + 1)) (g.R.Region.memory c.args.region.now) (g.R.Region.memory c.args.region.now) (omega (arith, turns_none (job_of c.args.touched.now) c.args.from c.args.i (c.args.depth + 1) (c.is_new.ensures.begun c.if-is_new.false)))
-    (copies_none g.plan.free (has c.args.blocks.now) (g.R.Region.memory c.args.region.now))
-
-pub returns-else-is_new-clause-count : goal.returns-else-is_new-clause-count
-returns-else-is_new-clause-count g c =
-    omega (arith, turns_none (job_of c.args.touched.now) c.args.from c.args.i (c.args.depth + 1) (c.is_new.ensures.begun c.if-is_new.false))
+pub returns-else-is_new-clause-makes : goal.returns-else-is_new-clause-makes
+returns-else-is_new-clause-makes g c = record {
+  stores =
+      copies_as g.plan.free (has c.args.blocks.now) (has c.args.blocks.now) 0 (513 * turns_at (job_of c.args.touched.now) c.args.from c.args.i (c.args.depth + 1)) (g.R.Region.memory c.args.region.now) (g.R.Region.memory c.args.region.now) (omega (arith, turns_none (job_of c.args.touched.now) c.args.from c.args.i (c.args.depth + 1) (c.is_new.ensures.begun c.if-is_new.false)))
+      (copies_none g.plan.free (has c.args.blocks.now) (g.R.Region.memory c.args.region.now));
+  count = omega (arith, turns_none (job_of c.args.touched.now) c.args.from c.args.i (c.args.depth + 1) (c.is_new.ensures.begun c.if-is_new.false));
+  size = refl;
+  base = refl;
+}

@@ -1,27 +1,27 @@
-use Rattle.std.proofs.Common.{◌≡◌, ℕ, ◌+◌, ◌*◌, ◌≤◌, length, get_or, nat_eq, refl, ap, subst, arith}
+use Rattle.std.proofs.Common.{◌≡◌, ℕ, ◌+◌, ◌*◌, ◌≤◌, length, get_or, slice_range, nat_eq, refl, ap, subst, arith}
 use Rattle.pm_region.specs.Memory.{current_words}
 use Rattle.pm_region.proofs.MemoryLaws.{length-current_words}
+use Rattle.bp_tree.proofs.LoadedWords.{length-loaded, loaded_word}
 use Rattle.bp_cow.specs.Copies.{HoldsFront}
-use Rattle.bp_cow.proofs.CopyLaws.{part_of, length-part, front_none, front_more, front_room, front_long, front_base, stored_into, stored_words, stored_equal}
-use Rattle.bp_cow.proofs.SlotLaws.{part_at}
+use Rattle.bp_cow.proofs.CopyLaws.{front_none, front_more, front_room, front_long, stored_words, filled}
 use Rattle.bp_cow.proofs.copies.store_pieces.Goals as goal
 
 pub loop-piece-init : goal.loop-piece-init
 loop-piece-init g c = record { front = front_none c.args.to (λ slot. get_or c.args.words.now slot 0) (g.R.Region.memory c.args.region.now) }
 
 pub overflow_mul-to : goal.overflow_mul-to
-overflow_mul-to g c = omega (arith, c.requires.to, length-current_words (g.R.Region.memory c.args.region.now), c.words-words.ensures, c.words-words.type_inv)
+overflow_mul-to g c = omega (arith, c.requires.inside, length-current_words (g.R.Region.memory c.args.region.now), c.words-words.ensures, c.words-words.type_inv)
 
 pub overflow_add-to : goal.overflow_add-to
-overflow_add-to g c = omega (arith, c.requires.to, length-current_words (g.R.Region.memory c.args.region.now), c.words-words.ensures, c.words-words.type_inv, c.loop-piece-test.true)
+overflow_add-to g c = omega (arith, c.requires.inside, length-current_words (g.R.Region.memory c.args.region.now), c.words-words.ensures, c.words-words.type_inv, c.loop-piece-test.true)
 
 pub set_words-requires-clause-in_range : goal.set_words-requires-clause-in_range
 set_words-requires-clause-in_range g c =
     omega (
       arith,
-      c.requires.to,
+      c.requires.inside,
       c.loop-piece-test.true,
-      length-part (8 * c.loop-piece.piece) 8 c.args.words.now (omega (arith, c.loop-piece-test.true)),
+      length-loaded c.args.words.now _ (8 * c.loop-piece.piece) 8 refl (omega (arith, c.loop-piece-test.true)),
       front_long c.args.to _ (8 * c.loop-piece.piece) (g.R.Region.memory c.args.region.now) (g.R.Region.memory c.loop-piece.region) c.loop-piece.invariant.front,
     )
 
@@ -31,12 +31,12 @@ set_words-requires-clause-room g c =
       arith,
       c.requires.room,
       c.loop-piece-test.true,
-      length-part (8 * c.loop-piece.piece) 8 c.args.words.now (omega (arith, c.loop-piece-test.true)),
+      length-loaded c.args.words.now _ (8 * c.loop-piece.piece) 8 refl (omega (arith, c.loop-piece-test.true)),
       front_room c.args.to _ (8 * c.loop-piece.piece) (g.R.Region.memory c.args.region.now) (g.R.Region.memory c.loop-piece.region) c.loop-piece.invariant.front,
     )
 
 pub set_words-requires-clause-few : goal.set_words-requires-clause-few
-set_words-requires-clause-few g c = omega (arith, length-part (8 * c.loop-piece.piece) 8 c.args.words.now (omega (arith, c.loop-piece-test.true)))
+set_words-requires-clause-few g c = omega (arith, length-loaded c.args.words.now _ (8 * c.loop-piece.piece) 8 refl (omega (arith, c.loop-piece-test.true)))
 
 pub loop-piece-preserved : goal.loop-piece-preserved
 loop-piece-preserved g c =
@@ -48,21 +48,21 @@ loop-piece-preserved g c =
     let count : ℕ = 8 * c.loop-piece.piece in
     let next : count + 8 ≡ 8 * (c.loop-piece.piece + 1) = omega arith in
     let start : count ≡ 0 → c.loop-piece.piece ≡ 0 = λ none. omega (arith, none) in
-    let inside : 512 * c.args.to + 512 ≤ length (current_words middle) = omega (arith, c.requires.to, front_long c.args.to value count old middle front) in
+    let inside : 512 * c.args.to + 512 ≤ length (current_words middle) = omega (arith, c.requires.inside, front_long c.args.to value count old middle front) in
     record {
       front = subst (λ n. HoldsFront c.args.to value n old new) next
           (front_more c.args.to count 8 value old middle front (omega (arith, c.loop-piece-test.true)) (omega arith) inside
-          (part_of count 8 c.args.words.now) (length-part count 8 c.args.words.now (omega (arith, c.loop-piece-test.true)))
-          (λ i few. part_at c.args.words.now (part_of count 8 c.args.words.now) count 8 i few refl)
+          (slice_range c.args.words.now count (count + 8)) (length-loaded c.args.words.now _ count 8 refl (omega (arith, c.loop-piece-test.true)))
+          (λ i few. loaded_word c.args.words.now _ count 8 refl i few)
           (nat_eq c.loop-piece.piece 0) new (λ none. ap (λ p. nat_eq p 0) (start none)) c.set_words.ensures);
     }
 
-pub returns-clause-stores : goal.returns-clause-stores
-returns-clause-stores g c =
+pub returns-clause-fills : goal.returns-clause-fills
+returns-clause-fills g c =
     let old = g.R.Region.memory c.args.region.now in
     let new = g.R.Region.memory c.loop-piece.region in
     let end : 8 * c.loop-piece.piece ≡ 512 = omega (arith, c.loop-piece-test.false, c.loop-piece.auto.piece-end) in
-    stored_into c.args.to _ old new (subst (λ n. HoldsFront c.args.to (λ slot. get_or c.args.words.now slot 0) n old new) end c.loop-piece.invariant.front)
+    filled c.args.to _ old new (subst (λ n. HoldsFront c.args.to (λ slot. get_or c.args.words.now slot 0) n old new) end c.loop-piece.invariant.front)
 
 pub returns-clause-words : goal.returns-clause-words
 returns-clause-words g c slot low =
@@ -70,13 +70,3 @@ returns-clause-words g c slot low =
     let new = g.R.Region.memory c.loop-piece.region in
     let end : 8 * c.loop-piece.piece ≡ 512 = omega (arith, c.loop-piece-test.false, c.loop-piece.auto.piece-end) in
     stored_words c.args.to _ old new (subst (λ n. HoldsFront c.args.to (λ slot. get_or c.args.words.now slot 0) n old new) end c.loop-piece.invariant.front) c.requires.not_null slot low
-
-pub returns-clause-equal : goal.returns-clause-equal
-returns-clause-equal g c =
-    let old = g.R.Region.memory c.args.region.now in
-    let new = g.R.Region.memory c.loop-piece.region in
-    let end : 8 * c.loop-piece.piece ≡ 512 = omega (arith, c.loop-piece-test.false, c.loop-piece.auto.piece-end) in
-    stored_equal c.args.to _ old new (subst (λ n. HoldsFront c.args.to (λ slot. get_or c.args.words.now slot 0) n old new) end c.loop-piece.invariant.front)
-
-pub returns-clause-base : goal.returns-clause-base
-returns-clause-base g c = front_base c.args.to _ _ (g.R.Region.memory c.args.region.now) (g.R.Region.memory c.loop-piece.region) c.loop-piece.invariant.front

@@ -2,39 +2,27 @@ use Rattle.std.proofs.Common.{◌≡◌, ℕ, ◌+◌, ◌*◌, ◌≤◌, List,
 use Rattle.pm_region.specs.Memory.{Memory, Adds, current_words, stores_from}
 use Rattle.pm_region.proofs.MemoryLaws.{length-current_words}
 use Rattle.bp_cow.specs.Copies.{HoldsFront}
-use Rattle.bp_cow.proofs.CopyLaws.{front_whole, front_base, stored_into, stored_words, stored_equal}
+use Rattle.bp_cow.proofs.CopyLaws.{front_whole, stored_words, filled}
 use Rattle.bp_cow.proofs.copies.store_whole.Goals as goal
 
 pub overflow_mul-to : goal.overflow_mul-to
-overflow_mul-to g c = omega (arith, c.requires.to, length-current_words (g.R.Region.memory c.args.region.now), c.words-words.ensures, c.words-words.type_inv)
+overflow_mul-to g c = omega (arith, c.requires.inside, length-current_words (g.R.Region.memory c.args.region.now), c.words-words.ensures, c.words-words.type_inv)
 
 pub store_words-requires-clause-in_range : goal.store_words-requires-clause-in_range
-store_words-requires-clause-in_range g c = omega (arith, c.requires.to, length-current_words (g.R.Region.memory c.args.region.now))
+store_words-requires-clause-in_range g c = omega (arith, c.requires.inside, length-current_words (g.R.Region.memory c.args.region.now))
 
 stored : (block : ℕ) (words : List ℕ) (old new : Memory) → length words ≡ 512 → 512 * block + 512 ≤ length (current_words old) → Adds old new (stores_from (512 * block) words) →
     HoldsFront block (λ slot. get_or words slot 0) 512 old new
 stored block words old new long inside adds = front_whole block (λ slot. get_or words slot 0) old new words long inside (λ i few. refl) adds
 
-pub returns-clause-stores : goal.returns-clause-stores
-returns-clause-stores g c =
+pub returns-clause-fills : goal.returns-clause-fills
+returns-clause-fills g c =
     let old = g.R.Region.memory c.args.region.now in
     let new = g.R.Region.memory c.store_words.new.self in
-    stored_into c.args.to _ old new (stored c.args.to c.args.words.now old new (omega arith) (omega (arith, c.requires.to)) c.store_words.ensures)
+    filled c.args.to _ old new (stored c.args.to c.args.words.now old new (omega arith) (omega (arith, c.requires.inside)) c.store_words.ensures)
 
 pub returns-clause-words : goal.returns-clause-words
 returns-clause-words g c slot low =
     let old = g.R.Region.memory c.args.region.now in
     let new = g.R.Region.memory c.store_words.new.self in
-    stored_words c.args.to _ old new (stored c.args.to c.args.words.now old new (omega arith) (omega (arith, c.requires.to)) c.store_words.ensures) c.requires.not_null slot low
-
-pub returns-clause-equal : goal.returns-clause-equal
-returns-clause-equal g c =
-    let old = g.R.Region.memory c.args.region.now in
-    let new = g.R.Region.memory c.store_words.new.self in
-    stored_equal c.args.to _ old new (stored c.args.to c.args.words.now old new (omega arith) (omega (arith, c.requires.to)) c.store_words.ensures)
-
-pub returns-clause-base : goal.returns-clause-base
-returns-clause-base g c =
-    let old = g.R.Region.memory c.args.region.now in
-    let new = g.R.Region.memory c.store_words.new.self in
-    front_base c.args.to _ _ old new (stored c.args.to c.args.words.now old new (omega arith) (omega (arith, c.requires.to)) c.store_words.ensures)
+    stored_words c.args.to _ old new (stored c.args.to c.args.words.now old new (omega arith) (omega (arith, c.requires.inside)) c.store_words.ensures) c.requires.not_null slot low

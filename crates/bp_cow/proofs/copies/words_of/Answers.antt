@@ -1,8 +1,7 @@
-use Rattle.std.proofs.Common.{◌*◌, length, ◌∙◌, ap, arith}
+use Rattle.std.proofs.Common.{◌*◌, arith}
 use Rattle.pm_region.specs.Memory.{current_words}
+use Rattle.bp_tree.proofs.LoadedWords.{length-loaded, loaded_word}
 use Rattle.bp_tree.proofs.RegionWords.{length_now}
-use Rattle.bp_cow.proofs.CopyLaws.{length-part}
-use Rattle.bp_cow.proofs.SlotLaws.{part_at}
 use Rattle.bp_cow.proofs.copies.words_of.Goals as goal
 
 pub overflow_mul-block : goal.overflow_mul-block
@@ -13,7 +12,7 @@ load_words-requires g c = omega (arith, c.requires, length_now (g.R.Region.memor
 
 pub returns-clause-size : goal.returns-clause-size
 returns-clause-size g c =
-    ap length c.load_words.ensures ∙ length-part (512 * c.args.block) 512 (current_words (g.R.Region.memory c.args.region.now)) (omega (arith, c.requires))
+    length-loaded (current_words (g.R.Region.memory c.args.region.now)) c.load_words.result.now (512 * c.args.block) 512 c.load_words.ensures (omega (arith, c.requires))
 
 pub returns-clause-words : goal.returns-clause-words
-returns-clause-words g c slot low = part_at (current_words (g.R.Region.memory c.args.region.now)) c.load_words.result.now (512 * c.args.block) 512 slot low c.load_words.ensures
+returns-clause-words g c slot low = loaded_word (current_words (g.R.Region.memory c.args.region.now)) c.load_words.result.now (512 * c.args.block) 512 c.load_words.ensures slot low

@@ -8,7 +8,7 @@ use Rattle.bp_shapes.proofs.ForestLaws.{skeleton}
 use Rattle.bp_cow.specs.Copies.{TakesBlock}
 use Rattle.bp_cow.specs.Job.{ways, front}
 use Rattle.bp_cow.specs.Plan.{planned}
-use Rattle.bp_cow.specs.Return.{IsBack}
+use Rattle.bp_cow.specs.Return.{IsBack, CanGive}
 use Rattle.bp_cow.specs.Touched.{job_of}
 use Rattle.bp_cow.proofs.ReturnLaws.{back_null, back_cover, cover_used}
 use Rattle.bp_cow.proofs.giving.give_back.Goals as goal
@@ -44,7 +44,13 @@ loop-i-init g c =
 pub give_way-requires : goal.give_way-requires
 give_way-requires g c κs within =
     let here : c.loop-i.i < ways (job_of c.args.touched.now) = subst (λ n. c.loop-i.i < n) c.ways-ways.ensures c.loop-i-test.true in
-    (within, (c.requires.1.0, (c.requires.1.1.0, (record { can = c.requires.1.1.0.can; here = here; low = omega arith; high = c.requires.1.1.0.can.below c.loop-i.i here }, (c.loop-i.invariant.back, (c.requires.1.1.1.1.0, omega (arith, c.requires.1.1.1.1.1, c.loop-i.invariant.size)))))))
+    let can : CanGive (planned g.plan c.args.touched.now) c.args.from c.loop-i.i c.args.from c.loop-i.blocks (current_words (g.R.Region.memory c.args.region.now)) = record {
+      left = c.requires.1.1.0;
+      way = record { can = c.requires.1.1.0.can; here = here; low = omega arith; high = c.requires.1.1.0.can.below c.loop-i.i here };
+      back = c.loop-i.invariant.back;
+      fits = omega (arith, c.requires.1.1.1.1.1, c.loop-i.invariant.size);
+    } in
+    (within, (c.requires.1.0, (can, c.requires.1.1.1.1.0)))
 
 pub loop-i-preserved : goal.loop-i-preserved
 loop-i-preserved g c =

@@ -1,7 +1,8 @@
 use Rattle.std.proofs.Common.{◌≡◌, ℕ, ◌+◌, ◌-◌, ◌*◌, get_or, ◌∙◌, ap, arith}
 use Rattle.std.proofs.lemmas.List.{length-set}
+use Rattle.bp_tree.proofs.LoadedWords.{loaded_word}
 use Rattle.bp_cow.proofs.RunLaws.{run_word-inside}
-use Rattle.bp_cow.proofs.SlotLaws.{lays_none, lays_one_more, lays_empty, part_at}
+use Rattle.bp_cow.proofs.SlotLaws.{lays_none, lays_one_more, lays_empty}
 use Rattle.bp_cow.proofs.lay.set_slots.Goals as goal
 
 pub returns-then-to-from : goal.returns-then-to-from
@@ -23,5 +24,5 @@ loop-slot-preserved c =
       begun = omega (arith, before.begun);
       laid = lays_one_more c.args.run.now c.args.first c.args.from at c.read_word.result c.args.words.now c.loop-slot.words (omega (arith, before.size, c.loop-slot-test.true, c.requires.to)) before.begun
           (c.read_word.ensures ∙ run_word-inside c.args.run.now (c.args.first + at) (get_or c.args.words.now at 0) c.copy_from_slice.new.self
-          (omega (arith, begun, before.begun)) (omega (arith, behind, c.loop-slot-test.true)) (omega arith) (λ i few. part_at c.args.run.now.bytes.now c.copy_from_slice.new.self place 8 i few c.copy_from_slice.ensures.after ∙ ap (λ p. get_or c.args.run.now.bytes.now (p + i) 0) there)) before.laid;
+          (omega (arith, begun, before.begun)) (omega (arith, behind, c.loop-slot-test.true)) (omega arith) (λ i few. loaded_word c.args.run.now.bytes.now c.copy_from_slice.new.self place 8 c.copy_from_slice.ensures.after i few ∙ ap (λ p. get_or c.args.run.now.bytes.now (p + i) 0) there)) before.laid;
     }

@@ -10,8 +10,9 @@ use Rattle.bp_layout.specs.Checks.{Fails}
 use Rattle.bp_layout.specs.declared.check.Check.{Check}
 use Rattle.bp_walk.proofs.TakenLaws.{known, length_without, has_without}
 use Rattle.bp_scan.specs.Misspelled.{FailsNames}
-use Rattle.bp_scan.specs.Reading.{HasWholeInodes, IsReading, IsAtHand, IsInside, work}
+use Rattle.bp_scan.specs.Reading.{HasWholeInodes, IsReading, IsAtHand, IsInside, steps}
 use Rattle.bp_scan.specs.declared.directories.Directory.{Directory}
+use Rattle.bp_scan.specs.declared.work.Work.{Work}
 use Rattle.bp_scan.proofs.ProgressLaws.{begin, finish}
 use Rattle.bp_scan.proofs.Inside.{here_sound, here_full, here_few, names_fail}
 use Rattle.bp_scan.proofs.EntryLaws.{along}
@@ -20,47 +21,58 @@ pub not_file : (image : Image) (i : ℕ) → kind_of image i ≡ 2 → 1 ≤ i
 not_file image zero kind = absurd (omega (arith, kind))
 not_file image (suc i) kind = omega arith
 
+-- the work with other directories to do
+abbrev pub to_do : Work → Set → Work
+to_do work todo = record { blocks = work.blocks; inodes = work.inodes; todo = todo; entries = work.entries }
+
 -- a directory that was to do is at hand
-pub taken_up : (image : Image) (blocks inodes todo : Set) (current : ℕ) → current < length todo → has todo current ≡ true → IsReading image blocks inodes todo 0 0 → IsAtHand image blocks inodes (without todo current) current 0
-taken_up image blocks inodes todo current low there reading = record {
+taken_up : (image : Image) (work : Work) (current : ℕ) → current < length work.todo → has work.todo current ≡ true → IsReading image work 0 0 → IsAtHand image (to_do work (without work.todo current)) current 0
+taken_up image work current low there reading = record {
   reading = record {
+    room = record { blocks = reading.room.blocks; inodes = reading.room.inodes; todo = length_without work.todo current ∙ reading.room.todo; entries = reading.room.entries };
     range = reading.range;
-    room = reading.room;
-    todo_room = length_without todo current ∙ reading.todo_room;
     root_kind = reading.root_kind;
-    midway = record { all = reading.midway.all; whole = reading.midway.whole; under_way = begin image reading.midway.all blocks inodes todo current low there reading.midway.under_way };
+    midway = record {
+      all = reading.midway.all;
+      whole = reading.midway.whole;
+      under_way = begin image reading.midway.all work.blocks work.inodes work.todo current low there reading.midway.under_way;
+    };
   };
   entered = (reading.midway.under_way.todo_entered current there).0;
   kind = (reading.midway.under_way.todo_entered current there).1;
-  out = has_without todo current low;
+  out = has_without work.todo current low;
 }
 
-module _ (image : Image) (ready : HasWholeInodes image) (blocks inodes todo : Set) (directory : Directory) (at : IsAtHand image blocks inodes todo directory.inode 0)
+pub taken_least : (image : Image) (work : Work) (later : Set) (i : ℕ) → IsReading image work 0 0 → IsLeast work.todo i → later ≡ without work.todo i → IsAtHand image (to_do work later) i 0
+taken_least image work later i reading least later_is = subst (λ (s : Set). IsAtHand image (to_do work s) i 0) (sym later_is) (taken_up image work i least.low least.is_in reading)
+
+module _ (image : Image) (ready : HasWholeInodes image) (work : Work) (directory : Directory) (at : IsAtHand image work directory.inode 0)
     (root : directory.tree.root ≡ root_of image directory.inode) (size : directory.tree.size ≡ size_of image directory.inode) where
   pub begun_sound : IsSound image directory.tree.root directory.tree.size
-  begun_sound = along (IsSound image) _ _ _ _ (sym root) (sym size) (here_sound image ready blocks inodes todo directory.inode 0 at.reading at.entered at.kind)
+  begun_sound = along (IsSound image) _ _ _ _ (sym root) (sym size) (here_sound image ready work directory.inode 0 at.reading at.entered at.kind)
 
   pub begun_full : IsFull image directory.tree.root directory.tree.size
-  begun_full = along (IsFull image) _ _ _ _ (sym root) (sym size) (here_full image ready blocks inodes todo directory.inode 0 at.reading at.entered at.kind)
+  begun_full = along (IsFull image) _ _ _ _ (sym root) (sym size) (here_full image ready work directory.inode 0 at.reading at.entered at.kind)
 
   pub begun_few : directory.tree.size / 256 ≤ 16 * block_count image
-  begun_few = subst (λ (x : ℕ). x / 256 ≤ 16 * block_count image) (sym size) (here_few image ready blocks inodes todo directory.inode 0 at.reading at.entered at.kind)
+  begun_few = subst (λ (x : ℕ). x / 256 ≤ 16 * block_count image) (sym size) (here_few image ready work directory.inode 0 at.reading at.entered at.kind)
 
   pub begun_names_fail : (c : Check) (p : ℕ) → FailsNames image directory.tree.root directory.tree.size c p → Fails image c p
   begun_names_fail c p fails =
-      names_fail image ready blocks inodes todo directory.inode 0 at.reading at.entered at.kind c p (along (λ x y. FailsNames image x y c p) _ _ _ _ root size fails)
+      names_fail image ready work directory.inode 0 at.reading at.entered at.kind c p (along (λ x y. FailsNames image x y c p) _ _ _ _ root size fails)
 
 -- its last slot is past
-pub finished : (image : Image) (blocks inodes todo : Set) (directory : Directory) → IsInside image blocks inodes todo directory (directory.tree.size / 256) → IsReading image blocks inodes todo 0 0
-finished image blocks inodes todo directory inside = record {
-  range = inside.at.reading.range;
+pub finished : (image : Image) (work : Work) (directory : Directory) → IsInside image work directory (directory.tree.size / 256) → IsReading image work 0 0
+finished image work directory inside = record {
   room = inside.at.reading.room;
-  todo_room = inside.at.reading.todo_room;
+  range = inside.at.reading.range;
   root_kind = inside.at.reading.root_kind;
   midway = record {
     all = inside.at.reading.midway.all;
     whole = inside.at.reading.midway.whole;
-    under_way = finish image inside.at.reading.midway.all blocks inodes todo directory.inode (directory.tree.size / 256) (ap (λ (x : ℕ). x / 256) (sym inside.size)) inside.at.entered inside.at.kind inside.at.out inside.at.reading.midway.under_way;
+    under_way =
+        finish image inside.at.reading.midway.all work.blocks work.inodes work.todo directory.inode (directory.tree.size / 256) (ap (λ (x : ℕ). x / 256) (sym inside.size)) inside.at.entered inside.at.kind inside.at.out
+        inside.at.reading.midway.under_way;
   };
 }
 
@@ -77,12 +89,8 @@ none_of set none i = go (cases_lt i (length set)) (known (has set i))
         absurd (omega (arith, less, zero_long))
 
 -- a directory less
-pub work_falls : (inodes todo later more left : Set) (i : ℕ) → IsLeast todo i → later ≡ without todo i → work more left ≤ work inodes later → work more left < work inodes todo
-work_falls inodes todo later more left i least later_is less =
-    let one : length (members (without todo i)) + 1 ≡ length (members todo) = count_without todo i least.low least.is_in in
-    let same : length (members later) ≡ length (members (without todo i)) = ap (λ (s : Set). length (members s)) later_is in
+pub steps_fall : (work : Work) (later : Set) (after : Work) (i : ℕ) → IsLeast work.todo i → later ≡ without work.todo i → steps after ≤ steps (to_do work later) → steps after < steps work
+steps_fall work later after i least later_is less =
+    let one : length (members (without work.todo i)) + 1 ≡ length (members work.todo) = count_without work.todo i least.low least.is_in in
+    let same : length (members later) ≡ length (members (without work.todo i)) = ap (λ (s : Set). length (members s)) later_is in
     omega (arith, one, same, less)
-
-pub taken_least : (image : Image) (blocks inodes todo later : Set) (i : ℕ) → IsReading image blocks inodes todo 0 0 → IsLeast todo i → later ≡ without todo i → IsAtHand image blocks inodes later i 0
-taken_least image blocks inodes todo later i reading least later_is =
-    subst (λ (s : Set). IsAtHand image blocks inodes s i 0) (sym later_is) (taken_up image blocks inodes todo i least.low least.is_in reading)

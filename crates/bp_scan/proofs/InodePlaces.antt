@@ -1,15 +1,15 @@
--- Where the words of an inode stand, and what an inode that is entered must be.
-use Rattle.std.proofs.Common.{◌≡◌, ◌≢◌, ℕ, zero, suc, ◌+◌, ◌*◌, ◌/◌, ◌%◌, ◌<◌, ◌≤◌, Bool, false, length, refl, sym, ◌∙◌, ap, subst, arith}
+-- Where the words of an inode stand.
+use Rattle.std.proofs.Common.{◌≡◌, ℕ, zero, suc, ◌+◌, ◌*◌, ◌/◌, ◌%◌, ◌<◌, ◌≤◌, Bool, false, length, refl, sym, ◌∙◌, ap, subst, arith}
 use Rattle.bp_layout.specs.Words.{Image, word, block_count, height_of}
 use Rattle.bp_layout.specs.Tree.{node}
 use Rattle.bp_layout.specs.Inode.{inode_word, root_of, ContentStandsAt}
 use Rattle.bp_layout.specs.Checks.{inode_place, size_place}
 use Rattle.bp_layout.specs.declared.check.Check.{Check}
 use Rattle.bp_walk.proofs.Places.{word_below}
-use Rattle.bp_scan.specs.Inodes.{AreWords, IsRightInode, IsWrong, EntersInode, FailsInode}
+use Rattle.bp_scan.specs.Inodes.{AreWords, IsWrong, FailsInode}
 use Rattle.bp_scan.specs.Inodes.FailsInode.{words, tree}
-use Rattle.bp_free.specs.Set.{Set, with}
-use Rattle.bp_walk.specs.Walk.{TakesTree, FailsTree}
+use Rattle.bp_free.specs.Set.{Set}
+use Rattle.bp_walk.specs.Walk.{FailsTree}
 use Rattle.bp_scan.specs.declared.trees.InodeWords.{InodeWords}
 
 same_leaf : (i f : ℕ) → f < 8 → (8 * i + f) / 512 ≡ (8 * i + 0) / 512
@@ -65,14 +65,3 @@ module _ (image : Image) (i : ℕ) (at : InodeWords) (are : AreWords image i at)
   pub fails_below : (old : Set) (holes : Bool) (c : Check) (p : ℕ) → (holes ≡ false → at.kind ≡ 2) → FailsTree image (at.place + 1) at.tree.root at.tree.size holes old c p → FailsInode image i old c p
   fails_below old holes c p which fails =
       tree holes (λ closed. are.kind ∙ which closed) (moved (λ x y z. FailsTree image x y z holes old c p) _ _ _ _ _ _ are.root_place are.root are.size fails)
-
-  pub enters : (old new todo later : Set) (holes : Bool) → IsRightInode i at.kind at.tree.size → (at.kind ≡ 2 → holes ≡ false) → TakesTree image (at.place + 1) at.tree.root at.tree.size holes old new →
-      (at.kind ≡ 2 → later ≡ with todo i) → (at.kind ≢ 2 → later ≡ todo) → EntersInode image i old new todo later
-  enters old new todo later holes right which takes directory file = record {
-    right = moved (λ x y z. IsRightInode i x y) _ _ 0 _ _ 0 are.kind are.size refl right;
-    holes = holes;
-    full = λ kind. which (sym are.kind ∙ kind);
-    tree = moved (λ x y z. TakesTree image x y z holes old new) _ _ _ _ _ _ are.root_place are.root are.size takes;
-    directory = λ kind. directory (sym are.kind ∙ kind);
-    file = λ kind. file (λ same. kind (are.kind ∙ same));
-  }

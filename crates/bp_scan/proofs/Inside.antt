@@ -1,6 +1,6 @@
 -- What is known in the middle of a scan, of the inode file and of the directory at hand.
-use Rattle.std.proofs.Common.{◌≡◌, ◌⊎◌, ℕ, zero, suc, ◌*◌, ◌/◌, ◌<◌, ◌≤◌, true, false, length, refl, sym, ◌∙◌, subst, arith, inl, inr}
-use Rattle.bp_free.specs.Set.{Set, has}
+use Rattle.std.proofs.Common.{◌≡◌, ◌⊎◌, ℕ, zero, suc, ◌*◌, ◌/◌, ◌<◌, ◌≤◌, true, false, length, refl, sym, subst, arith, inl, inr}
+use Rattle.bp_free.specs.Set.{has}
 use Rattle.bp_layout.specs.Words.{Image, block_count}
 use Rattle.bp_layout.specs.Tree.{IsSound, IsFull}
 use Rattle.bp_layout.specs.Inode.{kind_of, root_of, size_of, inode_count}
@@ -18,82 +18,83 @@ use Rattle.bp_scan.specs.Progress.{IsEntered, IsDone, NamedBy}
 use Rattle.bp_scan.specs.Inodes.{FailsInode}
 use Rattle.bp_scan.specs.Misspelled.{FailsNames, check_of, fault_place}
 use Rattle.bp_scan.specs.Reading.{HasWholeInodes, IsReading}
+use Rattle.bp_scan.specs.declared.work.Work.{Work}
 use Rattle.bp_scan.proofs.Readable.{is_sound, is_full, entry_seen, inode_found, one_entry, named_before}
 use Rattle.bp_layout.proofs.FewLeaves.{few_inodes, few_entries}
 use Rattle.bp_scan.proofs.InodeFaults.{fails_inode}
 
-module _ (image : Image) (ready : HasWholeInodes image) (blocks inodes todo : Set) (current slot : ℕ) (reading : IsReading image blocks inodes todo current slot) where
+module _ (image : Image) (ready : HasWholeInodes image) (work : Work) (current slot : ℕ) (reading : IsReading image work current slot) where
   abbrev E : ℕ → Type 0
-  E = IsEntered image inodes
+  E = IsEntered image work.inodes
 
   abbrev D : ℕ → ℕ → Type 0
-  D = IsDone image inodes todo current slot
+  D = IsDone image work.inodes work.todo current slot
 
-  scanned : IsScanned image E D reading.midway.all blocks
+  scanned : IsScanned image E D reading.midway.all work.blocks
   scanned = reading.midway.under_way.scanned
 
-  pub first : IsEntered image inodes 0
-  first = (omega (arith, ready.some_inodes), go (known (has inodes 0)))
+  pub first : IsEntered image work.inodes 0
+  first = (omega (arith, ready.some_inodes), go (known (has work.inodes 0)))
     where
-      go : (has inodes 0 ≡ true) ⊎ (has inodes 0 ≡ false) → has inodes 0 ≡ false
+      go : (has work.inodes 0 ≡ true) ⊎ (has work.inodes 0 ≡ false) → has work.inodes 0 ≡ false
       go (inl there) = absurd (omega (arith, (reading.range 0 there).0))
       go (inr gone) = gone
 
   pub inodes_sound : IsSound image (root_of image 0) (size_of image 0)
-  inodes_sound = is_sound image E D reading.midway.all blocks ready.some_inodes first scanned 0 first (inl refl)
+  inodes_sound = is_sound image E D reading.midway.all work.blocks ready.some_inodes first scanned 0 first (inl refl)
 
   pub inodes_full : IsFull image (root_of image 0) (size_of image 0)
-  inodes_full = is_full image E D reading.midway.all blocks ready.some_inodes first scanned 0 first (inl refl)
+  inodes_full = is_full image E D reading.midway.all work.blocks ready.some_inodes first scanned 0 first (inl refl)
 
-  pub inodes_few : inode_count image ≤ length inodes
+  pub inodes_few : inode_count image ≤ length work.inodes
   inodes_few =
       let few : inode_count image ≤ 64 * block_count image = few_inodes image (root_of image 0) (size_of image 0) inodes_sound inodes_full (omega (arith, ready.formatted.at_least)) ready.inode_blocks in
-      omega (arith, few, reading.room)
+      omega (arith, few, reading.room.inodes)
 
   -- an inode in the set is not to do
-  pub new_not_to_do : (j : ℕ) → has inodes j ≡ true → has todo j ≡ false
-  new_not_to_do j new = go (known (has todo j))
+  pub new_not_to_do : (j : ℕ) → has work.inodes j ≡ true → has work.todo j ≡ false
+  new_not_to_do j new = go (known (has work.todo j))
     where
-      go : (has todo j ≡ true) ⊎ (has todo j ≡ false) → has todo j ≡ false
+      go : (has work.todo j ≡ true) ⊎ (has work.todo j ≡ false) → has work.todo j ≡ false
       go (inl there) = absurd (clash new (reading.midway.under_way.todo_entered j there).0.1)
       go (inr gone) = gone
 
-  pub inode_fails : (j : ℕ) (c : Check) (p : ℕ) → 1 ≤ j → IsFound image j → has inodes j ≡ true → FailsInode image j blocks c p → Fails image c p
-  inode_fails j c p some found new fails = fails_inode image E D reading.midway.all blocks reading.midway.whole ready.some_inodes first scanned j some found (λ e. clash new e.1) c p fails
+  pub inode_fails : (j : ℕ) (c : Check) (p : ℕ) → 1 ≤ j → IsFound image j → has work.inodes j ≡ true → FailsInode image j work.blocks c p → Fails image c p
+  inode_fails j c p some found new fails = fails_inode image E D reading.midway.all work.blocks reading.midway.whole ready.some_inodes first scanned j some found (λ e. clash new e.1) c p fails
 
-  module _ (entered : IsEntered image inodes current) (kind : kind_of image current ≡ 2) where
+  module _ (entered : IsEntered image work.inodes current) (kind : kind_of image current ≡ 2) where
     pub here_sound : IsSound image (root_of image current) (size_of image current)
-    here_sound = is_sound image E D reading.midway.all blocks ready.some_inodes first scanned current entered (inr kind)
+    here_sound = is_sound image E D reading.midway.all work.blocks ready.some_inodes first scanned current entered (inr kind)
 
     pub here_full : IsFull image (root_of image current) (size_of image current)
-    here_full = is_full image E D reading.midway.all blocks ready.some_inodes first scanned current entered (inr kind)
+    here_full = is_full image E D reading.midway.all work.blocks ready.some_inodes first scanned current entered (inr kind)
 
     pub here_few : size_of image current / 256 ≤ 16 * block_count image
     here_few = few_entries image (root_of image current) (size_of image current) here_sound here_full (omega (arith, ready.formatted.at_least))
 
     pub here_found : (r j : ℕ) → EntryNames image current r j → j < inode_count image → IsFound image j
-    here_found r j names low = inode_found image E D reading.midway.all blocks ready.some_inodes first scanned current r j entered names low
+    here_found r j names low = inode_found image E D reading.midway.all work.blocks ready.some_inodes first scanned current r j entered names low
 
     here_entry : (r j p : ℕ) → EntryNames image current r j → entry_place image current r 0 ≡ p → IsEntry image current r j p
-    here_entry r j p names at = subst (IsEntry image current r j) at (entry_seen image E D reading.midway.all blocks ready.some_inodes first scanned current r j entered names)
+    here_entry r j p names at = subst (IsEntry image current r j) at (entry_seen image E D reading.midway.all work.blocks ready.some_inodes first scanned current r j entered names)
 
     pub too_high : (r j p : ℕ) → EntryNames image current r j → entry_place image current r 0 ≡ p → inode_count image ≤ j → Fails image Inumber p
     too_high r j p names at high = inumber (here_entry r j p names at) high
 
     -- another entry named it, or it is the root
-    pub not_new : (j p : ℕ) → EntryNames image current slot j → entry_place image current slot 0 ≡ p → j < inode_count image → has inodes j ≡ false → Fails image InodeTwice p
+    pub not_new : (j p : ℕ) → EntryNames image current slot j → entry_place image current slot 0 ≡ p → j < inode_count image → has work.inodes j ≡ false → Fails image InodeTwice p
     not_new zero p names at low gone = absurd (names.not_empty refl)
     not_new (suc zero) p names at low gone = root_named (here_entry slot 1 p names at)
     not_new (suc (suc j)) p names at low gone = subst (Fails image InodeTwice) at (by (reading.midway.under_way.named (suc (suc j)) (omega arith) (low, gone)))
       where
-        by : NamedBy image inodes todo current slot (suc (suc j)) → Fails image InodeTwice (entry_place image current slot 0)
+        by : NamedBy image work.inodes work.todo current slot (suc (suc j)) → Fails image InodeTwice (entry_place image current slot 0)
         by n = go n.done
           where
-            go : IsDone image inodes todo current slot n.directory n.entry → Fails image InodeTwice (entry_place image current slot 0)
+            go : IsDone image work.inodes work.todo current slot n.directory n.entry → Fails image InodeTwice (entry_place image current slot 0)
             go (inl d) =
-                named_before image E D reading.midway.all blocks ready.some_inodes first scanned current slot n.directory n.entry (suc (suc j)) entered d.0 names n.names (λ same other. d.3 (sym same))
+                named_before image E D reading.midway.all work.blocks ready.some_inodes first scanned current slot n.directory n.entry (suc (suc j)) entered d.0 names n.names (λ same other. d.3 (sym same))
             go (inr d) =
-                named_before image E D reading.midway.all blocks ready.some_inodes first scanned current slot n.directory n.entry (suc (suc j)) entered (subst (IsEntered image inodes) (sym d.0) entered) names n.names
+                named_before image E D reading.midway.all work.blocks ready.some_inodes first scanned current slot n.directory n.entry (suc (suc j)) entered (subst (IsEntered image work.inodes) (sym d.0) entered) names n.names
                 (λ same other. omega (arith, other, d.1))
 
     used_names : (r : ℕ) → IsUsed image (root_of image current) (size_of image current) r → EntryNames image current r (inumber_at image current r)
@@ -105,7 +106,7 @@ module _ (image : Image) (ready : HasWholeInodes image) (blocks inodes todo : Se
         name_twice (here_entry r _ _ (used_names r used) refl) (here_entry q _ _ (used_names q also) refl) (λ place. other (one place).1) same
       where
         one : entry_place image current r 0 ≡ entry_place image current q 0 → (current ≡ current) × (r ≡ q)
-        one place = one_entry image E D reading.midway.all blocks ready.some_inodes first scanned current r _ current q _ entered entered (used_names r used) (used_names q also) place
+        one place = one_entry image E D reading.midway.all work.blocks ready.some_inodes first scanned current r _ current q _ entered entered (used_names r used) (used_names q also) place
 
     pub names_fail : (c : Check) (p : ℕ) → FailsNames image (root_of image current) (size_of image current) c p → Fails image c p
     names_fail c p fails = subst (λ check. Fails image check p) fails.check (subst (Fails image (check_of fails.fault)) fails.place (fault_fails fails.fault fails.wrong))

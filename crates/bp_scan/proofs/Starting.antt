@@ -1,14 +1,14 @@
 -- The start of a scan: the inode file is entered, and then the root directory.
 use Rattle.std.proofs.Common.{◌≡◌, ◌≢◌, ◌⊎◌, ℕ, ◌*◌, ◌/◌, ◌%◌, ◌<◌, ◌≤◌, true, false, length, refl, sym, ◌∙◌, ap, subst, arith, inl, inr}
 use Rattle.std.proofs.lemmas.Bool.{cases_lt}
-use Rattle.std.proofs.lemmas.List.{length-set, length-replicate}
+use Rattle.std.proofs.lemmas.List.{length-replicate}
 use Rattle.bp_free.specs.Set.{Set, has, with, empty, Fills}
 use Rattle.bp_free.proofs.Members.{has_with_same, has_with_other}
 use Rattle.bp_free.proofs.Summary.{has_empty}
 use Rattle.bp_layout.specs.Words.{Image, block_count}
 use Rattle.bp_layout.specs.Tree.{IsSound, IsFull}
 use Rattle.bp_layout.specs.Inode.{kind_of, root_of, size_of, inode_count}
-use Rattle.bp_layout.specs.Checks.{IsFound, Fails}
+use Rattle.bp_layout.specs.Checks.{IsFound, Fails, root_place}
 use Rattle.bp_layout.specs.Checks.IsFound.{inode_file, root_directory}
 use Rattle.bp_layout.specs.Checks.Fails.{inode_file_size}
 use Rattle.bp_layout.specs.declared.check.Check.{Check}
@@ -17,7 +17,10 @@ use Rattle.bp_walk.specs.Walk.{TakesTree, FailsTree}
 use Rattle.bp_walk.proofs.TakenLaws.{clash}
 use Rattle.bp_scan.specs.Scanned.{HasAllBlocks}
 use Rattle.bp_scan.specs.Inodes.{EntersInode, FailsInode}
+use Rattle.bp_scan.specs.Progress.{IsUnderWay}
 use Rattle.bp_scan.specs.Reading.{HasWholeInodes, HasInodeFile, IsReading}
+use Rattle.bp_scan.specs.Room.{HasRoom}
+use Rattle.bp_scan.specs.declared.work.Work.{Work}
 use Rattle.bp_scan.proofs.Entering.{enter, fails_tree, nothing_seen}
 use Rattle.bp_scan.proofs.Readable.{is_sound, is_full, content_followed}
 use Rattle.bp_scan.proofs.ProgressLaws.{started}
@@ -74,28 +77,31 @@ module _ (image : Image) (ready : HasWholeInodes image) (all left : Set) (whole 
   pub root_fails : (c : Check) (p : ℕ) → FailsInode image 1 left c p → Fails image c p
   root_fails c p fails = fails_inode image File NoEntry all left whole ready.some_inodes (inr refl) file 1 (omega arith) root_found not_root c p fails
 
-  pub reading_starts : (new none inodes todo later : Set) → none ≡ empty (64 * block_count image) → Fills 2 (inode_count image) none inodes → todo ≡ empty (64 * block_count image) →
-      EntersInode image 1 left new todo later → IsReading image new inodes later 0 0
-  reading_starts new none inodes todo later none_is fills todo_is enters = record {
-    range = λ i there. in_range i there (cases_lt i 2) (cases_lt i (inode_count image));
-    room = fills.room ∙ ap length none_is ∙ length-replicate (64 * block_count image) false;
-    todo_room = ap length later_is ∙ length-set todo 1 true ∙ todo_length;
+  pub reading_starts : (none : Set) (before after : Work) → HasRoom image after → none ≡ empty (64 * block_count image) → Fills 2 (inode_count image) none before.inodes →
+      before.todo ≡ empty (64 * block_count image) → left ≡ before.blocks → EntersInode image 1 before after → IsReading image after 0 0
+  reading_starts none before after room none_is fills todo_is left_is enters = record {
+    room = room;
+    range = λ i there. in_range i (ap (λ (s : Set). has s i) (sym enters.inodes) ∙ there) (cases_lt i 2) (cases_lt i (inode_count image));
     root_kind = kind;
     midway = record {
       all = all;
       whole = whole;
-      under_way = started image all new inodes later ready.some_inodes kind (λ t two low. fills.inside t two low) (λ t low. fills.below t low ∙ none_has t) listed alone
-          (enter image File NoEntry all left new 1 enters.holes file root_found (inode_of image 1 enters.right) which enters.tree);
+      under_way = subst (λ (s : Set). IsUnderWay image all after.blocks s after.todo 0 0) (sym enters.inodes)
+          (started image all after.blocks before.inodes after.todo ready.some_inodes kind (λ t two low. fills.inside t two low) (λ t low. fills.below t low ∙ none_has t) listed alone
+          (enter image File NoEntry all left after.blocks 1 enters.holes file root_found (inode_of image 1 enters.right) which tree));
     };
   }
     where
       kind : kind_of image 1 ≡ 2
       kind = enters.right.root refl
 
-      later_is : later ≡ with todo 1
+      tree : TakesTree image (root_place image 1) (root_of image 1) (size_of image 1) enters.holes left after.blocks
+      tree = subst (λ (s : Set). TakesTree image (root_place image 1) (root_of image 1) (size_of image 1) enters.holes s after.blocks) (sym left_is) enters.tree
+
+      later_is : after.todo ≡ with before.todo 1
       later_is = enters.directory kind
 
-      todo_length : length todo ≡ 64 * block_count image
+      todo_length : length before.todo ≡ 64 * block_count image
       todo_length = ap length todo_is ∙ length-replicate (64 * block_count image) false
 
       none_has : (i : ℕ) → has none i ≡ false
@@ -105,13 +111,13 @@ module _ (image : Image) (ready : HasWholeInodes image) (all left : Set) (whole 
       which (inl never) = absurd (omega (arith, never))
       which (inr directory) = enters.full directory
 
-      listed : has later 1 ≡ true
-      listed = ap (λ (s : Set). has s 1) later_is ∙ has_with_same todo 1 (omega (arith, todo_length, ready.formatted.at_least))
+      listed : has after.todo 1 ≡ true
+      listed = ap (λ (s : Set). has s 1) later_is ∙ has_with_same before.todo 1 (omega (arith, todo_length, ready.formatted.at_least))
 
-      alone : (i : ℕ) → i ≢ 1 → has later i ≡ false
-      alone i other = ap (λ (s : Set). has s i) later_is ∙ has_with_other todo 1 i other ∙ ap (λ (s : Set). has s i) todo_is ∙ has_empty (64 * block_count image) i
+      alone : (i : ℕ) → i ≢ 1 → has after.todo i ≡ false
+      alone i other = ap (λ (s : Set). has s i) later_is ∙ has_with_other before.todo 1 i other ∙ ap (λ (s : Set). has s i) todo_is ∙ has_empty (64 * block_count image) i
 
-      in_range : (i : ℕ) → has inodes i ≡ true → (i < 2) ⊎ (2 ≤ i) → (i < inode_count image) ⊎ (inode_count image ≤ i) → (2 ≤ i) × (i < inode_count image)
+      in_range : (i : ℕ) → has before.inodes i ≡ true → (i < 2) ⊎ (2 ≤ i) → (i < inode_count image) ⊎ (inode_count image ≤ i) → (2 ≤ i) × (i < inode_count image)
       in_range i there (inl low) other = absurd (clash there (fills.below i low ∙ none_has i))
       in_range i there (inr two) (inl low) = (two, low)
       in_range i there (inr two) (inr high) = absurd (clash there (fills.above i high ∙ none_has i))

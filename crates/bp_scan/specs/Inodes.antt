@@ -8,6 +8,7 @@ use Rattle.bp_layout.specs.declared.check.Check.{Check}
 use Rattle.bp_layout.specs.declared.check.Check.TheVariants.{DirectorySize, Kind}
 use Rattle.bp_walk.specs.Walk.{TakesTree, FailsTree}
 use Rattle.bp_scan.specs.declared.trees.InodeWords.{InodeWords}
+use Rattle.bp_scan.specs.declared.work.Work.{Work}
 
 -- the words of inode i, and where they stand
 pub record AreWords (image : Image) (i : ℕ) (words : InodeWords) : Type 0 where
@@ -34,13 +35,14 @@ pub data IsWrong (i kind size place : ℕ) : Check → ℕ → Type 0 where
   part_of_entry : kind ≡ 2 → size % 256 ≢ 0 → IsWrong i kind size place DirectorySize (place + 2)
 
 -- inode i is right, its blocks left the set, and it is to do where it is a directory
-pub record EntersInode (image : Image) (i : ℕ) (old new todo later : Set) : Type 0 where
+pub record EntersInode (image : Image) (i : ℕ) (old new : Work) : Type 0 where
   pub right : IsRightInode i (kind_of image i) (size_of image i)
   pub holes : Bool
   pub full : kind_of image i ≡ 2 → holes ≡ false
-  pub tree : TakesTree image (root_place image i) (root_of image i) (size_of image i) holes old new
-  pub directory : kind_of image i ≡ 2 → later ≡ with todo i
-  pub file : kind_of image i ≢ 2 → later ≡ todo
+  pub tree : TakesTree image (root_place image i) (root_of image i) (size_of image i) holes old.blocks new.blocks
+  pub inodes : new.inodes ≡ old.inodes
+  pub directory : kind_of image i ≡ 2 → new.todo ≡ with old.todo i
+  pub file : kind_of image i ≢ 2 → new.todo ≡ old.todo
 
 -- the check that inode i or its tree fails
 pub data FailsInode (image : Image) (i : ℕ) (old : Set) : Check → ℕ → Type 0 where

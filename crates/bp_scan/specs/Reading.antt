@@ -1,13 +1,15 @@
 -- What holds while the trees of an image are read.
 use Rattle.std.specs.Prelude.{length, true, false, ◌≡◌, ◌⊎◌, ℕ, ◌+◌, ◌*◌, ◌%◌, ◌<◌, ◌≤◌}
-use Rattle.bp_free.specs.Set.{Set, has, members}
+use Rattle.bp_free.specs.Set.{Set, has, members, empty}
 use Rattle.bp_layout.specs.Words.{Image, block_count}
 use Rattle.bp_layout.specs.Inode.{kind_of, root_of, size_of, inode_count}
 use Rattle.bp_layout.specs.Checks.{IsFormatted}
 use Rattle.bp_spelling.specs.Names.{AreNames}
 use Rattle.bp_scan.specs.Scanned.{IsScanned}
 use Rattle.bp_scan.specs.Progress.{IsEntered, IsMidway}
+use Rattle.bp_scan.specs.Room.{HasRoom}
 use Rattle.bp_scan.specs.declared.directories.Directory.{Directory}
+use Rattle.bp_scan.specs.declared.work.Work.{Work}
 
 -- whole blocks of inodes, in an image that is formatted
 pub record HasWholeInodes (image : Image) : Type 0 where
@@ -19,28 +21,34 @@ pub record HasWholeInodes (image : Image) : Type 0 where
 abbrev pub HasInodeFile : Image → Set → Set → Type 0
 HasInodeFile image all left = IsScanned image (λ t. ⊥ ⊎ (t ≡ 0)) (λ i s. ⊥) all left
 
--- the sets in the middle of a scan; the directory at hand is 0 between directories
-pub record IsReading (image : Image) (blocks inodes todo : Set) (current slot : ℕ) : Type 0 where
-  pub range : (i : ℕ) → has inodes i ≡ true → (2 ≤ i) × (i < inode_count image)
-  pub room : length inodes ≡ 64 * block_count image
-  pub todo_room : length todo ≡ 64 * block_count image
+-- nothing was entered: the sets are empty
+pub record IsUnread (image : Image) (work : Work) : Type 0 where
+  pub room : HasRoom image work
+  pub blocks : work.blocks ≡ empty (block_count image)
+  pub inodes : work.inodes ≡ empty (64 * block_count image)
+  pub todo : work.todo ≡ empty (64 * block_count image)
+
+-- the work in the middle of a scan; the directory at hand is 0 between directories
+pub record IsReading (image : Image) (work : Work) (current slot : ℕ) : Type 0 where
+  pub room : HasRoom image work
+  pub range : (i : ℕ) → has work.inodes i ≡ true → (2 ≤ i) × (i < inode_count image)
   pub root_kind : kind_of image 1 ≡ 2
-  pub midway : IsMidway image blocks inodes todo current slot
+  pub midway : IsMidway image work.blocks work.inodes work.todo current slot
 
 -- a directory is at hand
-pub record IsAtHand (image : Image) (blocks inodes todo : Set) (current slot : ℕ) : Type 0 where
-  pub reading : IsReading image blocks inodes todo current slot
-  pub entered : IsEntered image inodes current
+pub record IsAtHand (image : Image) (work : Work) (current slot : ℕ) : Type 0 where
+  pub reading : IsReading image work current slot
+  pub entered : IsEntered image work.inodes current
   pub kind : kind_of image current ≡ 2
-  pub out : has todo current ≡ false
+  pub out : has work.todo current ≡ false
 
 -- the same of one whose names are right
-pub record IsInside (image : Image) (blocks inodes todo : Set) (directory : Directory) (slot : ℕ) : Type 0 where
-  pub at : IsAtHand image blocks inodes todo directory.inode slot
+pub record IsInside (image : Image) (work : Work) (directory : Directory) (slot : ℕ) : Type 0 where
+  pub at : IsAtHand image work directory.inode slot
   pub root : root_of image directory.inode ≡ directory.tree.root
   pub size : size_of image directory.inode ≡ directory.tree.size
   pub names : AreNames image directory.tree.root directory.tree.size
 
--- how much there is to do at most: each step takes an inode, which may be a directory, or a directory
-abbrev pub work : Set → Set → ℕ
-work inodes todo = length (members inodes) + length (members todo)
+-- how many steps are left at most: each takes an inode, which may be a directory, or a directory
+abbrev pub steps : Work → ℕ
+steps work = length (members work.inodes) + length (members work.todo)

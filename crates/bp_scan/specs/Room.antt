@@ -1,8 +1,17 @@
 -- The memory of a scan.
-use Rattle.std.specs.Prelude.{◌≡◌, ◌/◌, ◌≤◌, length, vec_capacity}
+use Rattle.std.specs.Prelude.{◌≡◌, ◌*◌, ◌/◌, ◌≤◌, length, vec_capacity}
+use Rattle.bp_layout.specs.Words.{Image, block_count}
 use Rattle.bp_scan.specs.declared.pending.Pending.TheInside.{Inside}
+use Rattle.bp_scan.specs.declared.work.Work.{Work}
 
--- a flag for each inode, and memory reserved for as many entries as a directory may have: 16 for each block, to 64 inodes
+-- a flag for each block, two for each inode, and memory reserved for as many entries as a directory may have: to a block 64 inodes and 16 entries
+pub record HasRoom (image : Image) (work : Work) : Type 0 where
+  pub blocks : length work.blocks ≡ block_count image
+  pub inodes : length work.inodes ≡ 64 * block_count image
+  pub todo : length work.todo ≡ 64 * block_count image
+  pub entries : 16 * block_count image ≤ vec_capacity work.entries
+
+-- the same between scans, but for the sets that are lent
 pub record HasReserved (pending : Inside) : Type 0 where
-  pub flags : length pending.todo ≡ pending.inodes
-  pub entries : pending.inodes / 4 ≤ vec_capacity pending.entries
+  pub flags : length pending.work.todo ≡ pending.inodes
+  pub entries : pending.inodes / 4 ≤ vec_capacity pending.work.entries

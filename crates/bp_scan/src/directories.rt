@@ -1,20 +1,19 @@
 //! The directories of an image, one after the other.
 
-ghost use Rattle.std.specs.Prelude.{◌≡◌, ◌+◌, ◌*◌, ◌/◌, ◌%◌, ◌<◌, ◌≤◌, min, length, vec_capacity, OnOk, IfErr};
+ghost use Rattle.std.specs.Prelude.{◌≡◌, ◌+◌, ◌*◌, ◌/◌, ◌%◌, ◌<◌, ◌≤◌, min, vec_capacity, OnOk, IfErr};
 ghost use Rattle.bp_layout.specs.Checks.{Fails};
 ghost use Rattle.bp_layout.specs.Directory.{inumber_in};
 ghost use Rattle.bp_layout.specs.Tree.{IsFull, IsSound};
-ghost use Rattle.bp_layout.specs.Words.{block_count};
 ghost use Rattle.bp_limits.specs.Limits.{entry_size};
-ghost use Rattle.bp_scan.specs.Reading.{HasWholeInodes, IsReading, IsAtHand, IsInside, work};
+ghost use Rattle.bp_scan.specs.Reading.{HasWholeInodes, IsReading, IsAtHand, IsInside, steps};
+ghost use Rattle.bp_scan.specs.Room.{HasRoom};
 ghost use Rattle.bp_scan.specs.Misspelled.{FailsNames};
 ghost use Rattle.bp_spelling.specs.Names.{AreNames, entry_place_in};
 ghost use Rattle.pm_region.specs.Memory.{current_words};
 
-use crate::pending::make_room;
 use crate::trees::enter;
+use crate::work::{Work, make_room};
 use bp_dirs::entry_place;
-use bp_free::{Blocks, Inodes};
 use bp_inodes::{get, inode_file};
 use bp_layout::Check;
 use bp_limits::{ENTRY_SIZE, INODE_SIZE};
@@ -48,23 +47,17 @@ fn read_entry<R: Region>(
     region: &R,
     directory: Directory,
     slot: Slot,
-    blocks: &mut Blocks,
-    inodes: &mut Inodes,
-    todo: &mut Inodes,
+    work: &mut Work,
 ) -> Result<(), CheckFault>
     requires ready { HasWholeInodes (current_words (R.memory region.now)) }
-    requires inside { let words = current_words (R.memory region.now) in
-        IsInside words blocks.old inodes.old todo.old directory slot.number }
+    requires inside { IsInside (current_words (R.memory region.now)) work.old directory slot.number }
     requires live { slot.number < directory.tree.size / entry_size }
     requires place { slot.place ≡ entry_place_in (current_words (R.memory region.now)) directory.tree.root slot.number }
     requires named { slot.named ≡ inumber_in (current_words (R.memory region.now)) directory.tree.root slot.number }
-    ensures inside { let words = current_words (R.memory region.now) in
-        OnOk result (IsInside words blocks.new inodes.new todo.new directory (slot.number + 1)) }
-    ensures work { OnOk result (work inodes.new todo.new ≤ work inodes.old todo.old) }
+    ensures inside { OnOk result (IsInside (current_words (R.memory region.now)) work.new directory (slot.number + 1)) }
+    ensures steps { OnOk result (steps work.new ≤ steps work.old) }
     ensures fault { IfErr result (λ f. Fails (current_words (R.memory region.now)) f.check f.place) }
-    ensures block_room { length blocks.new ≡ length blocks.old }
-    ensures inode_room { length inodes.new ≡ length inodes.old }
-    ensures todo_room { length todo.new ≡ length todo.old }
+    ensures room { HasRoom (current_words (R.memory region.now)) work.new }
 {
     let named = slot.named;
     if named == 0 {
@@ -78,14 +71,14 @@ fn read_entry<R: Region>(
         });
     }
     let inode = named as u32;
-    if !inodes.is_free(inode) {
+    if !work.inodes.is_free(inode) {
         return Err(CheckFault {
             check: Check::InodeTwice,
             place,
         });
     }
-    inodes.claim(inode);
-    enter(region, inode, blocks, todo)
+    work.inodes.claim(inode);
+    enter(region, inode, work)
 }
 
 /// Reads the entries of a leaf of a directory whose names are right: those from a slot on.
@@ -93,22 +86,18 @@ fn read_leaf<R: Region>(
     region: &R,
     directory: Directory,
     first: u64,
-    blocks: &mut Blocks,
-    inodes: &mut Inodes,
-    todo: &mut Inodes,
+    work: &mut Work,
 ) -> Result<(), CheckFault>
     requires ready { HasWholeInodes (current_words (R.memory region.now)) }
-    requires inside { IsInside (current_words (R.memory region.now)) blocks.old inodes.old todo.old directory first }
+    requires inside { IsInside (current_words (R.memory region.now)) work.old directory first }
     requires starts { first % 16 ≡ 0 }
     requires live { first < directory.tree.size / entry_size }
     ensures inside { let words = current_words (R.memory region.now) in
         let end = min (first + 16) (directory.tree.size / entry_size) in
-        OnOk result (IsInside words blocks.new inodes.new todo.new directory end) }
-    ensures work { OnOk result (work inodes.new todo.new ≤ work inodes.old todo.old) }
+        OnOk result (IsInside words work.new directory end) }
+    ensures steps { OnOk result (steps work.new ≤ steps work.old) }
     ensures fault { IfErr result (λ f. Fails (current_words (R.memory region.now)) f.check f.place) }
-    ensures block_room { length blocks.new ≡ length blocks.old }
-    ensures inode_room { length inodes.new ≡ length inodes.old }
-    ensures todo_room { length todo.new ≡ length todo.old }
+    ensures room { HasRoom (current_words (R.memory region.now)) work.new }
 {
     let place = entry_place(region, directory.tree, first, 0);
     let count = (directory.tree.size / ENTRY_SIZE - first).min(16) as u32;
@@ -119,7 +108,7 @@ fn read_leaf<R: Region>(
             place: place + 32 * k,
             named: named[k as usize],
         };
-        if let Err(fault) = read_entry(region, directory, slot, blocks, inodes, todo) {
+        if let Err(fault) = read_entry(region, directory, slot, work) {
             return Err(fault);
         }
     }
@@ -130,22 +119,18 @@ fn read_leaf<R: Region>(
 fn read_entries<R: Region>(
     region: &R,
     directory: Directory,
-    blocks: &mut Blocks,
-    inodes: &mut Inodes,
-    todo: &mut Inodes,
+    work: &mut Work,
 ) -> Result<(), CheckFault>
     requires ready { HasWholeInodes (current_words (R.memory region.now)) }
-    requires inside { IsInside (current_words (R.memory region.now)) blocks.old inodes.old todo.old directory 0 }
+    requires inside { IsInside (current_words (R.memory region.now)) work.old directory 0 }
     ensures inside { let words = current_words (R.memory region.now) in
-        OnOk result (IsInside words blocks.new inodes.new todo.new directory (directory.tree.size / entry_size)) }
-    ensures work { OnOk result (work inodes.new todo.new ≤ work inodes.old todo.old) }
+        OnOk result (IsInside words work.new directory (directory.tree.size / entry_size)) }
+    ensures steps { OnOk result (steps work.new ≤ steps work.old) }
     ensures fault { IfErr result (λ f. Fails (current_words (R.memory region.now)) f.check f.place) }
-    ensures block_room { length blocks.new ≡ length blocks.old }
-    ensures inode_room { length inodes.new ≡ length inodes.old }
-    ensures todo_room { length todo.new ≡ length todo.old }
+    ensures room { HasRoom (current_words (R.memory region.now)) work.new }
 {
     for leaf in 0..(directory.tree.size / ENTRY_SIZE).div_ceil(16) {
-        if let Err(fault) = read_leaf(region, directory, 16 * leaf, blocks, inodes, todo) {
+        if let Err(fault) = read_leaf(region, directory, 16 * leaf, work) {
             return Err(fault);
         }
     }
@@ -184,26 +169,19 @@ fn read_names<R: Region>(
 pub(crate) fn read_directory<R: Region>(
     region: &R,
     inode: u32,
-    blocks: &mut Blocks,
-    inodes: &mut Inodes,
-    todo: &mut Inodes,
-    entries: &mut Vec<Spelled>,
+    work: &mut Work,
 ) -> Result<(), CheckFault>
     requires ready { HasWholeInodes (current_words (R.memory region.now)) }
-    requires begun { IsAtHand (current_words (R.memory region.now)) blocks.old inodes.old todo.old inode 0 }
-    requires entries { 16 * block_count (current_words (R.memory region.now)) ≤ vec_capacity entries.old }
-    ensures done { OnOk result (IsReading (current_words (R.memory region.now)) blocks.new inodes.new todo.new 0 0) }
-    ensures work { OnOk result (work inodes.new todo.new ≤ work inodes.old todo.old) }
+    requires begun { IsAtHand (current_words (R.memory region.now)) work.old inode 0 }
+    ensures done { OnOk result (IsReading (current_words (R.memory region.now)) work.new 0 0) }
+    ensures steps { OnOk result (steps work.new ≤ steps work.old) }
     ensures fault { IfErr result (λ f. Fails (current_words (R.memory region.now)) f.check f.place) }
-    ensures block_room { length blocks.new ≡ length blocks.old }
-    ensures inode_room { length inodes.new ≡ length inodes.old }
-    ensures todo_room { length todo.new ≡ length todo.old }
-    ensures entry_room { vec_capacity entries.old ≤ vec_capacity entries.new }
+    ensures room { HasRoom (current_words (R.memory region.now)) work.new }
 {
     let words = get(region, inode);
     let tree = Tree::of(&words);
-    if let Err(fault) = read_names(region, tree, entries) {
+    if let Err(fault) = read_names(region, tree, &mut work.entries) {
         return Err(fault);
     }
-    read_entries(region, Directory { inode, tree }, blocks, inodes, todo)
+    read_entries(region, Directory { inode, tree }, work)
 }

@@ -16,6 +16,7 @@ mod scanning;
 mod totalling;
 mod totals;
 mod trees;
+mod work;
 
 pub use bp_layout::Check;
 pub use fault::MountFault;

@@ -8,6 +8,7 @@ ghost use Rattle.bp_layout.specs.WellFormed.{IsWellFormed};
 ghost use Rattle.bp_layout.specs.Words.{block_count};
 ghost use Rattle.bp_limits.specs.Limits.{max_blocks, min_blocks};
 ghost use Rattle.bp_scan.specs.Faults.{IsFault};
+ghost use Rattle.bp_scan.specs.Room.{HasRoom};
 ghost use Rattle.bp_scan.specs.Totals.{HasTotals};
 ghost use Rattle.pm_region.specs.Memory.{current_words};
 
@@ -16,9 +17,11 @@ use crate::pending::Pending;
 use crate::reading::read_trees;
 use crate::totalling::all_totals;
 use crate::totals::Totals;
+use crate::work::Work;
 use bp_free::{Blocks, Inodes};
 use bp_limits::{BLOCK_SIZE, BLOCK_WORDS, MAGIC, SUPER_BLOCKS, SUPER_MAGIC};
 use pm_region::Region;
+use std::mem;
 
 /// Whether an image begins with the mark of a format, and was formatted for the blocks that it has.
 ///
@@ -45,6 +48,35 @@ fn check_superblock<R: Region>(region: &R) -> Result<(), MountFault>
         });
     }
     Ok(())
+}
+
+/// Does what [`scan`] does, with the two sets in the work.
+fn scan_with<R: Region>(region: &R, work: &mut Work) -> Result<Totals, MountFault>
+    requires whole { let words = current_words (R.memory region.now) in length words ≡ 512 * block_count words }
+    requires least { min_blocks ≤ block_count (current_words (R.memory region.now)) }
+    requires most { block_count (current_words (R.memory region.now)) ≤ max_blocks }
+    requires room { HasRoom (current_words (R.memory region.now)) work.old }
+    ensures well_formed { IsOk result ↔ IsWellFormed (current_words (R.memory region.now)) }
+    ensures blocks { OnOk result (AreFreeBlocks (current_words (R.memory region.now)) (has work.new.blocks)) }
+    ensures inodes { OnOk result (AreFreeInodes (current_words (R.memory region.now)) (has work.new.inodes)) }
+    ensures totals { IfOk result (HasTotals (current_words (R.memory region.now))) }
+    ensures fault { IfErr result (IsFault (current_words (R.memory region.now))) }
+    ensures no_blocks { OnErr result (work.new.blocks ≡ empty (length work.old.blocks)) }
+    ensures no_inodes { OnErr result (work.new.inodes ≡ empty (length work.old.inodes)) }
+    ensures room { HasRoom (current_words (R.memory region.now)) work.new }
+{
+    work.clear();
+    check_superblock(region)?;
+    match read_trees(region, work) {
+        Ok(()) => Ok(all_totals(region, &work.blocks, &work.inodes)),
+        Err(fault) => {
+            work.clear();
+            Err(MountFault::Damaged {
+                check: fault.check,
+                place: fault.place,
+            })
+        }
+    }
 }
 
 /// Reads the whole image in a region of 8 to 16,384 blocks of 512 words: puts the free blocks and the free inodes into
@@ -79,18 +111,10 @@ pub fn scan<R: Region>(
     ensures inode_room { length inodes.new ≡ length inodes.old }
     ensures pending { pending.new ≡ pending.old }
 {
-    blocks.clear();
-    inodes.clear();
-    check_superblock(region)?;
-    match read_trees(region, blocks, inodes, pending) {
-        Ok(()) => Ok(all_totals(region, blocks, inodes)),
-        Err(fault) => {
-            blocks.clear();
-            inodes.clear();
-            Err(MountFault::Damaged {
-                check: fault.check,
-                place: fault.place,
-            })
-        }
-    }
+    mem::swap(blocks, &mut pending.work.blocks);
+    mem::swap(inodes, &mut pending.work.inodes);
+    let told = scan_with(region, &mut pending.work);
+    mem::swap(blocks, &mut pending.work.blocks);
+    mem::swap(inodes, &mut pending.work.inodes);
+    told
 }

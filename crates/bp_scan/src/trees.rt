@@ -5,13 +5,14 @@ ghost use Rattle.bp_free.specs.Set.{has};
 ghost use Rattle.bp_layout.specs.Checks.{Fails, IsFormatted};
 ghost use Rattle.bp_layout.specs.Inode.{inode_count, root_of, size_of};
 ghost use Rattle.bp_layout.specs.Tree.{IsFull, IsSound};
-ghost use Rattle.bp_layout.specs.Words.{block_count};
 ghost use Rattle.bp_scan.specs.Inodes.{AreWords, IsRightInode, IsWrong, EntersInode, FailsInode};
 ghost use Rattle.bp_scan.specs.Reading.{HasWholeInodes, HasInodeFile};
+ghost use Rattle.bp_scan.specs.Room.{HasRoom};
 ghost use Rattle.bp_scan.specs.Scanned.{HasAllBlocks};
 ghost use Rattle.pm_region.specs.Memory.{current_words};
 
-use bp_free::{Blocks, Inodes};
+use crate::work::Work;
+use bp_free::Blocks;
 use bp_inodes::{inode_file, place};
 use bp_layout::Check;
 use bp_limits::{BLOCK_SIZE, ENTRY_SIZE, SUPER_ROOT, SUPER_SIZE};
@@ -102,12 +103,7 @@ fn check_words(inode: u32, words: InodeWords) -> Result<(), CheckFault>
 
 /// Enters the tree of an inode: takes its blocks out of the set, and puts the inode among those to do where it is a
 /// directory.
-pub(crate) fn enter<R: Region>(
-    region: &R,
-    inode: u32,
-    blocks: &mut Blocks,
-    todo: &mut Inodes,
-) -> Result<(), CheckFault>
+pub(crate) fn enter<R: Region>(region: &R, inode: u32, work: &mut Work) -> Result<(), CheckFault>
     requires formatted { IsFormatted (current_words (R.memory region.now)) }
     requires sound { let words = current_words (R.memory region.now) in
         IsSound words (root_of words 0) (size_of words 0) }
@@ -115,27 +111,25 @@ pub(crate) fn enter<R: Region>(
         IsFull words (root_of words 0) (size_of words 0) }
     requires some { 1 ≤ inode }
     requires there { inode < inode_count (current_words (R.memory region.now)) }
-    requires blocks { length blocks.old ≡ block_count (current_words (R.memory region.now)) }
-    requires not_first { has blocks.old 0 ≡ false }
-    requires new { has todo.old inode ≡ false }
-    requires todo { inode < length todo.old }
-    ensures ok { let words = current_words (R.memory region.now) in
-        OnOk result (EntersInode words inode blocks.old blocks.new todo.old todo.new) }
+    requires room { HasRoom (current_words (R.memory region.now)) work.old }
+    requires not_first { has work.old.blocks 0 ≡ false }
+    requires new { has work.old.todo inode ≡ false }
+    requires todo { inode < length work.old.todo }
+    ensures ok { OnOk result (EntersInode (current_words (R.memory region.now)) inode work.old work.new) }
     ensures err { let words = current_words (R.memory region.now) in
-        IfErr result (λ f. FailsInode words inode blocks.old f.check f.place) }
-    ensures block_room { length blocks.new ≡ length blocks.old }
-    ensures todo_room { length todo.new ≡ length todo.old }
+        IfErr result (λ f. FailsInode words inode work.old.blocks f.check f.place) }
+    ensures room { HasRoom (current_words (R.memory region.now)) work.new }
 {
     let words = inode_words(region, inode);
     if let Err(fault) = check_words(inode, words) {
         return Err(fault);
     }
     let holes = words.kind != DIRECTORY;
-    if let Err(fault) = take_tree(region, words.place + 1, words.tree, holes, blocks) {
+    if let Err(fault) = take_tree(region, words.place + 1, words.tree, holes, &mut work.blocks) {
         return Err(fault);
     }
     if !holes {
-        todo.give(inode);
+        work.todo.give(inode);
     }
     Ok(())
 }

@@ -1,16 +1,16 @@
 use Rattle.std.proofs.Common.{◌∙◌, ap}
 use Rattle.bp_free.specs.Set.{members}
 use Rattle.pm_region.specs.Memory.{current_words}
-use Rattle.bp_scan.proofs.DirectoryLaws.{none_of, work_falls, taken_least}
+use Rattle.bp_scan.proofs.DirectoryLaws.{none_of, steps_fall, taken_least}
 use Rattle.bp_scan.proofs.reading.read_directories.Goals as goal
 
 pub read_directory-requires-clause-begun : goal.read_directory-requires-clause-begun
 read_directory-requires-clause-begun g c =
-    taken_least (current_words (g.R.Region.memory c.args.region.now)) c.loop-inode.blocks c.loop-inode.inodes c.loop-inode.todo c.take.new.self c.in-Some.inode c.loop-inode.invariant.reading c.in-Some.ensures.0 c.in-Some.ensures.1
+    taken_least (current_words (g.R.Region.memory c.args.region.now)) c.loop-inode.work c.take.new.self c.in-Some.inode c.loop-inode.invariant.reading c.in-Some.ensures.0 c.in-Some.ensures.1
 
 pub loop-inode-smaller : goal.loop-inode-smaller
 loop-inode-smaller g c =
-    work_falls c.loop-inode.inodes c.loop-inode.todo c.take.new.self c.read_directory.new.inodes c.read_directory.new.todo c.in-Some.inode c.in-Some.ensures.0 c.in-Some.ensures.1 c.in_default-read_directory.ensures.work
+    steps_fall c.loop-inode.work c.take.new.self c.read_directory.new.work c.in-Some.inode c.in-Some.ensures.0 c.in-Some.ensures.1 c.in_default-read_directory.ensures.steps
 
 pub returns-clause-none_left : goal.returns-clause-none_left
 returns-clause-none_left g c i = none_of c.take.new.self (ap members c.in_default.ensures.1 ∙ c.in_default.ensures.0) i

@@ -3,7 +3,7 @@ use Rattle.pm_region.specs.Memory.{current_words}
 use Rattle.bp_scan.proofs.FaultLaws.{refused}
 use Rattle.bp_scan.specs.declared.fault.MountFault.TheVariants.{Damaged}
 use Rattle.bp_scan.specs.declared.totals.Totals.{Totals}
-use Rattle.bp_scan.proofs.scanning.scan.Goals as goal
+use Rattle.bp_scan.proofs.scanning.scan_with.Goals as goal
 
 pub returns-in_err-check_superblock-clause-well_formed :
     goal.returns-in_err-check_superblock-clause-well_formed

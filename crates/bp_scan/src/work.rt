@@ -1,0 +1,54 @@
+//! What a scan works with.
+
+ghost use Rattle.std.specs.Prelude.{◌≡◌, ◌≤◌, length, vec_capacity, vec_len};
+ghost use Rattle.bp_free.specs.Set.{empty};
+
+use bp_free::{Blocks, Inodes};
+use bp_spelling::Spelled;
+
+/// How many cells are left over where the entries of the greatest directory have three each.
+pub(crate) const SPARE: usize = 256;
+
+/// What a scan works with. At its end the sets of blocks and of inodes have just those that are free.
+#[derive(Drop)]
+pub(crate) struct Work {
+    /// The blocks of no tree that was entered.
+    pub blocks: Blocks,
+    /// The inodes that no entry named so far.
+    pub inodes: Inodes,
+    /// The directories that are still to be read.
+    pub todo: Inodes,
+    /// Memory for the entries of the directory at hand.
+    pub entries: Vec<Spelled>,
+}
+
+impl Work {
+    /// Empties the sets.
+    pub fn clear(&mut self)
+        ensures blocks { self.new.blocks ≡ empty (length self.old.blocks) }
+        ensures inodes { self.new.inodes ≡ empty (length self.old.inodes) }
+        ensures todo { self.new.todo ≡ empty (length self.old.todo) }
+        ensures entries { self.new.entries ≡ self.old.entries }
+    {
+        self.blocks.clear();
+        self.inodes.clear();
+        self.todo.clear();
+    }
+}
+
+/// Makes memory for the check of so many names out of what is reserved: three cells for each and some more, as far as
+/// they go. Memory that no directory needs is never written.
+pub(crate) fn make_room(entries: &mut Vec<Spelled>, names: usize)
+    requires { names ≤ vec_capacity entries.old }
+    ensures room { names ≤ vec_len entries.new }
+    ensures capacity { vec_capacity entries.old ≤ vec_capacity entries.new }
+{
+    let wanted = names.saturating_mul(3).saturating_add(SPARE);
+    let wanted = wanted.min(entries.capacity());
+    if entries.len() < wanted {
+        match entries.resize(wanted, Spelled::default()) {
+            Ok(()) => {}
+            Err(_) => unreachable!(),
+        }
+    }
+}

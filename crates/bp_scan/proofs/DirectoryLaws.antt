@@ -10,7 +10,7 @@ use Rattle.bp_layout.specs.Checks.{Fails}
 use Rattle.bp_layout.specs.declared.check.Check.{Check}
 use Rattle.bp_walk.proofs.TakenLaws.{known, length_without, has_without}
 use Rattle.bp_scan.specs.Misspelled.{FailsNames}
-use Rattle.bp_scan.specs.Reading.{HasWholeInodes, IsReading, IsAtHand, IsInside, steps}
+use Rattle.bp_scan.specs.Reading.{IsReading, IsAtHand, IsInside, steps}
 use Rattle.bp_scan.specs.declared.directories.Directory.{Directory}
 use Rattle.bp_scan.specs.declared.work.Work.{Work}
 use Rattle.bp_scan.proofs.ProgressLaws.{begin, finish}
@@ -29,6 +29,7 @@ to_do work todo = record { blocks = work.blocks; inodes = work.inodes; todo = to
 taken_up : (image : Image) (work : Work) (current : ℕ) → current < length work.todo → has work.todo current ≡ true → IsReading image work 0 0 → IsAtHand image (to_do work (without work.todo current)) current 0
 taken_up image work current low there reading = record {
   reading = record {
+    ready = reading.ready;
     room = record { blocks = reading.room.blocks; inodes = reading.room.inodes; todo = length_without work.todo current ∙ reading.room.todo; entries = reading.room.entries };
     range = reading.range;
     root_kind = reading.root_kind;
@@ -46,24 +47,25 @@ taken_up image work current low there reading = record {
 pub taken_least : (image : Image) (work : Work) (later : Set) (i : ℕ) → IsReading image work 0 0 → IsLeast work.todo i → later ≡ without work.todo i → IsAtHand image (to_do work later) i 0
 taken_least image work later i reading least later_is = subst (λ (s : Set). IsAtHand image (to_do work s) i 0) (sym later_is) (taken_up image work i least.low least.is_in reading)
 
-module _ (image : Image) (ready : HasWholeInodes image) (work : Work) (directory : Directory) (at : IsAtHand image work directory.inode 0)
+module _ (image : Image) (work : Work) (directory : Directory) (at : IsAtHand image work directory.inode 0)
     (root : directory.tree.root ≡ root_of image directory.inode) (size : directory.tree.size ≡ size_of image directory.inode) where
   pub begun_sound : IsSound image directory.tree.root directory.tree.size
-  begun_sound = along (IsSound image) _ _ _ _ (sym root) (sym size) (here_sound image ready work directory.inode 0 at.reading at.entered at.kind)
+  begun_sound = along (IsSound image) _ _ _ _ (sym root) (sym size) (here_sound image work directory.inode 0 at.reading at.entered at.kind)
 
   pub begun_full : IsFull image directory.tree.root directory.tree.size
-  begun_full = along (IsFull image) _ _ _ _ (sym root) (sym size) (here_full image ready work directory.inode 0 at.reading at.entered at.kind)
+  begun_full = along (IsFull image) _ _ _ _ (sym root) (sym size) (here_full image work directory.inode 0 at.reading at.entered at.kind)
 
   pub begun_few : directory.tree.size / 256 ≤ 16 * block_count image
-  begun_few = subst (λ (x : ℕ). x / 256 ≤ 16 * block_count image) (sym size) (here_few image ready work directory.inode 0 at.reading at.entered at.kind)
+  begun_few = subst (λ (x : ℕ). x / 256 ≤ 16 * block_count image) (sym size) (here_few image work directory.inode 0 at.reading at.entered at.kind)
 
   pub begun_names_fail : (c : Check) (p : ℕ) → FailsNames image directory.tree.root directory.tree.size c p → Fails image c p
   begun_names_fail c p fails =
-      names_fail image ready work directory.inode 0 at.reading at.entered at.kind c p (along (λ x y. FailsNames image x y c p) _ _ _ _ root size fails)
+      names_fail image work directory.inode 0 at.reading at.entered at.kind c p (along (λ x y. FailsNames image x y c p) _ _ _ _ root size fails)
 
 -- its last slot is past
 pub finished : (image : Image) (work : Work) (directory : Directory) → IsInside image work directory (directory.tree.size / 256) → IsReading image work 0 0
 finished image work directory inside = record {
+  ready = inside.at.reading.ready;
   room = inside.at.reading.room;
   range = inside.at.reading.range;
   root_kind = inside.at.reading.root_kind;

@@ -14,7 +14,7 @@ use Rattle.bp_spelling.specs.Names.{AreNames, IsUsed}
 use Rattle.bp_walk.proofs.TakenLaws.{known, clash, has_less}
 use Rattle.bp_scan.specs.Progress.{IsEntered, IsUnderWay}
 use Rattle.bp_scan.specs.Inodes.{EntersInode, FailsInode}
-use Rattle.bp_scan.specs.Reading.{HasWholeInodes, IsReading, IsInside, steps}
+use Rattle.bp_scan.specs.Reading.{IsReading, IsInside, steps}
 use Rattle.bp_scan.specs.Room.{HasRoom}
 use Rattle.bp_scan.specs.declared.directories.Directory.{Directory}
 use Rattle.bp_scan.specs.declared.work.Work.{Work}
@@ -26,7 +26,7 @@ use Rattle.bp_scan.proofs.Inside.{first, inodes_few, here_sound, here_full, here
 pub along : (P : ℕ → ℕ → Type 0) (a b x y : ℕ) → a ≡ x → b ≡ y → P a b → P x y
 along P a b x y e f h = subst (λ (v : ℕ). P x v) f (subst (λ (u : ℕ). P u b) e h)
 
-module _ (image : Image) (ready : HasWholeInodes image) (work : Work) (directory : Directory) (slot : ℕ) (inside : IsInside image work directory slot) where
+module _ (image : Image) (work : Work) (directory : Directory) (slot : ℕ) (inside : IsInside image work directory slot) where
   abbrev d : ℕ
   d = directory.inode
 
@@ -34,10 +34,10 @@ module _ (image : Image) (ready : HasWholeInodes image) (work : Work) (directory
   reading = inside.at.reading
 
   pub tree_sound : IsSound image directory.tree.root directory.tree.size
-  tree_sound = along (IsSound image) _ _ _ _ inside.root inside.size (here_sound image ready work d slot reading inside.at.entered inside.at.kind)
+  tree_sound = along (IsSound image) _ _ _ _ inside.root inside.size (here_sound image work d slot reading inside.at.entered inside.at.kind)
 
   pub tree_full : IsFull image directory.tree.root directory.tree.size
-  tree_full = along (IsFull image) _ _ _ _ inside.root inside.size (here_full image ready work d slot reading inside.at.entered inside.at.kind)
+  tree_full = along (IsFull image) _ _ _ _ inside.root inside.size (here_full image work d slot reading inside.at.entered inside.at.kind)
 
   names : AreNames image (root_of image d) (size_of image d)
   names = along (AreNames image) _ _ _ _ (sym inside.root) (sym inside.size) inside.names
@@ -59,8 +59,9 @@ module _ (image : Image) (ready : HasWholeInodes image) (work : Work) (directory
     passes_empty none = record {
       at = record {
         reading = record {
-          range = reading.range;
+          ready = reading.ready;
           room = reading.room;
+          range = reading.range;
           root_kind = reading.root_kind;
           midway = record { all = reading.midway.all; whole = reading.midway.whole; under_way = empty_step image reading.midway.all work.blocks work.inodes work.todo d slot (here ∙ none) reading.midway.under_way };
         };
@@ -75,18 +76,18 @@ module _ (image : Image) (ready : HasWholeInodes image) (work : Work) (directory
 
     module _ (some : j ≢ 0) where
       pub fails_high : (p : ℕ) → p ≡ 512 * node image directory.tree.root (height_of directory.tree.root) ((32 * slot + 0) / 512) + (32 * slot + 0) % 512 → inode_count image ≤ j → Fails image Inumber p
-      fails_high p at high = too_high image ready work d slot reading inside.at.entered inside.at.kind slot j p (entry_names some) (stands p at) high
+      fails_high p at high = too_high image work d slot reading inside.at.entered inside.at.kind slot j p (entry_names some) (stands p at) high
 
       module _ (low : j < inode_count image) where
         pub in_room : j < length work.inodes
-        in_room = let few : inode_count image ≤ length work.inodes = inodes_few image ready work d slot reading in omega (arith, few, low)
+        in_room = let few : inode_count image ≤ length work.inodes = inodes_few image work d slot reading in omega (arith, few, low)
 
         pub fails_again : (p : ℕ) → p ≡ 512 * node image directory.tree.root (height_of directory.tree.root) ((32 * slot + 0) / 512) + (32 * slot + 0) % 512 → has work.inodes j ≡ false → Fails image InodeTwice p
-        fails_again p at gone = not_new image ready work d slot reading inside.at.entered inside.at.kind j p (entry_names some) (stands p at) low gone
+        fails_again p at gone = not_new image work d slot reading inside.at.entered inside.at.kind j p (entry_names some) (stands p at) low gone
 
         pub fails_in_inode : has work.inodes j ≡ true → (c : Check) (p : ℕ) → FailsInode image j work.blocks c p → Fails image c p
         fails_in_inode new c p fails =
-            inode_fails image ready work d slot reading j c p (omega (arith, some)) (here_found image ready work d slot reading inside.at.entered inside.at.kind slot j (entry_names some) low) new fails
+            inode_fails image work d slot reading j c p (omega (arith, some)) (here_found image work d slot reading inside.at.entered inside.at.kind slot j (entry_names some) low) new fails
 
         module _ (new : has work.inodes j ≡ true) (rest : Set) (claimed : rest ≡ without work.inodes j) (after : Work) (room : HasRoom image after)
             (enters : EntersInode image j (record { blocks = work.blocks; inodes = rest; todo = work.todo; entries = work.entries }) after) where
@@ -104,7 +105,7 @@ module _ (image : Image) (ready : HasWholeInodes image) (work : Work) (directory
               go (inr no_directory) = ap (λ (s : Set). has s i) (enters.file no_directory)
 
           not_to_do : has work.todo j ≡ false
-          not_to_do = new_not_to_do image ready work d slot reading j new
+          not_to_do = new_not_to_do image work d slot reading j new
 
           adds : Adds image j work.todo after.todo
           adds = record {
@@ -125,7 +126,7 @@ module _ (image : Image) (ready : HasWholeInodes image) (work : Work) (directory
           which (inr kind) = enters.full kind
 
           step : IsUnderWay image reading.midway.all after.blocks (without work.inodes j) after.todo d (slot + 1)
-          step = entry_step image reading.midway.all work.blocks after.blocks work.inodes work.todo after.todo d slot j enters.holes reading.midway.under_way ready.some_inodes (first image ready work d slot reading)
+          step = entry_step image reading.midway.all work.blocks after.blocks work.inodes work.todo after.todo d slot j enters.holes reading.midway.under_way reading.ready.some_inodes (first image work d slot reading)
               inside.at.entered (entry_names some) low in_room new (reading.range j new).0 (names.forms slot (used slot j (entry_names some)))
               (λ r k before n same. names.differ slot r (used slot j (entry_names some)) (used r k n) same) (inode_of image j enters.right) which enters.tree adds
 
@@ -140,6 +141,7 @@ module _ (image : Image) (ready : HasWholeInodes image) (work : Work) (directory
           now_inside = record {
             at = record {
               reading = record {
+                ready = reading.ready;
                 room = room;
                 range = λ i still. range i (ap (λ (s : Set). has s i) (sym now_is) ∙ still) (known (has work.inodes i));
                 root_kind = reading.root_kind;

@@ -17,13 +17,13 @@ use Rattle.bp_scan.specs.Scanned.{IsScanned}
 use Rattle.bp_scan.specs.Progress.{IsEntered, IsDone, NamedBy}
 use Rattle.bp_scan.specs.Inodes.{FailsInode}
 use Rattle.bp_scan.specs.Misspelled.{FailsNames, check_of, fault_place}
-use Rattle.bp_scan.specs.Reading.{HasWholeInodes, IsReading}
+use Rattle.bp_scan.specs.Reading.{IsReading}
 use Rattle.bp_scan.specs.declared.work.Work.{Work}
 use Rattle.bp_scan.proofs.Readable.{is_sound, is_full, entry_seen, inode_found, one_entry, named_before}
 use Rattle.bp_layout.proofs.FewLeaves.{few_inodes, few_entries}
 use Rattle.bp_scan.proofs.InodeFaults.{fails_inode}
 
-module _ (image : Image) (ready : HasWholeInodes image) (work : Work) (current slot : ℕ) (reading : IsReading image work current slot) where
+module _ (image : Image) (work : Work) (current slot : ℕ) (reading : IsReading image work current slot) where
   abbrev E : ℕ → Type 0
   E = IsEntered image work.inodes
 
@@ -34,21 +34,21 @@ module _ (image : Image) (ready : HasWholeInodes image) (work : Work) (current s
   scanned = reading.midway.under_way.scanned
 
   pub first : IsEntered image work.inodes 0
-  first = (omega (arith, ready.some_inodes), go (known (has work.inodes 0)))
+  first = (omega (arith, reading.ready.some_inodes), go (known (has work.inodes 0)))
     where
       go : (has work.inodes 0 ≡ true) ⊎ (has work.inodes 0 ≡ false) → has work.inodes 0 ≡ false
       go (inl there) = absurd (omega (arith, (reading.range 0 there).0))
       go (inr gone) = gone
 
   pub inodes_sound : IsSound image (root_of image 0) (size_of image 0)
-  inodes_sound = is_sound image E D reading.midway.all work.blocks ready.some_inodes first scanned 0 first (inl refl)
+  inodes_sound = is_sound image E D reading.midway.all work.blocks reading.ready.some_inodes first scanned 0 first (inl refl)
 
   pub inodes_full : IsFull image (root_of image 0) (size_of image 0)
-  inodes_full = is_full image E D reading.midway.all work.blocks ready.some_inodes first scanned 0 first (inl refl)
+  inodes_full = is_full image E D reading.midway.all work.blocks reading.ready.some_inodes first scanned 0 first (inl refl)
 
   pub inodes_few : inode_count image ≤ length work.inodes
   inodes_few =
-      let few : inode_count image ≤ 64 * block_count image = few_inodes image (root_of image 0) (size_of image 0) inodes_sound inodes_full (omega (arith, ready.formatted.at_least)) ready.inode_blocks in
+      let few : inode_count image ≤ 64 * block_count image = few_inodes image (root_of image 0) (size_of image 0) inodes_sound inodes_full (omega (arith, reading.ready.formatted.at_least)) reading.ready.inode_blocks in
       omega (arith, few, reading.room.inodes)
 
   -- an inode in the set is not to do
@@ -60,23 +60,23 @@ module _ (image : Image) (ready : HasWholeInodes image) (work : Work) (current s
       go (inr gone) = gone
 
   pub inode_fails : (j : ℕ) (c : Check) (p : ℕ) → 1 ≤ j → IsFound image j → has work.inodes j ≡ true → FailsInode image j work.blocks c p → Fails image c p
-  inode_fails j c p some found new fails = fails_inode image E D reading.midway.all work.blocks reading.midway.whole ready.some_inodes first scanned j some found (λ e. clash new e.1) c p fails
+  inode_fails j c p some found new fails = fails_inode image E D reading.midway.all work.blocks reading.midway.whole reading.ready.some_inodes first scanned j some found (λ e. clash new e.1) c p fails
 
   module _ (entered : IsEntered image work.inodes current) (kind : kind_of image current ≡ 2) where
     pub here_sound : IsSound image (root_of image current) (size_of image current)
-    here_sound = is_sound image E D reading.midway.all work.blocks ready.some_inodes first scanned current entered (inr kind)
+    here_sound = is_sound image E D reading.midway.all work.blocks reading.ready.some_inodes first scanned current entered (inr kind)
 
     pub here_full : IsFull image (root_of image current) (size_of image current)
-    here_full = is_full image E D reading.midway.all work.blocks ready.some_inodes first scanned current entered (inr kind)
+    here_full = is_full image E D reading.midway.all work.blocks reading.ready.some_inodes first scanned current entered (inr kind)
 
     pub here_few : size_of image current / 256 ≤ 16 * block_count image
-    here_few = few_entries image (root_of image current) (size_of image current) here_sound here_full (omega (arith, ready.formatted.at_least))
+    here_few = few_entries image (root_of image current) (size_of image current) here_sound here_full (omega (arith, reading.ready.formatted.at_least))
 
     pub here_found : (r j : ℕ) → EntryNames image current r j → j < inode_count image → IsFound image j
-    here_found r j names low = inode_found image E D reading.midway.all work.blocks ready.some_inodes first scanned current r j entered names low
+    here_found r j names low = inode_found image E D reading.midway.all work.blocks reading.ready.some_inodes first scanned current r j entered names low
 
     here_entry : (r j p : ℕ) → EntryNames image current r j → entry_place image current r 0 ≡ p → IsEntry image current r j p
-    here_entry r j p names at = subst (IsEntry image current r j) at (entry_seen image E D reading.midway.all work.blocks ready.some_inodes first scanned current r j entered names)
+    here_entry r j p names at = subst (IsEntry image current r j) at (entry_seen image E D reading.midway.all work.blocks reading.ready.some_inodes first scanned current r j entered names)
 
     pub too_high : (r j p : ℕ) → EntryNames image current r j → entry_place image current r 0 ≡ p → inode_count image ≤ j → Fails image Inumber p
     too_high r j p names at high = inumber (here_entry r j p names at) high
@@ -92,9 +92,9 @@ module _ (image : Image) (ready : HasWholeInodes image) (work : Work) (current s
           where
             go : IsDone image work.inodes work.todo current slot n.directory n.entry → Fails image InodeTwice (entry_place image current slot 0)
             go (inl d) =
-                named_before image E D reading.midway.all work.blocks ready.some_inodes first scanned current slot n.directory n.entry (suc (suc j)) entered d.0 names n.names (λ same other. d.3 (sym same))
+                named_before image E D reading.midway.all work.blocks reading.ready.some_inodes first scanned current slot n.directory n.entry (suc (suc j)) entered d.0 names n.names (λ same other. d.3 (sym same))
             go (inr d) =
-                named_before image E D reading.midway.all work.blocks ready.some_inodes first scanned current slot n.directory n.entry (suc (suc j)) entered (subst (IsEntered image work.inodes) (sym d.0) entered) names n.names
+                named_before image E D reading.midway.all work.blocks reading.ready.some_inodes first scanned current slot n.directory n.entry (suc (suc j)) entered (subst (IsEntered image work.inodes) (sym d.0) entered) names n.names
                 (λ same other. omega (arith, other, d.1))
 
     used_names : (r : ℕ) → IsUsed image (root_of image current) (size_of image current) r → EntryNames image current r (inumber_at image current r)
@@ -106,7 +106,7 @@ module _ (image : Image) (ready : HasWholeInodes image) (work : Work) (current s
         name_twice (here_entry r _ _ (used_names r used) refl) (here_entry q _ _ (used_names q also) refl) (λ place. other (one place).1) same
       where
         one : entry_place image current r 0 ≡ entry_place image current q 0 → (current ≡ current) × (r ≡ q)
-        one place = one_entry image E D reading.midway.all work.blocks ready.some_inodes first scanned current r _ current q _ entered entered (used_names r used) (used_names q also) place
+        one place = one_entry image E D reading.midway.all work.blocks reading.ready.some_inodes first scanned current r _ current q _ entered entered (used_names r used) (used_names q also) place
 
     pub names_fail : (c : Check) (p : ℕ) → FailsNames image (root_of image current) (size_of image current) c p → Fails image c p
     names_fail c p fails = subst (λ check. Fails image check p) fails.check (subst (Fails image (check_of fails.fault)) fails.place (fault_fails fails.fault fails.wrong))

@@ -80,6 +80,7 @@ module _ (image : Image) (ready : HasWholeInodes image) (all left : Set) (whole 
   pub reading_starts : (none : Set) (before after : Work) → HasRoom image after → none ≡ empty (64 * block_count image) → Fills 2 (inode_count image) none before.inodes →
       before.todo ≡ empty (64 * block_count image) → left ≡ before.blocks → EntersInode image 1 before after → IsReading image after 0 0
   reading_starts none before after room none_is fills todo_is left_is enters = record {
+    ready = ready;
     room = room;
     range = λ i there. in_range i (ap (λ (s : Set). has s i) (sym enters.inodes) ∙ there) (cases_lt i 2) (cases_lt i (inode_count image));
     root_kind = kind;

@@ -30,6 +30,7 @@ pub record IsUnread (image : Image) (work : Work) : Type 0 where
 
 -- the work in the middle of a scan; the directory at hand is 0 between directories
 pub record IsReading (image : Image) (work : Work) (current slot : ℕ) : Type 0 where
+  pub ready : HasWholeInodes image
   pub room : HasRoom image work
   pub range : (i : ℕ) → has work.inodes i ≡ true → (2 ≤ i) × (i < inode_count image)
   pub root_kind : kind_of image 1 ≡ 2

@@ -5,7 +5,7 @@ ghost use Rattle.bp_layout.specs.Checks.{Fails};
 ghost use Rattle.bp_layout.specs.Directory.{inumber_in};
 ghost use Rattle.bp_layout.specs.Tree.{IsFull, IsSound};
 ghost use Rattle.bp_limits.specs.Limits.{entry_size};
-ghost use Rattle.bp_scan.specs.Reading.{HasWholeInodes, IsReading, IsAtHand, IsInside, steps};
+ghost use Rattle.bp_scan.specs.Reading.{IsReading, IsAtHand, IsInside, steps};
 ghost use Rattle.bp_scan.specs.Room.{HasRoom};
 ghost use Rattle.bp_scan.specs.Misspelled.{FailsNames};
 ghost use Rattle.bp_spelling.specs.Names.{AreNames, entry_place_in};
@@ -49,7 +49,6 @@ fn read_entry<R: Region>(
     slot: Slot,
     work: &mut Work,
 ) -> Result<(), CheckFault>
-    requires ready { HasWholeInodes (current_words (R.memory region.now)) }
     requires inside { IsInside (current_words (R.memory region.now)) work.old directory slot.number }
     requires live { slot.number < directory.tree.size / entry_size }
     requires place { slot.place ≡ entry_place_in (current_words (R.memory region.now)) directory.tree.root slot.number }
@@ -88,7 +87,6 @@ fn read_leaf<R: Region>(
     first: u64,
     work: &mut Work,
 ) -> Result<(), CheckFault>
-    requires ready { HasWholeInodes (current_words (R.memory region.now)) }
     requires inside { IsInside (current_words (R.memory region.now)) work.old directory first }
     requires starts { first % 16 ≡ 0 }
     requires live { first < directory.tree.size / entry_size }
@@ -121,8 +119,7 @@ fn read_entries<R: Region>(
     directory: Directory,
     work: &mut Work,
 ) -> Result<(), CheckFault>
-    requires ready { HasWholeInodes (current_words (R.memory region.now)) }
-    requires inside { IsInside (current_words (R.memory region.now)) work.old directory 0 }
+    requires { IsInside (current_words (R.memory region.now)) work.old directory 0 }
     ensures inside { let words = current_words (R.memory region.now) in
         OnOk result (IsInside words work.new directory (directory.tree.size / entry_size)) }
     ensures steps { OnOk result (steps work.new ≤ steps work.old) }
@@ -171,8 +168,7 @@ pub(crate) fn read_directory<R: Region>(
     inode: u32,
     work: &mut Work,
 ) -> Result<(), CheckFault>
-    requires ready { HasWholeInodes (current_words (R.memory region.now)) }
-    requires begun { IsAtHand (current_words (R.memory region.now)) work.old inode 0 }
+    requires { IsAtHand (current_words (R.memory region.now)) work.old inode 0 }
     ensures done { OnOk result (IsReading (current_words (R.memory region.now)) work.new 0 0) }
     ensures steps { OnOk result (steps work.new ≤ steps work.old) }
     ensures fault { IfErr result (λ f. Fails (current_words (R.memory region.now)) f.check f.place) }

@@ -7,7 +7,7 @@ ghost use Rattle.bp_layout.specs.Free.{AreFreeBlocks, AreFreeInodes};
 ghost use Rattle.bp_layout.specs.Inode.{inode_count};
 ghost use Rattle.bp_layout.specs.Reached.{IsReached};
 ghost use Rattle.bp_layout.specs.WellFormed.{IsWellFormed};
-ghost use Rattle.bp_scan.specs.Reading.{HasWholeInodes, IsReading, IsUnread};
+ghost use Rattle.bp_scan.specs.Reading.{IsReading, IsUnread};
 ghost use Rattle.bp_scan.specs.Room.{HasRoom};
 ghost use Rattle.pm_region.specs.Memory.{current_words};
 
@@ -23,7 +23,6 @@ use pm_region::Region;
 fn start<R: Region>(region: &R, work: &mut Work) -> Result<(), CheckFault>
     requires formatted { IsFormatted (current_words (R.memory region.now)) }
     requires unread { IsUnread (current_words (R.memory region.now)) work.old }
-    ensures ready { OnOk result (HasWholeInodes (current_words (R.memory region.now))) }
     ensures started { OnOk result (IsReading (current_words (R.memory region.now)) work.new 0 0) }
     ensures fault { IfErr result (λ f. Fails (current_words (R.memory region.now)) f.check f.place) }
     ensures room { HasRoom (current_words (R.memory region.now)) work.new }
@@ -40,8 +39,7 @@ fn start<R: Region>(region: &R, work: &mut Work) -> Result<(), CheckFault>
 
 /// Reads the directories that are to do, and those that they lead to.
 fn read_directories<R: Region>(region: &R, work: &mut Work) -> Result<(), CheckFault>
-    requires ready { HasWholeInodes (current_words (R.memory region.now)) }
-    requires reading { IsReading (current_words (R.memory region.now)) work.old 0 0 }
+    requires { IsReading (current_words (R.memory region.now)) work.old 0 0 }
     ensures reading { OnOk result (IsReading (current_words (R.memory region.now)) work.new 0 0) }
     ensures none_left { OnOk result ((i : ℕ) → has work.new.todo i ≡ false) }
     ensures fault { IfErr result (λ f. Fails (current_words (R.memory region.now)) f.check f.place) }

@@ -8,30 +8,30 @@ use Rattle.bp_scan.proofs.directories.read_directory.Goals as goal
 
 pub get-words-requires-clause-sound : goal.get-words-requires-clause-sound
 get-words-requires-clause-sound g c =
-    inodes_sound (current_words (g.R.Region.memory c.args.region.now)) c.requires.ready c.args.work.now c.args.inode 0 c.requires.begun.reading
+    inodes_sound (current_words (g.R.Region.memory c.args.region.now)) c.args.work.now c.args.inode 0 c.requires.reading
 
 pub read_names-requires-clause-sound : goal.read_names-requires-clause-sound
 read_names-requires-clause-sound g c =
-    begun_sound (current_words (g.R.Region.memory c.args.region.now)) c.requires.ready c.args.work.now
-    (record { inode = c.args.inode; tree = c.of-tree.result }) c.requires.begun (c.of-tree.ensures.root ∙ c.get-words.ensures.root) (c.of-tree.ensures.size ∙ c.get-words.ensures.size)
+    begun_sound (current_words (g.R.Region.memory c.args.region.now)) c.args.work.now
+    (record { inode = c.args.inode; tree = c.of-tree.result }) c.requires (c.of-tree.ensures.root ∙ c.get-words.ensures.root) (c.of-tree.ensures.size ∙ c.get-words.ensures.size)
 
 pub read_names-requires-clause-full : goal.read_names-requires-clause-full
 read_names-requires-clause-full g c =
-    begun_full (current_words (g.R.Region.memory c.args.region.now)) c.requires.ready c.args.work.now
-    (record { inode = c.args.inode; tree = c.of-tree.result }) c.requires.begun (c.of-tree.ensures.root ∙ c.get-words.ensures.root) (c.of-tree.ensures.size ∙ c.get-words.ensures.size)
+    begun_full (current_words (g.R.Region.memory c.args.region.now)) c.args.work.now
+    (record { inode = c.args.inode; tree = c.of-tree.result }) c.requires (c.of-tree.ensures.root ∙ c.get-words.ensures.root) (c.of-tree.ensures.size ∙ c.get-words.ensures.size)
 
 pub read_names-requires-clause-room : goal.read_names-requires-clause-room
 read_names-requires-clause-room g c =
     let image = current_words (g.R.Region.memory c.args.region.now) in
     let few : c.of-tree.result.size / 256 ≤ 16 * block_count image =
-    begun_few image c.requires.ready c.args.work.now
-    (record { inode = c.args.inode; tree = c.of-tree.result }) c.requires.begun (c.of-tree.ensures.root ∙ c.get-words.ensures.root) (c.of-tree.ensures.size ∙ c.get-words.ensures.size) in
-    omega (arith, few, c.requires.begun.reading.room.entries)
+    begun_few image c.args.work.now
+    (record { inode = c.args.inode; tree = c.of-tree.result }) c.requires (c.of-tree.ensures.root ∙ c.get-words.ensures.root) (c.of-tree.ensures.size ∙ c.get-words.ensures.size) in
+    omega (arith, few, c.requires.reading.room.entries)
 
 pub returns-in-Err-clause-fault : goal.returns-in-Err-clause-fault
 returns-in-Err-clause-fault g c =
-    begun_names_fail (current_words (g.R.Region.memory c.args.region.now)) c.requires.ready c.args.work.now
-    (record { inode = c.args.inode; tree = c.of-tree.result }) c.requires.begun (c.of-tree.ensures.root ∙ c.get-words.ensures.root) (c.of-tree.ensures.size ∙ c.get-words.ensures.size)
+    begun_names_fail (current_words (g.R.Region.memory c.args.region.now)) c.args.work.now
+    (record { inode = c.args.inode; tree = c.of-tree.result }) c.requires (c.of-tree.ensures.root ∙ c.get-words.ensures.root) (c.of-tree.ensures.size ∙ c.get-words.ensures.size)
     c.in-Err.fault.check c.in-Err.fault.place c.in-Err.ensures.err
 
 pub returns-clause-done : goal.returns-clause-done

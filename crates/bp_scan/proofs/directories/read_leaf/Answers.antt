@@ -9,11 +9,11 @@ use Rattle.bp_scan.proofs.directories.read_leaf.Goals as goal
 
 pub entry_place-place-requires-clause-sound : goal.entry_place-place-requires-clause-sound
 entry_place-place-requires-clause-sound g c =
-    tree_sound (current_words (g.R.Region.memory c.args.region.now)) c.requires.ready c.args.work.now c.args.directory c.args.first c.requires.inside
+    tree_sound (current_words (g.R.Region.memory c.args.region.now)) c.args.work.now c.args.directory c.args.first c.requires.inside
 
 pub entry_place-place-requires-clause-full : goal.entry_place-place-requires-clause-full
 entry_place-place-requires-clause-full g c =
-    tree_full (current_words (g.R.Region.memory c.args.region.now)) c.requires.ready c.args.work.now c.args.directory c.args.first c.requires.inside
+    tree_full (current_words (g.R.Region.memory c.args.region.now)) c.args.work.now c.args.directory c.args.first c.requires.inside
 
 pub named_in_row-named-requires-clause-within : goal.named_in_row-named-requires-clause-within
 named_in_row-named-requires-clause-within g c =
@@ -22,8 +22,8 @@ named_in_row-named-requires-clause-within g c =
     let size = c.args.directory.tree.size in
     let first = c.args.first in
     let last = c.min-count.result - 1 in
-    let sound = tree_sound image c.requires.ready c.args.work.now c.args.directory first c.requires.inside in
-    let full = tree_full image c.requires.ready c.args.work.now c.args.directory first c.requires.inside in
+    let sound = tree_sound image c.args.work.now c.args.directory first c.requires.inside in
+    let full = tree_full image c.args.work.now c.args.directory first c.requires.inside in
     let some : 1 ≤ c.min-count.result = omega (arith, c.min-count.ensures, c.requires.live) in
     let row : last < 16 = omega (arith, c.min-count.ensures) in
     let live : first + last < size / 256 = omega (arith, c.min-count.ensures, c.requires.live) in
@@ -35,7 +35,7 @@ read_entry-requires-clause-named g c =
     let root = c.args.directory.tree.root in
     let size = c.args.directory.tree.size in
     let k = c.loop-k.k in
-    let full = tree_full image c.requires.ready c.args.work.now c.args.directory c.args.first c.requires.inside in
+    let full = tree_full image c.args.work.now c.args.directory c.args.first c.requires.inside in
     let row : k < 16 = omega (arith, c.min-count.ensures, c.loop-k-test.true) in
     let live : c.args.first + k < size / 256 = omega (arith, c.min-count.ensures, c.loop-k-test.true) in
     let there : c.entry_place-place.result + 32 * k ≡ entry_place_in image root (c.args.first + k) = omega (arith, c.entry_place-place.ensures.place, row_place image root c.args.first k c.requires.starts row) in

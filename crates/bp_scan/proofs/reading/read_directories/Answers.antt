@@ -4,8 +4,8 @@ use Rattle.pm_region.specs.Memory.{current_words}
 use Rattle.bp_scan.proofs.DirectoryLaws.{none_of, steps_fall, taken_least}
 use Rattle.bp_scan.proofs.reading.read_directories.Goals as goal
 
-pub read_directory-requires-clause-begun : goal.read_directory-requires-clause-begun
-read_directory-requires-clause-begun g c =
+pub read_directory-requires : goal.read_directory-requires
+read_directory-requires g c =
     taken_least (current_words (g.R.Region.memory c.args.region.now)) c.loop-inode.work c.take.new.self c.in-Some.inode c.loop-inode.invariant.reading c.in-Some.ensures.0 c.in-Some.ensures.1
 
 pub loop-inode-smaller : goal.loop-inode-smaller

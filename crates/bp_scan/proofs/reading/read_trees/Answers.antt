@@ -5,19 +5,19 @@ use Rattle.bp_scan.proofs.reading.read_trees.Goals as goal
 pub returns-clause-well_formed : goal.returns-clause-well_formed
 returns-clause-well_formed g c =
     let image = current_words (g.R.Region.memory c.args.region.now) in
-    on_ok_both c.read_directories.result (λ reading none. all_well_formed image c.in_default.ensures.ready c.read_directories.new.work reading none) c.read_directories.ensures.reading c.read_directories.ensures.none_left
+    on_ok_both c.read_directories.result (λ reading none. all_well_formed image c.read_directories.new.work reading none) c.read_directories.ensures.reading c.read_directories.ensures.none_left
 
 pub returns-clause-blocks : goal.returns-clause-blocks
 returns-clause-blocks g c =
     let image = current_words (g.R.Region.memory c.args.region.now) in
-    on_ok_both c.read_directories.result (λ reading none. all_free_blocks image c.in_default.ensures.ready c.read_directories.new.work reading none) c.read_directories.ensures.reading c.read_directories.ensures.none_left
+    on_ok_both c.read_directories.result (λ reading none. all_free_blocks image c.read_directories.new.work reading none) c.read_directories.ensures.reading c.read_directories.ensures.none_left
 
 pub returns-clause-inodes : goal.returns-clause-inodes
 returns-clause-inodes g c =
     let image = current_words (g.R.Region.memory c.args.region.now) in
-    on_ok_both c.read_directories.result (λ reading none. all_free_inodes image c.in_default.ensures.ready c.read_directories.new.work reading none) c.read_directories.ensures.reading c.read_directories.ensures.none_left
+    on_ok_both c.read_directories.result (λ reading none. all_free_inodes image c.read_directories.new.work reading none) c.read_directories.ensures.reading c.read_directories.ensures.none_left
 
 pub returns-clause-reached : goal.returns-clause-reached
 returns-clause-reached g c =
     let image = current_words (g.R.Region.memory c.args.region.now) in
-    on_ok_both c.read_directories.result (λ reading none i some low gone. all_reached image c.in_default.ensures.ready c.read_directories.new.work reading none i low gone) c.read_directories.ensures.reading c.read_directories.ensures.none_left
+    on_ok_both c.read_directories.result (λ reading none i some low gone. all_reached image c.read_directories.new.work reading none i low gone) c.read_directories.ensures.reading c.read_directories.ensures.none_left

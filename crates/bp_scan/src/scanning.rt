@@ -111,6 +111,7 @@ pub fn scan<R: Region>(
     ensures inode_room { length inodes.new ≡ length inodes.old }
     ensures pending { pending.new ≡ pending.old }
 {
+    // The sets of a volume stand behind a reference, so they are lent: the work's own have no room.
     mem::swap(blocks, &mut pending.work.blocks);
     mem::swap(inodes, &mut pending.work.inodes);
     let told = scan_with(region, &mut pending.work);

@@ -1,6 +1,6 @@
 //! Plays over a volume.
 
-ghost use Rattle.std.specs.Prelude.{◌≡◌, ◌≤◌, IfOk, vec_capacity};
+ghost use Rattle.std.specs.Prelude.{◌≡◌, ◌≤◌, vec_capacity};
 ghost use Rattle.bp_limits.specs.Limits.{log_events, max_turns};
 ghost use Rattle.bp_plain.specs.Seen.{call_of};
 ghost use Rattle.bp_play.specs.Counting.{CanCount};

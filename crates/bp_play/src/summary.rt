@@ -1,9 +1,8 @@
 //! What came of a play.
 
-ghost use Rattle.std.specs.Prelude.{◌≡◌, ◌∷◌, ◌++◌, ◌≤◌, ◌+◌, ◌*◌, ℕ, List, []};
-ghost use Rattle.bp_limits.specs.Limits.{log_events, max_turns};
+ghost use Rattle.std.specs.Prelude.{◌≡◌, ◌≤◌, []};
+ghost use Rattle.bp_limits.specs.Limits.{log_events};
 ghost use Rattle.bp_plain.specs.SeenAnswers.{answer_seen};
-ghost use Rattle.bp_script.specs.Texts.{LineReply};
 ghost use Rattle.bp_script.specs.Texts.LineReply.{answered, kept_of};
 
 use bp_plain::Answer;

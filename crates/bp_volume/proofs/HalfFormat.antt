@@ -13,7 +13,7 @@ use Rattle.bp_limits.specs.Limits.{magic}
 use Rattle.bp_plain.specs.PlainTree.{empty_tree}
 use Rattle.bp_plain.specs.Stands.{Stands}
 use Rattle.bp_plain.proofs.FormatStands.{format_stands}
-use Rattle.bp_volume.specs.Laid.{IsLeftByFormat, format_events}
+use Rattle.bp_volume.specs.Laid.{IsLeftByFormat, format_epoch, format_events}
 use Rattle.bp_volume.specs.Laid.IsLeftByFormat.{untouched, unmarked, empty}
 
 -- a replay of some events keeps stores of some epochs and a mask
@@ -37,13 +37,13 @@ word_stays base events place may image found =
 
 module _ (base : Image) (blocks : ℕ) (whole : length base ≡ 512 * blocks) (least : 8 ≤ blocks) (most : blocks ≤ 16384) where
   abbrev unmarking : List Event
-  unmarking = Store 0 0 ∷ Barrier ∷ []
+  unmarking = format_epoch blocks 0 1
 
   abbrev filling : List Event
-  filling = Store 1 blocks ∷ Store 2 0x1000 ∷ Store 3 4096 ∷ Store 520 2 ∷ Store 521 0 ∷ Store 522 0 ∷ Barrier ∷ []
+  filling = format_epoch blocks 1 7
 
   abbrev marking : List Event
-  marking = Store 0 magic ∷ Barrier ∷ []
+  marking = format_epoch blocks 7 8
 
   cleared : word (set base 0 0) 0 ≡ 0
   cleared = get_or-set_same base 0 0 0 (omega (arith, whole, least))

@@ -1,8 +1,6 @@
 -- What a format makes of a region.
-use Rattle.std.proofs.Common.{◌≡◌, ℕ, ◌*◌, ◌≤◌, refl, []}
+use Rattle.std.proofs.Common.{◌≡◌, refl, []}
 use Rattle.pm_region.specs.Memory.{Memory, drained, Adds}
-use Rattle.bp_free.specs.Set.{Set}
-use Rattle.bp_layout.specs.Same.{Same}
 use Rattle.bp_layout.specs.Words.{block_count}
 use Rattle.bp_volume.specs.Laid.{format_events, formatted_memory}
 

@@ -17,13 +17,13 @@ use Rattle.bp_session.specs.Files.{Holds, HoldsAs, HoldsPartly}
 use Rattle.bp_session.specs.Lines.{commands_from}
 use Rattle.bp_session.specs.Outside.{IsFirstFault, counts}
 use Rattle.bp_session.specs.Session.{State}
-use Rattle.bp_session.specs.Serving.{Acts, DoesCut, FailsLine, HoldsAt, Input, Keeps, LineOutcome, Moment, PieceOutcome, ServeOutcome, Serves, ServesAll, Stops, SyncFails, moment}
+use Rattle.bp_session.specs.Serving.{Acts, DoesBreakOff, FailsLine, HoldsAt, Input, Keeps, LineOutcome, Moment, PieceOutcome, ServeOutcome, Serves, ServesAll, Stops, SyncFails, moment}
 use Rattle.bp_session.specs.Taking.{TakesPart}
 use Rattle.bp_session.specs.Gathering.{Clears, AwaitsReply, IsUnheard, IsUntold, LineGathers, PassesOn, Reaches}
 use Rattle.bp_session.proofs.GatheringLaws.{handed_behind, part_behind, passed_part, passes_behind, taken_behind, with_nothing, with_waiting}
-use Rattle.bp_session.proofs.OutcomeLaws.{files_fault, first_after, line_cut, line_stopped, line_whole, no_fault, piece_newline, piece_quiet, piece_then, sink_fault}
+use Rattle.bp_session.proofs.OutcomeLaws.{files_fault, first_after, line_broken, line_stopped, line_whole, no_fault, piece_newline, piece_quiet, piece_then, sink_fault}
 use Rattle.bp_session.proofs.SavingLaws.{stays_attached, still_attached}
-use Rattle.bp_session.proofs.ServingLaws.{commands_at_newline, cuts_in, cuts_line, serves_one, stops_in, text_none}
+use Rattle.bp_session.proofs.ServingLaws.{commands_at_newline, breaks_in, breaks_line, serves_one, stops_in, text_none}
 
 -- ---- what a line adds to what a sink took and what waits
 
@@ -57,31 +57,31 @@ stops_handed old memory partly command more t u fails took = record {
 piece_handed : (held : List ℕ) (now : Moment) (u : Option (List ℕ)) → Appends now.taken u [] → PieceOutcome 0 held [] held now (record now { taken = u })
 piece_handed held now u took = record {
   whole = λ _ name saved file. record { commands = []; lines = λ rest. refl; after = saved; file = file; told = record { replies = []; session = refl; taken = rw text_none took } };
-  cut = λ e. absurd (omega (arith, e));
+  broken = λ e. absurd (omega (arith, e));
   stopped = λ e. absurd (omega (arith, e));
   keeps_files = record { size = refl; capacity = refl; attached = still_attached now.files; flushed = λ _ e. e };
   first = no_fault 0 _ _ (λ e. omega (arith, e)) (λ e. omega (arith, e)) (λ e. omega (arith, e)) refl refl refl;
   one_of = inl refl;
 }
 
--- ---- a cut that may come
+-- ---- a reply that may break off
 
--- The reply to a line was cut, behind which the memory was this.
+-- The reply to a line broke off, behind which the memory was this.
 pub record Reached (start : Moment) (most : ℕ) (own : Memory) (files : View) (taken : Option (List ℕ)) (ask : List ℕ → List Command) : Type 0 where
   pub memory : Memory
   pub same : most ≡ 0 → memory ≡ own
   pub size : length memory.base ≡ length start.memory.base
   pub capacity : memory.capacity ≡ start.memory.capacity
-  pub cut : (rest : List ℕ) → DoesCut start (moment memory files taken 0) (ask rest)
+  pub broken : (rest : List ℕ) → DoesBreakOff start (moment memory files taken 0) (ask rest)
 
--- where a sink takes a proper front of what waits, a reply is cut
-abbrev pub MayCut : Moment → ℕ → Moment → List ℕ → (List ℕ → List Command) → Type 0
-MayCut start most now waits ask = (taken : Option (List ℕ)) → TakesPart waits now.taken taken → Reached start most now.memory now.files taken ask
+-- where a sink takes a proper front of what waits, a reply broke off
+abbrev pub MayBreakOff : Moment → ℕ → Moment → List ℕ → (List ℕ → List Command) → Type 0
+MayBreakOff start most now waits ask = (taken : Option (List ℕ)) → TakesPart waits now.taken taken → Reached start most now.memory now.files taken ask
 
 -- Lines of an input were served, whose last replies wait.
 pub record Waits (start : Moment) (most : ℕ) (held input keeps waits : List ℕ) (now : Moment) : Type 0 where
   pub piece : PieceOutcome 0 held input keeps start (record now { taken = with_waiting now.taken waits })
-  pub may : MayCut start most now waits (λ rest. commands_from held (input ++ rest))
+  pub may : MayBreakOff start most now waits (λ rest. commands_from held (input ++ rest))
   pub few : most ≡ 0 → waits ≡ []
 
 not_part : (waits : List ℕ) (t u : Option (List ℕ)) → waits ≡ [] → TakesPart waits t u → ⊥
@@ -95,25 +95,25 @@ waits_nothing start most held waits none piece = record {
 }
 
 module _ (start : Moment) (most : ℕ) (held input middle a : List ℕ) (now : Moment) (one : Waits start most held input middle a now) where
-  -- the reply of the next line is cut
-  cut_new : (memory : Memory) (files : View) (reply : LineReply) (n : ℕ) (taken : Option (List ℕ)) → ((name : List ℕ) (saved : Image) → HoldsAt now name saved → Acts (state now.memory saved) memory (Holds files name) (command_of middle) reply)
+  -- the reply of the next line breaks off
+  broken_new : (memory : Memory) (files : View) (reply : LineReply) (n : ℕ) (taken : Option (List ℕ)) → ((name : List ℕ) (saved : Image) → HoldsAt now name saved → Acts (state now.memory saved) memory (Holds files name) (command_of middle) reply)
       → n < length (reply_text reply) → Appends (with_waiting now.taken a) taken (take n (reply_text reply)) → (rest : List ℕ)
-      → DoesCut start (moment memory files taken 0) (commands_from held ((input ++ 10 ∷ []) ++ rest))
-  cut_new memory files reply n taken does low took rest name saved holds =
+      → DoesBreakOff start (moment memory files taken 0) (commands_from held ((input ++ 10 ∷ []) ++ rest))
+  broken_new memory files reply n taken does low took rest name saved holds =
       let first = one.piece.whole refl name saved holds in
-      rw (append_assoc input (10 ∷ []) rest) (cuts_in _ _ _ _ _ _ _ _ _ first memory (Holds files name) (10 ∷ rest)
-      (rw (commands_at_newline middle rest) (cuts_line (Holds files name) _ _ _ (commands_from [] rest) _ n _ _ (does name first.after first.file) low took)))
+      rw (append_assoc input (10 ∷ []) rest) (breaks_in _ _ _ _ _ _ _ _ _ first memory (Holds files name) (10 ∷ rest)
+      (rw (commands_at_newline middle rest) (breaks_line (Holds files name) _ _ _ (commands_from [] rest) _ n _ _ (does name first.after first.file) low took)))
 
   -- .. or one before it
-  cut_old : (memory : Memory) (files : View) (taken : Option (List ℕ)) → files ≡ now.files → TakesPart a now.taken taken → Reached start most memory files taken (λ rest. commands_from held ((input ++ 10 ∷ []) ++ rest))
-  cut_old memory files taken same part =
+  broken_old : (memory : Memory) (files : View) (taken : Option (List ℕ)) → files ≡ now.files → TakesPart a now.taken taken → Reached start most memory files taken (λ rest. commands_from held ((input ++ 10 ∷ []) ++ rest))
+  broken_old memory files taken same part =
       let old = one.may taken part in
       rw same (record {
         memory = old.memory;
         same = λ none. absurd (not_part a now.taken taken (one.few none) part);
         size = old.size;
         capacity = old.capacity;
-        cut = λ rest. rw (append_assoc input (10 ∷ []) rest) (old.cut (10 ∷ rest));
+        broken = λ rest. rw (append_assoc input (10 ∷ []) rest) (old.broken (10 ∷ rest));
       })
 
   module _ (new : Moment) (size : length new.memory.base ≡ length now.memory.base) (capacity : new.memory.capacity ≡ now.memory.capacity) (done : AwaitsReply (command_of middle) a now new) where
@@ -129,7 +129,7 @@ module _ (start : Moment) (most : ℕ) (held input middle a : List ℕ) (now : M
       same = λ _. refl;
       size = size ∙ one.piece.keeps_files.size;
       capacity = capacity ∙ one.piece.keeps_files.capacity;
-      cut = cut_new memory files done.reply n taken (λ name saved holds. acts_alone _ _ _ _ (done.does name saved holds)) low took;
+      broken = broken_new memory files done.reply n taken (λ name saved holds. acts_alone _ _ _ _ (done.does name saved holds)) low took;
     }
 
     -- behind what still waits
@@ -139,7 +139,7 @@ module _ (start : Moment) (most : ℕ) (held input middle a : List ℕ) (now : M
         go : (early : Bool) → nat_lt part.0 (length a) ≡ early → Reached start most memory files taken (λ rest. commands_from held ((input ++ 10 ∷ []) ++ rest))
         go true e =
             let low = ltb-true part.0 (length a) e in
-            cut_old memory files taken same (part.0, low, rw (take-append-le part.0 a (reply_text done.reply) (omega (arith, low))) at part.2)
+            broken_old memory files taken same (part.0, low, rw (take-append-le part.0 a (reply_text done.reply) (omega (arith, low))) at part.2)
         go false e =
             let high = ltb-false part.0 (length a) e in
             let n = part.0 - length a in
@@ -188,22 +188,22 @@ module _ (start : Moment) (most : ℕ) (held input middle a : List ℕ) (now : M
           few = few;
         }
 
-    cut_reached : (b : List ℕ) → LineGathers 4 (command_of middle) a b now new → Reached start most new.memory new.files new.taken (λ rest. commands_from held ((input ++ 10 ∷ []) ++ rest))
-    cut_reached b line = go (line.cut refl)
+    broken_reached : (b : List ℕ) → LineGathers 4 (command_of middle) a b now new → Reached start most new.memory new.files new.taken (λ rest. commands_from held ((input ++ 10 ∷ []) ++ rest))
+    broken_reached b line = go (line.broken refl)
       where
         go : IsUntold (command_of middle) a now new ⊎ IsUnheard a now new → Reached start most new.memory new.files new.taken (λ rest. commands_from held ((input ++ 10 ∷ []) ++ rest))
         go (inl untold) = reached_part new line.keeps.size line.keeps.capacity untold.done new.taken untold.part
-        go (inr unheard) = cut_old new.memory new.files new.taken unheard.files unheard.part
+        go (inr unheard) = broken_old new.memory new.files new.taken unheard.files unheard.part
 
-    cut_ends : (b keeps : List ℕ) → LineGathers 4 (command_of middle) a b now new → Reaches 4 most (PieceOutcome 4 held (input ++ 10 ∷ []) keeps start) new
-    cut_ends b keeps line =
-        let reached = cut_reached b line in
+    broken_ends : (b keeps : List ℕ) → LineGathers 4 (command_of middle) a b now new → Reaches 4 most (PieceOutcome 4 held (input ++ 10 ∷ []) keeps start) new
+    broken_ends b keeps line =
+        let reached = broken_reached b line in
         record {
           memory = reached.memory;
           same = λ e. reached.same (e refl);
           is = record {
             whole = λ e. absurd (omega (arith, e));
-            cut = λ _. reached.cut;
+            broken = λ _. reached.broken;
             stopped = λ e. absurd (omega (arith, e));
             keeps_files = record { size = reached.size; capacity = reached.capacity; attached = (keeps_on 4 line.keeps).attached; flushed = (keeps_on 4 line.keeps).flushed };
             first = first_on 4 line.first;
@@ -219,7 +219,7 @@ module _ (start : Moment) (most : ℕ) (held input middle a : List ℕ) (now : M
           same = λ _. refl;
           is = record {
             whole = λ e. absurd (omega (arith, e));
-            cut = λ e. absurd (omega (arith, e));
+            broken = λ e. absurd (omega (arith, e));
             stopped = λ _ rest name saved holds.
                 let first = one.piece.whole refl name saved holds in
                 rw (append_assoc input (10 ∷ []) rest) (stops_in _ _ _ _ _ _ _ _ _ first new.memory (HoldsPartly new.files name) (10 ∷ rest)
@@ -236,7 +236,7 @@ module _ (start : Moment) (most : ℕ) (held input middle a : List ℕ) (now : M
       where
         go : (status ≡ 0) ⊎ (status ≡ 4) ⊎ (status ≡ 5) → Reaches status most (PieceOutcome status held (input ++ 10 ∷ []) keeps start) new
         go (inl e) = absurd (other e)
-        go (inr (inl e)) = rw e (cut_ends b keeps (rw e at line))
+        go (inr (inl e)) = rw e (broken_ends b keeps (rw e at line))
         go (inr (inr e)) = rw e (stop_ends b keeps (rw e at line))
 
     pub line_keeps : (status : ℕ) (b : List ℕ) → LineGathers status (command_of middle) a b now new → Keeps status start new
@@ -250,7 +250,7 @@ module _ (start : Moment) (most : ℕ) (held input middle a : List ℕ) (now : M
     piece = piece_then 0 held input middle run kept _ _ _ one.piece (piece_quiet _ middle run kept same);
     may = λ taken part.
         let old = one.may taken part in
-        record { memory = old.memory; same = old.same; size = old.size; capacity = old.capacity; cut = λ rest. rw (append_assoc input run rest) (old.cut (run ++ rest)) };
+        record { memory = old.memory; same = old.same; size = old.size; capacity = old.capacity; broken = λ rest. rw (append_assoc input run rest) (old.broken (run ++ rest)) };
     few = one.few;
   }
 
@@ -261,15 +261,15 @@ module _ (start : Moment) (most : ℕ) (held input middle a : List ℕ) (now : M
       (piece_then 0 held input middle [] middle _ _ _ one.piece (piece_handed middle (record now { taken = with_waiting now.taken a }) taken (handed_behind a now.taken taken took)))
 
   -- .. or the sink fails
-  pub waits_cut : (taken : Option (List ℕ)) (faults : ℕ) (keeps : List ℕ) → TakesPart a now.taken taken → Rose now.faults faults → Reaches 4 most (PieceOutcome 4 held input keeps start) (record now { taken = taken; faults = faults })
-  waits_cut taken faults keeps part rose =
+  pub waits_broken : (taken : Option (List ℕ)) (faults : ℕ) (keeps : List ℕ) → TakesPart a now.taken taken → Rose now.faults faults → Reaches 4 most (PieceOutcome 4 held input keeps start) (record now { taken = taken; faults = faults })
+  waits_broken taken faults keeps part rose =
       let reached = one.may taken part in
       record {
         memory = reached.memory;
         same = λ e. reached.same (e refl);
         is = record {
           whole = λ e. absurd (omega (arith, e));
-          cut = λ _. reached.cut;
+          broken = λ _. reached.broken;
           stopped = λ e. absurd (omega (arith, e));
           keeps_files = record { size = reached.size; capacity = reached.capacity; attached = one.piece.keeps_files.attached; flushed = λ _. one.piece.keeps_files.flushed (λ z. omega (arith, z)) };
           first = first_after 4 _ (counts 0 now.faults now.files) _ one.piece.first (sink_fault _ _ refl rose refl);
@@ -284,17 +284,17 @@ module _ (command : Command) (a b : List ℕ) (old new : Moment) (size : length 
       → new.faults ≡ old.faults → new.files.faults ≡ old.files.faults → LineGathers 0 command a b old new
   line_told flushed done passes sink files = record {
     whole = λ _. record { done = done; passes = passes };
-    cut = λ e. absurd (omega (arith, e));
+    broken = λ e. absurd (omega (arith, e));
     stopped = λ e. absurd (omega (arith, e));
     keeps = record { size = size; capacity = capacity; attached = attached; flushed = λ _. flushed };
     first = no_fault 0 _ _ (λ e. omega (arith, e)) (λ e. omega (arith, e)) (λ e. omega (arith, e)) refl sink files;
     one_of = inl refl;
   }
 
-  line_cut_off : (flushed : old.files.is_flushed ≡ true → new.files.is_flushed ≡ true) → IsUntold command a old new ⊎ IsUnheard a old new → Rose old.faults new.faults → new.files.faults ≡ old.files.faults → LineGathers 4 command a b old new
-  line_cut_off flushed cut rose files = record {
+  line_broken_off : (flushed : old.files.is_flushed ≡ true → new.files.is_flushed ≡ true) → IsUntold command a old new ⊎ IsUnheard a old new → Rose old.faults new.faults → new.files.faults ≡ old.files.faults → LineGathers 4 command a b old new
+  line_broken_off flushed broken rose files = record {
     whole = λ e. absurd (omega (arith, e));
-    cut = λ _. cut;
+    broken = λ _. broken;
     stopped = λ e. absurd (omega (arith, e));
     keeps = record { size = size; capacity = capacity; attached = attached; flushed = λ _. flushed };
     first = sink_fault _ _ refl rose files;
@@ -303,15 +303,15 @@ module _ (command : Command) (a b : List ℕ) (old new : Moment) (size : length 
 
   pub line_untold : (flushed : old.files.is_flushed ≡ true → new.files.is_flushed ≡ true) (done : AwaitsReply command a old new) → TakesPart (done.waits ++ reply_text done.reply) done.taken new.taken
       → Rose old.faults new.faults → new.files.faults ≡ old.files.faults → LineGathers 4 command a b old new
-  line_untold flushed done part = line_cut_off flushed (inl (record { done = done; part = part }))
+  line_untold flushed done part = line_broken_off flushed (inl (record { done = done; part = part }))
 
   pub line_unheard : TakesPart a old.taken new.taken → new.files ≡ old.files → Rose old.faults new.faults → LineGathers 4 command a b old new
-  line_unheard part same rose = line_cut_off (λ e. ap (λ (v : View). v.is_flushed) same ∙ e) (inr (record { part = part; files = same })) rose (ap (λ (v : View). v.faults) same)
+  line_unheard part same rose = line_broken_off (λ e. ap (λ (v : View). v.is_flushed) same ∙ e) (inr (record { part = part; files = same })) rose (ap (λ (v : View). v.faults) same)
 
   pub line_unsaved : FailsLine old command new → Appends old.taken new.taken a → new.faults ≡ old.faults → Rose old.files.faults new.files.faults → LineGathers 5 command a b old new
   line_unsaved fails took sink rose = record {
     whole = λ e. absurd (omega (arith, e));
-    cut = λ e. absurd (omega (arith, e));
+    broken = λ e. absurd (omega (arith, e));
     stopped = λ _. record { fails = fails; taken = took };
     keeps = record { size = size; capacity = capacity; attached = attached; flushed = λ no. absurd (no refl) };
     first = files_fault _ _ refl sink rose;
@@ -339,13 +339,13 @@ module _ (command : Command) (old new : Moment) where
       let took = added reply [] [] answered.done.waits old.taken answered.done.taken new.taken old.files new.files answered.done.clears answered.passes in
       line_whole _ _ _ (λ name saved file. serves_one _ _ _ _ _ _ _ (answered.done.does name saved file) (rw (with_nothing old.taken, with_nothing new.taken) at took)) line.keeps (line.first.no_sink (inl refl)) (line.first.no_files (λ e. omega (arith, e)))
 
-  alone_cut : (b : List ℕ) → LineGathers 4 command [] b old new → LineOutcome 4 (command ∷ []) old new
-  alone_cut b line = go (line.cut refl)
+  alone_broken : (b : List ℕ) → LineGathers 4 command [] b old new → LineOutcome 4 (command ∷ []) old new
+  alone_broken b line = go (line.broken refl)
     where
       go : IsUntold command [] old new ⊎ IsUnheard [] old new → LineOutcome 4 (command ∷ []) old new
       go (inl untold) =
           let part = told_alone untold.done new.taken untold.part in
-          line_cut _ _ _ (λ name saved file. cuts_line _ _ _ _ [] _ part.0 _ _ (acts_alone _ _ _ _ (untold.done.does name saved file)) part.1 part.2) line.keeps (line.first.sink refl) (line.first.no_files (λ e. omega (arith, e)))
+          line_broken _ _ _ (λ name saved file. breaks_line _ _ _ _ [] _ part.0 _ _ (acts_alone _ _ _ _ (untold.done.does name saved file)) part.1 part.2) line.keeps (line.first.sink refl) (line.first.no_files (λ e. omega (arith, e)))
       go (inr unheard) = absurd (not_part [] old.taken new.taken refl unheard.part)
 
   alone_stopped : (b : List ℕ) → LineGathers 5 command [] b old new → LineOutcome 5 (command ∷ []) old new
@@ -358,12 +358,12 @@ module _ (command : Command) (old new : Moment) where
     where
       go : (status ≡ 0) ⊎ (status ≡ 4) ⊎ (status ≡ 5) → LineOutcome status (command ∷ []) old new
       go (inl e) = rw e (alone_whole (rw (e, none e) at line))
-      go (inr (inl e)) = rw e (alone_cut b (rw e at line))
+      go (inr (inl e)) = rw e (alone_broken b (rw e at line))
       go (inr (inr e)) = rw e (alone_stopped b (rw e at line))
 
 -- ---- pieces
 
--- where no reply was cut, the memory that was reached is the volume's
+-- where no reply broke off, the memory that was reached is the volume's
 pub reached_own : (status most : ℕ) (outcome : Moment → Type 0) (now : Moment) → (status ≡ 4 → most ≡ 0) → Reaches status most outcome now → outcome now
 reached_own status most outcome now own reaches = subst (λ (m : Memory). outcome (record now { memory = m })) (reaches.same own) reaches.is
 
@@ -392,7 +392,7 @@ module _ (old : State) (memory : Memory) (is_saved : Bool) (files : View) (words
 pub line_forgets : (status : ℕ) (commands : List Command) (old new : Moment) → LineOutcome status commands old new → LineOutcome status commands old (record new { is_saved = false })
 line_forgets status commands old new line = record {
   whole = λ e name saved file. all_alone _ _ _ _ _ _ _ _ _ (line.whole e name saved file);
-  cut = line.cut;
+  broken = line.broken;
   stopped = line.stopped;
   keeps = record { size = line.keeps.size; capacity = line.keeps.capacity; attached = line.keeps.attached; flushed = line.keeps.flushed };
   first = line.first;
@@ -406,7 +406,7 @@ serve_forgets status before after old new served = record {
   long = λ e.
       let long = served.long e in
       (long.0, long.1, long.2, long.3, long.4, long.5, long.6, λ name saved file. part_alone _ _ _ _ _ _ _ _ _ _ _ (long.7 name saved file));
-  cut = served.cut;
+  broken = served.broken;
   stopped = served.stopped;
   keeps = record { size = served.keeps.size; capacity = served.keeps.capacity; attached = served.keeps.attached; flushed = served.keeps.flushed };
   first = served.first;

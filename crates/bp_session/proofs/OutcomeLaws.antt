@@ -7,9 +7,9 @@ use Rattle.bp_io.specs.Causes.{Rose}
 use Rattle.bp_script.specs.Commands.{Command, command_of}
 use Rattle.bp_session.specs.Lines.{commands_from}
 use Rattle.bp_session.specs.Outside.{Faults, IsFirstFault, SinkTookAll, counts}
-use Rattle.bp_session.specs.Serving.{DoesAll, DoesCut, DoesStop, Input, Keeps, LineOutcome, Moment, PieceOutcome, ServeOutcome}
+use Rattle.bp_session.specs.Serving.{DoesAll, DoesBreakOff, DoesStop, Input, Keeps, LineOutcome, Moment, PieceOutcome, ServeOutcome}
 use Rattle.bp_session.proofs.SavingLaws.{stays_attached, still_attached}
-use Rattle.bp_session.proofs.ServingLaws.{commands_at_newline, commands_of_nothing, cuts_behind, cuts_in, not_long, serves_newline, serves_quietly, serves_then, serves_to_end, stops_behind, stops_in, told_none}
+use Rattle.bp_session.proofs.ServingLaws.{commands_at_newline, commands_of_nothing, breaks_behind, breaks_in, not_long, serves_newline, serves_quietly, serves_then, serves_to_end, stops_behind, stops_in, told_none}
 
 -- ---- faults
 
@@ -118,17 +118,17 @@ keeps_then status a b c one two = record {
 pub line_whole : (commands : List Command) (a b : Moment) → DoesAll a b commands → Keeps 0 a b → b.faults ≡ a.faults → b.files.faults ≡ a.files.faults → LineOutcome 0 commands a b
 line_whole commands a b all keeps sink files = record {
   whole = λ _. all;
-  cut = λ e. absurd (omega (arith, e));
+  broken = λ e. absurd (omega (arith, e));
   stopped = λ e. absurd (omega (arith, e));
   keeps = keeps;
   first = no_fault 0 _ _ (λ e. omega (arith, e)) (λ e. omega (arith, e)) (λ e. omega (arith, e)) refl sink files;
   one_of = inl refl;
 }
 
-pub line_cut : (commands : List Command) (a b : Moment) → DoesCut a b commands → Keeps 4 a b → Rose a.faults b.faults → b.files.faults ≡ a.files.faults → LineOutcome 4 commands a b
-line_cut commands a b cut keeps rose files = record {
+pub line_broken : (commands : List Command) (a b : Moment) → DoesBreakOff a b commands → Keeps 4 a b → Rose a.faults b.faults → b.files.faults ≡ a.files.faults → LineOutcome 4 commands a b
+line_broken commands a b broken keeps rose files = record {
   whole = λ e. absurd (omega (arith, e));
-  cut = λ _. cut;
+  broken = λ _. broken;
   stopped = λ e. absurd (omega (arith, e));
   keeps = keeps;
   first = sink_fault _ _ refl rose files;
@@ -138,7 +138,7 @@ line_cut commands a b cut keeps rose files = record {
 pub line_stopped : (commands : List Command) (a b : Moment) → DoesStop a b commands → Keeps 5 a b → b.faults ≡ a.faults → Rose a.files.faults b.files.faults → LineOutcome 5 commands a b
 line_stopped commands a b stop keeps sink rose = record {
   whole = λ e. absurd (omega (arith, e));
-  cut = λ e. absurd (omega (arith, e));
+  broken = λ e. absurd (omega (arith, e));
   stopped = λ _. stop;
   keeps = keeps;
   first = files_fault _ _ refl sink rose;
@@ -153,7 +153,7 @@ line_nothing a = rw commands_of_nothing (line_whole [] a a (λ name saved file. 
 pub piece_quiet : (a : Moment) (held i keeps : List ℕ) → ((rest : List ℕ) → commands_from held (i ++ rest) ≡ commands_from keeps rest) → PieceOutcome 0 held i keeps a a
 piece_quiet a held i keeps same = record {
   whole = λ _ name saved file. serves_quietly _ _ saved _ _ _ _ file same;
-  cut = λ e. absurd (omega (arith, e));
+  broken = λ e. absurd (omega (arith, e));
   stopped = λ e. absurd (omega (arith, e));
   keeps_files = keeps_all a;
   first = no_fault 0 _ _ (λ e. omega (arith, e)) (λ e. omega (arith, e)) (λ e. omega (arith, e)) refl refl refl;
@@ -166,7 +166,7 @@ piece_nothing a held = piece_quiet a held [] held (λ rest. refl)
 pub piece_newline : (status : ℕ) (held : List ℕ) (a b : Moment) → LineOutcome status (command_of held ∷ []) a b → PieceOutcome status held (10 ∷ []) [] a b
 piece_newline status held a b line = record {
   whole = λ e name saved file. serves_newline _ _ _ _ _ _ (line.whole e name saved file);
-  cut = λ e rest name saved file. rw (commands_at_newline held rest) (cuts_behind _ _ _ _ (commands_from [] rest) _ _ (line.cut e name saved file));
+  broken = λ e rest name saved file. rw (commands_at_newline held rest) (breaks_behind _ _ _ _ (commands_from [] rest) _ _ (line.broken e name saved file));
   stopped = λ e rest name saved file. rw (commands_at_newline held rest) (stops_behind _ _ _ _ (commands_from [] rest) _ _ (line.stopped e name saved file));
   keeps_files = line.keeps;
   first = line.first;
@@ -178,9 +178,9 @@ piece_then status held i middle j keeps a b c one two = record {
   whole = λ e name saved file.
       let first = one.whole refl name saved file in
       serves_then _ _ _ _ _ _ _ _ _ _ _ _ _ first (two.whole e name first.after first.file);
-  cut = λ e rest name saved file.
+  broken = λ e rest name saved file.
       let first = one.whole refl name saved file in
-      rw (append_assoc i j rest) (cuts_in _ _ _ _ _ _ _ _ _ first _ _ (j ++ rest) (two.cut e rest name first.after first.file));
+      rw (append_assoc i j rest) (breaks_in _ _ _ _ _ _ _ _ _ first _ _ (j ++ rest) (two.broken e rest name first.after first.file));
   stopped = λ e rest name saved file.
       let first = one.whole refl name saved file in
       rw (append_assoc i j rest) (stops_in _ _ _ _ _ _ _ _ _ first _ _ (j ++ rest) (two.stopped e rest name first.after first.file));
@@ -193,7 +193,7 @@ piece_then status held i middle j keeps a b c one two = record {
 pub piece_stops : (status : ℕ) (held i j keeps more : List ℕ) (a b : Moment) → ¬ (status ≡ 0) → PieceOutcome status held i keeps a b → PieceOutcome status held (i ++ j) more a b
 piece_stops status held i j keeps more a b other one = record {
   whole = λ e. absurd (other e);
-  cut = λ e rest name saved file. rw (append_assoc i j rest) (one.cut e (j ++ rest) name saved file);
+  broken = λ e rest name saved file. rw (append_assoc i j rest) (one.broken e (j ++ rest) name saved file);
   stopped = λ e rest name saved file. rw (append_assoc i j rest) (one.stopped e (j ++ rest) name saved file);
   keeps_files = one.keeps_files;
   first = one.first;
@@ -209,7 +209,7 @@ module _ (before after : Input) (a b : Moment) where
     whole = λ e. absurd (omega (arith, e));
     part = λ _. (input, keeps, read, part.whole refl);
     long = λ e. absurd (omega (arith, e));
-    cut = λ e. absurd (omega (arith, e));
+    broken = λ e. absurd (omega (arith, e));
     stopped = λ e. absurd (omega (arith, e));
     keeps = record { size = part.keeps_files.size; capacity = part.keeps_files.capacity; attached = part.keeps_files.attached; flushed = λ _. part.keeps_files.flushed (λ e. omega (arith, e)) };
     first = source_fault _ _ rose (part.first.no_sink (inl refl)) (part.first.no_files (λ e. omega (arith, e)));
@@ -224,7 +224,7 @@ module _ (before after : Input) (a b : Moment) where
     whole = λ e. absurd (omega (arith, e));
     part = λ e. absurd (omega (arith, e));
     long = λ _. (input, more, keeps, read, most, some, few, part.whole refl);
-    cut = λ e. absurd (omega (arith, e));
+    broken = λ e. absurd (omega (arith, e));
     stopped = λ e. absurd (omega (arith, e));
     keeps = record { size = part.keeps_files.size; capacity = part.keeps_files.capacity; attached = part.keeps_files.attached; flushed = λ _. part.keeps_files.flushed (λ e. omega (arith, e)) };
     first = no_fault 6 _ _ (λ e. omega (arith, e)) (λ e. omega (arith, e)) (λ e. omega (arith, e)) same (part.first.no_sink (inl refl)) (part.first.no_files (λ e. omega (arith, e)));
@@ -242,7 +242,7 @@ module _ (before after : Input) (a b : Moment) where
         whole = λ z. absurd (other z);
         part = λ z. absurd (omega (arith, z, e));
         long = λ z. absurd (omega (arith, z, e));
-        cut = λ z. (input, read, inl (part.cut z));
+        broken = λ z. (input, read, inl (part.broken z));
         stopped = λ z. absurd (omega (arith, z, e));
         keeps = part.keeps_files;
         first = first_with_source status before.faults after.faults (counts 0 a.faults a.files) (counts 0 b.faults b.files) (λ z. omega (arith, z, e)) same part.first;
@@ -253,7 +253,7 @@ module _ (before after : Input) (a b : Moment) where
         whole = λ z. absurd (other z);
         part = λ z. absurd (omega (arith, z, e));
         long = λ z. absurd (omega (arith, z, e));
-        cut = λ z. absurd (omega (arith, z, e));
+        broken = λ z. absurd (omega (arith, z, e));
         stopped = λ z. (input, read, inl (part.stopped z));
         keeps = part.keeps_files;
         first = first_with_source status before.faults after.faults (counts 0 a.faults a.files) (counts 0 b.faults b.files) (λ z. omega (arith, z, e)) same part.first;
@@ -276,14 +276,14 @@ module _ (before after : Input) (a b : Moment) where
     );
     part = λ z. absurd (none 3 (λ e. omega (arith, e)) (λ e. omega (arith, e)) (λ e. omega (arith, e)) z last.one_of);
     long = λ z. absurd (none 6 (λ e. omega (arith, e)) (λ e. omega (arith, e)) (λ e. omega (arith, e)) z last.one_of);
-    cut = λ e. (
+    broken = λ e. (
       input,
       read,
       inr (
         end,
         λ name saved file.
             let one = part.whole refl name saved file in
-            rw (← append-nil input) (cuts_in _ _ _ _ _ _ _ _ _ one _ _ [] (last.cut e name one.after one.file)),
+            rw (← append-nil input) (breaks_in _ _ _ _ _ _ _ _ _ one _ _ [] (last.broken e name one.after one.file)),
       ),
     );
     stopped = λ e. (

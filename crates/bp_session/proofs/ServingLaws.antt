@@ -14,7 +14,7 @@ use Rattle.bp_script.specs.Texts.{LineReply, reply_text}
 use Rattle.bp_session.specs.Lines.{text_of}
 use Rattle.bp_session.specs.Session.{State, Line, Session}
 use Rattle.bp_session.specs.Acting.{state}
-use Rattle.bp_session.specs.Serving.{Acts, Told, Serves, ServesAll, Cuts, Stops}
+use Rattle.bp_session.specs.Serving.{Acts, Told, Serves, ServesAll, BreaksOff, Stops}
 
 -- ---- sessions
 
@@ -114,8 +114,8 @@ module _ (holds : Image → Type 0) where
   pub serves_quietly : (memory : Memory) (saved : Image) (held input keeps : List ℕ) (t : Option (List ℕ)) → holds saved → ((rest : List ℕ) → commands_from held (input ++ rest) ≡ commands_from keeps rest) → Serves (state memory saved) memory holds held input keeps t t
   serves_quietly memory saved held input keeps t file same = record { commands = []; lines = same; after = saved; file = file; told = told_none (state memory saved) t }
 
-  pub cuts_line : (old : State) (memory : Memory) (command : Command) (more : List Command) (reply : LineReply) (count : ℕ) (t u : Option (List ℕ)) → Acts old memory holds command reply → count < length (reply_text reply) → Appends t u (take count (reply_text reply)) → Cuts old memory holds (command ∷ more) t u
-  cuts_line old memory command more reply count t u acts low taken = record {
+  pub breaks_line : (old : State) (memory : Memory) (command : Command) (more : List Command) (reply : LineReply) (count : ℕ) (t u : Option (List ℕ)) → Acts old memory holds command reply → count < length (reply_text reply) → Appends t u (take count (reply_text reply)) → BreaksOff old memory holds (command ∷ more) t u
+  breaks_line old memory command more reply count t u acts low taken = record {
     front = [];
     last = command;
     more = more;
@@ -143,22 +143,22 @@ serves_then old middle new first second a i b j c t u v one two = record {
   told = told_then old (state middle one.after) (state new two.after) one.commands two.commands t u v one.told two.told;
 }
 
-pub cuts_then : (old middle : State) (new : Memory) (holds : Image → Type 0) (xs ys : List Command) (t u v : Option (List ℕ)) → Told old middle xs t u → Cuts middle new holds ys u v → Cuts old new holds (xs ++ ys) t v
-cuts_then old middle new holds xs ys t u v first cut = record {
-  front = xs ++ cut.front;
-  last = cut.last;
-  more = cut.more;
-  are = ap (λ cs. xs ++ cs) cut.are ∙ sym (append_assoc xs cut.front (cut.last ∷ cut.more));
-  middle = cut.middle;
-  replies = first.replies ++ cut.replies;
-  session = session_append old middle cut.middle xs cut.front first.replies cut.replies first.session cut.session;
-  reply = cut.reply;
-  after = cut.after;
-  line = cut.line;
-  file = cut.file;
-  count = cut.count;
-  proper = cut.proper;
-  taken = rw (text_append first.replies cut.replies, append_assoc (text_of first.replies) (text_of cut.replies) (take cut.count (reply_text cut.reply))) (Appends-trans t u v _ _ first.taken cut.taken);
+pub breaks_then : (old middle : State) (new : Memory) (holds : Image → Type 0) (xs ys : List Command) (t u v : Option (List ℕ)) → Told old middle xs t u → BreaksOff middle new holds ys u v → BreaksOff old new holds (xs ++ ys) t v
+breaks_then old middle new holds xs ys t u v first broken = record {
+  front = xs ++ broken.front;
+  last = broken.last;
+  more = broken.more;
+  are = ap (λ cs. xs ++ cs) broken.are ∙ sym (append_assoc xs broken.front (broken.last ∷ broken.more));
+  middle = broken.middle;
+  replies = first.replies ++ broken.replies;
+  session = session_append old middle broken.middle xs broken.front first.replies broken.replies first.session broken.session;
+  reply = broken.reply;
+  after = broken.after;
+  line = broken.line;
+  file = broken.file;
+  count = broken.count;
+  proper = broken.proper;
+  taken = rw (text_append first.replies broken.replies, append_assoc (text_of first.replies) (text_of broken.replies) (take broken.count (reply_text broken.reply))) (Appends-trans t u v _ _ first.taken broken.taken);
 }
 
 pub stops_then : (old middle : State) (new : Memory) (partly : Image → Image → Type 0) (xs ys : List Command) (t u v : Option (List ℕ)) → Told old middle xs t u → Stops middle new partly ys u v → Stops old new partly (xs ++ ys) t v
@@ -190,22 +190,22 @@ serves_newline old memory holds held t u all = record {
   told = all.told;
 }
 
-pub cuts_behind : (old : State) (memory : Memory) (holds : Image → Type 0) (xs behind : List Command) (t u : Option (List ℕ)) → Cuts old memory holds xs t u → Cuts old memory holds (xs ++ behind) t u
-cuts_behind old memory holds xs behind t u cut = record {
-  front = cut.front;
-  last = cut.last;
-  more = cut.more ++ behind;
-  are = ap (λ cs. cs ++ behind) cut.are ∙ append_assoc cut.front (cut.last ∷ cut.more) behind;
-  middle = cut.middle;
-  replies = cut.replies;
-  session = cut.session;
-  reply = cut.reply;
-  after = cut.after;
-  line = cut.line;
-  file = cut.file;
-  count = cut.count;
-  proper = cut.proper;
-  taken = cut.taken;
+pub breaks_behind : (old : State) (memory : Memory) (holds : Image → Type 0) (xs behind : List Command) (t u : Option (List ℕ)) → BreaksOff old memory holds xs t u → BreaksOff old memory holds (xs ++ behind) t u
+breaks_behind old memory holds xs behind t u broken = record {
+  front = broken.front;
+  last = broken.last;
+  more = broken.more ++ behind;
+  are = ap (λ cs. cs ++ behind) broken.are ∙ append_assoc broken.front (broken.last ∷ broken.more) behind;
+  middle = broken.middle;
+  replies = broken.replies;
+  session = broken.session;
+  reply = broken.reply;
+  after = broken.after;
+  line = broken.line;
+  file = broken.file;
+  count = broken.count;
+  proper = broken.proper;
+  taken = broken.taken;
 }
 
 pub stops_behind : (old : State) (memory : Memory) (partly : Image → Image → Type 0) (xs behind : List Command) (t u : Option (List ℕ)) → Stops old memory partly xs t u → Stops old memory partly (xs ++ behind) t u
@@ -222,8 +222,8 @@ stops_behind old memory partly xs behind t u stop = record {
 -- ---- what is behind a piece that was served
 
 module _ (old : State) (middle : Memory) (first : Image → Type 0) (a i b : List ℕ) (t u v : Option (List ℕ)) (one : Serves old middle first a i b t u) where
-  pub cuts_in : (new : Memory) (holds : Image → Type 0) (j : List ℕ) → Cuts (state middle one.after) new holds (commands_from b j) u v → Cuts old new holds (commands_from a (i ++ j)) t v
-  cuts_in new holds j cut = rw (one.lines j) (cuts_then old (state middle one.after) new holds one.commands (commands_from b j) t u v one.told cut)
+  pub breaks_in : (new : Memory) (holds : Image → Type 0) (j : List ℕ) → BreaksOff (state middle one.after) new holds (commands_from b j) u v → BreaksOff old new holds (commands_from a (i ++ j)) t v
+  breaks_in new holds j broken = rw (one.lines j) (breaks_then old (state middle one.after) new holds one.commands (commands_from b j) t u v one.told broken)
 
   pub stops_in : (new : Memory) (partly : Image → Image → Type 0) (j : List ℕ) → Stops (state middle one.after) new partly (commands_from b j) u v → Stops old new partly (commands_from a (i ++ j)) t v
   stops_in new partly j stop = rw (one.lines j) (stops_then old (state middle one.after) new partly one.commands (commands_from b j) t u v one.told stop)

@@ -57,7 +57,7 @@ pub record IsUnsaved (command : Command) (before : List ℕ) (old new : Moment) 
 -- where a sync couldn't save.
 pub record LineGathers (status : ℕ) (command : Command) (before after : List ℕ) (old new : Moment) : Type 0 where
   pub whole : status ≡ 0 → IsAnswered command before after old new
-  pub cut : status ≡ 4 → IsUntold command before old new ⊎ IsUnheard before old new
+  pub broken : status ≡ 4 → IsUntold command before old new ⊎ IsUnheard before old new
   pub stopped : status ≡ 5 → IsUnsaved command before old new
   pub keeps : Keeps status old new
   pub first : IsFirstFault status (counts 0 old.faults old.files) (counts 0 new.faults new.files)
@@ -67,7 +67,7 @@ pub record LineGathers (status : ℕ) (command : Command) (before after : List �
 abbrev pub reached_at : Memory → Moment → Moment
 reached_at memory now = record now { memory = memory }
 
--- An outcome of a memory that was reached. It is the volume's own, but where a reply was cut behind which more than so
+-- An outcome of a memory that was reached. It is the volume's own, but where a reply broke off behind which more than so
 -- many bytes of replies may have waited: then it is the one behind that reply's line.
 pub record Reaches (status most : ℕ) (outcome : Moment → Type 0) (new : Moment) : Type 0 where
   pub memory : Memory

@@ -54,7 +54,7 @@ pub record ServesAll (old : State) (memory : Memory) (holds : Image → Type 0) 
 
 -- The first of these commands were answered, and then one more was done whose reply was taken in part: less than all of
 -- it.
-pub record Cuts (old : State) (memory : Memory) (holds : Image → Type 0) (commands : List Command)
+pub record BreaksOff (old : State) (memory : Memory) (holds : Image → Type 0) (commands : List Command)
     (before now : Option (List ℕ)) : Type 0 where
   pub front : List Command
   pub last : Command
@@ -133,10 +133,10 @@ abbrev pub DoesAll : Moment → Moment → List Command → Type 0
 DoesAll old new commands = (name : List ℕ) (saved : Image) → HoldsAt old name saved →
     ServesAll (state old.memory saved) new.memory (HoldsAt new name) commands old.taken new.taken
 
--- .. and the reply to one of these commands was cut.
-abbrev pub DoesCut : Moment → Moment → List Command → Type 0
-DoesCut old new commands = (name : List ℕ) (saved : Image) → HoldsAt old name saved →
-    Cuts (state old.memory saved) new.memory (Holds new.files name) commands old.taken new.taken
+-- .. and the reply to one of these commands broke off.
+abbrev pub DoesBreakOff : Moment → Moment → List Command → Type 0
+DoesBreakOff old new commands = (name : List ℕ) (saved : Image) → HoldsAt old name saved →
+    BreaksOff (state old.memory saved) new.memory (Holds new.files name) commands old.taken new.taken
 
 -- .. and a sync among these commands couldn't save.
 abbrev pub DoesStop : Moment → Moment → List Command → Type 0
@@ -162,10 +162,10 @@ pub record ServesAgain (old new : Memory) (files : View) : Type 0 where
   pub ready : IsReady new.base files
   pub capacity : new.capacity ≡ old.capacity
 
--- What serving commands answers: 0 where all were answered, 4 where a reply was cut, 5 where a sync couldn't save.
+-- What serving commands answers: 0 where all were answered, 4 where a reply broke off, 5 where a sync couldn't save.
 pub record LineOutcome (status : ℕ) (commands : List Command) (old new : Moment) : Type 0 where
   pub whole : status ≡ 0 → DoesAll old new commands
-  pub cut : status ≡ 4 → DoesCut old new commands
+  pub broken : status ≡ 4 → DoesBreakOff old new commands
   pub stopped : status ≡ 5 → DoesStop old new commands
   pub keeps : Keeps status old new
   pub first : IsFirstFault status (counts 0 old.faults old.files) (counts 0 new.faults new.files)
@@ -175,7 +175,7 @@ pub record LineOutcome (status : ℕ) (commands : List Command) (old new : Momen
 -- follows.
 pub record PieceOutcome (status : ℕ) (held input keeps : List ℕ) (old new : Moment) : Type 0 where
   pub whole : status ≡ 0 → DoesPart held input keeps old new
-  pub cut : status ≡ 4 → (rest : List ℕ) → DoesCut old new (commands_from held (input ++ rest))
+  pub broken : status ≡ 4 → (rest : List ℕ) → DoesBreakOff old new (commands_from held (input ++ rest))
   pub stopped : status ≡ 5 → (rest : List ℕ) → DoesStop old new (commands_from held (input ++ rest))
   pub keeps_files : Keeps status old new
   pub first : IsFirstFault status (counts 0 old.faults old.files) (counts 0 new.faults new.files)
@@ -197,8 +197,8 @@ pub record ServeOutcome (status : ℕ) (before after : Input) (old new : Moment)
   pub long : status ≡ 6 → (input : List ℕ) × (more : List ℕ) × (keeps : List ℕ)
       × Consumes before.left after.left (input ++ more) × (length input ≡ max_input)
       × (1 ≤ length more) × (length more ≤ piece_size) × DoesPart [] input keeps old new
-  pub cut : status ≡ 4 → (input : List ℕ) × Consumes before.left after.left input
-      × OfLines after.left input (DoesCut old new)
+  pub broken : status ≡ 4 → (input : List ℕ) × Consumes before.left after.left input
+      × OfLines after.left input (DoesBreakOff old new)
   pub stopped : status ≡ 5 → (input : List ℕ) × Consumes before.left after.left input
       × OfLines after.left input (DoesStop old new)
   pub keeps : Keeps status old new

@@ -285,7 +285,7 @@ pub fn serve<R: Region, S: Source, K: Sink, F: Files>(
 
 /// Answers each line of a source, as `serve` does, but for when replies are handed to the sink: they are gathered while
 /// more lines of one read follow, and handed over before the next read, before a sync saves, and at the end. Where the
-/// sink failed, the volume may be ahead of the line whose reply was cut; no file is.
+/// sink failed, the volume may be ahead of the line whose reply broke off; no file is.
 pub fn serve_gathered<R: Region, S: Source, K: Sink, F: Files>(
     alloc: Global,
     volume: &mut Volume<R>,

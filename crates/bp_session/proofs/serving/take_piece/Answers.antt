@@ -3,7 +3,7 @@ use Rattle.std.proofs.lemmas.Bool.{eqb-true}
 use Rattle.std.proofs.lemmas.List.{nil_from_length}
 use Rattle.bp_session.specs.Gathering.{waiting}
 use Rattle.bp_session.specs.Lines.{commands_from}
-use Rattle.bp_session.proofs.AheadLaws.{reaches_all, waits_cut, waits_handed, waits_nothing}
+use Rattle.bp_session.proofs.AheadLaws.{reaches_all, waits_broken, waits_handed, waits_nothing}
 use Rattle.bp_session.proofs.OutcomeLaws.{piece_nothing}
 use Rattle.bp_session.proofs.Runs.{next_ends, next_waits, run_waits}
 use Rattle.bp_session.proofs.serving.take_piece.Goals as goal
@@ -66,4 +66,4 @@ returns-in-Err-clause-outcome g c =
     let line = c.loop-end.work.buffers.line.items in
     let ran = run_waits _ c.args.most all _ line c.take_run-2.new.work.buffers.line.items _ at count _ c.loop-end.invariant.inside c.loop-end.invariant.waits
     (λ rest. ap (λ l. commands_from line (take (count - at) (drop at l) ++ rest)) (sym c.loop-end.invariant.piece) ∙ c.take_run-2.ensures.same rest) in
-    rw c.take_run-2.ensures.saved (waits_cut _ _ _ _ _ _ _ ran _ _ _ (rw c.take_run-2.ensures.replies at c.in-Err.ensures.some) c.in-Err.ensures.cause.failed)
+    rw c.take_run-2.ensures.saved (waits_broken _ _ _ _ _ _ _ ran _ _ _ (rw c.take_run-2.ensures.replies at c.in-Err.ensures.some) c.in-Err.ensures.cause.failed)

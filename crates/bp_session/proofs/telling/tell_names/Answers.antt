@@ -19,8 +19,8 @@ loop-i-preserved g c = record {
 pub returns-in_err-tell-clause-some : goal.returns-in_err-tell-clause-some
 returns-in_err-tell-clause-some g c =
     let p = err_from_is_err_and c.from_residual.result c.from_residual.ensures.1 in
-    let cut = c.in_err-tell.ensures.some in
-    rw p.1 (rw (around entry_text c.args.listing.now c.loop-i.i _ (codes "end\n") c.at-kind.ensures.entry) (part_before _ _ _ _ _ _ _ _ c.loop-i.invariant.passes cut))
+    let broken = c.in_err-tell.ensures.some in
+    rw p.1 (rw (around entry_text c.args.listing.now c.loop-i.i _ (codes "end\n") c.at-kind.ensures.entry) (part_before _ _ _ _ _ _ _ _ c.loop-i.invariant.passes broken))
 
 pub returns-clause-all : goal.returns-clause-all
 returns-clause-all g c =

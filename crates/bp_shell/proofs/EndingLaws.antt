@@ -150,7 +150,7 @@ module _ (Tells : List ℕ → Type 0) (before after : Outside) (untouched : IsU
       (no_stop before after 0 (λ e. omega (arith, e)) (λ e. omega (arith, e)) (λ e. omega (arith, e))
       (no_fault 0 _ _ (λ e. omega (arith, e)) (λ e. omega (arith, e)) (λ e. omega (arith, e)) source sink files)) (inl refl)
 
-  pub read_cut : (text : List ℕ) → Tells text → TakesPart text before.taken after.taken → Rose before.faults.sink after.faults.sink → after.faults.files ≡ before.faults.files → ReadOutcome Tells 4 before after
-  read_cut text tells part rose files =
+  pub read_broken : (text : List ℕ) → Tells text → TakesPart text before.taken after.taken → Rose before.faults.sink after.faults.sink → after.faults.files ≡ before.faults.files → ReadOutcome Tells 4 before after
+  read_broken text tells part rose files =
       read_outcome 4 (λ e. absurd (omega (arith, e))) (λ _. (text, tells, part)) (λ e. absurd (omega (arith, e)))
       (no_stop before after 4 (λ e. omega (arith, e)) (λ e. omega (arith, e)) (λ e. omega (arith, e)) (sink_fault _ _ source rose files)) (inr (inr (inl refl)))

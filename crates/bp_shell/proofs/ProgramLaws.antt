@@ -11,7 +11,7 @@ use Rattle.bp_session.specs.Files.{HasBlocksOf, HasBytes, Holds, HoldsAs, HoldsP
 use Rattle.bp_shell.specs.Formatting.{HasPartly, new_image}
 use Rattle.bp_shell.specs.Opening.{HoldsFileSystem, start}
 use Rattle.bp_session.specs.Outside.{IsIdle, IsUntouched, Outside, counts, outside}
-use Rattle.bp_shell.specs.Running.{FormatOutcome, RunOutcome, Runs, RunsCut, RunsLong, RunsPart, RunsStopped, RunsUnsaved, format_text}
+use Rattle.bp_shell.specs.Running.{FormatOutcome, RunOutcome, Runs, RunsBroken, RunsLong, RunsPart, RunsStopped, RunsUnsaved, format_text}
 use Rattle.bp_session.specs.Serving.{HoldsAt, Input, Moment, ServeOutcome}
 use Rattle.bp_session.proofs.OutcomeLaws.{files_fault, first_then, no_fault, sink_fault}
 use Rattle.bp_shell.specs.Ending.{StopOutcome, TellsStop}
@@ -23,12 +23,12 @@ use Rattle.bp_shell.specs.declared.stop.Stop.{Stop}
 use Rattle.bp_shell.specs.declared.stop.Stop.TheVariants as s
 use Rattle.bp_shell.proofs.EndingLaws.{memory_reason, never_among, no_stop, stop_idle, stop_outcome, stop_statuses}
 use Rattle.bp_shell.proofs.OpeningLaws.{if_memory}
-use Rattle.bp_shell.proofs.RunningLaws.{complete, runs_cut, runs_long, runs_part, runs_stopped, runs_unsaved, runs_whole}
+use Rattle.bp_shell.proofs.RunningLaws.{complete, runs_broken, runs_long, runs_part, runs_stopped, runs_unsaved, runs_whole}
 
 -- ---- `run`
 
 module _ (status : ℕ) (before after : Outside) where
-  run_outcome : (status ≡ 0 → Runs before after) → (status ≡ 3 → RunsPart before after) → (status ≡ 4 → RunsCut before after)
+  run_outcome : (status ≡ 0 → Runs before after) → (status ≡ 3 → RunsPart before after) → (status ≡ 4 → RunsBroken before after)
       → (status ≡ 5 → IsIdle before after ⊎ RunsStopped before after ⊎ RunsUnsaved before after) → (status ≡ 6 → RunsLong before after) → StopOutcome status before after
       → (¬ (status ≡ 5) → before.is_flushed ≡ true → after.is_flushed ≡ true)
       → (status ≡ 0) ⊎ (status ≡ 1) ⊎ (status ≡ 3) ⊎ (status ≡ 4) ⊎ (status ≡ 5) ⊎ (status ≡ 6) ⊎ (status ≡ 7) ⊎ (status ≡ 8) → RunOutcome status before after
@@ -87,8 +87,8 @@ module _ (i j : Input) (files : View) (a b : Moment) (name : List ℕ) (image : 
       let after = outside j.left j.faults b.taken b.faults b.files name in
       run_outcome status before after (λ e. absurd (other e))
       (λ e. let part = served.part e in let one = part.3 name image holds in runs_part before after image a.memory b.memory found same part.0 part.1 (HoldsAt b name) (λ k held. held.file.bytes) part.2 one)
-      (λ e. let cut = served.cut e in runs_cut before after image a.memory b.memory found same cut.0 (Holds b.files name) (λ k file. file.bytes) cut.1
-      (elim cut.2 [ inl all ↦ inl (λ rest. all rest name image holds) | inr last ↦ inr (last.0, last.1 name image holds) ]))
+      (λ e. let broken = served.broken e in runs_broken before after image a.memory b.memory found same broken.0 (Holds b.files name) (λ k file. file.bytes) broken.1
+      (elim broken.2 [ inl all ↦ inl (λ rest. all rest name image holds) | inr last ↦ inr (last.0, last.1 name image holds) ]))
       (λ e. let stop = served.stopped e in inr (inl (runs_stopped before after image a.memory b.memory found same stop.0 (HoldsPartly b.files name) (λ k l file. file.bytes) stop.1
       (elim stop.2 [ inl all ↦ inl (λ rest. all rest name image holds) | inr last ↦ inr (last.0, last.1 name image holds) ]))))
       (λ e. let long = served.long e in runs_long before after image a.memory b.memory found same long.0 long.1 long.2 (HoldsAt b name) (λ k held. held.file.bytes) long.3 long.4 long.5 long.6 (long.7 name image holds))
@@ -161,11 +161,11 @@ module _ (blocks : ℕ) (before after : Outside) (left : after.left ≡ before.l
     one_of = inl refl;
   }
 
-  pub format_cut : HasBytes after.file (image_bytes (new_image blocks)) → (count : ℕ) × (count < length (format_text blocks)) × Appends before.taken after.taken (take count (format_text blocks)) → after.is_flushed ≡ true → Rose before.faults.sink after.faults.sink
+  pub format_broken : HasBytes after.file (image_bytes (new_image blocks)) → (count : ℕ) × (count < length (format_text blocks)) × Appends before.taken after.taken (take count (format_text blocks)) → after.is_flushed ≡ true → Rose before.faults.sink after.faults.sink
       → after.faults.files ≡ before.faults.files → FormatOutcome 4 blocks before after
-  format_cut saved cut flushed rose files = record {
+  format_broken saved broken flushed rose files = record {
     whole = λ e. absurd (omega (arith, e));
-    sink = λ _. (saved, cut);
+    sink = λ _. (saved, broken);
     flushed = λ _. flushed;
     files = λ e. absurd (omega (arith, e));
     memory = λ e. absurd (omega (arith, e));

@@ -18,10 +18,10 @@ use Rattle.bp_session.specs.Lines.{commands_from}
 use Rattle.bp_shell.specs.Opening.{HoldsFileSystem, RefusesFile, start}
 use Rattle.bp_shell.specs.Opening.RefusesFile.{by_length, not_formatted, by_count, damaged}
 use Rattle.bp_session.specs.PlainSession.{FollowsTree}
-use Rattle.bp_shell.specs.Running.{Begins, CutsPlainly, IsComplete, Runs, RunsCut, RunsLong, RunsPart, RunsStopped, RunsUnsaved, Saves, SavesPartly, StopsPlainly}
+use Rattle.bp_shell.specs.Running.{Begins, BreaksOffPlainly, IsComplete, Runs, RunsBroken, RunsLong, RunsPart, RunsStopped, RunsUnsaved, Saves, SavesPartly, StopsPlainly}
 use Rattle.bp_session.specs.Outside.{Outside, SourceFailed, SinkFailed, FilesFailed}
 use Rattle.bp_shell.specs.Ending.{IsReadComplete}
-use Rattle.bp_session.specs.Serving.{Cuts, OfLines, Serves, ServesAll, Stops, Told}
+use Rattle.bp_session.specs.Serving.{BreaksOff, OfLines, Serves, ServesAll, Stops, Told}
 use Rattle.bp_session.specs.Session.{Session, State}
 use Rattle.bp_session.proofs.BlockLaws.{image_once, length-image_bytes}
 use Rattle.bp_session.proofs.PlainLaws.{follows_tree}
@@ -33,9 +33,9 @@ pub serves_told : (old : State) (memory : Memory) (holds saves : Image → Type 
     → Serves old memory holds held input keeps t u → Serves old memory saves held input keeps t u
 serves_told old memory holds saves held input keeps t u f s = record { commands = s.commands; lines = s.lines; after = s.after; file = f s.after s.file; told = s.told }
 
-pub cuts_told : (old : State) (memory : Memory) (holds saves : Image → Type 0) (commands : List Command) (t u : Option (List ℕ)) → ((image : Image) → holds image → saves image)
-    → Cuts old memory holds commands t u → Cuts old memory saves commands t u
-cuts_told old memory holds saves commands t u f s = record {
+pub breaks_told : (old : State) (memory : Memory) (holds saves : Image → Type 0) (commands : List Command) (t u : Option (List ℕ)) → ((image : Image) → holds image → saves image)
+    → BreaksOff old memory holds commands t u → BreaksOff old memory saves commands t u
+breaks_told old memory holds saves commands t u f s = record {
   front = s.front;
   last = s.last;
   more = s.more;
@@ -112,23 +112,23 @@ module _ (before after : Outside) (image : Image) (memory new : Memory) (found :
         plainly = plainly _ _ _ told.told.session;
       }
 
-  cuts_plainly : (holds : Image → Type 0) → ((i : Image) → holds i → Saves after i) → (commands : List Command) → Cuts (state memory image) new holds commands before.taken after.taken
-      → CutsPlainly image (tree_of image found.well_formed) new before after commands
-  cuts_plainly holds f commands cuts =
-      let told : Cuts (start image) new (Saves after) commands before.taken after.taken = cuts_told (start image) new holds (Saves after) commands before.taken after.taken f (rw same at cuts) in
+  breaks_plainly : (holds : Image → Type 0) → ((i : Image) → holds i → Saves after i) → (commands : List Command) → BreaksOff (state memory image) new holds commands before.taken after.taken
+      → BreaksOffPlainly image (tree_of image found.well_formed) new before after commands
+  breaks_plainly holds f commands breaks =
+      let told : BreaksOff (start image) new (Saves after) commands before.taken after.taken = breaks_told (start image) new holds (Saves after) commands before.taken after.taken f (rw same at breaks) in
       record {
-        cuts = told;
+        breaks = told;
         plainly = plainly _ _ _ (session_append (start image) told.middle (state new told.after) told.front (told.last ∷ []) told.replies (told.reply ∷ []) told.session (state new told.after, told.line, refl));
       }
 
-  pub runs_cut : (input : List ℕ) (holds : Image → Type 0) → ((i : Image) → holds i → Saves after i) → Consumes before.left after.left input
-      → OfLines after.left input (λ commands. Cuts (state memory image) new holds commands before.taken after.taken) → RunsCut before after
-  runs_cut input holds f read cuts = record {
+  pub runs_broken : (input : List ℕ) (holds : Image → Type 0) → ((i : Image) → holds i → Saves after i) → Consumes before.left after.left input
+      → OfLines after.left input (λ commands. BreaksOff (state memory image) new holds commands before.taken after.taken) → RunsBroken before after
+  runs_broken input holds f read breaks = record {
     begins = begins input read;
     memory = new;
-    cuts = elim cuts [
-      | inl all ↦ inl (λ rest. cuts_plainly holds f (commands_from [] (input ++ rest)) (all rest))
-      | inr last ↦ inr (last.0, cuts_plainly holds f (commands_from [] input) last.1)
+    breaks = elim breaks [
+      | inl all ↦ inl (λ rest. breaks_plainly holds f (commands_from [] (input ++ rest)) (all rest))
+      | inr last ↦ inr (last.0, breaks_plainly holds f (commands_from [] input) last.1)
     ];
   }
 

@@ -17,7 +17,7 @@ use Rattle.bp_script.specs.Sayings.{notice_text}
 use Rattle.bp_session.specs.Acting.{state}
 use Rattle.bp_session.specs.Lines.{commands_from}
 use Rattle.bp_session.specs.Files.{AreWordsOf64Bits, HasBytes, HasBlocksOf}
-use Rattle.bp_session.specs.Serving.{Cuts, SyncFails, OfLines, Serves, Stops, Told}
+use Rattle.bp_session.specs.Serving.{BreaksOff, SyncFails, OfLines, Serves, Stops, Told}
 use Rattle.bp_session.specs.PlainSession.{FollowsTree}
 use Rattle.bp_session.specs.Session.{State}
 use Rattle.bp_shell.specs.Opening.{HoldsFileSystem, start}
@@ -82,18 +82,18 @@ pub record RunsLong (before after : Outside) : Type 0 where
   pub plainly : FollowsTree begins.tree (start begins.image) serves.commands serves.told.replies
       (state memory serves.after)
 
--- The reply to one of these commands was cut, and FILE is as at the last sync.
-pub record CutsPlainly (image : Image) (tree : FileTree) (memory : Memory) (before after : Outside)
+-- The reply to one of these commands broke off, and FILE is as at the last sync.
+pub record BreaksOffPlainly (image : Image) (tree : FileTree) (memory : Memory) (before after : Outside)
     (commands : List Command) : Type 0 where
-  pub cuts : Cuts (start image) memory (Saves after) commands before.taken after.taken
-  pub plainly : FollowsTree tree (start image) (cuts.front ++ cuts.last ∷ [])
-      (cuts.replies ++ cuts.reply ∷ []) (state memory cuts.after)
+  pub breaks : BreaksOff (start image) memory (Saves after) commands before.taken after.taken
+  pub plainly : FollowsTree tree (start image) (breaks.front ++ breaks.last ∷ [])
+      (breaks.replies ++ breaks.reply ∷ []) (state memory breaks.after)
 
 -- A reply was not taken whole. Its line was read whole, or ended the input.
-pub record RunsCut (before after : Outside) : Type 0 where
+pub record RunsBroken (before after : Outside) : Type 0 where
   pub begins : Begins before after
   pub memory : Memory
-  pub cuts : OfLines after.left begins.input (CutsPlainly begins.image begins.tree memory before after)
+  pub breaks : OfLines after.left begins.input (BreaksOffPlainly begins.image begins.tree memory before after)
 
 -- One of these commands, a sync, drained and couldn't save: each block of FILE is the one that was saved before, or the
 -- one now.
@@ -131,7 +131,7 @@ IsComplete status before after =
 pub record RunOutcome (status : ℕ) (before after : Outside) : Type 0 where
   pub whole : status ≡ 0 → Runs before after
   pub source : status ≡ 3 → RunsPart before after
-  pub sink : status ≡ 4 → RunsCut before after
+  pub sink : status ≡ 4 → RunsBroken before after
   pub files : status ≡ 5 → IsIdle before after ⊎ RunsStopped before after ⊎ RunsUnsaved before after
   pub long : status ≡ 6 → RunsLong before after
   pub stops : StopOutcome status before after

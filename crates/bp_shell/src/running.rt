@@ -49,7 +49,7 @@ fn run_file<S: Source, K: Sink, F: Files>(
     let served = serve_gathered(alloc, &mut volume, &mut work, src, out, files);
     match Status::of_serving(served) {
         Status::Done => {}
-        cut => return cut,
+        broken => return broken,
     }
     volume.sync();
     match save_unless_saved(volume.region(), work.is_saved(), files) {

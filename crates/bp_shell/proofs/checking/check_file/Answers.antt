@@ -1,5 +1,5 @@
 use Rattle.std.proofs.Common.{refl}
-use Rattle.bp_shell.proofs.EndingLaws.{read_cut, read_done, read_stopped}
+use Rattle.bp_shell.proofs.EndingLaws.{read_broken, read_done, read_stopped}
 use Rattle.bp_shell.proofs.checking.check_file.Goals as goal
 
 pub returns-in-Err : goal.returns-in-Err
@@ -12,4 +12,4 @@ returns-in-Ok-print g c = λ left reads.
 
 pub returns-in-Err-print : goal.returns-in-Err-print
 returns-in-Err-print g c = λ left reads.
-    read_cut _ _ _ (record { left = refl; file = c.examine.ensures.file }) c.examine.ensures.flushed refl _ (record { notice = _; checks = c.in-Ok.ensures.checks; told = refl }) c.in-Err-print.ensures.some c.in-Err-print.ensures.cause.failed c.in-Ok.ensures.cause.same
+    read_broken _ _ _ (record { left = refl; file = c.examine.ensures.file }) c.examine.ensures.flushed refl _ (record { notice = _; checks = c.in-Ok.ensures.checks; told = refl }) c.in-Err-print.ensures.some c.in-Err-print.ensures.cause.failed c.in-Ok.ensures.cause.same

@@ -1,7 +1,7 @@
 use Rattle.std.proofs.Common.{refl}
 use Rattle.bp_shell.specs.Formatting.{new_image}
 use Rattle.bp_shell.proofs.FormattingLaws.{new_words}
-use Rattle.bp_shell.proofs.ProgramLaws.{format_cut, format_done, format_failed, format_memory}
+use Rattle.bp_shell.proofs.ProgramLaws.{format_broken, format_done, format_failed, format_memory}
 use Rattle.bp_shell.proofs.formatting.format_file.Goals as goal
 
 pub returns-in-None : goal.returns-in-None
@@ -18,5 +18,5 @@ returns-in-Ok-print g c = λ left reads.
 
 pub returns : goal.returns
 returns g c = λ left reads.
-    format_cut _ _ _ refl refl (rw (c.region.ensures.memory, new_words c.in-Some.volume (new_image c.args.blocks) c.in-Some.ensures.image c.in-Some.ensures.drained) at c.in-Ok.ensures.written) c.in-Err-print.ensures.some c.in-Ok.ensures.flushed
+    format_broken _ _ _ refl refl (rw (c.region.ensures.memory, new_words c.in-Some.volume (new_image c.args.blocks) c.in-Some.ensures.image c.in-Some.ensures.drained) at c.in-Ok.ensures.written) c.in-Err-print.ensures.some c.in-Ok.ensures.flushed
     c.in-Err-print.ensures.cause.failed c.in-Ok.ensures.cause.same

@@ -1,5 +1,5 @@
 use Rattle.std.proofs.Common.{refl}
-use Rattle.bp_shell.proofs.EndingLaws.{read_cut, read_done, read_stopped}
+use Rattle.bp_shell.proofs.EndingLaws.{read_broken, read_done, read_stopped}
 use Rattle.bp_shell.proofs.playing.play_file.Goals as goal
 
 pub returns-in-Err : goal.returns-in-Err
@@ -12,4 +12,4 @@ returns-in-Ok-send g c = λ left reads.
 
 pub returns : goal.returns
 returns g c = λ left reads.
-    read_cut _ _ _ (record { left = refl; file = c.perform.ensures.file }) c.perform.ensures.flushed refl _ c.in-Ok.ensures.plays (rw c.as_bytes.ensures.value at c.in-Err-send.ensures.some) c.in-Err-send.ensures.cause.failed c.in-Ok.ensures.cause.same
+    read_broken _ _ _ (record { left = refl; file = c.perform.ensures.file }) c.perform.ensures.flushed refl _ c.in-Ok.ensures.plays (rw c.as_bytes.ensures.value at c.in-Err-send.ensures.some) c.in-Err-send.ensures.cause.failed c.in-Ok.ensures.cause.same

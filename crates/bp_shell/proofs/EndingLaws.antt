@@ -1,5 +1,5 @@
 -- How a program ends for a reason, and what one answers that reads its file alone.
-use Rattle.std.proofs.Common.{refl, arith, ◌≡◌, ℕ, List, inl, inr}
+use Rattle.std.proofs.Common.{refl, ap, arith, ◌≡◌, ℕ, List, inl, inr}
 use Rattle.std.specs.Prelude.{Option, ◌⊎◌}
 use Rattle.std.specs.Io.KnownBytes.{Appends}
 use Rattle.bp_io.specs.Causes.{Rose}
@@ -8,7 +8,9 @@ use Rattle.bp_session.specs.Outside.{Faults, IsFirstFault, IsIdle, SinkTookAll, 
 use Rattle.bp_session.specs.Taking.{TakesPart}
 use Rattle.bp_session.proofs.OutcomeLaws.{files_fault, no_device_fault, no_fault, sink_fault}
 use Rattle.bp_shell.specs.Ending.{ReadOutcome, StopOutcome, TellsStop}
+use Rattle.bp_shell.specs.Statuses.{code_of}
 use Rattle.bp_shell.specs.Stops.{IsReason}
+use Rattle.bp_shell.specs.declared.status.Status.{Status}
 use Rattle.bp_shell.specs.declared.stop.Stop.{Stop}
 use Rattle.bp_shell.specs.declared.stop.Stop.TheVariants as s
 use Rattle.bp_shell.proofs.OpeningLaws.{if_memory, if_missing, if_refused, no_refusal}
@@ -40,11 +42,12 @@ told_fault status a b (inr is) source files =
 -- ---- at a `Stop`
 
 -- the statuses of the four reasons
-pub stop_statuses : (stop : Stop) (status : ℕ) (t u : Option (List ℕ)) (m n : ℕ) → TellsStop stop status t u m n → (status ≡ 1) ⊎ (status ≡ 5) ⊎ (status ≡ 7) ⊎ (status ≡ 8)
-stop_statuses s.Missing status t u m n told = inl told.0
-stop_statuses s.Outside status t u m n told = inr (inl told.0)
-stop_statuses (s.Refused _) status t u m n told = inr (inr (inl told.0))
-stop_statuses s.Memory status t u m n told = inr (inr (inr told.0))
+pub stop_statuses : (stop : Stop) (status : Status) (t u : Option (List ℕ)) (m n : ℕ) → TellsStop stop status t u m n
+    → (code_of status ≡ 1) ⊎ (code_of status ≡ 5) ⊎ (code_of status ≡ 7) ⊎ (code_of status ≡ 8)
+stop_statuses s.Missing status t u m n told = inl (ap code_of told.0)
+stop_statuses s.Outside status t u m n told = inr (inl (ap code_of told.0))
+stop_statuses (s.Refused _) status t u m n told = inr (inr (inl (ap code_of told.0)))
+stop_statuses s.Memory status t u m n told = inr (inr (inr (ap code_of told.0)))
 
 pub never_among : (status n : ℕ) → (status ≡ 1) ⊎ (status ≡ 5) ⊎ (status ≡ 7) ⊎ (status ≡ 8) → ¬ (n ≡ 1) → ¬ (n ≡ 5) → ¬ (n ≡ 7) → ¬ (n ≡ 8) → status ≡ n → ⊥
 never_among status n (inl e) one five seven eight is = one (omega (arith, is, e))
@@ -53,41 +56,49 @@ never_among status n (inr (inr (inl e))) one five seven eight is = seven (omega 
 never_among status n (inr (inr (inr e))) one five seven eight is = eight (omega (arith, is, e))
 
 module _ (before after : Outside) (untouched : IsUntouched before after) (source : after.faults.source ≡ before.faults.source) where
-  abbrev Told : Stop → ℕ → Type 0
+  abbrev Told : Stop → Status → Type 0
   Told stop status = TellsStop stop status before.taken after.taken before.faults.sink after.faults.sink
 
-  pub stop_outcome : (stop : Stop) (status : ℕ) → IsReason before.file stop → (stop ≡ s.Outside → Rose before.faults.files after.faults.files) → (¬ (stop ≡ s.Outside) → after.faults.files ≡ before.faults.files) → Told stop status
-      → StopOutcome status before after
-  stop_outcome s.Missing status reason failed same told = record {
-    missing = λ _. (reason.missing refl, untouched, told.1);
-    refused = λ e. absurd (omega (arith, told.0, e));
-    memory = λ e. absurd (omega (arith, told.0, e));
-    first = told_fault status _ _ (inl told.0) source (same (if_missing _ refl));
-  }
-  stop_outcome s.Outside status reason failed same told = record {
-    missing = λ e. absurd (omega (arith, told.0, e));
-    refused = λ e. absurd (omega (arith, told.0, e));
-    memory = λ e. absurd (omega (arith, told.0, e));
-    first = rw told.0 (files_fault _ _ source told.1.1 (failed refl));
-  }
-  stop_outcome (s.Refused notice) status reason failed same told = record {
-    missing = λ e. absurd (omega (arith, told.0, e));
-    refused = λ _. (notice, reason.refused notice refl, untouched, told.1);
-    memory = λ e. absurd (omega (arith, told.0, e));
-    first = told_fault status _ _ (inr told.0) source (same (if_refused _ notice refl));
-  }
-  stop_outcome s.Memory status reason failed same told = record {
-    missing = λ e. absurd (omega (arith, told.0, e));
-    refused = λ e. absurd (omega (arith, told.0, e));
-    memory = λ _. record { untouched = untouched; taken = told.1.0 };
-    first = no_fault status _ _ (λ e. omega (arith, told.0, e)) (λ e. omega (arith, told.0, e)) (λ e. omega (arith, told.0, e)) source told.1.1 (same (if_memory _ refl));
-  }
+  pub stop_outcome : (stop : Stop) (status : Status) → IsReason before.file stop → (stop ≡ s.Outside → Rose before.faults.files after.faults.files) → (¬ (stop ≡ s.Outside) → after.faults.files ≡ before.faults.files)
+      → Told stop status → StopOutcome (code_of status) before after
+  stop_outcome s.Missing status reason failed same told =
+      let is : code_of status ≡ 1 = ap code_of told.0 in
+      record {
+        missing = λ _. (reason.missing refl, untouched, told.1);
+        refused = λ e. absurd (omega (arith, is, e));
+        memory = λ e. absurd (omega (arith, is, e));
+        first = told_fault (code_of status) _ _ (inl is) source (same (if_missing _ refl));
+      }
+  stop_outcome s.Outside status reason failed same told =
+      let is : code_of status ≡ 5 = ap code_of told.0 in
+      record {
+        missing = λ e. absurd (omega (arith, is, e));
+        refused = λ e. absurd (omega (arith, is, e));
+        memory = λ e. absurd (omega (arith, is, e));
+        first = rw is (files_fault _ _ source told.1.1 (failed refl));
+      }
+  stop_outcome (s.Refused notice) status reason failed same told =
+      let is : code_of status ≡ 7 = ap code_of told.0 in
+      record {
+        missing = λ e. absurd (omega (arith, is, e));
+        refused = λ _. (notice, reason.refused notice refl, untouched, told.1);
+        memory = λ e. absurd (omega (arith, is, e));
+        first = told_fault (code_of status) _ _ (inr is) source (same (if_refused _ notice refl));
+      }
+  stop_outcome s.Memory status reason failed same told =
+      let is : code_of status ≡ 8 = ap code_of told.0 in
+      record {
+        missing = λ e. absurd (omega (arith, is, e));
+        refused = λ e. absurd (omega (arith, is, e));
+        memory = λ _. record { untouched = untouched; taken = told.1.0 };
+        first = no_fault (code_of status) _ _ (λ e. omega (arith, is, e)) (λ e. omega (arith, is, e)) (λ e. omega (arith, is, e)) source told.1.1 (same (if_memory _ refl));
+      }
 
-  pub stop_idle : (stop : Stop) (status : ℕ) → Told stop status → status ≡ 5 → IsIdle before after
-  stop_idle s.Missing status told e = absurd (omega (arith, told.0, e))
+  pub stop_idle : (stop : Stop) (status : Status) → Told stop status → code_of status ≡ 5 → IsIdle before after
+  stop_idle s.Missing status told e = let is : code_of status ≡ 1 = ap code_of told.0 in absurd (omega (arith, is, e))
   stop_idle s.Outside status told e = record { untouched = untouched; taken = told.1.0 }
-  stop_idle (s.Refused _) status told e = absurd (omega (arith, told.0, e))
-  stop_idle s.Memory status told e = absurd (omega (arith, told.0, e))
+  stop_idle (s.Refused _) status told e = let is : code_of status ≡ 7 = ap code_of told.0 in absurd (omega (arith, is, e))
+  stop_idle s.Memory status told e = let is : code_of status ≡ 8 = ap code_of told.0 in absurd (omega (arith, is, e))
 
 -- a status of another kind
 pub no_stop : (before after : Outside) (status : ℕ) → ¬ (status ≡ 1) → ¬ (status ≡ 7) → ¬ (status ≡ 8) → IsFirstFault status before.faults after.faults → StopOutcome status before after
@@ -117,13 +128,13 @@ module _ (Tells : List ℕ → Type 0) (before after : Outside) (untouched : IsU
     one_of = one_of;
   }
 
-  pub read_stopped : (stop : Stop) (status : ℕ) → IsReason before.file stop → (stop ≡ s.Outside → Rose before.faults.files after.faults.files) → (¬ (stop ≡ s.Outside) → after.faults.files ≡ before.faults.files)
-      → TellsStop stop status before.taken after.taken before.faults.sink after.faults.sink → ReadOutcome Tells status before after
+  pub read_stopped : (stop : Stop) (status : Status) → IsReason before.file stop → (stop ≡ s.Outside → Rose before.faults.files after.faults.files) → (¬ (stop ≡ s.Outside) → after.faults.files ≡ before.faults.files)
+      → TellsStop stop status before.taken after.taken before.faults.sink after.faults.sink → ReadOutcome Tells (code_of status) before after
   read_stopped stop status reason failed same told =
       let among = stop_statuses stop status _ _ _ _ told in
-      read_outcome status
-      (λ e. absurd (never_among status 0 among (λ z. omega (arith, z)) (λ z. omega (arith, z)) (λ z. omega (arith, z)) (λ z. omega (arith, z)) e))
-      (λ e. absurd (never_among status 4 among (λ z. omega (arith, z)) (λ z. omega (arith, z)) (λ z. omega (arith, z)) (λ z. omega (arith, z)) e))
+      read_outcome (code_of status)
+      (λ e. absurd (never_among (code_of status) 0 among (λ z. omega (arith, z)) (λ z. omega (arith, z)) (λ z. omega (arith, z)) (λ z. omega (arith, z)) e))
+      (λ e. absurd (never_among (code_of status) 4 among (λ z. omega (arith, z)) (λ z. omega (arith, z)) (λ z. omega (arith, z)) (λ z. omega (arith, z)) e))
       (stop_idle before after untouched source stop status told) (stop_outcome before after untouched source stop status reason failed same told)
       (elim among [
         | inl e ↦ inr (inl e)

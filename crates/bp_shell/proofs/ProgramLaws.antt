@@ -15,7 +15,10 @@ use Rattle.bp_shell.specs.Running.{FormatOutcome, RunOutcome, Runs, RunsBroken, 
 use Rattle.bp_session.specs.Serving.{HoldsAt, Input, Moment, ServeOutcome}
 use Rattle.bp_session.proofs.OutcomeLaws.{files_fault, first_then, no_fault, sink_fault}
 use Rattle.bp_shell.specs.Ending.{StopOutcome, TellsStop}
+use Rattle.bp_shell.specs.Statuses.{code_of}
 use Rattle.bp_shell.specs.Stops.{IsReason}
+use Rattle.bp_shell.specs.declared.status.Status.{Status}
+use Rattle.bp_shell.specs.declared.status.Status.TheVariants as status
 use Rattle.bp_shell.specs.declared.stop.Stop.{Stop}
 use Rattle.bp_shell.specs.declared.stop.Stop.TheVariants as s
 use Rattle.bp_shell.proofs.EndingLaws.{memory_reason, never_among, no_stop, stop_idle, stop_outcome, stop_statuses}
@@ -43,15 +46,15 @@ module _ (status : ℕ) (before after : Outside) where
 
 -- before a line is read
 module _ (before after : Outside) (untouched : IsUntouched before after) (flushed : after.is_flushed ≡ before.is_flushed) (source : after.faults.source ≡ before.faults.source) where
-  pub run_stopped : (stop : Stop) (status : ℕ) → IsReason before.file stop → (stop ≡ s.Outside → Rose before.faults.files after.faults.files) → (¬ (stop ≡ s.Outside) → after.faults.files ≡ before.faults.files)
-      → TellsStop stop status before.taken after.taken before.faults.sink after.faults.sink → RunOutcome status before after
+  pub run_stopped : (stop : Stop) (status : Status) → IsReason before.file stop → (stop ≡ s.Outside → Rose before.faults.files after.faults.files) → (¬ (stop ≡ s.Outside) → after.faults.files ≡ before.faults.files)
+      → TellsStop stop status before.taken after.taken before.faults.sink after.faults.sink → RunOutcome (code_of status) before after
   run_stopped stop status reason failed same told =
       let among = stop_statuses stop status _ _ _ _ told in
-      run_outcome status before after (λ e. absurd (never_among status 0 among (λ z. omega (arith, z)) (λ z. omega (arith, z)) (λ z. omega (arith, z)) (λ z. omega (arith, z)) e))
-      (λ e. absurd (never_among status 3 among (λ z. omega (arith, z)) (λ z. omega (arith, z)) (λ z. omega (arith, z)) (λ z. omega (arith, z)) e))
-      (λ e. absurd (never_among status 4 among (λ z. omega (arith, z)) (λ z. omega (arith, z)) (λ z. omega (arith, z)) (λ z. omega (arith, z)) e))
+      run_outcome (code_of status) before after (λ e. absurd (never_among (code_of status) 0 among (λ z. omega (arith, z)) (λ z. omega (arith, z)) (λ z. omega (arith, z)) (λ z. omega (arith, z)) e))
+      (λ e. absurd (never_among (code_of status) 3 among (λ z. omega (arith, z)) (λ z. omega (arith, z)) (λ z. omega (arith, z)) (λ z. omega (arith, z)) e))
+      (λ e. absurd (never_among (code_of status) 4 among (λ z. omega (arith, z)) (λ z. omega (arith, z)) (λ z. omega (arith, z)) (λ z. omega (arith, z)) e))
       (λ e. inl (stop_idle before after untouched source stop status told e))
-      (λ e. absurd (never_among status 6 among (λ z. omega (arith, z)) (λ z. omega (arith, z)) (λ z. omega (arith, z)) (λ z. omega (arith, z)) e))
+      (λ e. absurd (never_among (code_of status) 6 among (λ z. omega (arith, z)) (λ z. omega (arith, z)) (λ z. omega (arith, z)) (λ z. omega (arith, z)) e))
       (stop_outcome before after untouched source stop status reason failed same told) (λ _ e. flushed ∙ e)
       (elim among [
         | inl e ↦ inr (inl e)
@@ -61,7 +64,7 @@ module _ (before after : Outside) (untouched : IsUntouched before after) (flushe
       ])
 
   pub run_memory : after.taken ≡ before.taken → after.faults.sink ≡ before.faults.sink → after.faults.files ≡ before.faults.files → RunOutcome 8 before after
-  run_memory taken sink files = run_stopped s.Memory 8 (memory_reason before.file) (λ e. absurd (if_memory _ refl e)) (λ _. files) (refl, (taken, sink))
+  run_memory taken sink files = run_stopped s.Memory status.Memory (memory_reason before.file) (λ e. absurd (if_memory _ refl e)) (λ _. files) (refl, (taken, sink))
 
 -- a file that was just read holds the words as they are
 pub read_now : (now : Moment) (name : List ℕ) (image : Image) → now.memory ≡ (start image).memory → Holds now.files name image → HoldsAt now name image

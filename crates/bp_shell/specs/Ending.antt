@@ -12,6 +12,8 @@ use Rattle.bp_session.specs.Outside.{Outside, FilesFailed, SinkFailed}
 use Rattle.bp_session.specs.Outside.{IsFirstFault, IsIdle, IsUntouched, Prints, TellsLine}
 use Rattle.bp_session.specs.Taking.{TakesPart}
 use Rattle.bp_shell.specs.Opening.{RefusesFile}
+use Rattle.bp_shell.specs.declared.status.Status.{Status}
+use Rattle.bp_shell.specs.declared.status.Status.TheVariants as status
 use Rattle.bp_shell.specs.declared.stop.Stop.{Stop}
 use Rattle.bp_shell.specs.declared.stop.Stop.TheVariants as stop
 
@@ -21,16 +23,16 @@ use Rattle.bp_shell.specs.declared.stop.Stop.TheVariants as stop
 abbrev pub TellsNothing : Option (List ℕ) → Option (List ℕ) → ℕ → ℕ → Type 0
 TellsNothing taken taken_now faults faults_now = (taken_now ≡ taken) × (faults_now ≡ faults)
 
--- the status of a program that ends for this reason, and what it tells
-abbrev pub TellsStop : Stop → ℕ → Option (List ℕ) → Option (List ℕ) → ℕ → ℕ → Type 0
-TellsStop stop.Missing status taken taken_now faults faults_now =
-    (status ≡ 1) × Prints (notice_text NoFile) taken taken_now faults faults_now
-TellsStop stop.Outside status taken taken_now faults faults_now =
-    (status ≡ 5) × TellsNothing taken taken_now faults faults_now
-TellsStop (stop.Refused notice) status taken taken_now faults faults_now =
-    (status ≡ 7) × Prints (notice_text notice) taken taken_now faults faults_now
-TellsStop stop.Memory status taken taken_now faults faults_now =
-    (status ≡ 8) × TellsNothing taken taken_now faults faults_now
+-- how a program ends that ends for this reason, and what it tells
+abbrev pub TellsStop : Stop → Status → Option (List ℕ) → Option (List ℕ) → ℕ → ℕ → Type 0
+TellsStop stop.Missing answer taken taken_now faults faults_now =
+    (answer ≡ status.Missing) × Prints (notice_text NoFile) taken taken_now faults faults_now
+TellsStop stop.Outside answer taken taken_now faults faults_now =
+    (answer ≡ status.FilesFailed) × TellsNothing taken taken_now faults faults_now
+TellsStop (stop.Refused notice) answer taken taken_now faults faults_now =
+    (answer ≡ status.Refused) × Prints (notice_text notice) taken taken_now faults faults_now
+TellsStop stop.Memory answer taken taken_now faults faults_now =
+    (answer ≡ status.Memory) × TellsNothing taken taken_now faults faults_now
 
 -- What `run`, `check` and `play` answer alike: FILE is not there, is refused, or memory is wanting, before a byte is
 -- read; and the first fault ends them.

@@ -1,4 +1,5 @@
 pub mod Opening
+pub mod Statuses
 pub mod Stops
 pub mod Formatting
 pub mod Ending

@@ -10,12 +10,14 @@ ghost use Rattle.bp_shell.specs.Checking.{CheckOutcome, Checks, IsClean};
 ghost use Rattle.bp_session.specs.Files.{HasImage};
 ghost use Rattle.bp_shell.specs.Opening.{RefusesFile};
 ghost use Rattle.bp_session.specs.Outside.{outside};
+ghost use Rattle.bp_shell.specs.Statuses.{code_of};
 ghost use Rattle.bp_shell.specs.Stops.{HasStopCause, IsReason};
 ghost use Rattle.bp_shell.specs.declared.stop.Stop.TheVariants.{Memory, Refused};
 ghost use Rattle.std.specs.Prelude.{◌*◌, ◌≡◌, ◌≤◌, ◌⊎◌, ℕ, [], IfErr, IfOk, List, OnOk, Option, length};
 
 use crate::opening::{load_file, stop_of};
 use crate::printing::{print, tell_stop};
+use crate::status::Status;
 use crate::stop::Stop;
 use bp_free::{Blocks, Inodes};
 use bp_io::{Access, Failed, Files, Sink};
@@ -81,16 +83,16 @@ fn examine<F: Files>(alloc: Global, name: &str, files: &mut F) -> Result<Notice,
     survey(alloc, &region)
 }
 
-/// Says whether the file of a name is a file system, and what it holds. It answers the status: 0 where it is one, 1
-/// where it is not there, 4 where the sink failed, 5 where the files did, 7 where it is refused, 8 for want of memory.
+/// Says whether the file of a name is a file system, and what it holds. It answers how that ended: `Done` where it is
+/// one, `Missing` where it is not there, `SinkFailed`, `FilesFailed`, `Refused`, or `Memory`.
 pub(crate) fn check_file<K: Sink, F: Files>(
     alloc: Global,
     name: &str,
     out: &mut K,
     files: &mut F,
-) -> u8
+) -> Status
     // Whatever a source has left.
-    ensures { (left : Option (List ℕ)) (reads : ℕ) → CheckOutcome result
+    ensures { (left : Option (List ℕ)) (reads : ℕ) → CheckOutcome (code_of result)
         (outside left reads (K.taken out.old) (K.faults out.old) (F.view files.old) name.now)
         (outside left reads (K.taken out.new) (K.faults out.new) (F.view files.new) name.now) }
 {
@@ -99,7 +101,7 @@ pub(crate) fn check_file<K: Sink, F: Files>(
         Err(stop) => return tell_stop(stop, out),
     };
     match print(&notice, out) {
-        Ok(()) => 0,
-        Err(Failed) => 4,
+        Ok(()) => Status::Done,
+        Err(Failed) => Status::SinkFailed,
     }
 }

@@ -7,10 +7,12 @@ ghost use Rattle.bp_session.specs.Files.{HasBytes};
 ghost use Rattle.bp_shell.specs.Formatting.{HasPartly, new_image};
 ghost use Rattle.bp_session.specs.Outside.{outside};
 ghost use Rattle.bp_shell.specs.Running.{FormatOutcome};
+ghost use Rattle.bp_shell.specs.Statuses.{code_of};
 ghost use Rattle.pm_region.specs.Memory.{current_words};
 ghost use Rattle.std.specs.Prelude.{◌*◌, ◌≡◌, ◌≤◌, [], true, ℕ, IfSome, List, OnErr, OnOk, Option, length};
 
 use crate::printing::print;
+use crate::status::Status;
 use bp_io::{Access, Failed, Files, Sink};
 use bp_limits::{BLOCK_WORDS, CALL_ROOM, MAX_BLOCKS, MIN_BLOCKS};
 use bp_script::Notice;
@@ -71,36 +73,36 @@ fn write_image<R: Region, F: Files>(
     }
 }
 
-/// Makes the file of a name a file system of so many blocks, and says so. It answers the status: 0, 4 where the sink
-/// failed, 5 where the files did, 8 for want of memory.
-pub fn format_file<K: Sink, F: Files>(
+/// Makes the file of a name a file system of so many blocks, and says so. It answers how that ended: `Done`,
+/// `SinkFailed`, `FilesFailed` or `Memory`.
+pub(crate) fn format_file<K: Sink, F: Files>(
     alloc: Global,
     name: &str,
     blocks: u32,
     out: &mut K,
     files: &mut F,
-) -> u8
+) -> Status
     requires least { MIN_BLOCKS ≤ blocks }
     requires most { blocks ≤ MAX_BLOCKS }
     // Whatever a source has left.
-    ensures { (left : Option (List ℕ)) (reads : ℕ) → FormatOutcome result blocks
+    ensures { (left : Option (List ℕ)) (reads : ℕ) → FormatOutcome (code_of result) blocks
         (outside left reads (K.taken out.old) (K.faults out.old) (F.view files.old) name.now)
         (outside left reads (K.taken out.new) (K.faults out.new) (F.view files.new) name.now) }
 {
     let volume = match new_volume(alloc, blocks) {
         Some(volume) => volume,
-        None => return 8,
+        None => return Status::Memory,
     };
     match write_image(volume.region(), name, blocks, files) {
         Ok(()) => {}
-        Err(Failed) => return 5,
+        Err(Failed) => return Status::FilesFailed,
     }
     let notice = Notice::Formatted {
         blocks,
         free: blocks - 2,
     };
     match print(&notice, out) {
-        Ok(()) => 0,
-        Err(Failed) => 4,
+        Ok(()) => Status::Done,
+        Err(Failed) => Status::SinkFailed,
     }
 }

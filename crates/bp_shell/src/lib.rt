@@ -2,11 +2,12 @@
 #![tactic(auto)]
 
 mod checking;
-pub mod formatting;
+mod formatting;
 pub mod opening;
 mod playing;
 mod printing;
 mod running;
+mod status;
 mod stop;
 
 pub use opening::open;

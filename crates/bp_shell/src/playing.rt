@@ -3,11 +3,13 @@
 ghost use Rattle.bp_limits.specs.Limits.{log_events, max_turns};
 ghost use Rattle.bp_session.specs.Outside.{outside};
 ghost use Rattle.bp_shell.specs.Playing.{EndsPlay, PlayOutcome, PlaysFile, crashes_text, play_text, spaced, tree_text, turns_text};
+ghost use Rattle.bp_shell.specs.Statuses.{code_of};
 ghost use Rattle.bp_shell.specs.Stops.{HasStopCause, IsReason};
 ghost use Rattle.std.specs.Prelude.{◌≡◌, ◌≤◌, ◌++◌, ℕ, IfErr, IfOk, List, OnOk, Option};
 
 use crate::opening::open_to_read;
 use crate::printing::tell_stop;
+use crate::status::Status;
 use crate::stop::Stop;
 use bp_io::{Failed, Files, Sink};
 use bp_play::{PlayBuffers, Summary, play_on};
@@ -121,8 +123,8 @@ fn perform<F: Files>(
 }
 
 /// Plays so many turns over the file of a name, which is read alone: what they change is kept in memory, and forgotten.
-/// It answers the status: 0 where its five lines were taken, 1 where the file is not there, 4 where the sink failed, 5
-/// where the files did, 7 where the file is refused, 8 for want of memory.
+/// It answers how that ended: `Done` where its five lines were taken, `Missing` where the file is not there,
+/// `SinkFailed`, `FilesFailed`, `Refused`, or `Memory`.
 pub(crate) fn play_file<K: Sink, F: Files>(
     alloc: Global,
     name: &str,
@@ -130,10 +132,10 @@ pub(crate) fn play_file<K: Sink, F: Files>(
     count: u32,
     out: &mut K,
     files: &mut F,
-) -> u8
+) -> Status
     requires { count ≤ max_turns }
     // Whatever a source has left.
-    ensures { (left : Option (List ℕ)) (reads : ℕ) → PlayOutcome result seed count
+    ensures { (left : Option (List ℕ)) (reads : ℕ) → PlayOutcome (code_of result) seed count
         (outside left reads (K.taken out.old) (K.faults out.old) (F.view files.old) name.now)
         (outside left reads (K.taken out.new) (K.faults out.new) (F.view files.new) name.now) }
 {
@@ -142,7 +144,7 @@ pub(crate) fn play_file<K: Sink, F: Files>(
         Err(stop) => return tell_stop(stop, out),
     };
     match send(out, text.as_bytes()) {
-        Ok(()) => 0,
-        Err(Failed) => 4,
+        Ok(()) => Status::Done,
+        Err(Failed) => Status::SinkFailed,
     }
 }

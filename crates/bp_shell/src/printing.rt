@@ -8,6 +8,7 @@ ghost use Rattle.bp_shell.specs.Ending.{TellsStop};
 ghost use Rattle.std.specs.Io.KnownBytes.{Appends};
 ghost use Rattle.std.specs.Prelude.{OnErr, OnOk};
 
+use crate::status::Status;
 use crate::stop::Stop;
 use bp_io::{Failed, Sink};
 use bp_script::{MAX_NOTICE, Notice, announce};
@@ -32,21 +33,20 @@ pub(crate) fn tell_notice<K: Sink>(notice: &Notice, out: &mut K)
     let _ = print(notice, out);
 }
 
-/// Tells the line of the reason, where it has one, and answers the status: 1 where the file is not there, 5 where the
-/// files failed, 7 where the file is refused, 8 for want of memory.
-pub(crate) fn tell_stop<K: Sink>(stop: Stop, out: &mut K) -> u8
+/// Tells the line of the reason, where it has one, and answers the status of that reason.
+pub(crate) fn tell_stop<K: Sink>(stop: Stop, out: &mut K) -> Status
     ensures { TellsStop stop result (K.taken out.old) (K.taken out.new) (K.faults out.old) (K.faults out.new) }
 {
     match stop {
         Stop::Missing => {
             tell_notice(&Notice::NoFile, out);
-            1
+            Status::Missing
         }
-        Stop::Outside => 5,
+        Stop::Outside => Status::FilesFailed,
         Stop::Refused(notice) => {
             tell_notice(&notice, out);
-            7
+            Status::Refused
         }
-        Stop::Memory => 8,
+        Stop::Memory => Status::Memory,
     }
 }

@@ -6,6 +6,7 @@ ghost use Rattle.bp_script.specs.Sayings.{notice_text};
 ghost use Rattle.bp_script.specs.declared.notices.Notice.TheVariants.{Usage};
 ghost use Rattle.bp_session.specs.Outside.{Prints, outside};
 ghost use Rattle.bp_shell.specs.Running.{RunsProgram, ProgramOutcome, RunOutcome, file_name};
+ghost use Rattle.bp_shell.specs.Statuses.{code_of};
 ghost use Rattle.std.specs.Prelude.{◌≡◌, ◌⊎◌, map};
 
 use crate::checking::check_file;
@@ -13,6 +14,7 @@ use crate::formatting::format_file;
 use crate::opening::open;
 use crate::playing::play_file;
 use crate::printing::{tell_notice, tell_stop};
+use crate::status::Status;
 use bp_command::laws::plain_words_are_taken;
 use bp_command::{Program, WordsFault, read_words};
 use bp_io::{Failed, Files, Sink, Source};
@@ -28,11 +30,11 @@ fn run_file<S: Source, K: Sink, F: Files>(
     src: &mut S,
     out: &mut K,
     files: &mut F,
-) -> u8
-    ensures outcome { RunOutcome result
+) -> Status
+    ensures outcome { RunOutcome (code_of result)
         (outside (S.left src.old) (S.faults src.old) (K.taken out.old) (K.faults out.old) (F.view files.old) name.now)
         (outside (S.left src.new) (S.faults src.new) (K.taken out.new) (K.faults out.new) (F.view files.new) name.now) }
-    ensures unread { (result ≡ 1) ⊎ (result ≡ 7) ⊎ (result ≡ 8) → src.new ≡ src.old }
+    ensures unread { (code_of result ≡ 1) ⊎ (code_of result ≡ 7) ⊎ (code_of result ≡ 8) → src.new ≡ src.old }
 {
     let mut volume = match open(alloc, name, files) {
         Ok(volume) => volume,
@@ -40,18 +42,19 @@ fn run_file<S: Source, K: Sink, F: Files>(
     };
     let mut work = match Work::new(alloc) {
         Ok(work) => work,
-        Err(_) => return 8,
+        Err(_) => return Status::Memory,
     };
     // It was just read.
     work.take_as_saved();
-    let status = serve_gathered(alloc, &mut volume, &mut work, src, out, files);
-    if status != 0 {
-        return status;
+    let served = serve_gathered(alloc, &mut volume, &mut work, src, out, files);
+    match Status::of_serving(served) {
+        Status::Done => {}
+        broken => return broken,
     }
     volume.sync();
     match save_unless_saved(volume.region(), work.is_saved(), files) {
-        Ok(()) => 0,
-        Err(Failed) => 5,
+        Ok(()) => Status::Done,
+        Err(Failed) => Status::FilesFailed,
     }
 }
 
@@ -62,13 +65,14 @@ fn run_program<S: Source, K: Sink, F: Files>(
     src: &mut S,
     out: &mut K,
     files: &mut F,
-) -> u8
+) -> Status
     requires { HasNumbersInRange (program_of program.now) }
-    ensures outcome { let name = file_name (program_of program.now) in ProgramOutcome (program_of program.now) result
+    ensures outcome { let name = file_name (program_of program.now) in
+        ProgramOutcome (program_of program.now) (code_of result)
         (outside (S.left src.old) (S.faults src.old) (K.taken out.old) (K.faults out.old) (F.view files.old) name)
         (outside (S.left src.new) (S.faults src.new) (K.taken out.new) (K.faults out.new) (F.view files.new) name) }
-    ensures unread { (result ≡ 1) ⊎ (result ≡ 7) ⊎ (result ≡ 8) → src.new ≡ src.old }
-    ensures asked { ¬ (result ≡ 2) }
+    ensures unread { (code_of result ≡ 1) ⊎ (code_of result ≡ 7) ⊎ (code_of result ≡ 8) → src.new ≡ src.old }
+    ensures asked { ¬ (code_of result ≡ 2) }
 {
     match *program {
         Program::Format { name, blocks } => format_file(alloc, name, blocks, out, files),
@@ -116,12 +120,13 @@ pub fn run<S: Source, K: Sink, F: Files>(
         ⊎ ((result ≡ 8) × (src.new ≡ src.old) × (out.new ≡ out.old) × (files.new ≡ files.old)) }
 {
     plain_words_are_taken();
-    match read_words(alloc, words) {
+    let status = match read_words(alloc, words) {
         Ok(program) => run_program(alloc, &program, src, out, files),
         Err(WordsFault::Usage) => {
             tell_notice(&Notice::Usage, out);
-            2
+            Status::Usage
         }
-        Err(WordsFault::Memory) => 8,
-    }
+        Err(WordsFault::Memory) => Status::Memory,
+    };
+    status.code()
 }

@@ -1,0 +1,53 @@
+//! How a program ends.
+
+ghost use Rattle.bp_shell.specs.Statuses.{code_of};
+ghost use Rattle.bp_shell.specs.declared.status.Status.TheVariants.{Done};
+ghost use Rattle.std.specs.Prelude.{◌≡◌, ◌⊎◌};
+
+/// How a program ends, by its cause. The number beside a cause is the exit status.
+#[derive(Clone, Copy, Debug, PartialEq, Eq)]
+pub(crate) enum Status {
+    /// All was done.
+    Done = 0,
+    /// There is no file of the name.
+    Missing = 1,
+    /// The words are no command.
+    Usage = 2,
+    /// The source failed.
+    SourceFailed = 3,
+    /// The sink failed.
+    SinkFailed = 4,
+    /// The files failed.
+    FilesFailed = 5,
+    /// The source has more bytes than are read.
+    LongInput = 6,
+    /// The file is refused.
+    Refused = 7,
+    /// Want of memory, before a line is read or told.
+    Memory = 8,
+}
+
+impl Status {
+    /// The exit status.
+    pub(crate) fn code(self) -> u8
+        ensures { result ≡ code_of self }
+    {
+        self as u8
+    }
+
+    /// How a run goes on, or ends, behind the number that serving its source answered.
+    pub(crate) fn of_serving(number: u8) -> Status
+        requires { (number ≡ 0) ⊎ (number ≡ 3) ⊎ (number ≡ 4) ⊎ (number ≡ 5) ⊎ (number ≡ 6) }
+        ensures code { code_of result ≡ number }
+        ensures done { number ≡ 0 → result ≡ Done }
+    {
+        match number {
+            0 => Status::Done,
+            3 => Status::SourceFailed,
+            4 => Status::SinkFailed,
+            5 => Status::FilesFailed,
+            6 => Status::LongInput,
+            _ => unreachable!(),
+        }
+    }
+}

@@ -13,7 +13,7 @@ use bp_command::{Program, read_words};
 use bp_io::{DiskFiles, StdSink, StdSource};
 use bp_shell::run;
 use std::alloc::{AllocError, Global};
-use std::env;
+use std::env::{self, Env};
 use std::io::ErrorKind;
 use std::process::ExitCode;
 
@@ -50,6 +50,21 @@ fn file_name<'a>(alloc: Global, words: &'a [&'a str]) -> &'a str {
     }
 }
 
+// The words of the call. Words that are not text ask for no program.
+fn program_words<R: Env + AllocGlobal>(rt: &R) -> Result<Vec<String>, AllocError> {
+    match env::args(rt) {
+        Ok(args) => args.collect(rt.alloc()),
+        Err(error) if error.kind() == ErrorKind::OutOfMemory => Err(AllocError),
+        Err(_) => Ok(Vec::new(rt.alloc())),
+    }
+}
+
+// Tells that memory is out, and gives the status of that.
+fn out_of_memory<E: Eprint>(rt: &E) -> ExitCode {
+    tell_reason(rt, Reason::Memory);
+    ExitCode::from(NO_MEMORY)
+}
+
 fn main(rt: HostRuntime) -> ExitCode {
     let _streams = match take_streams(&rt) {
         Ok(streams) => streams,
@@ -59,35 +74,17 @@ fn main(rt: HostRuntime) -> ExitCode {
         }
     };
     let alloc = rt.alloc();
-    let words: Result<Vec<String>, AllocError> = match env::args(&rt) {
-        Ok(args) => args.collect(alloc),
-        Err(error) if error.kind() == ErrorKind::OutOfMemory => Err(AllocError),
-        // Words that are not text ask for no program.
-        Err(_) => Ok(Vec::new(alloc)),
+    let Ok(words) = program_words(&rt) else {
+        return out_of_memory(&rt);
     };
-    let words = match words {
-        Ok(words) => words,
-        Err(_) => {
-            tell_reason(&rt, Reason::Memory);
-            return ExitCode::from(NO_MEMORY);
-        }
+    let Ok(texts) = texts(alloc, &words) else {
+        return out_of_memory(&rt);
     };
-    let texts = match texts(alloc, &words) {
-        Ok(texts) => texts,
-        Err(_) => {
-            tell_reason(&rt, Reason::Memory);
-            return ExitCode::from(NO_MEMORY);
-        }
+    let Ok(mut files) = DiskFiles::new(alloc, &rt) else {
+        return out_of_memory(&rt);
     };
     let mut source = StdSource::new(rt.stdin());
     let mut sink = StdSink::new(rt.stdout());
-    let mut files = match DiskFiles::new(alloc, &rt) {
-        Ok(files) => files,
-        Err(_) => {
-            tell_reason(&rt, Reason::Memory);
-            return ExitCode::from(NO_MEMORY);
-        }
-    };
     let status = run(alloc, &texts, &mut source, &mut sink, &mut files);
     match status {
         3 => tell_reason(&rt, Reason::Input(source.last_error())),

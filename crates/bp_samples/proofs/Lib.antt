@@ -1,0 +1,4 @@
+pub mod LaidLaws
+pub mod LaidVolume
+pub mod TwoLeaves
+pub mod TwoEntries

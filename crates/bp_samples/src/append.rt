@@ -1,0 +1,26 @@
+//! Needs of a tree without bytes.
+
+use crate::images::laid;
+use bp_append::need_prep;
+use bp_tree::Tree;
+use pm_region::ListRegion;
+use std::test::Fail;
+
+#[test]
+#[tactic(auto, using(bp_layout::proofs::SmallTrees::empty_sound))]
+fn needs_of_an_empty_tree(rt: HostRuntime) -> Result<(), Fail> {
+    let words = laid(rt.alloc(), &[])?;
+    let region = ListRegion::new(rt.alloc(), words, 0)?;
+    let tree = Tree {
+        root: 0xeeee,
+        size: 0,
+    };
+    assert_eq!(rt; need_prep(&region, tree, 0, 16_384), 5);
+    assert_eq!(rt; need_prep(&region, tree, 0, 20_480), 6);
+    assert_eq!(rt; need_prep(&region, tree, 2_097_151, 2_097_153), 5);
+    assert_eq!(rt;
+        need_prep(&region, tree, 549_755_813_888, 549_755_813_888),
+        0
+    );
+    Ok(())
+}

@@ -1,0 +1,78 @@
+//! Sets of free numbers: each call once, and the numbers at the ends of words.
+
+ghost use Rattle.std.specs.Prelude.{◌≡◌, ◌+◌, ◌<◌, ◌≤◌, length};
+
+use bp_free::{Blocks, Inodes, Steps};
+use std::marker::Brand;
+use std::sync::ledger::{Blank, Ledger};
+use std::test::Fail;
+
+#[test]
+fn blocks_are_given_and_taken(rt: HostRuntime) -> Result<(), Fail> {
+    let mut blocks = Blocks::new(rt.alloc(), 200)?;
+    assert_eq!(rt; blocks.room(), 200);
+    assert_eq!(rt; blocks.count(), 0);
+    assert_eq!(rt; blocks.take(), None);
+    for block in [63, 199, 64, 1, 128] {
+        if block < blocks.room() && !blocks.is_free(block) {
+            blocks.give(block);
+        }
+    }
+    assert_eq!(rt; blocks.count(), 5);
+    if 64 < blocks.room() && blocks.is_free(64) {
+        blocks.claim(64);
+    }
+    for wanted in [Some(1), Some(63), Some(128), Some(199), None] {
+        assert_eq!(rt; blocks.take(), wanted);
+    }
+    Ok(())
+}
+
+#[test]
+fn inodes_are_filled_and_cleared(rt: HostRuntime) -> Result<(), Fail> {
+    let mut inodes = Inodes::new(rt.alloc(), 130)?;
+    inodes.fill(2, 130);
+    assert_eq!(rt; inodes.count(), 128);
+    assert!(rt; !inodes.is_free(1));
+    assert!(rt; inodes.is_free(129));
+    assert_eq!(rt; inodes.take(), Some(2));
+    inodes.clear();
+    assert_eq!(rt; inodes.count(), 0);
+    assert_eq!(rt; inodes.room(), 130);
+    Ok(())
+}
+
+/// A search of 16,384 numbers has five steps at most.
+fn take_in_five<L: Ledger>(blocks: &mut Blocks, steps: &mut Steps<L>) -> Option<u32>
+    requires { length blocks.old ≡ 16384 }
+    ensures { steps.new ≤ steps.old + 5 }
+{
+    blocks.take_counted(steps)
+}
+
+fn take_counting<L: Ledger>(blocks: &mut Blocks, blank: Blank) -> Option<u32>
+    requires name { blank.name ≡ L.name }
+    requires parts { blank.parts ≡ L.parts }
+    requires some { 0 < L.parts }
+    requires room { length blocks.old ≡ 16384 }
+{
+    let mut steps = Steps::<L>::new(blank);
+    take_in_five(blocks, &mut steps)
+}
+
+#[test]
+fn blocks_are_found_in_few_steps(rt: HostRuntime) -> Result<(), Fail> {
+    let mut blocks = Blocks::new(rt.alloc(), 16384)?;
+    for block in [16383, 64] {
+        if block < blocks.room() && !blocks.is_free(block) {
+            blocks.give(block);
+        }
+    }
+    assert_eq!(rt; blocks.count(), 2);
+    assert_eq!(rt; blocks.room(), 16384);
+    let taken = take_counting::<Brand>(&mut blocks, Blank::new(1));
+    assert_eq!(rt; taken, Some(64));
+    assert_eq!(rt; blocks.take(), Some(16383));
+    assert_eq!(rt; blocks.take(), None);
+    Ok(())
+}

@@ -1,0 +1,96 @@
+//! The calls by path over a file system without a name.
+
+ghost use Rattle.std.specs.Prelude.{IfOk};
+ghost use Rattle.bp_layout.specs.WellFormed.{IsWellFormed};
+ghost use Rattle.pm_region.specs.Memory.{current_words};
+
+use crate::images::{EMPTY, laid};
+use bp_dirs::{count, find, free_slot, is_empty};
+use bp_inodes::{get, inode_file, place};
+use bp_layout::{Inode, Kind};
+use bp_path::{FoundEntry, WalkFault, parse, walk, walk_parent};
+use bp_tree::{Tree, content_place, content_word, leaf_block, node};
+use pm_region::ListRegion;
+use std::alloc::{AllocError, Global};
+use std::test::Fail;
+
+fn fresh(alloc: Global) -> Result<ListRegion, AllocError>
+    ensures { IfOk result (λ region. IsWellFormed (current_words region)) }
+{
+    let words = laid(alloc, &EMPTY)?;
+    let region = ListRegion::new(alloc, words, 0)?;
+    Ok(region)
+}
+
+#[test]
+fn leads_to_the_root(rt: HostRuntime) -> Result<(), Fail> {
+    let region = fresh(rt.alloc())?;
+    let path = parse(b"/")?;
+    assert!(rt; path.is_root());
+    let root = FoundEntry {
+        inumber: 1,
+        dir: 0,
+        slot: 0,
+    };
+    assert_eq!(rt; walk(&region, &path), Ok(root));
+    Ok(())
+}
+
+#[test]
+fn finds_no_name(rt: HostRuntime) -> Result<(), Fail> {
+    let region = fresh(rt.alloc())?;
+    let path = parse(b"/a/b.txt")?;
+    assert!(rt; !path.is_root());
+    assert_eq!(rt; walk(&region, &path), Err(WalkFault::NotFound));
+    assert_eq!(rt; walk_parent(&region, &path), Err(WalkFault::NotFound));
+    let path = parse(b"/a")?;
+    assert_eq!(rt; walk_parent(&region, &path), Ok(1));
+    assert_eq!(rt; path.last(), b"a".as_slice());
+    Ok(())
+}
+
+#[test]
+fn refuses_what_is_no_path(rt: HostRuntime) -> Result<(), Fail> {
+    assert!(rt; parse(b"").is_err());
+    assert!(rt; parse(b"a").is_err());
+    assert!(rt; parse(b"//").is_err());
+    assert!(rt; parse(b"/a/").is_err());
+    assert!(rt; parse(b"/a/../b").is_err());
+    assert!(rt; parse(b"/a\0").is_err());
+    assert!(rt; parse(b"/...").is_ok());
+    Ok(())
+}
+
+// the root directory, which has no entry, and inode 1 in the inode file
+#[test]
+fn reads_an_empty_directory(rt: HostRuntime) -> Result<(), Fail> {
+    let region = fresh(rt.alloc())?;
+    let inode = get(&region, 1);
+    let root = Inode {
+        kind: Kind::Dir,
+        root: 0,
+        size: 0,
+    };
+    assert_eq!(rt; inode, root);
+    let tree = Tree {
+        root: inode.root,
+        size: inode.size,
+    };
+    assert_eq!(rt; find(&region, tree, b"a"), None);
+    assert_eq!(rt; free_slot(&region, tree), None);
+    assert_eq!(rt; count(&region, tree), 0);
+    assert!(rt; is_empty(&region, tree));
+    Ok(())
+}
+
+#[test]
+fn reads_the_inode_file(rt: HostRuntime) -> Result<(), Fail> {
+    let region = fresh(rt.alloc())?;
+    let inodes = inode_file(&region);
+    assert_eq!(rt; place(&region, 1, 2), 522);
+    assert_eq!(rt; content_word(&region, inodes, 8), 2);
+    assert_eq!(rt; content_place(&region, inodes, 8), 520);
+    assert_eq!(rt; leaf_block(&region, inodes, 0), 1);
+    assert_eq!(rt; node(&region, inodes, 0, 0), 1);
+    Ok(())
+}

@@ -1,0 +1,187 @@
+//! A log of two epochs, what a crash leaves of it, and both regions.
+
+use pm_epochs::{BadChoice, Choice, Event, Kept, check_choice, kept_calls, replay_word};
+use pm_raw::RawRegion;
+use pm_region::{ListRegion, Region};
+use std::alloc::{AllocError, Global};
+use std::process::Abort;
+use std::test::Fail;
+
+/// A log of two epochs over three words.
+const TWO_EPOCHS: [Event; 5] = [
+    Event::Store { word: 0, value: 1 },
+    Event::Store { word: 1, value: 2 },
+    Event::Store { word: 0, value: 3 },
+    Event::Barrier,
+    Event::Store { word: 2, value: 4 },
+];
+
+/// A choice of what a crash keeps of the two epochs, by its moment, its epoch and its mask, and what is left then of words
+/// of 0: `None` where the choice is not right.
+type Crash = (usize, usize, &'static [bool], Option<[u64; 3]>);
+
+const CRASHES: [Crash; 7] = [
+    (5, 0, &[false, false, true], Some([3, 0, 0])),
+    (5, 0, &[false, true, false], Some([0, 2, 0])),
+    (5, 1, &[], Some([3, 2, 0])),
+    (5, 1, &[true], Some([3, 2, 4])),
+    (2, 1, &[], None),
+    (5, 1, &[true, true], None),
+    (6, 0, &[], None),
+];
+
+fn chosen(alloc: Global, moment: usize, epoch: usize, mask: &[bool]) -> Result<Choice, AllocError> {
+    let mut choice = Choice::new(alloc, 8)?;
+    choice.start(moment, epoch);
+    for keep in mask {
+        if choice.mask().len() < choice.room() {
+            choice.push(*keep);
+        }
+    }
+    Ok(choice)
+}
+
+#[test]
+fn replays_of_two_epochs(rt: HostRuntime) -> Result<(), Fail> {
+    for (moment, epoch, mask, left) in &CRASHES {
+        let choice = chosen(rt.alloc(), *moment, *epoch, *mask)?;
+        match left {
+            Some(words) => {
+                for word in 0..3u32 {
+                    let value = replay_word(0, &TWO_EPOCHS, &choice, word).ok();
+                    assert_eq!(rt; value, Some(words[word as usize]), "{epoch} {word}");
+                }
+            }
+            None => assert_eq!(rt; check_choice(&TWO_EPOCHS, &choice), Err(BadChoice)),
+        }
+    }
+    Ok(())
+}
+
+#[test]
+fn calls_without_a_store_are_kept(rt: HostRuntime) -> Result<(), Fail> {
+    let events = [
+        Event::Mark,
+        Event::Store { word: 0, value: 1 },
+        Event::Barrier,
+        Event::Mark,
+        Event::Mark,
+    ];
+    let none = chosen(rt.alloc(), 0, 0, &[])?;
+    assert_eq!(rt; kept_calls(&events, &none).ok(), Some(Kept { c: 1, n: 3 }));
+    let all = chosen(rt.alloc(), 5, 1, &[])?;
+    assert_eq!(rt; kept_calls(&events, &all).ok(), Some(Kept { c: 3, n: 3 }));
+    Ok(())
+}
+
+fn list(alloc: Global, words: u32, capacity: usize) -> Result<ListRegion, AllocError> {
+    ListRegion::new(alloc, vec![in alloc; 0u64; words as usize]?, capacity)
+}
+
+/// Does these events to a region, up to the first for which it has no word or no room.
+fn follow<R: Region>(region: &mut R, events: &[Event]) {
+    for event in events {
+        if region.room() == 0 {
+            return;
+        }
+        match *event {
+            Event::Store { word, value } => {
+                if word >= region.words() {
+                    return;
+                }
+                region.store(word, value);
+            }
+            Event::Barrier => region.barrier(),
+            Event::Mark => region.mark(),
+        }
+    }
+}
+
+// A store and a barrier fill the log of two places, and a drain brings the store to the words at the last drain.
+fn stores_reach_the_base_at_a_drain<R: Region, A: Abort>(rt: &A, region: &mut R) {
+    assert!(rt; region.words() == 4);
+    assert!(rt; region.room() == 2);
+    for word in 0..4u32 {
+        assert_eq!(rt; region.load(word), 0);
+        assert_eq!(rt; region.base_word(word), 0);
+    }
+    region.store(1, 5);
+    assert!(rt; region.room() == 1);
+    region.barrier();
+    assert_eq!(rt; region.room(), 0);
+    assert!(rt; region.event_count() == 2);
+    assert_eq!(rt; region.event(1), Event::Barrier);
+    assert_eq!(rt; region.load(1), 5);
+    assert_eq!(rt; region.base_word(1), 0);
+    region.drain();
+    assert_eq!(rt; region.room(), 2);
+    assert!(rt; region.words() == 4);
+    assert_eq!(rt; region.base_word(1), 5);
+    region.adopt_words(2, &[8, 9]);
+    assert!(rt; region.words() == 4);
+    assert_eq!(rt; region.load(1), 5);
+    assert_eq!(rt; region.load(2), 8);
+    assert_eq!(rt; region.base_word(3), 9);
+    region.adopt_word(3, 7);
+    assert!(rt; region.words() == 4);
+    assert_eq!(rt; region.load(3), 7);
+}
+
+// Of three words of 0, with room for the two epochs.
+fn crash_leaves<R: Region, A: Abort>(
+    rt: &A,
+    region: &mut R,
+    choice: &Choice,
+    left: Option<[u64; 3]>,
+) {
+    follow(region, &TWO_EPOCHS);
+    assert_eq!(rt; region.event_count(), 5);
+    let answer = region.crash_to(choice);
+    match left {
+        Some(words) => {
+            assert_eq!(rt; answer, Ok(Kept { c: 0, n: 0 }));
+            assert_eq!(rt; region.event_count(), 0);
+            assert!(rt; region.words() == 3);
+            for word in 0..3u32 {
+                assert_eq!(rt; region.load(word), words[word as usize]);
+                assert_eq!(rt; region.base_word(word), words[word as usize]);
+            }
+        }
+        None => {
+            assert_eq!(rt; answer, Err(BadChoice));
+            assert_eq!(rt; region.event_count(), 5);
+        }
+    }
+}
+
+// A store that a crash loses, before one that it keeps: then the call of both is not kept.
+fn crash_keeps_what_was_written_back<R: Region, A: Abort>(rt: &A, region: &mut R, choice: &Choice) {
+    let events = [
+        Event::Store { word: 0, value: 1 },
+        Event::Store { word: 1, value: 2 },
+        Event::Mark,
+    ];
+    follow(region, &events);
+    assert_eq!(rt; region.crash_to(choice).ok(), Some(Kept { c: 0, n: 1 }));
+    assert_eq!(rt; region.event_count(), 0);
+    assert!(rt; region.words() == 4);
+    assert_eq!(rt; region.load(0), 0);
+    assert_eq!(rt; region.load(1), 2);
+}
+
+#[test]
+fn both_regions_give_the_same_answers(rt: HostRuntime) -> Result<(), Fail> {
+    for (moment, epoch, mask, left) in &CRASHES {
+        let choice = chosen(rt.alloc(), *moment, *epoch, *mask)?;
+        crash_leaves(&rt, &mut RawRegion::new(rt.alloc(), 3, 8)?, &choice, *left);
+        crash_leaves(&rt, &mut list(rt.alloc(), 3, 8)?, &choice, *left);
+    }
+    let choice = chosen(rt.alloc(), 2, 0, &[false, true])?;
+    let raw = &mut RawRegion::new(rt.alloc(), 4, 8)?;
+    crash_keeps_what_was_written_back(&rt, raw, &choice);
+    crash_keeps_what_was_written_back(&rt, &mut list(rt.alloc(), 4, 8)?, &choice);
+    stores_reach_the_base_at_a_drain(&rt, &mut RawRegion::new(rt.alloc(), 4, 2)?);
+    stores_reach_the_base_at_a_drain(&rt, &mut list(rt.alloc(), 4, 2)?);
+    assert!(rt; RawRegion::new(rt.alloc(), 1, usize::MAX).is_err());
+    Ok(())
+}

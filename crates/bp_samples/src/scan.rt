@@ -1,0 +1,85 @@
+//! A small file system. Rows over the devices in memory show one damage after another (docs/rows.md).
+
+ghost use Rattle.std.specs.Prelude.{◌≡◌, IfOk, vec_len};
+
+use crate::images::{EMPTY, TWO_ENTRIES, TWO_NAMES, laid, put};
+use bp_free::{Blocks, Inodes};
+use bp_scan::{MountFault, Pending, Totals, image_length, scan};
+use pm_region::ListRegion;
+use std::alloc::{AllocError, Global};
+use std::process::Abort;
+use std::test::Fail;
+
+const BLOCKS: u32 = 8;
+
+const INODES: u32 = 512;
+
+const TOTALS: Totals = Totals {
+    files: 2,
+    dirs: 1,
+    bytes: 0,
+    live: 2,
+};
+
+fn base(alloc: Global) -> Result<Vec<u64>, AllocError>
+    ensures { IfOk result (λ words. vec_len words ≡ 4096) }
+{
+    let mut words = laid(alloc, &EMPTY)?;
+    put(&mut words, &TWO_ENTRIES);
+    put(&mut words, &TWO_NAMES);
+    Ok(words)
+}
+
+/// Scans an image. Its free blocks and inodes are those of the base image, or none where it is refused.
+fn scanned(
+    rt: &(impl Abort + AllocGlobal),
+    words: Vec<u64>,
+) -> Result<Result<Totals, MountFault>, Fail>
+    requires { vec_len words ≡ 4096 }
+{
+    let region = ListRegion::new(rt.alloc(), words, 0)?;
+    let mut blocks = Blocks::new(rt.alloc(), BLOCKS)?;
+    let mut inodes = Inodes::new(rt.alloc(), INODES)?;
+    let mut pending = Pending::new(rt.alloc(), INODES)?;
+    blocks.fill(0, BLOCKS);
+    inodes.fill(0, INODES);
+    let answer = scan(&region, &mut blocks, &mut inodes, &mut pending);
+    let free = if answer.is_ok() { (5, 60) } else { (0, 0) };
+    assert_eq!(rt; (blocks.count(), inodes.count()), free);
+    Ok(answer)
+}
+
+#[test]
+fn an_image_is_scanned(rt: HostRuntime) -> Result<(), Fail> {
+    let words = base(rt.alloc())?;
+    assert_eq!(rt; scanned(&rt, words)?, Ok(TOTALS));
+    let mut words = base(rt.alloc())?;
+    put(&mut words, &[(0, 0)]);
+    assert_eq!(rt; scanned(&rt, words)?, Err(MountFault::NotFormatted));
+    Ok(())
+}
+
+#[test]
+fn lengths(rt: HostRuntime) {
+    for (found, wanted) in [
+        (0, 32_768),
+        (32_767, 32_768),
+        (32_769, 36_864),
+        (67_108_865, 67_108_864),
+    ] {
+        assert_eq!(rt;
+            image_length(found),
+            Err(MountFault::BadSize { found, wanted })
+        );
+    }
+    for (found, blocks) in [(32_768, 8), (67_108_864, 16_384)] {
+        assert_eq!(rt; image_length(found), Ok(blocks));
+    }
+}
+
+#[test]
+fn memory(rt: HostRuntime) -> Result<(), Fail> {
+    let pending = Pending::new(rt.alloc(), INODES)?;
+    assert_eq!(rt; pending.room(), 512);
+    Ok(())
+}

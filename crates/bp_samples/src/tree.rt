@@ -1,0 +1,66 @@
+//! A tree of two leaves, with a null between them.
+
+ghost use Rattle.std.specs.Prelude.{◌≡◌, IfOk, length, slice_index};
+ghost use Rattle.bp_layout.specs.Tree.{IsSound};
+ghost use Rattle.pm_region.specs.Memory.{current_words};
+
+use crate::images::{TWO_LEAVES, laid};
+use bp_tree::{Tree, address, count_live, first_null, node, read, word_path};
+use pm_region::ListRegion;
+use std::alloc::{AllocError, Global};
+use std::test::Fail;
+
+pub(crate) const TREE: Tree = Tree {
+    root: 0x3001,
+    size: 8200,
+};
+
+pub(crate) fn sample(alloc: Global) -> Result<ListRegion, AllocError>
+    ensures sound { IfOk result (λ region. IsSound (current_words region) 0x3001 8200) }
+    ensures whole { IfOk result (λ region. length (current_words region) ≡ 4096) }
+    ensures root { IfOk result (λ region. slice_index (current_words region) 2 ≡ 0x3001) }
+    ensures third { IfOk result (λ region. slice_index (current_words region) 1538 ≡ 0x5000) }
+{
+    let words = laid(alloc, &TWO_LEAVES)?;
+    let region = ListRegion::new(alloc, words, 0)?;
+    Ok(region)
+}
+
+#[test]
+fn reads_its_nodes(rt: HostRuntime) -> Result<(), Fail> {
+    let region = sample(rt.alloc())?;
+    assert_eq!(rt; node(&region, TREE, 0, 1), 0);
+    assert_eq!(rt; node(&region, TREE, 0, 2), 5);
+    assert_eq!(rt; count_live(&region, TREE), 3);
+    assert_eq!(rt; first_null(&region, TREE), Some(1));
+    Ok(())
+}
+
+#[test]
+fn reads_its_bytes(rt: HostRuntime) -> Result<(), Fail> {
+    let region = sample(rt.alloc())?;
+    for (offset, room, count, want) in [
+        (0, 2, 2, [0x11, 0, 0xee, 0xee]),
+        (8190, 4, 4, [0, 0, 0, 0x22]),
+        (8198, 4, 2, [0, 0, 0xee, 0xee]),
+        (8200, 4, 0, [0xee, 0xee, 0xee, 0xee]),
+    ] {
+        let mut into = [0xee; 4];
+        assert_eq!(rt;
+            read(&region, TREE, offset, &mut into[..room]),
+            count,
+            "from {offset}"
+        );
+        assert_eq!(rt; into, want, "from {offset}");
+    }
+    Ok(())
+}
+
+#[test]
+fn goes_by_paths(rt: HostRuntime) -> Result<(), Fail> {
+    let region = sample(rt.alloc())?;
+    let path = word_path(TREE, 8193);
+    assert_eq!(rt; path.as_slice(), [2, 0].as_slice());
+    assert_eq!(rt; address(&region, &path), 2560);
+    Ok(())
+}

@@ -3,7 +3,7 @@ use Rattle.bp_session.proofs.AheadLaws.{reached_own}
 use Rattle.bp_session.proofs.ActingLaws.{size-drained}
 use Rattle.bp_session.specs.Serving.{Moment, moment, saved_if}
 use Rattle.bp_shell.specs.Statuses.{code_of}
-use Rattle.bp_shell.proofs.ProgramLaws.{read_now, run_memory, run_served, run_stopped, run_unsaved, run_whole, saved_drained}
+use Rattle.bp_shell.proofs.ProgramLaws.{read_now, run_memory, run_served, run_stopped, run_unsaved, run_whole, saved_drained, serving_reads}
 use Rattle.bp_session.proofs.SavingLaws.{still_attached, still_ready}
 use Rattle.bp_shell.proofs.running.run_file.Goals as goal
 
@@ -20,6 +20,10 @@ returns-in_default-clause-outcome g c =
     let begun : Moment = saved_if c.take_as_saved.new.self.is_saved (moment c.in-Ok.volume (g.F.Files.view c.open.new.files) (g.K.Sink.taken c.args.out.now) (g.K.Sink.faults c.args.out.now)) in
     rw c.of_serving.ensures.code (run_served _ _ (g.F.Files.view c.args.files.now) begun _ c.args.name.now opened.0 opened.1 opened.2 (read_now begun c.args.name.now opened.0 opened.2 opened.3) c.open.ensures.flushed c.in-Ok.ensures.cause.same _
     (λ e. c.in_default.not-Done (c.of_serving.ensures.done e)) c.serve_gathered-served.ensures.outcome.is)
+
+pub returns-in_default-clause-unread : goal.returns-in_default-clause-unread
+returns-in_default-clause-unread g c unread =
+    absurd (serving_reads c.serve_gathered-served.result (code_of c.of_serving.result) c.of_serving.ensures.code c.serve_gathered-served.ensures.outcome.is.one_of unread)
 
 pub returns-in-Ok-save_unless_saved-clause-outcome : goal.returns-in-Ok-save_unless_saved-clause-outcome
 returns-in-Ok-save_unless_saved-clause-outcome g c =

@@ -1,11 +1,11 @@
 #!/usr/bin/env python3
 """Tells what each crate costs the gate from nothing: processor seconds of its proofs, of its tests and of its must-fail edits.
 
-    gate_price.py watch FILE     notes in FILE what the gates of this machine use while they run, until it is stopped
+    gate_price.py watch FILE     notes in FILE what the provers of this machine use while they run, until it is stopped
     gate_price.py table FILE     prints what FILE has as a table for docs/gate.md
 
-It looks at the processes twice a second and starts none, so it costs a gate nothing. Only a gate that has kept nothing tells the whole price: on a machine
-whose first gate this is, or with `rt ci --anew`. A process that ends between two looks is noted up to the first of them.
+It looks at the processes twice a second and starts none, so it costs a gate nothing. Only a gate that has kept nothing tells the whole price, and only where
+no other check is at work: the first gate of a machine, say, or `rt ci --anew`. A process that ends between two looks is noted up to the first of them.
 """
 import collections
 import json
@@ -15,42 +15,39 @@ import sys
 import time
 
 TOP = os.path.dirname(os.path.dirname(os.path.abspath(__file__)))
-# The kit's prover, and the parts of the price by what it is asked for: `build --test` proves tests, `build` a crate, `check` an edit.
+# The kit's prover, and the parts of the price.
 PROVER = "/opt/rattle/bin/rattle"
 KINDS = ("proofs", "tests", "edits")
 TICKS = os.sysconf("SC_CLK_TCK")
-# The folders in which a gate works: copies of the checkout, which other checks don't use.
-COPY = re.compile(r"/rt-[a-z]+-[^/]*")
+# The folders in which an edit is tried.
+EDIT = re.compile(r"/rt-edit-")
 
 
-def kind_of(words):
-    """The part of the price that a prover with these words counts to, or None for a process that is none."""
-    if len(words) < 2 or words[0] != PROVER:
+def kind_of(words, folder):
+    """The part of the price that a prover with these words in this folder counts to, or None for a process that proves nothing."""
+    if len(words) < 2 or words[0] != PROVER or words[1] not in ("build", "check"):
         return None
-    if words[1] == "check":
+    if EDIT.search(folder):
         return "edits"
-    return ("tests" if "--test" in words else "proofs") if words[1] == "build" else None
+    return "tests" if "--test" in words else "proofs"
 
 
 def look():
-    """The provers that run now for a gate: by process and start, the crate, the part, the processor seconds so far, and the copy that the gate works in."""
+    """The provers that run now: by process and start, the crate, the part, and the processor seconds so far."""
     found = {}
     for pid in filter(str.isdigit, os.listdir("/proc")):
         try:
             with open(f"/proc/{pid}/cmdline", "rb") as it:
                 words = it.read().decode(errors="replace").split("\0")
-            kind = kind_of(words)
-            copy = COPY.search(os.readlink(f"/proc/{pid}/cwd"))
-            if kind is None or not copy:
-                continue
+            kind = kind_of(words, os.readlink(f"/proc/{pid}/cwd"))
             with open(f"/proc/{pid}/stat", encoding="ascii", errors="replace") as it:
                 fields = it.read().rpartition(")")[2].split()
         except OSError:
             continue
-        # (user and system time, of the process and of those children that it has waited for)
-        seconds = sum(int(it) for it in fields[11:15]) / TICKS
-        crate = words[words.index("--crate-name") + 1] if "--crate-name" in words else "?"
-        found[f"{pid}.{fields[19]}"] = [crate, kind, seconds, copy.group()]
+        if kind and "--crate-name" in words:
+            # (user and system time of the process, and not of its children, which are noted themselves)
+            seconds = sum(int(it) for it in fields[11:13]) / TICKS
+            found[f"{pid}.{fields[19]}"] = [words[words.index("--crate-name") + 1], kind, seconds]
     return found
 
 
@@ -86,7 +83,7 @@ def table(file):
     with open(file, encoding="utf-8") as it:
         noted = json.load(it)
     price = collections.defaultdict(lambda: dict.fromkeys(KINDS, 0.0))
-    for crate, kind, seconds, _ in noted.values():
+    for crate, kind, seconds in noted.values():
         price[crate][kind] += seconds
     print("| Crate | proofs, s | tests, s | edits, s | edits |\n|---|---|---|---|---|")
     for name in crates():

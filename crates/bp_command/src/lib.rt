@@ -4,7 +4,5 @@
 mod building;
 pub mod laws;
 mod reading;
-#[cfg(test)]
-mod tests;
 
 pub use reading::{Program, WordsFault, read_words};

@@ -23,6 +23,3 @@ pub use mem_files::MemFiles;
 pub use memory_streams::{FairSource, MemSink, MemSource, NullSink};
 pub use std_streams::{StdSink, StdSource};
 pub use streams::{Sink, Source};
-
-#[cfg(test)]
-mod tests;

@@ -1,4 +1,4 @@
 pub mod LaidLaws
-pub mod LaidVolume
+pub mod EmptyImage
 pub mod TwoLeaves
 pub mod TwoEntries

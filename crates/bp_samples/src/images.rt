@@ -1,6 +1,7 @@
 //! The images of the samples, by the words that are not 0.
 
-ghost use Rattle.std.specs.Prelude.{◌≡◌, IfOk, vec_len};
+ghost use Rattle.std.specs.Prelude.{◌*◌, ◌≡◌, IfOk, vec_len};
+ghost use Rattle.bp_limits.specs.Limits.{block_words, min_blocks};
 ghost use Rattle.bp_layout.specs.Stores.{after_stores};
 ghost use Rattle.bp_samples.specs.Laid.{laid};
 
@@ -79,7 +80,7 @@ pub fn put(words: &mut Vec<u64>, stores: Stores<'_>)
 /// The words of an image of 8 blocks with these stores over words of 0.
 pub fn laid(alloc: Global, stores: Stores<'_>) -> Result<Vec<u64>, AllocError>
     ensures words { IfOk result (λ words. words.items ≡ laid stores.now) }
-    ensures whole { IfOk result (λ words. vec_len words ≡ 4096) }
+    ensures whole { IfOk result (λ words. vec_len words ≡ min_blocks * block_words) }
 {
     let mut words = vec![in alloc; 0u64; WORDS]?;
     put(&mut words, stores);

@@ -1,17 +1,20 @@
-//! Worked samples: what each layer says of a few small images, and of logs, when it is called from Rust.
+//! Worked samples of the layers below the calls: what each says of a few small images, of logs, devices and words, when it
+//! is called from Rust. `bp_examples` has those of the calls, a volume and the programs.
 //!
 //! The images stand in one table, told by their words. A row of `bp_rows` shows what a script, the words of a command or a
-//! failing device can show; here is the rest. The tests of the dear crates stand here as well, since a crate with tests is
-//! proved once more with them.
+//! failing device can show; here is the rest. No crate has tests of its own, since one with tests is proved once more with
+//! them.
 #![tactic(auto)]
 
 #[cfg(test)]
 mod append;
 #[cfg(test)]
-mod calls;
+mod command;
 #[cfg(test)]
 mod free;
 pub mod images;
+#[cfg(test)]
+mod io;
 #[cfg(test)]
 mod layout;
 #[cfg(test)]
@@ -23,12 +26,12 @@ mod regions;
 #[cfg(test)]
 mod scan;
 #[cfg(test)]
-mod shell;
+mod script;
 #[cfg(test)]
 mod spelling;
 #[cfg(test)]
 mod tree;
 #[cfg(test)]
-mod volume;
-#[cfg(test)]
 mod walk;
+#[cfg(test)]
+mod words;

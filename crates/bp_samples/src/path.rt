@@ -61,7 +61,7 @@ fn refuses_what_is_no_path(rt: HostRuntime) -> Result<(), Fail> {
     Ok(())
 }
 
-// the root directory, which has no entry, and inode 1 in the inode file
+/// the root directory, which has no entry, and inode 1 in the inode file
 #[test]
 fn reads_an_empty_directory(rt: HostRuntime) -> Result<(), Fail> {
     let region = fresh(rt.alloc())?;

@@ -97,7 +97,7 @@ fn follow<R: Region>(region: &mut R, events: &[Event]) {
     }
 }
 
-// A store and a barrier fill the log of two places, and a drain brings the store to the words at the last drain.
+/// A store and a barrier fill the log of two places, and a drain brings the store to the words at the last drain.
 fn stores_reach_the_base_at_a_drain<R: Region, A: Abort>(rt: &A, region: &mut R) {
     assert!(rt; region.words() == 4);
     assert!(rt; region.room() == 2);
@@ -127,7 +127,7 @@ fn stores_reach_the_base_at_a_drain<R: Region, A: Abort>(rt: &A, region: &mut R)
     assert_eq!(rt; region.load(3), 7);
 }
 
-// Of three words of 0, with room for the two epochs.
+/// Of three words of 0, with room for the two epochs.
 fn crash_leaves<R: Region, A: Abort>(
     rt: &A,
     region: &mut R,
@@ -154,7 +154,7 @@ fn crash_leaves<R: Region, A: Abort>(
     }
 }
 
-// A store that a crash loses, before one that it keeps: then the call of both is not kept.
+/// A store that a crash loses, before one that it keeps: then the call of both is not kept.
 fn crash_keeps_what_was_written_back<R: Region, A: Abort>(rt: &A, region: &mut R, choice: &Choice) {
     let events = [
         Event::Store { word: 0, value: 1 },

@@ -1,6 +1,7 @@
 //! A small file system. Rows over the devices in memory show one damage after another (docs/rows.md).
 
-ghost use Rattle.std.specs.Prelude.{◌≡◌, IfOk, vec_len};
+ghost use Rattle.std.specs.Prelude.{◌*◌, ◌≡◌, IfOk, vec_len};
+ghost use Rattle.bp_limits.specs.Limits.{block_words, min_blocks};
 
 use crate::images::{EMPTY, TWO_ENTRIES, TWO_NAMES, laid, put};
 use bp_free::{Blocks, Inodes};
@@ -22,7 +23,7 @@ const TOTALS: Totals = Totals {
 };
 
 fn base(alloc: Global) -> Result<Vec<u64>, AllocError>
-    ensures { IfOk result (λ words. vec_len words ≡ 4096) }
+    ensures { IfOk result (λ words. vec_len words ≡ min_blocks * block_words) }
 {
     let mut words = laid(alloc, &EMPTY)?;
     put(&mut words, &TWO_ENTRIES);
@@ -35,7 +36,7 @@ fn scanned(
     rt: &(impl Abort + AllocGlobal),
     words: Vec<u64>,
 ) -> Result<Result<Totals, MountFault>, Fail>
-    requires { vec_len words ≡ 4096 }
+    requires { vec_len words ≡ min_blocks * block_words }
 {
     let region = ListRegion::new(rt.alloc(), words, 0)?;
     let mut blocks = Blocks::new(rt.alloc(), BLOCKS)?;

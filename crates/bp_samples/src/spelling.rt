@@ -25,7 +25,7 @@ fn sample(alloc: Global, first: Start, second: Start) -> Result<ListRegion, Allo
     Ok(region)
 }
 
-// by a table
+/// by a table
 fn checked(
     alloc: Global,
     first: Start,
@@ -36,7 +36,7 @@ fn checked(
     Ok(check_names(&region, TREE, &mut entries))
 }
 
-// where there is no memory for a table
+/// where there is no memory for a table
 fn checked_by_order(
     alloc: Global,
     first: Start,
@@ -47,7 +47,7 @@ fn checked_by_order(
     Ok(check_names(&region, TREE, &mut entries))
 }
 
-// "ab" and "ac", whatever stands in their dead bytes; "..." is a name
+/// "ab" and "ac", whatever stands in their dead bytes; "..." is a name
 #[test]
 fn names_that_differ(rt: HostRuntime) -> Result<(), Fail> {
     for (first, second) in [
@@ -70,7 +70,7 @@ fn names_that_differ(rt: HostRuntime) -> Result<(), Fail> {
     Ok(())
 }
 
-// "ab" twice, with other dead bytes
+/// "ab" twice, with other dead bytes
 #[test]
 fn names_that_are_equal(rt: HostRuntime) -> Result<(), Fail> {
     let answer = checked(rt.alloc(), (2, 0x1234_6261), (2, 0xff00_6261))?;
@@ -80,7 +80,7 @@ fn names_that_are_equal(rt: HostRuntime) -> Result<(), Fail> {
     Ok(())
 }
 
-// no byte, 241 bytes, "a/b", "a" and byte 0, ".", ".." and their dead bytes
+/// no byte, 241 bytes, "a/b", "a" and byte 0, ".", ".." and their dead bytes
 #[test]
 fn names_of_a_wrong_form(rt: HostRuntime) -> Result<(), Fail> {
     for wrong in [

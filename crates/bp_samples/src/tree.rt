@@ -1,6 +1,7 @@
 //! A tree of two leaves, with a null between them.
 
-ghost use Rattle.std.specs.Prelude.{◌≡◌, IfOk, length, slice_index};
+ghost use Rattle.std.specs.Prelude.{◌*◌, ◌≡◌, IfOk, length, slice_index};
+ghost use Rattle.bp_limits.specs.Limits.{block_words, min_blocks};
 ghost use Rattle.bp_layout.specs.Tree.{IsSound};
 ghost use Rattle.pm_region.specs.Memory.{current_words};
 
@@ -17,7 +18,7 @@ pub(crate) const TREE: Tree = Tree {
 
 pub(crate) fn sample(alloc: Global) -> Result<ListRegion, AllocError>
     ensures sound { IfOk result (λ region. IsSound (current_words region) 0x3001 8200) }
-    ensures whole { IfOk result (λ region. length (current_words region) ≡ 4096) }
+    ensures whole { IfOk result (λ region. length (current_words region) ≡ min_blocks * block_words) }
     ensures root { IfOk result (λ region. slice_index (current_words region) 2 ≡ 0x3001) }
     ensures third { IfOk result (λ region. slice_index (current_words region) 1538 ≡ 0x5000) }
 {

@@ -10,6 +10,3 @@ mod replies;
 pub use lines::{Decoded, Line, Syntax};
 pub use notices::{MAX_NOTICE, Notice, announce};
 pub use replies::{Said, say};
-
-#[cfg(test)]
-mod tests;

@@ -3,7 +3,8 @@ use Rattle.std.specs.Prelude.{ℕ, ◌+◌, ◌*◌, ◌/◌, ◌%◌, ◌^◌, 
 
 -- the bytes of a word
 abbrev pub word_bytes : ℕ → List ℕ
-word_bytes word = word % 256 ∷ word / 256 % 256 ∷ word / 256 ^ 2 % 256 ∷ word / 256 ^ 3 % 256 ∷ word / 256 ^ 4 % 256 ∷ word / 256 ^ 5 % 256 ∷ word / 256 ^ 6 % 256 ∷ word / 256 ^ 7 % 256 ∷ []
+word_bytes word = word % 256 ∷ word / 256 % 256 ∷ word / 256 ^ 2 % 256 ∷ word / 256 ^ 3 % 256 ∷ word / 256 ^ 4 % 256
+    ∷ word / 256 ^ 5 % 256 ∷ word / 256 ^ 6 % 256 ∷ word / 256 ^ 7 % 256 ∷ []
 
 -- the number that bytes spell in base 256
 abbrev pub word_of : List ℕ → ℕ

@@ -9,8 +9,6 @@ ghost use Rattle.std.specs.Prelude.{◌%◌, ◌*◌, ◌/◌, ◌^◌, ◌≡�
 use bp_limits::{BLOCK_SIZE, BLOCK_WORDS};
 
 pub mod laws;
-#[cfg(test)]
-mod tests;
 
 /// The greatest level whose span fits into a word: 2^57 bytes.
 pub const MAX_LEVEL: u32 = 5;

@@ -1,4 +1,4 @@
-use Rattle.bp_samples.proofs.LaidVolume.{empty_well_formed}
+use Rattle.bp_samples.proofs.EmptyImage.{empty_well_formed}
 use Rattle.bp_samples.proofs.path.fresh.Goals as goal
 
 pub returns : goal.returns

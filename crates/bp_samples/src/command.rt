@@ -1,6 +1,6 @@
 //! Words that the command takes, and words that it refuses.
 
-use super::*;
+use bp_command::{Program, WordsFault, read_words};
 
 #[test]
 fn takes_words(rt: HostRuntime) {

@@ -1,5 +1,5 @@
 use Rattle.std.specs.Prelude.{◌≡◌, List, ℕ, true}
-use Rattle.bp_io.proofs.tests.write_row.Given as goal
+use Rattle.bp_samples.proofs.io.write_row.Given as goal
 
 -- the row goes on over the same file
 abbrev pub invariant-loop-i : goal.invariant-loop-i

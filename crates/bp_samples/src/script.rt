@@ -1,10 +1,12 @@
-// Rows of the table of commands with hostile lines, and each text once.
+//! Lines of scripts: rows of the table of commands with hostile lines, and each text once.
+
 ghost use Rattle.bp_script.specs.Sayings.{FitsReply, IsLine};
 
-use super::*;
 use bp_layout::Kind;
 use bp_limits::{MAX_NAME, MAX_TEXT};
 use bp_plain::{Answer, Call, FsError};
+use bp_replay::Cut;
+use bp_script::{Decoded, Line, MAX_NOTICE, Notice, Said, Syntax, announce, say};
 use std::process::Abort;
 use std::test::Fail;
 

@@ -1,7 +1,7 @@
 use Rattle.bp_layout.specs.Reached.IsReached.{root_directory}
 use Rattle.bp_calls.specs.Created.{EntersName}
 use Rattle.bp_calls.proofs.NewNames.{left_well_formed}
-use Rattle.bp_samples.proofs.calls.make.Goals as goal
+use Rattle.bp_examples.proofs.calls.make.Goals as goal
 
 pub tree_of-tree-requires-clause-reached : goal.tree_of-tree-requires-clause-reached
 tree_of-tree-requires-clause-reached c = root_directory

@@ -6,12 +6,12 @@ ghost use Rattle.bp_layout.specs.Directory.{IsName};
 ghost use Rattle.bp_layout.specs.WellFormed.{IsWellFormed};
 ghost use Rattle.pm_region.specs.Memory.{current_words};
 
-use crate::images::{EMPTY, TWO_ENTRIES, laid, put};
 use bp_calls::{create, tree_of};
 use bp_dirs::find;
 use bp_free::{Blocks, Inodes, NoSpace, Parts};
 use bp_layout::Kind;
 use bp_limits::{CALL_ROOM, LOG_EVENTS, MAX_NAME};
+use bp_samples::images::{EMPTY, TWO_ENTRIES, laid, put};
 use pm_region::{ListRegion, Region};
 use std::alloc::{AllocError, Global};
 use std::test::Fail;

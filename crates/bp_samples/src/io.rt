@@ -1,7 +1,11 @@
-// What no clause says: the edge to std, and each call once on its happy path.
+//! The outside: the edge to std, and each call once on its happy path.
+
 ghost use Rattle.std.specs.Prelude.{◌≡◌, List, ℕ, true};
 
-use super::*;
+use bp_io::{
+    Access, DiskFiles, Failed, FairFiles, FairSource, Files, MemFiles, MemSink, MemSource,
+    NullSink, Sink, Source, StdSink, StdSource,
+};
 use std::alloc::{AllocError, Global};
 use std::io::{ErrorKind, Read, Write};
 use std::test::Fail;
@@ -35,7 +39,7 @@ fn disk_files_keep_blocks(rt: HostRuntime) -> Result<(), Fail> {
     Ok(())
 }
 
-// What the block `i` of the long file holds in each of its bytes.
+/// What the block `i` of the long file holds in each of its bytes.
 fn long_byte(i: u8) -> u8 {
     match i {
         0 => 77,
@@ -46,7 +50,7 @@ fn long_byte(i: u8) -> u8 {
     }
 }
 
-// Writes the first blocks of the long file one behind another, as they are at first.
+/// Writes the first blocks of the long file one behind another, as they are at first.
 fn write_row<F: Files>(files: &mut F) -> Result<(), Failed>
     requires blocks { (F.view files.old).blocks ≡ 201 }
     requires may_write { (F.view files.old).may_write ≡ true }
@@ -60,7 +64,7 @@ fn write_row<F: Files>(files: &mut F) -> Result<(), Failed>
     Ok(())
 }
 
-// Whether these are the bytes of the long file.
+/// Whether these are the bytes of the long file.
 fn is_long(bytes: &[u8]) -> bool {
     for i in 0..201u8 {
         let at = 4096 * i as usize;
@@ -71,7 +75,7 @@ fn is_long(bytes: &[u8]) -> bool {
     true
 }
 
-// Whether the blocks of a file are those of the long file: one that is read alone, and a run of many.
+/// Whether the blocks of a file are those of the long file: one that is read alone, and a run of many.
 fn reads_long<F: Files>(alloc: Global, files: &mut F) -> Result<bool, AllocError>
     requires { (F.view files.old).blocks ≡ 201 }
 {
@@ -133,7 +137,7 @@ fn disk_files_miss_a_lost_block(rt: HostRuntime) -> Result<(), Fail> {
     Ok(())
 }
 
-// A signal interrupts the first calls; then it gives and takes one byte at a time.
+/// A signal interrupts the first calls; then it gives and takes one byte at a time.
 #[derive(Drop)]
 struct Interrupted {
     signals: u32,
@@ -175,7 +179,7 @@ impl Write for Interrupted {
     }
 }
 
-// It takes no byte.
+/// It takes no byte.
 #[derive(Drop)]
 struct Stuck;
 

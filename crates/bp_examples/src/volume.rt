@@ -3,10 +3,10 @@
 ghost use Rattle.std.specs.Prelude.{[], ◌*◌, ◌≡◌, IfOk, length, vec_len};
 ghost use Rattle.bp_limits.specs.Limits.{block_words, call_room, min_blocks};
 
-use crate::images::{EMPTY, laid};
 use bp_layout::{Kind, Stat};
 use bp_limits::CALL_ROOM;
 use bp_plain::{Answer, Call, Reply};
+use bp_samples::images::{EMPTY, laid};
 use bp_volume::Volume;
 use pm_region::{ListRegion, Region};
 use std::alloc::{AllocError, Global};

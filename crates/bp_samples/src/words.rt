@@ -1,5 +1,6 @@
-// Values from outside.
-use super::*;
+//! Words: values from outside.
+
+use pm_words::{MAX_LEVEL, block_of, digit, read_word, span, write_word};
 
 #[test]
 fn words_and_bytes(rt: HostRuntime) {

@@ -1,5 +1,5 @@
 use Rattle.bp_samples.proofs.TwoEntries.{two_entries_well_formed, two_entries_exact}
-use Rattle.bp_samples.proofs.calls.sample.Goals as goal
+use Rattle.bp_examples.proofs.calls.sample.Goals as goal
 
 pub returns-clause-well_formed : goal.returns-clause-well_formed
 returns-clause-well_formed c = rw (c.in_ok-region.ensures, c.put.ensures.words, c.in_ok-words.ensures.words) two_entries_well_formed

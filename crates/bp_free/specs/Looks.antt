@@ -7,7 +7,8 @@ abbrev pub bit_looks : ℕ → Option ℕ → ℕ
 bit_looks room None = div_ceil room 64
 bit_looks room (Some i) = i / 64 + 1
 
--- where each word of 64 numbers is a bit too: those of these bits up to the one of the number's word, then the word itself
+-- where each word of 64 numbers is a bit too: those of these bits up to the one of the number's word, then the word
+-- itself
 abbrev pub looks : ℕ → Option ℕ → ℕ
 looks room None = div_ceil room 4096
 looks room (Some i) = i / 4096 + 2

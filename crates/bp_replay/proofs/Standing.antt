@@ -5,7 +5,7 @@ use Rattle.std.proofs.lemmas.List.{append-nil, length-take}
 use Rattle.pm_epochs.specs.declared.event.Event.{Event}
 use Rattle.pm_epochs.specs.declared.event.Event.TheVariants.{Store, Barrier, Mark}
 use Rattle.pm_epochs.specs.Log.{barriers}
-use Rattle.pm_epochs.specs.Replay.{Cut, IsRight}
+use Rattle.pm_epochs.specs.Replay.{PowerCut, IsRight}
 use Rattle.pm_region.specs.Epochs.{epoch_start}
 use Rattle.pm_steps.specs.Machine.{open_epoch, epoch_flags, cut_of}
 use Rattle.pm_steps.proofs.Scan.{open_epoch-none, epoch_flags-none}
@@ -17,15 +17,15 @@ use Rattle.bp_replay.proofs.Storms.{length-storm_flags, in_order_storm}
 -- ## Event by event
 
 -- one more store of the epoch is back or not, and the next epoch is come to
-abbrev pub with_place : Cut → Bool → Cut
+abbrev pub with_place : PowerCut → Bool → PowerCut
 with_place cut flag = record cut { mask = cut.mask ++ flag ∷ [] }
 
-abbrev pub at_next : Cut → Cut
+abbrev pub at_next : PowerCut → PowerCut
 at_next cut = record { moment = cut.moment; epoch = cut.epoch + 1; mask = [] }
 
 -- The cut behind these events: whether a store of the cut's epoch waits, and whether its stores are drawn for, since it is the
 -- storm's own.
-abbrev pub stands : List Event → Bool → Bool → ℕ → List ℕ → Cut → Cut
+abbrev pub stands : List Event → Bool → Bool → ℕ → List ℕ → PowerCut → PowerCut
 stands [] waits draws state waiting cut = cut
 stands (Store word value ∷ events) waits true state waiting cut =
     let flag = goes_back state waiting word in
@@ -44,7 +44,7 @@ drop_suc (first ∷ events) (suc moment) (suc i) event low is = drop_suc events 
 pub drop_at : (events : List Event) (moment i : ℕ) (event : Event) → i < moment → slice_get events i ≡ Some event → drop i (take moment events) ≡ event ∷ drop (i + 1) (take moment events)
 drop_at events moment i event low is = rw add-one (drop_suc events moment i event low is)
 
-pub stands_at : (waits draws : Bool) (state : ℕ) (waiting : List ℕ) (cut : Cut) (events : List Event) (moment i : ℕ) (event : Event) → i < moment → slice_get events i ≡ Some event
+pub stands_at : (waits draws : Bool) (state : ℕ) (waiting : List ℕ) (cut : PowerCut) (events : List Event) (moment i : ℕ) (event : Event) → i < moment → slice_get events i ≡ Some event
     → stands (drop i (take moment events)) waits draws state waiting cut ≡ stands (event ∷ drop (i + 1) (take moment events)) waits draws state waiting cut
 stands_at waits draws state waiting cut events moment i event low is = ap (λ es. stands es waits draws state waiting cut) (drop_at events moment i event low is)
 
@@ -59,7 +59,7 @@ abbrev mask_on : ℕ → List Bool → List Event → List Bool → List Bool
 mask_on zero mask events back = mask ++ epoch_flags 0 events back
 mask_on (suc more) mask events back = epoch_flags (suc more) events back
 
-abbrev cut_on : Cut → List Event → List Bool → Cut
+abbrev cut_on : PowerCut → List Event → List Bool → PowerCut
 cut_on cut events back = record {
   moment = cut.moment;
   epoch = cut.epoch + open_epoch events back;
@@ -67,16 +67,16 @@ cut_on cut events back = record {
 }
 
 -- where a store waits, its epoch is the one
-abbrev cut_here : Cut → List Event → List Bool → Cut
+abbrev cut_here : PowerCut → List Event → List Bool → PowerCut
 cut_here cut events back = record cut { mask = cut.mask ++ epoch_flags 0 events back }
 
-here-nil : (cut : Cut) → cut ≡ record cut { mask = cut.mask ++ [] }
+here-nil : (cut : PowerCut) → cut ≡ record cut { mask = cut.mask ++ [] }
 here-nil cut = ap (λ m. record cut { mask = m }) (sym (append-nil cut.mask))
 
-here-place : (cut : Cut) (flag : Bool) (word value : ℕ) (events : List Event) (back : List Bool) → cut_here (with_place cut flag) events back ≡ cut_here cut (Store word value ∷ events) (flag ∷ back)
+here-place : (cut : PowerCut) (flag : Bool) (word value : ℕ) (events : List Event) (back : List Bool) → cut_here (with_place cut flag) events back ≡ cut_here cut (Store word value ∷ events) (flag ∷ back)
 here-place cut flag word value events back = ap (λ m. record cut { mask = m }) (append_assoc cut.mask (flag ∷ []) (epoch_flags 0 events back))
 
-stands_waiting : (events : List Event) (draws : Bool) (state : ℕ) (waiting : List ℕ) (cut : Cut) → stands events true draws state waiting cut ≡ cut_here cut events (flags_on draws state waiting events)
+stands_waiting : (events : List Event) (draws : Bool) (state : ℕ) (waiting : List ℕ) (cut : PowerCut) → stands events true draws state waiting cut ≡ cut_here cut events (flags_on draws state waiting events)
 stands_waiting [] draws state waiting cut = here-nil cut
 stands_waiting (Store word value ∷ events) true state waiting cut =
     let flag = goes_back state waiting word in
@@ -102,35 +102,35 @@ mask_on-nil : (more : ℕ) (events : List Event) (back : List Bool) → mask_on 
 mask_on-nil zero events back = refl
 mask_on-nil (suc more) events back = refl
 
-cut_is : (moment first second : ℕ) (left right : List Bool) → first ≡ second → left ≡ right → record { moment = moment; epoch = first; mask = left } ≡ (let cut : Cut = record { moment = moment; epoch = second; mask = right } in cut)
+cut_is : (moment first second : ℕ) (left right : List Bool) → first ≡ second → left ≡ right → record { moment = moment; epoch = first; mask = left } ≡ (let cut : PowerCut = record { moment = moment; epoch = second; mask = right } in cut)
 cut_is moment first second left right epoch mask = cc
 
-on-nil : (cut : Cut) → cut ≡ cut_on cut [] []
+on-nil : (cut : PowerCut) → cut ≡ cut_on cut [] []
 on-nil cut = cut_is cut.moment cut.epoch (cut.epoch + 0) cut.mask (cut.mask ++ []) (omega arith) (sym (append-nil cut.mask))
 
-on-waits : (cut : Cut) (word value : ℕ) (events : List Event) (back : List Bool) → cut_here (with_place cut false) events back ≡ cut_on cut (Store word value ∷ events) (false ∷ back)
+on-waits : (cut : PowerCut) (word value : ℕ) (events : List Event) (back : List Bool) → cut_here (with_place cut false) events back ≡ cut_on cut (Store word value ∷ events) (false ∷ back)
 on-waits cut word value events back =
     cut_is cut.moment cut.epoch (cut.epoch + 0) ((cut.mask ++ false ∷ []) ++ epoch_flags 0 events back) (cut.mask ++ false ∷ epoch_flags 0 events back) (omega arith) (append_assoc cut.mask (false ∷ []) (epoch_flags 0 events back))
 
-on-back : (cut : Cut) (word value : ℕ) (events : List Event) (back : List Bool) → cut_on (with_place cut true) events back ≡ cut_on cut (Store word value ∷ events) (true ∷ back)
+on-back : (cut : PowerCut) (word value : ℕ) (events : List Event) (back : List Bool) → cut_on (with_place cut true) events back ≡ cut_on cut (Store word value ∷ events) (true ∷ back)
 on-back cut word value events back = ap (λ m. record { moment = cut.moment; epoch = cut.epoch + open_epoch events back; mask = m }) (mask_on-place (open_epoch events back) cut.mask word value events back)
 
-on-next : (cut : Cut) (events : List Event) (back : List Bool) → cut_on (at_next cut) events back ≡ cut_on cut (Barrier ∷ events) (false ∷ back)
+on-next : (cut : PowerCut) (events : List Event) (back : List Bool) → cut_on (at_next cut) events back ≡ cut_on cut (Barrier ∷ events) (false ∷ back)
 on-next cut events back = cut_is cut.moment (cut.epoch + 1 + open_epoch events back) (cut.epoch + suc (open_epoch events back)) (mask_on (open_epoch events back) [] events back) (epoch_flags (open_epoch events back) events back) (omega arith) (mask_on-nil (open_epoch events back) events back)
 
-on-mark : (cut : Cut) (events : List Event) (back : List Bool) → cut_on cut events back ≡ cut_on cut (Mark ∷ events) (false ∷ back)
+on-mark : (cut : PowerCut) (events : List Event) (back : List Bool) → cut_on cut events back ≡ cut_on cut (Mark ∷ events) (false ∷ back)
 on-mark cut events back = ap (λ m. record { moment = cut.moment; epoch = cut.epoch + open_epoch events back; mask = m }) (mask_on-mark (open_epoch events back) cut.mask events back)
 
 -- behind a store that was drawn for
-drawn_on : (flag : Bool) (word value : ℕ) (events : List Event) (state : ℕ) (waiting : List ℕ) (cut : Cut)
-    → ((next : Cut) → stands events false true state waiting next ≡ cut_on next events (storm_flags state 0 waiting events))
+drawn_on : (flag : Bool) (word value : ℕ) (events : List Event) (state : ℕ) (waiting : List ℕ) (cut : PowerCut)
+    → ((next : PowerCut) → stands events false true state waiting next ≡ cut_on next events (storm_flags state 0 waiting events))
     → stands events (false || not flag) true state (waiting_behind flag waiting word) (with_place cut flag) ≡ cut_on cut (Store word value ∷ events) (flag ∷ storm_flags state 0 (waiting_behind flag waiting word) events)
 drawn_on true word value events state waiting cut more = more (with_place cut true) ∙ on-back cut word value events (storm_flags state 0 waiting events)
 drawn_on false word value events state waiting cut more =
     stands_waiting events true state (waiting ++ word ∷ []) (with_place cut false)
     ∙ on-waits cut word value events (storm_flags state 0 (waiting ++ word ∷ []) events)
 
-stands_on : (events : List Event) (draws : Bool) (state : ℕ) (waiting : List ℕ) (cut : Cut) → stands events false draws state waiting cut ≡ cut_on cut events (flags_on draws state waiting events)
+stands_on : (events : List Event) (draws : Bool) (state : ℕ) (waiting : List ℕ) (cut : PowerCut) → stands events false draws state waiting cut ≡ cut_on cut events (flags_on draws state waiting events)
 stands_on [] draws state waiting cut = on-nil cut
 stands_on (Store word value ∷ events) true state waiting cut =
     drawn_on (goes_back state waiting word) word value events (next_state state) waiting cut (λ next. stands_on events true (next_state state) waiting next)
@@ -196,35 +196,35 @@ stands_open state moment epoch events own taken begun own_is =
     let epoch_is : open_epoch events back ≡ epoch + more = sym (open_take events moment back few) ∙ open_behind state epoch front begun in
     let mask_is : epoch_flags (open_epoch events back) events back ≡ epoch_flags more rest flags =
     sym (flags_take (open_epoch events back) events moment back few) ∙ flags_behind state epoch (open_epoch events back) more front epoch_is begun in
-    let cut : Cut = record { moment = moment; epoch = epoch; mask = [] } in
+    let cut : PowerCut = record { moment = moment; epoch = epoch; mask = [] } in
     ap (λ es. stands es false true state [] cut) own_is
     ∙ stands_on rest true state [] cut
     ∙ cut_same moment (length back) (epoch + more) (open_epoch events back) (mask_on more [] rest flags) (epoch_flags (open_epoch events back) events back) (sym count) (sym epoch_is) (mask_on-nil more rest flags ∙ sym mask_is)
   where
-    cut_same : (moment count first second : ℕ) (left right : List Bool) → moment ≡ count → first ≡ second → left ≡ right → record { moment = moment; epoch = first; mask = left } ≡ (let cut : Cut = record { moment = count; epoch = second; mask = right } in cut)
+    cut_same : (moment count first second : ℕ) (left right : List Bool) → moment ≡ count → first ≡ second → left ≡ right → record { moment = moment; epoch = first; mask = left } ≡ (let cut : PowerCut = record { moment = count; epoch = second; mask = right } in cut)
     cut_same moment count first second left right moment_is epoch_is mask_is = cc
 
 -- ## The ends of the loop
 
-pub stands_first : (state start moment : ℕ) (first : Cut) (events : List Event) → moment ≡ first.moment → first.moment ≤ length events → first.epoch ≤ barriers (take first.moment events) → start ≡ epoch_start first.epoch (take first.moment events) → first.mask ≡ []
+pub stands_first : (state start moment : ℕ) (first : PowerCut) (events : List Event) → moment ≡ first.moment → first.moment ≤ length events → first.epoch ≤ barriers (take first.moment events) → start ≡ epoch_start first.epoch (take first.moment events) → first.mask ≡ []
     → stands (drop start (take moment events)) false true state [] first ≡ cut_of events (storm_flags state first.epoch [] (take first.moment events))
 stands_first state start moment first events moment_is taken begun start_is mask_is =
     ap (λ m. stands (drop start (take m events)) false true state [] first) moment_is
     ∙ ap (λ m. stands (drop start (take first.moment events)) false true state [] (record { moment = first.moment; epoch = first.epoch; mask = m })) mask_is
     ∙ stands_open state first.moment first.epoch events (drop start (take first.moment events)) taken begun (ap (λ n. drop n (take first.moment events)) start_is)
 
-pub stands_end : (events : List Event) (i : ℕ) (waits draws : Bool) (state : ℕ) (waiting : List ℕ) (cut : Cut) → length events ≤ i → stands (drop i events) waits draws state waiting cut ≡ cut
+pub stands_end : (events : List Event) (i : ℕ) (waits draws : Bool) (state : ℕ) (waiting : List ℕ) (cut : PowerCut) → length events ≤ i → stands (drop i events) waits draws state waiting cut ≡ cut
 stands_end [] zero waits draws state waiting cut low = refl
 stands_end [] (suc i) waits draws state waiting cut low = refl
 stands_end (event ∷ events) zero waits draws state waiting cut low = absurd (omega arith)
 stands_end (event ∷ events) (suc i) waits draws state waiting cut low = stands_end events i waits draws state waiting cut (omega arith)
 
 -- where a store of the epoch waits, the machine goes no further
-barrier_ends : (draws : Bool) (state : ℕ) (waiting : List ℕ) (cut : Cut) (events : List Event) → stands (Barrier ∷ events) true draws state waiting cut ≡ cut
+barrier_ends : (draws : Bool) (state : ℕ) (waiting : List ℕ) (cut : PowerCut) (events : List Event) → stands (Barrier ∷ events) true draws state waiting cut ≡ cut
 barrier_ends true state waiting cut events = refl
 barrier_ends false state waiting cut events = refl
 
-pub stands_barrier : (waits draws : Bool) (state : ℕ) (waiting : List ℕ) (cut : Cut) (events : List Event) (moment i : ℕ) → i < moment → slice_get events i ≡ Some Barrier → waits ≡ true → stands (drop i (take moment events)) waits draws state waiting cut ≡ cut
+pub stands_barrier : (waits draws : Bool) (state : ℕ) (waiting : List ℕ) (cut : PowerCut) (events : List Event) (moment i : ℕ) → i < moment → slice_get events i ≡ Some Barrier → waits ≡ true → stands (drop i (take moment events)) waits draws state waiting cut ≡ cut
 stands_barrier waits draws state waiting cut events moment i low is waits_is =
     let rest = drop (i + 1) (take moment events) in
     stands_at waits draws state waiting cut events moment i Barrier low is

@@ -4,7 +4,7 @@ use Rattle.std.proofs.Common.{zero, suc}
 use Rattle.pm_epochs.specs.declared.event.Event.{Event}
 use Rattle.pm_epochs.specs.declared.event.Event.TheVariants.{Store, Barrier, Mark}
 use Rattle.pm_epochs.specs.Log.{barriers}
-use Rattle.pm_epochs.specs.Replay.{Cut}
+use Rattle.pm_epochs.specs.Replay.{PowerCut}
 use Rattle.pm_steps.specs.WordSet.{is_noted}
 use Rattle.pm_steps.specs.Machine.{is_some_store, ComesFirst, cut_of}
 use Rattle.bp_replay.specs.Generator.{next_state, drawn}
@@ -18,8 +18,8 @@ abbrev pub waiting_behind : Bool → List ℕ → ℕ → List ℕ
 waiting_behind true waiting word = waiting
 waiting_behind false waiting word = waiting ++ word ∷ []
 
--- Which of the taken events are stores that are back. All stores of the epochs before the storm's are; in its own, whose
--- waiting stores went to these words so far, each store is drawn for; of later ones none is.
+-- Which of the taken events are stores that are back. All stores of the epochs before the storm's are; in its own,
+-- whose waiting stores went to these words so far, each store is drawn for; of later ones none is.
 abbrev pub storm_flags : ℕ → ℕ → List ℕ → List Event → List Bool
 storm_flags state epoch waiting [] = []
 storm_flags state zero waiting (Store word value ∷ events) =
@@ -45,7 +45,7 @@ abbrev pub flags_of_storm : List Event → ℕ → List Bool
 flags_of_storm events seed = flags_from (take (storm_moment events seed) events) seed
 
 -- what the crash keeps
-abbrev pub storm_cut : List Event → ℕ → Cut
+abbrev pub storm_cut : List Event → ℕ → PowerCut
 storm_cut events seed = cut_of events (flags_of_storm events seed)
 
 -- ## The rule by which stores are written back

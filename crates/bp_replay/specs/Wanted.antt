@@ -2,7 +2,7 @@
 use Rattle.std.specs.Prelude.{ℕ, ◌*◌, ◌/◌, ◌%◌, ◌==◌, List, [], ◌∷◌, Bool, true, false, length, replicate, flat_map}
 use Rattle.pm_epochs.specs.declared.event.Event.{Event}
 use Rattle.pm_epochs.specs.Log.{barriers, epoch_stores}
-use Rattle.pm_epochs.specs.Replay.{Cut}
+use Rattle.pm_epochs.specs.Replay.{PowerCut}
 use Rattle.bp_replay.specs.declared.cut.Cut.{Cut as Asked}
 use Rattle.bp_replay.specs.declared.cut.Cut.TheVariants.{All, Nothing, At}
 
@@ -29,7 +29,8 @@ bit byte place = byte / place % 2 == 1
 
 -- the bits of a byte, the lowest first
 abbrev pub bits_of : ℕ → List Bool
-bits_of byte = bit byte 1 ∷ bit byte 2 ∷ bit byte 4 ∷ bit byte 8 ∷ bit byte 16 ∷ bit byte 32 ∷ bit byte 64 ∷ bit byte 128 ∷ []
+bits_of byte =
+    bit byte 1 ∷ bit byte 2 ∷ bit byte 4 ∷ bit byte 8 ∷ bit byte 16 ∷ bit byte 32 ∷ bit byte 64 ∷ bit byte 128 ∷ []
 
 -- the bits of bytes, those of the first byte first
 abbrev pub bits : List ℕ → List Bool
@@ -45,7 +46,7 @@ trimmed [] = []
 trimmed (place ∷ mask) = behind_true place (trimmed mask)
 
 -- the cut that is wanted of a log
-abbrev pub cut_for : List Event → Wanted → Cut
+abbrev pub cut_for : List Event → Wanted → PowerCut
 cut_for events all = record {
   moment = length events;
   epoch = barriers events;

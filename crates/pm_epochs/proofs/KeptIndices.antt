@@ -7,7 +7,7 @@ use Rattle.std.proofs.Math.Dec.{leb-suc-zero, leb-suc-suc, leb-zero, eqb-suc-zer
 use Rattle.pm_epochs.specs.declared.event.Event.{Event}
 use Rattle.pm_epochs.specs.declared.event.Event.TheVariants.{Store, Barrier, Mark}
 use Rattle.pm_epochs.specs.Log.{epoch_stores}
-use Rattle.pm_epochs.specs.Replay.{Cut, stores_of, kept_stores, is_store_at, epoch_of, place_in_epoch, is_back, is_kept, kept_indices, events_at}
+use Rattle.pm_epochs.specs.Replay.{PowerCut, stores_of, kept_stores, is_store_at, epoch_of, place_in_epoch, is_back, is_kept, kept_indices, events_at}
 
 -- the events at the indices that a test picks, counted from the list's front
 picked : (ℕ → Bool) → List Event → List Event
@@ -141,7 +141,7 @@ stored_in_front epoch mask moment events i low =
 none_more : (i : ℕ) → 0 + i ≡ i
 none_more i = omega arith
 
-pub kept_at_indices : (events : List Event) (cut : Cut) → kept_stores events cut ≡ events_at events (kept_indices events cut)
+pub kept_at_indices : (events : List Event) (cut : PowerCut) → kept_stores events cut ≡ events_at events (kept_indices events cut)
 unfolding is_stored
 kept_at_indices events cut =
     let front = take cut.moment events in

@@ -2,7 +2,7 @@
 use Rattle.std.specs.Prelude.{ℕ, List, [], ◌∷◌}
 use Rattle.pm_epochs.specs.declared.event.Event.{Event}
 use Rattle.pm_epochs.specs.declared.event.Event.TheVariants.{Store, Barrier}
-use Rattle.pm_epochs.specs.Replay.{Cut, IsRight, replay, kept_calls, after_calls}
+use Rattle.pm_epochs.specs.Replay.{PowerCut, IsRight, replay, kept_calls, after_calls}
 
 -- a relation between the words of two memories
 abbrev pub Likeness : Type 1
@@ -18,12 +18,12 @@ pub record IsPartialEquivalence (Same : Likeness) : Type 0 where
 
 -- a crash at any moment leaves what the kept calls had made
 pub record CrashRight (Same : Likeness) (base : List ℕ) (events : List Event) : Type 0 where
-  pub each : (cut : Cut) → IsRight events cut →
+  pub each : (cut : PowerCut) → IsRight events cut →
       Same (replay base events cut) (after_calls base events (kept_calls events cut))
 
 -- a crash at any moment leaves what was there before
 pub record IsQuiet (Same : Likeness) (base : List ℕ) (events : List Event) : Type 0 where
-  pub each : (cut : Cut) → IsRight events cut → Same (replay base events cut) base
+  pub each : (cut : PowerCut) → IsRight events cut → Same (replay base events cut) base
 
 -- one store alone in its epoch
 abbrev pub commit : ℕ → ℕ → List Event

@@ -4,7 +4,7 @@ ghost use Rattle.std.specs.Prelude.{◌≡◌, ℕ, ◌⊎◌, Bool, IsTrue, Lis
 ghost use Rattle.pm_epochs.specs.declared.event.Event.{Event};
 ghost use Rattle.pm_epochs.specs.declared.event.Event.TheVariants.{Store, Barrier, Mark};
 ghost use Rattle.pm_epochs.specs.Log.{words_after, marks, IsClosed};
-ghost use Rattle.pm_epochs.specs.Replay.{Cut, IsRight, IsReplay, kept_calls, kept_stores, kept_indices, events_at, IsGreatestKept};
+ghost use Rattle.pm_epochs.specs.Replay.{PowerCut, IsRight, IsReplay, kept_calls, kept_stores, kept_indices, events_at, IsGreatestKept};
 ghost use Rattle.pm_epochs.specs.Crash.{CrashRight, IsQuiet, commit};
 ghost use Rattle.pm_epochs.specs.May.{StoresMay, EachMay, links_of, AnyOf};
 
@@ -20,14 +20,15 @@ pub trait Likeness {
 
 /// The kept calls of a right cut are as many as have each store before their mark kept.
 pub fn kept_calls_are_greatest()
-    ensures { (events : List Event) (cut : Cut) → IsRight events cut →
+    ensures { (events : List Event) (cut : PowerCut) → IsRight events cut →
         IsGreatestKept events cut (kept_calls events cut) }
 {}
 
 /// The stores that a cut keeps are those at the indices that it keeps, in order: at an index before its moment, of an epoch
 /// before its own, or of its own where the mask has the store's place true.
 pub fn kept_stores_by_index()
-    ensures { (events : List Event) (cut : Cut) → kept_stores events cut ≡ events_at events (kept_indices events cut) }
+    ensures { (events : List Event) (cut : PowerCut) →
+        kept_stores events cut ≡ events_at events (kept_indices events cut) }
 {}
 
 /// Where each store of the first log has a barrier behind it, a replay of two logs in a row is one of the

@@ -33,4 +33,5 @@ is_mark Mark = true
 -- how many of these numbers are less than the bound
 abbrev pub count_below : ℕ → List ℕ → ℕ
 count_below bound [] = 0
-count_below bound (place ∷ places) = if nat_lt place bound then suc (count_below bound places) else count_below bound places
+count_below bound (place ∷ places) =
+    if nat_lt place bound then suc (count_below bound places) else count_below bound places

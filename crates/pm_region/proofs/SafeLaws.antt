@@ -3,7 +3,7 @@ use Rattle.std.proofs.Common.{◌≡◌, ℕ, ◌+◌, ◌≤◌, List, [], ◌�
 use Rattle.pm_epochs.specs.declared.event.Event.{Event}
 use Rattle.pm_epochs.specs.declared.event.Event.TheVariants.{Mark}
 use Rattle.pm_epochs.specs.Log.{words_after, marks, IsClosed}
-use Rattle.pm_epochs.specs.Replay.{Cut, IsRight, replay}
+use Rattle.pm_epochs.specs.Replay.{PowerCut, IsRight, replay}
 use Rattle.pm_epochs.specs.Crash.{Likeness, IsPartialEquivalence, CrashRight, commit}
 use Rattle.pm_epochs.proofs.CrashLaws.{words_after-append, marks-append, IsClosed-append, IsClosed-commit, crash_right-append, crash_right_commit, crash_right_mark, crash_right_none}
 use Rattle.pm_region.specs.Memory.{Memory, current_words, room_in, Adds}
@@ -38,10 +38,10 @@ module _ (Same : Likeness) (equivalence : IsPartialEquivalence Same) where
   }
 
   -- what a crash leaves is well formed
-  pub well_crashed : (memory : Memory) (cut : Cut) → IsSafe Same memory → IsRight memory.events cut → Same (replay memory.base memory.events cut) (replay memory.base memory.events cut)
+  pub well_crashed : (memory : Memory) (cut : PowerCut) → IsSafe Same memory → IsRight memory.events cut → Same (replay memory.base memory.events cut) (replay memory.base memory.events cut)
   well_crashed memory cut safe right = well_left _ _ (safe.right.each cut right)
 
-  pub safe_crashed : (memory : Memory) (cut : Cut) → IsSafe Same memory → IsRight memory.events cut → IsSafe Same (record memory { base = replay memory.base memory.events cut; events = [] })
+  pub safe_crashed : (memory : Memory) (cut : PowerCut) → IsSafe Same memory → IsRight memory.events cut → IsSafe Same (record memory { base = replay memory.base memory.events cut; events = [] })
   safe_crashed memory cut safe right = safe_empty (record memory { base = replay memory.base memory.events cut; events = [] }) refl (well_crashed memory cut safe right)
 
 -- ## Quiet parts of a call

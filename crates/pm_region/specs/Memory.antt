@@ -4,7 +4,7 @@ use Rattle.std.specs.List.{splice}
 use Rattle.pm_epochs.specs.declared.event.Event.{Event}
 use Rattle.pm_epochs.specs.declared.event.Event.TheVariants.{Store}
 use Rattle.pm_epochs.specs.Log.{words_after}
-use Rattle.pm_epochs.specs.Replay.{Cut, replay}
+use Rattle.pm_epochs.specs.Replay.{PowerCut, replay}
 
 -- The words at the last drain, the events since, how many events the log can hold, and how often it was drained.
 pub record Memory : Type 0 where
@@ -35,7 +35,7 @@ drained memory =
     record memory { base = current_words memory; events = []; drains = min (memory.drains + 1) (2 ^ 64 - 1) }
 
 -- with what a crash leaves, of which nothing is known but the words; the log is empty
-abbrev pub crashed : Memory → Cut → Memory
+abbrev pub crashed : Memory → PowerCut → Memory
 crashed memory cut = record memory { base = replay memory.base memory.events cut; events = [] }
 
 -- drained where so many events might not fit

@@ -7,7 +7,7 @@ use Rattle.std.proofs.lemmas.Bool.{cases_eq, ne_eqb}
 use Rattle.pm_epochs.specs.declared.event.Event.{Event}
 use Rattle.pm_epochs.specs.declared.event.Event.TheVariants.{Store, Barrier, Mark}
 use Rattle.pm_epochs.specs.Log.{words_after}
-use Rattle.pm_epochs.specs.Replay.{Cut, IsRight, stores_of, replay, epoch_of}
+use Rattle.pm_epochs.specs.Replay.{PowerCut, IsRight, stores_of, replay, epoch_of}
 use Rattle.pm_epochs.proofs.Cuts.{kept_stores_right}
 use Rattle.pm_steps.specs.Machine.{MachineState, machine_over, MachineStep, is_some_store, ComesFirst, IsInOrder, MayGoBack, after_write_back, state_after, StepsTo, write_backs, in_log_order, cut_of}
 use Rattle.pm_steps.specs.Machine.MachineStep.{Execute, WriteBack}
@@ -312,7 +312,7 @@ left_by_wanted words (suc epoch) mask (Barrier ∷ events) = left_by_wanted word
 left_by_wanted words epoch mask (Mark ∷ events) = left_by_wanted words epoch mask events
 
 -- what any right cut leaves is reached by some steps
-pub replay_reached : (base : List ℕ) (events : List Event) (cut : Cut) → IsRight events cut → (steps : List MachineStep) × (state : MachineState) × StepsTo events (machine_over base) steps state × (state.words ≡ replay base events cut)
+pub replay_reached : (base : List ℕ) (events : List Event) (cut : PowerCut) → IsRight events cut → (steps : List MachineStep) × (state : MachineState) × StepsTo events (machine_over base) steps state × (state.words ≡ replay base events cut)
 replay_reached base events cut right =
     let back = wanted cut.epoch cut.mask events in
     let found = flags_reached base events back (in_order_wanted cut.epoch cut.mask events) in

@@ -4,7 +4,7 @@ use Rattle.std.specs.Prelude.{◌≡◌, ℕ, ◌<◌, ◌≤◌, ◌⊎◌, Boo
 use Rattle.std.proofs.Common.{zero, suc}
 use Rattle.pm_epochs.specs.declared.event.Event.{Event}
 use Rattle.pm_epochs.specs.declared.event.Event.TheVariants.{Store, Barrier, Mark}
-use Rattle.pm_epochs.specs.Replay.{Cut, is_store, epoch_of}
+use Rattle.pm_epochs.specs.Replay.{PowerCut, is_store, epoch_of}
 
 -- One flag for each event that the processor has executed, whether it is a store that is written back; and the words of
 -- the memory, without what is still in a cache.
@@ -77,8 +77,8 @@ pub record IsFirstTo (events : List Event) (back : List Bool) (word from to firs
   pub waits : slice_get back first ≡ Some false
   pub before : AllToBack events back word from first
 
--- Flags that code holds, and how many it has room for, both counted in events. Beside them it notes words whose stores wait,
--- where that is asked of it.
+-- Flags that code holds, and how many it has room for, both counted in events. Beside them it notes words whose
+-- stores wait, where that is asked of it.
 pub record Flags : Type 0 where
   pub back : List Bool
   pub room : ℕ
@@ -115,7 +115,8 @@ state_after events state (WriteBack which) = after_write_back state which (slice
 -- from one state to another by steps that are allowed
 abbrev pub StepsTo : List Event → MachineState → List MachineStep → MachineState → Type 0
 StepsTo events old [] new = old ≡ new
-StepsTo events old (step ∷ steps) new = Allowed events old.back step × StepsTo events (state_after events old step) steps new
+StepsTo events old (step ∷ steps) new =
+    Allowed events old.back step × StepsTo events (state_after events old step) steps new
 
 -- the stores that are back, written back in the order of the log; the first flag is that of the event at this index
 abbrev pub write_backs : ℕ → List Bool → List MachineStep
@@ -148,7 +149,7 @@ epoch_flags (suc epoch) (Barrier ∷ events) (flag ∷ back) = epoch_flags epoch
 epoch_flags epoch (Mark ∷ events) (flag ∷ back) = epoch_flags epoch events back
 
 -- the cut at which a machine stands
-abbrev pub cut_of : List Event → List Bool → Cut
+abbrev pub cut_of : List Event → List Bool → PowerCut
 cut_of events back = record {
   moment = length back;
   epoch = open_epoch events back;

@@ -21,8 +21,8 @@ IsLastWord words divisor remainder bound entry =
 abbrev pub remainders : ℕ
 remainders = 16384
 
--- for each remainder the last entry that leaves it, and for each entry the one before it with the same remainder, as far as
--- there are some
+-- for each remainder the last entry that leaves it, and for each entry the one before it with the same remainder, as
+-- far as there are some
 pub record IsLinked (words before heads : List ℕ) : Type 0 where
   pub sized : length heads ≡ remainders
   pub each : length before ≡ length words

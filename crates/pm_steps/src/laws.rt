@@ -3,7 +3,7 @@
 ghost use Rattle.std.specs.Prelude.{◌≡◌, ℕ, Bool, List};
 ghost use Rattle.pm_epochs.specs.declared.event.Event.{Event};
 ghost use Rattle.pm_epochs.specs.Crash.{CrashRight};
-ghost use Rattle.pm_epochs.specs.Replay.{Cut, IsRight, replay, kept_calls, after_calls};
+ghost use Rattle.pm_epochs.specs.Replay.{PowerCut, IsRight, replay, kept_calls, after_calls};
 ghost use Rattle.pm_steps.specs.Machine.{MachineState, MachineStep, machine_over, StepsTo, IsInOrder, in_log_order, cut_of};
 
 use pm_epochs::laws::Likeness;
@@ -19,7 +19,7 @@ pub fn memory_is_a_replay()
 
 /// What any right cut leaves is reached by some steps that are allowed.
 pub fn each_replay_is_reached()
-    ensures { (base : List ℕ) (events : List Event) (cut : Cut) → IsRight events cut →
+    ensures { (base : List ℕ) (events : List Event) (cut : PowerCut) → IsRight events cut →
         (steps : List MachineStep) × (state : MachineState) ×
         StepsTo events (machine_over base) steps state × (state.words ≡ replay base events cut) }
 {}

@@ -1,8 +1,8 @@
 -- The paths that a well-formed image shows are among finitely many.
-use Rattle.std.proofs.Common.{◌≡◌, ◌⊎◌, ℕ, zero, suc, ◌+◌, ◌<◌, ◌≤◌, List, [], ◌∷◌, ◌++◌, map, length, Bool, true, false, eqb, Option, None, Some, refl, sym, ◌∙◌, ap, subst, arith, inl, inr, ⊎_elim, length-append, unwrap_or, ne_eqb, true≢false, ◌/◌}
+use Rattle.std.proofs.Common.{◌≡◌, ◌⊎◌, ℕ, zero, suc, ◌<◌, ◌≤◌, List, [], ◌∷◌, ◌++◌, map, length, Bool, true, false, eqb, Option, None, Some, refl, sym, ◌∙◌, ap, subst, arith, inl, inr, length-append, unwrap_or, ne_eqb, true≢false, ◌/◌}
 use Rattle.std.specs.List.{range_with_len, flat_map}
 use Rattle.std.specs.List.{IsDistinct, AllByRecursion, list_any}
-use Rattle.std.proofs.lemmas.Bool.{cases_eq, eqb-true}
+use Rattle.std.proofs.lemmas.Bool.{eqb-true}
 use Rattle.std.proofs.lemmas.Map.Steps.{length-le_from_distinct_below}
 use Rattle.bp_layout.proofs.Reached.{reached-in_file}
 use Rattle.bp_layout.proofs.View.{lookup_from-reached}
@@ -14,47 +14,20 @@ use Rattle.bp_layout.specs.Reached.IsReached.{root_directory}
 use Rattle.bp_layout.specs.WellFormed.{IsWellFormed}
 use Rattle.bp_layout.proofs.Paths.{ByLast, by_last, LastStep, last_step, path_once}
 use Rattle.bp_layout.proofs.Paths.ByLast.{none, more}
+use Rattle.bp_layout.specs.Members.{AreApart}
+use Rattle.bp_layout.proofs.MemberLaws.{apart-first, apart-more, has-flat_map, has-map, has-range}
 pub use Rattle.bp_layout.specs.Members.{Has}
 
--- ---- membership
-
-has-append_left : {A : Type 0} (xs ys : List A) (x : A) → Has xs x → Has (xs ++ ys) x
-has-append_left [] ys x h = absurd h
-has-append_left (y ∷ xs) ys x (inl e) = inl e
-has-append_left (y ∷ xs) ys x (inr h) = inr (has-append_left xs ys x h)
-
-has-append_right : {A : Type 0} (xs ys : List A) (x : A) → Has ys x → Has (xs ++ ys) x
-has-append_right [] ys x h = h
-has-append_right (y ∷ xs) ys x h = inr (has-append_right xs ys x h)
-
-has-map : {A B : Type 0} (f : A → B) (xs : List A) (x : A) → Has xs x → Has (map f xs) (f x)
-has-map f [] x h = absurd h
-has-map f (y ∷ xs) x (inl e) = inl (ap f e)
-has-map f (y ∷ xs) x (inr h) = inr (has-map f xs x h)
-
-has-flat_map : {A B : Type 0} (f : A → List B) (xs : List A) (x : A) (y : B) → Has xs x → Has (f x) y → Has (flat_map f xs) y
-has-flat_map f [] x y h g = absurd h
-has-flat_map f (z ∷ xs) x y (inl e) g = has-append_left (f z) (flat_map f xs) y (subst (λ w. Has (f w) y) (sym e) g)
-has-flat_map f (z ∷ xs) x y (inr h) g = has-append_right (f z) (flat_map f xs) y (has-flat_map f xs x y h g)
-
-has-range : (a n k : ℕ) → a ≤ k → k < a + n → Has (range_with_len a n) k
-has-range a zero k low high = absurd (omega arith)
-has-range a (suc n) k low high = ⊎_elim (λ e. inl e) (λ ne. inr (has-range (a + 1) n k (omega (arith, ne)) (omega arith))) (cases_eq a k)
-
 -- ---- numbers below a bound with no two equal
-
-abbrev pub AllDiffer : List ℕ → Type 0
-AllDiffer [] = Unit {0}
-AllDiffer (x ∷ xs) = (Has xs x → ⊥) × AllDiffer xs
 
 all_other : (x : ℕ) (xs : List ℕ) → (Has xs x → ⊥) → AllByRecursion (λ y. eqb x y ≡ false) xs
 all_other x [] other = tt
 all_other x (y ∷ xs) other = (ne_eqb x y (λ e. other (inl (sym e))), all_other x xs (λ h. other (inr h)))
 
-is_distinct : (xs : List ℕ) → AllDiffer xs → IsDistinct eqb xs
+is_distinct : (xs : List ℕ) → AreApart xs → IsDistinct eqb xs
 unfolding IsDistinct
-is_distinct [] differ = tt
-is_distinct (x ∷ xs) differ = (all_other x xs differ.0, is_distinct xs differ.1)
+is_distinct [] apart = tt
+is_distinct (x ∷ xs) apart = (all_other x xs (apart-first x xs apart), is_distinct xs apart.1)
 
 has-any : (q : ℕ) (xs : List ℕ) → list_any (eqb q) xs ≡ true → Has xs q
 has-any q [] e = absurd (true≢false (sym e))
@@ -64,8 +37,8 @@ has-any q (x ∷ xs) e = go (λ r. has-any q xs r) (eqb q x) refl
     go rest true at = inl (sym (eqb-true q x at))
     go rest false at = inr (rest (rw at at e))
 
-pub at_most : (xs : List ℕ) (n : ℕ) → AllDiffer xs → ((q : ℕ) → Has xs q → q < n) → length xs ≤ n
-at_most xs n differ low = length-le_from_distinct_below xs n (is_distinct xs differ) (λ q any. low q (has-any q xs any))
+pub at_most : (xs : List ℕ) (n : ℕ) → AreApart xs → ((q : ℕ) → Has xs q → q < n) → length xs ≤ n
+at_most xs n apart low = length-le_from_distinct_below xs n (is_distinct xs apart) (λ q any. low q (has-any q xs any))
 
 pub count_of : {path : Path} → ByLast path → ℕ
 count_of none = 0
@@ -120,17 +93,17 @@ module _ (image : Image) (wf : IsWellFormed image) where
       let before : OnTheWay (length p) q = on_the_way p b step.parent q step.found (rw (step.found) at h) in
       record { path = before.path; found = before.found; short = omega (arith, before.short, length-append p (name ∷ [])) }
 
-  differ : (path : Path) (b : ByLast path) (i : ℕ) → lookup image path ≡ Some i → AllDiffer (inodes_of b i)
+  differ : (path : Path) (b : ByLast path) (i : ℕ) → lookup image path ≡ Some i → AreApart (inodes_of b i)
   unfolding inodes_of
-  differ _ none i e = (λ h. h, tt)
+  differ _ none i e = (tt, tt)
   differ _ (more {path = p} b name) i e =
-      let step : LastStep image wf p name i = last_step image wf p name i e in (
-        λ h.
-            let before : OnTheWay (length p) i = on_the_way p b step.parent i step.found (rw step.found at h) in
-            let same : before.path ≡ p ++ name ∷ [] = path_once image wf before.path (p ++ name ∷ []) i before.found e in
-            omega (arith, before.short, ap length same, length-append p (name ∷ [])),
-        rw step.found (differ p b step.parent step.found),
-      )
+      let step : LastStep image wf p name i = last_step image wf p name i e in
+      rw step.found (apart-more i (inodes_of b step.parent)
+      (λ h.
+      let before : OnTheWay (length p) i = on_the_way p b step.parent i step.found h in
+      let same : before.path ≡ p ++ name ∷ [] = path_once image wf before.path (p ++ name ∷ []) i before.found e in
+      omega (arith, before.short, ap length same, length-append p (name ∷ [])))
+      (differ p b step.parent step.found))
 
   length-inodes_of : (path : Path) (b : ByLast path) (i : ℕ) → length (inodes_of b i) ≡ suc (count_of b)
   unfolding inodes_of count_of

@@ -2,7 +2,9 @@
 use Rattle.std.proofs.Common.{◌≡◌, ℕ, zero, suc, ◌+◌, ◌*◌, ◌/◌, ◌%◌, ◌<◌, ◌≤◌, List, [], ◌∷◌, length, refl, sym, ap, subst, arith, inl, inr}
 use Rattle.bp_layout.specs.Words.{Image, block_count, height_of}
 use Rattle.bp_layout.specs.Tree.{node, IsLivePointer, IsSound, IsFull}
-use Rattle.bp_layout.proofs.Existence.{Has, AllDiffer, at_most}
+use Rattle.bp_layout.specs.Members.{Has, AreApart}
+use Rattle.bp_layout.proofs.MemberLaws.{apart-more}
+use Rattle.bp_layout.proofs.Existence.{at_most}
 
 abbrev values : (ℕ → ℕ) → ℕ → ℕ → List ℕ
 values f a zero = []
@@ -24,9 +26,9 @@ value_of f a (suc n) q (inl e) = record { number = a; low = omega arith; high = 
 value_of f a (suc n) q (inr h) =
     let v : Value f (a + 1) n q = value_of f (a + 1) n q h in record { number = v.number; low = omega (arith, v.low); high = omega (arith, v.high); value = v.value }
 
-all_differ : (f : ℕ → ℕ) (a n : ℕ) → ((k l : ℕ) → k < a + n → l < a + n → f k ≡ f l → k ≡ l) → AllDiffer (values f a n)
+all_differ : (f : ℕ → ℕ) (a n : ℕ) → ((k l : ℕ) → k < a + n → l < a + n → f k ≡ f l → k ≡ l) → AreApart (values f a n)
 all_differ f a zero apart = tt
-all_differ f a (suc n) apart = (λ h. fresh (value_of f (a + 1) n (f a) h), all_differ f (a + 1) n (λ k l low less same. apart k l (omega (arith, low)) (omega (arith, less)) same))
+all_differ f a (suc n) apart = apart-more (f a) (values f (a + 1) n) (λ h. fresh (value_of f (a + 1) n (f a) h)) (all_differ f (a + 1) n (λ k l low less same. apart k l (omega (arith, low)) (omega (arith, less)) same))
   where
     fresh : Value f (a + 1) n (f a) → ⊥
     fresh v = let same : a ≡ v.number = apart a v.number (omega arith) (omega (arith, v.high)) (sym v.value) in omega (arith, same, v.low)
@@ -37,7 +39,8 @@ leaf_live root size k low = record { level = 0; height = omega arith; live = ome
 pub few_leaves : (image : Image) (root size : ℕ) → IsSound image root size → IsFull image root size → 1 ≤ block_count image → (n : ℕ) → ((k : ℕ) → k < n → 4096 * k < size) → n < block_count image
 few_leaves image root size sound full some n live =
     let all : length (0 ∷ values (node image root (height_of root)) 0 n) ≤ block_count image =
-    at_most (0 ∷ values (node image root (height_of root)) 0 n) (block_count image) ((λ h. not_null (value_of (node image root (height_of root)) 0 n 0 h)), all_differ (node image root (height_of root)) 0 n apart) low in
+    at_most (0 ∷ values (node image root (height_of root)) 0 n) (block_count image)
+    (apart-more 0 (values (node image root (height_of root)) 0 n) (λ h. not_null (value_of (node image root (height_of root)) 0 n 0 h)) (all_differ (node image root (height_of root)) 0 n apart)) low in
     let count : length (values (node image root (height_of root)) 0 n) ≡ n = length_values (node image root (height_of root)) 0 n in
     omega (arith, all, count)
   where

@@ -8,6 +8,7 @@ pub mod Format
 pub mod LookupLaws
 pub mod Paths
 pub mod Addresses
+pub mod MemberLaws
 pub mod Existence
 pub mod Below
 pub mod ChecksLaws

@@ -44,8 +44,8 @@ parts-one (b ∷ text) none = go (parts-one text (λ k h. none (suc k) (omega (a
     go same false at = rw (at, same) refl
 
 -- a text round a `/` in it
-pub cut_at : (text : List ℕ) (end : ℕ) → end < length text → slice_index text end ≡ 47 → text ≡ take end text ++ 47 ∷ drop (end + 1) text
-cut_at text end inside slash =
+pub split_at : (text : List ℕ) (end : ℕ) → end < length text → slice_index text end ≡ 47 → text ≡ take end text ++ 47 ∷ drop (end + 1) text
+split_at text end inside slash =
     sym (take-append-drop end text) ∙ ap (λ rest. take end text ++ rest) (drop_more text end 0 inside ∙ ap (λ b. b ∷ drop (end + 1) text) slash)
 
 -- the parts of a text up to its first `/` and behind it
@@ -55,7 +55,7 @@ first_part text end found =
     let front : parts (take end text) ≡ take end text ∷ [] =
     parts-one (take end text) (λ k h. let low : k < end = omega (arith, h, length-take end text) in
     rw (get_or-take end text k 0 low) (eqb-false _ _ (here.2 k low))) in
-    ap parts (cut_at text end here.0 (eqb-true _ _ here.1)) ∙ parts-append (take end text) (drop (end + 1) text) ∙ ap (λ ps. ps ++ parts (drop (end + 1) text)) front
+    ap parts (split_at text end here.0 (eqb-true _ _ here.1)) ∙ parts-append (take end text) (drop (end + 1) text) ∙ ap (λ ps. ps ++ parts (drop (end + 1) text)) front
 
 -- where there is none
 no_slash : (text : List ℕ) → position (λ b. b == 47) text ≡ None → (k : ℕ) → k < length text → (slice_index text k == 47) ≡ false

@@ -1,4 +1,5 @@
--- Which check of a mount fails at which place. Liveness is followed only through what passes: pointers in form and in range, and trees whose height holds their size.
+-- Which check of a mount fails at which place. Liveness is followed only through what passes: pointers in form and in
+-- range, and trees whose height holds their size.
 use Rattle.std.specs.Prelude.{◌≡◌, ◌≢◌, ◌⊎◌, ℕ, zero, suc, ◌+◌, ◌*◌, ◌/◌, ◌%◌, ◌<◌, ◌≤◌, length}
 use Rattle.bp_layout.specs.Words.{Image, word, block_count, height_of}
 use Rattle.bp_limits.specs.Limits.{magic, max_height, min_blocks, max_blocks}
@@ -27,13 +28,15 @@ number_of NameTwice = 13
 -- the pointer at a depth and number is in form and in range
 abbrev pub Passes : Image → ℕ → ℕ → ℕ → Type 0
 Passes image root zero index = (root % 4096 ≤ max_height) × (node image root zero index < block_count image)
-Passes image root (suc depth) index = (word_at image root (suc depth) index % 4096 ≡ 0) × (node image root (suc depth) index < block_count image)
+Passes image root (suc depth) index =
+    (word_at image root (suc depth) index % 4096 ≡ 0) × (node image root (suc depth) index < block_count image)
 
 -- each pointer above passes, none is null, and the height holds the size
 abbrev pub IsFollowed : Image → ℕ → ℕ → ℕ → ℕ → Type 0
 IsFollowed image root size zero index = Unit {0}
 IsFollowed image root size (suc depth) index =
-    (size ≤ covered (suc (height_of root))) × IsFollowed image root size depth (index / 512) × Passes image root depth (index / 512) × (node image root depth (index / 512) ≢ 0)
+    (size ≤ covered (suc (height_of root))) × IsFollowed image root size depth (index / 512)
+    × Passes image root depth (index / 512) × (node image root depth (index / 512) ≢ 0)
 
 -- the place of the root word of a tree, and of its size
 abbrev pub inode_place : Image → ℕ → ℕ → ℕ
@@ -55,13 +58,15 @@ entry_place image i slot f = pointer_place image i (suc (height_of (root_of imag
 
 -- the content word of a tree is followed
 abbrev pub ContentFollowed : Image → ℕ → ℕ → Type 0
-ContentFollowed image t index = IsFollowed image (root_of image t) (size_of image t) (suc (height_of (root_of image t))) index
+ContentFollowed image t index =
+    IsFollowed image (root_of image t) (size_of image t) (suc (height_of (root_of image t))) index
 
 -- the trees that are followed
 pub data IsFound (image : Image) : ℕ → Type 0 where
   inode_file : IsFound image 0
   root_directory : ContentFollowed image 0 8 → IsFound image 1
-  named : {i j : ℕ} → (slot : ℕ) → IsFound image i → EntryNames image i slot j → ContentFollowed image i (32 * slot) → j < inode_count image → ContentFollowed image 0 (8 * j) →
+  named : {i j : ℕ} → (slot : ℕ) → IsFound image i → EntryNames image i slot j → ContentFollowed image i (32 * slot)
+      → j < inode_count image → ContentFollowed image 0 (8 * j) →
       IsFound image j
 
 -- a live pointer that is followed, and where it stands
@@ -82,21 +87,29 @@ pub record IsEntry (image : Image) (i slot j place : ℕ) : Type 0 where
 pub data Fails (image : Image) : Check → ℕ → Type 0 where
   height : {t p : ℕ} → IsPointer image t 0 0 p → max_height < height_of (root_of image t) → Fails image Height p
   root_bits : {t p : ℕ} → IsPointer image t 0 0 p → root_of image t / 8 % 512 ≢ 0 → Fails image PointerBits p
-  pointer_bits : {t d k p : ℕ} → IsPointer image t (suc d) k p → word_at image (root_of image t) (suc d) k % 4096 ≢ 0 → Fails image PointerBits p
-  range : {t d k p : ℕ} → IsPointer image t d k p → block_count image ≤ node image (root_of image t) d k → Fails image Range p
+  pointer_bits : {t d k p : ℕ} → IsPointer image t (suc d) k p → word_at image (root_of image t) (suc d) k % 4096 ≢ 0
+      → Fails image PointerBits p
+  range : {t d k p : ℕ} → IsPointer image t d k p → block_count image ≤ node image (root_of image t) d k
+      → Fails image Range p
   twice : {t d k p u e l q : ℕ} → IsPointer image t d k p → IsPointer image u e l q → p ≢ q →
-      node image (root_of image t) d k ≢ 0 → node image (root_of image t) d k ≡ node image (root_of image u) e l → Fails image BlockTwice p
-  hole : {t d k p : ℕ} → IsPointer image t d k p → (t ≡ 0) ⊎ (kind_of image t ≡ 2) → node image (root_of image t) d k ≡ 0 → Fails image Hole p
+      node image (root_of image t) d k ≢ 0 → node image (root_of image t) d k ≡ node image (root_of image u) e l
+      → Fails image BlockTwice p
+  hole : {t d k p : ℕ} → IsPointer image t d k p → (t ≡ 0) ⊎ (kind_of image t ≡ 2)
+      → node image (root_of image t) d k ≡ 0 → Fails image Hole p
   inode_file_size : (size_of image 0 % 4096 ≢ 0) ⊎ (size_of image 0 < 4096) → Fails image InodeFileSize 3
   inumber : {i s j p : ℕ} → IsEntry image i s j p → inode_count image ≤ j → Fails image Inumber p
   root_named : {i s p : ℕ} → IsEntry image i s 1 p → Fails image InodeTwice p
   inode_twice : {i s j p k r q : ℕ} → IsEntry image i s j p → IsEntry image k r j q → p ≢ q → Fails image InodeTwice p
-  kind : {i p : ℕ} → IsFound image (suc i) → kind_of image (suc i) ≢ 1 → kind_of image (suc i) ≢ 2 → inode_place image (suc i) 0 ≡ p → Fails image Kind p
+  kind : {i p : ℕ} → IsFound image (suc i) → kind_of image (suc i) ≢ 1 → kind_of image (suc i) ≢ 2
+      → inode_place image (suc i) 0 ≡ p → Fails image Kind p
   root_kind : {p : ℕ} → IsFound image 1 → kind_of image 1 ≢ 2 → inode_place image 1 0 ≡ p → Fails image Kind p
-  directory_size : {i p : ℕ} → IsFound image i → kind_of image i ≡ 2 → size_of image i % 256 ≢ 0 → size_place image i ≡ p → Fails image DirectorySize p
-  capacity : {t p : ℕ} → IsFound image t → covered (suc (height_of (root_of image t))) < size_of image t → size_place image t ≡ p → Fails image Capacity p
+  directory_size : {i p : ℕ} → IsFound image i → kind_of image i ≡ 2 → size_of image i % 256 ≢ 0
+      → size_place image i ≡ p → Fails image DirectorySize p
+  capacity : {t p : ℕ} → IsFound image t → covered (suc (height_of (root_of image t))) < size_of image t
+      → size_place image t ≡ p → Fails image Capacity p
   name_form : {i s j p : ℕ} → IsEntry image i s j p → (IsName (name_at image i s) → ⊥) → Fails image NameForm (p + 1)
-  name_twice : {i s j p r k q : ℕ} → IsEntry image i s j p → IsEntry image i r k q → p ≢ q → name_at image i s ≡ name_at image i r → Fails image NameTwice p
+  name_twice : {i s j p r k q : ℕ} → IsEntry image i s j p → IsEntry image i r k q → p ≢ q
+      → name_at image i s ≡ name_at image i r → Fails image NameTwice p
 
 -- no check fails at any place
 pub record NoneFails (image : Image) : Type 0 where

@@ -1,4 +1,5 @@
--- A directory is a row of entries of 32 words: an inumber, 0 where the entry is empty, the length of a name, and its bytes.
+-- A directory is a row of entries of 32 words: an inumber, 0 where the entry is empty, the length of a name, and its
+-- bytes.
 use Rattle.std.specs.Prelude.{◌≡◌, ◌≢◌, ℕ, ◌+◌, ◌*◌, ◌/◌, ◌<◌, ◌≤◌, List, [], ◌∷◌, map, length, All, Bool, not, ◌&&◌, ◌==◌, bytes_eq, Option, None, find, option_map, if◌then◌else◌}
 use Rattle.std.specs.List.{range_with_len}
 use Rattle.bp_layout.specs.Words.{Image}
@@ -26,7 +27,8 @@ abbrev pub inumber_in : Image → ℕ → ℕ → ℕ
 inumber_in image root slot = word_in image root slot 0
 
 abbrev pub name_in : Image → ℕ → ℕ → Name
-name_in image root slot = map (λ o. byte image root (256 * slot + 16 + o)) (range_with_len 0 (word_in image root slot 1))
+name_in image root slot =
+    map (λ o. byte image root (256 * slot + 16 + o)) (range_with_len 0 (word_in image root slot 1))
 
 -- the slots whose entries lie below the size
 abbrev pub slots : ℕ → List ℕ
@@ -74,4 +76,5 @@ pub record EntryNames (image : Image) (i slot j : ℕ) : Type 0 where
 
 -- the inode that a name stands for in a directory
 abbrev pub lookup_in : Image → ℕ → Name → Option ℕ
-lookup_in image i name = if kind_of image i == 2 then option_map (inumber_at image i) (slot_named image i name) else None
+lookup_in image i name =
+    if kind_of image i == 2 then option_map (inumber_at image i) (slot_named image i name) else None

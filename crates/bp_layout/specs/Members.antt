@@ -1,15 +1,15 @@
 -- The members of a list, by recursion on it.
-use Rattle.std.specs.Prelude.{◌≡◌, ◌≢◌, ◌⊎◌, ℕ, List, [], ◌∷◌}
+use Rattle.std.specs.Prelude.{◌≡◌, ◌≢◌, ◌⊎◌, List, [], ◌∷◌}
 
 abbrev pub Has : {A : Type 0} → List A → A → Type 0
 Has [] x = ⊥
 Has (y ∷ ys) x = (y ≡ x) ⊎ Has ys x
 
-abbrev pub Each : (ℕ → Type 0) → List ℕ → Type 0
+abbrev pub Each : {A : Type 0} → (A → Type 0) → List A → Type 0
 Each P [] = Unit {0}
-Each P (n ∷ ns) = P n × Each P ns
+Each P (x ∷ xs) = P x × Each P xs
 
--- no block stands twice
-abbrev pub AreApart : List ℕ → Type 0
+-- no member stands twice
+abbrev pub AreApart : {A : Type 0} → List A → Type 0
 AreApart [] = Unit {0}
-AreApart (block ∷ blocks) = Each (λ b. b ≢ block) blocks × AreApart blocks
+AreApart (x ∷ xs) = Each (λ y. y ≢ x) xs × AreApart xs

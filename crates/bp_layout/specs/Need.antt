@@ -27,7 +27,8 @@ pub data Change : Type 0 where
 
 -- ---- preparation
 
--- The bytes at and past the old size for which a tree is prepared, from the first to one past the last. Where these are one, only its height is raised.
+-- The bytes at and past the old size for which a tree is prepared, from the first to one past the last. Where these
+-- are one, only its height is raised.
 pub record Beyond : Type 0 where
   pub tree : ℕ
   pub from : ℕ
@@ -38,8 +39,10 @@ new_entry image i None = record { tree = i; from = size_of image i; to = size_of
 new_entry image i (Some slot) = []
 
 abbrev pub beyond : Image → Change → List Beyond
-beyond image (writes i off len) = if nat_lt (size_of image i) (off + len) then record { tree = i; from = max off (size_of image i); to = off + len } ∷ [] else []
-beyond image (resizes i size) = if nat_lt (size_of image i) size then record { tree = i; from = size; to = size } ∷ [] else []
+beyond image (writes i off len) = if nat_lt (size_of image i) (off + len)
+    then record { tree = i; from = max off (size_of image i); to = off + len } ∷ [] else []
+beyond image (resizes i size) =
+    if nat_lt (size_of image i) size then record { tree = i; from = size; to = size } ∷ [] else []
 beyond image (enters i free) = new_entry image i (empty_slot image i)
 beyond image (moves i s j) = new_entry image j (empty_slot image j)
 beyond image _ = []
@@ -51,7 +54,8 @@ new_inodes image _ = []
 
 -- the nodes that are made for some bytes, each with its tree
 abbrev pub prepared_for : Image → Beyond → List (ℕ × TreeNode)
-prepared_for image b = map (λ n. (b.tree, n)) (nodes_for image (root_of image b.tree) (size_of image b.tree) b.from b.to)
+prepared_for image b =
+    map (λ n. (b.tree, n)) (nodes_for image (root_of image b.tree) (size_of image b.tree) b.from b.to)
 
 -- those of the tree that the change is of
 abbrev pub preparation : Image → Change → List (ℕ × TreeNode)
@@ -66,7 +70,8 @@ growth image change = flat_map (prepared_for image) (new_inodes image change)
 -- the height of a tree after the preparation
 abbrev pub height_after : Image → Change → ℕ → ℕ
 height_after image change t =
-    fold (λ h b. if b.tree == t then height_with (root_of image t) (size_of image t) b.to else h) (height_of (root_of image t)) (beyond image change ++ new_inodes image change)
+    fold (λ h b. if b.tree == t then height_with (root_of image t) (size_of image t) b.to else h)
+    (height_of (root_of image t)) (beyond image change ++ new_inodes image change)
 
 abbrev pub inode_word_path : Image → Change → ℕ → ℕ → WordPath
 inode_word_path image change i f = inode_path (height_after image change 0) i f
@@ -84,14 +89,18 @@ entered image change i (Some slot) = entry_path image change i slot 0
 abbrev pub touched : Image → Change → List WordPath
 touched image (writes i off len) =
     map (content_path image (writes i off len) i)
-    (if nat_lt off (size_of image i) then range_with_len (off / 8) (suc ((min (off + len) (size_of image i) - 1) / 8 - off / 8)) else [])
+    (if nat_lt off (size_of image i) then range_with_len (off / 8)
+    (suc ((min (off + len) (size_of image i) - 1) / 8 - off / 8)) else [])
     ++ (if nat_lt (size_of image i) (off + len) then inode_word_path image (writes i off len) i 2 ∷ [] else [])
 touched image (resizes i size) = inode_word_path image (resizes i size) i 2 ∷ []
 touched image (enters i free) = entered image (enters i free) i (empty_slot image i) ∷ []
 touched image (leaves i s) = entry_path image (leaves i s) i s 0 ∷ []
-touched image (replaces i s j r) = entry_path image (replaces i s j r) i s 0 ∷ entry_path image (replaces i s j r) j r 0 ∷ []
-touched image (moves i s j) = entered image (moves i s j) j (empty_slot image j) ∷ entry_path image (moves i s j) i s 0 ∷ []
-touched image (respells i s len) = map (entry_path image (respells i s len) i s) (range_with_len 1 (suc ((len + 7) / 8)))
+touched image (replaces i s j r) =
+    entry_path image (replaces i s j r) i s 0 ∷ entry_path image (replaces i s j r) j r 0 ∷ []
+touched image (moves i s j) =
+    entered image (moves i s j) j (empty_slot image j) ∷ entry_path image (moves i s j) i s 0 ∷ []
+touched image (respells i s len) =
+    map (entry_path image (respells i s len) i s) (range_with_len 1 (suc ((len + 7) / 8)))
 
 -- ---- cover
 
@@ -101,7 +110,8 @@ is_prefix prefix path = bytes_eq prefix (take (length prefix) path)
 abbrev pub path_number : List ℕ → ℕ
 path_number ds = fold (λ n d. 512 * n + d) 0 ds
 
--- the tree and the node to which the pointer at a path points, where the inode file has this height and the other trees have theirs
+-- the tree and the node to which the pointer at a path points, where the inode file has this height and the other
+-- trees have theirs
 abbrev pub pointed : (ℕ → ℕ) → WordPath → ℕ × TreeNode
 pointed heights path =
     if nat_le (length path) (heights 0)
@@ -120,14 +130,15 @@ same_node n m = (n.0 == m.0) && (n.1.level == m.1.level) && (n.1.index == m.1.in
 -- The node is there once all is prepared: it was, or it is made.
 abbrev pub is_there : Image → Change → ℕ × TreeNode → Bool
 is_there image change n =
-    is_present image (root_of image n.0) (size_of image n.0) n.1 || list_any (same_node n) (preparation image change) || list_any (same_node n) (growth image change)
+    is_present image (root_of image n.0) (size_of image n.0) n.1 || list_any (same_node n)
+    (preparation image change) || list_any (same_node n) (growth image change)
 
 -- so is the node to which the pointer at a path points
 abbrev pub is_there_after : Image → Change → WordPath → Bool
 is_there_after image change path = is_there image change (pointed (height_after image change) path)
 
--- Here `there` tells of a path whether the node to which the pointer at it points is there: the longest prefix of a path, behind a part that exists, no proper prefix
--- of which points to a null.
+-- Here `there` tells of a path whether the node to which the pointer at it points is there: the longest prefix of a
+-- path, behind a part that exists, no proper prefix of which points to a null.
 abbrev pub existing_from : (WordPath → Bool) → WordPath → WordPath → WordPath
 existing_from there here [] = here
 existing_from there here (slot ∷ path) = if there here then existing_from there (here ++ slot ∷ []) path else here
@@ -158,7 +169,8 @@ prefixes_from shortest path = map (λ n. take n path) (range_with_len shortest (
 abbrev pub prefixes_of : ℕ → List WordPath → List WordPath → List WordPath
 prefixes_of shortest earlier [] = []
 prefixes_of shortest earlier (path ∷ paths) =
-    filter (λ prefix. not (list_any (is_prefix prefix) earlier)) (prefixes_from shortest path) ++ prefixes_of shortest (path ∷ earlier) paths
+    filter (λ prefix. not (list_any (is_prefix prefix) earlier)) (prefixes_from shortest path)
+    ++ prefixes_of shortest (path ∷ earlier) paths
 
 -- the pointers whose blocks are made anew: what lies between the cover and the words of the paths
 abbrev pub copies_of : (WordPath → Bool) → List WordPath → List WordPath

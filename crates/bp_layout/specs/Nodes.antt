@@ -1,4 +1,5 @@
--- The nodes of a tree by their levels, which a higher root does not change, and those that a tree lacks for bytes behind its size.
+-- The nodes of a tree by their levels, which a higher root does not change, and those that a tree lacks for bytes
+-- behind its size.
 use Rattle.std.specs.Prelude.{ℕ, suc, ◌-◌, ◌*◌, ◌/◌, max, List, [], ◌++◌, map, filter, flat_map, Bool, not, ◌&&◌, ◌==◌, nat_lt, nat_le, find, unwrap_or, if◌then◌else◌}
 use Rattle.std.specs.List.{range_with_len}
 use Rattle.bp_layout.specs.Words.{Image, height_of, block_of}
@@ -13,7 +14,8 @@ pub record TreeNode : Type 0 where
 -- the node is live, and neither it nor a node above it is null
 abbrev pub is_present : Image → ℕ → ℕ → TreeNode → Bool
 is_present image root size n =
-    nat_le n.level (height_of root) && nat_lt (n.index * span n.level) size && not (node image root (height_of root - n.level) n.index == 0)
+    nat_le n.level (height_of root) && nat_lt (n.index * span n.level) size
+    && not (node image root (height_of root - n.level) n.index == 0)
 
 -- the least height whose tree holds so many bytes
 abbrev pub height_for : ℕ → ℕ
@@ -27,17 +29,21 @@ height_with root size to = if size == 0 then height_for to else max (height_of r
 abbrev pub raised_nodes : ℕ → ℕ → ℕ → List TreeNode
 raised_nodes root size to =
     if nat_lt 0 size && not (block_of root == 0)
-    then map (λ level. record { level = level; index = 0 }) (range_with_len (suc (height_of root)) (height_with root size to - height_of root))
+    then map (λ level. record { level = level; index = 0 }) (range_with_len (suc (height_of root))
+    (height_with root size to - height_of root))
     else []
 
 -- the nodes of the bytes from one up to another, at one level
 abbrev pub nodes_over : ℕ → ℕ → ℕ → List TreeNode
-nodes_over from to level = map (λ index. record { level = level; index = index }) (range_with_len (from / span level) (suc ((to - 1) / span level - from / span level)))
+nodes_over from to level = map (λ index. record { level = level; index = index })
+    (range_with_len (from / span level) (suc ((to - 1) / span level - from / span level)))
 
--- The nodes that are made so that each byte from one up to another has a block. Where there are none between them, only those above the root are.
+-- The nodes that are made so that each byte from one up to another has a block. Where there are none between them,
+-- only those above the root are.
 abbrev pub nodes_for : Image → ℕ → ℕ → ℕ → ℕ → List TreeNode
 nodes_for image root size from to =
     if nat_lt from to
-    then filter (λ n. not (is_present image root size n)) (flat_map (nodes_over from to) (range_with_len 0 (suc (height_with root size to))))
+    then filter (λ n. not (is_present image root size n)) (flat_map (nodes_over from to)
+    (range_with_len 0 (suc (height_with root size to))))
     ++ filter (λ n. nat_le (span n.level) from) (raised_nodes root size to)
     else raised_nodes root size to

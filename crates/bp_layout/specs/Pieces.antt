@@ -24,6 +24,8 @@ pub record Joins (image : Image) (root size level : ℕ) : Type 0 where
   pub bits : root / 8 % 512 ≡ 0
   pub in_range : block_of root < block_count image
   pub sound : (c : ℕ) → c * span level < size → IsSound image (child image (block_of root) level c) (piece size level c)
-  pub own : (c : ℕ) → c * span level < size → HasBlock image (child image (block_of root) level c) (piece size level c) (block_of root) → ⊥
-  pub apart : (c e b : ℕ) → c * span level < size → e * span level < size → HasBlock image (child image (block_of root) level c) (piece size level c) b →
+  pub own : (c : ℕ) → c * span level < size → HasBlock image (child image (block_of root) level c) (piece size level c)
+      (block_of root) → ⊥
+  pub apart : (c e b : ℕ) → c * span level < size → e * span level < size
+      → HasBlock image (child image (block_of root) level c) (piece size level c) b →
       HasBlock image (child image (block_of root) level e) (piece size level e) b → c ≡ e

@@ -1,4 +1,5 @@
--- A word path names a word from the top: the slots through which one goes to it. The empty path is the root word of the inode file.
+-- A word path names a word from the top: the slots through which one goes to it. The empty path is the root word of
+-- the inode file.
 use Rattle.std.specs.Prelude.{◌≢◌, ℕ, zero, suc, ◌+◌, ◌*◌, ◌/◌, ◌%◌, List, [], ◌∷◌, ◌++◌, Bool, not, ◌==◌}
 use Rattle.bp_layout.specs.Words.{Image, word, block_of}
 
@@ -34,7 +35,8 @@ is_pointed image path = not (block_of (word image (address image path)) == 0)
 -- no word that a proper prefix names is null
 abbrev pub ExistsFrom : Image → ℕ → WordPath → Type 0
 ExistsFrom image place [] = Unit {0}
-ExistsFrom image place (slot ∷ path) = (block_of (word image place) ≢ 0) × ExistsFrom image (512 * block_of (word image place) + slot) path
+ExistsFrom image place (slot ∷ path) =
+    (block_of (word image place) ≢ 0) × ExistsFrom image (512 * block_of (word image place) + slot) path
 
 abbrev pub Exists : Image → WordPath → Type 0
 Exists image path = ExistsFrom image 2 path

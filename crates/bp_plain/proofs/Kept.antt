@@ -21,7 +21,7 @@ use Rattle.bp_layout.specs.Directory.{Name}
 use Rattle.bp_layout.specs.Listing.{listed}
 use Rattle.bp_layout.specs.Lookup.{Path, Node}
 use Rattle.bp_plain.specs.declared.trees.Node.{Node as Kept}
-use Rattle.bp_plain.specs.Plain.{kind_of_node, only_name}
+use Rattle.bp_plain.specs.Plain.{kind_of_node, listed_in, only_name}
 use Rattle.bp_plain.specs.PlainTree.{path_cmp}
 use Rattle.bp_plain.specs.SeenTree.{names_of, node_seen, entry_kept}
 use Rattle.bp_plain.proofs.Uniqueness.{path_cmp-IsAntisymmetric, path_cmp-IsTotalOrder}
@@ -74,13 +74,13 @@ true_from : (b : Bool) → T b → b ≡ true
 true_from true t = refl
 true_from false t = absurd t
 
-now_of : (a b : Bool) → T (a && b) → T a
-now_of true b both = tt
-now_of false b both = both
+pub left_holds : (a b : Bool) → T (a && b) → T a
+left_holds true b both = tt
+left_holds false b both = both
 
-later_of : (a b : Bool) → T (a && b) → T b
-later_of true b both = both
-later_of false b both = absurd both
+pub right_holds : (a b : Bool) → T (a && b) → T b
+right_holds true b both = both
+right_holds false b both = absurd both
 
 less_than : (r : Ordering) → T (is_lt r) → r ≡ Less
 less_than Less low = refl
@@ -109,20 +109,20 @@ module _ (old : List (Vec (ArrayVec ℕ) × Kept)) (sorted : is_sorted path_cmp 
 others_kept : (k x : Path) (es : List (Path × Node)) → path_cmp k x ≡ Equal → T (below_all path_cmp x es) → where_key path_cmp (λ y. not (eq_by_cmp path_cmp k y)) es ≡ es
 others_kept k x [] tied below = refl
 others_kept k x (e ∷ es) tied below =
-    let less = less_than (path_cmp x e.0) (now_of _ _ below) in
+    let less = less_than (path_cmp x e.0) (left_holds _ _ below) in
     let other : eq_by_cmp path_cmp k e.0 ≡ false = ap is_eq (path_cmp-IsTotalOrder.congr k x e.0 tied ∙ less) in
-    rw other (ap (λ es. e ∷ es) (others_kept k x es tied (later_of _ _ below)))
+    rw other (ap (λ es. e ∷ es) (others_kept k x es tied (right_holds _ _ below)))
 
 pub remove_seen : (path : List (ArrayVec ℕ)) (es : List (Vec (ArrayVec ℕ) × Kept)) → T (is_sorted path_cmp (map entry_kept es)) →
     map entry_kept (remove_entry (is_at (λ key. slice_cmp name_order path key.items)) es) ≡ where_key path_cmp (λ y. not (eq_by_cmp path_cmp (names_of path) y)) (map entry_kept es)
 remove_seen path [] sorted = refl
-remove_seen path (e ∷ es) sorted = go (slice_cmp name_order path e.0.items) refl (remove_seen path es (later_of _ _ sorted))
+remove_seen path (e ∷ es) sorted = go (slice_cmp name_order path e.0.items) refl (remove_seen path es (right_holds _ _ sorted))
   where
     go : (r : Ordering) → slice_cmp name_order path e.0.items ≡ r →
         map entry_kept (remove_entry (is_at (λ key. slice_cmp name_order path key.items)) es) ≡ where_key path_cmp (λ y. not (eq_by_cmp path_cmp (names_of path) y)) (map entry_kept es) →
         map entry_kept (remove_entry (is_at (λ key. slice_cmp name_order path key.items)) (e ∷ es)) ≡ where_key path_cmp (λ y. not (eq_by_cmp path_cmp (names_of path) y)) (map entry_kept (e ∷ es))
     go Less at rest = rw (sym (order_seen path e.0.items) ∙ at, at) (ap (λ es. entry_kept e ∷ es) rest)
-    go Equal at rest = rw (sym (order_seen path e.0.items) ∙ at, at) (sym (others_kept (names_of path) (names_of e.0.items) (map entry_kept es) (sym (order_seen path e.0.items) ∙ at) (now_of _ _ sorted)))
+    go Equal at rest = rw (sym (order_seen path e.0.items) ∙ at, at) (sym (others_kept (names_of path) (names_of e.0.items) (map entry_kept es) (sym (order_seen path e.0.items) ∙ at) (left_holds _ _ sorted)))
     go Greater at rest = rw (sym (order_seen path e.0.items) ∙ at, at) (ap (λ es. entry_kept e ∷ es) rest)
 
 module _ (old : List (Vec (ArrayVec ℕ) × Kept)) (sorted : is_sorted path_cmp (map entry_kept old) ≡ true) (path : List (ArrayVec ℕ))
@@ -164,11 +164,8 @@ node_behind (Some node) = refl
 
 -- ---- the rows of a listing
 
-abbrev pub row : List (ArrayVec ℕ) → Path × Node → Option (Kind × Name)
-row dir entry = option_map (λ name. (kind_of_node entry.1, name)) (only_name (rest_below (names_of dir) entry.0))
-
 abbrev pub rows : List (ArrayVec ℕ) → List (Vec (ArrayVec ℕ) × Kept) → List (Kind × Name)
-rows dir es = filter_map (row dir) (map entry_kept es)
+rows dir es = filter_map (listed_in (names_of dir)) (map entry_kept es)
 
 -- a further row, which was found
 pub row_found : (dir : List (ArrayVec ℕ)) (e : Vec (ArrayVec ℕ) × Kept) (rest left : List (Vec (ArrayVec ℕ) × Kept)) (before after : List (Kind × ArrayVec ℕ)) (kind : Kind) (copy : ArrayVec ℕ) (name : Name) (whole : List (Kind × Name)) →

@@ -1,4 +1,4 @@
--- Lists of names and of refusals, cut.
+-- Fronts of lists of names, and the first of refusals.
 use Rattle.std.proofs.Common.{◌≡◌, ℕ, ◌+◌, ◌<◌, ◌==◌, Bool, true, false, List, [], ◌∷◌, ◌++◌, length, get_or, map, take, drop, Option, None, Some, refl, sym, ◌∙◌, ap, true≢false, ◌-◌, is_some, arith}
 use Rattle.std.specs.Option.{is_none}
 use Rattle.std.specs.FinMap.{get}
@@ -32,9 +32,9 @@ pub parent_seen : (x : ArrayVec ℕ) (path : List (ArrayVec ℕ)) → names_of (
 parent_seen x [] = refl
 parent_seen x (y ∷ path) = ap (λ names. x.items ∷ names) (parent_seen y path)
 
-pub parent_cut : (path : List (ArrayVec ℕ)) (n : ℕ) → n ≡ length path - 1 → names_of (take n path) ≡ parent_of (names_of path)
-parent_cut [] n e = rw e refl
-parent_cut (x ∷ path) n e = let same : n ≡ length path = omega (arith, e) in rw same (parent_seen x path)
+pub parent_front : (path : List (ArrayVec ℕ)) (n : ℕ) → n ≡ length path - 1 → names_of (take n path) ≡ parent_of (names_of path)
+parent_front [] n e = rw e refl
+parent_front (x ∷ path) n e = let same : n ≡ length path = omega (arith, e) in rw same (parent_seen x path)
 
 pub root_seen : (path : List (ArrayVec ℕ)) → (length path == 0) ≡ is_root_path (names_of path)
 root_seen [] = refl
@@ -42,7 +42,7 @@ root_seen (x ∷ path) = eqb-suc-zero (length path)
 
 -- ---- walks
 
-first_one : (found : Option Refusal) → first (found ∷ []) ≡ found
+pub first_one : (found : Option Refusal) → first (found ∷ []) ≡ found
 first_one None = refl
 first_one (Some refusal) = refl
 

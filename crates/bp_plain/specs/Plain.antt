@@ -47,9 +47,13 @@ abbrev pub only_name : Option Path → Option Name
 only_name (Some (name ∷ [])) = Some name
 only_name _ = None
 
+-- an entry's kind and name, where it stands in this directory itself
+abbrev pub listed_in : Path → Path × Node → Option (Kind × Name)
+listed_in path entry = option_map (λ name. (kind_of_node entry.1, name)) (only_name (rest_below path entry.0))
+
 -- the names in a directory with their kinds, in the order of their bytes
 abbrev pub listing : FileTree → Path → List (Kind × Name)
-listing tree path = filter_map (λ entry. option_map (λ name. (kind_of_node entry.1, name)) (only_name (rest_below path entry.0))) (entries tree)
+listing tree path = filter_map (listed_in path) (entries tree)
 
 abbrev pub is_empty_dir : FileTree → Path → Bool
 is_empty_dir tree path = length (listing tree path) == 0
@@ -71,7 +75,8 @@ is_root_path path = same_path path []
 abbrev pub first_refusal_from : FileTree → Path → Path → Option Refusal
 first_refusal_from tree here [] = None
 first_refusal_from tree here (name ∷ path) =
-    first (when (not (is_dir_at tree here)) not_dir ∷ when (is_none (get tree (here ++ name ∷ []))) not_found ∷ first_refusal_from tree (here ++ name ∷ []) path ∷ [])
+    first (when (not (is_dir_at tree here)) not_dir ∷ when (is_none (get tree (here ++ name ∷ []))) not_found
+    ∷ first_refusal_from tree (here ++ name ∷ []) path ∷ [])
 
 abbrev pub walk : FileTree → Path → Option Refusal
 walk tree path = first_refusal_from tree [] path
@@ -113,14 +118,20 @@ move_refusal tree p q = first (
 
 -- the first refusal of a call in this order
 abbrev pub refusal : FileTree → Call → Option Refusal
-refusal tree (create text) = on_path text (λ p. first (when (is_root_path p) exists ∷ walk_parent tree p ∷ when (is_some (get tree p)) exists ∷ []))
-refusal tree (mkdir text) = on_path text (λ p. first (when (is_root_path p) exists ∷ walk_parent tree p ∷ when (is_some (get tree p)) exists ∷ []))
+refusal tree (create text) = on_path text (λ p. first (when (is_root_path p) exists ∷ walk_parent tree p
+    ∷ when (is_some (get tree p)) exists ∷ []))
+refusal tree (mkdir text) = on_path text (λ p. first (when (is_root_path p) exists ∷ walk_parent tree p
+    ∷ when (is_some (get tree p)) exists ∷ []))
 refusal tree (read text off len) = on_path text (λ p. first (walk tree p ∷ when (is_dir_at tree p) is_dir ∷ []))
-refusal tree (write text off new) = on_path text (λ p. first (when (nat_lt max_write (length new)) too_long ∷ walk tree p ∷ when (is_dir_at tree p) is_dir
+refusal tree (write text off new) = on_path text (λ p. first (when (nat_lt max_write (length new)) too_long
+    ∷ walk tree p ∷ when (is_dir_at tree p) is_dir
     ∷ when (nat_lt 0 (length new) && nat_lt max_size (off + length new)) too_big ∷ []))
-refusal tree (truncate text size) = on_path text (λ p. first (walk tree p ∷ when (is_dir_at tree p) is_dir ∷ when (nat_lt max_size size) too_big ∷ []))
-refusal tree (unlink text) = on_path text (λ p. first (when (is_root_path p) is_dir ∷ walk tree p ∷ when (is_dir_at tree p) is_dir ∷ []))
-refusal tree (rmdir text) = on_path text (λ p. first (when (is_root_path p) is_root ∷ walk tree p ∷ when (not (is_dir_at tree p)) not_dir ∷ when (not (is_empty_dir tree p)) not_empty ∷ []))
+refusal tree (truncate text size) =
+    on_path text (λ p. first (walk tree p ∷ when (is_dir_at tree p) is_dir ∷ when (nat_lt max_size size) too_big ∷ []))
+refusal tree (unlink text) =
+    on_path text (λ p. first (when (is_root_path p) is_dir ∷ walk tree p ∷ when (is_dir_at tree p) is_dir ∷ []))
+refusal tree (rmdir text) = on_path text (λ p. first (when (is_root_path p) is_root ∷ walk tree p
+    ∷ when (not (is_dir_at tree p)) not_dir ∷ when (not (is_empty_dir tree p)) not_empty ∷ []))
 refusal tree (rename from to) = on_path from (λ p. on_path to (λ q. move_refusal tree p q))
 refusal tree (list text) = on_path text (λ p. first (walk tree p ∷ when (not (is_dir_at tree p)) not_dir ∷ []))
 refusal tree (stat text) = on_path text (λ p. walk tree p)
@@ -165,8 +176,10 @@ path_named text = unwrap_or (parse text) []
 abbrev pub tree_after : FileTree → Call → FileTree
 tree_after tree (create text) = with_bytes tree (path_named text) []
 tree_after tree (mkdir text) = with_node tree (path_named text) dir
-tree_after tree (write text off new) = with_bytes tree (path_named text) (written (bytes_at tree (path_named text)) off new)
-tree_after tree (truncate text size) = with_bytes tree (path_named text) (resized (bytes_at tree (path_named text)) size)
+tree_after tree (write text off new) =
+    with_bytes tree (path_named text) (written (bytes_at tree (path_named text)) off new)
+tree_after tree (truncate text size) =
+    with_bytes tree (path_named text) (resized (bytes_at tree (path_named text)) size)
 tree_after tree (unlink text) = with_nothing_at tree (path_named text)
 tree_after tree (rmdir text) = with_nothing_at tree (path_named text)
 tree_after tree (rename from to) = moved (path_named from) (path_named to) tree

@@ -18,7 +18,8 @@ FileTree = FinMap path_cmp Node
 -- the root is a directory, and so is the parent of each other path
 pub record IsFileTree (tree : FileTree) : Type 0 where
   pub root : get tree [] ≡ Some dir
-  pub parents : (path : Path) (name : Name) (node : Node) → get tree (path ++ name ∷ []) ≡ Some node → get tree path ≡ Some dir
+  pub parents : (path : Path) (name : Name) (node : Node) → get tree (path ++ name ∷ []) ≡ Some node
+      → get tree path ≡ Some dir
 
 -- the root directory alone
 abbrev pub empty_tree : FileTree

@@ -28,7 +28,7 @@ pub enum Answer<'a> {
     Refused(FsError),
 }
 
-// An answer as a reply keeps it: its bytes are so many of the buffer, from the first on.
+/// An answer as a reply keeps it: its bytes are so many of the buffer, from the first on.
 #[derive(Drop)]
 enum Held {
     Done,

@@ -25,7 +25,7 @@ use std::alloc::{AllocError, Global};
 use std::collections::BTreeMap;
 use std::marker::Model;
 
-// What stands at a path.
+/// What stands at a path.
 #[derive(Drop)]
 enum Node {
     Dir,
@@ -105,7 +105,7 @@ impl Plain {
         }
     }
 
-    // A new file is refused as a new directory is.
+    /// A new file is refused as a new directory is.
     fn refuses_new(&self, alloc: Global, text: &[u8]) -> Result<Option<FsError>, AllocError>
         ensures { IfOk result (λ found. option_map refusal_of found ≡ plain.refusal self.now (create text.now)) }
     {
@@ -225,7 +225,7 @@ impl Plain {
         }
     }
 
-    // The first name on the way that is sought in a file, or is missing.
+    /// The first name on the way that is sought in a file, or is missing.
     fn walk(&self, path: &[Name]) -> Option<FsError>
         ensures { option_map refusal_of result ≡ plain.walk self.now (names_of path.now) }
     {
@@ -276,7 +276,7 @@ impl Plain {
         }
     }
 
-    // Makes a node with nothing in it.
+    /// Makes a node with nothing in it.
     fn make(
         &mut self,
         alloc: Global,
@@ -294,7 +294,7 @@ impl Plain {
         Ok(())
     }
 
-    // Removes a file as it removes a directory, which has no names in it.
+    /// Removes a file as it removes a directory, which has no names in it.
     fn remove(&mut self, alloc: Global, text: &[u8], reply: &mut Reply) -> Result<(), AllocError>
         ensures answer { OnOk result (reply.new.answer ≡ done) }
         ensures removed { OnOk result (self.new ≡ with_nothing_at self.old (plain.path_named text.now)) }
@@ -384,7 +384,7 @@ impl Plain {
         Ok(())
     }
 
-    // This node stands at the path, whatever stood there.
+    /// This node stands at the path, whatever stood there.
     fn put(&mut self, path: Vec<Name>, node: Node) -> Result<(), AllocError>
         ensures put { OnOk result (self.new ≡ with_node self.old (names_of path.items) (node_seen node)) }
         ensures kept { OnErr result (self.new ≡ self.old) }
@@ -393,7 +393,7 @@ impl Plain {
         Ok(())
     }
 
-    // Nothing stands at the path any more.
+    /// Nothing stands at the path any more.
     fn take(&mut self, path: &[Name])
         ensures { self.new ≡ with_nothing_at self.old (names_of path.now) }
     {
@@ -439,7 +439,7 @@ impl Plain {
         }
     }
 
-    // The names in a directory with their kinds, in the order of their bytes.
+    /// The names in a directory with their kinds, in the order of their bytes.
     fn names(&self, alloc: Global, dir: &[Name]) -> Result<Vec<(Kind, Name)>, AllocError>
         ensures { IfOk result (λ names. listed names.items ≡ listing self.now (names_of dir.now)) }
     {
@@ -462,7 +462,7 @@ fn kind_of(node: &Node) -> Kind
     }
 }
 
-// The name of an entry of a directory, where a path is that of one.
+/// The name of an entry of a directory, where a path is that of one.
 fn name_below<'a>(dir: &[Name], path: &'a [Name]) -> Option<&'a Name>
     ensures { option_map (λ name. name.now.items) result
         ≡ plain.only_name (rest_below (names_of dir.now) (names_of path.now)) }
@@ -482,7 +482,7 @@ fn only(path: &[Name]) -> Option<&Name>
     }
 }
 
-// At most so many bytes from an offset on.
+/// At most so many bytes from an offset on.
 fn part(content: &[u8], off: u64, len: usize) -> &[u8]
     ensures { result.now ≡ take len (drop off content.now) }
 {
@@ -493,14 +493,14 @@ fn part(content: &[u8], off: u64, len: usize) -> &[u8]
     &rest[..rest.len().min(len)]
 }
 
-// Whether there are bytes, and they end behind the greatest size.
+/// Whether there are bytes, and they end behind the greatest size.
 fn ends_too_late(off: u64, new: &[u8]) -> bool
     ensures { result ≡ (nat_lt 0 (length new.now) && nat_lt max_size (off + length new.now)) }
 {
     !new.is_empty() && u128::from(off) + new.len() as u128 > u128::from(MAX_SIZE)
 }
 
-// The old bytes with the new ones laid over them, and 0 between.
+/// The old bytes with the new ones laid over them, and 0 between.
 fn written(alloc: Global, old: &[u8], off: usize, new: &[u8]) -> Result<Vec<u8>, AllocError>
     requires { off + length new.now < 2 ^ 64 }
     ensures { IfOk result (λ content. content.items ≡ plain.written old.now off new.now) }
@@ -514,7 +514,7 @@ fn written(alloc: Global, old: &[u8], off: usize, new: &[u8]) -> Result<Vec<u8>,
     Ok(content)
 }
 
-// So many of the bytes, and 0 behind them.
+/// So many of the bytes, and 0 behind them.
 fn resized(alloc: Global, old: &[u8], size: usize) -> Result<Vec<u8>, AllocError>
     ensures { IfOk result (λ content. content.items ≡ plain.resized old.now size) }
 {
@@ -524,7 +524,7 @@ fn resized(alloc: Global, old: &[u8], size: usize) -> Result<Vec<u8>, AllocError
     Ok(content)
 }
 
-// Answers these bytes.
+/// Answers these bytes.
 pub(crate) fn answer_bytes(reply: &mut Reply, content: &[u8])
     requires { length content.now ≤ max_read }
     ensures { reply.new.answer ≡ bytes content.now }

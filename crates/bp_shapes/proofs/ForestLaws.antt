@@ -28,11 +28,11 @@ length-along base zero index = omega arith
 length-along base (suc depth) index = omega (arith, length-along base depth (index / 512))
 
 -- a number of at most so many digits
-abbrev pub IsShort : ℕ → ℕ → Type 0
-IsShort zero index = index ≡ 0
-IsShort (suc depth) index = IsShort depth (index / 512)
+abbrev pub HasFewDigits : ℕ → ℕ → Type 0
+HasFewDigits zero index = index ≡ 0
+HasFewDigits (suc depth) index = HasFewDigits depth (index / 512)
 
-pub same_along : (base other : Trail) (depth index number : ℕ) → IsShort depth index → IsShort depth number → along base depth index ≡ along other depth number → (base ≡ other) × (index ≡ number)
+pub same_along : (base other : Trail) (depth index number : ℕ) → HasFewDigits depth index → HasFewDigits depth number → along base depth index ≡ along other depth number → (base ≡ other) × (index ≡ number)
 same_along base other zero index number short also same = (same, short ∙ sym also)
 same_along base other (suc depth) index number short also same =
     let tails : along base depth (index / 512) ≡ along other depth (number / 512) = cc in
@@ -49,7 +49,7 @@ short_one k c size below fits = go (cases_eq k 0)
         let one : 1 * c ≤ k * c = mul-le-mul_right c (omega (arith, some)) in
         absurd (omega (arith, below, fits, one))
 
-pub short_pointer : (root size depth index : ℕ) → size ≤ covered (suc (height_of root)) → IsLivePointer root size depth index → IsShort depth index
+pub short_pointer : (root size depth index : ℕ) → size ≤ covered (suc (height_of root)) → IsLivePointer root size depth index → HasFewDigits depth index
 short_pointer root size zero index fits live =
     let level : live.level ≡ height_of root = omega (arith, live.height) in
     short_one index (covered (suc (height_of root))) size (subst (λ x. index * covered (suc x) < size) level live.live) fits
@@ -63,29 +63,29 @@ module _ (image : Image) (bound : ℕ → ℕ) (forest : IsForest image bound) w
       let low : 64 * suc i + 64 ≤ bound 0 = forest.in_file i reached in
       live_above _ _ _ _ (live_content (root_of image 0) (bound 0) (8 * suc i + 1) (omega (arith, low)))
 
-  short_root : (i : ℕ) → IsReached image (suc i) → IsShort (suc (height_of (word image 2))) (8 * suc i + 1)
+  short_root : (i : ℕ) → IsReached image (suc i) → HasFewDigits (suc (height_of (word image 2))) (8 * suc i + 1)
   short_root i reached = short_pointer (root_of image 0) (bound 0) (height_of (root_of image 0)) ((8 * suc i + 1) / 512) (forest.sound 0 inode_file).fits (leaf_above i reached)
 
-  pub short : (t d k : ℕ) → IsReached image t → IsLivePointer (root_of image t) (bound t) d k → IsShort d k
+  pub short : (t d k : ℕ) → IsReached image t → IsLivePointer (root_of image t) (bound t) d k → HasFewDigits d k
   short t d k reached live = short_pointer (root_of image t) (bound t) d k (forest.sound t reached).fits live
 
   -- Different words stand on different trails. At a depth one past the height stand content words.
-  pub same_trail : (t d k u e l : ℕ) → IsReached image t → IsReached image u → IsShort d k → IsShort e l →
+  pub same_trail : (t d k u e l : ℕ) → IsReached image t → IsReached image u → HasFewDigits d k → HasFewDigits e l →
       d ≤ suc (height_of (root_of image t)) → e ≤ suc (height_of (root_of image u)) →
       (t ≡ 0 → d ≡ suc (height_of (root_of image t)) → k % 8 ≢ 1) → (u ≡ 0 → e ≡ suc (height_of (root_of image u)) → l % 8 ≢ 1) →
       tree_trail (height_of (word image 2)) t d k ≡ tree_trail (height_of (word image 2)) u e l → (t ≡ u) × (d ≡ e) × (k ≡ l)
   same_trail zero d k zero e l r q short also low few no_root not_root same =
       let depths : d ≡ e = omega (arith, length-along [] d k, length-along [] e l, ap (λ (x : Trail). length x) same) in
-      let rest = same_along [] [] d k l short (subst (λ x. IsShort x l) (sym depths) also) (same ∙ ap (λ x. along [] x l) (sym depths)) in
+      let rest = same_along [] [] d k l short (subst (λ x. HasFewDigits x l) (sym depths) also) (same ∙ ap (λ x. along [] x l) (sym depths)) in
       (refl, depths, rest.1)
   same_trail zero d k (suc j) e l r q short also low few no_root not_root same =
       absurd (crossed d k j e l q short also low (no_root refl) same)
     where
-      crossed : (d k j e l : ℕ) → IsReached image (suc j) → IsShort d k → IsShort e l → d ≤ suc (height_of (word image 2)) → (d ≡ suc (height_of (word image 2)) → k % 8 ≢ 1) →
+      crossed : (d k j e l : ℕ) → IsReached image (suc j) → HasFewDigits d k → HasFewDigits e l → d ≤ suc (height_of (word image 2)) → (d ≡ suc (height_of (word image 2)) → k % 8 ≢ 1) →
           along [] d k ≡ along (along [] (suc (height_of (word image 2))) (8 * suc j + 1)) e l → ⊥
       crossed d k j zero l q short also low no_root same =
           let lengths : d ≡ suc (height_of (word image 2)) = omega (arith, length-along [] d k, length-along [] (suc (height_of (word image 2))) (8 * suc j + 1), ap (λ (x : Trail). length x) same) in
-          let rest = same_along [] [] d k (8 * suc j + 1) short (subst (λ x. IsShort x (8 * suc j + 1)) (sym lengths) (short_root j q)) (same ∙ ap (λ x. along [] x (8 * suc j + 1)) (sym lengths)) in
+          let rest = same_along [] [] d k (8 * suc j + 1) short (subst (λ x. HasFewDigits x (8 * suc j + 1)) (sym lengths) (short_root j q)) (same ∙ ap (λ x. along [] x (8 * suc j + 1)) (sym lengths)) in
           let number : k ≡ 8 * suc j + 1 = rest.1 in
           no_root lengths (omega (arith, number))
       crossed d k j (suc e) l q short also low no_root same =
@@ -93,11 +93,11 @@ module _ (image : Image) (bound : ℕ → ℕ) (forest : IsForest image bound) w
   same_trail (suc i) d k zero e l r q short also low few no_root not_root same =
       absurd (crossed e l i d k r also short few (not_root refl) (sym same))
     where
-      crossed : (d k j e l : ℕ) → IsReached image (suc j) → IsShort d k → IsShort e l → d ≤ suc (height_of (word image 2)) → (d ≡ suc (height_of (word image 2)) → k % 8 ≢ 1) →
+      crossed : (d k j e l : ℕ) → IsReached image (suc j) → HasFewDigits d k → HasFewDigits e l → d ≤ suc (height_of (word image 2)) → (d ≡ suc (height_of (word image 2)) → k % 8 ≢ 1) →
           along [] d k ≡ along (along [] (suc (height_of (word image 2))) (8 * suc j + 1)) e l → ⊥
       crossed d k j zero l q short also low no_root same =
           let lengths : d ≡ suc (height_of (word image 2)) = omega (arith, length-along [] d k, length-along [] (suc (height_of (word image 2))) (8 * suc j + 1), ap (λ (x : Trail). length x) same) in
-          let rest = same_along [] [] d k (8 * suc j + 1) short (subst (λ x. IsShort x (8 * suc j + 1)) (sym lengths) (short_root j q)) (same ∙ ap (λ x. along [] x (8 * suc j + 1)) (sym lengths)) in
+          let rest = same_along [] [] d k (8 * suc j + 1) short (subst (λ x. HasFewDigits x (8 * suc j + 1)) (sym lengths) (short_root j q)) (same ∙ ap (λ x. along [] x (8 * suc j + 1)) (sym lengths)) in
           let number : k ≡ 8 * suc j + 1 = rest.1 in
           no_root lengths (omega (arith, number))
       crossed d k j (suc e) l q short also low no_root same =
@@ -107,7 +107,7 @@ module _ (image : Image) (bound : ℕ → ℕ) (forest : IsForest image bound) w
       let one : Trail = along [] (suc H) (8 * suc i + 1) in
       let two : Trail = along [] (suc H) (8 * suc j + 1) in
       let depths : d ≡ e = omega (arith, length-along one d k, length-along two e l, length-along [] (suc H) (8 * suc i + 1), length-along [] (suc H) (8 * suc j + 1), ap (λ (x : Trail). length x) same) in
-      let rest = same_along one two d k l short (subst (λ x. IsShort x l) (sym depths) also) (same ∙ ap (λ x. along two x l) (sym depths)) in
+      let rest = same_along one two d k l short (subst (λ x. HasFewDigits x l) (sym depths) also) (same ∙ ap (λ x. along two x l) (sym depths)) in
       let roots = same_along [] [] (suc H) (8 * suc i + 1) (8 * suc j + 1) (short_root i r) (short_root j q) rest.0 in
       let numbers : 8 * suc i + 1 ≡ 8 * suc j + 1 = roots.1 in
       (omega (arith, numbers), depths, rest.1)

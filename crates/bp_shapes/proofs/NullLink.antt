@@ -8,7 +8,6 @@ use Rattle.bp_layout.specs.Inode.{root_of, size_of, inode_count}
 use Rattle.bp_layout.specs.Reached.{IsReached, IsLiveBlock}
 use Rattle.bp_layout.specs.Reached.IsReached.{inode_file}
 use Rattle.bp_layout.specs.WellFormed.{IsWellFormed}
-use Rattle.bp_layout.specs.Same.{Same}
 use Rattle.bp_layout.proofs.TreeLaws.{KeepsPointers, content-kept, slot_word-same, word_at-suc, word_at-zero, live_above, live_pointer_word, live_content}
 use Rattle.bp_layout.proofs.Reached.{reached-in_file}
 use Rattle.bp_changes.proofs.Separation.{stands_in_block}

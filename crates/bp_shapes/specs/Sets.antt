@@ -7,7 +7,8 @@ use Rattle.bp_layout.specs.Reached.{IsReached}
 use Rattle.bp_layout.specs.Words.{Image, block_count}
 use Rattle.bp_limits.specs.Limits.{block_size, inode_size}
 
--- The sets have just the blocks that none of these trees has, under a size for each, and the inodes that are none of them. They have room for all.
+-- The sets have just the blocks that none of these trees has, under a size for each, and the inodes that are none of
+-- them. They have room for all.
 pub record AreExactFor (image : Image) (Tree : ℕ → Type 0) (bound : ℕ → ℕ) (blocks inodes : Set) : Type 0 where
   pub block_room : length blocks ≡ block_count image
   pub inode_room : length inodes ≡ block_size / inode_size * block_count image

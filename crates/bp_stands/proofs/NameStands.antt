@@ -1,5 +1,5 @@
 -- The plain tree of an image that has one more name, or one fewer.
-use Rattle.std.proofs.Common.{◌≡◌, ℕ, ◌+◌, ◌*◌, [], ◌∷◌, ◌++◌, Bool, true, false, ◌==◌, if◌then◌else◌, Some, refl, sym, ◌∙◌, subst₂}
+use Rattle.std.proofs.Common.{◌≡◌, ℕ, [], ◌∷◌, ◌++◌, Bool, true, false, ◌==◌, if◌then◌else◌, Some, refl, sym, ◌∙◌}
 use Rattle.std.specs.FinMap.{get, get-insert, get-remove}
 use Rattle.std.specs.Ordering.{eq_by_cmp}
 use Rattle.bp_layout.specs.Words.{Image}

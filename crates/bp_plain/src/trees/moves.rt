@@ -34,7 +34,7 @@ impl Plain {
         }
     }
 
-    // The same of two paths that are spelled.
+    /// The same of two paths that are spelled.
     fn refuses_move(
         &self,
         alloc: Global,
@@ -103,7 +103,7 @@ impl Plain {
         Ok(())
     }
 
-    // A tree in which each path below the one lies below the other, whose own node is gone.
+    /// A tree in which each path below the one lies below the other, whose own node is gone.
     fn moved(&self, alloc: Global, from: &[Name], to: &[Name]) -> Result<Plain, AllocError>
         ensures { IfOk result (λ tree. tree ≡ plain.moved (names_of from.now) (names_of to.now) self.now) }
     {
@@ -114,7 +114,7 @@ impl Plain {
         Ok(tree)
     }
 
-    // Not even a root directory.
+    /// Not even a root directory.
     fn with_nothing(alloc: Global) -> Plain
         ensures { result ≡ empty }
     {
@@ -123,7 +123,7 @@ impl Plain {
         }
     }
 
-    // Puts in a copy of what stands at a path of another tree, where it lies after a rename.
+    /// Puts in a copy of what stands at a path of another tree, where it lies after a rename.
     fn put_moved(
         &mut self,
         alloc: Global,
@@ -148,14 +148,14 @@ fn moves_below(from: &[Name], to: &[Name]) -> bool
     !is_same(from, to) && is_below(from, to)
 }
 
-// Whether a path is another one, or goes on from it.
+/// Whether a path is another one, or goes on from it.
 fn is_below(above: &[Name], path: &[Name]) -> bool
     ensures { result ≡ is_some (rest_below (names_of above.now) (names_of path.now)) }
 {
     path.starts_with(above)
 }
 
-// Where a path lies, once what is at or below the one is at or below the other.
+/// Where a path lies, once what is at or below the one is at or below the other.
 fn moved_path(
     alloc: Global,
     from: &[Name],

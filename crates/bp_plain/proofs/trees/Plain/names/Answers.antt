@@ -3,9 +3,9 @@ use Rattle.std.specs.List.{filter_map}
 use Rattle.std.specs.FinMap.{entries}
 use Rattle.bp_layout.specs.Below.{rest_below}
 use Rattle.bp_layout.specs.Listing.{listed}
-use Rattle.bp_plain.specs.Plain.{only_name}
+use Rattle.bp_plain.specs.Plain.{listed_in, only_name}
 use Rattle.bp_plain.specs.SeenTree.{names_of}
-use Rattle.bp_plain.proofs.Kept.{all_entries, row, row_found, rows, same_bytes}
+use Rattle.bp_plain.proofs.Kept.{all_entries, row_found, rows, same_bytes}
 use Rattle.bp_plain.proofs.trees.Plain.names.Goals as goal
 
 pub loop-path-preserved-in_ok-push : goal.loop-path-preserved-in_ok-push
@@ -19,4 +19,4 @@ pub returns : goal.returns
 returns c =
     sym (append-nil (listed c.loop-path.names.items)) ∙ ap (λ es. listed c.loop-path.names.items ++ rows c.args.dir.now es) (sym c.in-None.ensures.steps.0) ∙ c.loop-path.invariant
     ∙ ap (rows c.args.dir.now) (c.into_iter-path-iterator.ensures.into_iter_gives ∙ c.iter-path-items.ensures.rest)
-    ∙ ap (filter_map (row c.args.dir.now)) (sym (all_entries c.self.inside.nodes.entries c.self.invariant) ∙ ap entries c.self.view_is)
+    ∙ ap (filter_map (listed_in (names_of c.args.dir.now))) (sym (all_entries c.self.inside.nodes.entries c.self.invariant) ∙ ap entries c.self.view_is)

@@ -1,5 +1,5 @@
 -- Trees in the slots of a block, and the tree over them.
-use Rattle.std.proofs.Common.{◌≡◌, ◌≢◌, ◌⊎◌, ℕ, suc, ◌+◌, ◌*◌, ◌/◌, ◌%◌, ◌<◌, ◌≤◌, List, [], ◌∷◌, ◌++◌, length, refl, sym, ◌∙◌, ap, subst, arith, inl, inr, mod-lt, div-add-mod', mul-le-mul_right, lt_of_lt_of_le}
+use Rattle.std.proofs.Common.{◌≡◌, ◌≢◌, ◌⊎◌, ℕ, suc, ◌+◌, ◌*◌, ◌/◌, ◌%◌, ◌<◌, ◌≤◌, [], length, refl, sym, ◌∙◌, ap, subst, arith, inl, inr, mod-lt, div-add-mod', mul-le-mul_right, lt_of_lt_of_le}
 use Rattle.bp_limits.specs.Limits.{max_height}
 use Rattle.std.proofs.lemmas.Bool.{cases_eq}
 use Rattle.bp_layout.specs.Words.{Image, block_count, block_of, height_of, slot_word, byte_of}
@@ -12,11 +12,6 @@ use Rattle.bp_layout.proofs.Pieces.{joined_sound, joined_block, joined_byte, joi
 use Rattle.bp_shapes.proofs.Roots.{null_tree, null_words}
 use Rattle.bp_append.specs.Built.{IsBuilt, InSlot, Children}
 use Rattle.bp_append.proofs.TallyLaws.{span-positive}
-
-pub has_either : (xs ys : List ℕ) (b : ℕ) → Has (xs ++ ys) b → Has xs b ⊎ Has ys b
-has_either [] ys b m = inr m
-has_either (x ∷ xs) ys b (inl e) = inl (inl e)
-has_either (x ∷ xs) ys b (inr m) = elim (has_either xs ys b m) [ inl l ↦ inl (inr l) | inr r ↦ inr r ]
 
 -- a tree whose blocks stay
 module _ (old new : Image) (root size : ℕ) (whole : length new ≡ length old)

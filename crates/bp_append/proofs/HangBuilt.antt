@@ -1,5 +1,6 @@
 -- What `build` made may be hung in the place of a null.
 use Rattle.std.proofs.Common.{◌≡◌, ◌≢◌, ℕ, zero, suc, ◌+◌, ◌*◌, ◌/◌, ◌%◌, ◌<◌, ◌≤◌, List, refl, sym, ◌∙◌, ap, arith, pow-suc}
+use Rattle.bp_layout.proofs.MemberLaws.{each-has}
 use Rattle.bp_limits.specs.Limits.{max_height}
 use Rattle.bp_layout.specs.Words.{Image, block_of, height_of, slot_word, byte_of}
 use Rattle.bp_layout.specs.Tree.{word_at, node, byte, covered, span, IsLivePointer, HasBlock}
@@ -12,7 +13,6 @@ use Rattle.bp_shapes.specs.Links.IsUnder.{here, under}
 use Rattle.bp_append.specs.Built.{IsBuilt}
 use Rattle.bp_layout.proofs.Pieces.{slot_of, rest_of, value, rest_low}
 use Rattle.bp_shapes.proofs.NullLink.{below_depth}
-use Rattle.bp_tree.proofs.PerformsLaws.{each-has}
 
 slot_below : (d k e l r : ℕ) → IsUnder d k e l r → slot_of r l ≡ k
 slot_below d k _ _ _ (here at index) = index

@@ -4,13 +4,13 @@ use Rattle.pm_epochs.specs.declared.event.Event.TheVariants.{Store}
 use Rattle.pm_epochs.specs.Log.{StoresTo}
 use Rattle.pm_epochs.proofs.MayLaws.{StoresMay-append, StoresMay-weaker}
 use Rattle.pm_epochs.proofs.PieceLaws.{IsPiece-append, IsPiece-more, IsPiece-store, StoresTo-front, StoresTo-behind}
+use Rattle.bp_layout.proofs.MemberLaws.{each-append, each-as, each-has, each-of}
 use Rattle.bp_layout.specs.Members.{Has}
 use Rattle.pm_region.specs.Memory.{Memory, Adds}
 use Rattle.pm_region.specs.Safe.{AddsMay}
 use Rattle.pm_region.proofs.MemoryLaws.{adds_both}
 use Rattle.pm_region.proofs.MayLaws.{may_none}
 use Rattle.bp_tree.specs.Performs.{InBlock}
-use Rattle.bp_tree.proofs.PerformsLaws.{each-append, each-as, each-has, each-of}
 use Rattle.bp_append.specs.Into.{AddsInto}
 
 -- stores of which nothing is said

@@ -1,6 +1,7 @@
 -- The whole preparation of a tree without blocks: nobody sees it, and the tree is ready.
 use Rattle.std.proofs.Common.{◌≡◌, ◌⊎◌, ℕ, ◌+◌, ◌*◌, ◌/◌, ◌<◌, ◌≤◌, List, [], ◌∷◌, length, refl, sym, ◌∙◌, ap, subst, subst₂, arith, rules, inl, inr, get_or-set_other, le_trans}
 use Rattle.std.proofs.lemmas.Bool.{cases_eq}
+use Rattle.bp_layout.proofs.MemberLaws.{each-has}
 use Rattle.bp_layout.specs.Words.{Image, block_of, height_of}
 use Rattle.bp_layout.specs.Tree.{byte, HasBlock, IsFull}
 use Rattle.bp_layout.specs.Inode.{root_of, size_of, RootPlace}
@@ -25,8 +26,7 @@ use Rattle.bp_append.specs.Grown.{Roots, Makes}
 use Rattle.bp_append.specs.Prepared.{CanPrepare, PreparesWith, need_for}
 use Rattle.bp_append.proofs.ChildrenLaws.{built_as}
 use Rattle.bp_append.proofs.PrepLaws.{open_root, free_taken, in_free_harmless, no_root_in_free, agrees_of, words_new, epochs_taking, meaning_middle, wf_middle, reached_middle, place_middle, still_free}
-use Rattle.bp_append.proofs.ReadyLaws.{built_reads, null_byte, IsReady, prepared}
-use Rattle.bp_tree.proofs.PerformsLaws.{each-has}
+use Rattle.bp_append.proofs.ReadyLaws.{built_reads, null_byte, HasRootReady, prepared}
 
 by_old : (old new : Image) (t : ℕ) → SameMeaning old new → IsReached old t → IsReadByWords new t → IsReadByWords old t
 by_old old new t same reached (inl e) = inl e
@@ -101,7 +101,7 @@ module _ (first new : Memory) (free_old free_new : List ℕ) (t place from to : 
   free_middle [] all = tt
   free_middle (b ∷ taken) all = (still_free old middle can.well agrees t place can.reached at b all.0, free_middle taken all.1)
 
-  pub null_ready : IsReady old middle t place makes.top
+  pub null_ready : HasRootReady old middle t place makes.top
   null_ready = record {
     meaning = meaning_middle old middle can.well agrees t place can.reached at;
     well = wf_middle old middle can.well agrees t place can.reached at;

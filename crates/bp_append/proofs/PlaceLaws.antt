@@ -4,6 +4,7 @@ use Rattle.std.specs.List.{All}
 use Rattle.std.proofs.lemmas.Bool.{cases_eq, cases_lt}
 use Rattle.std.proofs.lemmas.List.{append-nil}
 use Rattle.std.proofs.lemmas.List.Elements.{All-nil}
+use Rattle.bp_layout.proofs.MemberLaws.{each-has}
 use Rattle.bp_layout.specs.Words.{Image, word, block_count, height_of}
 use Rattle.bp_layout.specs.Tree.{node, IsLiveWord, IsLivePointer, IsSound}
 use Rattle.bp_layout.specs.Inode.{root_of, size_of, inode_count, RootPlace}
@@ -21,7 +22,6 @@ use Rattle.pm_region.specs.Memory.{Memory, current_words}
 use Rattle.pm_region.proofs.MemoryLaws.{length-current_words}
 use Rattle.bp_append.specs.Grown.{CanGrow}
 use Rattle.bp_append.specs.Prepared.{CanPrepare}
-use Rattle.bp_tree.proofs.PerformsLaws.{each-has}
 
 -- what the path of a root word leads to
 pub record Leads (image : Image) (t : ℕ) (path : WordPath) : Type 0 where

@@ -1,6 +1,8 @@
 -- A prepared tree in its image: nobody sees the preparation, and the tree is ready.
 use Rattle.std.proofs.Common.{◌≡◌, ℕ, ◌+◌, ◌*◌, ◌/◌, ◌%◌, ◌<◌, ◌≤◌, List, [], ◌∷◌, ◌++◌, length, set, refl, sym, ◌∙◌, subst, arith, inl, inr}
 use Rattle.std.proofs.lemmas.List.{append_assoc}
+use Rattle.bp_tree.proofs.PerformsLaws.{same_equivalence}
+use Rattle.bp_layout.proofs.MemberLaws.{each-as, each-has}
 use Rattle.bp_layout.specs.Words.{Image, word, height_of}
 use Rattle.bp_layout.specs.Tree.{node, HasBlock}
 use Rattle.bp_layout.specs.Inode.{root_of, size_of, inode_count, RootPlace, ContentStandsAt}
@@ -17,13 +19,11 @@ use Rattle.bp_layout.proofs.TreeLaws.{node-kept, live_above, live_content}
 use Rattle.bp_layout.proofs.Reached.{reached-in_file}
 use Rattle.bp_changes.proofs.Frame.{keeps, meaning-same, same-by_agreement, root-same, has_block-back}
 use Rattle.bp_changes.proofs.SameMeaning.{reached-back, well_formed-same}
-use Rattle.bp_layout.proofs.SameLaws.{same_symmetric, same_transitive}
 use Rattle.bp_changes.proofs.Stores.{harmless_here}
 use Rattle.bp_changes.proofs.Separation.{stands_in_block, free-harmless}
 use Rattle.bp_changes.proofs.ReachedOn.{reached_on}
 use Rattle.pm_epochs.specs.declared.event.Event.{Event}
 use Rattle.pm_epochs.specs.declared.event.Event.TheVariants.{Barrier}
-use Rattle.pm_epochs.specs.Crash.{IsPartialEquivalence}
 use Rattle.pm_epochs.specs.Log.{words_after, StoresTo, IsClosed}
 use Rattle.pm_epochs.specs.May.{AnyAt, StoresMay, EachMay, AnyOf, links_of}
 use Rattle.pm_epochs.proofs.MayLaws.{quiet_prepared, StoresMay-append, StoresMay-weaker}
@@ -33,14 +33,10 @@ use Rattle.pm_region.specs.Memory.{Memory, current_words, Adds}
 use Rattle.pm_region.proofs.MemoryLaws.{adds_both, current_words-adds, length-current_words}
 use Rattle.bp_tree.specs.Performs.{InBlock, IsOpen, AddsTaking}
 use Rattle.bp_tree.specs.Performs.IsOpen.{in_live, at_root}
-use Rattle.bp_tree.proofs.PerformsLaws.{each-as, each-has}
 use Rattle.bp_append.specs.Into.{AddsInto}
 use Rattle.bp_append.specs.Filled.{IsUsable}
 use Rattle.bp_append.specs.Built.{InBlocks}
 use Rattle.bp_append.specs.Grown.{Links}
-
-pub equivalence : IsPartialEquivalence Same
-equivalence = record { symmetric = same_symmetric; transitive = same_transitive }
 
 -- a word of a free block may be anything
 -- the root word of an inode is in a block of the inode file
@@ -117,7 +113,7 @@ module _ (old between new : Memory) (taken : List ℕ) (May : ℕ → ℕ → Ty
     part = record {
       added = (events ++ Barrier ∷ []) ++ (links_of links ++ Barrier ∷ []);
       adds = subst (Adds old new) joined (adds_both old between new events (Barrier ∷ (links_of links ++ Barrier ∷ [])) stores.part.adds ends);
-      quiet = quiet_prepared Same equivalence (IsHarmless (current_words old)) (current_words old) events links
+      quiet = quiet_prepared Same same_equivalence (IsHarmless (current_words old)) (current_words old) events links
           (λ image all. same-by_agreement (current_words old) image well (agrees_of (current_words old) image all)) (StoresMay-weaker May (IsHarmless (current_words old)) harmless events stores.part.may)
           (subst (λ ws. AnyOf Same ws ws links) words_between any);
       closed = subst IsClosed (append_assoc (events ++ Barrier ∷ []) (links_of links) (Barrier ∷ [])) (IsClosed-barrier ((events ++ Barrier ∷ []) ++ links_of links) [] tt);

@@ -1,6 +1,7 @@
 -- A tree whose links are done but for its root word, and what the store of that makes of the image.
 use Rattle.std.proofs.Common.{◌≡◌, ◌≢◌, ◌⊎◌, ℕ, suc, ◌+◌, ◌*◌, ◌/◌, ◌%◌, ◌<◌, ◌≤◌, List, length, set, get_or, refl, sym, ◌∙◌, ap, subst₂, arith, inl, inr, get_or-set_other, lt_of_lt_of_le, le_trans}
 use Rattle.std.proofs.lemmas.List.{length-set}
+use Rattle.bp_layout.proofs.MemberLaws.{each-has}
 use Rattle.bp_layout.specs.Words.{Image, block_of, height_of, slot_word, byte_of}
 use Rattle.bp_layout.specs.Tree.{node, word_at, byte, IsLivePointer, IsLiveWord, HasBlock, IsSound, IsFull}
 use Rattle.bp_layout.specs.Inode.{root_of, size_of, inode_count, RootPlace}
@@ -23,7 +24,6 @@ use Rattle.bp_append.specs.Given.{given}
 use Rattle.bp_append.specs.Built.{IsBuilt}
 use Rattle.bp_append.specs.Prepared.{Prepares}
 use Rattle.bp_append.proofs.ChildrenLaws.{built_kept}
-use Rattle.bp_tree.proofs.PerformsLaws.{each-has}
 
 -- ---- a new tree in the place of none
 
@@ -73,7 +73,7 @@ built_reads ByWords image size to root other bytes taken Full file fits null bui
 -- ---- the store of the root word
 
 -- The image means the same as the old one, and the root word reads as that of the tree.
-pub record IsReady (old image : Image) (t place root : ℕ) : Type 0 where
+pub record HasRootReady (old image : Image) (t place root : ℕ) : Type 0 where
   pub meaning : SameMeaning old image
   pub well : IsWellFormed image
   pub reached : IsReached image t
@@ -82,7 +82,7 @@ pub record IsReady (old image : Image) (t place root : ℕ) : Type 0 where
   pub sizes : (u : ℕ) → IsReached old u → size_of image u ≡ size_of old u
   pub roots : (u : ℕ) → IsReached old u → u ≢ t → root_of image u ≡ root_of old u
 
-module _ (old image : Image) (wf : IsWellFormed old) (t place other from to : ℕ) (raw taken : List ℕ) (reached : IsReached old t) (at : RootPlace old t place) (ready : IsReady old image t place other) (free : Each (λ b. IsLiveBlock old b → ⊥) taken) where
+module _ (old image : Image) (wf : IsWellFormed old) (t place other from to : ℕ) (raw taken : List ℕ) (reached : IsReached old t) (at : RootPlace old t place) (ready : HasRootReady old image t place other) (free : Each (λ b. IsLiveBlock old b → ⊥) taken) where
   abbrev last : Image
   last = set image place other
 

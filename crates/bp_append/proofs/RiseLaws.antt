@@ -1,5 +1,6 @@
 -- Higher nodes over a tree, one after another.
 use Rattle.std.proofs.Common.{◌≡◌, ◌≢◌, ◌⊎◌, ℕ, zero, suc, ◌+◌, ◌-◌, ◌*◌, ◌/◌, ◌<◌, ◌≤◌, min, max, List, [], ◌∷◌, ◌++◌, length, set, get_or, true, false, nat_lt, refl, sym, ◌∙◌, ap, subst, subst₂, arith, inl, inr, get_or-set_same, get_or-set_other, lt-ltb, le-ltb, lt_of_mul-lt-mul_right, le_trans}
+use Rattle.bp_layout.proofs.MemberLaws.{apart-append, each-has, has-behind, has-either, has-front}
 use Rattle.bp_limits.specs.Limits.{max_height}
 use Rattle.std.proofs.lemmas.Bool.{cases_eq, cases_lt}
 use Rattle.std.proofs.lemmas.List.{append_assoc, length-append, length-set}
@@ -22,10 +23,9 @@ use Rattle.bp_append.specs.Built.{InBlocks, IsBuilt, Children}
 use Rattle.bp_append.specs.Filled.{IsUsable, CanFill, FillsFrom}
 use Rattle.bp_append.specs.Risen.{idle, idles, edge, AreOutside, CanRise, risen, Rises}
 use Rattle.bp_append.proofs.TallyLaws.{span-suc, span-positive, met_none, met_one, tally_split, begins_at, span-most, span-rising}
-use Rattle.bp_append.proofs.ChildrenLaws.{has_either, built_kept, built_as, built_node, children_one, children_as, children_bytes, children_kept, children_both}
+use Rattle.bp_append.proofs.ChildrenLaws.{built_kept, built_as, built_node, children_one, children_as, children_bytes, children_kept, children_both}
 use Rattle.bp_append.proofs.FillLaws.{usable_rest, may_length, may_base, apart_parts, slot_framed, block_row}
 use Rattle.bp_append.proofs.VisitLaws.{whole_links, alike}
-use Rattle.bp_tree.proofs.PerformsLaws.{apart-append, each-has, has-behind, has-front}
 
 -- ---- counts
 
@@ -384,7 +384,7 @@ module _ (first middle last : Memory) (free_first free_middle free_last raw : Li
     chain = one.chain ++ two.chain;
     named = two.named ∙ ap (λ r. raised_by r two.chain) one.named ∙ sym (raised_append root one.chain two.chain);
     tall = omega (arith, one.tall, two.tall, height_mid, length-append one.chain two.chain);
-    inside = λ b m. elim (has_either one.chain two.chain b m) [ inl l ↦ has-front one.taken two.taken b (one.inside b l) | inr r ↦ has-behind one.taken two.taken b (two.inside b r) ];
+    inside = λ b m. elim (has-either one.chain two.chain b m) [ inl l ↦ has-front one.taken two.taken b (one.inside b l) | inr r ↦ has-behind one.taken two.taken b (two.inside b r) ];
     apart = apart-append one.chain two.chain one.apart two.apart (λ b m n. apart_both b (one.inside b m) (in_two b (two.inside b n)));
     down = down_append (current_words last) root one.chain two.chain
         (down_kept (current_words middle) (current_words last) root one.chain (λ b m. slot_framed (current_words middle) (current_words last) b 0
@@ -398,7 +398,7 @@ module _ (first middle last : Memory) (free_first free_middle free_last raw : Li
         (λ b. HasBlock (after_stores (current_words first) links) root (min to (span low)) b ⊎ Has (one.taken ++ two.taken) b) _ (IsFull (after_stores (current_words first) links) root (min to (span low)) × (from ≤ span low))
         (λ i small. same_byte links i (below.bytes_are i) (omega (arith, small)) (cases_lt i (span mid)))
         (λ b m. elim m [ inl has ↦ elim (below.blocks b has) [ inl old ↦ inl old | inr t ↦ inr (has-front one.taken two.taken b t) ] | inr t ↦ inr (has-behind one.taken two.taken b t) ])
-        (λ b m. elim m [ inl old ↦ inl (below.has b (inl old)) | inr t ↦ elim (has_either one.taken two.taken b t) [ inl l ↦ inl (below.has b (inr l)) | inr r ↦ inr r ] ])
+        (λ b m. elim m [ inl old ↦ inl (below.has b (inl old)) | inr t ↦ elim (has-either one.taken two.taken b t) [ inl l ↦ inl (below.has b (inr l)) | inr r ↦ inr r ] ])
         (λ both. (below.full both, le_trans both.1 (span-rising low mid order)))
         above;
   }

@@ -1,5 +1,6 @@
 -- The whole preparation of a tree with blocks: nobody sees it, and the tree is ready.
 use Rattle.std.proofs.Common.{◌≡◌, ◌≢◌, ◌⊎◌, ℕ, suc, ◌+◌, ◌-◌, ◌*◌, ◌/◌, ◌%◌, ◌<◌, ◌≤◌, List, [], ◌∷◌, ◌++◌, length, min, set, get_or, sym, ◌∙◌, ap, subst, subst₂, arith, rules, inl, inr, get_or-set_other, le_trans}
+use Rattle.bp_layout.proofs.MemberLaws.{each-has, each-of, has-behind, has-front}
 use Rattle.bp_limits.specs.Limits.{max_height}
 use Rattle.bp_layout.specs.Words.{Image, block_of, height_of}
 use Rattle.bp_layout.specs.Tree.{node, span, IsLivePointer, HasBlock, IsFull}
@@ -43,10 +44,9 @@ use Rattle.bp_append.proofs.VisitDone.{extended_old, extended_new}
 use Rattle.bp_append.proofs.HangBuilt.{hang_built, in_below}
 use Rattle.bp_append.proofs.NeedLaws.{tall_low}
 use Rattle.bp_append.proofs.PrepLaws.{open_root, free_taken, in_free_harmless, no_root_in_free, agrees_of, after_append, words_new, epochs_taking, meaning_middle, wf_middle, reached_middle, place_middle, still_free}
-use Rattle.bp_append.proofs.ReadyLaws.{IsReady, prepared}
+use Rattle.bp_append.proofs.ReadyLaws.{HasRootReady, prepared}
 use Rattle.bp_append.proofs.TwoLinks as two
 use Rattle.bp_append.proofs.NullPrepared.{full_by_words}
-use Rattle.bp_tree.proofs.PerformsLaws.{each-has, each-of, has-behind, has-front}
 
 given_before : (from : ℕ) (raw : List ℕ) (o : ℕ) → o < from → given from raw o ≡ 0
 given_before from raw o low = search (rules, low)
@@ -157,7 +157,7 @@ module _ (first new : Memory) (free_old free_new : List ℕ) (t place from to : 
   reads_alone = subst (λ r. ReadsAs (IsReadByWords middle t) middle (size_of middle t) (root_of middle t) (raised_by r grows.chain)) roots
       (chain_reads (IsReadByWords middle t) middle (size_of middle t) (root_of middle t) grows.chain (well.sound t there) chain_there fresh)
 
-  ready_alone : IsReady old middle t place (raised_by (root_of old t) grows.chain)
+  ready_alone : HasRootReady old middle t place (raised_by (root_of old t) grows.chain)
   ready_alone = record {
     meaning = meaning;
     well = well;
@@ -228,7 +228,7 @@ module _ (first new : Memory) (free_old free_new : List ℕ) (t place from to : 
     any_both : AnyOf Same middle middle ((hung_place, 4096 * block_of pointer) ∷ (place, raised_by (root_of middle t) grows.chain) ∷ [])
     any_both = two.any_two_links middle well t hangs.depth hangs.index hung_place (block_of pointer) hang grows.chain chain_there not_chain place place_there
 
-    ready_hung : IsReady old hung_image t place (raised_by (root_of middle t) grows.chain)
+    ready_hung : HasRootReady old hung_image t place (raised_by (root_of middle t) grows.chain)
     ready_hung = record {
       meaning = meaning_on old middle hung_image meaning (reshape.reshaped_meaning middle hung_image well t (root_of middle t) (null_link.hung_reshapes middle well t hangs.depth hangs.index hung_place (block_of pointer) hang));
       well = two.wf_middle middle well t hangs.depth hangs.index hung_place (block_of pointer) hang grows.chain chain_there not_chain;
@@ -266,13 +266,13 @@ module _ (first new : Memory) (free_old free_new : List ℕ) (t place from to : 
       go (one_link hung_place pointer e hangs part) =
           rw e (in_live (record { tree = t; reached = can.reached; has = part }), (open_root old can.well t place can.reached at (grows.visited ++ grows.raised), tt))
 
-  ready_links : IsReady old (after_stores middle grows.links) t place (raised_by (root_of old t) grows.chain)
+  ready_links : HasRootReady old (after_stores middle grows.links) t place (raised_by (root_of old t) grows.chain)
   ready_links = go grows.hung
     where
-      go : AreHung old middle (root_of old t) (size_of old t) from to raw grows.visited (λ p. HasBlock old (root_of old t) (size_of old t) (p / 512)) grows.links → IsReady old (after_stores middle grows.links) t place (raised_by (root_of old t) grows.chain)
+      go : AreHung old middle (root_of old t) (size_of old t) from to raw grows.visited (λ p. HasBlock old (root_of old t) (size_of old t) (p / 512)) grows.links → HasRootReady old (after_stores middle grows.links) t place (raised_by (root_of old t) grows.chain)
       go (no_link e) = rw e ready_alone
       go (one_link hung_place pointer e hangs part) =
-          rw e (subst₂ (λ p r. IsReady old (set middle hung_place p) t place (raised_by r grows.chain)) (pointer_is hung_place pointer hangs) roots (ready_hung hung_place pointer hangs))
+          rw e (subst₂ (λ p r. HasRootReady old (set middle hung_place p) t place (raised_by r grows.chain)) (pointer_is hung_place pointer hangs) roots (ready_hung hung_place pointer hangs))
 
   -- a word of another tree
   frame : (u b k : ℕ) → IsReached old u → u ≢ t → HasBlock old (root_of old u) (size_of old u) b → k < 512 → 512 * b + k ≢ place →

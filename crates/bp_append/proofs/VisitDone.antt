@@ -1,6 +1,7 @@
 -- Going down a tree to its last byte: what is had at each node.
 use Rattle.std.proofs.Common.{◌≡◌, ◌≢◌, ◌⊎◌, ℕ, suc, ◌+◌, ◌-◌, ◌*◌, ◌/◌, ◌%◌, ◌<◌, ◌≤◌, min, max, List, [], ◌∷◌, length, get_or, refl, sym, ◌∙◌, ap, subst, arith, rules, inl, inr, get_or-set_same, get_or-set_other, lt-ltb, le-ltb}
 use Rattle.std.proofs.lemmas.Bool.{cases_lt}
+use Rattle.bp_layout.proofs.MemberLaws.{has-front}
 use Rattle.bp_layout.specs.Words.{Image, block_of, height_of, slot_word, byte_of}
 use Rattle.bp_layout.specs.Tree.{byte, span, HasBlock, IsFull}
 use Rattle.bp_layout.specs.Members.{Has}
@@ -21,7 +22,6 @@ use Rattle.bp_append.proofs.IntoLaws.{into_more}
 use Rattle.bp_append.proofs.ChildrenLaws.{built_kept, built_as}
 use Rattle.bp_append.proofs.FillLaws.{may_length, slot_framed, block_row}
 use Rattle.bp_append.proofs.VisitLaws.{beside, whole_links, word_bits, kid_own, block_taken, kid_aligned, kid_named, kid_is, null_spine}
-use Rattle.bp_tree.proofs.PerformsLaws.{has-front}
 
 given_before : (from : ℕ) (raw : List ℕ) (o : ℕ) → o < from → given from raw o ≡ 0
 given_before from raw o low = search (rules, low)

@@ -34,25 +34,31 @@ pub record CanGrow (memory : Memory) (free : List ℕ) (root size from to : ℕ)
 abbrev pub Links : Memory → Memory → List (ℕ × ℕ) → Type 0
 Links old new links = Adds old new (Barrier ∷ links_of links ++ Barrier ∷ [])
 
--- A tree with blocks was prepared. Once the links are done, the higher tree holds the old bytes and behind them the given ones.
-pub record Grows (old new : Memory) (free_old free_new : List ℕ) (place root size from to : ℕ) (bytes : List ℕ) : Type 0 where
+-- A tree with blocks was prepared. Once the links are done, the higher tree holds the old bytes and behind them the
+-- given ones.
+pub record Grows (old new : Memory) (free_old free_new : List ℕ) (place root size from to : ℕ)
+    (bytes : List ℕ) : Type 0 where
   pub visited : List ℕ
   pub raised : List ℕ
   pub takes : free_old ≡ (visited ++ raised) ++ free_new
   pub counted : length (visited ++ raised) ≡ length (nodes_for (current_words old) root size from to)
   pub between : Memory
-  pub stores : AddsInto (visited ++ raised) (λ p value. InBlocks (visited ++ raised) p ⊎ IsBehind (current_words old) root size p value)
+  pub stores : AddsInto (visited ++ raised) (λ p value. InBlocks (visited ++ raised) p
+      ⊎ IsBehind (current_words old) root size p value)
       (512 * length (visited ++ raised) + stores_behind size from to max_height) old between
   pub links : List (ℕ × ℕ)
-  pub hung : AreHung (current_words old) (current_words between) root size from to bytes visited (λ p. HasBlock (current_words old) root size (p / 512)) links
+  pub hung : AreHung (current_words old) (current_words between) root size from to bytes visited
+      (λ p. HasBlock (current_words old) root size (p / 512)) links
   pub chain : List ℕ
   pub tall : height_of root + length chain ≡ height_with root size to
   pub inside : (b : ℕ) → Has chain b → Has raised b
   pub apart : AreApart chain
   pub down : LeadDown (current_words between) root chain
   pub ends : Links between new (links ++ (place, raised_by root chain) ∷ [])
-  pub tree : IsBuilt (after_stores (current_words between) links) (raised_by root chain) to (extended (current_words old) root size from bytes 0)
-      (λ b. HasBlock (current_words old) root size b ⊎ Has (visited ++ raised) b) (IsFull (current_words old) root size × (from ≡ size))
+  pub tree : IsBuilt (after_stores (current_words between) links) (raised_by root chain) to
+      (extended (current_words old) root size from bytes 0)
+      (λ b. HasBlock (current_words old) root size b ⊎ Has (visited ++ raised) b)
+      (IsFull (current_words old) root size × (from ≡ size))
 
 -- each link is in the region
 abbrev pub AreLow : Memory → List (ℕ × ℕ) → Type 0
@@ -60,7 +66,8 @@ AreLow memory [] = Unit {0}
 AreLow memory (link ∷ links) = (link.0 < length memory.base) × AreLow memory links
 
 -- A tree of the given bytes, or a null, was made for a tree without blocks, and this is to be its root word.
-pub record Roots (old new : Memory) (free_old free_new : List ℕ) (root size from to : ℕ) (bytes : List ℕ) (top : ℕ) : Type 0 where
+pub record Roots (old new : Memory) (free_old free_new : List ℕ) (root size from to : ℕ) (bytes : List ℕ)
+    (top : ℕ) : Type 0 where
   pub taken : List ℕ
   pub takes : free_old ≡ taken ++ free_new
   pub counted : length taken ≡ length (nodes_for (current_words old) root size from to)
@@ -70,7 +77,8 @@ pub record Roots (old new : Memory) (free_old free_new : List ℕ) (root size fr
   pub tree : IsBuilt (current_words new) top to (given_at from bytes 0) (Has taken) (from ≡ 0)
 
 -- A tree without blocks was prepared: such a root word was made and stored.
-pub record Makes (old new : Memory) (free_old free_new : List ℕ) (place root size from to : ℕ) (bytes : List ℕ) : Type 0 where
+pub record Makes (old new : Memory) (free_old free_new : List ℕ) (place root size from to : ℕ)
+    (bytes : List ℕ) : Type 0 where
   pub between : Memory
   pub top : ℕ
   pub made : Roots old between free_old free_new root size from to bytes top

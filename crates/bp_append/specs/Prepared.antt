@@ -23,8 +23,9 @@ use Rattle.bp_append.specs.Filled.{IsUsable}
 abbrev pub need_for : Image → ℕ → ℕ → ℕ → ℕ
 need_for image t from to = length (nodes_for image (root_of image t) (size_of image t) from to)
 
--- The image is well formed and reaches tree t, to whose root word the path leads. The bytes lie behind its size; the inode file and directories are
--- prepared from their size on. The numbers are those of blocks that are not live, as many as are needed, and the log has room.
+-- The image is well formed and reaches tree t, to whose root word the path leads. The bytes lie behind its size; the
+-- inode file and directories are prepared from their size on. The numbers are those of blocks that are not live, as
+-- many as are needed, and the log has room.
 pub record CanPrepare (memory : Memory) (free : List ℕ) (t : ℕ) (path : WordPath) (from to : ℕ) : Type 0 where
   pub well : IsWellFormed (current_words memory)
   pub reached : IsReached (current_words memory) t
@@ -38,8 +39,8 @@ pub record CanPrepare (memory : Memory) (free : List ℕ) (t : ℕ) (path : Word
   pub enough : need_for (current_words memory) t from to ≤ length free
   pub room : 512 * (need_for (current_words memory) t from to + suc max_height) + 4 ≤ room_in memory
 
--- Tree t is ready for the bytes up to the end: these are the given ones, in its old blocks and those taken. Nothing else has changed that an image
--- means, nor a live word of another tree but the root word of t.
+-- Tree t is ready for the bytes up to the end: these are the given ones, in its old blocks and those taken. Nothing
+-- else has changed that an image means, nor a live word of another tree but the root word of t.
 pub record Prepares (old new : Image) (t from to : ℕ) (bytes taken : List ℕ) : Type 0 where
   pub meaning : SameMeaning old new
   pub height : height_of (root_of new t) ≡ height_with (root_of old t) (size_of old t) to
@@ -47,31 +48,38 @@ pub record Prepares (old new : Image) (t from to : ℕ) (bytes taken : List ℕ)
   pub bytes_are : (o : ℕ) → size_of old t ≤ o → o < to → byte new (root_of new t) o ≡ given from bytes o
   pub sound : IsSound new (root_of new t) to
   pub full : IsReadByWords old t → IsFull new (root_of new t) to
-  pub blocks : (b : ℕ) → HasBlock new (root_of new t) to b → HasBlock old (root_of old t) (size_of old t) b ⊎ Has taken b
+  pub blocks : (b : ℕ) → HasBlock new (root_of new t) to b → HasBlock old (root_of old t) (size_of old t) b
+      ⊎ Has taken b
   pub has_old : (b : ℕ) → HasBlock old (root_of old t) (size_of old t) b → HasBlock new (root_of new t) to b
   pub has_taken : (b : ℕ) → Has taken b → HasBlock new (root_of new t) to b
   pub sizes : (u : ℕ) → IsReached old u → size_of new u ≡ size_of old u
   pub roots : (u : ℕ) → IsReached old u → u ≢ t → root_of new u ≡ root_of old u
-  pub apart : (u b : ℕ) → IsReached old u → u ≢ t → HasBlock new (root_of new u) (size_of new u) b → HasBlock new (root_of new t) to b → ⊥
-  pub others : (u d k : ℕ) → IsReached old u → u ≢ t → IsLiveWord (root_of old u) (size_of old u) (suc d) k → ((u ≡ 0) → (d ≡ height_of (root_of old 0)) → (k ≡ 8 * t + 1) → ⊥) →
+  pub apart : (u b : ℕ) → IsReached old u → u ≢ t → HasBlock new (root_of new u) (size_of new u) b
+      → HasBlock new (root_of new t) to b → ⊥
+  pub others : (u d k : ℕ) → IsReached old u → u ≢ t → IsLiveWord (root_of old u) (size_of old u) (suc d) k
+      → ((u ≡ 0) → (d ≡ height_of (root_of old 0)) → (k ≡ 8 * t + 1) → ⊥) →
       word_at new (root_of new u) (suc d) k ≡ word_at old (root_of old u) (suc d) k
 
--- The blocks are the first of the free ones, as many as are needed. Nobody sees the stores at any moment of a crash, each of these blocks gets one, and
--- no other block that was free does.
+-- The blocks are the first of the free ones, as many as are needed. Nobody sees the stores at any moment of a crash,
+-- each of these blocks gets one, and no other block that was free does.
 pub record PreparesWith (old new : Memory) (free_old free_new : List ℕ) (t from to : ℕ) (bytes : List ℕ) : Type 0 where
   pub taken : List ℕ
   pub takes : free_old ≡ taken ++ free_new
   pub counted : length taken ≡ need_for (current_words old) t from to
-  pub adds : AddsTaking taken 2 (prep_stores (size_of (current_words old) t) from to (need_for (current_words old) t from to)) old new
+  pub adds : AddsTaking taken 2 (prep_stores (size_of (current_words old) t) from to
+      (need_for (current_words old) t from to)) old new
   pub ready : Prepares (current_words old) (current_words new) t from to bytes taken
 
 -- ---- what is asked and had of the parts of a file system
 
 -- the path leads to the root word of such a tree
 abbrev pub IsPreparable : {R : Type 0} → (R → Memory) → Parts R → WordPath → ℕ → ℕ → Type 0
-IsPreparable memory parts path from to = (t : ℕ) × CanPrepare (memory parts.region) (members parts.blocks) t path from to
+IsPreparable memory parts path from to =
+    (t : ℕ) × CanPrepare (memory parts.region) (members parts.blocks) t path from to
 
 -- the tree to whose root word the path leads is prepared
 abbrev pub PreparesAt : {R : Type 0} → (R → Memory) → Parts R → Parts R → WordPath → ℕ → ℕ → List ℕ → Type 0
 PreparesAt memory old new path from to bytes =
-    (t : ℕ) → CanPrepare (memory old.region) (members old.blocks) t path from to → PreparesWith (memory old.region) (memory new.region) (members old.blocks) (members new.blocks) t from to bytes
+    (t : ℕ) → CanPrepare (memory old.region) (members old.blocks) t path from to
+    → PreparesWith (memory old.region) (memory new.region) (members old.blocks)
+    (members new.blocks) t from to bytes

@@ -20,7 +20,8 @@ idle from to level = if nat_lt from (min to (span level)) then 0 else 1
 -- how many such nodes there are above one level up to another
 abbrev pub idles : ℕ → ℕ → ℕ → ℕ → ℕ
 idles from to low zero = 0
-idles from to low (suc level) = idles from to low level + (if nat_lt low (suc level) then idle from to (suc level) else 0)
+idles from to low (suc level) =
+    idles from to low level + (if nat_lt low (suc level) then idle from to (suc level) else 0)
 
 -- all nodes at the left edge or with bytes that are wanted, in the tree of a height
 abbrev pub edge : ℕ → ℕ → ℕ → ℕ
@@ -38,14 +39,17 @@ pub record CanRise (memory : Memory) (free : List ℕ) (low height from to : ℕ
   pub few_to : to ≤ 2 * max_size
   pub usable : IsUsable (length memory.base / 512) free
   pub enough : edge from to height + idles from to low height ≤ length free + edge from to low
-  pub room : 512 * (edge from to height + idles from to low height) + (height - low) ≤ room_in memory + 512 * edge from to low
+  pub room : 512 * (edge from to height + idles from to low height) + (height - low)
+      ≤ room_in memory + 512 * edge from to low
 
 -- the bytes of a tree of a height, and behind them the given ones
 abbrev pub risen : Image → ℕ → ℕ → ℕ → List ℕ → ℕ → ℕ
 risen image root low from bytes i = if nat_lt i (span low) then byte image root i else given from bytes i
 
--- Over the tree of height `low` stand new nodes up to a height. Whatever links are done, the higher tree holds the lower one, and behind it the given bytes.
-pub record Rises (old new : Memory) (free_old free_new : List ℕ) (root top low height from to : ℕ) (bytes : List ℕ) : Type 0 where
+-- Over the tree of height `low` stand new nodes up to a height. Whatever links are done, the higher tree holds the
+-- lower one, and behind it the given bytes.
+pub record Rises (old new : Memory) (free_old free_new : List ℕ) (root top low height from to : ℕ)
+    (bytes : List ℕ) : Type 0 where
   pub taken : List ℕ
   pub takes : free_old ≡ taken ++ free_new
   pub counted : length taken + edge from to low ≡ edge from to height + idles from to low height
@@ -56,7 +60,10 @@ pub record Rises (old new : Memory) (free_old free_new : List ℕ) (root top low
   pub inside : (b : ℕ) → Has chain b → Has taken b
   pub apart : AreApart chain
   pub down : LeadDown (current_words new) root chain
-  pub tree : (links : List (ℕ × ℕ)) → AreOutside free_old links → IsSound (after_stores (current_words old) links) root (min to (span low)) →
+  pub tree : (links : List (ℕ × ℕ)) → AreOutside free_old links
+      → IsSound (after_stores (current_words old) links) root (min to (span low)) →
       ((b : ℕ) → Has free_old b → HasBlock (after_stores (current_words old) links) root (min to (span low)) b → ⊥) →
-      IsBuilt (after_stores (current_words new) links) top (min to (span height)) (risen (after_stores (current_words old) links) root low from bytes)
-      (λ b. HasBlock (after_stores (current_words old) links) root (min to (span low)) b ⊎ Has taken b) (IsFull (after_stores (current_words old) links) root (min to (span low)) × (from ≤ span low))
+      IsBuilt (after_stores (current_words new) links) top (min to (span height))
+      (risen (after_stores (current_words old) links) root low from bytes)
+      (λ b. HasBlock (after_stores (current_words old) links) root (min to (span low)) b ⊎ Has taken b)
+      (IsFull (after_stores (current_words old) links) root (min to (span low)) × (from ≤ span low))

@@ -8,8 +8,10 @@ use Rattle.pm_region.specs.Memory.{Memory, current_words, Adds}
 use Rattle.bp_tree.specs.Performs.{Performs}
 use Rattle.bp_append.specs.Prepared.{CanPrepare, PreparesWith}
 
--- A file grows to a size without bytes of its own: its tree is prepared, and then its size word, which stands at a place, is stored alone in its epoch.
-pub record GrowsFile (old middle new : Memory) (free_old free_new : List ℕ) (path : WordPath) (n size place : ℕ) : Type 0 where
+-- A file grows to a size without bytes of its own: its tree is prepared, and then its size word, which stands at a
+-- place, is stored alone in its epoch.
+pub record GrowsFile (old middle new : Memory) (free_old free_new : List ℕ) (path : WordPath)
+    (n size place : ℕ) : Type 0 where
   pub can : CanPrepare old free_old (suc n) path size size
   pub longer : size_of (current_words old) (suc n) < size
   pub is_file : kind_of (current_words old) (suc n) ≡ 1
@@ -21,4 +23,5 @@ pub record GrowsFile (old middle new : Memory) (free_old free_new : List ℕ) (p
 -- Such a call is performed: it takes what it needs, and its last store is at the word of the cover.
 abbrev pub GrownFilesArePerformed : Type 0
 GrownFilesArePerformed = (old middle new : Memory) (free_old free_new : List ℕ) (path : WordPath) (n size place : ℕ) →
-    GrowsFile old middle new free_old free_new path n size place → Performs old new (resizes (suc n) size) (λ image after. size_of after (suc n) ≡ size)
+    GrowsFile old middle new free_old free_new path n size place
+    → Performs old new (resizes (suc n) size) (λ image after. size_of after (suc n) ≡ size)

@@ -6,8 +6,8 @@ use Rattle.bp_limits.specs.Limits.{block_size, block_words, max_height}
 abbrev pub is_one_leaf : ℕ → ℕ → ℕ → Bool
 is_one_leaf size from to = size == from && nat_le to (from / block_size * block_size + block_size)
 
--- Into blocks that a tree of a height has: one on each level gets stores, to its words behind the size. Where the bytes lie in one leaf that is one
--- pointer above the leaves.
+-- Into blocks that a tree of a height has: one on each level gets stores, to its words behind the size. Where the
+-- bytes lie in one leaf that is one pointer above the leaves.
 abbrev pub stores_behind : ℕ → ℕ → ℕ → ℕ → ℕ
 stores_behind size from to height = if is_one_leaf size from to then block_words + height else block_words * suc height
 

@@ -24,7 +24,8 @@ links_in (Some link) = (link.place, link.pointer) ∷ []
 
 -- the old bytes of a tree that begins at an offset, below the size, and behind it the given ones
 abbrev pub extended : Image → ℕ → ℕ → ℕ → List ℕ → ℕ → ℕ → ℕ
-extended image root size from bytes start i = if nat_lt (start + i) size then byte image root i else given from bytes (start + i)
+extended image root size from bytes start i =
+    if nat_lt (start + i) size then byte image root i else given from bytes (start + i)
 
 -- a store behind the size of a tree, into a block of a part of it
 pub record IsBehindPart (image : Image) (root size part part_size place value : ℕ) : Type 0 where
@@ -42,12 +43,16 @@ pub record Hangs (old new : Image) (root size from to place pointer : ℕ) (byte
   pub bits : pointer % 4096 ≡ 0
   pub below : List ℕ
   pub inside : (b : ℕ) → Has below b → Has taken b
-  pub built : IsBuilt new (pointer + live.level) (min (to - index * span live.level) (span live.level)) (given_at from bytes (index * span live.level)) (Has below) (from ≤ index * span live.level)
+  pub built : IsBuilt new (pointer + live.level) (min (to - index * span live.level) (span live.level))
+      (given_at from bytes (index * span live.level)) (Has below) (from ≤ index * span live.level)
 
 -- No store must wait, or just one, which hangs such a tree into one of these blocks.
-pub data AreHung (old new : Image) (root size from to : ℕ) (bytes taken : List ℕ) (InPart : ℕ → Type 0) (links : List (ℕ × ℕ)) : Type 0 where
+pub data AreHung (old new : Image) (root size from to : ℕ) (bytes taken : List ℕ) (InPart : ℕ → Type 0)
+    (links : List (ℕ × ℕ)) : Type 0 where
   no_link : links ≡ [] → AreHung old new root size from to bytes taken InPart links
-  one_link : (place pointer : ℕ) → links ≡ (place, pointer) ∷ [] → Hangs old new root size from to place pointer bytes taken → InPart place → AreHung old new root size from to bytes taken InPart links
+  one_link : (place pointer : ℕ) → links ≡ (place, pointer) ∷ []
+      → Hangs old new root size from to place pointer bytes taken → InPart place
+      → AreHung old new root size from to bytes taken InPart links
 
 -- A block of the tree (root word, size) has the tree's last byte, and there are free blocks and room for what it lacks.
 pub record CanVisit (memory : Memory) (free : List ℕ) (root size level start block from to : ℕ) : Type 0 where
@@ -68,19 +73,28 @@ pub record CanVisit (memory : Memory) (free : List ℕ) (root size level start b
   pub sound : IsSound (current_words memory) (4096 * block + level) (size - start)
   pub outside : (b : ℕ) → Has free b → HasBlock (current_words memory) (4096 * block + level) (size - start) b → ⊥
   pub usable : IsUsable (length memory.base / 512) free
-  pub enough : tally (suc level) (max from start) (min to (start + span level)) ≤ length free + spine (current_words memory) root size from to (suc level)
-  pub room : 512 * tally (suc level) (max from start) (min to (start + span level)) + 512 * suc level ≤ room_in memory + 512 * spine (current_words memory) root size from to (suc level)
+  pub enough : tally (suc level) (max from start) (min to (start + span level))
+      ≤ length free + spine (current_words memory) root size from to (suc level)
+  pub room : 512 * tally (suc level) (max from start) (min to (start + span level)) + 512 * suc level
+      ≤ room_in memory + 512 * spine (current_words memory) root size from to (suc level)
 
--- The part of the tree under the block, with the links, has its old bytes and the given ones, in its old blocks and those taken.
-pub record Visits (old new : Memory) (free_old free_new : List ℕ) (root size level start block from to : ℕ) (bytes : List ℕ) (links : List (ℕ × ℕ)) : Type 0 where
+-- The part of the tree under the block, with the links, has its old bytes and the given ones, in its old blocks and
+-- those taken.
+pub record Visits (old new : Memory) (free_old free_new : List ℕ) (root size level start block from to : ℕ)
+    (bytes : List ℕ) (links : List (ℕ × ℕ)) : Type 0 where
   pub taken : List ℕ
   pub takes : free_old ≡ taken ++ free_new
-  pub counted : length taken + spine (current_words old) root size from to (suc level) ≡ tally (suc level) (max from start) (min to (start + span level))
-  pub stores : AddsInto taken (λ place value. InBlocks taken place ⊎ IsBehindPart (current_words old) root size (4096 * block + level) (size - start) place value)
+  pub counted : length taken + spine (current_words old) root size from to (suc level)
+      ≡ tally (suc level) (max from start) (min to (start + span level))
+  pub stores : AddsInto taken (λ place value. InBlocks taken place
+      ⊎ IsBehindPart (current_words old) root size (4096 * block + level) (size - start) place value)
       (512 * length taken + stores_behind size from to level) old new
-  pub hung : AreHung (current_words old) (current_words new) root size from to bytes taken (λ place. HasBlock (current_words old) (4096 * block + level) (size - start) (place / 512)) links
-  pub tree : IsBuilt (after_stores (current_words new) links) (4096 * block + level) (min (to - start) (span level)) (extended (current_words old) (4096 * block + level) size from bytes start)
-      (λ b. HasBlock (current_words old) (4096 * block + level) (size - start) b ⊎ Has taken b) (IsFull (current_words old) (4096 * block + level) (size - start) × (from ≡ size))
+  pub hung : AreHung (current_words old) (current_words new) root size from to bytes taken
+      (λ place. HasBlock (current_words old) (4096 * block + level) (size - start) (place / 512)) links
+  pub tree : IsBuilt (after_stores (current_words new) links) (4096 * block + level) (min (to - start) (span level))
+      (extended (current_words old) (4096 * block + level) size from bytes start)
+      (λ b. HasBlock (current_words old) (4096 * block + level) (size - start) b ⊎ Has taken b)
+      (IsFull (current_words old) (4096 * block + level) (size - start) × (from ≡ size))
 
 -- the last slot of a node that begins before the size
 pub record IsLast (size below start slot : ℕ) : Type 0 where
@@ -89,22 +103,34 @@ pub record IsLast (size below start slot : ℕ) : Type 0 where
   pub ends : size ≤ start + slot * span below + span below
 
 -- the same of the part in that slot of the block, whose children stand at this level
-pub record VisitsSlot (old new : Memory) (free_old free_new : List ℕ) (root size below start block slot from to : ℕ) (bytes : List ℕ) (links : List (ℕ × ℕ)) : Type 0 where
+pub record VisitsSlot (old new : Memory) (free_old free_new : List ℕ) (root size below start block slot from to : ℕ)
+    (bytes : List ℕ) (links : List (ℕ × ℕ)) : Type 0 where
   pub taken : List ℕ
   pub takes : free_old ≡ taken ++ free_new
-  pub counted : length taken + spine (current_words old) root size from to (suc below) ≡ tally (suc below) (max from (start + slot * span below)) (min to (start + slot * span below + span below))
-  pub stores : AddsInto taken (λ place value. InBlocks taken place ⊎ IsBehindPart (current_words old) root size (child (current_words old) block below slot) (size - (start + slot * span below)) place value)
+  pub counted : length taken + spine (current_words old) root size from to (suc below)
+      ≡ tally (suc below) (max from (start + slot * span below)) (min to (start + slot * span below + span below))
+  pub stores : AddsInto taken (λ place value. InBlocks taken place
+      ⊎ IsBehindPart (current_words old) root size (child (current_words old) block below slot)
+      (size - (start + slot * span below)) place value)
       (512 * length taken + stores_behind size from to below) old new
   pub hung : AreHung (current_words old) (current_words new) root size from to bytes taken
-      (λ place. HasBlock (current_words old) (child (current_words old) block below slot) (size - (start + slot * span below)) (place / 512) ⊎ (place ≡ 512 * block + slot)) links
+      (λ place. HasBlock (current_words old) (child (current_words old) block below slot)
+      (size - (start + slot * span below)) (place / 512) ⊎ (place ≡ 512 * block + slot)) links
   pub word : slot_word (after_stores (current_words new) links) block slot % 4096 ≡ 0
-  pub tree : IsBuilt (after_stores (current_words new) links) (child (after_stores (current_words new) links) block below slot) (min (to - (start + slot * span below)) (span below))
-      (extended (current_words old) (child (current_words old) block below slot) size from bytes (start + slot * span below))
-      (λ b. HasBlock (current_words old) (child (current_words old) block below slot) (size - (start + slot * span below)) b ⊎ Has taken b)
-      (IsFull (current_words old) (child (current_words old) block below slot) (size - (start + slot * span below)) × (from ≡ size))
+  pub tree : IsBuilt (after_stores (current_words new) links)
+      (child (after_stores (current_words new) links) block below slot)
+      (min (to - (start + slot * span below)) (span below))
+      (extended (current_words old) (child (current_words old) block below slot) size from bytes
+      (start + slot * span below))
+      (λ b. HasBlock (current_words old) (child (current_words old) block below slot)
+      (size - (start + slot * span below)) b ⊎ Has taken b)
+      (IsFull (current_words old) (child (current_words old) block below slot) (size - (start + slot * span below))
+      × (from ≡ size))
 
 -- A tree was made for the place of a null, and a store that puts it there is left, unless the tree is null too.
-pub record Hung (old new : Memory) (free_old free_new : List ℕ) (level start from to : ℕ) (bytes : List ℕ) (place : ℕ) (links : List (ℕ × ℕ)) : Type 0 where
+pub record Hung (old new : Memory) (free_old free_new : List ℕ) (level start from to : ℕ) (bytes : List ℕ) (place : ℕ)
+    (links : List (ℕ × ℕ)) : Type 0 where
   pub pointer : ℕ
-  pub built : Builds old new free_old free_new pointer level (min (to - start) (span level)) (given_at from bytes start) (from ≤ start) (tally (suc level) (max from start) (min to (start + span level)))
+  pub built : Builds old new free_old free_new pointer level (min (to - start) (span level)) (given_at from bytes start)
+      (from ≤ start) (tally (suc level) (max from start) (min to (start + span level)))
   pub which : ((pointer ≡ 0) × (links ≡ [])) ⊎ (links ≡ (place, pointer) ∷ [])

@@ -5,6 +5,7 @@ use Rattle.std.specs.List.{range_with_len, slice_index}
 use Rattle.pm_epochs.specs.Crash.{commit}
 use Rattle.pm_epochs.specs.Log.{IsPiece}
 use Rattle.pm_region.specs.Memory.{Memory, current_words, Adds}
+use Rattle.bp_layout.proofs.MemberLaws.{each-has, each-of}
 use Rattle.bp_limits.specs.Limits.{block_words}
 use Rattle.bp_free.specs.Set.{Set, has, members}
 use Rattle.bp_free.proofs.Members.{filter_none}
@@ -23,7 +24,7 @@ use Rattle.bp_shapes.proofs.FreeSets.{wf_forest}
 use Rattle.bp_shapes.proofs.PathTrails.{address-on, length-trail_of}
 use Rattle.bp_tree.specs.Performs.{IsOpen, AddsTaking, Performs, most_stores}
 use Rattle.bp_tree.specs.Performs.IsOpen.{in_live, at_root}
-use Rattle.bp_tree.proofs.PerformsLaws.{each-of, each-has, performs_committed, performs_twice}
+use Rattle.bp_tree.proofs.PerformsLaws.{performs_committed, performs_twice}
 use Rattle.bp_cow.specs.declared.touched.Touched.{Touched}
 use Rattle.bp_cow.specs.CanCommit.{CanCommit}
 use Rattle.bp_cow.specs.Commit.{CommitsTouched, commit_stores, cover_word}

@@ -94,12 +94,12 @@ pub record IsFarAs (there : WordPath → Bool) (here path : WordPath) (count : �
   pub exists : (d : ℕ) → d < count → there (here ++ take d path) ≡ true
   pub ends : count < length path → there (here ++ take count path) ≡ false
 
-pub record Exists (there : WordPath → Bool) (here path : WordPath) : Type 0 where
+pub record HasExistingFront (there : WordPath → Bool) (here path : WordPath) : Type 0 where
   pub count : ℕ
   pub far : IsFarAs there here path count
   pub is : existing_from there here path ≡ here ++ take count path
 
-pub existing : (there : WordPath → Bool) (here path : WordPath) → Exists there here path
+pub existing : (there : WordPath → Bool) (here path : WordPath) → HasExistingFront there here path
 existing there here [] = record {
   count = 0;
   far = record { low = omega arith; exists = λ d low. absurd (omega (arith, low)); ends = λ low. absurd (omega (arith, low)) };
@@ -110,7 +110,7 @@ existing there here (slot ∷ path) = go (there here) refl (existing there (here
     part : (d : ℕ) → (here ++ slot ∷ []) ++ take d path ≡ here ++ take (suc d) (slot ∷ path)
     part d = append_assoc here (slot ∷ []) (take d path)
 
-    go : (b : Bool) → there here ≡ b → Exists there (here ++ slot ∷ []) path → Exists there here (slot ∷ path)
+    go : (b : Bool) → there here ≡ b → HasExistingFront there (here ++ slot ∷ []) path → HasExistingFront there here (slot ∷ path)
     go true e rest = record {
       count = suc rest.count;
       far = record {

@@ -3,8 +3,9 @@ use Rattle.std.proofs.Common.{◌≡◌, ◌⊎◌, ℕ, zero, suc, ◌+◌, ◌
 use Rattle.std.specs.List.{range_with_len}
 use Rattle.std.proofs.lemmas.Bool.{cases_eq, cases_lt}
 use Rattle.std.proofs.lemmas.List.{length-take, length-map, take-take}
+use Rattle.bp_layout.proofs.MemberLaws.{apart-more, apart-within, has-behind, has-either, has-front}
 use Rattle.bp_layout.specs.Words.{Image}
-use Rattle.bp_layout.specs.Members.{Has}
+use Rattle.bp_layout.specs.Members.{AreApart, Has}
 use Rattle.bp_layout.specs.Need.{prefixes_of}
 use Rattle.bp_shapes.specs.Trail.{trail_of}
 use Rattle.bp_layout.specs.WordPaths.{digits}
@@ -22,7 +23,7 @@ use Rattle.bp_cow.proofs.JobLaws.{run-in, leaf-way, word-way, length-above, ways
 use Rattle.bp_cow.proofs.CommonPaths.{begins-self}
 use Rattle.bp_cow.proofs.Values.{run-trail}
 use Rattle.bp_cow.proofs.CommitEnd.{copied-some, copied-none}
-use Rattle.bp_cow.proofs.Distinct.{AreDistinct, has-front, has-behind, has-either, length-within, same-take, fronts_sound, fronts_distinct, fronts_complete}
+use Rattle.bp_cow.proofs.Distinct.{same-take, fronts_sound, fronts_distinct, fronts_complete}
 use Rattle.bp_cow.proofs.JobFronts.{fronts_upto, length-upto, upto-sound, upto-complete, distinct-upto}
 
 take-front : (p q : List ℕ) → take (length p) (p ++ q) ≡ p
@@ -211,7 +212,7 @@ module _ (touched : Touched) (shape : IsTouched touched) where
         (one.0, same-take path first.path n one.0 two.0 (one.1 ∙ sym two.1))
 
     some-copies : n ≤ length (job.way 0) → length (prefixes_of n [] (all_paths touched)) ≡ copies_at job n
-    some-copies short = omega (arith, length-within P F (fronts_distinct n [] (all_paths touched)) to, length-within F P distinct back, length-upto job n (ways job), copied-some job n short)
+    some-copies short = omega (arith, apart-within P F (fronts_distinct n [] (all_paths touched)) to, apart-within F P distinct back, length-upto job n (ways job), copied-some job n short)
       where
         P : List (List ℕ)
         P = prefixes_of n [] (all_paths touched)
@@ -263,17 +264,16 @@ module _ (touched : Touched) (shape : IsTouched touched) where
             let f = upto-sound job n (ways job) q more in
             subst (Has P) (sym f.same) (front-of f.depth f.which f.early (omega (arith, f.low)) f.high)
 
-        distinct : AreDistinct F
-        distinct = (
-          (λ has.
-              let f = upto-sound job n (ways job) (take n (job.way 0)) has in
-              omega (arith, short, f.low, f.high, length-take n (job.way 0), length-take f.depth (job.way f.which), ap (λ (p : List ℕ). length p) f.same)),
-          distinct-upto job n (ways job),
-        )
+        distinct : AreApart F
+        distinct = apart-more (take n (job.way 0)) (fronts_upto job n (ways job))
+            (λ has.
+            let f = upto-sound job n (ways job) (take n (job.way 0)) has in
+            omega (arith, short, f.low, f.high, length-take n (job.way 0), length-take f.depth (job.way f.which), ap (λ (p : List ℕ). length p) f.same))
+            (distinct-upto job n (ways job))
 
     -- the cover is the only touched word
     no-copies : length (job.way 0) < n → length (prefixes_of n [] (all_paths touched)) ≡ copies_at job n
-    no-copies past = omega (arith, length-within (prefixes_of n [] (all_paths touched)) [] (fronts_distinct n [] (all_paths touched)) none, copied-none job n past)
+    no-copies past = omega (arith, apart-within (prefixes_of n [] (all_paths touched)) [] (fronts_distinct n [] (all_paths touched)) none, copied-none job n past)
       where
         whole : n ≡ length first.path
         whole = omega (arith, past, (like_first first.path first.has).0, first.is.long)

@@ -1,10 +1,10 @@
 -- The way to the cover, slot by slot.
-use Rattle.std.proofs.Common.{◌≡◌, ◌≢◌, ◌⊎◌, ℕ, zero, suc, ◌+◌, ◌-◌, ◌*◌, ◌/◌, ◌<◌, ◌≤◌, List, ◌∷◌, length, Option, None, Some, refl, sym, ◌∙◌, ap, subst, arith, inl, inr}
+use Rattle.std.proofs.Common.{◌≡◌, ◌≢◌, ◌⊎◌, ℕ, zero, suc, ◌+◌, ◌-◌, ◌*◌, ◌/◌, ◌<◌, ◌≤◌, List, length, Option, None, Some, refl, sym, ◌∙◌, ap, subst, arith, inl, inr}
 use Rattle.std.specs.List.{slice_index}
 use Rattle.std.proofs.Math.ListN.{get_or-append}
 use Rattle.std.proofs.lemmas.Bool.{cases_eq, cases_lt}
 use Rattle.bp_layout.specs.Words.{Image, word, block_count}
-use Rattle.bp_shapes.specs.Trail.{Trail, word_on, block_on, place_on, trail_of, IsPlaced}
+use Rattle.bp_shapes.specs.Trail.{word_on, block_on, place_on, trail_of, IsPlaced}
 use Rattle.bp_shapes.specs.Trail.IsPlaced.{at_top, in_block}
 use Rattle.bp_layout.specs.WordPaths.{digits}
 use Rattle.bp_shapes.proofs.PathTrails.{trail_of-next, word-placed, slot-trail_of}

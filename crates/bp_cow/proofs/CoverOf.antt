@@ -17,7 +17,7 @@ use Rattle.bp_cow.specs.declared.touched.Touched.{Touched}
 use Rattle.bp_cow.specs.Cover.{end_path, end_path_of, ends, ends_of, BeginAlike, CoverHas, IsCover, commit_cover, copied_count}
 use Rattle.bp_cow.specs.Job.{copies_at}
 use Rattle.bp_cow.specs.Touched.{HasRun, IsTouched, NoneBegins, all_paths, run_end, word_paths, job_of}
-use Rattle.bp_cow.proofs.CommonPaths.{Begins, Exists, all-begin, all-most, existing}
+use Rattle.bp_cow.proofs.CommonPaths.{Begins, HasExistingFront, all-begin, all-most, existing}
 use Rattle.bp_cow.proofs.CopiesNeed.{alike-all, has-word, has-of-run, copied-need}
 use Rattle.bp_cow.proofs.CoverLaws.{some-ends}
 use Rattle.bp_cow.proofs.Distinct.{same-take}
@@ -129,7 +129,7 @@ module _ (touched : Touched) (shape : IsTouched touched) where
   -- ---- the cover
 
   module _ (image : Image) where
-    abbrev found : Exists (is_pointed image) [] shared
+    abbrev found : HasExistingFront (is_pointed image) [] shared
     found = existing (is_pointed image) [] shared
 
     length-found : length (take found.count shared) ≡ found.count

@@ -1,67 +1,15 @@
 -- Lists of paths without repeats: with the same members they are as long.
-use Rattle.std.proofs.Common.{◌≡◌, ◌≢◌, ◌⊎◌, ℕ, zero, suc, ◌+◌, ◌-◌, ◌<◌, ◌≤◌, List, [], ◌∷◌, ◌++◌, length, take, map, filter, Bool, true, false, not, refl, sym, ◌∙◌, ap, subst, arith, inl, inr}
+use Rattle.std.proofs.Common.{◌≡◌, ◌⊎◌, ℕ, zero, suc, ◌+◌, ◌-◌, ◌<◌, ◌≤◌, List, [], ◌∷◌, length, take, map, filter, Bool, true, false, not, refl, sym, ◌∙◌, ap, subst, arith, inl, inr}
 use Rattle.std.specs.List.{range_with_len, list_any}
 use Rattle.std.proofs.lemmas.Bool.{cases_eq, cases_lt}
 use Rattle.std.proofs.lemmas.List.{length-take, get_or-take, ext_get_or}
 use Rattle.std.proofs.lemmas.Slice.Eq.{bytes_eq-Decides}
-use Rattle.bp_layout.specs.Members.{Has}
+use Rattle.bp_layout.specs.Members.{Has, AreApart}
+use Rattle.bp_layout.proofs.MemberLaws.{apart-append, apart-filter, apart-more, filter-has, has-behind, has-either, has-filter, has-front}
 use Rattle.bp_layout.specs.Need.{is_prefix, prefixes_from, prefixes_of}
 use Rattle.bp_shapes.specs.Trail.{trail_of}
 use Rattle.bp_shapes.proofs.PathTrails.{slot-trail_of}
 use Rattle.bp_cow.specs.Touched.{NoneBegins}
-
-abbrev pub AreDistinct : {A : Type 0} → List A → Type 0
-AreDistinct [] = Unit {0}
-AreDistinct (x ∷ xs) = (Has xs x → ⊥) × AreDistinct xs
-
-pub has-front : {A : Type 0} (xs ys : List A) (q : A) → Has xs q → Has (xs ++ ys) q
-has-front [] ys q has = absurd has
-has-front (x ∷ xs) ys q (inl e) = inl e
-has-front (x ∷ xs) ys q (inr more) = inr (has-front xs ys q more)
-
-pub has-behind : {A : Type 0} (xs ys : List A) (q : A) → Has ys q → Has (xs ++ ys) q
-has-behind [] ys q has = has
-has-behind (x ∷ xs) ys q has = inr (has-behind xs ys q has)
-
-pub has-either : {A : Type 0} (xs ys : List A) (q : A) → Has (xs ++ ys) q → Has xs q ⊎ Has ys q
-has-either [] ys q has = inr has
-has-either (x ∷ xs) ys q (inl e) = inl (inl e)
-has-either (x ∷ xs) ys q (inr more) = go (has-either xs ys q more)
-  where
-    go : Has xs q ⊎ Has ys q → Has (x ∷ xs) q ⊎ Has ys q
-    go (inl one) = inl (inr one)
-    go (inr two) = inr two
-
-pub distinct-append : {A : Type 0} (xs ys : List A) → AreDistinct xs → AreDistinct ys → ((q : A) → Has xs q → Has ys q → ⊥) → AreDistinct (xs ++ ys)
-distinct-append [] ys one two apart = two
-distinct-append (x ∷ xs) ys one two apart = ((λ has. go (has-either xs ys x has)), distinct-append xs ys one.1 two (λ q a b. apart q (inr a) b))
-  where
-    go : Has xs x ⊎ Has ys x → ⊥
-    go (inl a) = one.0 a
-    go (inr b) = apart x (inl refl) b
-
-pick-other : {A : Type 0} (y : A) (ys : List A) (x q : A) → y ≡ x → (y ≡ q) ⊎ Has ys q → q ≢ x → Has ys q
-pick-other y ys x q e (inl f) other = absurd (other (sym f ∙ e))
-pick-other y ys x q e (inr more) other = more
-
-pick-rest : {A : Type 0} (y : A) (ys rest : List A) (q : A) → (y ≡ q) ⊎ Has ys q → (Has ys q → Has rest q) → (y ≡ q) ⊎ Has rest q
-pick-rest y ys rest q (inl f) to = inl f
-pick-rest y ys rest q (inr more) to = inr (to more)
-
--- a list without one of its members
-without-one : {A : Type 0} (ys : List A) (x : A) → Has ys x → (rest : List A) × (length ys ≡ suc (length rest)) × ((q : A) → Has ys q → q ≢ x → Has rest q)
-without-one [] x has = absurd has
-without-one (y ∷ ys) x (inl e) = (ys, refl, λ q has other. pick-other y ys x q e has other)
-without-one (y ∷ ys) x (inr has) =
-    let less = without-one ys x has in
-    (y ∷ less.0, ap suc less.1, λ q one other. pick-rest y ys less.0 q one (λ more. less.2 q more other))
-
-pub length-within : {A : Type 0} (xs ys : List A) → AreDistinct xs → ((q : A) → Has xs q → Has ys q) → length xs ≤ length ys
-length-within [] ys distinct all = omega arith
-length-within (x ∷ xs) ys distinct all =
-    let less = without-one ys x (all x (inl refl)) in
-    let few : length xs ≤ length less.0 = length-within xs less.0 distinct.1 (λ q has. less.2 q (all q (inr has)) (λ e. distinct.0 (subst (Has xs) e has))) in
-    omega (arith, few, less.1)
 
 -- ---- fronts
 
@@ -131,44 +79,12 @@ number start (suc count) k path low high = go (cases_eq start k) (λ less. numbe
     go (inl e) rest = inl (ap (λ n. take n path) e)
     go (inr n) rest = inr (rest (omega (arith, low, n)))
 
-distinct-numbers : (start count : ℕ) (path : List ℕ) → start + count ≤ length path → AreDistinct (map (λ n. take n path) (range_with_len start count))
+distinct-numbers : (start count : ℕ) (path : List ℕ) → start + count ≤ length path → AreApart (map (λ n. take n path) (range_with_len start count))
 distinct-numbers start zero path short = tt
-distinct-numbers start (suc count) path short = (
-  (λ has. let rest = numbered (start + 1) count 0 path (take start path) has in
-      absurd (omega (arith, rest.1, rest.2, short, length-take start path, length-take rest.0 path, ap (λ (p : List ℕ). length p) rest.3))),
-  distinct-numbers (start + 1) count path (omega (arith, short)),
-)
-
--- what a filter leaves
-filtered : (keep : List ℕ → Bool) (xs : List (List ℕ)) (q : List ℕ) → Has (filter keep xs) q → Has xs q × (keep q ≡ true)
-filtered keep [] q has = absurd has
-filtered keep (x ∷ xs) q has = go (keep x) refl has (λ more. filtered keep xs q more)
-  where
-    split : keep x ≡ true → (x ≡ q) ⊎ Has (filter keep xs) q → (Has (filter keep xs) q → Has xs q × (keep q ≡ true)) → Has (x ∷ xs) q × (keep q ≡ true)
-    split e (inl same) rest = (inl same, ap keep (sym same) ∙ e)
-    split e (inr more) rest = let r = rest more in (inr r.0, r.1)
-
-    go : (b : Bool) → keep x ≡ b → Has (filter keep (x ∷ xs)) q → (Has (filter keep xs) q → Has xs q × (keep q ≡ true)) → Has (x ∷ xs) q × (keep q ≡ true)
-    go true e has rest = split e (rw e at has) rest
-    go false e has rest = let r = rest (rw e at has) in (inr r.0, r.1)
-
-left_in : (keep : List ℕ → Bool) (xs : List (List ℕ)) (q : List ℕ) → Has xs q → keep q ≡ true → Has (filter keep xs) q
-left_in keep [] q has kept = absurd has
-left_in keep (x ∷ xs) q has kept = go (keep x) refl has (λ more. left_in keep xs q more kept)
-  where
-    go : (b : Bool) → keep x ≡ b → (x ≡ q) ⊎ Has xs q → (Has xs q → Has (filter keep xs) q) → Has (filter keep (x ∷ xs)) q
-    go true e (inl same) rest = rw e (inl same)
-    go true e (inr more) rest = rw e (inr (rest more))
-    go false e (inl same) rest = let yes_kept : keep x ≡ true = ap keep same ∙ kept in absurd (cc)
-    go false e (inr more) rest = rw e (rest more)
-
-distinct-filter : (keep : List ℕ → Bool) (xs : List (List ℕ)) → AreDistinct xs → AreDistinct (filter keep xs)
-distinct-filter keep [] distinct = tt
-distinct-filter keep (x ∷ xs) distinct = go (keep x) refl (distinct-filter keep xs distinct.1) (λ has. distinct.0 (filtered keep xs x has).0)
-  where
-    go : (b : Bool) → keep x ≡ b → AreDistinct (filter keep xs) → (Has (filter keep xs) x → ⊥) → AreDistinct (filter keep (x ∷ xs))
-    go true e rest none = rw e (none, rest)
-    go false e rest none = rw e rest
+distinct-numbers start (suc count) path short = apart-more (take start path) (map (λ n. take n path) (range_with_len (start + 1) count))
+    (λ has. let rest = numbered (start + 1) count 0 path (take start path) has in
+    absurd (omega (arith, rest.1, rest.2, short, length-take start path, length-take rest.0 path, ap (λ (p : List ℕ). length p) rest.3)))
+    (distinct-numbers (start + 1) count path (omega (arith, short)))
 
 not_true : (b : Bool) → not b ≡ true → b ≡ false
 not_true false e = refl
@@ -189,22 +105,22 @@ fronts_sound shortest earlier (path ∷ paths) q has =
     go : Has (filter (λ p. not (list_any (is_prefix p) earlier)) (prefixes_from shortest path)) q ⊎ Has (prefixes_of shortest (path ∷ earlier) paths) q →
         (Has (prefixes_of shortest (path ∷ earlier) paths) q → IsFrontOf shortest paths q × (list_any (is_prefix q) (path ∷ earlier) ≡ false)) → IsFrontOf shortest (path ∷ paths) q × (list_any (is_prefix q) earlier ≡ false)
     go (inl one) rest =
-        let kept = filtered (λ p. not (list_any (is_prefix p) earlier)) (prefixes_from shortest path) q one in
+        let kept = filter-has (λ p. not (list_any (is_prefix p) earlier)) (prefixes_from shortest path) q one in
         let at = numbered shortest (length path - shortest) 0 path q kept.0 in
         (record { path = path; has = inl refl; count = at.0; low = at.1; high = omega (arith, at.1, at.2); same = at.3 }, not_true (list_any (is_prefix q) earlier) kept.1)
     go (inr two) rest =
         let r = rest two in
         (record { path = r.0.path; has = inr r.0.has; count = r.0.count; low = r.0.low; high = r.0.high; same = r.0.same }, none_before q path earlier r.1)
 
-pub fronts_distinct : (shortest : ℕ) (earlier paths : List (List ℕ)) → AreDistinct (prefixes_of shortest earlier paths)
+pub fronts_distinct : (shortest : ℕ) (earlier paths : List (List ℕ)) → AreApart (prefixes_of shortest earlier paths)
 fronts_distinct shortest earlier [] = tt
 fronts_distinct shortest earlier (path ∷ paths) =
-    distinct-append (filter (λ p. not (list_any (is_prefix p) earlier)) (prefixes_from shortest path)) (prefixes_of shortest (path ∷ earlier) paths)
-    (distinct-filter (λ p. not (list_any (is_prefix p) earlier)) (prefixes_from shortest path) (numbers (cases_lt (length path) shortest)))
+    apart-append (filter (λ p. not (list_any (is_prefix p) earlier)) (prefixes_from shortest path)) (prefixes_of shortest (path ∷ earlier) paths)
+    (apart-filter (λ p. not (list_any (is_prefix p) earlier)) (prefixes_from shortest path) (numbers (cases_lt (length path) shortest)))
     (fronts_distinct shortest (path ∷ earlier) paths)
-    (λ q one two. apart q (filtered (λ p. not (list_any (is_prefix p) earlier)) (prefixes_from shortest path) q one).0 (fronts_sound shortest (path ∷ earlier) paths q two).1)
+    (λ q one two. apart q (filter-has (λ p. not (list_any (is_prefix p) earlier)) (prefixes_from shortest path) q one).0 (fronts_sound shortest (path ∷ earlier) paths q two).1)
   where
-    numbers : (length path < shortest) ⊎ (shortest ≤ length path) → AreDistinct (prefixes_from shortest path)
+    numbers : (length path < shortest) ⊎ (shortest ≤ length path) → AreApart (prefixes_from shortest path)
     numbers (inl past) = let none : length path - shortest ≡ 0 = omega (arith, past) in rw none tt
     numbers (inr low) = distinct-numbers shortest (length path - shortest) path (omega (arith, low))
 
@@ -225,7 +141,7 @@ fronts_complete shortest earlier (path ∷ paths) q apart front none = go front.
     here : (n : ℕ) → shortest ≤ n → n < length path → q ≡ take n path → Has (prefixes_of shortest earlier (path ∷ paths)) q
     here n low high same =
         has-front (filter (λ p. not (list_any (is_prefix p) earlier)) (prefixes_from shortest path)) (prefixes_of shortest (path ∷ earlier) paths) q
-        (left_in (λ p. not (list_any (is_prefix p) earlier)) (prefixes_from shortest path) q
+        (has-filter (λ p. not (list_any (is_prefix p) earlier)) (prefixes_from shortest path) q
         (subst (Has (prefixes_from shortest path)) (sym same) (number shortest (length path - shortest) n path low (omega (arith, low, high)))) kept)
 
     size : length q ≡ front.count

@@ -3,13 +3,14 @@ use Rattle.std.proofs.Common.{◌≡◌, ◌⊎◌, ℕ, zero, suc, ◌<◌, ◌
 use Rattle.std.specs.Prelude.{nat_le, if◌then◌else◌}
 use Rattle.std.proofs.lemmas.Bool.{cases_eq, leb-true, le-leb}
 use Rattle.std.proofs.lemmas.List.{length-take}
-use Rattle.bp_layout.specs.Members.{Has}
+use Rattle.bp_layout.proofs.MemberLaws.{apart-append, has-behind, has-either, has-front}
+use Rattle.bp_layout.specs.Members.{AreApart, Has}
 use Rattle.bp_shapes.specs.Trail.{Trail, trail_of}
 use Rattle.bp_shapes.proofs.PathTrails.{length-trail_of}
 use Rattle.bp_cow.specs.Job.{Job, front, begins, turns_at, turned_for, turned_upto}
 use Rattle.bp_cow.proofs.NeedLaws.{begun-begins, begins-begun}
 use Rattle.bp_cow.proofs.RunFronts.{trail_of-take}
-use Rattle.bp_cow.proofs.Distinct.{AreDistinct, has-front, has-behind, has-either, distinct-append, same-take}
+use Rattle.bp_cow.proofs.Distinct.{same-take}
 
 -- the front of a way with one slot more, where no earlier way begins with it
 new_front : Job → ℕ → ℕ → ℕ → List (List ℕ)
@@ -98,15 +99,15 @@ for-complete job from i (suc depth) n low high new = go (cases_eq n (suc depth))
         rw test (has-front (new_front job from i (suc depth)) (fronts_for job from i depth) (take n (job.way i)) (subst (λ k. Has (new_front job from i (suc depth)) (take k (job.way i))) (sym e) here))
     go (inr other) rest = has-behind (if nat_le from depth then new_front job from i (suc depth) else []) (fronts_for job from i depth) (take n (job.way i)) (rest (omega (arith, high, other)))
 
-distinct-new : (job : Job) (from i depth : ℕ) → AreDistinct (new_front job from i depth)
+distinct-new : (job : Job) (from i depth : ℕ) → AreApart (new_front job from i depth)
 unfolding new_front
 distinct-new job from i depth = go (begins job from i (front job i depth)) refl
   where
-    go : (x : Bool) → begins job from i (front job i depth) ≡ x → AreDistinct (if begins job from i (front job i depth) then [] else take depth (job.way i) ∷ [])
+    go : (x : Bool) → begins job from i (front job i depth) ≡ x → AreApart (if begins job from i (front job i depth) then [] else take depth (job.way i) ∷ [])
     go true e = rw e tt
-    go false e = rw e ((λ none. none), tt)
+    go false e = rw e (tt, tt)
 
-distinct-for : (job : Job) (from i depth : ℕ) → depth ≤ length (job.way i) → AreDistinct (fronts_for job from i depth)
+distinct-for : (job : Job) (from i depth : ℕ) → depth ≤ length (job.way i) → AreApart (fronts_for job from i depth)
 unfolding fronts_for
 distinct-for job from i zero short = tt
 distinct-for job from i (suc depth) short = go (nat_le from depth) refl (distinct-for job from i depth (omega (arith, short)))
@@ -117,9 +118,9 @@ distinct-for job from i (suc depth) short = go (nat_le from depth) refl (distinc
         let less = for-sound job from i depth q two in
         omega (arith, short, less.high, length-take (suc depth) (job.way i), length-take less.count (job.way i), ap (λ (p : List ℕ). length p) long, ap (λ (p : List ℕ). length p) less.same)
 
-    go : (x : Bool) → nat_le from depth ≡ x → AreDistinct (fronts_for job from i depth) → AreDistinct ((if nat_le from depth then new_front job from i (suc depth) else []) ++ fronts_for job from i depth)
+    go : (x : Bool) → nat_le from depth ≡ x → AreApart (fronts_for job from i depth) → AreApart ((if nat_le from depth then new_front job from i (suc depth) else []) ++ fronts_for job from i depth)
     go false e rest = rw e rest
-    go true e rest = rw e (distinct-append (new_front job from i (suc depth)) (fronts_for job from i depth) (distinct-new job from i (suc depth)) rest apart)
+    go true e rest = rw e (apart-append (new_front job from i (suc depth)) (fronts_for job from i depth) (distinct-new job from i (suc depth)) rest apart)
 
 -- ---- of the first ways
 
@@ -165,11 +166,11 @@ upto-complete job from (suc i) which n early low high = go (cases_eq which i) (�
         (here (begins job from i (front job i n)) refl (subst (λ w. n ≤ length (job.way w)) e high) rest)
     go (inr other) rest = behind which n (rest which n (omega (arith, early, other)) low high)
 
-pub distinct-upto : (job : Job) (from count : ℕ) → AreDistinct (fronts_upto job from count)
+pub distinct-upto : (job : Job) (from count : ℕ) → AreApart (fronts_upto job from count)
 unfolding fronts_upto
 distinct-upto job from zero = tt
 distinct-upto job from (suc i) =
-    distinct-append (fronts_for job from i (length (job.way i))) (fronts_upto job from i) (distinct-for job from i (length (job.way i)) (omega arith)) (distinct-upto job from i) apart
+    apart-append (fronts_for job from i (length (job.way i))) (fronts_upto job from i) (distinct-for job from i (length (job.way i)) (omega arith)) (distinct-upto job from i) apart
   where
     apart : (q : List ℕ) → Has (fronts_for job from i (length (job.way i))) q → Has (fronts_upto job from i) q → ⊥
     apart q one two =

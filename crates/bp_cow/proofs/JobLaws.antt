@@ -10,7 +10,7 @@ use Rattle.bp_layout.specs.WellFormed.{IsWellFormed}
 use Rattle.bp_shapes.specs.Trail.{Trail, word_on, block_on, place_on, trail_of, IsPlaced, IsSkeleton}
 use Rattle.bp_shapes.specs.Trail.IsPlaced.{at_top, in_block}
 use Rattle.bp_shapes.specs.Forest.{along, root_trail, tree_trail, IsForest, IsTreePointer}
-use Rattle.bp_shapes.proofs.ForestLaws.{pointers, skeleton, short, same_pointer, same_trail, IsShort}
+use Rattle.bp_shapes.proofs.ForestLaws.{pointers, skeleton, short, same_pointer, same_trail, HasFewDigits}
 use Rattle.bp_shapes.proofs.ExactSets.{unheld_exact}
 use Rattle.bp_shapes.proofs.FreeSets.{pointer_fronts}
 use Rattle.bp_shapes.proofs.PathTrails.{trail_of-next, front-trail_of}
@@ -72,7 +72,7 @@ module _ (old : Image) (bound : ℕ → ℕ) (forest : IsForest old bound) (run 
       cons last (ap (along (root_trail (height_of (word old 2)) t) run.height) up ∙ sym (leaf-trail j)) in
       let all : (one.tree ≡ t) × (one.depth ≡ suc run.height) × (one.index ≡ k) =
       same_trail old bound forest one.tree one.depth one.index t (suc run.height) k one.reached at.reached
-      (short old bound forest one.tree one.depth one.index one.reached one.live) (subst (IsShort run.height) (sym up) (short old bound forest t run.height n at.reached (leaf-live j low)))
+      (short old bound forest one.tree one.depth one.index one.reached one.live) (subst (HasFewDigits run.height) (sym up) (short old bound forest t run.height n at.reached (leaf-live j low)))
       (omega (arith, deep)) (omega (arith, at.height)) (λ _ f _. absurd (omega (arith, deep, f))) (λ z _. absurd (omega (arith, z))) (one.named ∙ sym trail) in
       let height : height_of (root_of old one.tree) ≡ height_of (root_of old t) = ap (λ (x : ℕ). height_of (root_of old x)) all.0 in
       omega (arith, deep, all.1, height, at.height)

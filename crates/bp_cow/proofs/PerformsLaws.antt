@@ -1,18 +1,18 @@
 -- A commit by copies takes the blocks that it needs, and stores to no others.
-use Rattle.std.proofs.Common.{◌≡◌, ◌≢◌, ℕ, zero, suc, ◌+◌, ◌/◌, ◌≤◌, List, [], ◌∷◌, length, filter, not, Bool, true, false, if◌then◌else◌, refl, sym, ◌∙◌, ap, arith, inl, inr}
+use Rattle.std.proofs.Common.{◌≡◌, ℕ, ◌+◌, ◌/◌, List, [], ◌∷◌, length, filter, not, Bool, true, false, if◌then◌else◌, refl, sym, ◌∙◌, ap, arith}
 use Rattle.std.specs.List.{range_with_len}
 use Rattle.pm_epochs.specs.Log.{StoresTo}
 use Rattle.pm_epochs.specs.May.{AnyAt}
 use Rattle.pm_epochs.proofs.MayLaws.{StoresMay-weaker}
 use Rattle.pm_region.specs.Memory.{Memory, current_words}
+use Rattle.bp_layout.proofs.MemberLaws.{apart-filter, apart-range, each-of, filter-has, has-filter, has-range}
 use Rattle.bp_free.specs.Set.{has}
 use Rattle.bp_layout.specs.Free.{numbers_below}
-use Rattle.bp_layout.specs.Members.{Has, AreApart}
+use Rattle.bp_layout.specs.Members.{Has}
 use Rattle.bp_layout.specs.Reached.{IsFreeBlock}
 use Rattle.bp_layout.specs.Words.{block_count}
 use Rattle.bp_tree.specs.Performs.{InBlock, IsOpen, TakesBlocks}
 use Rattle.bp_tree.specs.Performs.IsOpen.{in_taken}
-use Rattle.bp_tree.proofs.PerformsLaws.{each-of, has-range, has-filter}
 use Rattle.bp_cow.specs.Adds.{IsTakenWord, AddsCopyCommit}
 
 -- the numbers of one set that are not in another
@@ -28,30 +28,6 @@ of_gone : (s n : Bool) → (if s then not n else false) ≡ true → (s ≡ true
 of_gone true false is = (refl, refl)
 of_gone true true is = (refl, sym is)
 of_gone false n is = (is, let clash : true ≡ false = sym is in absurd (cc))
-
-pub filtered : (p : ℕ → Bool) (xs : List ℕ) (b : ℕ) → Has (filter p xs) b → p b ≡ true
-filtered p [] b has = elim has [ ]
-filtered p (x ∷ xs) b has = go (p x) refl has (λ later. filtered p xs b later)
-  where
-    go : (keep : Bool) → p x ≡ keep → Has (filter p (x ∷ xs)) b → (Has (filter p xs) b → p b ≡ true) → p b ≡ true
-    go true is found rest = elim (rw is at found) [ inl e ↦ ap p (sym e) ∙ is | inr later ↦ rest later ]
-    go false is found rest = rest (rw is at found)
-
-filter_above : (p : ℕ → Bool) (a n b : ℕ) → Has (filter p (range_with_len a n)) b → a ≤ b
-filter_above p a zero b has = elim has [ ]
-filter_above p a (suc n) b has = go (p a) refl has (λ later. filter_above p (a + 1) n b later)
-  where
-    go : (keep : Bool) → p a ≡ keep → Has (filter p (range_with_len a (suc n))) b → (Has (filter p (range_with_len (a + 1) n)) b → a + 1 ≤ b) → a ≤ b
-    go true is found rest = elim (rw is at found) [ inl e ↦ omega (arith, e) | inr later ↦ omega (arith, rest later) ]
-    go false is found rest = omega (arith, rest (rw is at found))
-
-pub filter_apart : (p : ℕ → Bool) (a n : ℕ) → AreApart (filter p (range_with_len a n))
-filter_apart p a zero = tt
-filter_apart p a (suc n) = go (p a) refl (filter_apart p (a + 1) n)
-  where
-    go : (keep : Bool) → p a ≡ keep → AreApart (filter p (range_with_len (a + 1) n)) → AreApart (filter p (range_with_len a (suc n)))
-    go true is rest = rw is (each-of (λ b. b ≢ a) (filter p (range_with_len (a + 1) n)) (λ b later e. let above : a + 1 ≤ b = filter_above p (a + 1) n b later in omega (arith, above, e)), rest)
-    go false is rest = rw is rest
 
 -- where the second set is part of the first, the first has as many numbers as both the second and the rest
 pub count_gone : (start now : ℕ → Bool) → ((b : ℕ) → now b ≡ true → start b ≡ true) → (xs : List ℕ) → length (filter start xs) ≡ length (filter now xs) + length (filter (gone start now) xs)
@@ -76,11 +52,11 @@ module _ (start now : ℕ → Bool) (word most : ℕ) (old new : Memory) (done :
       has-filter (gone start now) (range_with_len 0 (block_count (current_words old))) b (has-range 0 (block_count (current_words old)) b (omega arith) (omega (arith, is.high))) (gone_of (start b) (now b) was none)
 
   pub of_copy : (b : ℕ) → Has copies b → (start b ≡ true) × (now b ≡ false)
-  of_copy b has = of_gone (start b) (now b) (filtered (gone start now) (range_with_len 0 (block_count (current_words old))) b has)
+  of_copy b has = of_gone (start b) (now b) (filter-has (gone start now) (range_with_len 0 (block_count (current_words old))) b has).1
 
   pub copies_taken : TakesBlocks (current_words old) copies done.commit.prepared
   copies_taken = record {
-    once = filter_apart (gone start now) 0 (block_count (current_words old));
+    once = apart-filter (gone start now) (range_with_len 0 (block_count (current_words old))) (apart-range 0 (block_count (current_words old)));
     free = each-of (IsFreeBlock (current_words old)) copies (λ b has. free b (of_copy b has).0);
     stored = each-of (λ b. StoresTo (InBlock b) done.commit.prepared) copies (λ b has. done.each b (of_copy b has).0 (of_copy b has).1);
     only = StoresMay-weaker (AnyAt (IsTakenWord start now)) (AnyAt (IsOpen (current_words old) copies)) (λ place value inside. in_taken (has_copy (place / 512) (ap start inside.inside ∙ inside.was) (ap now inside.inside ∙ inside.gone))) done.commit.prepared done.only;

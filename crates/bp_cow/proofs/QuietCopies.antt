@@ -1,23 +1,21 @@
 -- The stores of copies are quiet: they go to blocks to which no pointer leads.
 use Rattle.std.proofs.Common.{◌≡◌, ◌⊎◌, ℕ, ◌+◌, ◌/◌, ◌≤◌, Bool, false, subst, arith, inl, inr, ap, ◌∙◌, true}
-use Rattle.pm_epochs.specs.Crash.{IsPartialEquivalence, IsQuiet, commit}
+use Rattle.pm_epochs.specs.Crash.{IsQuiet, commit}
 use Rattle.pm_epochs.specs.May.{AnyAt, EachMay}
 use Rattle.pm_epochs.proofs.MayLaws.{quiet_may}
 use Rattle.pm_epochs.proofs.PieceLaws.{IsPiece-append, IsPiece-commit, IsPiece-more}
 use Rattle.pm_region.specs.Memory.{Memory, current_words, Adds}
 use Rattle.pm_region.proofs.MemoryLaws.{adds_both}
+use Rattle.bp_tree.proofs.PerformsLaws.{same_equivalence}
 use Rattle.bp_layout.specs.Words.{Image, word}
 use Rattle.bp_layout.specs.Inode.{size_of}
 use Rattle.bp_layout.specs.Reached.{IsReached}
 use Rattle.bp_layout.specs.WellFormed.{IsWellFormed}
 use Rattle.bp_layout.specs.Same.{Same}
 use Rattle.bp_shapes.specs.Forest.{IsExactSet, IsForest, IsTreePointer, IsUnseen}
-use Rattle.bp_layout.proofs.SameLaws.{same_symmetric, same_transitive}
+use Rattle.bp_layout.proofs.SameLaws.{same_symmetric}
 use Rattle.bp_shapes.proofs.Unseen.{same_unseen}
 use Rattle.bp_cow.specs.Adds.{IsTakenWord, AddsCopies, AddsCopyCommit}
-
-equivalence : IsPartialEquivalence Same
-equivalence = record { symmetric = same_symmetric; transitive = same_transitive }
 
 module _ (old : Image) (bound : ℕ → ℕ) (start taken : ℕ → Bool) (wf : IsWellFormed old) (forest : IsForest old bound) (sizes : (t : ℕ) → IsReached old t → size_of old t ≤ bound t)
     (exact : IsExactSet old (IsTreePointer old bound) start) where
@@ -43,7 +41,7 @@ module _ (old : Image) (bound : ℕ → ℕ) (start taken : ℕ → Bool) (wf : 
     commit = record {
       prepared = copies.part.added;
       adds = adds_both first middle last copies.part.added (commit place value) copies.part.adds adds;
-      quiet = subst (λ ws. IsQuiet Same ws copies.part.added) is (quiet_may Same equivalence (AnyAt (IsTakenWord start taken)) old copies.part.added same copies.part.may);
+      quiet = subst (λ ws. IsQuiet Same ws copies.part.added) is (quiet_may Same same_equivalence (AnyAt (IsTakenWord start taken)) old copies.part.added same copies.part.may);
       piece = IsPiece-more (0 + 2) (most + 1) 2 all _ (omega arith) few (IsPiece-append 0 most 2 1 copies.part.added (commit place value) copies.part.piece (IsPiece-commit place value));
     };
     only = copies.part.may;

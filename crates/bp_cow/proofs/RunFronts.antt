@@ -9,7 +9,7 @@ use Rattle.std.proofs.lemmas.Bool.{cases_lt}
 use Rattle.bp_shapes.specs.Trail.{Trail, trail_of}
 use Rattle.bp_layout.specs.WordPaths.{digits}
 use Rattle.bp_shapes.specs.Forest.{along}
-use Rattle.bp_shapes.proofs.ForestLaws.{IsShort, same_along}
+use Rattle.bp_shapes.proofs.ForestLaws.{HasFewDigits, same_along}
 use Rattle.bp_tree.proofs.StepDown.{quotient}
 use Rattle.bp_cow.specs.declared.touched.Run.{Run}
 use Rattle.bp_cow.specs.Touched.{run_path, run_way}
@@ -43,22 +43,22 @@ front-digits root count k (suc e) low =
 
 -- ---- numbers of few digits
 
-pub short-power : (count k : ℕ) → k < 512 ^ count → IsShort count k
+pub short-power : (count k : ℕ) → k < 512 ^ count → HasFewDigits count k
 short-power zero k low = omega (arith, low)
 short-power (suc count) k low = short-power count (k / 512) (quotient_low (512 ^ count) (rw pow-suc at low))
   where
     quotient_low : (n : ℕ) → k < n * 512 → k / 512 < n
     quotient_low n low = omega (arith, low)
 
-pub short-over : (e c k : ℕ) → IsShort (e + c) k → IsShort e (k / 512 ^ c)
+pub short-over : (e c k : ℕ) → HasFewDigits (e + c) k → HasFewDigits e (k / 512 ^ c)
 short-over e zero k short =
     let none : e + 0 ≡ e = omega arith in
     let whole : k / 512 ^ 0 ≡ k = omega arith in
-    subst (IsShort e) (sym whole) (subst (λ n. IsShort n k) none short)
+    subst (HasFewDigits e) (sym whole) (subst (λ n. HasFewDigits n k) none short)
 short-over e (suc c) k short =
     let next : e + suc c ≡ suc (e + c) = omega arith in
-    let more : IsShort (e + c) (k / 512) = subst (λ n. IsShort n k) next short in
-    subst (IsShort e) (div-div-eq-div-mul k 512 (512 ^ c) ∙ ap (λ n. k / n) (mul_comm 512 (512 ^ c) ∙ sym (pow-suc 512 c))) (short-over e c (k / 512) more)
+    let more : HasFewDigits (e + c) (k / 512) = subst (λ n. HasFewDigits n k) next short in
+    subst (HasFewDigits e) (div-div-eq-div-mul k 512 (512 ^ c) ∙ ap (λ n. k / n) (mul_comm 512 (512 ^ c) ∙ sym (pow-suc 512 c))) (short-over e c (k / 512) more)
 
 -- words between two that begin alike begin alike with them
 pub between-run : (run : Run) (first k last d : ℕ) → first ≤ k → k ≤ last → last < 512 ^ suc run.height → d ≤ length run.root.items + suc run.height →
@@ -77,7 +77,7 @@ between-run run first k last d low high covered long same = go (cases_lt (length
         let c : ℕ = suc run.height - e in
         let sum : e + c ≡ suc run.height = omega (arith, few) in
         let of : (n : ℕ) → trail_of (run_path run n) d ≡ along (trail_of root (length root)) e (n / 512 ^ c) = λ n. ap (trail_of (run_path run n)) at ∙ front-digits root (suc run.height) n e few in
-        let short : (n : ℕ) → n ≤ last → IsShort e (n / 512 ^ c) = λ n small. short-over e c n (subst (λ m. IsShort m n) (sym sum) (short-power (suc run.height) n (lower n small covered))) in
+        let short : (n : ℕ) → n ≤ last → HasFewDigits e (n / 512 ^ c) = λ n small. short-over e c n (subst (λ m. HasFewDigits m n) (sym sum) (short-power (suc run.height) n (lower n small covered))) in
         let ends = same_along (trail_of root (length root)) (trail_of root (length root)) e (first / 512 ^ c) (last / 512 ^ c) (short first (le_trans low high)) (short last (omega arith)) (sym (of first) ∙ same ∙ of last) in
         of k ∙ ap (along (trail_of root (length root)) e) (squeeze (512 ^ c) (one-le-pow c 512 (omega arith)) ends.1) ∙ sym (of first)
       where

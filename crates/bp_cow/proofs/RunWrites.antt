@@ -14,7 +14,7 @@ use Rattle.bp_changes.specs.Effects.{ChangesFile}
 use Rattle.bp_changes.proofs.Committed.{commit_writes}
 use Rattle.bp_shapes.specs.Forest.{along, root_trail, tree_trail, IsTreePointer}
 use Rattle.bp_shapes.specs.Trail.{Trail, trail_of, word_on}
-use Rattle.bp_shapes.proofs.ForestLaws.{IsShort, same_along, same_trail, short, word-tree}
+use Rattle.bp_shapes.proofs.ForestLaws.{HasFewDigits, same_along, same_trail, short, word-tree}
 use Rattle.bp_tree.proofs.Digits.{length-digits}
 use Rattle.bp_cow.specs.declared.touched.Run.{Run}
 use Rattle.bp_cow.specs.declared.touched.Touched.{Touched}
@@ -73,7 +73,7 @@ module _ (old new : Image) (bound : ℕ → ℕ) (wf : IsWellFormed old) (touche
   leaf : (t k : ℕ) → 8 * k < bound t → IsLivePointer (root_of old t) (bound t) (height_of (root_of old t)) (k / 512)
   leaf t k low = live_above _ _ _ _ (live_content (root_of old t) (bound t) k low)
 
-  few_digits : (t k : ℕ) → IsReached old t → 8 * k < bound t → IsShort (suc (height_of (root_of old t))) k
+  few_digits : (t k : ℕ) → IsReached old t → 8 * k < bound t → HasFewDigits (suc (height_of (root_of old t))) k
   few_digits t k also low = short old bound can.forest t (height_of (root_of old t)) (k / 512) also (leaf t k low)
 
   size_low : 8 * (8 * suc n + 2) < bound 0

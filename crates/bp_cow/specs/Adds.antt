@@ -37,7 +37,8 @@ pub record MakesCopies (start : ℕ → Bool) (taken most : ℕ) (before after :
   pub size : length after ≡ length before
   pub base : length new.base ≡ length old.base
 
--- A quiet preparation and one store alone in its epoch, at this word. The stores before it go to blocks that have been taken since the start, to each of them one at least.
+-- A quiet preparation and one store alone in its epoch, at this word. The stores before it go to blocks that have
+-- been taken since the start, to each of them one at least.
 pub record AddsCopyCommit (start taken : ℕ → Bool) (word most : ℕ) (old new : Memory) : Type 0 where
   pub value : ℕ
   pub commit : AddsCommit Same word value 2 most old new

@@ -22,8 +22,9 @@ abbrev pub HasRunIn : Image → (ℕ → ℕ) → Option Run → Type 0
 HasRunIn old bound None = Unit {0}
 HasRunIn old bound (Some run) = IsRunIn old bound run
 
--- `bound`: of each tree the greater of its size and the size that it is given. Under these sizes the reached trees are sound, no block is in two, and the free blocks
--- are just those that none of them has. Each proper front of a touched path is a pointer, and no touched path is one.
+-- `bound`: of each tree the greater of its size and the size that it is given. Under these sizes the reached trees
+-- are sound, no block is in two, and the free blocks are just those that none of them has. Each proper front of a
+-- touched path is a pointer, and no touched path is one.
 pub record CanCommit (old : Image) (bound : ℕ → ℕ) (touched : Touched) (free : ℕ → Bool) : Type 0 where
   pub shape : IsTouched touched
   pub forest : IsForest old bound
@@ -34,6 +35,8 @@ pub record CanCommit (old : Image) (bound : ℕ → ℕ) (touched : Touched) (fr
   pub contents : (i : ℕ) → i < length touched.words.now → ¬ IsTreePointer old bound (touched_trail touched i)
   pub run : HasRunIn old bound touched.run
   -- the paths are different, and none is that of a word of the run
-  pub apart : (i k : ℕ) → i < length touched.words.now → k < length touched.words.now → touched_trail touched i ≡ touched_trail touched k → i ≡ k
-  pub beside : (run : Run) (i k : ℕ) → touched.run ≡ Some run → i < length touched.words.now → run.off / 8 ≤ k → k ≤ (run_end run - 1) / 8 →
+  pub apart : (i k : ℕ) → i < length touched.words.now → k < length touched.words.now
+      → touched_trail touched i ≡ touched_trail touched k → i ≡ k
+  pub beside : (run : Run) (i k : ℕ) → touched.run ≡ Some run → i < length touched.words.now → run.off / 8 ≤ k
+      → k ≤ (run_end run - 1) / 8 →
       touched_trail touched i ≢ end_trail (run_path run k)

@@ -18,7 +18,8 @@ use Rattle.bp_cow.specs.Job.{IsTurned}
 use Rattle.bp_cow.specs.Touched.{job_of}
 use Rattle.bp_cow.specs.declared.touched.Touched.{Touched}
 
--- the stores that a commit makes at most: those of the words of each copy and of the pointer to it, of the touched words, and the last one
+-- the stores that a commit makes at most: those of the words of each copy and of the pointer to it, of the touched
+-- words, and the last one
 abbrev pub commit_stores : Image → Touched → ℕ
 commit_stores image touched = (block_words + 1) * copied_count image touched + length touched.words.now + 1
 
@@ -35,19 +36,25 @@ cover_word image touched = address image (commit_cover image touched)
 
 -- what a commit makes of the words whose cover has so many slots
 abbrev pub IsCommittedBy : (ℕ → ℕ) → Touched → ℕ → Image → Image → Type 0
-IsCommittedBy bound touched cover old new = IsCommitted old new (IsTreePointer old bound) (IsTurned (job_of touched) cover) (after_commit old (job_of touched))
+IsCommittedBy bound touched cover old new =
+    IsCommitted old new (IsTreePointer old bound) (IsTurned (job_of touched) cover) (after_commit old (job_of touched))
 
--- By one store at the word of the cover, alone in its epoch after a quiet preparation, each touched word has its value. Before it there are stores to the blocks that are taken
--- for the copies, to each of them, and nowhere else. In the end just the blocks that no reached tree has are free, so those that were copied are.
-pub record CommitsTouched (bound : ℕ → ℕ) (touched : Touched) (old new : Memory) (blocks blocks_after : Set) : Type 0 where
+-- By one store at the word of the cover, alone in its epoch after a quiet preparation, each touched word has its
+-- value. Before it there are stores to the blocks that are taken for the copies, to each of them, and nowhere else.
+-- In the end just the blocks that no reached tree has are free, so those that were copied are.
+pub record CommitsTouched (bound : ℕ → ℕ) (touched : Touched) (old new : Memory)
+    (blocks blocks_after : Set) : Type 0 where
   pub value : ℕ
-  pub commit : AddsCommit Same (cover_word (current_words old) touched) value 2 (commit_stores (current_words old) touched) old new
+  pub commit : AddsCommit Same (cover_word (current_words old) touched) value 2
+      (commit_stores (current_words old) touched) old new
   pub taken : List ℕ
   pub takes : TakesBlocks (current_words old) taken commit.prepared
   pub number : length taken ≡ copied_count (current_words old) touched
   -- the blocks were in the set of free ones
   pub from : Each (λ b. has blocks b ≡ true) taken
   -- the pointers above the cover's word stay
-  pub stays : address (current_words new) (commit_cover (current_words old) touched) ≡ cover_word (current_words old) touched
-  pub words : IsCommittedBy bound touched (length (commit_cover (current_words old) touched)) (current_words old) (current_words new)
+  pub stays : address (current_words new) (commit_cover (current_words old) touched)
+      ≡ cover_word (current_words old) touched
+  pub words : IsCommittedBy bound touched (length (commit_cover (current_words old) touched)) (current_words old)
+      (current_words new)
   pub exact : AreUnheld (current_words new) (IsReached (current_words old)) bound (has blocks_after)

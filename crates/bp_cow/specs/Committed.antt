@@ -12,10 +12,12 @@ after_commit old job q = unwrap_or (value_upto job job.words q) (laid_on old job
 
 -- the same of content words, by tree and number
 abbrev pub changes_of : Image → Job → ℕ → ℕ → Option ℕ
-changes_of old job t k = Some (after_commit old job (tree_trail (height_of (word old 2)) t (suc (height_of (root_of old t))) k))
+changes_of old job t k =
+    Some (after_commit old job (tree_trail (height_of (word old 2)) t (suc (height_of (root_of old t))) k))
 
--- What a commit makes of the words. `Pointer`: the pointers of the image; `turned`: those that lead to copies, in blocks to which none led before; `after`: the value
--- of a word that is not such a pointer, in the block of a pointer. A word that is newly made under a null had the value 0.
+-- What a commit makes of the words. `Pointer`: the pointers of the image; `turned`: those that lead to copies, in
+-- blocks to which none led before; `after`: the value of a word that is not such a pointer, in the block of a
+-- pointer. A word that is newly made under a null had the value 0.
 pub record IsCommitted (old new : Image) (Pointer turned : Trail → Type 0) (after : Trail → ℕ) : Type 0 where
   pub whole : length new ≡ length old
   pub superblock : (place : ℕ) → place < 512 → place ≢ 2 → word new place ≡ word old place
@@ -23,6 +25,7 @@ pub record IsCommitted (old new : Image) (Pointer turned : Trail → Type 0) (af
   pub kept : (p : Trail) → Pointer p → (turned p → ⊥) → word_on new p ≡ word_on old p
   pub bits : (p : Trail) → Pointer p → word_on new p % 4096 ≡ word_on old p % 4096
   pub fresh : (p : Trail) → Pointer p → turned p → (block_on new p ≢ 0) × (LeadsTo old Pointer (block_on new p) → ⊥)
-  pub words : (p : Trail) (slot : ℕ) → Pointer p → slot < 512 → (turned (slot ∷ p) → ⊥) → word_on new (slot ∷ p) ≡ after (slot ∷ p)
+  pub words : (p : Trail) (slot : ℕ) → Pointer p → slot < 512 → (turned (slot ∷ p) → ⊥)
+      → word_on new (slot ∷ p) ≡ after (slot ∷ p)
   pub decide : (p : Trail) → turned p ⊎ (turned p → ⊥)
   pub pointers : (p : Trail) → turned p → Pointer p

@@ -8,7 +8,8 @@ use Rattle.bp_cow.specs.Touched.{run_path, run_end, path_of, word_paths, all_pat
 use Rattle.bp_cow.specs.declared.touched.Run.{Run}
 use Rattle.bp_cow.specs.declared.touched.Touched.{Touched}
 
--- The paths that tell with what all touched paths begin: those of the first and of the last word of the run, between which the other words of the run lie, and those of the words.
+-- The paths that tell with what all touched paths begin: those of the first and of the last word of the run, between
+-- which the other words of the run lie, and those of the words.
 abbrev pub end_path_of : Option Run → List WordPath → ℕ → WordPath
 end_path_of None paths i = path_of paths i
 end_path_of (Some run) paths zero = run_path run (run.off / 8)
@@ -32,9 +33,11 @@ pub record BeginAlike (touched : Touched) (count : ℕ) : Type 0 where
 
 -- the pointers on the way to the cover lead to blocks of the image
 abbrev pub LeadsInside : Image → Touched → Type 0
-LeadsInside image touched = (d : ℕ) → BeginAlike touched (d + 1) → block_on image (trail_of (end_path touched 0) d) < block_count image
+LeadsInside image touched =
+    (d : ℕ) → BeginAlike touched (d + 1) → block_on image (trail_of (end_path touched 0) d) < block_count image
 
--- So many slots are the longest front with which all touched paths begin and which exists: no pointer that a proper front of it names is null.
+-- So many slots are the longest front with which all touched paths begin and which exists: no pointer that a proper
+-- front of it names is null.
 pub record CoverHas (image : Image) (touched : Touched) (count : ℕ) : Type 0 where
   pub alike : BeginAlike touched count
   pub exists : (d : ℕ) → d < count → block_on image (trail_of (end_path touched 0) d) ≢ 0

@@ -4,8 +4,9 @@ use Rattle.bp_layout.specs.Words.{Image}
 use Rattle.bp_shapes.specs.Trail.{Trail, word_on, trail_of}
 use Rattle.bp_cow.specs.Copies.{Patch}
 
--- The ways to the touched words: the paths of the pointers to the blocks that hold them, first those to the leaves of the run, and then those to the words.
--- Of each leaf the bytes that are laid over, and of each word its slot and its value.
+-- The ways to the touched words: the paths of the pointers to the blocks that hold them, first those to the leaves of
+-- the run, and then those to the words. Of each leaf the bytes that are laid over, and of each word its slot and its
+-- value.
 pub record Job : Type 0 where
   pub way : ℕ → List ℕ
   pub leaves : ℕ
@@ -53,19 +54,22 @@ value_upto job (suc i) q = if bytes_eq q (word_trail job i) then Some (job.value
 abbrev pub laid_upto : Image → Job → ℕ → Trail → ℕ
 laid_upto old job zero q = word_on old q
 laid_upto old job (suc j) [] = word_on old []
-laid_upto old job (suc j) (slot ∷ p) = if bytes_eq p (end_of job j) then job.patch j slot (word_on old (slot ∷ p)) else laid_upto old job j (slot ∷ p)
+laid_upto old job (suc j) (slot ∷ p) =
+    if bytes_eq p (end_of job j) then job.patch j slot (word_on old (slot ∷ p)) else laid_upto old job j (slot ∷ p)
 
 abbrev pub laid_on : Image → Job → Trail → ℕ
 laid_on old job q = laid_upto old job job.leaves q
 
 -- what is laid over the block at a depth of a way
 abbrev pub patch_at : Job → ℕ → ℕ → Patch
-patch_at job i depth slot old = if nat_lt i job.leaves && (depth == length (job.way i)) then job.patch i slot old else old
+patch_at job i depth slot old =
+    if nat_lt i job.leaves && (depth == length (job.way i)) then job.patch i slot old else old
 
 -- whether one of the first ways begins with this trail
 abbrev pub begins : Job → ℕ → ℕ → Trail → Bool
 begins job from zero q = false
-begins job from (suc i) q = begins job from i q || (nat_le from (length q) && nat_le (length q) (length (job.way i)) && bytes_eq q (front job i (length q)))
+begins job from (suc i) q = begins job from i q || (nat_le from (length q) && nat_le (length q) (length (job.way i))
+    && bytes_eq q (front job i (length q)))
 
 -- one, where a pointer on a way is turned for it
 abbrev pub turns_at : Job → ℕ → ℕ → ℕ → ℕ
@@ -74,7 +78,8 @@ turns_at job from i depth = if begins job from i (front job i depth) then 0 else
 -- how many pointers below the cover are turned for a way, up to a depth
 abbrev pub turned_for : Job → ℕ → ℕ → ℕ → ℕ
 turned_for job from i zero = 0
-turned_for job from i (suc depth) = turned_for job from i depth + (if nat_le from depth then turns_at job from i (suc depth) else 0)
+turned_for job from i (suc depth) =
+    turned_for job from i depth + (if nat_le from depth then turns_at job from i (suc depth) else 0)
 
 -- and for the first ways: each pointer counts once, at the first way that it begins
 abbrev pub turned_upto : Job → ℕ → ℕ → ℕ
@@ -85,7 +90,8 @@ turned_upto job from (suc i) = turned_upto job from i + turned_for job from i (l
 abbrev pub copies : Job → ℕ → ℕ
 copies job from = suc (turned_upto job from (ways job))
 
--- the pointers that lead to copies: those with which a way begins, from the cover's on; none where the cover is the only touched word
+-- the pointers that lead to copies: those with which a way begins, from the cover's on; none where the cover is the
+-- only touched word
 pub record IsTurned (job : Job) (from : ℕ) (q : Trail) : Type 0 where
   pub copies : from ≤ length (job.way 0)
   pub anew : IsAnew job from (ways job) from q

@@ -28,7 +28,8 @@ pub record IsFeasible (old : Image) (bound : ℕ → ℕ) (job : Job) (from plac
   -- the words are no pointers, and the run has none
   pub word_slots : (i : ℕ) → i < job.words → job.slot i < 512
   pub contents : (i : ℕ) → i < job.words → IsTreePointer old bound (word_trail job i) → ⊥
-  pub plain : (j slot old_word : ℕ) → j < job.leaves → IsTreePointer old bound (slot ∷ end_of job j) → job.patch j slot old_word ≡ old_word
+  pub plain : (j slot old_word : ℕ) → j < job.leaves → IsTreePointer old bound (slot ∷ end_of job j)
+      → job.patch j slot old_word ≡ old_word
   -- the leaves of the run stand at one depth, each once
   pub long : (j : ℕ) → j < job.leaves → length (job.way j) ≡ length (job.way 0)
   pub apart : (j l : ℕ) → j < job.leaves → l < job.leaves → end_of job j ≡ end_of job l → j ≡ l
@@ -36,7 +37,8 @@ pub record IsFeasible (old : Image) (bound : ℕ → ℕ) (job : Job) (from plac
   pub placed : IsPlaced old (IsTreePointer old bound) (front job 0 from)
   pub at : place_on old (front job 0 from) ≡ place
 
--- the image before, the sizes under which its trees count, the free blocks before, what is to be done, the place of the cover, and the cover's copy
+-- the image before, the sizes under which its trees count, the free blocks before, what is to be done, the place of
+-- the cover, and the cover's copy
 pub record Plan : Type 0 where
   pub old : Image
   pub bound : ℕ → ℕ
@@ -59,7 +61,8 @@ seen plan now = slice_set now plan.place (pointing_to (word plan.old plan.place)
 abbrev pub IsMade : Plan → ℕ → ℕ → ℕ → Image → (ℕ → Bool) → Type 0
 IsMade plan from i depth now free =
     IsBuilding plan.old now plan.place (pointing_to (word plan.old plan.place) plan.top) (front plan.job 0 from)
-    (IsTreePointer plan.old plan.bound) (IsAnew plan.job from i depth) (value_upto plan.job (i - plan.job.leaves)) (laid_on plan.old plan.job) free
+    (IsTreePointer plan.old plan.bound) (IsAnew plan.job from i depth) (value_upto plan.job (i - plan.job.leaves))
+    (laid_on plan.old plan.job) free
 
 abbrev pub CanMake : Plan → ℕ → Type 0
 CanMake plan from = IsFeasible plan.old plan.bound plan.job from plan.place plan.free
@@ -70,7 +73,8 @@ reached plan i depth now = block_on (seen plan now) (front plan.job i depth)
 
 -- the same, by the words of a memory and the free blocks
 abbrev pub MadeIn : Plan → Touched → ℕ → ℕ → ℕ → Memory → Set → Type 0
-MadeIn plan touched from i depth memory blocks = IsMade (planned plan touched) from i depth (current_words memory) (has blocks)
+MadeIn plan touched from i depth memory blocks =
+    IsMade (planned plan touched) from i depth (current_words memory) (has blocks)
 
 abbrev pub reached_in : Plan → Touched → ℕ → ℕ → Memory → ℕ
 reached_in plan touched i depth memory = reached (planned plan touched) i depth (current_words memory)
@@ -100,7 +104,8 @@ pub record IsOnWay (plan : Plan) (from i depth : ℕ) : Type 0 where
   pub low : from ≤ depth
   pub high : depth ≤ length (plan.job.way i)
 
--- The next way can be gone from the cover's copy `top` down: those before it are done, and there is a block for each pointer that is turned for it.
+-- The next way can be gone from the cover's copy `top` down: those before it are done, and there is a block for each
+-- pointer that is turned for it.
 pub record CanGo (plan : Plan) (touched : Touched) (from i top : ℕ) (blocks : Set) (memory : Memory) : Type 0 where
   pub way : IsOnWay (planned plan touched) from i from
   pub copy : top ≡ plan.top

@@ -11,17 +11,20 @@ use Rattle.bp_cow.specs.Plan.{Plan, CanMake, IsOnWay}
 pub record IsReturned (old : Image) (Pointer anew : Trail → Type 0) (before after : ℕ → Bool) : Type 0 where
   pub given : (p : Trail) → Pointer p → anew p → block_on old p ≢ 0 → after (block_on old p) ≡ true
   pub still : (b : ℕ) → before b ≡ true → after b ≡ true
-  pub from : (b : ℕ) → after b ≡ true → (before b ≡ true) ⊎ ((p : Trail) × Pointer p × anew p × (block_on old p ≡ b) × (b ≢ 0))
+  pub from : (b : ℕ) → after b ≡ true → (before b ≡ true) ⊎ ((p : Trail) × Pointer p × anew p × (block_on old p ≡ b)
+      × (b ≢ 0))
 
 -- the words as a commit leaves them: the old blocks from the cover down are as they were, and none of them is free
 pub record IsLeft (plan : Plan) (from : ℕ) (before : ℕ → Bool) (now : Image) : Type 0 where
   pub can : CanMake plan from
   pub whole : length now ≡ length plan.old
-  pub intact : (p : Trail) (slot : ℕ) → IsTreePointer plan.old plan.bound p → from ≤ length p → slot < 512 → slot_word now (block_on plan.old p) slot ≡ slot_word plan.old (block_on plan.old p) slot
+  pub intact : (p : Trail) (slot : ℕ) → IsTreePointer plan.old plan.bound p → from ≤ length p → slot < 512
+      → slot_word now (block_on plan.old p) slot ≡ slot_word plan.old (block_on plan.old p) slot
   pub used : (b : ℕ) → LeadsTo plan.old (IsTreePointer plan.old plan.bound) b → before b ≡ false
 
 abbrev pub IsBack : Plan → ℕ → ℕ → ℕ → (ℕ → Bool) → (ℕ → Bool) → Type 0
-IsBack plan from i depth before after = IsReturned plan.old (IsTreePointer plan.old plan.bound) (IsAnew plan.job from i depth) before after
+IsBack plan from i depth before after =
+    IsReturned plan.old (IsTreePointer plan.old plan.bound) (IsAnew plan.job from i depth) before after
 
 -- the old blocks on a way can be given back from a depth on, behind those that have been
 pub record CanGive (plan : Plan) (from i depth : ℕ) (blocks : Set) (now : Image) : Type 0 where

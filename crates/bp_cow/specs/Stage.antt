@@ -3,26 +3,32 @@ use Rattle.std.specs.Prelude.{◌≡◌, ◌≢◌, ◌⊎◌, ℕ, ◌%◌, ◌
 use Rattle.bp_layout.specs.Words.{Image, word, block_count}
 use Rattle.bp_shapes.specs.Trail.{Trail, word_on, block_on, place_on, IsSkeleton, IsPlaced, LeadsTo}
 
--- `anew`: the pointers that lead to a block taken by this commit; `value`: the words that were given anew; `laid`: a word of a copied block before that
-pub record IsStage (old now : Image) (Pointer anew : Trail → Type 0) (value : Trail → Option ℕ) (laid : Trail → ℕ) (free : ℕ → Bool) : Type 0 where
+-- `anew`: the pointers that lead to a block taken by this commit; `value`: the words that were given anew; `laid`: a
+-- word of a copied block before that
+pub record IsStage (old now : Image) (Pointer anew : Trail → Type 0) (value : Trail → Option ℕ) (laid : Trail → ℕ)
+    (free : ℕ → Bool) : Type 0 where
   pub whole : length now ≡ length old
   pub skeleton : IsSkeleton now Pointer
   pub superblock : (place : ℕ) → place < 512 → place ≢ 2 → word now place ≡ word old place
   -- a pointer that was not turned
   pub kept : (p : Trail) → Pointer p → (anew p → ⊥) → word_on now p ≡ word_on old p
   -- the other words of a copied block, and of one that was not copied
-  pub words : (p : Trail) (slot : ℕ) → Pointer p → anew p → slot < 512 → (anew (slot ∷ p) → ⊥) → word_on now (slot ∷ p) ≡ unwrap_or (value (slot ∷ p)) (laid (slot ∷ p))
-  pub still : (p : Trail) (slot : ℕ) → Pointer p → (anew p → ⊥) → slot < 512 → (anew (slot ∷ p) → ⊥) → word_on now (slot ∷ p) ≡ word_on old (slot ∷ p)
+  pub words : (p : Trail) (slot : ℕ) → Pointer p → anew p → slot < 512 → (anew (slot ∷ p) → ⊥)
+      → word_on now (slot ∷ p) ≡ unwrap_or (value (slot ∷ p)) (laid (slot ∷ p))
+  pub still : (p : Trail) (slot : ℕ) → Pointer p → (anew p → ⊥) → slot < 512 → (anew (slot ∷ p) → ⊥)
+      → word_on now (slot ∷ p) ≡ word_on old (slot ∷ p)
   pub bits : (p : Trail) → Pointer p → word_on now p % 4096 ≡ word_on old p % 4096
   pub fresh : (p : Trail) → Pointer p → anew p → (block_on now p ≢ 0) × (LeadsTo old Pointer (block_on now p) → ⊥)
   pub unvalued : (p : Trail) → Pointer p → value p ≡ None
   pub early : (p : Trail) (slot : ℕ) → Pointer p → (anew p → ⊥) → value (slot ∷ p) ≡ None
   pub taken : (b : ℕ) → LeadsTo old Pointer b ⊎ LeadsTo now Pointer b → free b ≡ false
-  pub known : (b : ℕ) → 1 ≤ b → b < block_count old → free b ≡ false → (LeadsTo old Pointer b → ⊥) → LeadsTo now Pointer b
+  pub known : (b : ℕ) → 1 ≤ b → b < block_count old → free b ≡ false → (LeadsTo old Pointer b → ⊥)
+      → LeadsTo now Pointer b
   pub in_range : (b : ℕ) → free b ≡ true → (1 ≤ b) × (b < block_count old)
 
 -- The words while copies are made. The last store, of a pointer at the cover's place, is still to come.
-pub record IsBuilding (old words : Image) (place pointer : ℕ) (cover : Trail) (Pointer anew : Trail → Type 0) (value : Trail → Option ℕ) (laid : Trail → ℕ) (free : ℕ → Bool) : Type 0 where
+pub record IsBuilding (old words : Image) (place pointer : ℕ) (cover : Trail) (Pointer anew : Trail → Type 0)
+    (value : Trail → Option ℕ) (laid : Trail → ℕ) (free : ℕ → Bool) : Type 0 where
   pub some : 0 < block_count old
   pub stage : IsStage old (slice_set words place pointer) Pointer anew value laid free
   pub placed : IsPlaced (slice_set words place pointer) Pointer cover

@@ -13,7 +13,8 @@ use Rattle.bp_cow.specs.Stage.{IsStage}
 use Rattle.bp_cow.specs.Touched.{job_of}
 use Rattle.bp_cow.specs.declared.touched.Touched.{Touched}
 
--- the copies of the plan can be made and committed: `place` is that of the cover's word, and there are blocks and room in the log
+-- the copies of the plan can be made and committed: `place` is that of the cover's word, and there are blocks and
+-- room in the log
 pub record CanTurn (plan : Plan) (touched : Touched) (from place : ℕ) (blocks : Set) (memory : Memory) : Type 0 where
   pub can : CanMake (planned plan touched) from
   pub old : plan.old ≡ current_words memory
@@ -25,9 +26,12 @@ pub record CanTurn (plan : Plan) (touched : Touched) (from place : ℕ) (blocks 
   pub room : 513 * copies (job_of touched) from + (job_of touched).words + 3 ≤ room_in memory
 
 -- all is as the plan says, and `taken` are the blocks that are free then, those that were copied not among them
-pub record IsTurnedOver (plan : Plan) (touched : Touched) (from place : ℕ) (blocks taken : Set) (old new : Memory) : Type 0 where
+pub record IsTurnedOver (plan : Plan) (touched : Touched) (from place : ℕ) (blocks taken : Set)
+    (old new : Memory) : Type 0 where
   pub count : length (members blocks) ≡ length (members taken) + copies (job_of touched) from
   pub size : length taken ≡ length blocks
-  pub commit : AddsCopyCommit (has blocks) (has taken) place (513 * copies (job_of touched) from + (job_of touched).words) old new
-  pub stage : IsStage plan.old (current_words new) (IsTreePointer plan.old plan.bound) (IsAnew (job_of touched) from (ways (job_of touched)) from)
+  pub commit : AddsCopyCommit (has blocks) (has taken) place (513 * copies (job_of touched) from
+      + (job_of touched).words) old new
+  pub stage : IsStage plan.old (current_words new) (IsTreePointer plan.old plan.bound)
+      (IsAnew (job_of touched) from (ways (job_of touched)) from)
       (value_upto (job_of touched) (job_of touched).words) (laid_on plan.old (job_of touched)) (has taken)

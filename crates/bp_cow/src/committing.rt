@@ -44,7 +44,7 @@ fn turn_over<R: Region>(
 {
     let pointer = region.load(place);
     let top = make(region, blocks, touched, from, place);
-    let turned = top as u64 * BLOCK_SIZE + pointer % BLOCK_SIZE;
+    let turned = bp_layout::pointer_word(top as u64) + pointer % BLOCK_SIZE;
     commit_word(region, place, turned);
 }
 
@@ -68,7 +68,7 @@ fn commit_copies<R: Region>(
 {
     let _words = region.words();
     let pointer = region.load(place);
-    let top = (pointer >> 12) as u32;
+    let top = pm_words::block_of(pointer) as u32;
     turn_over(region, blocks, touched, from, place);
     give_back(region, blocks, touched, from, top);
 }

@@ -9,6 +9,7 @@ ghost use Rattle.bp_cow.specs.Touched.{IsTouched};
 ghost use Rattle.bp_cow.specs.Found.{IsAt, IsCoverIn};
 
 use crate::touched::Touched;
+use bp_limits::{BLOCK_WORDS, SUPER_ROOT};
 use bp_tree::Slots;
 use pm_region::Region;
 
@@ -95,7 +96,7 @@ fn below<R: Region>(region: &R, touched: &Touched<'_>, found: FoundCover) -> u64
         result ≡ block_on (current_words (R.memory region.now)) (trail_of (end_path touched.now 0) found.len) }
 {
     if touched.goes_on(found.len) {
-        region.load(found.place) >> 12
+        pm_words::block_of(region.load(found.place))
     } else {
         0
     }
@@ -110,13 +111,16 @@ pub fn find_cover<R: Region>(region: &R, touched: &Touched<'_>) -> FoundCover
     ensures { IsCoverIn (current_words (R.memory region.now)) touched.now result }
 {
     let _words = region.words();
-    let mut found = FoundCover { len: 0, place: 2 };
+    let mut found = FoundCover {
+        len: 0,
+        place: SUPER_ROOT,
+    };
     let mut block = below(region, touched, found);
     while block != 0 {
         let slot = touched.end_slot(0, found.len);
         found = FoundCover {
             len: found.len + 1,
-            place: (512 * block) as u32 + slot,
+            place: BLOCK_WORDS * block as u32 + slot,
         };
         block = below(region, touched, found);
     }

@@ -38,7 +38,7 @@ fn give_step<R: Region>(
 {
     let _words = region.words();
     let pointer = load_slot(region, block as u64, touched.slot(i, depth) as u64);
-    let next = (pointer >> 12) as u32;
+    let next = pm_words::block_of(pointer) as u32;
     if next != 0 && is_new(touched, i, from, depth + 1) {
         give(blocks, next);
     }

@@ -4,29 +4,13 @@ ghost use Rattle.std.specs.Prelude.{◌≡◌, ℕ, ◌+◌, ◌*◌, ◌<◌, �
 ghost use Rattle.bp_limits.specs.Limits.{block_words};
 ghost use Rattle.pm_region.specs.Memory.{current_words};
 ghost use Rattle.bp_cow.specs.Cover.{LeadsInside, copied_count};
-ghost use Rattle.bp_cow.specs.Job.{ways, turns_at, turned_for, copies_at};
+ghost use Rattle.bp_cow.specs.Job.{ways, turned_for, copies_at};
 ghost use Rattle.bp_cow.specs.Touched.{IsTouched, NoneBegins, all_paths, job_of};
 
 use crate::covering::{FoundCover, find_cover};
 use crate::touched::Touched;
 use crate::ways::is_new;
 use pm_region::Region;
-
-/// One, where the block at a depth of a way is copied for it and for no earlier one.
-fn turns(touched: &Touched<'_>, i: usize, from: usize, depth: usize) -> u32
-    requires touched { IsTouched touched.now }
-    requires i { i < ways (job_of touched.now) }
-    requires from { from ≤ depth }
-    requires depth { depth ≤ length ((job_of touched.now).way i) }
-    ensures result { result ≡ turns_at (job_of touched.now) from i depth }
-    ensures few { result ≤ 1 }
-{
-    if is_new(touched, i, from, depth) {
-        1
-    } else {
-        0
-    }
-}
 
 /// How many blocks on a way are copied for it and for no earlier one, below a number of slots.
 fn turned_for(touched: &Touched<'_>, i: usize, from: usize) -> u32
@@ -41,7 +25,9 @@ fn turned_for(touched: &Touched<'_>, i: usize, from: usize) -> u32
     }
     let mut count = 0;
     for depth in from..end {
-        count += turns(touched, i, from, depth + 1);
+        if is_new(touched, i, from, depth + 1) {
+            count += 1;
+        }
     }
     count
 }

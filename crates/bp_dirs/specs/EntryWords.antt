@@ -14,7 +14,8 @@ pub record HasWords (image : Image) (root slot : ℕ) (words : List ℕ) : Type 
 -- all words of so many entries in a row, the first of them in this slot
 pub record IsRow (image : Image) (root first count : ℕ) (words : List ℕ) : Type 0 where
   pub long : length words ≡ 32 * count
-  pub each : (index field : ℕ) → index < count → field < 32 → slice_index words (32 * index + field) ≡ word_in image root (first + index) field
+  pub each : (index field : ℕ) → index < count → field < 32 → slice_index words (32 * index + field)
+      ≡ word_in image root (first + index) field
 
 -- slots in a row, from the first of a leaf on, and the block with their entries
 pub record IsLeaf (image : Image) (leaf : Leaf) : Type 0 where

@@ -13,7 +13,8 @@ pub record HasInodeAt (image : Image) (place kind : ℕ) : Type 0 where
   pub root : word image (place + 1) ≡ 0
   pub size : word image (place + 2) ≡ 0
 
--- Stores to the kind, the root word and the size of inode i alone, three at most, after which it is of this kind and has no bytes.
+-- Stores to the kind, the root word and the size of inode i alone, three at most, after which it is of this kind and
+-- has no bytes.
 pub record FillsInode (old new : Memory) (i kind : ℕ) : Type 0 where
   pub place : ℕ
   pub stands : ContentStandsAt (current_words old) 0 (8 * i) place

@@ -5,7 +5,7 @@ use Rattle.std.proofs.lemmas.List.Folds.{list_all-append}
 use Rattle.std.proofs.lemmas.List.{get_or-drop, length-drop}
 use Rattle.std.proofs.Math.Bool.{and-true}
 use Rattle.bp_layout.specs.PathText.{is_name, parts}
-use Rattle.bp_layout.proofs.Parts.{cut_at, first_part, only_part, parts-append, parts-one}
+use Rattle.bp_layout.proofs.Parts.{split_at, first_part, only_part, parts-append, parts-one}
 use Rattle.bp_path.specs.Names.{path_parts}
 
 pub and_parts : (a b : Bool) → (a && b) ≡ true → (a ≡ true) × (b ≡ true)
@@ -42,7 +42,7 @@ names_last (b ∷ text) (suc end) within last slash some all =
     let here : suc end - 1 ≡ end = omega arith in
     let at : slice_index (b ∷ text) end ≡ 47 = ap (slice_index (b ∷ text)) (sym here) ∙ slash (omega arith) in
     let split : parts (b ∷ text) ≡ parts (take end (b ∷ text)) ++ parts (drop (end + 1) (b ∷ text)) =
-    ap parts (cut_at (b ∷ text) end (omega (arith, within)) at) ∙ parts-append (take end (b ∷ text)) (drop (end + 1) (b ∷ text)) in
+    ap parts (split_at (b ∷ text) end (omega (arith, within)) at) ∙ parts-append (take end (b ∷ text)) (drop (end + 1) (b ∷ text)) in
     let tail : parts (drop (end + 1) (b ∷ text)) ≡ drop (suc end) (b ∷ text) ∷ [] = ap (λ k. parts (drop k (b ∷ text))) next ∙ last in
     let both : (list_all is_name (parts (take end (b ∷ text))) && list_all is_name (parts (drop (end + 1) (b ∷ text)))) ≡ true =
     sym (list_all-append is_name (parts (take end (b ∷ text))) (parts (drop (end + 1) (b ∷ text)))) ∙ ap (list_all is_name) (sym split) ∙ all in

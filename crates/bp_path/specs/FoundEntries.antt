@@ -25,4 +25,5 @@ dir_of (Err fault) = fault_of fault
 -- the directory and the slot by which a path leads to its inode, both 0 for `/`
 pub record IsEntryOf (image : Image) (path : Path) (entry : FoundEntry) : Type 0 where
   pub top : path ≡ [] → (entry.dir ≡ 0) × (entry.slot ≡ 0)
-  pub below : (parent : Path) (name : Name) → path ≡ parent ++ name ∷ [] → (lookup image parent ≡ Some entry.dir) × (slot_named image entry.dir name ≡ Some entry.slot)
+  pub below : (parent : Path) (name : Name) → path ≡ parent ++ name ∷ [] → (lookup image parent ≡ Some entry.dir)
+      × (slot_named image entry.dir name ≡ Some entry.slot)

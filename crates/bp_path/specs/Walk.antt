@@ -17,7 +17,8 @@ onward walk (Some i) = walk i
 
 abbrev pub walk_from : Image → ℕ → Path → Walked
 walk_from image i [] = found i
-walk_from image i (name ∷ names) = if kind_of image i == 2 then onward (λ j. walk_from image j names) (lookup_in image i name) else in_file
+walk_from image i (name ∷ names) =
+    if kind_of image i == 2 then onward (λ j. walk_from image j names) (lookup_in image i name) else in_file
 
 -- a walk that is to end in a directory
 abbrev pub in_directory : Image → Walked → Walked
@@ -26,4 +27,5 @@ in_directory image missing = missing
 in_directory image in_file = in_file
 
 abbrev pub WalkIsLookup : Image → Type 0
-WalkIsLookup image = (i j : ℕ) (names : Path) → (walk_from image i names ≡ found j) ↔ (lookup_from image i names ≡ Some j)
+WalkIsLookup image =
+    (i j : ℕ) (names : Path) → (walk_from image i names ≡ found j) ↔ (lookup_from image i names ≡ Some j)

@@ -1,5 +1,5 @@
 -- A memory after one store.
-use Rattle.std.proofs.Common.{◌≡◌, ◌≢◌, ℕ, ◌+◌, ◌<◌, ◌≤◌, [], ◌∷◌, length, ap, arith, get_or-set_same, get_or-set_other}
+use Rattle.std.proofs.Common.{◌≡◌, ◌≢◌, ℕ, ◌<◌, [], ◌∷◌, length, ap, arith, get_or-set_same, get_or-set_other}
 use Rattle.pm_epochs.specs.declared.event.Event.TheVariants.{Store}
 use Rattle.pm_region.specs.Memory.{Memory, current_words, Adds}
 use Rattle.pm_region.proofs.MemoryLaws.{base-adds, current_words-adds, length-current_words}

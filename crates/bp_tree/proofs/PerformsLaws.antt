@@ -1,8 +1,8 @@
 -- Calls that are performed: how they are put together of parts, and what follows for the memory, the log and its cost.
-use Rattle.std.proofs.Common.{◌≡◌, ◌≢◌, ◌⊎◌, ℕ, zero, suc, ◌+◌, ◌/◌, ◌<◌, ◌≤◌, List, [], ◌∷◌, ◌++◌, length, filter, drop, Bool, true, false, refl, sym, ◌∙◌, ap, subst, arith, inl, inr}
+use Rattle.std.proofs.Common.{◌≡◌, ◌⊎◌, ℕ, ◌+◌, ◌/◌, ◌<◌, ◌≤◌, List, [], ◌∷◌, ◌++◌, length, drop, sym, ◌∙◌, ap, subst, arith, inl, inr}
 use Rattle.std.proofs.Math.Seq.{drop-append_seam}
 use Rattle.std.specs.List.{range_with_len}
-use Rattle.std.proofs.lemmas.Bool.{cases_eq}
+use Rattle.bp_layout.proofs.MemberLaws.{apart-append, apart-within, each-append, each-as, each-has, each-of, has-behind, has-filter, has-front, has-range}
 use Rattle.bp_layout.specs.Free.{HasFree, numbers_below}
 use Rattle.std.proofs.lemmas.List.{append_assoc, length-append}
 use Rattle.pm_epochs.specs.declared.event.Event.{Event}
@@ -18,7 +18,7 @@ use Rattle.pm_region.specs.Safe.{IsSafe, AddsCommit}
 use Rattle.pm_region.proofs.MemoryLaws.{adds_both, current_words-adds}
 use Rattle.pm_region.proofs.SafeLaws.{safe_committed}
 use Rattle.bp_layout.proofs.SameLaws.{same_self, same_symmetric, same_transitive}
-use Rattle.bp_layout.specs.Members.{Has, Each, AreApart}
+use Rattle.bp_layout.specs.Members.{Has}
 use Rattle.bp_layout.specs.Need.{Change, cover, need}
 use Rattle.bp_layout.specs.Reached.{IsLiveBlock, IsFreeBlock}
 use Rattle.bp_layout.specs.Same.{Same}
@@ -28,74 +28,8 @@ use Rattle.bp_layout.specs.Words.{Image, block_count}
 use Rattle.bp_tree.specs.Performs.{InBlock, IsOpen, TakesBlocks, AddsTaking, most_stores, Performs, IsShort}
 use Rattle.bp_tree.specs.Performs.IsOpen.{in_taken, in_live, at_root, at_size}
 
-equivalence : IsPartialEquivalence Same
-equivalence = record { symmetric = same_symmetric; transitive = same_transitive }
-
--- ---- lists
-
-pub each-append : (P : ℕ → Type 0) (xs ys : List ℕ) → Each P xs → Each P ys → Each P (xs ++ ys)
-each-append P [] ys one two = two
-each-append P (x ∷ xs) ys one two = (one.0, each-append P xs ys one.1 two)
-
-pub each-as : (P Q : ℕ → Type 0) → ((b : ℕ) → P b → Q b) → (xs : List ℕ) → Each P xs → Each Q xs
-each-as P Q so [] all = tt
-each-as P Q so (x ∷ xs) all = (so x all.0, each-as P Q so xs all.1)
-
--- what all have one has
-pub each-has : (P : ℕ → Type 0) (xs : List ℕ) (b : ℕ) → Each P xs → Has xs b → P b
-each-has P [] b all has = elim has [ ]
-each-has P (x ∷ xs) b all (inl e) = subst P e all.0
-each-has P (x ∷ xs) b all (inr later) = each-has P xs b all.1 later
-
-pub each-of : (P : ℕ → Type 0) (xs : List ℕ) → ((b : ℕ) → Has xs b → P b) → Each P xs
-each-of P [] all = tt
-each-of P (x ∷ xs) all = (all x (inl refl), each-of P xs (λ b later. all b (inr later)))
-
-pub has-front : (xs ys : List ℕ) (b : ℕ) → Has xs b → Has (xs ++ ys) b
-has-front [] ys b has = elim has [ ]
-has-front (x ∷ xs) ys b (inl e) = inl e
-has-front (x ∷ xs) ys b (inr later) = inr (has-front xs ys b later)
-
-pub has-behind : (xs ys : List ℕ) (b : ℕ) → Has ys b → Has (xs ++ ys) b
-has-behind [] ys b has = has
-has-behind (x ∷ xs) ys b has = inr (has-behind xs ys b has)
-
-pub apart-append : (xs ys : List ℕ) → AreApart xs → AreApart ys → ((b : ℕ) → Has xs b → Has ys b → ⊥) → AreApart (xs ++ ys)
-apart-append [] ys one two none = two
-apart-append (x ∷ xs) ys one two none = (
-  each-append (λ b. b ≢ x) xs ys one.0 (each-of (λ b. b ≢ x) ys (λ b has e. none x (inl refl) (subst (Has ys) e has))),
-  apart-append xs ys one.1 two (λ b first second. none b (inr first) second),
-)
-
--- what is taken out of a list
-without_one : (ys : List ℕ) (x : ℕ) → Has ys x → (rest : List ℕ) × (length ys ≡ suc (length rest)) × ((b : ℕ) → Has ys b → b ≢ x → Has rest b)
-without_one [] x has = elim has [ ]
-without_one (y ∷ ys) x (inl e) = (ys, refl, λ b has other. elim has [ inl f ↦ absurd (other (sym f ∙ e)) | inr later ↦ later ])
-without_one (y ∷ ys) x (inr later) =
-    let less = without_one ys x later in
-    (y ∷ less.0, ap suc less.1, λ b has other. elim has [ inl f ↦ inl f | inr more ↦ inr (less.2 b more other) ])
-
--- a list without repeats whose members are all in another is no longer
-pub apart_within : (xs ys : List ℕ) → AreApart xs → ((b : ℕ) → Has xs b → Has ys b) → length xs ≤ length ys
-apart_within [] ys apart all = omega arith
-apart_within (x ∷ xs) ys apart all =
-    let less = without_one ys x (all x (inl refl)) in
-    let few : length xs ≤ length less.0 = apart_within xs less.0 apart.1 (λ b has. less.2 b (all b (inr has)) (each-has (λ c. c ≢ x) xs b apart.0 has)) in
-    omega (arith, few, less.1)
-
-pub has-range : (a n b : ℕ) → a ≤ b → b < a + n → Has (range_with_len a n) b
-has-range a zero b low high = absurd (omega (arith, low, high))
-has-range a (suc n) b low high = elim (cases_eq a b) [ inl e ↦ inl e | inr other ↦ inr (has-range (a + 1) n b (omega (arith, low, other)) (omega (arith, high))) ]
-
-pub has-filter : (p : ℕ → Bool) (xs : List ℕ) (b : ℕ) → Has xs b → p b ≡ true → Has (filter p xs) b
-has-filter p [] b has passes = elim has [ ]
-has-filter p (x ∷ xs) b has passes = go (p x) refl has (λ later. has-filter p xs b later passes)
-  where
-    go : (keep : Bool) → p x ≡ keep → (x ≡ b) ⊎ Has xs b → (Has xs b → Has (filter p xs) b) → Has (filter p (x ∷ xs)) b
-    go true is (inl e) rest = rw is (inl e)
-    go true is (inr later) rest = rw is (inr (rest later))
-    go false is (inl e) rest = let clash : true ≡ false = sym passes ∙ ap p (sym e) ∙ is in absurd (cc)
-    go false is (inr later) rest = rw is (rest later)
+pub same_equivalence : IsPartialEquivalence Same
+same_equivalence = record { symmetric = same_symmetric; transitive = same_transitive }
 
 -- ---- stores
 
@@ -162,7 +96,7 @@ module _ (old mid new : Memory) (first second : List ℕ) (most_barriers most mo
     part = record {
       added = one.part.added ++ two.part.added;
       adds = adds_both old mid new one.part.added two.part.added one.part.adds two.part.adds;
-      quiet = quiet-append Same equivalence.transitive (current_words old) one.part.added two.part.added one.part.closed one.part.quiet (rw (current_words-adds old mid one.part.added one.part.adds) at two.part.quiet);
+      quiet = quiet-append Same same_equivalence.transitive (current_words old) one.part.added two.part.added one.part.closed one.part.quiet (rw (current_words-adds old mid one.part.added one.part.adds) at two.part.quiet);
       closed = IsClosed-append one.part.added two.part.added one.part.closed two.part.closed;
       piece = IsPiece-append most_barriers most more_barriers more one.part.added two.part.added one.part.piece two.part.piece;
     };
@@ -237,7 +171,7 @@ module _ (old new : Memory) (change : Change) (Effect : Image → Image → Type
       (record {
         prepared = one.part.added ++ two.prepared;
         adds = rw parts (adds_both old middle new one.part.added (two.prepared ++ commit word value) one.part.adds two.adds);
-        quiet = quiet-append Same equivalence.transitive (current_words old) one.part.added two.prepared one.part.closed one.part.quiet (rw words at two.quiet);
+        quiet = quiet-append Same same_equivalence.transitive (current_words old) one.part.added two.prepared one.part.closed one.part.quiet (rw words at two.quiet);
         piece = rw parts (IsPiece-append most_barriers most more_barriers more one.part.added (two.prepared ++ commit word value) one.part.piece two.piece);
       })
       (takes_twice (current_words old) (current_words middle) first second one.part.added two.prepared live free one.takes takes) at low few
@@ -316,14 +250,14 @@ module _ (old new : Memory) (change : Change) (Effect : Image → Image → Type
   -- with its mark it keeps the memory safe: crashes are right, and each store has a barrier behind it
   pub performs_safe : (marked : Memory) → IsSafe Same old → Adds new marked (Mark ∷ []) → IsSafe Same marked
   performs_safe marked safe ends =
-      safe_committed Same equivalence place done.value 8 (most_stores (need (current_words old) change)) old new marked safe done.commit ends
+      safe_committed Same same_equivalence place done.value 8 (most_stores (need (current_words old) change)) old new marked safe done.commit ends
       (rw (current_words-adds new marked (Mark ∷ []) ends) (same_self (current_words new) done.well_formed))
 
   -- the blocks that it needed were free
   pub performs_fits : (free : ℕ) → HasFree (current_words old) free → need (current_words old) change ≤ free
   performs_fits free has =
       let within : length done.taken ≤ length (numbers_below (block_count (current_words old)) has.set) =
-      apart_within done.taken (numbers_below (block_count (current_words old)) has.set) done.takes.once
+      apart-within done.taken (numbers_below (block_count (current_words old)) has.set) done.takes.once
       (λ b took.
       let is : IsFreeBlock (current_words old) b = each-has (IsFreeBlock (current_words old)) done.taken b done.takes.free took in
       has-filter has.set (range_with_len 0 (block_count (current_words old))) b (has-range 0 (block_count (current_words old)) b (omega arith) (omega (arith, is.high))) (has.are.all b is)) in

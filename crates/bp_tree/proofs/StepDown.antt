@@ -1,9 +1,10 @@
 -- One step down a tree, by the digits of a number from the highest on.
-use Rattle.std.proofs.Common.{◌≡◌, ℕ, zero, suc, ◌+◌, ◌-◌, ◌*◌, ◌/◌, ◌%◌, ◌^◌, ◌<◌, ◌≤◌, refl, sym, ◌∙◌, ap, ap₂, arith, bit_and, pow-suc, pow-add, mul_assoc, mul-le-mul_right, lt_of_le_of_lt, le_trans, le_of_eq}
+use Rattle.std.proofs.Common.{◌≡◌, ℕ, zero, suc, ◌+◌, ◌-◌, ◌*◌, ◌/◌, ◌%◌, ◌^◌, ◌<◌, ◌≤◌, refl, sym, ◌∙◌, ap, ap₂, arith, pow-suc, pow-add, mul_assoc, mul-le-mul_right, lt_of_le_of_lt, le_trans, le_of_eq}
 use Rattle.std.proofs.Math.Nat.{div-div-eq-div-mul, div-mul-le_self}
-use Rattle.std.proofs.lemmas.Nat.{and_mask}
 use Rattle.bp_layout.specs.Words.{Image, block_of, height_of, slot_word}
-use Rattle.bp_layout.specs.Tree.{word_at, covered, IsLiveWord, IsLivePointer}
+use Rattle.bp_layout.specs.Tree.{word_at, covered, IsLiveWord, IsLivePointer, IsSound}
+use Rattle.bp_limits.specs.Limits.{max_height}
+use Rattle.pm_words.specs.Digits.{digit}
 use Rattle.bp_layout.proofs.TreeLaws.{word_at-zero, word_at-suc}
 
 pub shift : (index level : ℕ) → index / 2 ^ (9 * level) ≡ index / 512 ^ level
@@ -30,6 +31,12 @@ at_end image root depth index zero word none at =
     let all : index / 512 ^ 0 ≡ index = omega arith in
     at ∙ ap₂ (word_at image root) here all
 at_end image root depth index (suc l) word none at = absurd (omega arith)
+
+-- a live word of a sound tree stands no deeper than the greatest height and one
+pub few_levels : (image : Image) (root size depth index : ℕ) → IsSound image root size → IsLiveWord root size depth index → depth ≤ suc max_height
+few_levels image root size depth index sound live =
+    let some : 0 < size = omega (arith, live.live) in
+    omega (arith, live.height, sound.low some)
 
 covered-add : (rank levels : ℕ) → covered (rank + levels) ≡ 512 ^ levels * covered rank
 covered-add rank levels = rw pow-add (omega (arith, mul_assoc (512 ^ levels) 8 (512 ^ rank), mul_comm' (512 ^ levels) (512 ^ rank)))
@@ -59,15 +66,13 @@ one_down image root depth index levels some within =
     rw deeper (rw (word_at-suc image root (depth - levels) (index / 512 ^ l))
     (ap (λ k. slot_word image (block_of (word_at image root (depth - levels) k)) (index / 512 ^ l % 512)) (ap (λ n. index / 512 ^ n) up ∙ quotient index l)))
 
--- the same as the code has it, with shifts and masks
+-- the same as the code has it
 pub step_down : (image : Image) (root depth index levels word result : ℕ) → 0 < levels → levels ≤ depth →
     word ≡ word_at image root (depth - levels) (index / 512 ^ levels) →
-    result ≡ slot_word image (block_of word) (bit_and (index / 2 ^ (9 * (levels - 1))) 511) →
+    result ≡ slot_word image (block_of word) (digit index (levels - 1)) →
     result ≡ word_at image root (depth - (levels - 1)) (index / 512 ^ (levels - 1))
 step_down image root depth index levels word result some within at is =
-    let digit : bit_and (index / 2 ^ (9 * (levels - 1))) 511 ≡ index / 512 ^ (levels - 1) % 512 =
-    and_mask (index / 2 ^ (9 * (levels - 1))) 9 ∙ ap (λ n. n % 512) (shift index (levels - 1)) in
-    is ∙ ap₂ (λ p s. slot_word image (block_of p) s) at digit ∙ one_down image root depth index levels some within
+    is ∙ ap (λ p. slot_word image (block_of p) (digit index (levels - 1))) at ∙ one_down image root depth index levels some within
 
 -- a block of a sound tree is one of the region's
 pub pointer_at : (root size level index : ℕ) → level ≤ height_of root → index * covered (suc level) < size → IsLivePointer root size (height_of root - level) index

@@ -9,7 +9,8 @@ pub record AreBlocks (image : Image) (root size : ℕ) (set : ℕ → Bool) : Ty
   pub has : (b : ℕ) → set b ≡ true → HasBlock image root size b
   pub all : (b : ℕ) → HasBlock image root size b → set b ≡ true
 
--- The tree has so many blocks. A node is present where it is live and no null is on the way to it, and in a sound tree the present nodes and the blocks are one to one.
+-- The tree has so many blocks. A node is present where it is live and no null is on the way to it, and in a sound
+-- tree the present nodes and the blocks are one to one.
 pub record HasBlockCount (image : Image) (root size count : ℕ) : Type 0 where
   pub set : ℕ → Bool
   pub are : AreBlocks image root size set

@@ -10,4 +10,5 @@ HasNoNullLeaf image root size = (leaf : ℕ) → 4096 * leaf < size → node ima
 -- the leaf is the first that is live and null
 abbrev pub IsFirstNullLeaf : Image → ℕ → ℕ → ℕ → Type 0
 IsFirstNullLeaf image root size leaf =
-    (4096 * leaf < size) × (node image root (height_of root) leaf ≡ 0) × ((other : ℕ) → other < leaf → node image root (height_of root) other ≢ 0)
+    (4096 * leaf < size) × (node image root (height_of root) leaf ≡ 0)
+    × ((other : ℕ) → other < leaf → node image root (height_of root) other ≢ 0)

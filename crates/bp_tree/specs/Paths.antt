@@ -6,7 +6,8 @@ use Rattle.bp_layout.specs.WordPaths.{WordPath}
 -- each word that a proper prefix names points into the image, where the path starts at the pointer at a place
 abbrev pub IsInRangeFrom : Image → ℕ → WordPath → Type 0
 IsInRangeFrom image place [] = Unit {0}
-IsInRangeFrom image place (slot ∷ path) = (block_of (word image place) < block_count image) × IsInRangeFrom image (512 * block_of (word image place) + slot) path
+IsInRangeFrom image place (slot ∷ path) = (block_of (word image place) < block_count image)
+    × IsInRangeFrom image (512 * block_of (word image place) + slot) path
 
 abbrev pub IsInRange : Image → WordPath → Type 0
 IsInRange image path = IsInRangeFrom image 2 path

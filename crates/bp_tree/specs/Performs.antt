@@ -18,15 +18,17 @@ use Rattle.bp_layout.specs.Words.{Image}
 abbrev pub InBlock : ℕ → ℕ → Type 0
 InBlock block word = word / 512 ≡ block
 
--- Where a call that takes these blocks may store: into them, into blocks that are live, and at the two words of the superblock that tell of the inode file.
+-- Where a call that takes these blocks may store: into them, into blocks that are live, and at the two words of the
+-- superblock that tell of the inode file.
 pub data IsOpen (image : Image) (taken : List ℕ) (word : ℕ) : Type 0 where
   in_taken : Has taken (word / 512) → IsOpen image taken word
   in_live : IsLiveBlock image (word / 512) → IsOpen image taken word
   at_root : word ≡ super_root → IsOpen image taken word
   at_size : word ≡ super_size → IsOpen image taken word
 
--- The blocks of the list were free, each stands once, and each gets a store. Other free blocks get none, nor do the words of the superblock that nobody reads:
--- so a call can't prepare for a later one, nor leave in the log what nobody asked for.
+-- The blocks of the list were free, each stands once, and each gets a store. Other free blocks get none, nor do the
+-- words of the superblock that nobody reads: so a call can't prepare for a later one, nor leave in the log what
+-- nobody asked for.
 pub record TakesBlocks (image : Image) (taken : List ℕ) (events : List Event) : Type 0 where
   pub once : AreApart taken
   pub free : Each (IsFreeBlock image) taken
@@ -42,11 +44,13 @@ pub record AddsTaking (taken : List ℕ) (most_barriers most_stores : ℕ) (old 
 abbrev pub most_stores : ℕ → ℕ
 most_stores needed = 512 * (needed + 6) + 64
 
--- A changing call before its mark: a quiet preparation, and then one store alone in its epoch, at the word of the cover. It takes just as many blocks as it needs.
--- The cover is told of the image before, where the call is asked for, and its word stands in the image after, since a preparation may put a tree one level lower.
+-- A changing call before its mark: a quiet preparation, and then one store alone in its epoch, at the word of the
+-- cover. It takes just as many blocks as it needs. The cover is told of the image before, where the call is asked
+-- for, and its word stands in the image after, since a preparation may put a tree one level lower.
 pub record Performs (old new : Memory) (change : Change) (Effect : Image → Image → Type 0) : Type 0 where
   pub value : ℕ
-  pub commit : AddsCommit Same (address (current_words new) (cover (current_words old) change)) value 8 (most_stores (need (current_words old) change)) old new
+  pub commit : AddsCommit Same (address (current_words new) (cover (current_words old) change)) value 8
+      (most_stores (need (current_words old) change)) old new
   pub taken : List ℕ
   pub takes : TakesBlocks (current_words old) taken commit.prepared
   pub number : length taken ≡ need (current_words old) change
@@ -64,7 +68,8 @@ pub record AreTaken (image : Image) (events : List Event) (taken : List ℕ) : T
   pub some : (b : ℕ) → Has taken b → IsFreeBlock image b × StoresTo (InBlock b) events
   pub all : (b : ℕ) → IsFreeBlock image b → StoresTo (InBlock b) events → Has taken b
 
--- What a changing call costs: its last store is at the word of the cover, the blocks that were free and to which it stores are as many as it needs, and it has few barriers and stores.
+-- What a changing call costs: its last store is at the word of the cover, the blocks that were free and to which it
+-- stores are as many as it needs, and it has few barriers and stores.
 pub record IsShort (old new : Image) (change : Change) (events : List Event) : Type 0 where
   pub last : last_stored events ≡ Some (address new (cover old change))
   pub taken : List ℕ

@@ -6,6 +6,7 @@ ghost use Rattle.pm_region.specs.Memory.{current_words};
 
 use crate::tree::{Tree, load_slot};
 use pm_region::Region;
+use pm_words::{block_of, digit};
 
 /// The word with a number among those at a depth, where the root word alone is at depth 0.
 pub(crate) fn descend<R: Region>(region: &R, tree: Tree, depth: u32, index: u64) -> u64
@@ -17,8 +18,8 @@ pub(crate) fn descend<R: Region>(region: &R, tree: Tree, depth: u32, index: u64)
     let mut levels = depth;
     while levels > 0 {
         levels -= 1;
-        let slot = (index >> (9 * levels)) & 511;
-        word = load_slot(region, word >> 12, slot);
+        let slot = digit(index, levels);
+        word = load_slot(region, block_of(word), slot as u64);
     }
     word
 }

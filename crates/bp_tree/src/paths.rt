@@ -10,7 +10,7 @@ ghost use Rattle.bp_tree.specs.Paths.{IsInRange};
 
 use crate::tree::Tree;
 use arrayvec::ArrayVec;
-use bp_limits::SUPER_ROOT;
+use bp_limits::{BLOCK_WORDS, SUPER_ROOT};
 use pm_region::Region;
 
 /// A word path: slots below 512, from the top. The empty one names the root word of the inode file.
@@ -42,8 +42,8 @@ pub fn address<R: Region>(region: &R, path: &Slots) -> u32
     let _words = region.words();
     let mut place = SUPER_ROOT;
     for slot in path.as_slice() {
-        let block = region.load(place) >> 12;
-        place = (512 * block + *slot as u64) as u32;
+        let block = pm_words::block_of(region.load(place)) as u32;
+        place = BLOCK_WORDS * block + *slot as u32;
     }
     place
 }

@@ -7,7 +7,7 @@ ghost use Rattle.pm_region.specs.Memory.{current_words};
 ghost use Rattle.bp_tree.specs.Bytes.{stored_bytes, content_part};
 
 use crate::tree::{Tree, leaf_block};
-use bp_limits::BLOCK_SIZE;
+use bp_limits::{BLOCK_SIZE, BLOCK_WORDS};
 use pm_region::Region;
 
 /// Reads the bytes of a tree from `offset` on, as many as `into` has room for and lie below the size, and says how many
@@ -113,6 +113,6 @@ pub fn leaf_words<R: Region>(region: &R, tree: Tree, leaf: u64) -> Option<&[u64]
     if block == 0 {
         None
     } else {
-        Some(region.load_words((512 * block) as u32, 512))
+        Some(region.load_words(BLOCK_WORDS * block as u32, BLOCK_WORDS))
     }
 }

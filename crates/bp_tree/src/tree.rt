@@ -8,6 +8,7 @@ ghost use Rattle.pm_region.specs.Memory.{current_words};
 
 use crate::descent::descend;
 use bp_layout::Inode;
+use bp_limits::BLOCK_WORDS;
 use pm_region::Region;
 
 /// A tree: its root word, which holds the height and the topmost block, and its size in bytes.
@@ -42,7 +43,7 @@ impl Tree {
     pub fn block(self) -> u64
         ensures { result ≡ block_of self.root }
     {
-        self.root >> 12
+        pm_words::block_of(self.root)
     }
 }
 
@@ -57,7 +58,7 @@ pub fn load_slot<R: Region>(region: &R, block: u64, slot: u64) -> u64
     if block == 0 {
         0
     } else {
-        region.load((512 * block + slot) as u32)
+        region.load(BLOCK_WORDS * block as u32 + slot as u32)
     }
 }
 
@@ -71,7 +72,7 @@ pub fn node<R: Region>(region: &R, tree: Tree, level: u32, index: u64) -> u32
 {
     let _words = region.words();
     let depth = tree.height() - level;
-    (descend(region, tree, depth, index) >> 12) as u32
+    pm_words::block_of(descend(region, tree, depth, index)) as u32
 }
 
 /// The block that holds the content words `512 * leaf` to `512 * leaf + 511`, 0 where it is null.
@@ -81,7 +82,7 @@ pub fn leaf_block<R: Region>(region: &R, tree: Tree, leaf: u64) -> u64
     ensures node { result ≡ node (current_words (R.memory region.now)) tree.root (height_of tree.root) leaf }
     ensures in_range { result < block_count (current_words (R.memory region.now)) }
 {
-    descend(region, tree, tree.height(), leaf) >> 12
+    pm_words::block_of(descend(region, tree, tree.height(), leaf))
 }
 
 /// The content word with a number, bytes `8 * index` to `8 * index + 7`, the lowest first.

@@ -100,7 +100,7 @@ returns-else-is_new-clause-made g c =
 
 pub returns-else-is_new-clause-block : goal.returns-else-is_new-clause-block
 returns-else-is_new-clause-block g c =
-    ap (λ w. w / 4096) c.load.ensures ∙ ap (λ s. word (current_words (g.R.Region.memory c.args.region.now)) (512 * c.args.block + s) / 4096) c.slot.ensures ∙ loaded (planned g.plan c.args.touched.now) c.args.from c.args.i c.args.depth (current_words (g.R.Region.memory c.args.region.now)) (has c.args.blocks.now) c.requires.1.1.0.can c.requires.1.1.0.here c.requires.1.1.0.low c.requires.1.1.0.high c.requires.1.1.1.1.0 c.args.block c.requires.1.1.1.1.1.0 c.requires.1.1.1.0
+    c.block_of.ensures ∙ ap (λ w. w / 4096) c.load.ensures ∙ ap (λ s. word (current_words (g.R.Region.memory c.args.region.now)) (512 * c.args.block + s) / 4096) c.slot.ensures ∙ loaded (planned g.plan c.args.touched.now) c.args.from c.args.i c.args.depth (current_words (g.R.Region.memory c.args.region.now)) (has c.args.blocks.now) c.requires.1.1.0.can c.requires.1.1.0.here c.requires.1.1.0.low c.requires.1.1.0.high c.requires.1.1.1.1.0 c.args.block c.requires.1.1.1.1.1.0 c.requires.1.1.1.0
 
 pub returns-else-is_new-clause-makes : goal.returns-else-is_new-clause-makes
 returns-else-is_new-clause-makes g c = record {

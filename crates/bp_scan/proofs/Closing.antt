@@ -9,7 +9,7 @@ use Rattle.bp_layout.specs.Reached.{IsReached}
 use Rattle.bp_layout.specs.WellFormed.{IsWellFormed}
 use Rattle.bp_layout.proofs.ChecksLaws.{found_reached}
 use Rattle.bp_scan.specs.Reading.{IsReading}
-use Rattle.bp_scan.specs.declared.work.Work.{Work}
+use Rattle.bp_scan.specs.declared.work.Scan.{Scan}
 use Rattle.bp_scan.proofs.Ending.{end_well_formed, end_blocks, end_inodes}
 
 -- what follows from two clauses of an answer
@@ -17,7 +17,7 @@ pub on_ok_both : {T E : Type 0} {A B C : Type 0} (r : Result T E) → (A → B �
 on_ok_both (Ok v) f a b = f a b
 on_ok_both (Err e) f a b = a
 
-module _ (image : Image) (work : Work) (reading : IsReading image work 0 0) (none : (i : ℕ) → has work.todo i ≡ false) where
+module _ (image : Image) (work : Scan) (reading : IsReading image work 0 0) (none : (i : ℕ) → has work.todo i ≡ false) where
   pub all_well_formed : IsWellFormed image
   all_well_formed = end_well_formed image work.blocks work.inodes work.todo reading.ready.formatted reading.ready.inode_blocks reading.ready.some_inodes reading.root_kind reading.range reading.midway none
 

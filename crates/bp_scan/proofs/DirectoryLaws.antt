@@ -12,7 +12,7 @@ use Rattle.bp_walk.proofs.TakenLaws.{known, length_without, has_without}
 use Rattle.bp_scan.specs.Misspelled.{FailsNames}
 use Rattle.bp_scan.specs.Reading.{IsReading, IsAtHand, IsInside, steps}
 use Rattle.bp_scan.specs.declared.directories.Directory.{Directory}
-use Rattle.bp_scan.specs.declared.work.Work.{Work}
+use Rattle.bp_scan.specs.declared.work.Scan.{Scan}
 use Rattle.bp_scan.proofs.ProgressLaws.{begin, finish}
 use Rattle.bp_scan.proofs.Inside.{here_sound, here_full, here_few, names_fail}
 use Rattle.bp_scan.proofs.EntryLaws.{along}
@@ -22,11 +22,11 @@ not_file image zero kind = absurd (omega (arith, kind))
 not_file image (suc i) kind = omega arith
 
 -- the work with other directories to do
-abbrev pub to_do : Work → Set → Work
+abbrev pub to_do : Scan → Set → Scan
 to_do work todo = record { blocks = work.blocks; inodes = work.inodes; todo = todo; entries = work.entries }
 
 -- a directory that was to do is at hand
-taken_up : (image : Image) (work : Work) (current : ℕ) → current < length work.todo → has work.todo current ≡ true → IsReading image work 0 0 → IsAtHand image (to_do work (without work.todo current)) current 0
+taken_up : (image : Image) (work : Scan) (current : ℕ) → current < length work.todo → has work.todo current ≡ true → IsReading image work 0 0 → IsAtHand image (to_do work (without work.todo current)) current 0
 taken_up image work current low there reading = record {
   reading = record {
     ready = reading.ready;
@@ -44,10 +44,10 @@ taken_up image work current low there reading = record {
   out = has_without work.todo current low;
 }
 
-pub taken_least : (image : Image) (work : Work) (later : Set) (i : ℕ) → IsReading image work 0 0 → IsLeast work.todo i → later ≡ without work.todo i → IsAtHand image (to_do work later) i 0
+pub taken_least : (image : Image) (work : Scan) (later : Set) (i : ℕ) → IsReading image work 0 0 → IsLeast work.todo i → later ≡ without work.todo i → IsAtHand image (to_do work later) i 0
 taken_least image work later i reading least later_is = subst (λ (s : Set). IsAtHand image (to_do work s) i 0) (sym later_is) (taken_up image work i least.low least.is_in reading)
 
-module _ (image : Image) (work : Work) (directory : Directory) (at : IsAtHand image work directory.inode 0)
+module _ (image : Image) (work : Scan) (directory : Directory) (at : IsAtHand image work directory.inode 0)
     (root : directory.tree.root ≡ root_of image directory.inode) (size : directory.tree.size ≡ size_of image directory.inode) where
   pub begun_sound : IsSound image directory.tree.root directory.tree.size
   begun_sound = along (IsSound image) _ _ _ _ (sym root) (sym size) (here_sound image work directory.inode 0 at.reading at.entered at.kind)
@@ -63,7 +63,7 @@ module _ (image : Image) (work : Work) (directory : Directory) (at : IsAtHand im
       names_fail image work directory.inode 0 at.reading at.entered at.kind c p (along (λ x y. FailsNames image x y c p) _ _ _ _ root size fails)
 
 -- its last slot is past
-pub finished : (image : Image) (work : Work) (directory : Directory) → IsInside image work directory (directory.tree.size / 256) → IsReading image work 0 0
+pub finished : (image : Image) (work : Scan) (directory : Directory) → IsInside image work directory (directory.tree.size / 256) → IsReading image work 0 0
 finished image work directory inside = record {
   ready = inside.at.reading.ready;
   room = inside.at.reading.room;
@@ -91,7 +91,7 @@ none_of set none i = go (cases_lt i (length set)) (known (has set i))
         absurd (omega (arith, less, zero_long))
 
 -- a directory less
-pub steps_fall : (work : Work) (later : Set) (after : Work) (i : ℕ) → IsLeast work.todo i → later ≡ without work.todo i → steps after ≤ steps (to_do work later) → steps after < steps work
+pub steps_fall : (work : Scan) (later : Set) (after : Scan) (i : ℕ) → IsLeast work.todo i → later ≡ without work.todo i → steps after ≤ steps (to_do work later) → steps after < steps work
 steps_fall work later after i least later_is less =
     let one : length (members (without work.todo i)) + 1 ≡ length (members work.todo) = count_without work.todo i least.low least.is_in in
     let same : length (members later) ≡ length (members (without work.todo i)) = ap (λ (s : Set). length (members s)) later_is in

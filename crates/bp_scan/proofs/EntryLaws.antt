@@ -17,16 +17,16 @@ use Rattle.bp_scan.specs.Inodes.{EntersInode, FailsInode}
 use Rattle.bp_scan.specs.Reading.{IsReading, IsInside, steps}
 use Rattle.bp_scan.specs.Room.{HasRoom}
 use Rattle.bp_scan.specs.declared.directories.Directory.{Directory}
-use Rattle.bp_scan.specs.declared.work.Work.{Work}
+use Rattle.bp_scan.specs.declared.work.Scan.{Scan}
 use Rattle.bp_scan.proofs.ProgressLaws.{empty_step, entered_more}
-use Rattle.bp_scan.proofs.EntryStep.{Adds, entry_step}
+use Rattle.bp_scan.proofs.EntryStep.{AddsDirectory, entry_step}
 use Rattle.bp_scan.proofs.InodeFaults.{inode_of}
 use Rattle.bp_scan.proofs.Inside.{first, inodes_few, here_sound, here_full, here_found, too_high, not_new, inode_fails, new_not_to_do}
 
 pub along : (P : ℕ → ℕ → Type 0) (a b x y : ℕ) → a ≡ x → b ≡ y → P a b → P x y
 along P a b x y e f h = subst (λ (v : ℕ). P x v) f (subst (λ (u : ℕ). P u b) e h)
 
-module _ (image : Image) (work : Work) (directory : Directory) (slot : ℕ) (inside : IsInside image work directory slot) where
+module _ (image : Image) (work : Scan) (directory : Directory) (slot : ℕ) (inside : IsInside image work directory slot) where
   abbrev d : ℕ
   d = directory.inode
 
@@ -89,7 +89,7 @@ module _ (image : Image) (work : Work) (directory : Directory) (slot : ℕ) (ins
         fails_in_inode new c p fails =
             inode_fails image work d slot reading j c p (omega (arith, some)) (here_found image work d slot reading inside.at.entered inside.at.kind slot j (entry_names some) low) new fails
 
-        module _ (new : has work.inodes j ≡ true) (rest : Set) (claimed : rest ≡ without work.inodes j) (after : Work) (room : HasRoom image after)
+        module _ (new : has work.inodes j ≡ true) (rest : Set) (claimed : rest ≡ without work.inodes j) (after : Scan) (room : HasRoom image after)
             (enters : EntersInode image j (record { blocks = work.blocks; inodes = rest; todo = work.todo; entries = work.entries }) after) where
           now_is : after.inodes ≡ without work.inodes j
           now_is = enters.inodes ∙ claimed
@@ -107,7 +107,7 @@ module _ (image : Image) (work : Work) (directory : Directory) (slot : ℕ) (ins
           not_to_do : has work.todo j ≡ false
           not_to_do = new_not_to_do image work d slot reading j new
 
-          adds : Adds image j work.todo after.todo
+          adds : AddsDirectory image j work.todo after.todo
           adds = record {
             same = later_has;
             directory = λ kind. ap (λ (s : Set). has s j) (enters.directory kind) ∙ has_with_same work.todo j todo_low;

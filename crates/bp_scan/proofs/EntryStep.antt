@@ -15,7 +15,7 @@ use Rattle.bp_scan.proofs.Readable.{inode_found}
 use Rattle.bp_scan.proofs.ProgressLaws.{same_scan, entered_more, entered_less}
 
 -- the directories to do after an inode was entered
-pub record Adds (image : Image) (j : ℕ) (old new : Set) : Type 0 where
+pub record AddsDirectory (image : Image) (j : ℕ) (old new : Set) : Type 0 where
   pub same : (i : ℕ) → i ≢ j → has new i ≡ has old i
   pub directory : kind_of image j ≡ 2 → has new j ≡ true
   pub file : has new j ≡ true → kind_of image j ≡ 2
@@ -24,7 +24,7 @@ module _ (image : Image) (all old new inodes todo later : Set) (current slot j :
     (first : IsEntered image inodes 0) (here : IsEntered image inodes current) (names : EntryNames image current slot j) (low : j < inode_count image) (room : j < length inodes) (free : has inodes j ≡ true) (two : 2 ≤ j)
     (form : IsName (name_at image current slot)) (apart : (r k : ℕ) → r < slot → EntryNames image current r k → name_at image current slot ≡ name_at image current r → slot ≡ r)
     (inode : IsInode image j) (which : (j ≡ 0) ⊎ (kind_of image j ≡ 2) → holes ≡ false)
-    (tree : TakesTree image (root_place image j) (root_of image j) (size_of image j) holes old new) (adds : Adds image j todo later) where
+    (tree : TakesTree image (root_place image j) (root_of image j) (size_of image j) holes old new) (adds : AddsDirectory image j todo later) where
   abbrev More : ℕ → Type 0
   More t = IsEntered image inodes t ⊎ (t ≡ j)
 

@@ -18,12 +18,12 @@ use Rattle.bp_scan.specs.Progress.{IsEntered, IsDone, NamedBy}
 use Rattle.bp_scan.specs.Inodes.{FailsInode}
 use Rattle.bp_scan.specs.Misspelled.{FailsNames, check_of, fault_place}
 use Rattle.bp_scan.specs.Reading.{IsReading}
-use Rattle.bp_scan.specs.declared.work.Work.{Work}
+use Rattle.bp_scan.specs.declared.work.Scan.{Scan}
 use Rattle.bp_scan.proofs.Readable.{is_sound, is_full, entry_seen, inode_found, one_entry, named_before}
 use Rattle.bp_layout.proofs.FewLeaves.{few_inodes, few_entries}
 use Rattle.bp_scan.proofs.InodeFaults.{fails_inode}
 
-module _ (image : Image) (work : Work) (current slot : ℕ) (reading : IsReading image work current slot) where
+module _ (image : Image) (work : Scan) (current slot : ℕ) (reading : IsReading image work current slot) where
   abbrev E : ℕ → Type 0
   E = IsEntered image work.inodes
 

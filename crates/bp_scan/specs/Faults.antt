@@ -6,11 +6,13 @@ use Rattle.bp_layout.specs.Words.{Image, word, block_count}
 use Rattle.bp_scan.specs.declared.fault.MountFault.{MountFault}
 use Rattle.bp_scan.specs.declared.fault.MountFault.TheVariants.{NotFormatted, BadSize, Damaged, Memory}
 
--- This is why: the image has no mark; or its mark, and another number of blocks than it says; or both as they should be, and
--- a check fails at a place. It is never want of memory.
+-- This is why: the image has no mark; or its mark, and another number of blocks than it says; or both as they should
+-- be, and a check fails at a place. It is never want of memory.
 abbrev pub IsFault : Image → MountFault → Type 0
 IsFault image NotFormatted = word image 0 ≢ magic
 IsFault image (BadSize found wanted) =
-    (word image 0 ≡ magic) × (word image 1 ≢ block_count image) × (found ≡ block_size * block_count image) × (wanted ≡ min (block_size * word image 1) (2 ^ 64 - 1))
-IsFault image (Damaged check place) = (word image 0 ≡ magic) × (word image 1 ≡ block_count image) × Fails image check place
+    (word image 0 ≡ magic) × (word image 1 ≢ block_count image) × (found ≡ block_size * block_count image)
+    × (wanted ≡ min (block_size * word image 1) (2 ^ 64 - 1))
+IsFault image (Damaged check place) =
+    (word image 0 ≡ magic) × (word image 1 ≡ block_count image) × Fails image check place
 IsFault image Memory = ⊥

@@ -8,7 +8,7 @@ use Rattle.bp_layout.specs.declared.check.Check.{Check}
 use Rattle.bp_layout.specs.declared.check.Check.TheVariants.{DirectorySize, Kind}
 use Rattle.bp_walk.specs.Walk.{TakesTree, FailsTree}
 use Rattle.bp_scan.specs.declared.trees.InodeWords.{InodeWords}
-use Rattle.bp_scan.specs.declared.work.Work.{Work}
+use Rattle.bp_scan.specs.declared.work.Scan.{Scan}
 
 -- the words of inode i, and where they stand
 pub record AreWords (image : Image) (i : ℕ) (words : InodeWords) : Type 0 where
@@ -21,7 +21,8 @@ pub record AreWords (image : Image) (i : ℕ) (words : InodeWords) : Type 0 wher
   pub root : root_of image i ≡ words.tree.root
   pub size : size_of image i ≡ words.tree.size
 
--- an inode's kind and its size in bytes are right: it is a file or a directory, a directory has whole entries, and inode 1 is one
+-- an inode's kind and its size in bytes are right: it is a file or a directory, a directory has whole entries, and
+-- inode 1 is one
 pub record IsRightInode (i kind size : ℕ) : Type 0 where
   pub least : 1 ≤ kind
   pub most : kind ≤ 2
@@ -35,7 +36,7 @@ pub data IsWrong (i kind size place : ℕ) : Check → ℕ → Type 0 where
   part_of_entry : kind ≡ 2 → size % 256 ≢ 0 → IsWrong i kind size place DirectorySize (place + 2)
 
 -- inode i is right, its blocks left the set, and it is to do where it is a directory
-pub record EntersInode (image : Image) (i : ℕ) (old new : Work) : Type 0 where
+pub record EntersInode (image : Image) (i : ℕ) (old new : Scan) : Type 0 where
   pub right : IsRightInode i (kind_of image i) (size_of image i)
   pub holes : Bool
   pub full : kind_of image i ≡ 2 → holes ≡ false
@@ -46,6 +47,8 @@ pub record EntersInode (image : Image) (i : ℕ) (old new : Work) : Type 0 where
 
 -- the check that inode i or its tree fails
 pub data FailsInode (image : Image) (i : ℕ) (old : Set) : Check → ℕ → Type 0 where
-  words : {c : Check} {p : ℕ} → IsWrong i (kind_of image i) (size_of image i) (inode_place image i 0) c p → FailsInode image i old c p
-  tree : {c : Check} {p : ℕ} (holes : Bool) → (holes ≡ false → kind_of image i ≡ 2) → FailsTree image (root_place image i) (root_of image i) (size_of image i) holes old c p →
+  words : {c : Check} {p : ℕ} → IsWrong i (kind_of image i) (size_of image i) (inode_place image i 0) c p
+      → FailsInode image i old c p
+  tree : {c : Check} {p : ℕ} (holes : Bool) → (holes ≡ false → kind_of image i ≡ 2)
+      → FailsTree image (root_place image i) (root_of image i) (size_of image i) holes old c p →
       FailsInode image i old c p

@@ -1,4 +1,5 @@
--- Where the scan stands, told by its sets: the inodes that are not entered, and the directories whose entries are still to do.
+-- Where the scan stands, told by its sets: the inodes that are not entered, and the directories whose entries are
+-- still to do.
 use Rattle.std.specs.Prelude.{◌≡◌, ◌≢◌, ◌⊎◌, ℕ, ◌<◌, ◌≤◌, true, false}
 use Rattle.bp_free.specs.Set.{Set, has}
 use Rattle.bp_layout.specs.Words.{Image}
@@ -10,9 +11,11 @@ use Rattle.bp_scan.specs.Scanned.{IsScanned, HasAllBlocks}
 abbrev pub IsEntered : Image → Set → ℕ → Type 0
 IsEntered image inodes t = (t < inode_count image) × (has inodes t ≡ false)
 
--- an entry was gone through: its directory was entered and is not to do, or it is the directory at hand and the entry stands before the slot
+-- an entry was gone through: its directory was entered and is not to do, or it is the directory at hand and the entry
+-- stands before the slot
 abbrev pub IsDone : Image → Set → Set → ℕ → ℕ → ℕ → ℕ → Type 0
-IsDone image inodes todo current slot i s = (IsEntered image inodes i × (kind_of image i ≡ 2) × (has todo i ≡ false) × (i ≢ current)) ⊎ ((i ≡ current) × (s < slot))
+IsDone image inodes todo current slot i s = (IsEntered image inodes i × (kind_of image i ≡ 2) × (has todo i ≡ false)
+    × (i ≢ current)) ⊎ ((i ≡ current) × (s < slot))
 
 -- an entry that was gone through names the inode
 pub record NamedBy (image : Image) (inodes todo : Set) (current slot j : ℕ) : Type 0 where

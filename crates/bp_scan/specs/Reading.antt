@@ -9,7 +9,7 @@ use Rattle.bp_scan.specs.Scanned.{IsScanned}
 use Rattle.bp_scan.specs.Progress.{IsEntered, IsMidway}
 use Rattle.bp_scan.specs.Room.{HasRoom}
 use Rattle.bp_scan.specs.declared.directories.Directory.{Directory}
-use Rattle.bp_scan.specs.declared.work.Work.{Work}
+use Rattle.bp_scan.specs.declared.work.Scan.{Scan}
 
 -- whole blocks of inodes, in an image that is formatted
 pub record HasWholeInodes (image : Image) : Type 0 where
@@ -22,14 +22,14 @@ abbrev pub HasInodeFile : Image → Set → Set → Type 0
 HasInodeFile image all left = IsScanned image (λ t. ⊥ ⊎ (t ≡ 0)) (λ i s. ⊥) all left
 
 -- nothing was entered: the sets are empty
-pub record IsUnread (image : Image) (work : Work) : Type 0 where
+pub record IsUnread (image : Image) (work : Scan) : Type 0 where
   pub room : HasRoom image work
   pub blocks : work.blocks ≡ empty (block_count image)
   pub inodes : work.inodes ≡ empty (64 * block_count image)
   pub todo : work.todo ≡ empty (64 * block_count image)
 
 -- the work in the middle of a scan; the directory at hand is 0 between directories
-pub record IsReading (image : Image) (work : Work) (current slot : ℕ) : Type 0 where
+pub record IsReading (image : Image) (work : Scan) (current slot : ℕ) : Type 0 where
   pub ready : HasWholeInodes image
   pub room : HasRoom image work
   pub range : (i : ℕ) → has work.inodes i ≡ true → (2 ≤ i) × (i < inode_count image)
@@ -37,19 +37,19 @@ pub record IsReading (image : Image) (work : Work) (current slot : ℕ) : Type 0
   pub midway : IsMidway image work.blocks work.inodes work.todo current slot
 
 -- a directory is at hand
-pub record IsAtHand (image : Image) (work : Work) (current slot : ℕ) : Type 0 where
+pub record IsAtHand (image : Image) (work : Scan) (current slot : ℕ) : Type 0 where
   pub reading : IsReading image work current slot
   pub entered : IsEntered image work.inodes current
   pub kind : kind_of image current ≡ 2
   pub out : has work.todo current ≡ false
 
 -- the same of one whose names are right
-pub record IsInside (image : Image) (work : Work) (directory : Directory) (slot : ℕ) : Type 0 where
+pub record IsInside (image : Image) (work : Scan) (directory : Directory) (slot : ℕ) : Type 0 where
   pub at : IsAtHand image work directory.inode slot
   pub root : root_of image directory.inode ≡ directory.tree.root
   pub size : size_of image directory.inode ≡ directory.tree.size
   pub names : AreNames image directory.tree.root directory.tree.size
 
 -- how many steps are left at most: each takes an inode, which may be a directory, or a directory
-abbrev pub steps : Work → ℕ
+abbrev pub steps : Scan → ℕ
 steps work = length (members work.inodes) + length (members work.todo)

@@ -2,10 +2,11 @@
 use Rattle.std.specs.Prelude.{◌≡◌, ◌*◌, ◌/◌, ◌≤◌, length, vec_capacity}
 use Rattle.bp_layout.specs.Words.{Image, block_count}
 use Rattle.bp_scan.specs.declared.pending.Pending.TheInside.{Inside}
-use Rattle.bp_scan.specs.declared.work.Work.{Work}
+use Rattle.bp_scan.specs.declared.work.Scan.{Scan}
 
--- a flag for each block, two for each inode, and memory reserved for as many entries as a directory may have: to a block 64 inodes and 16 entries
-pub record HasRoom (image : Image) (work : Work) : Type 0 where
+-- a flag for each block, two for each inode, and memory reserved for as many entries as a directory may have: to a
+-- block 64 inodes and 16 entries
+pub record HasRoom (image : Image) (work : Scan) : Type 0 where
   pub blocks : length work.blocks ≡ block_count image
   pub inodes : length work.inodes ≡ 64 * block_count image
   pub todo : length work.todo ≡ 64 * block_count image

@@ -11,8 +11,10 @@ use Rattle.bp_walk.specs.Taken.{Takes}
 -- each pointer of the tree that is followed passes, and none is null where none may be
 pub record IsChecked (image : Image) (t : ℕ) : Type 0 where
   pub fits : size_of image t ≤ covered (suc (height_of (root_of image t)))
-  pub passes : (d k : ℕ) → IsLivePointer (root_of image t) (size_of image t) d k → IsFollowed image (root_of image t) (size_of image t) d k → Passes image (root_of image t) d k
-  pub full : (t ≡ 0) ⊎ (kind_of image t ≡ 2) → (d k : ℕ) → IsLivePointer (root_of image t) (size_of image t) d k → IsFollowed image (root_of image t) (size_of image t) d k →
+  pub passes : (d k : ℕ) → IsLivePointer (root_of image t) (size_of image t) d k
+      → IsFollowed image (root_of image t) (size_of image t) d k → Passes image (root_of image t) d k
+  pub full : (t ≡ 0) ⊎ (kind_of image t ≡ 2) → (d k : ℕ) → IsLivePointer (root_of image t) (size_of image t) d k
+      → IsFollowed image (root_of image t) (size_of image t) d k →
       node image (root_of image t) d k ≢ 0
 
 -- a pointer of a tree that was entered
@@ -23,7 +25,8 @@ pub record IsSeen (image : Image) (E : ℕ → Type 0) (place : ℕ) : Type 0 wh
   pub entered : E tree
   pub pointer : IsPointer image tree depth index place
 
--- E are the trees that were entered, D the slots of directories whose entries were gone through, from a set of all blocks to the blocks that are left.
+-- E are the trees that were entered, D the slots of directories whose entries were gone through, from a set of all
+-- blocks to the blocks that are left.
 pub record IsScanned (image : Image) (E : ℕ → Type 0) (D : ℕ → ℕ → Type 0) (all left : Set) : Type 0 where
   pub found : (t : ℕ) → E t → IsFound image t
   pub checked : (t : ℕ) → E t → IsChecked image t
@@ -34,8 +37,10 @@ pub record IsScanned (image : Image) (E : ℕ → Type 0) (D : ℕ → ℕ → T
   pub not_root : (i s j : ℕ) → D i s → EntryNames image i s j → j ≢ 1
   pub forms : (i s j : ℕ) → D i s → EntryNames image i s j → IsName (name_at image i s)
   pub enters : (i s j : ℕ) → D i s → EntryNames image i s j → E j
-  pub named_once : (i s k r j : ℕ) → D i s → D k r → EntryNames image i s j → EntryNames image k r j → entry_place image i s 0 ≡ entry_place image k r 0
-  pub names_once : (i s r j k : ℕ) → D i s → D i r → EntryNames image i s j → EntryNames image i r k → name_at image i s ≡ name_at image i r → s ≡ r
+  pub named_once : (i s k r j : ℕ) → D i s → D k r → EntryNames image i s j → EntryNames image k r j
+      → entry_place image i s 0 ≡ entry_place image k r 0
+  pub names_once : (i s r j k : ℕ) → D i s → D i r → EntryNames image i s j → EntryNames image i r k
+      → name_at image i s ≡ name_at image i r → s ≡ r
 
 -- nothing is left to do
 pub record IsAll (image : Image) (E : ℕ → Type 0) (D : ℕ → ℕ → Type 0) : Type 0 where

@@ -12,7 +12,7 @@ ghost use Rattle.bp_spelling.specs.Names.{AreNames, entry_place_in};
 ghost use Rattle.pm_region.specs.Memory.{current_words};
 
 use crate::trees::enter;
-use crate::work::{Work, make_room};
+use crate::work::{Scan, make_room};
 use bp_dirs::entry_place;
 use bp_inodes::{get, inode_file};
 use bp_layout::Check;
@@ -47,7 +47,7 @@ fn read_entry<R: Region>(
     region: &R,
     directory: Directory,
     slot: Slot,
-    work: &mut Work,
+    work: &mut Scan,
 ) -> Result<(), CheckFault>
     requires inside { IsInside (current_words (R.memory region.now)) work.old directory slot.number }
     requires live { slot.number < directory.tree.size / entry_size }
@@ -85,7 +85,7 @@ fn read_leaf<R: Region>(
     region: &R,
     directory: Directory,
     first: u64,
-    work: &mut Work,
+    work: &mut Scan,
 ) -> Result<(), CheckFault>
     requires inside { IsInside (current_words (R.memory region.now)) work.old directory first }
     requires starts { first % 16 ≡ 0 }
@@ -106,9 +106,7 @@ fn read_leaf<R: Region>(
             place: place + 32 * k,
             named: named[k as usize],
         };
-        if let Err(fault) = read_entry(region, directory, slot, work) {
-            return Err(fault);
-        }
+        read_entry(region, directory, slot, work)?;
     }
     Ok(())
 }
@@ -117,7 +115,7 @@ fn read_leaf<R: Region>(
 fn read_entries<R: Region>(
     region: &R,
     directory: Directory,
-    work: &mut Work,
+    work: &mut Scan,
 ) -> Result<(), CheckFault>
     requires { IsInside (current_words (R.memory region.now)) work.old directory 0 }
     ensures inside { let words = current_words (R.memory region.now) in
@@ -127,9 +125,7 @@ fn read_entries<R: Region>(
     ensures room { HasRoom (current_words (R.memory region.now)) work.new }
 {
     for leaf in 0..(directory.tree.size / ENTRY_SIZE).div_ceil(16) {
-        if let Err(fault) = read_leaf(region, directory, 16 * leaf, work) {
-            return Err(fault);
-        }
+        read_leaf(region, directory, 16 * leaf, work)?;
     }
     Ok(())
 }
@@ -166,7 +162,7 @@ fn read_names<R: Region>(
 pub(crate) fn read_directory<R: Region>(
     region: &R,
     inode: u32,
-    work: &mut Work,
+    work: &mut Scan,
 ) -> Result<(), CheckFault>
     requires { IsAtHand (current_words (R.memory region.now)) work.old inode 0 }
     ensures done { OnOk result (IsReading (current_words (R.memory region.now)) work.new 0 0) }
@@ -176,8 +172,6 @@ pub(crate) fn read_directory<R: Region>(
 {
     let words = get(region, inode);
     let tree = Tree::of(&words);
-    if let Err(fault) = read_names(region, tree, &mut work.entries) {
-        return Err(fault);
-    }
+    read_names(region, tree, &mut work.entries)?;
     read_entries(region, Directory { inode, tree }, work)
 }

@@ -2,7 +2,7 @@
 
 ghost use Rattle.std.specs.Prelude.{◌≡◌, IfOk};
 
-use crate::work::{SPARE, Work};
+use crate::work::{SPARE, Scan};
 use bp_free::{Blocks, Inodes};
 use std::alloc::{AllocError, Global};
 use std::marker::Model;
@@ -12,7 +12,7 @@ use std::marker::Model;
 #[derive(Drop)]
 pub struct Pending {
     /// Its sets of blocks and inodes have no room of their own: a scan lends it those that it fills.
-    pub(crate) work: Work,
+    pub(crate) work: Scan,
     inodes: u32,
 }
 
@@ -32,7 +32,7 @@ impl Pending {
     pub fn new(alloc: Global, inodes: u32) -> Result<Pending, AllocError>
         ensures { IfOk result (λ pending. pending ≡ inodes) }
     {
-        let work = Work {
+        let work = Scan {
             blocks: Blocks::new(alloc, 0)?,
             inodes: Inodes::new(alloc, 0)?,
             todo: Inodes::new(alloc, inodes)?,

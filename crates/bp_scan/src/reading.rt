@@ -13,14 +13,14 @@ ghost use Rattle.pm_region.specs.Memory.{current_words};
 
 use crate::directories::read_directory;
 use crate::trees::{enter, enter_inode_file};
-use crate::work::Work;
+use crate::work::Scan;
 use bp_inodes::inode_file;
 use bp_limits::INODE_SIZE;
 use bp_walk::CheckFault;
 use pm_region::Region;
 
 /// Enters the inode file and the root directory, which is then to do.
-fn start<R: Region>(region: &R, work: &mut Work) -> Result<(), CheckFault>
+fn start<R: Region>(region: &R, work: &mut Scan) -> Result<(), CheckFault>
     requires formatted { IsFormatted (current_words (R.memory region.now)) }
     requires unread { IsUnread (current_words (R.memory region.now)) work.old }
     ensures started { OnOk result (IsReading (current_words (R.memory region.now)) work.new 0 0) }
@@ -29,16 +29,14 @@ fn start<R: Region>(region: &R, work: &mut Work) -> Result<(), CheckFault>
 {
     let room = work.blocks.room();
     work.blocks.fill(1, room);
-    if let Err(fault) = enter_inode_file(region, &mut work.blocks) {
-        return Err(fault);
-    }
+    enter_inode_file(region, &mut work.blocks)?;
     let count = inode_file(region).size / INODE_SIZE;
     work.inodes.fill(2, count as u32);
     enter(region, 1, work)
 }
 
 /// Reads the directories that are to do, and those that they lead to.
-fn read_directories<R: Region>(region: &R, work: &mut Work) -> Result<(), CheckFault>
+fn read_directories<R: Region>(region: &R, work: &mut Scan) -> Result<(), CheckFault>
     requires { IsReading (current_words (R.memory region.now)) work.old 0 0 }
     ensures reading { OnOk result (IsReading (current_words (R.memory region.now)) work.new 0 0) }
     ensures none_left { OnOk result ((i : ℕ) → has work.new.todo i ≡ false) }
@@ -46,16 +44,14 @@ fn read_directories<R: Region>(region: &R, work: &mut Work) -> Result<(), CheckF
     ensures room { HasRoom (current_words (R.memory region.now)) work.new }
 {
     while let Some(inode) = work.todo.take() {
-        if let Err(fault) = read_directory(region, inode, work) {
-            return Err(fault);
-        }
+        read_directory(region, inode, work)?;
     }
     Ok(())
 }
 
 /// Reads all trees of an image that is formatted: puts its free blocks and inodes into the two sets. The answer is an
 /// error exactly where a check fails; the sets are then of no use.
-pub(crate) fn read_trees<R: Region>(region: &R, work: &mut Work) -> Result<(), CheckFault>
+pub(crate) fn read_trees<R: Region>(region: &R, work: &mut Scan) -> Result<(), CheckFault>
     requires formatted { IsFormatted (current_words (R.memory region.now)) }
     requires unread { IsUnread (current_words (R.memory region.now)) work.old }
     ensures well_formed { OnOk result (IsWellFormed (current_words (R.memory region.now))) }
@@ -66,8 +62,6 @@ pub(crate) fn read_trees<R: Region>(region: &R, work: &mut Work) -> Result<(), C
     ensures fault { IfErr result (λ f. Fails (current_words (R.memory region.now)) f.check f.place) }
     ensures room { HasRoom (current_words (R.memory region.now)) work.new }
 {
-    if let Err(fault) = start(region, work) {
-        return Err(fault);
-    }
+    start(region, work)?;
     read_directories(region, work)
 }

@@ -5,8 +5,8 @@ ghost use Rattle.bp_free.specs.Set.{has, empty};
 ghost use Rattle.bp_layout.specs.Checks.{IsFormatted};
 ghost use Rattle.bp_layout.specs.Free.{AreFreeBlocks, AreFreeInodes};
 ghost use Rattle.bp_layout.specs.WellFormed.{IsWellFormed};
-ghost use Rattle.bp_layout.specs.Words.{block_count};
-ghost use Rattle.bp_limits.specs.Limits.{max_blocks, min_blocks};
+ghost use Rattle.bp_layout.specs.Words.{block_count, word};
+ghost use Rattle.bp_limits.specs.Limits.{block_words, max_blocks, min_blocks, super_blocks, super_magic};
 ghost use Rattle.bp_scan.specs.Faults.{IsFault};
 ghost use Rattle.bp_scan.specs.Room.{HasRoom};
 ghost use Rattle.bp_scan.specs.Totals.{HasTotals};
@@ -17,11 +17,28 @@ use crate::pending::Pending;
 use crate::reading::read_trees;
 use crate::totalling::all_totals;
 use crate::totals::Totals;
-use crate::work::Work;
+use crate::work::Scan;
 use bp_free::{Blocks, Inodes};
-use bp_limits::{BLOCK_SIZE, BLOCK_WORDS, MAGIC, SUPER_BLOCKS, SUPER_MAGIC};
+use bp_layout::Super;
+use bp_limits::{
+    BLOCK_SIZE, BLOCK_WORDS, MAGIC, SUPER_BLOCKS, SUPER_MAGIC, SUPER_ROOT, SUPER_SIZE,
+};
 use pm_region::Region;
 use std::mem;
+
+/// What the superblock of an image says.
+fn read_superblock<R: Region>(region: &R) -> Super
+    requires { block_words ≤ length (current_words (R.memory region.now)) }
+    ensures magic { result.magic ≡ word (current_words (R.memory region.now)) super_magic }
+    ensures blocks { result.blocks ≡ word (current_words (R.memory region.now)) super_blocks }
+{
+    Super::read(&[
+        region.load(SUPER_MAGIC),
+        region.load(SUPER_BLOCKS),
+        region.load(SUPER_ROOT),
+        region.load(SUPER_SIZE),
+    ])
+}
 
 /// Whether an image begins with the mark of a format, and was formatted for the blocks that it has.
 ///
@@ -36,22 +53,22 @@ fn check_superblock<R: Region>(region: &R) -> Result<(), MountFault>
     ensures formatted { OnOk result (IsFormatted (current_words (R.memory region.now))) }
     ensures fault { IfErr result (IsFault (current_words (R.memory region.now))) }
 {
-    if region.load(SUPER_MAGIC) != MAGIC {
+    let superblock = read_superblock(region);
+    if superblock.magic != MAGIC {
         return Err(MountFault::NotFormatted);
     }
     let blocks = u64::from(region.words() / BLOCK_WORDS);
-    let counted = region.load(SUPER_BLOCKS);
-    if counted != blocks {
+    if superblock.blocks != blocks {
         return Err(MountFault::BadSize {
             found: BLOCK_SIZE * blocks,
-            wanted: counted.saturating_mul(BLOCK_SIZE),
+            wanted: superblock.blocks.saturating_mul(BLOCK_SIZE),
         });
     }
     Ok(())
 }
 
 /// Does what [`scan`] does, with the two sets in the work.
-fn scan_with<R: Region>(region: &R, work: &mut Work) -> Result<Totals, MountFault>
+fn scan_with<R: Region>(region: &R, work: &mut Scan) -> Result<Totals, MountFault>
     requires whole { let words = current_words (R.memory region.now) in length words ≡ 512 * block_count words }
     requires least { min_blocks ≤ block_count (current_words (R.memory region.now)) }
     requires most { block_count (current_words (R.memory region.now)) ≤ max_blocks }

@@ -11,7 +11,7 @@ ghost use Rattle.bp_scan.specs.Room.{HasRoom};
 ghost use Rattle.bp_scan.specs.Scanned.{HasAllBlocks};
 ghost use Rattle.pm_region.specs.Memory.{current_words};
 
-use crate::work::Work;
+use crate::work::Scan;
 use bp_free::Blocks;
 use bp_inodes::{inode_file, place};
 use bp_layout::Check;
@@ -103,7 +103,7 @@ fn check_words(inode: u32, words: InodeWords) -> Result<(), CheckFault>
 
 /// Enters the tree of an inode: takes its blocks out of the set, and puts the inode among those to do where it is a
 /// directory.
-pub(crate) fn enter<R: Region>(region: &R, inode: u32, work: &mut Work) -> Result<(), CheckFault>
+pub(crate) fn enter<R: Region>(region: &R, inode: u32, work: &mut Scan) -> Result<(), CheckFault>
     requires formatted { IsFormatted (current_words (R.memory region.now)) }
     requires sound { let words = current_words (R.memory region.now) in
         IsSound words (root_of words 0) (size_of words 0) }
@@ -121,13 +121,9 @@ pub(crate) fn enter<R: Region>(region: &R, inode: u32, work: &mut Work) -> Resul
     ensures room { HasRoom (current_words (R.memory region.now)) work.new }
 {
     let words = inode_words(region, inode);
-    if let Err(fault) = check_words(inode, words) {
-        return Err(fault);
-    }
+    check_words(inode, words)?;
     let holes = words.kind != DIRECTORY;
-    if let Err(fault) = take_tree(region, words.place + 1, words.tree, holes, &mut work.blocks) {
-        return Err(fault);
-    }
+    take_tree(region, words.place + 1, words.tree, holes, &mut work.blocks)?;
     if !holes {
         work.todo.give(inode);
     }

@@ -11,7 +11,7 @@ pub(crate) const SPARE: usize = 256;
 
 /// What a scan works with. At its end the sets of blocks and of inodes have just those that are free.
 #[derive(Drop)]
-pub(crate) struct Work {
+pub(crate) struct Scan {
     /// The blocks of no tree that was entered.
     pub blocks: Blocks,
     /// The inodes that no entry named so far.
@@ -22,7 +22,7 @@ pub(crate) struct Work {
     pub entries: Vec<Spelled>,
 }
 
-impl Work {
+impl Scan {
     /// Empties the sets.
     pub fn clear(&mut self)
         ensures blocks { self.new.blocks ≡ empty (length self.old.blocks) }

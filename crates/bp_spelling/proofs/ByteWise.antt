@@ -118,10 +118,10 @@ unfolding mark
 mark-none = refl
 
 -- the marks of a word
-abbrev pub marks : ℕ → ℕ
-marks w = bit_xor (bit_and (bit_or (bit_and w 9187201950435737471 + 9187201950435737471) w) 9259542123273814144) 9259542123273814144
+abbrev pub zero_marks : ℕ → ℕ
+zero_marks w = bit_xor (bit_and (bit_or (bit_and w 9187201950435737471 + 9187201950435737471) w) 9259542123273814144) 9259542123273814144
 
-mark-at : (w o : ℕ) → o < 8 → byte_of (marks w) o ≡ mark (byte_of w o)
+mark-at : (w o : ℕ) → o < 8 → byte_of (zero_marks w) o ≡ mark (byte_of w o)
 unfolding mark
 mark-at w o low =
     let seven : (i : ℕ) → i < 8 → byte_of (bit_and w 9187201950435737471) i ≡ bit_and (byte_of w i) 127 =
@@ -135,10 +135,10 @@ mark-at w o low =
     and-byte (bit_or (bit_and w 9187201950435737471 + 9187201950435737471) w) 9259542123273814144 o
     ∙ ap₂ bit_and (or-byte (bit_and w 9187201950435737471 + 9187201950435737471) w o ∙ ap (λ s. bit_or s (byte_of w o)) sum) (each_128 o low)) (each_128 o low)
 
-pub mark-some : (w o : ℕ) → o < 8 → byte_of w o ≢ 0 → byte_of (marks w) o ≡ 0
+pub mark-some : (w o : ℕ) → o < 8 → byte_of w o ≢ 0 → byte_of (zero_marks w) o ≡ 0
 mark-some w o low some = mark-at w o low ∙ marked (byte_of w o) (omega arith) some
 
-pub some-mark : (w o : ℕ) → o < 8 → byte_of (marks w) o ≡ 0 → byte_of w o ≢ 0
+pub some-mark : (w o : ℕ) → o < 8 → byte_of (zero_marks w) o ≡ 0 → byte_of w o ≢ 0
 some-mark w o low unmarked none =
     let e : 0 ≡ 128 = sym unmarked ∙ mark-at w o low ∙ ap mark none ∙ mark-none in omega (arith, e)
 

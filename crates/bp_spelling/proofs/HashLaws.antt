@@ -42,8 +42,8 @@ module _ (image : Image) (place : ℕ) where
       mixed (hash_state image place index) value ≡ hash_state image place (index + 1)
   hash_whole index value stands fits low =
       let all : min 8 (word image (place + 1) - 8 * index) ≡ 8 = omega (arith, low) in
-      let uncut : value ≡ word image (place + 2 + index) % 256 ^ 8 = omega (arith, stands, fits) in
-      ap (mixed (hash_state image place index)) (uncut ∙ sym (ap (λ n. word image (place + 2 + index) % 256 ^ n) all)) ∙ hash_next index
+      let whole : value ≡ word image (place + 2 + index) % 256 ^ 8 = omega (arith, stands, fits) in
+      ap (mixed (hash_state image place index)) (whole ∙ sym (ap (λ n. word image (place + 2 + index) % 256 ^ n) all)) ∙ hash_next index
 
   pub hash_rest : (index value : ℕ) → value ≡ word image (place + 2 + index) % 256 ^ min 8 (word image (place + 1) % 8) → index ≡ word image (place + 1) / 8 →
       mixed (hash_state image place index) value ≡ hash_state image place (index + 1)

@@ -7,11 +7,11 @@ use Rattle.bp_layout.specs.Words.{Image}
 use Rattle.bp_spelling.specs.declared.entry.Spelled.{Spelled}
 use Rattle.bp_spelling.specs.Hashes.{IsSpelled, places_of, spelled_key}
 use Rattle.bp_spelling.specs.Places.{name_key, HaveOwnNames, IsDouble}
-use Rattle.bp_spelling.specs.Tables.{home, cell_at, IsPresent, IsKept, Puts, IsClash, IsStop}
+use Rattle.bp_spelling.specs.Tables.{home, cell_at, IsPresent, IsKept, Puts, IsClash, IsTableError}
 use Rattle.bp_spelling.specs.Tables.IsClash.{double}
-use Rattle.bp_spelling.specs.Tables.IsStop.{repeated}
+use Rattle.bp_spelling.specs.Tables.IsTableError.{repeated}
 use Rattle.bp_spelling.specs.declared.table.Clash.TheVariants.{Double}
-use Rattle.bp_spelling.specs.declared.table.Stop.TheVariants.{Repeated}
+use Rattle.bp_spelling.specs.declared.table.TableError.TheVariants.{Repeated}
 use Rattle.bp_spelling.proofs.HashLaws.{same_hash}
 use Rattle.bp_spelling.proofs.HashOrder.{place-at, length-places}
 
@@ -144,5 +144,5 @@ module _ (image : Image) (entries : List Spelled) where
             ap (name_key image) (place-at entries at.index (omega (arith, order, low))) ∙ rest _ _ _ _ (ap (spelled_key image) at.is ∙ same) ∙ sym (ap (name_key image) (place-at entries count low));
       }
 
-pub double_of : (image : Image) (places : List ℕ) (place : ℕ) → IsStop image places (Repeated place) → IsDouble image places place
+pub double_of : (image : Image) (places : List ℕ) (place : ℕ) → IsTableError image places (Repeated place) → IsDouble image places place
 double_of image places _ (repeated place pair) = pair

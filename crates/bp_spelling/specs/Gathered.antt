@@ -11,7 +11,8 @@ use Rattle.bp_spelling.specs.Tables.{IsPresent}
 -- so many entries were written down, those below a slot
 pub record IsGathered (image : Image) (root end slot : ℕ) (entries : List Spelled) (count : ℕ) : Type 0 where
   pub few : count ≤ slot
-  pub gathered : places_of (take count entries) ++ used_places image root (range_with_len slot (end - slot)) ≡ used_places image root (range_with_len 0 end)
+  pub gathered : places_of (take count entries) ++ used_places image root (range_with_len slot (end - slot))
+      ≡ used_places image root (range_with_len 0 end)
   pub hashed : All (IsSpelled image) (take count entries)
   pub present : All IsPresent (take count entries)
   pub forms : (k : ℕ) → k < slot → inumber_in image root k ≢ 0 → IsName (name_in image root k)

@@ -19,10 +19,13 @@ entry_place_in image root slot = 512 * node image root (height_of root) ((32 * s
 -- each name has the form of one, and no two are equal
 pub record AreNames (image : Image) (root size : ℕ) : Type 0 where
   pub forms : (slot : ℕ) → IsUsed image root size slot → IsName (name_in image root slot)
-  pub differ : (slot other : ℕ) → IsUsed image root size slot → IsUsed image root size other → name_in image root slot ≡ name_in image root other → slot ≡ other
+  pub differ : (slot other : ℕ) → IsUsed image root size slot → IsUsed image root size other
+      → name_in image root slot ≡ name_in image root other → slot ≡ other
 
 -- A name has not the form of one, told at its length; or an entry has the name of another.
 pub data AreWrong (image : Image) (root size : ℕ) : NameFault → Type 0 where
-  form : {slot : ℕ} → IsUsed image root size slot → ¬ IsName (name_in image root slot) → AreWrong image root size (Form (entry_place_in image root slot + 1))
-  twice : {slot other : ℕ} → IsUsed image root size slot → IsUsed image root size other → slot ≢ other → name_in image root slot ≡ name_in image root other →
+  form : {slot : ℕ} → IsUsed image root size slot → ¬ IsName (name_in image root slot)
+      → AreWrong image root size (Form (entry_place_in image root slot + 1))
+  twice : {slot other : ℕ} → IsUsed image root size slot → IsUsed image root size other → slot ≢ other
+      → name_in image root slot ≡ name_in image root other →
       AreWrong image root size (Twice (entry_place_in image root slot))

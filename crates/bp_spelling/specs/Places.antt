@@ -10,7 +10,8 @@ use Rattle.bp_spelling.specs.Names.{IsUsed, entry_place_in}
 
 -- the name of the entry at a place
 abbrev pub name_there : Image → ℕ → Name
-name_there image place = map (λ o. byte_of (word image (place + 2 + o / 8)) (o % 8)) (range_with_len 0 (word image (place + 1)))
+name_there image place =
+    map (λ o. byte_of (word image (place + 2 + o / 8)) (o % 8)) (range_with_len 0 (word image (place + 1)))
 
 -- a byte that is neither 0 nor `/`, so many such bytes of a word, and from a word on
 abbrev pub IsPlain : ℕ → Type 0
@@ -39,9 +40,10 @@ pub record IsMisspelled (image : Image) (root size place : ℕ) : Type 0 where
 
 -- the places of the entries that name an inode, in the order of their slots
 abbrev pub used_places : Image → ℕ → List ℕ → List ℕ
-used_places image root all = map (entry_place_in image root) (filter (λ slot. not (inumber_in image root slot == 0)) all)
+used_places image root all =
+    map (entry_place_in image root) (filter (λ slot. not (inumber_in image root slot == 0)) all)
 
--- A word of an entry's name, of which its dead bytes are cut off. Its length is the first.
+-- A word of an entry's name, without its dead bytes. Its length is the first.
 abbrev pub key_word : Image → ℕ → ℕ → ℕ
 key_word image place zero = word image (place + 1)
 key_word image place (suc part) = word image (place + 1 + suc part) % 256 ^ min 8 (word image (place + 1) - 8 * part)
@@ -62,7 +64,8 @@ name_cmp image a b = slice_cmp nat_cmp (name_key image a) (name_key image b)
 
 -- no two of the entries have one name
 abbrev pub HaveOwnNames : Image → List ℕ → Type 0
-HaveOwnNames image places = (i j : ℕ) → i < j → j < length places → name_key image (slice_index places i) ≡ name_key image (slice_index places j) → ⊥
+HaveOwnNames image places = (i j : ℕ) → i < j → j < length places
+    → name_key image (slice_index places i) ≡ name_key image (slice_index places j) → ⊥
 
 -- two of the entries have one name, the second stands at this place
 pub record IsDouble (image : Image) (places : List ℕ) (place : ℕ) : Type 0 where

@@ -1,4 +1,5 @@
--- Tables of names: cells, each empty or with an entry. A name stands in the first empty cell from the one of its hash on.
+-- Tables of names: cells, each empty or with an entry. A name stands in the first empty cell from the one of its hash
+-- on.
 use Rattle.std.specs.Prelude.{◌≡◌, ◌≢◌, ◌⊎◌, ℕ, ◌-◌, ◌%◌, ◌<◌, ◌≤◌, List, length, slice_index_or}
 use Rattle.bp_layout.specs.Words.{Image}
 use Rattle.bp_spelling.specs.Hashes.{spelled_key}
@@ -6,8 +7,8 @@ use Rattle.bp_spelling.specs.Places.{IsDouble}
 use Rattle.bp_spelling.specs.declared.entry.Spelled.{Spelled}
 use Rattle.bp_spelling.specs.declared.table.Clash.{Clash}
 use Rattle.bp_spelling.specs.declared.table.Clash.TheVariants.{Double, Full}
-use Rattle.bp_spelling.specs.declared.table.Stop.{Stop}
-use Rattle.bp_spelling.specs.declared.table.Stop.TheVariants.{Repeated, Crowded}
+use Rattle.bp_spelling.specs.declared.table.TableError.{TableError}
+use Rattle.bp_spelling.specs.declared.table.TableError.TheVariants.{Repeated, Crowded}
 
 -- the first cell that may hold a hash, of so many cells
 abbrev pub home : ℕ → ℕ → ℕ
@@ -32,15 +33,17 @@ pub record IsKept (table : List Spelled) (entry : Spelled) : Type 0 where
 pub record Puts (image : Image) (old new : List Spelled) (entry : Spelled) : Type 0 where
   pub here : IsKept new entry
   pub keeps : (other : Spelled) → other.place ≢ 0 → IsKept old other → IsKept new other
-  pub alone : (other : Spelled) → other.place ≢ 0 → IsKept old other → spelled_key image other ≡ spelled_key image entry → ⊥
+  pub alone : (other : Spelled) → other.place ≢ 0 → IsKept old other → spelled_key image other ≡ spelled_key image entry
+      → ⊥
   pub cells : (cell : ℕ) → (cell_at new cell ≡ cell_at old cell) ⊎ (cell_at new cell ≡ entry)
 
 -- a cell has an entry with the same name, or nothing is known
 pub data IsClash (image : Image) (old : List Spelled) (entry : Spelled) : Clash → Type 0 where
-  double : (cell : ℕ) → (cell_at old cell).place ≢ 0 → spelled_key image (cell_at old cell) ≡ spelled_key image entry → IsClash image old entry Double
+  double : (cell : ℕ) → (cell_at old cell).place ≢ 0 → spelled_key image (cell_at old cell) ≡ spelled_key image entry
+      → IsClash image old entry Double
   full : IsClash image old entry Full
 
 -- one of the entries at these places has the name of another, or nothing is known
-pub data IsStop (image : Image) (places : List ℕ) : Stop → Type 0 where
-  repeated : (place : ℕ) → IsDouble image places place → IsStop image places (Repeated place)
-  untold : IsStop image places (Crowded)
+pub data IsTableError (image : Image) (places : List ℕ) : TableError → Type 0 where
+  repeated : (place : ℕ) → IsDouble image places place → IsTableError image places (Repeated place)
+  untold : IsTableError image places (Crowded)

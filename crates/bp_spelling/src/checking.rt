@@ -6,20 +6,20 @@ ghost use Rattle.bp_limits.specs.Limits.{entry_size};
 ghost use Rattle.bp_spelling.specs.Hashes.{IsSpelled, places_of};
 ghost use Rattle.bp_spelling.specs.Names.{AreNames, AreWrong};
 ghost use Rattle.bp_spelling.specs.Places.{HaveOwnNames};
-ghost use Rattle.bp_spelling.specs.Tables.{IsPresent, IsStop};
+ghost use Rattle.bp_spelling.specs.Tables.{IsPresent, IsTableError};
 ghost use Rattle.pm_region.specs.Memory.{current_words};
 
 use crate::doubles::find_double;
 use crate::entry::Spelled;
 use crate::fault::NameFault;
 use crate::gathering::gather;
-use crate::table::{REACH, Stop, check_by_table};
+use crate::table::{REACH, TableError, check_by_table};
 use bp_tree::Tree;
 use pm_region::Region;
 
 /// What [`check_by_table`] tells of the first entries, so many, by a table in the memory behind them that is at most
 /// half full, where there is room for one.
-fn try_table<R: Region>(region: &R, entries: &mut [Spelled], count: usize) -> Result<(), Stop>
+fn try_table<R: Region>(region: &R, entries: &mut [Spelled], count: usize) -> Result<(), TableError>
     requires count { count ≤ length entries.old }
     requires spelled { All (IsSpelled (current_words (R.memory region.now))) (take count entries.old) }
     requires present { All IsPresent (take count entries.old) }
@@ -27,12 +27,12 @@ fn try_table<R: Region>(region: &R, entries: &mut [Spelled], count: usize) -> Re
     ensures ok { let words = current_words (R.memory region.now) in
         OnOk result (HaveOwnNames words (places_of (take count entries.old))) }
     ensures err { let words = current_words (R.memory region.now) in
-        IfErr result (IsStop words (places_of (take count entries.old))) }
+        IfErr result (IsTableError words (places_of (take count entries.old))) }
     ensures room { length entries.new ≡ length entries.old }
 {
     let (found, table) = entries.split_at_mut(count);
     if table.len() <= REACH || (table.len() - REACH - 1) / 2 < count {
-        return Err(Stop::Crowded);
+        return Err(TableError::Crowded);
     }
     check_by_table(region, found, &mut table[..2 * count + REACH + 1])
 }
@@ -62,8 +62,8 @@ pub fn check_names<R: Region>(
     };
     match try_table(region, entries, count) {
         Ok(()) => Ok(()),
-        Err(Stop::Repeated(place)) => Err(NameFault::Twice { place }),
-        Err(Stop::Crowded) => match find_double(region, &mut entries[..count]) {
+        Err(TableError::Repeated(place)) => Err(NameFault::Twice { place }),
+        Err(TableError::Crowded) => match find_double(region, &mut entries[..count]) {
             Some(place) => Err(NameFault::Twice { place }),
             None => Ok(()),
         },

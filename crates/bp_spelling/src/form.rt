@@ -21,7 +21,7 @@ fn zero_marks(word: u64) -> u64
 }
 
 /// A word whose bytes are 0, except where a byte of the given word is 0 or `/`.
-fn marks(word: u64) -> u64
+fn forbidden_marks(word: u64) -> u64
     ensures { (o : ℕ) → o < 8 → (byte_of result o ≡ 0) ↔ IsPlain (byte_of word o) }
 {
     zero_marks(word) | zero_marks(word ^ 0x2f2f_2f2f_2f2f_2f2f)
@@ -31,7 +31,7 @@ fn marks(word: u64) -> u64
 fn is_plain(word: u64, count: u64) -> bool
     ensures { IsTrue result ↔ ArePlainBytes word count }
 {
-    low_bytes(marks(word), count) == 0
+    low_bytes(forbidden_marks(word), count) == 0
 }
 
 /// Whether no byte of these words is 0 or `/`. It looks at each, which takes less time than to stop at the first.
@@ -40,7 +40,7 @@ fn are_plain_words(words: &[u64]) -> bool
 {
     let mut found = 0;
     for word in words {
-        found |= marks(*word);
+        found |= forbidden_marks(*word);
     }
     found == 0
 }

@@ -87,10 +87,7 @@ pub(crate) fn gather<R: Region>(
 {
     let mut count = 0;
     for leaf in 0..(tree.size / ENTRY_SIZE).div_ceil(16) {
-        count = match gather_leaf(region, tree, 16 * leaf, entries, count) {
-            Ok(count) => count,
-            Err(place) => return Err(place),
-        };
+        count = gather_leaf(region, tree, 16 * leaf, entries, count)?;
     }
     Ok(count)
 }

@@ -3,7 +3,7 @@
 ghost use Rattle.std.specs.Prelude.{◌≡◌, ◌<◌, length, All, OnOk, IfErr};
 ghost use Rattle.bp_spelling.specs.Hashes.{IsSpelled, places_of};
 ghost use Rattle.bp_spelling.specs.Places.{HaveOwnNames};
-ghost use Rattle.bp_spelling.specs.Tables.{home, IsPresent, Puts, IsClash, IsStop};
+ghost use Rattle.bp_spelling.specs.Tables.{home, IsPresent, Puts, IsClash, IsTableError};
 ghost use Rattle.pm_region.specs.Memory.{current_words};
 
 use crate::doubles::compare_entries;
@@ -23,7 +23,7 @@ enum Clash {
 }
 
 /// Why a table does not tell that no two entries have one name.
-pub(crate) enum Stop {
+pub(crate) enum TableError {
     /// The entry at this place has the name of another.
     Repeated(u32),
     /// Too many hashes fall together, or there is no memory for a table.
@@ -65,20 +65,20 @@ pub(crate) fn check_by_table<R: Region>(
     region: &R,
     entries: &[Spelled],
     table: &mut [Spelled],
-) -> Result<(), Stop>
+) -> Result<(), TableError>
     requires spelled { All (IsSpelled (current_words (R.memory region.now))) entries.now }
     requires present { All IsPresent entries.now }
     requires room { 128 < length table.old }
     ensures ok { OnOk result (HaveOwnNames (current_words (R.memory region.now)) (places_of entries.now)) }
-    ensures err { IfErr result (IsStop (current_words (R.memory region.now)) (places_of entries.now)) }
+    ensures err { IfErr result (IsTableError (current_words (R.memory region.now)) (places_of entries.now)) }
     ensures room { length table.new ≡ length table.old }
 {
     table.fill(Spelled::default());
     for entry in entries {
         match put(region, table, *entry) {
             Ok(()) => {}
-            Err(Clash::Double) => return Err(Stop::Repeated(entry.place)),
-            Err(Clash::Full) => return Err(Stop::Crowded),
+            Err(Clash::Double) => return Err(TableError::Repeated(entry.place)),
+            Err(Clash::Full) => return Err(TableError::Crowded),
         }
     }
     Ok(())

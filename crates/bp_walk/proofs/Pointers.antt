@@ -1,28 +1,27 @@
 -- A walk over one more pointer: it names a block that leaves the set, or it is null.
 use Rattle.std.proofs.Common.{◌≡◌, ◌≢◌, ◌⊎◌, ℕ, zero, suc, ◌+◌, ◌*◌, ◌%◌, ◌<◌, ◌≤◌, Bool, true, false, length, refl, sym, ◌∙◌, ap, subst, arith, inl, inr, Result, Ok, Err}
-use Rattle.std.proofs.lemmas.Bool.{cases_eq}
+use Rattle.std.proofs.lemmas.Bool.{cases_eq, cases_lt}
 use Rattle.std.specs.Result.{OnOk, IfErr}
 use Rattle.bp_free.specs.Set.{Set, has, without}
 use Rattle.bp_layout.specs.Words.{Image, word, block_count, block_of, height_of}
 use Rattle.bp_layout.specs.Tree.{word_at, node, covered}
 use Rattle.bp_layout.specs.Checks.{Passes}
+use Rattle.bp_layout.specs.Fields.{IsRootWord}
 use Rattle.bp_layout.specs.declared.check.Check.{Check}
+use Rattle.bp_layout.specs.declared.check.Check.TheVariants.{Height, PointerBits}
 use Rattle.bp_walk.specs.Taken.{block_at, Takes}
 use Rattle.bp_walk.specs.Pointed.{ClaimsPointed, RefusesPointed}
 use Rattle.bp_walk.specs.Pointed.RefusesPointed.{too_high, is_null, has_left}
 use Rattle.bp_walk.specs.Walk.{IsPlace, WalksBelow, FailsBelow, FailsTree}
 use Rattle.bp_walk.specs.Walk.FailsBelow.{range, hole}
-use Rattle.bp_walk.specs.Walk.FailsTree.{root_range, root_hole, root_taken, below}
+use Rattle.bp_walk.specs.Walk.FailsTree.{height, root_bits, root_range, root_hole, root_taken, below}
 use Rattle.bp_walk.proofs.TakenLaws.{clash, take_one, take_null, length_without, has_without, has_less}
 use Rattle.bp_walk.proofs.Below.{child_word, leaf, null, step, repeats_here, fails_below}
 
-module _ (pointer : ℕ) (holes : Bool) (old new : Set) (block : ℕ) (claims : ClaimsPointed pointer holes old new block) where
-  pub claimed_takes : (image : Image) (at : ℕ) → word image at ≡ pointer → Takes image (λ p. p ≡ at) old new
-  claimed_takes image at stands = go (cases_eq block 0)
+module _ (block : ℕ) (holes : Bool) (old new : Set) (claims : ClaimsPointed block holes old new) where
+  pub claimed_takes : (image : Image) (at : ℕ) → block_at image at ≡ block → Takes image (λ p. p ≡ at) old new
+  claimed_takes image at named = go (cases_eq block 0)
     where
-      named : block_at image at ≡ block
-      named = ap block_of stands ∙ claims.named
-
       go : (block ≡ 0) ⊎ (block ≡ 0 → ⊥) → Takes image (λ p. p ≡ at) old new
       go (inl none) = subst (λ set. Takes image (λ p. p ≡ at) old set) (sym (claims.null none).1) (take_null image at old (named ∙ none))
       go (inr some) =
@@ -68,30 +67,30 @@ module _ (image : Image) (root size : ℕ) (holes : Bool) (d k b s : ℕ) (old n
   room_now : length now ≡ block_count image
   room_now = walks.takes.room ∙ room
 
-  pub refused_below : (check : Check) → RefusesPointed pointer holes now check → FailsBelow image 0 root size holes b old check (512 * b + s)
+  pub refused_below : (check : Check) → RefusesPointed (block_of pointer) holes now check → FailsBelow image 0 root size holes b old check (512 * b + s)
   refused_below _ (too_high high) = range child (omega (arith, pointed, room_now, high))
   refused_below _ (is_null none closed) = hole child closed (sym pointed ∙ none)
   refused_below _ (has_left present in_range gone) =
       repeats_here image 0 root size holes d k b s old now named low out child walks (λ none. present (pointed ∙ none)) (omega (arith, pointed, room_now, in_range)) (ap (has now) (sym pointed) ∙ gone)
 
-  module _ (mid : Set) (block : ℕ) (claims : ClaimsPointed pointer holes now mid block) where
+  module _ (mid : Set) (block : ℕ) (reads : block_of pointer ≡ block) (claims : ClaimsPointed block holes now mid) where
     pub claimed_node : node image root (suc d) (512 * k + s) ≡ block
-    claimed_node = sym pointed ∙ claims.named
+    claimed_node = sym pointed ∙ reads
 
     pub claimed_passes : pointer % 4096 ≡ 0 → Passes image root (suc d) (512 * k + s)
     claimed_passes bits = (ap (λ x. x % 4096) (sym here) ∙ bits, omega (arith, claimed_node, room_now, claims.in_range))
 
     pub claimed_step : (new : Set) → pointer % 4096 ≡ 0 → WalksBelow image 0 root size holes (suc d) (512 * k + s) 512 mid new → WalksBelow image 0 root size holes d k (s + 1) old new
     claimed_step new bits under =
-        step image 0 root size holes d k b s old now named low out child walks mid new (claimed_takes pointer holes now mid block claims image (512 * b + s) (sym stands)) (claimed_passes bits)
-        (λ closed none. claimed_full pointer holes now mid block claims closed (sym claimed_node ∙ none)) under
+        step image 0 root size holes d k b s old now named low out child walks mid new (claimed_takes block holes now mid claims image (512 * b + s) (ap block_of (sym stands) ∙ reads)) (claimed_passes bits)
+        (λ closed none. claimed_full block holes now mid claims closed (sym claimed_node ∙ none)) under
 
     -- a leaf has nothing below
     pub claimed_leaf : height_of root ≤ suc d → pointer % 4096 ≡ 0 → WalksBelow image 0 root size holes d k (s + 1) old mid
     claimed_leaf bottom bits = claimed_step mid bits (leaf image 0 root size holes (suc d) (512 * k + s) mid bottom)
 
     pub claimed_present : pointer % 4096 ≡ 0 → (pointer ≡ 0 → holes ≡ false) → block ≢ 0
-    claimed_present bits full none = clash (claims.null none).0 (full (omega (arith, bits, claims.named, none)))
+    claimed_present bits full none = clash (claims.null none).0 (full (omega (arith, bits, reads, none)))
 
     pub claimed_fails : (check : Check) (p : ℕ) → block ≢ 0 → FailsBelow image 0 root size holes block mid check p → FailsBelow image 0 root size holes b old check p
     claimed_fails check p some fails =
@@ -102,9 +101,9 @@ module _ (image : Image) (root size : ℕ) (holes : Bool) (d k b s : ℕ) (old n
   pub null_step : b < block_count image → holes ≡ true → pointer ≡ 0 → WalksBelow image 0 root size holes d k (s + 1) old now
   null_step some may none =
       let nothing : block_of pointer ≡ 0 = ap block_of none in
-      let claims : ClaimsPointed pointer holes now now 0 =
-      record { named = nothing; in_range = omega (arith, some, room_now); null = λ is. (may, refl); present = λ is. absurd (is refl) } in
-      claimed_step now 0 claims now (ap (λ x. x % 4096) none) (null image 0 root size holes (suc d) (512 * k + s) now (sym pointed ∙ nothing))
+      let claims : ClaimsPointed 0 holes now now =
+      record { in_range = omega (arith, some, room_now); null = λ is. (may, refl); present = λ is. absurd (is refl) } in
+      claimed_step now 0 nothing claims now (ap (λ x. x % 4096) none) (null image 0 root size holes (suc d) (512 * k + s) now (sym pointed ∙ nothing))
 
 -- nulls that may be are passed over
 module _ (image : Image) (root size : ℕ) (holes : Bool) (d k b : ℕ) (old now : Set) (named : node image root d k ≡ b) (out : has old b ≡ false) (room : length old ≡ block_count image)
@@ -121,17 +120,25 @@ module _ (image : Image) (root size : ℕ) (holes : Bool) (d k b : ℕ) (old now
       (null_step image root size holes d k b (s + n) old now named (omega (arith, low)) out (places (s + n) (omega arith) (omega arith)) before (word image (512 * b + (s + n))) refl room some may
       (nulls (s + n) (omega arith) (omega arith)))
 
+-- the root word has no form
+pub unformed_root : (image : Image) (at root size : ℕ) (holes : Bool) (old : Set) (check : Check) → 0 < size → (IsRootWord root → ⊥) → (3 < height_of root → check ≡ Height) →
+    (height_of root ≤ 3 → check ≡ PointerBits) → FailsTree image at root size holes old check at
+unformed_root image at root size holes old check some unformed high low = go (cases_lt 3 (height_of root))
+  where
+    go : (3 < height_of root) ⊎ (height_of root ≤ 3) → FailsTree image at root size holes old check at
+    go (inl above) = subst (λ c. FailsTree image at root size holes old c at) (sym (high above)) (height some above)
+    go (inr within) = subst (λ c. FailsTree image at root size holes old c at) (sym (low within)) (root_bits some (λ even. unformed (within, even)))
+
 -- the root word is refused
 pub refused_root : (image : Image) (at root size : ℕ) (holes : Bool) (old : Set) (check : Check) → length old ≡ block_count image → 0 < size → size ≤ covered (suc (height_of root)) →
-    RefusesPointed root holes old check → FailsTree image at root size holes old check at
+    RefusesPointed (block_of root) holes old check → FailsTree image at root size holes old check at
 refused_root image at root size holes old _ room some fits (too_high high) = root_range some (omega (arith, room, high))
 refused_root image at root size holes old _ room some fits (is_null none closed) = root_hole some closed none
 refused_root image at root size holes old _ room some fits (has_left present in_range gone) = root_taken some fits present (omega (arith, room, in_range)) gone
 
-pub claimed_root_fails : (image : Image) (at root size : ℕ) (holes : Bool) (old mid : Set) (block : ℕ) (check : Check) (p : ℕ) → length old ≡ block_count image → 0 < size → ClaimsPointed root holes old mid block →
+pub claimed_root_fails : (image : Image) (at root size : ℕ) (holes : Bool) (old mid : Set) (block : ℕ) (check : Check) (p : ℕ) → length old ≡ block_count image → 0 < size → block_of root ≡ block → ClaimsPointed block holes old mid →
     block ≢ 0 → FailsBelow image 0 root size holes block mid check p → FailsTree image at root size holes old check p
-claimed_root_fails image at root size holes old mid block check p room some claims present fails =
-    let named : block_of root ≡ block = claims.named in
+claimed_root_fails image at root size holes old mid block check p room some named claims present fails =
     below some (λ none. present (sym named ∙ none)) (omega (arith, named, room, claims.in_range)) (ap (has old) named ∙ (claims.present present).0)
     (subst (λ x. FailsBelow image 0 root size holes x (without old x) check p) (sym named) (subst (λ set. FailsBelow image 0 root size holes block set check p) (claims.present present).1 fails))
 

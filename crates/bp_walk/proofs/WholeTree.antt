@@ -72,9 +72,8 @@ whole_tree image at root size holes old mid new rooted fits some passes full one
 
 -- the same where the root word was claimed as any pointer is
 pub claimed_tree : (image : Image) (at root size : ℕ) (holes : Bool) (old mid new : Set) (block : ℕ) → word image at ≡ root → size ≤ covered (suc (height_of root)) → 0 < size →
-    height_of root ≤ 3 → root / 8 % 512 ≡ 0 → length old ≡ block_count image → ClaimsPointed root holes old mid block → WalksBelow image 0 root size holes 0 0 512 mid new →
+    height_of root ≤ 3 → root / 8 % 512 ≡ 0 → length old ≡ block_count image → block_of root ≡ block → ClaimsPointed block holes old mid → WalksBelow image 0 root size holes 0 0 512 mid new →
     TakesTree image at root size holes old new
-claimed_tree image at root size holes old mid new block rooted fits some low bits room claims walks =
-    let named : block_of root ≡ block = claims.named in
+claimed_tree image at root size holes old mid new block rooted fits some low bits room named claims walks =
     whole_tree image at root size holes old mid new rooted fits some (root_passes image root low bits (omega (arith, named, room, claims.in_range)))
-    (λ closed none. claimed_full root holes old mid block claims closed (sym named ∙ none)) (claimed_takes root holes old mid block claims image at rooted) walks
+    (λ closed none. claimed_full block holes old mid claims closed (sym named ∙ none)) (claimed_takes block holes old mid claims image at (ap block_of rooted ∙ named)) walks

@@ -13,7 +13,8 @@ pub record NamesBlock (image : Image) (P : ℕ → Type 0) (block : ℕ) : Type 
   pub is : P place
   pub named : block_at image place ≡ block
 
--- The blocks that the pointers at these places name were in the old set, each once, and the new set lacks them and no others.
+-- The blocks that the pointers at these places name were in the old set, each once, and the new set lacks them and no
+-- others.
 pub record Takes (image : Image) (P : ℕ → Type 0) (old new : Set) : Type 0 where
   pub room : length new ≡ length old
   pub was : (p : ℕ) → P p → block_at image p ≢ 0 → has old (block_at image p) ≡ true

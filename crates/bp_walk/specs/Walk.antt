@@ -30,7 +30,8 @@ pub record IsBelow (image : Image) (at root size d k slots place : ℕ) : Type 0
 
 -- each of these passes, and is not null where holes are not let through
 abbrev pub ArePassing : Image → ℕ → ℕ → Bool → ℕ → ℕ → ℕ → Type 0
-ArePassing image root size holes d k slots = (slot e l : ℕ) → slot < slots → IsPointerUnder (suc d) (512 * k + slot) e l → IsLivePointer root size e l → IsFollowed image root size e l →
+ArePassing image root size holes d k slots = (slot e l : ℕ) → slot < slots → IsPointerUnder (suc d) (512 * k + slot) e l
+    → IsLivePointer root size e l → IsFollowed image root size e l →
     Passes image root e l × (holes ≡ false → node image root e l ≢ 0)
 
 -- the pointers under the slots of a node pass, and their blocks left the set
@@ -38,15 +39,21 @@ pub record WalksBelow (image : Image) (at root size : ℕ) (holes : Bool) (d k s
   pub takes : Takes image (IsBelow image at root size d k slots) old new
   pub passing : ArePassing image root size holes d k slots
 
--- A check that fails below a node, whose own block is `block`. A block that two pointers name is told in two ways: both pointers are below the node, or
--- the block had left the set before. In the second the pointer itself stands in a block that had not, so it is none of those that were walked over.
+-- A check that fails below a node, whose own block is `block`. A block that two pointers name is told in two ways:
+-- both pointers are below the node, or the block had left the set before. In the second the pointer itself stands in
+-- a block that had not, so it is none of those that were walked over.
 pub data FailsBelow (image : Image) (at root size : ℕ) (holes : Bool) (block : ℕ) (old : Set) : Check → ℕ → Type 0 where
-  bits : {d k p : ℕ} → IsPlace image at root size (suc d) k p → word_at image root (suc d) k % 4096 ≢ 0 → FailsBelow image at root size holes block old PointerBits p
-  range : {d k p : ℕ} → IsPlace image at root size (suc d) k p → block_count image ≤ node image root (suc d) k → FailsBelow image at root size holes block old Range p
-  hole : {d k p : ℕ} → IsPlace image at root size (suc d) k p → holes ≡ false → node image root (suc d) k ≡ 0 → FailsBelow image at root size holes block old Hole p
-  taken : {d k p : ℕ} → IsPlace image at root size (suc d) k p → node image root (suc d) k ≢ 0 → node image root (suc d) k < block_count image → has old (node image root (suc d) k) ≡ false →
+  bits : {d k p : ℕ} → IsPlace image at root size (suc d) k p → word_at image root (suc d) k % 4096 ≢ 0
+      → FailsBelow image at root size holes block old PointerBits p
+  range : {d k p : ℕ} → IsPlace image at root size (suc d) k p → block_count image ≤ node image root (suc d) k
+      → FailsBelow image at root size holes block old Range p
+  hole : {d k p : ℕ} → IsPlace image at root size (suc d) k p → holes ≡ false → node image root (suc d) k ≡ 0
+      → FailsBelow image at root size holes block old Hole p
+  taken : {d k p : ℕ} → IsPlace image at root size (suc d) k p → node image root (suc d) k ≢ 0
+      → node image root (suc d) k < block_count image → has old (node image root (suc d) k) ≡ false →
       (p / 512 ≡ block) ⊎ (has old (p / 512) ≡ true) → FailsBelow image at root size holes block old BlockTwice p
-  twice : {d k e l p q : ℕ} → IsPlace image at root size (suc d) k p → IsPlace image at root size (suc e) l q → p ≢ q → node image root (suc d) k ≢ 0 →
+  twice : {d k e l p q : ℕ} → IsPlace image at root size (suc d) k p → IsPlace image at root size (suc e) l q → p ≢ q
+      → node image root (suc d) k ≢ 0 →
       node image root (suc d) k ≡ node image root (suc e) l → FailsBelow image at root size holes block old BlockTwice p
 
 -- the place of a pointer of the tree
@@ -59,7 +66,8 @@ pub record IsTreePlace (image : Image) (at root size place : ℕ) : Type 0 where
 pub record TakesTree (image : Image) (at root size : ℕ) (holes : Bool) (old new : Set) : Type 0 where
   pub fits : size ≤ covered (suc (height_of root))
   pub takes : Takes image (IsTreePlace image at root size) old new
-  pub passing : (d k : ℕ) → IsLivePointer root size d k → IsFollowed image root size d k → Passes image root d k × (holes ≡ false → node image root d k ≢ 0)
+  pub passing : (d k : ℕ) → IsLivePointer root size d k → IsFollowed image root size d k → Passes image root d k
+      × (holes ≡ false → node image root d k ≢ 0)
 
 -- a check that fails in the tree
 pub data FailsTree (image : Image) (at root size : ℕ) (holes : Bool) (old : Set) : Check → ℕ → Type 0 where
@@ -67,8 +75,11 @@ pub data FailsTree (image : Image) (at root size : ℕ) (holes : Bool) (old : Se
   root_bits : 0 < size → root / 8 % 512 ≢ 0 → FailsTree image at root size holes old PointerBits at
   root_range : 0 < size → block_count image ≤ block_of root → FailsTree image at root size holes old Range at
   root_hole : 0 < size → holes ≡ false → block_of root ≡ 0 → FailsTree image at root size holes old Hole at
-  root_taken : 0 < size → size ≤ covered (suc (height_of root)) → block_of root ≢ 0 → block_of root < block_count image →
+  root_taken : 0 < size → size ≤ covered (suc (height_of root)) → block_of root ≢ 0
+      → block_of root < block_count image →
       has old (block_of root) ≡ false → FailsTree image at root size holes old BlockTwice at
   capacity : covered (suc (height_of root)) < size → FailsTree image at root size holes old Capacity (at + 1)
-  below : {c : Check} {p : ℕ} → 0 < size → block_of root ≢ 0 → block_of root < block_count image → has old (block_of root) ≡ true →
-      FailsBelow image 0 root size holes (block_of root) (without old (block_of root)) c p → FailsTree image at root size holes old c p
+  below : {c : Check} {p : ℕ} → 0 < size → block_of root ≢ 0 → block_of root < block_count image
+      → has old (block_of root) ≡ true →
+      FailsBelow image 0 root size holes (block_of root) (without old (block_of root)) c p
+      → FailsTree image at root size holes old c p

@@ -6,12 +6,13 @@ ghost use Rattle.bp_layout.specs.Words.{word, block_count, height_of};
 ghost use Rattle.bp_limits.specs.Limits.{max_blocks, max_height};
 ghost use Rattle.bp_layout.specs.Tree.{node, covered, IsLivePointer};
 ghost use Rattle.bp_layout.specs.Checks.{IsFollowed, Passes};
+ghost use Rattle.bp_layout.specs.declared.check.Check.TheVariants.{Height, PointerBits};
 ghost use Rattle.pm_region.specs.Memory.{current_words};
 ghost use Rattle.bp_walk.specs.Pointed.{ClaimsPointed, RefusesPointed};
 ghost use Rattle.bp_walk.specs.Walk.{WalksBelow, FailsBelow, TakesTree, FailsTree};
 
 use bp_free::Blocks;
-use bp_layout::Check;
+use bp_layout::{Check, RootWord};
 use bp_limits::MAX_HEIGHT;
 use bp_tree::Tree;
 use pm_region::Region;
@@ -40,18 +41,18 @@ fn span(level: u32) -> u64
 /// Takes the block that a pointer names out of the set, and answers with its number: 0 where the pointer is null and
 /// may be.
 fn claim_pointed(
-    pointer: u64,
+    block: u64,
     place: u32,
     holes: bool,
     blocks: &mut Blocks,
 ) -> Result<u32, CheckFault>
     requires some { 0 < length blocks.old }
-    ensures ok { IfOk result (λ block. ClaimsPointed pointer holes blocks.old blocks.new block) }
-    ensures err { IfErr result (λ f. RefusesPointed pointer holes blocks.old f.check) }
+    ensures named { IfOk result (λ number. number ≡ block) }
+    ensures ok { IfOk result (λ number. ClaimsPointed number holes blocks.old blocks.new) }
+    ensures err { IfErr result (λ f. RefusesPointed block holes blocks.old f.check) }
     ensures place { IfErr result (λ f. f.place ≡ place) }
     ensures room { length blocks.new ≡ length blocks.old }
 {
-    let block = pm_words::block_of(pointer);
     if block >= blocks.room() as u64 {
         return Err(CheckFault {
             check: Check::Range,
@@ -81,7 +82,7 @@ fn claim_pointed(
 
 /// A pointer of a tree, and the block that it names.
 #[derive(Clone, Copy)]
-struct Node {
+struct Pointer {
     /// How far it stands below the root word.
     depth: u32,
     /// How far its block stands above the leaves.
@@ -93,7 +94,7 @@ struct Node {
 }
 
 /// How many pointers of a node's block are live: those of its first slots.
-fn live_slots(size: u64, top: Node) -> u32
+fn live_slots(size: u64, top: Pointer) -> u32
     requires least { 1 ≤ top.level }
     requires most { top.level ≤ max_height }
     requires live { top.index * covered (suc top.level) < size }
@@ -137,7 +138,7 @@ fn take_below<R: Region>(
     region: &R,
     tree: Tree,
     holes: bool,
-    top: Node,
+    top: Pointer,
     blocks: &mut Blocks,
 ) -> Result<(), CheckFault>
     requires whole { let words = current_words (R.memory region.now) in length words ≡ 512 * block_count words }
@@ -172,32 +173,42 @@ fn take_below<R: Region>(
             slot = past_nulls(pointers, slot);
             continue;
         }
-        if pointer & 4095 != 0 {
+        let Ok(named) = bp_layout::pointer(pointer) else {
             return Err(CheckFault {
                 check: Check::PointerBits,
                 place,
             });
-        }
-        let block = match claim_pointed(pointer, place, holes, blocks) {
-            Ok(block) => block,
-            Err(fault) => return Err(fault),
         };
+        let block = claim_pointed(named, place, holes, blocks)?;
         let index = 512 * top.index + slot as u64;
         slot += 1;
         if top.level == 1 {
             continue;
         }
-        let child = Node {
+        let child = Pointer {
             depth: top.depth + 1,
             level: top.level - 1,
             index,
             block,
         };
-        if let Err(fault) = take_below(region, tree, holes, child, blocks) {
-            return Err(fault);
-        }
+        take_below(region, tree, holes, child, blocks)?;
     }
     Ok(())
+}
+
+/// The check that fails at the root word of a tree where it has no form: that of the height where it is too great, else
+/// that of the bits.
+fn root_fault(tree: Tree, place: u32) -> CheckFault
+    ensures high { max_height < height_of tree.root → result.check ≡ Height }
+    ensures low { height_of tree.root ≤ max_height → result.check ≡ PointerBits }
+    ensures place { result.place ≡ place }
+{
+    let check = if tree.height() > MAX_HEIGHT {
+        Check::Height
+    } else {
+        Check::PointerBits
+    };
+    CheckFault { check, place }
 }
 
 /// Takes the blocks of a tree out of the set of blocks that no tree has yet. `at` is the word of the region at which
@@ -227,35 +238,22 @@ pub fn take_tree<R: Region>(
     if tree.size == 0 {
         return Ok(());
     }
-    let height = tree.height();
-    if height > MAX_HEIGHT {
-        return Err(CheckFault {
-            check: Check::Height,
-            place: at,
-        });
-    }
-    if (tree.root / 8) % 512 != 0 {
-        return Err(CheckFault {
-            check: Check::PointerBits,
-            place: at,
-        });
-    }
-    if tree.size > span(height + 1) {
+    let Ok(root) = RootWord::read(tree.root) else {
+        return Err(root_fault(tree, at));
+    };
+    if tree.size > span(root.height + 1) {
         return Err(CheckFault {
             check: Check::Capacity,
             place: at + 1,
         });
     }
-    let block = match claim_pointed(tree.root, at, holes, blocks) {
-        Ok(block) => block,
-        Err(fault) => return Err(fault),
-    };
-    if height == 0 || block == 0 {
+    let block = claim_pointed(root.block, at, holes, blocks)?;
+    if root.height == 0 || block == 0 {
         return Ok(());
     }
-    let top = Node {
+    let top = Pointer {
         depth: 0,
-        level: height,
+        level: root.height,
         index: 0,
         block,
     };

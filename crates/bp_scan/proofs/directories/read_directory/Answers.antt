@@ -1,5 +1,6 @@
 use Rattle.std.proofs.Common.{◌*◌, ◌/◌, ◌≤◌, ◌∙◌, arith}
 use Rattle.bp_layout.specs.Words.{block_count}
+use Rattle.std.proofs.lemmas.Result.{err_from_is_err_and}
 use Rattle.pm_region.specs.Memory.{current_words}
 use Rattle.bp_walk.proofs.Pointers.{on_ok_then}
 use Rattle.bp_scan.proofs.Inside.{inodes_sound}
@@ -28,11 +29,12 @@ read_names-requires-clause-room g c =
     (record { inode = c.args.inode; tree = c.of-tree.result }) c.requires (c.of-tree.ensures.root ∙ c.get-words.ensures.root) (c.of-tree.ensures.size ∙ c.get-words.ensures.size) in
     omega (arith, few, c.requires.reading.room.entries)
 
-pub returns-in-Err-clause-fault : goal.returns-in-Err-clause-fault
-returns-in-Err-clause-fault g c =
-    begun_names_fail (current_words (g.R.Region.memory c.args.region.now)) c.args.work.now
+pub returns-in_err-read_names-clause-fault : goal.returns-in_err-read_names-clause-fault
+returns-in_err-read_names-clause-fault g c =
+    let p = err_from_is_err_and c.from_residual.result c.from_residual.ensures.1 in
+    rw (p.1, p.2) (begun_names_fail (current_words (g.R.Region.memory c.args.region.now)) c.args.work.now
     (record { inode = c.args.inode; tree = c.of-tree.result }) c.requires (c.of-tree.ensures.root ∙ c.get-words.ensures.root) (c.of-tree.ensures.size ∙ c.get-words.ensures.size)
-    c.in-Err.fault.check c.in-Err.fault.place c.in-Err.ensures.err
+    c.in_err-read_names.field-0.0.check c.in_err-read_names.field-0.0.place c.in_err-read_names.ensures.err)
 
 pub returns-clause-done : goal.returns-clause-done
 returns-clause-done g c =

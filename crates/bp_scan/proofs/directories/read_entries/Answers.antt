@@ -7,6 +7,6 @@ pub loop-leaf-preserved : goal.loop-leaf-preserved
 loop-leaf-preserved g c =
     let next : min (16 * c.loop-leaf.leaf + 16) (c.args.directory.tree.size / 256) ≡ min (16 * (c.loop-leaf.leaf + 1)) (c.args.directory.tree.size / 256) = omega arith in
     record {
-      inside = subst (λ (n : ℕ). IsInside (current_words (g.R.Region.memory c.args.region.now)) c.read_leaf.new.work c.args.directory n) next c.in_default.ensures.inside;
+      inside = subst (λ (n : ℕ). IsInside (current_words (g.R.Region.memory c.args.region.now)) c.read_leaf.new.work c.args.directory n) next c.in_ok-read_leaf.ensures.inside;
       less = search rules;
     }

@@ -45,8 +45,8 @@ pub loop-k-preserved : goal.loop-k-preserved
 loop-k-preserved g c =
     let next : c.args.first + c.loop-k.k + 1 ≡ c.args.first + (c.loop-k.k + 1) = omega arith in
     record {
-      inside = subst (λ (n : ℕ). IsInside (current_words (g.R.Region.memory c.args.region.now)) c.read_entry.new.work c.args.directory n) next c.in_default.ensures.inside;
-      less = omega (arith, c.in_default.ensures.steps, c.loop-k.invariant.less);
+      inside = subst (λ (n : ℕ). IsInside (current_words (g.R.Region.memory c.args.region.now)) c.read_entry.new.work c.args.directory n) next c.in_ok-read_entry.ensures.inside;
+      less = omega (arith, c.in_ok-read_entry.ensures.steps, c.loop-k.invariant.less);
     }
 
 pub returns-clause-inside : goal.returns-clause-inside

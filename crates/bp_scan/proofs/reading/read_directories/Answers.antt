@@ -10,7 +10,7 @@ read_directory-requires g c =
 
 pub loop-inode-smaller : goal.loop-inode-smaller
 loop-inode-smaller g c =
-    steps_fall c.loop-inode.work c.take.new.self c.read_directory.new.work c.in-Some.inode c.in-Some.ensures.0 c.in-Some.ensures.1 c.in_default-read_directory.ensures.steps
+    steps_fall c.loop-inode.work c.take.new.self c.read_directory.new.work c.in-Some.inode c.in-Some.ensures.0 c.in-Some.ensures.1 c.in_ok-read_directory.ensures.steps
 
 pub returns-clause-none_left : goal.returns-clause-none_left
 returns-clause-none_left g c i = none_of c.take.new.self (ap members c.in_default.ensures.1 ∙ c.in_default.ensures.0) i

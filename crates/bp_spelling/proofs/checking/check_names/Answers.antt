@@ -6,8 +6,8 @@ use Rattle.bp_spelling.specs.Names.AreWrong.{form}
 use Rattle.bp_spelling.specs.declared.fault.NameFault.TheVariants.{Form}
 use Rattle.bp_spelling.specs.declared.entry.Spelled.{Spelled}
 use Rattle.bp_spelling.specs.Hashes.{places_of}
-use Rattle.bp_spelling.specs.declared.table.Stop.{Stop}
-use Rattle.bp_spelling.specs.Tables.{IsStop}
+use Rattle.bp_spelling.specs.declared.table.TableError.{TableError}
+use Rattle.bp_spelling.specs.Tables.{IsTableError}
 use Rattle.bp_spelling.proofs.TableLaws.{double_of}
 use Rattle.bp_spelling.proofs.Deciding.{no_doubles, doubles}
 use Rattle.bp_spelling.proofs.checking.check_names.Goals as goal
@@ -28,7 +28,7 @@ returns-in-Err-Repeated-clause-err g c =
     let image = current_words (g.R.Region.memory c.args.region.now) in
     let places = places_of (take c.in-Ok.count c.gather.new.entries) in
     doubles image c.args.tree.root c.args.tree.size c.requires.sound c.requires.full c.in-Ok.ensures.forms places places c.in-Ok.ensures.places (IsPermutation-refl places) c.in-Err-Repeated.place
-    (double_of image places c.in-Err-Repeated.place (subst (λ (stop : Stop). IsStop image places stop) c.in-Err-Repeated.field-0-is c.in-Err-Repeated.ensures.err))
+    (double_of image places c.in-Err-Repeated.place (subst (λ (stop : TableError). IsTableError image places stop) c.in-Err-Repeated.field-0-is c.in-Err-Repeated.ensures.err))
 
 pub returns-in-Some-clause-err : goal.returns-in-Some-clause-err
 returns-in-Some-clause-err g c =

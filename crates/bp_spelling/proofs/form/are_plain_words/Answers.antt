@@ -13,12 +13,12 @@ loop-word-preserved c o low =
     let words = c.args.words.now in
     let last = c.loop-word.word-index in (
       λ unmarked i before.
-          let both = (or-none c.loop-word.found c.marks-found.result o).0 unmarked in
+          let both = (or-none c.loop-word.found c.forbidden_marks-found.result o).0 unmarked in
           elim (cases_eq i last) [
-            | inl here ↦ subst (λ (k : ℕ). IsPlain (byte_of (slice_index words k) o)) (sym here) ((c.marks-found.ensures o low).0 both.1)
+            | inl here ↦ subst (λ (k : ℕ). IsPlain (byte_of (slice_index words k) o)) (sym here) ((c.forbidden_marks-found.ensures o low).0 both.1)
             | inr apart ↦ (c.loop-word.invariant o low).0 both.0 i (omega (arith, before, apart))
           ],
-      λ all. (or-none c.loop-word.found c.marks-found.result o).1 ((c.loop-word.invariant o low).1 (λ i before. all i (omega (arith, before))), (c.marks-found.ensures o low).1 (all last (omega arith))),
+      λ all. (or-none c.loop-word.found c.forbidden_marks-found.result o).1 ((c.loop-word.invariant o low).1 (λ i before. all i (omega (arith, before))), (c.forbidden_marks-found.ensures o low).1 (all last (omega arith))),
     )
 
 pub returns : goal.returns

@@ -2,7 +2,7 @@ use Rattle.std.proofs.Common.{subst, arith}
 use Rattle.pm_region.specs.Memory.{current_words}
 use Rattle.bp_spelling.specs.declared.table.Clash.{Clash}
 use Rattle.bp_spelling.specs.Tables.{cell_at, IsClash}
-use Rattle.bp_spelling.specs.Tables.IsStop.{repeated, untold}
+use Rattle.bp_spelling.specs.Tables.IsTableError.{repeated, untold}
 use Rattle.bp_spelling.proofs.TableLaws.{held_apart, held_double}
 use Rattle.bp_spelling.proofs.table.check_by_table.Goals as goal
 

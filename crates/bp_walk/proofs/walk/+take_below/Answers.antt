@@ -1,16 +1,18 @@
-use Rattle.std.proofs.Common.{rules, ◌≡◌, ◌≢◌, ℕ, suc, ◌+◌, ◌-◌, ◌*◌, ◌%◌, ◌<◌, ◌≤◌, false, length, get_or, sym, ◌∙◌, ap, subst, arith, inl, inr}
+use Rattle.std.proofs.Common.{rules, ◌≡◌, ◌≢◌, ℕ, suc, ◌+◌, ◌-◌, ◌*◌, ◌%◌, ◌<◌, ◌≤◌, false, length, get_or, refl, sym, ◌∙◌, ap, subst, arith, inl, inr}
 use Rattle.std.proofs.lemmas.Bool.{cases_eq}
-use Rattle.std.proofs.lemmas.Nat.{and_mask}
-use Rattle.bp_layout.specs.Words.{word, block_count, height_of}
+use Rattle.std.proofs.lemmas.Result.{err_from_is_err_and}
+use Rattle.bp_layout.specs.Words.{word, block_count, block_of, height_of}
 use Rattle.bp_layout.specs.Tree.{node, covered, IsLivePointer}
 use Rattle.bp_layout.specs.Checks.{IsFollowed, Passes}
 use Rattle.pm_region.specs.Memory.{current_words}
 use Rattle.bp_tree.proofs.LoadedWords.{length-loaded, loaded_word}
 use Rattle.bp_tree.proofs.RegionWords.{length_now}
+use Rattle.bp_walk.specs.Pointed.{RefusesPointed}
 use Rattle.bp_walk.specs.Walk.{WalksBelow, IsPlace}
 use Rattle.bp_walk.specs.Walk.FailsBelow.{bits}
 use Rattle.bp_walk.proofs.Below.{rest, small_number, covered_most, child_below, child_of, child_word}
 use Rattle.bp_walk.proofs.Pointers.{claimed_room, claimed_less, claimed_out, claimed_node, claimed_passes, claimed_step, claimed_leaf, claimed_present, claimed_fails, null_steps, refused_below, within_blocks}
+use Rattle.bp_walk.proofs.TakenLaws.{clash}
 use Rattle.bp_walk.proofs.LiveSlots.{covered_some}
 use Rattle.bp_walk.proofs.walk.+take_below.Goals.{else-pointer-eq0-via-then-pointer-eq0+else-holes, else-pointer-eq0-via-else-pointer-eq0}
 use Rattle.bp_walk.proofs.walk.+take_below.Goals as goal
@@ -49,8 +51,8 @@ loop-slot-preserved-then-holes g t c =
           c.loop-slot.invariant.walks (next - slot) (omega (arith, end, long, c.past_nulls-slot.ensures.most, c.live_slots-live.ensures.most)) places null);
     }
 
-pub returns-then-pointer-ne0-clause-err : goal.returns-then-pointer-ne0-clause-err
-returns-then-pointer-ne0-clause-err g t c =
+pub returns-in_default-clause-err : goal.returns-in_default-clause-err
+returns-in_default-clause-err g t c =
     let image = current_words (g.R.Region.memory c.args.region.now) in
     let pointer : ℕ = get_or c.load_words-pointers.result.now c.loop-slot.slot 0 in
     let read : pointer ≡ word image (512 * c.args.top.block + c.loop-slot.slot) = loaded_word image c.load_words-pointers.result.now (512 * c.args.top.block) c.live_slots-live.result c.load_words-pointers.ensures c.loop-slot.slot c.loop-slot-test.true in
@@ -59,10 +61,11 @@ returns-then-pointer-ne0-clause-err g t c =
     child_of image c.args.tree.root c.args.tree.size c.args.top.depth c.args.top.index c.loop-slot.slot c.args.top.block c.args.top.level low c.requires.above c.requires.height
     (c.live_slots-live.ensures.live c.loop-slot.slot c.loop-slot-test.true) c.requires.fits c.requires.followed c.requires.passes c.requires.block c.requires.present in
     let here = read ∙ child_word image 0 c.args.tree.root c.args.tree.size c.args.top.depth (512 * c.args.top.index + c.loop-slot.slot) (512 * c.args.top.block + c.loop-slot.slot) child in
-    bits child (λ even. c.if-pointer-ne0.true (and_mask pointer 12 ∙ ap (λ x. x % 4096) here ∙ even))
+    bits child (λ even. clash (c.in_default.ensures.form.1 (ap (λ x. x % 4096) here ∙ even)) refl)
 
-pub returns-in-Err-clause-err : goal.returns-in-Err-clause-err
-returns-in-Err-clause-err g t c =
+pub returns-in_err-block-clause-err : goal.returns-in_err-block-clause-err
+returns-in_err-block-clause-err g t c =
+    let p = err_from_is_err_and c.from_residual.result c.from_residual.ensures.1 in
     let image = current_words (g.R.Region.memory c.args.region.now) in
     let pointer : ℕ = get_or c.load_words-pointers.result.now c.loop-slot.slot 0 in
     let read : pointer ≡ word image (512 * c.args.top.block + c.loop-slot.slot) = loaded_word image c.load_words-pointers.result.now (512 * c.args.top.block) c.live_slots-live.result c.load_words-pointers.ensures c.loop-slot.slot c.loop-slot-test.true in
@@ -70,7 +73,8 @@ returns-in-Err-clause-err g t c =
     let child : IsPlace image 0 c.args.tree.root c.args.tree.size (suc c.args.top.depth) (512 * c.args.top.index + c.loop-slot.slot) (512 * c.args.top.block + c.loop-slot.slot) =
     child_of image c.args.tree.root c.args.tree.size c.args.top.depth c.args.top.index c.loop-slot.slot c.args.top.block c.args.top.level low c.requires.above c.requires.height
     (c.live_slots-live.ensures.live c.loop-slot.slot c.loop-slot-test.true) c.requires.fits c.requires.followed c.requires.passes c.requires.block c.requires.present in
-    rw c.in-Err.ensures.place (refused_below image c.args.tree.root c.args.tree.size c.args.holes c.args.top.depth c.args.top.index c.args.top.block c.loop-slot.slot c.args.blocks.now c.loop-slot.blocks c.requires.block low c.requires.taken child c.loop-slot.invariant.walks pointer read c.requires.room c.in-Err.fault.check c.in-Err.ensures.err)
+    let refused : RefusesPointed (block_of pointer) c.args.holes c.loop-slot.blocks c.in_err-block.field-0.0.check = subst (λ (x : ℕ). RefusesPointed x c.args.holes c.loop-slot.blocks c.in_err-block.field-0.0.check) c.in-Ok.ensures.block c.in_err-block.ensures.err in
+    rw (p.1, p.2, c.in_err-block.ensures.place) (refused_below image c.args.tree.root c.args.tree.size c.args.holes c.args.top.depth c.args.top.index c.args.top.block c.loop-slot.slot c.args.blocks.now c.loop-slot.blocks c.requires.block low c.requires.taken child c.loop-slot.invariant.walks pointer read c.requires.room c.in_err-block.field-0.0.check refused)
 
 pub loop-slot-preserved-then-top-eq1 : goal.loop-slot-preserved-then-top-eq1
 loop-slot-preserved-then-top-eq1 g t c =
@@ -81,8 +85,9 @@ loop-slot-preserved-then-top-eq1 g t c =
     let child : IsPlace image 0 c.args.tree.root c.args.tree.size (suc c.args.top.depth) (512 * c.args.top.index + c.loop-slot.slot) (512 * c.args.top.block + c.loop-slot.slot) =
     child_of image c.args.tree.root c.args.tree.size c.args.top.depth c.args.top.index c.loop-slot.slot c.args.top.block c.args.top.level low c.requires.above c.requires.height
     (c.live_slots-live.ensures.live c.loop-slot.slot c.loop-slot-test.true) c.requires.fits c.requires.followed c.requires.passes c.requires.block c.requires.present in
-    let bits : pointer % 4096 ≡ 0 = sym (and_mask pointer 12) ∙ c.if-pointer-ne0.false in
-    record { most = omega (arith, c.loop-slot-test.true); walks = claimed_leaf image c.args.tree.root c.args.tree.size c.args.holes c.args.top.depth c.args.top.index c.args.top.block c.loop-slot.slot c.args.blocks.now c.loop-slot.blocks c.requires.block low c.requires.taken child c.loop-slot.invariant.walks pointer read c.requires.room c.claim_pointed.new.blocks c.in-Ok.block c.in-Ok.ensures.ok (omega (arith, c.requires.height, c.if-top-eq1.true)) bits }
+    let bits : pointer % 4096 ≡ 0 = c.in-Ok.ensures.form.0 refl in
+    let reads : block_of pointer ≡ c.in_ok-block.block = sym c.in-Ok.ensures.block ∙ sym c.in_ok-block.ensures.named in
+    record { most = omega (arith, c.loop-slot-test.true); walks = claimed_leaf image c.args.tree.root c.args.tree.size c.args.holes c.args.top.depth c.args.top.index c.args.top.block c.loop-slot.slot c.args.blocks.now c.loop-slot.blocks c.requires.block low c.requires.taken child c.loop-slot.invariant.walks pointer read c.requires.room c.claim_pointed.new.blocks c.in_ok-block.block reads c.in_ok-block.ensures.ok (omega (arith, c.requires.height, c.if-top-eq1.true)) bits }
 
 pub overflow_add-index : goal.overflow_add-index
 overflow_add-index g t c =
@@ -107,18 +112,20 @@ take_below-requires g t c κs within =
     let child : IsPlace image 0 c.args.tree.root c.args.tree.size (suc c.args.top.depth) (512 * c.args.top.index + c.loop-slot.slot) (512 * c.args.top.block + c.loop-slot.slot) =
     child_of image c.args.tree.root c.args.tree.size c.args.top.depth c.args.top.index c.loop-slot.slot c.args.top.block c.args.top.level low c.requires.above c.requires.height
     (c.live_slots-live.ensures.live c.loop-slot.slot c.loop-slot-test.true) c.requires.fits c.requires.followed c.requires.passes c.requires.block c.requires.present in
-    let bits : pointer % 4096 ≡ 0 = sym (and_mask pointer 12) ∙ c.if-pointer-ne0.false in
+    let bits : pointer % 4096 ≡ 0 = c.in-Ok.ensures.form.0 refl in
+    let reads : block_of pointer ≡ c.in_ok-block.block = sym c.in-Ok.ensures.block ∙ sym c.in_ok-block.ensures.named in
     let full : pointer ≡ 0 → c.args.holes ≡ false = λ none. elim c.else-pointer-eq0.branch [
       | else-pointer-eq0-via-then-pointer-eq0+else-holes w ↦ w.if-holes.false
       | else-pointer-eq0-via-else-pointer-eq0 w ↦ absurd (w.if-pointer-eq0.false none)
     ] in
-    let present : c.in-Ok.block ≢ 0 = claimed_present image c.args.tree.root c.args.tree.size c.args.holes c.args.top.depth c.args.top.index c.args.top.block c.loop-slot.slot c.args.blocks.now c.loop-slot.blocks c.requires.block low c.requires.taken child c.loop-slot.invariant.walks pointer read c.requires.room c.claim_pointed.new.blocks c.in-Ok.block c.in-Ok.ensures.ok bits full in
+    let present : c.in_ok-block.block ≢ 0 = claimed_present image c.args.tree.root c.args.tree.size c.args.holes c.args.top.depth c.args.top.index c.args.top.block c.loop-slot.slot c.args.blocks.now c.loop-slot.blocks c.requires.block low c.requires.taken child c.loop-slot.invariant.walks pointer read c.requires.room c.claim_pointed.new.blocks c.in_ok-block.block reads c.in_ok-block.ensures.ok bits full in
     let up : suc c.args.top.depth ≡ c.args.top.depth + 1 = omega arith in
     let index = 512 * c.args.top.index + c.loop-slot.slot in
-    (omega (arith, c.decreases, c.requires.above), (within, (c.requires.whole, (c.requires.most, (claimed_room pointer c.args.holes c.loop-slot.blocks c.claim_pointed.new.blocks c.in-Ok.block c.in-Ok.ensures.ok ∙ c.loop-slot.invariant.walks.takes.room ∙ c.requires.room, (claimed_less pointer c.args.holes c.loop-slot.blocks c.claim_pointed.new.blocks c.in-Ok.block c.in-Ok.ensures.ok 0 (c.loop-slot.invariant.walks.takes.less 0 c.requires.not_first), (omega (arith, c.requires.height, c.requires.above), (c.requires.low, (c.requires.fits, (omega (arith, c.requires.above, c.if-top-eq1.false), (subst (λ (x : ℕ). IsLivePointer c.args.tree.root c.args.tree.size x index) up child.live, (subst (λ (x : ℕ). IsFollowed image c.args.tree.root c.args.tree.size x index) up child.followed, (subst (λ (x : ℕ). Passes image c.args.tree.root x index) up (claimed_passes image c.args.tree.root c.args.tree.size c.args.holes c.args.top.depth c.args.top.index c.args.top.block c.loop-slot.slot c.args.blocks.now c.loop-slot.blocks c.requires.block low c.requires.taken child c.loop-slot.invariant.walks pointer read c.requires.room c.claim_pointed.new.blocks c.in-Ok.block c.in-Ok.ensures.ok bits), (subst (λ (x : ℕ). node image c.args.tree.root x index ≡ c.in-Ok.block) up (claimed_node image c.args.tree.root c.args.tree.size c.args.holes c.args.top.depth c.args.top.index c.args.top.block c.loop-slot.slot c.args.blocks.now c.loop-slot.blocks c.requires.block low c.requires.taken child c.loop-slot.invariant.walks pointer read c.requires.room c.claim_pointed.new.blocks c.in-Ok.block c.in-Ok.ensures.ok), (present, claimed_out pointer c.args.holes c.loop-slot.blocks c.claim_pointed.new.blocks c.in-Ok.block c.in-Ok.ensures.ok (c.loop-slot.invariant.walks.takes.less 0 c.requires.not_first))))))))))))))))
+    (omega (arith, c.decreases, c.requires.above), (within, (c.requires.whole, (c.requires.most, (claimed_room c.in_ok-block.block c.args.holes c.loop-slot.blocks c.claim_pointed.new.blocks c.in_ok-block.ensures.ok ∙ c.loop-slot.invariant.walks.takes.room ∙ c.requires.room, (claimed_less c.in_ok-block.block c.args.holes c.loop-slot.blocks c.claim_pointed.new.blocks c.in_ok-block.ensures.ok 0 (c.loop-slot.invariant.walks.takes.less 0 c.requires.not_first), (omega (arith, c.requires.height, c.requires.above), (c.requires.low, (c.requires.fits, (omega (arith, c.requires.above, c.if-top-eq1.false), (subst (λ (x : ℕ). IsLivePointer c.args.tree.root c.args.tree.size x index) up child.live, (subst (λ (x : ℕ). IsFollowed image c.args.tree.root c.args.tree.size x index) up child.followed, (subst (λ (x : ℕ). Passes image c.args.tree.root x index) up (claimed_passes image c.args.tree.root c.args.tree.size c.args.holes c.args.top.depth c.args.top.index c.args.top.block c.loop-slot.slot c.args.blocks.now c.loop-slot.blocks c.requires.block low c.requires.taken child c.loop-slot.invariant.walks pointer read c.requires.room c.claim_pointed.new.blocks c.in_ok-block.block reads c.in_ok-block.ensures.ok bits), (subst (λ (x : ℕ). node image c.args.tree.root x index ≡ c.in_ok-block.block) up (claimed_node image c.args.tree.root c.args.tree.size c.args.holes c.args.top.depth c.args.top.index c.args.top.block c.loop-slot.slot c.args.blocks.now c.loop-slot.blocks c.requires.block low c.requires.taken child c.loop-slot.invariant.walks pointer read c.requires.room c.claim_pointed.new.blocks c.in_ok-block.block reads c.in_ok-block.ensures.ok), (present, claimed_out c.in_ok-block.block c.args.holes c.loop-slot.blocks c.claim_pointed.new.blocks c.in_ok-block.ensures.ok (c.loop-slot.invariant.walks.takes.less 0 c.requires.not_first))))))))))))))))
 
-pub returns-in-Err-take_below-clause-err : goal.returns-in-Err-take_below-clause-err
-returns-in-Err-take_below-clause-err g t c =
+pub returns-in_err-take_below-clause-err : goal.returns-in_err-take_below-clause-err
+returns-in_err-take_below-clause-err g t c =
+    let p = err_from_is_err_and c.from_residual-in_err-take_below.result c.from_residual-in_err-take_below.ensures.1 in
     let image = current_words (g.R.Region.memory c.args.region.now) in
     let pointer : ℕ = get_or c.load_words-pointers.result.now c.loop-slot.slot 0 in
     let read : pointer ≡ word image (512 * c.args.top.block + c.loop-slot.slot) = loaded_word image c.load_words-pointers.result.now (512 * c.args.top.block) c.live_slots-live.result c.load_words-pointers.ensures c.loop-slot.slot c.loop-slot-test.true in
@@ -126,13 +133,14 @@ returns-in-Err-take_below-clause-err g t c =
     let child : IsPlace image 0 c.args.tree.root c.args.tree.size (suc c.args.top.depth) (512 * c.args.top.index + c.loop-slot.slot) (512 * c.args.top.block + c.loop-slot.slot) =
     child_of image c.args.tree.root c.args.tree.size c.args.top.depth c.args.top.index c.loop-slot.slot c.args.top.block c.args.top.level low c.requires.above c.requires.height
     (c.live_slots-live.ensures.live c.loop-slot.slot c.loop-slot-test.true) c.requires.fits c.requires.followed c.requires.passes c.requires.block c.requires.present in
-    let bits : pointer % 4096 ≡ 0 = sym (and_mask pointer 12) ∙ c.if-pointer-ne0.false in
+    let bits : pointer % 4096 ≡ 0 = c.in-Ok.ensures.form.0 refl in
+    let reads : block_of pointer ≡ c.in_ok-block.block = sym c.in-Ok.ensures.block ∙ sym c.in_ok-block.ensures.named in
     let full : pointer ≡ 0 → c.args.holes ≡ false = λ none. elim c.else-pointer-eq0.branch [
       | else-pointer-eq0-via-then-pointer-eq0+else-holes w ↦ w.if-holes.false
       | else-pointer-eq0-via-else-pointer-eq0 w ↦ absurd (w.if-pointer-eq0.false none)
     ] in
-    let present : c.in-Ok.block ≢ 0 = claimed_present image c.args.tree.root c.args.tree.size c.args.holes c.args.top.depth c.args.top.index c.args.top.block c.loop-slot.slot c.args.blocks.now c.loop-slot.blocks c.requires.block low c.requires.taken child c.loop-slot.invariant.walks pointer read c.requires.room c.claim_pointed.new.blocks c.in-Ok.block c.in-Ok.ensures.ok bits full in
-    claimed_fails image c.args.tree.root c.args.tree.size c.args.holes c.args.top.depth c.args.top.index c.args.top.block c.loop-slot.slot c.args.blocks.now c.loop-slot.blocks c.requires.block low c.requires.taken child c.loop-slot.invariant.walks pointer read c.requires.room c.claim_pointed.new.blocks c.in-Ok.block c.in-Ok.ensures.ok c.in-Err-take_below.fault.check c.in-Err-take_below.fault.place present c.in-Err-take_below.ensures.err
+    let present : c.in_ok-block.block ≢ 0 = claimed_present image c.args.tree.root c.args.tree.size c.args.holes c.args.top.depth c.args.top.index c.args.top.block c.loop-slot.slot c.args.blocks.now c.loop-slot.blocks c.requires.block low c.requires.taken child c.loop-slot.invariant.walks pointer read c.requires.room c.claim_pointed.new.blocks c.in_ok-block.block reads c.in_ok-block.ensures.ok bits full in
+    rw (p.1, p.2) (claimed_fails image c.args.tree.root c.args.tree.size c.args.holes c.args.top.depth c.args.top.index c.args.top.block c.loop-slot.slot c.args.blocks.now c.loop-slot.blocks c.requires.block low c.requires.taken child c.loop-slot.invariant.walks pointer read c.requires.room c.claim_pointed.new.blocks c.in_ok-block.block reads c.in_ok-block.ensures.ok c.in_err-take_below.field-0.0.check c.in_err-take_below.field-0.0.place present c.in_err-take_below.ensures.err)
 
 pub loop-slot-preserved : goal.loop-slot-preserved
 loop-slot-preserved g t c =
@@ -143,12 +151,13 @@ loop-slot-preserved g t c =
     let child : IsPlace image 0 c.args.tree.root c.args.tree.size (suc c.args.top.depth) (512 * c.args.top.index + c.loop-slot.slot) (512 * c.args.top.block + c.loop-slot.slot) =
     child_of image c.args.tree.root c.args.tree.size c.args.top.depth c.args.top.index c.loop-slot.slot c.args.top.block c.args.top.level low c.requires.above c.requires.height
     (c.live_slots-live.ensures.live c.loop-slot.slot c.loop-slot-test.true) c.requires.fits c.requires.followed c.requires.passes c.requires.block c.requires.present in
-    let bits : pointer % 4096 ≡ 0 = sym (and_mask pointer 12) ∙ c.if-pointer-ne0.false in
+    let bits : pointer % 4096 ≡ 0 = c.in-Ok.ensures.form.0 refl in
+    let reads : block_of pointer ≡ c.in_ok-block.block = sym c.in-Ok.ensures.block ∙ sym c.in_ok-block.ensures.named in
     let down : c.args.top.depth + 1 ≡ suc c.args.top.depth = omega arith in
     record {
       most = omega (arith, c.loop-slot-test.true);
-      walks = claimed_step image c.args.tree.root c.args.tree.size c.args.holes c.args.top.depth c.args.top.index c.args.top.block c.loop-slot.slot c.args.blocks.now c.loop-slot.blocks c.requires.block low c.requires.taken child c.loop-slot.invariant.walks pointer read c.requires.room c.claim_pointed.new.blocks c.in-Ok.block c.in-Ok.ensures.ok c.take_below.new.blocks bits
-          (subst (λ (x : ℕ). WalksBelow image 0 c.args.tree.root c.args.tree.size c.args.holes x (512 * c.args.top.index + c.loop-slot.slot) 512 c.claim_pointed.new.blocks c.take_below.new.blocks) down c.in_default.ensures.ok);
+      walks = claimed_step image c.args.tree.root c.args.tree.size c.args.holes c.args.top.depth c.args.top.index c.args.top.block c.loop-slot.slot c.args.blocks.now c.loop-slot.blocks c.requires.block low c.requires.taken child c.loop-slot.invariant.walks pointer read c.requires.room c.claim_pointed.new.blocks c.in_ok-block.block reads c.in_ok-block.ensures.ok c.take_below.new.blocks bits
+          (subst (λ (x : ℕ). WalksBelow image 0 c.args.tree.root c.args.tree.size c.args.holes x (512 * c.args.top.index + c.loop-slot.slot) 512 c.claim_pointed.new.blocks c.take_below.new.blocks) down c.in_ok-take_below.ensures.ok);
     }
 
 pub returns-clause-ok : goal.returns-clause-ok

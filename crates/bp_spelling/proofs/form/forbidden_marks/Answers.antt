@@ -1,5 +1,5 @@
 use Rattle.bp_spelling.proofs.ByteWise.{or-none, turned-other, other-turned}
-use Rattle.bp_spelling.proofs.form.marks.Goals as goal
+use Rattle.bp_spelling.proofs.form.forbidden_marks.Goals as goal
 
 pub returns : goal.returns
 returns c o low = (

@@ -20,7 +20,7 @@ use Rattle.bp_layout.specs.WellFormed.{IsWellFormed}
 use Rattle.bp_limits.specs.Limits.{block_size, super_size}
 use Rattle.bp_tree.specs.Performs.{AddsTaking}
 use Rattle.bp_tree.specs.Performs.IsOpen.{at_size}
-use Rattle.bp_tree.proofs.PerformsLaws.{taking_twice}
+use Rattle.bp_tree.proofs.PerformsLaws.{same_equivalence, taking_twice}
 use Rattle.pm_epochs.specs.declared.event.Event.TheVariants.{Store, Barrier}
 use Rattle.pm_epochs.proofs.MayLaws.{quiet_links}
 use Rattle.pm_epochs.proofs.PieceLaws.{IsPiece-append, IsPiece-barrier, IsPiece-more, IsPiece-store}
@@ -28,7 +28,6 @@ use Rattle.pm_region.specs.Memory.{Memory, Adds, current_words, room_in}
 use Rattle.pm_region.proofs.MemoryLaws.{current_words-adds, room_in-piece}
 use Rattle.bp_calls.specs.Growth.{AddsInodes, GrowsInodes, growth_need, growth_stores}
 use Rattle.bp_calls.proofs.GrowthImage.{adds_inodes}
-use Rattle.bp_calls.proofs.GrowthWithin.{equivalence}
 
 -- looser bounds
 taking_more : (taken : List ℕ) (most_barriers most barriers stores : ℕ) (old new : Memory) → most_barriers ≤ barriers → most ≤ stores → AddsTaking taken most_barriers most old new → AddsTaking taken barriers stores old new
@@ -96,7 +95,7 @@ module _ (old middle new : Memory) (free_old free_new : List ℕ) (wf : IsWellFo
     part = record {
       added = Store super_size end ∷ Barrier ∷ [];
       adds = stored;
-      quiet = quiet_links Same equivalence mid ((super_size, end) ∷ []) (same_transitive mid (set mid super_size end) mid same_mid (same_symmetric mid (set mid super_size end) same_mid), same_mid);
+      quiet = quiet_links Same same_equivalence mid ((super_size, end) ∷ []) (same_transitive mid (set mid super_size end) mid same_mid (same_symmetric mid (set mid super_size end) same_mid), same_mid);
       closed = (omega arith, tt);
       piece = IsPiece-append 0 1 1 0 (Store super_size end ∷ []) (Barrier ∷ []) (IsPiece-store super_size end) IsPiece-barrier;
     };

@@ -1,10 +1,10 @@
 -- The nodes that are there once the inode file has one more leaf: those of its tree, and those that are made over and behind it.
-use Rattle.std.proofs.Common.{◌≡◌, ◌≢◌, ◌⊎◌, ℕ, zero, suc, ◌+◌, ◌-◌, ◌*◌, ◌/◌, ◌<◌, ◌≤◌, List, [], ◌∷◌, ◌++◌, map, filter, flat_map, Bool, true, false, not, ◌||◌, nat_le, nat_lt, if◌then◌else◌, refl, sym, ◌∙◌, ap, subst, inl, inr, arith}
+use Rattle.std.proofs.Common.{◌≡◌, ◌≢◌, ◌⊎◌, ℕ, suc, ◌+◌, ◌-◌, ◌*◌, ◌/◌, ◌<◌, ◌≤◌, List, [], ◌∷◌, ◌++◌, map, filter, flat_map, Bool, true, false, not, ◌||◌, nat_le, nat_lt, if◌then◌else◌, refl, sym, ◌∙◌, ap, subst, inl, inr, arith}
 use Rattle.std.specs.List.{range_with_len, list_any}
 use Rattle.std.proofs.Math.Nat.{div-eq_of_lt}
-use Rattle.std.proofs.lemmas.Bool.{cases_eq, cases_lt, eq-eqb, le-leb, le-ltb, lt-leb, lt-ltb, ne_eqb, or_left, or_right}
+use Rattle.std.proofs.lemmas.Bool.{cases_lt, eq-eqb, le-leb, le-ltb, lt-leb, lt-ltb, ne_eqb, or_left, or_right}
 use Rattle.std.proofs.lemmas.List.Elements.{filter_agree}
-use Rattle.bp_cow.proofs.Distinct.{has-front, has-behind}
+use Rattle.bp_layout.proofs.MemberLaws.{has-behind, has-filter, has-flat_map, has-front, has-map, has-range}
 use Rattle.bp_layout.specs.Words.{Image, block_of, height_of}
 use Rattle.bp_layout.specs.Tree.{node, span, IsLivePointer}
 use Rattle.bp_layout.specs.Inode.{root_of, size_of}
@@ -14,31 +14,6 @@ use Rattle.bp_layout.specs.Need.Change.{enters}
 use Rattle.bp_layout.specs.Nodes.{TreeNode, height_with, is_present, nodes_for, nodes_over, raised_nodes}
 use Rattle.bp_layout.specs.WellFormed.{IsWellFormed}
 use Rattle.bp_limits.specs.Limits.{block_size}
-
--- ---- members of lists
-
-has_map : {A B : Type 0} (f : A → B) (xs : List A) (x : A) → Has xs x → Has (map f xs) (f x)
-has_map f [] x has = absurd has
-has_map f (y ∷ xs) x (inl e) = inl (ap f e)
-has_map f (y ∷ xs) x (inr later) = inr (has_map f xs x later)
-
-has_flat_map : {A B : Type 0} (f : A → List B) (xs : List A) (x : A) (y : B) → Has xs x → Has (f x) y → Has (flat_map f xs) y
-has_flat_map f [] x y has inside = absurd has
-has_flat_map f (z ∷ xs) x y (inl e) inside = has-front (f z) (flat_map f xs) y (subst (λ w. Has (f w) y) (sym e) inside)
-has_flat_map f (z ∷ xs) x y (inr later) inside = has-behind (f z) (flat_map f xs) y (has_flat_map f xs x y later inside)
-
-has_filter : {A : Type 0} (p : A → Bool) (xs : List A) (x : A) → Has xs x → p x ≡ true → Has (filter p xs) x
-has_filter p [] x has passes = absurd has
-has_filter p (y ∷ xs) x (inl e) passes = rw (ap p e ∙ passes) (inl e)
-has_filter p (y ∷ xs) x (inr later) passes = go (p y) refl (has_filter p xs x later passes)
-  where
-    go : (keep : Bool) → p y ≡ keep → Has (filter p xs) x → Has (filter p (y ∷ xs)) x
-    go true is rest = rw is (inr rest)
-    go false is rest = rw is rest
-
-has_range : (a n k : ℕ) → a ≤ k → k < a + n → Has (range_with_len a n) k
-has_range a zero k low high = absurd (omega (arith, low, high))
-has_range a (suc n) k low high = elim (cases_eq a k) [ inl e ↦ inl e | inr other ↦ inr (has_range (a + 1) n k (omega (arith, low, other)) (omega (arith, high))) ]
 
 same_self : (n : ℕ × TreeNode) → same_node n n ≡ true
 same_self n = rw (eq-eqb n.0 n.0 refl, eq-eqb n.1.level n.1.level refl, eq-eqb n.1.index n.1.index refl) refl
@@ -71,7 +46,7 @@ module _ (image : Image) (root size to : ℕ) (some : 0 < size) (more : size < t
     behind : size < span level → Has (flat_map (nodes_over size to) (range_with_len 0 (suc heights))) (Node level 0)
     behind low =
         let first : size / span level ≡ 0 = div-eq_of_lt low in
-        has_flat_map (nodes_over size to) (range_with_len 0 (suc heights)) level (Node level 0) (has_range 0 (suc heights) level (omega arith) (omega (arith, within)))
+        has-flat_map (nodes_over size to) (range_with_len 0 (suc heights)) level (Node level 0) (has-range 0 (suc heights) level (omega arith) (omega (arith, within)))
         (inl (ap (Node level) first))
 
     passes : absent (Node level 0) ≡ true
@@ -84,12 +59,12 @@ module _ (image : Image) (root size to : ℕ) (some : 0 < size) (more : size < t
             Has (filter absent (flat_map (nodes_over size to) (range_with_len 0 (suc heights))) ++ filter (λ n. nat_le (span n.level) size) (raised_nodes root size to)) (Node level 0)
         go (inl low) =
             has-front (filter absent (flat_map (nodes_over size to) (range_with_len 0 (suc heights)))) (filter (λ n. nat_le (span n.level) size) (raised_nodes root size to)) (Node level 0)
-            (has_filter absent (flat_map (nodes_over size to) (range_with_len 0 (suc heights))) (Node level 0) (behind low) passes)
+            (has-filter absent (flat_map (nodes_over size to) (range_with_len 0 (suc heights))) (Node level 0) (behind low) passes)
         go (inr past) =
             has-behind (filter absent (flat_map (nodes_over size to) (range_with_len 0 (suc heights)))) (filter (λ n. nat_le (span n.level) size) (raised_nodes root size to)) (Node level 0)
-            (has_filter (λ n. nat_le (span n.level) size) (raised_nodes root size to) (Node level 0)
+            (has-filter (λ n. nat_le (span n.level) size) (raised_nodes root size to) (Node level 0)
             (subst (λ xs. Has xs (Node level 0)) (sym raised)
-            (has_map (λ level. Node level 0) (range_with_len (suc (height_of root)) (heights - height_of root)) level (has_range (suc (height_of root)) (heights - height_of root) level over (omega (arith, within, over)))))
+            (has-map (λ level. Node level 0) (range_with_len (suc (height_of root)) (heights - height_of root)) level (has-range (suc (height_of root)) (heights - height_of root) level over (omega (arith, within, over)))))
             (le-leb (span level) size past))
 
 -- so such a node of the inode file is there once a name is entered with a growth
@@ -100,7 +75,7 @@ grown_there image i level wf top over within =
     (list_any (same_node (0, record { level = level; index = 0 })) (growth image (enters i false)))
     (any_has (0, record { level = level; index = 0 }) (growth image (enters i false))
     (has-front (prepared_for image (record { tree = 0; from = size_of image 0; to = size_of image 0 + block_size })) [] (0, record { level = level; index = 0 })
-    (has_map (λ n. (0, n)) (nodes_for image (root_of image 0) (size_of image 0) (size_of image 0) (size_of image 0 + block_size)) (record { level = level; index = 0 })
+    (has-map (λ n. (0, n)) (nodes_for image (root_of image 0) (size_of image 0) (size_of image 0) (size_of image 0 + block_size)) (record { level = level; index = 0 })
     (made_over image (root_of image 0) (size_of image 0) (size_of image 0 + block_size) (omega (arith, wf.some_inodes)) (omega arith) top level over within))))
 
 -- ---- trees with the same pointers lack the same nodes

@@ -1,5 +1,6 @@
 -- A new name behind a growth of the inode file: where the call is performed on the longer file, it is performed with the growth.
 use Rattle.std.proofs.Common.{◌≡◌, ℕ, zero, suc, ◌+◌, ◌≤◌, length, true, false, sym, ◌∙◌, ap, arith}
+use Rattle.bp_layout.proofs.MemberLaws.{each-has}
 use Rattle.bp_layout.specs.Inode.{kind_of}
 use Rattle.bp_layout.specs.Need.{cover, need}
 use Rattle.bp_layout.specs.Need.Change.{enters}
@@ -8,7 +9,7 @@ use Rattle.bp_layout.specs.WellFormed.{IsWellFormed}
 use Rattle.bp_layout.specs.WordPaths.{address}
 use Rattle.bp_layout.specs.Words.{Image}
 use Rattle.bp_tree.specs.Performs.{Performs, most_stores}
-use Rattle.bp_tree.proofs.PerformsLaws.{each-has, performs_twice}
+use Rattle.bp_tree.proofs.PerformsLaws.{performs_twice}
 use Rattle.pm_region.specs.Memory.{Memory, current_words}
 use Rattle.bp_calls.specs.Growth.{GrowsInodes, PerformsWithin, growth_need, growth_stores, stores_behind_growth}
 use Rattle.bp_calls.proofs.GrowthCover.{longer_cover, longer_need}

@@ -1,6 +1,7 @@
 -- The sets of free numbers stay exact where the inode file gets one more leaf: its blocks are taken, and its inodes are free.
 use Rattle.std.proofs.Common.{◌≡◌, ◌⊎◌, ℕ, ◌+◌, ◌/◌, ◌<◌, ◌≤◌, List, [], ◌∷◌, ◌++◌, length, true, sym, ◌∙◌, inl, inr, subst, arith}
 use Rattle.std.proofs.lemmas.Bool.{cases_lt}
+use Rattle.bp_layout.proofs.MemberLaws.{has-behind}
 use Rattle.bp_append.proofs.FillLaws.{apart_parts}
 use Rattle.bp_free.specs.Set.{Set, Fills, has, members}
 use Rattle.bp_layout.specs.Words.{Image}
@@ -12,7 +13,6 @@ use Rattle.bp_layout.specs.WellFormed.{IsWellFormed}
 use Rattle.bp_layout.proofs.Reached.{reached-in_file}
 use Rattle.bp_limits.specs.Limits.{block_size, inode_size}
 use Rattle.bp_shapes.specs.Sets.{AreExact}
-use Rattle.bp_tree.proofs.PerformsLaws.{has-behind}
 use Rattle.bp_calls.specs.Growth.{AddsInodes}
 use Rattle.bp_calls.proofs.GrowthLaws.{longer_live, longer_stays, longer_taken, longer_reached, shorter_reached}
 use Rattle.bp_calls.proofs.TakenBlocks.{in_members, members_apart, of_members}

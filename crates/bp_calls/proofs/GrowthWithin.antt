@@ -1,6 +1,6 @@
 -- What is performed with bounds of its own on barriers and stores: how it is put together, and that it is performed.
 use Rattle.std.proofs.Common.{◌≡◌, ℕ, ◌+◌, ◌≤◌, List, ◌++◌, length}
-use Rattle.bp_layout.proofs.SameLaws.{same_symmetric, same_transitive}
+use Rattle.bp_tree.proofs.PerformsLaws.{same_equivalence}
 use Rattle.bp_layout.specs.Members.{Each, AreApart}
 use Rattle.bp_layout.specs.Need.{Change, cover, need}
 use Rattle.bp_layout.specs.Reached.{IsFreeBlock}
@@ -9,7 +9,7 @@ use Rattle.bp_layout.specs.WellFormed.{IsWellFormed}
 use Rattle.bp_layout.specs.WordPaths.{address}
 use Rattle.bp_layout.specs.Words.{Image}
 use Rattle.bp_tree.specs.Performs.{InBlock, IsOpen, TakesBlocks, Performs, most_stores}
-use Rattle.pm_epochs.specs.Crash.{IsPartialEquivalence, commit}
+use Rattle.pm_epochs.specs.Crash.{commit}
 use Rattle.pm_epochs.specs.Log.{StoresTo}
 use Rattle.pm_epochs.specs.May.{AnyAt, EachMay}
 use Rattle.pm_epochs.proofs.MayLaws.{quiet_may, StoresMay-weaker}
@@ -19,9 +19,6 @@ use Rattle.pm_region.specs.Safe.{AddsMay, AddsCommit}
 use Rattle.pm_region.proofs.MemoryLaws.{adds_both}
 use Rattle.bp_calls.specs.Growth.{PerformsWithin}
 use Rattle.std.proofs.Common.{subst}
-
-pub equivalence : IsPartialEquivalence Same
-equivalence = record { symmetric = same_symmetric; transitive = same_transitive }
 
 module _ (old new : Memory) (change : Change) (Effect : Image → Image → Type 0) where
   abbrev covered : ℕ
@@ -61,7 +58,7 @@ module _ (old new : Memory) (change : Change) (Effect : Image → Image → Type
       (record {
         prepared = part.added;
         adds = adds_both old middle new part.added (commit word value) part.adds adds;
-        quiet = quiet_may Same equivalence May (current_words old) part.added unseen part.may;
+        quiet = quiet_may Same same_equivalence May (current_words old) part.added unseen part.may;
         piece = IsPiece-append 0 most 2 1 part.added (commit word value) part.piece (IsPiece-commit word value);
       })
       (record { once = once; free = free; stored = stored; only = StoresMay-weaker May (AnyAt (IsOpen (current_words old) taken)) inside part.added part.may }) at number open_word well_formed effect

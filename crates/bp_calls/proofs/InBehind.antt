@@ -32,7 +32,7 @@ use Rattle.bp_shapes.specs.Sets.{AreExact}
 use Rattle.bp_tree.specs.Performs.{AddsTaking, IsOpen, TakesBlocks}
 use Rattle.bp_tree.specs.Within.{IsWithin}
 use Rattle.bp_tree.specs.Performs.IsOpen.{in_taken, in_live, at_root, at_size}
-use Rattle.bp_tree.proofs.PerformsLaws.{takes_twice}
+use Rattle.bp_tree.proofs.PerformsLaws.{same_equivalence, takes_twice}
 use Rattle.bp_append.proofs.StoresLaws.{behind_whole}
 use Rattle.pm_epochs.specs.Crash.{commit}
 use Rattle.pm_epochs.specs.Log.{words_after}
@@ -58,7 +58,7 @@ use Rattle.bp_calls.proofs.InSlot.{inode_inside, inode_row}
 use Rattle.bp_calls.proofs.NeedLaws.{need_behind}
 use Rattle.bp_calls.proofs.OpenPlaces.{content_open, each_weaker, size_covered}
 use Rattle.bp_calls.proofs.PutsLaws.{few_behind}
-use Rattle.bp_calls.proofs.ReadBack.{equivalence, new_inode}
+use Rattle.bp_calls.proofs.ReadBack.{new_inode}
 use Rattle.bp_calls.proofs.ReadyKept.{ready_kept, ready_back, ready_stays}
 use Rattle.bp_calls.proofs.SetLaws.{free_inodes_taken, length_without}
 use Rattle.bp_calls.proofs.StandsLaws.{enters_well_formed, enters_over}
@@ -76,8 +76,8 @@ module _ (old mid third new : Memory) (change : Change) (Effect : Image → Imag
       (record {
         prepared = one.part.added ++ two.added;
         adds = rw parts (adds_both old mid new one.part.added (two.added ++ commit place value) one.part.adds (adds_both mid third new two.added (commit place value) two.adds last));
-        quiet = quiet-append Same equivalence.transitive (current_words old) one.part.added two.added one.part.closed one.part.quiet
-            (rw words at (quiet_may Same equivalence May (current_words mid) two.added unseen two.may));
+        quiet = quiet-append Same same_equivalence.transitive (current_words old) one.part.added two.added one.part.closed one.part.quiet
+            (rw words at (quiet_may Same same_equivalence May (current_words mid) two.added unseen two.may));
         piece = rw parts
             (IsPiece-append most_barriers most 2 (more + 1) one.part.added (two.added ++ commit place value) one.part.piece
             (IsPiece-append 0 more 2 1 two.added (commit place value) two.piece (IsPiece-commit place value)));

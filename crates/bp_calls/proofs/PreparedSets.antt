@@ -1,6 +1,7 @@
 -- Behind the preparation of a tree the sizes that count are those that the trees have, and for this one the end for which it is prepared: under them the trees are apart, and the sets are exact.
 use Rattle.std.proofs.Common.{◌≡◌, ◌≢◌, ◌⊎◌, ℕ, ◌≤◌, List, length, true, sym, ◌∙◌, subst, inl, inr, arith, lt_of_lt_of_le}
 use Rattle.std.proofs.lemmas.Bool.{cases_eq}
+use Rattle.bp_layout.proofs.MemberLaws.{has-behind}
 use Rattle.bp_free.specs.Set.{Set, has, members}
 use Rattle.bp_layout.specs.Free.{AreUnheld}
 use Rattle.bp_layout.specs.Inode.{root_of, size_of}
@@ -15,7 +16,6 @@ use Rattle.bp_changes.proofs.SameMeaning as meaning
 use Rattle.bp_append.specs.Prepared.{PreparesWith}
 use Rattle.bp_append.proofs.FillLaws.{apart_parts}
 use Rattle.bp_append.proofs.OtherTrees.{other_block_back, other_block_on}
-use Rattle.bp_tree.proofs.PerformsLaws.{has-behind}
 use Rattle.bp_shapes.specs.Forest.{IsForest}
 use Rattle.bp_shapes.specs.Sets.{AreExact, AreExactFor}
 use Rattle.bp_shapes.proofs.FreeSets.{wf_forest}

@@ -11,15 +11,12 @@ use Rattle.bp_layout.specs.Free.{IsFreeInode}
 use Rattle.bp_layout.specs.Inode.{ContentStandsAt, size_of, inode_count}
 use Rattle.bp_limits.specs.Limits.{max_name}
 use Rattle.bp_layout.specs.Reached.IsReached.{inode_file}
-use Rattle.bp_layout.specs.Same.{Same}
 use Rattle.bp_layout.specs.Tree.{byte, content_word}
 use Rattle.bp_layout.specs.WellFormed.{IsWellFormed}
 use Rattle.bp_layout.specs.Words.{Image, word, byte_of}
 use Rattle.bp_layout.specs.declared.fields.Kind.{Kind}
 use Rattle.bp_layout.specs.declared.fields.Kind.TheVariants.{File, Dir}
 use Rattle.bp_layout.proofs.NameBytes.{map-tells}
-use Rattle.bp_layout.proofs.SameLaws.{same_symmetric, same_transitive}
-use Rattle.pm_epochs.specs.Crash.{IsPartialEquivalence}
 use Rattle.pm_epochs.specs.May.{AnyAt}
 use Rattle.pm_region.specs.Memory.{Memory, current_words}
 use Rattle.pm_region.specs.Safe.{AddsMay}
@@ -27,9 +24,6 @@ use Rattle.pm_region.proofs.MayLaws.{may_frame}
 use Rattle.bp_calls.proofs.AfterLaws.{free_inode_after}
 use Rattle.bp_calls.proofs.Spares.{row_stands}
 use Rattle.bp_calls.proofs.Trees.{SameTrees, word_kept}
-
-pub equivalence : IsPartialEquivalence Same
-equivalence = record { symmetric = same_symmetric; transitive = same_transitive }
 
 pub kind_least : (kind : Kind) → 1 ≤ kind_word kind
 kind_least File = omega arith

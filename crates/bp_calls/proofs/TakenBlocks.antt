@@ -1,6 +1,7 @@
 -- The sets of free numbers stay exact over a call that takes some of the blocks.
 use Rattle.std.proofs.Common.{◌≡◌, ◌⊎◌, ℕ, ◌<◌, ◌≤◌, List, [], ◌∷◌, ◌++◌, length, true, sym, ◌∙◌, inl, inr, subst, arith}
 use Rattle.std.specs.List.{range_with_len}
+use Rattle.bp_layout.proofs.MemberLaws.{apart-filter, apart-range, each-of, filter-has, has-behind, has-filter, has-range}
 use Rattle.bp_free.specs.Set.{Set, has, members}
 use Rattle.bp_layout.specs.Words.{Image, block_count}
 use Rattle.bp_layout.specs.Free.{AreFreeBlocks}
@@ -12,15 +13,13 @@ use Rattle.bp_changes.specs.Effects.{ChangesFile}
 use Rattle.bp_changes.proofs.ChangesFile as changed
 use Rattle.bp_append.specs.Filled.{IsUsable}
 use Rattle.bp_append.proofs.FillLaws.{apart_parts}
-use Rattle.bp_cow.proofs.PerformsLaws.{filter_apart, filtered}
-use Rattle.bp_tree.proofs.PerformsLaws.{each-of, has-range, has-filter, has-behind}
 use Rattle.bp_shapes.specs.Sets.{AreExact}
 use Rattle.bp_calls.proofs.SetLaws.{free_inodes_stay, in_room}
 
 -- ---- members
 
 pub of_members : (set : Set) (b : ℕ) → Has (members set) b → has set b ≡ true
-of_members set b there = filtered (has set) (range_with_len 0 (length set)) b there
+of_members set b there = (filter-has (has set) (range_with_len 0 (length set)) b there).1
 
 pub in_members : (set : Set) (b : ℕ) → has set b ≡ true → Has (members set) b
 in_members set b is =
@@ -28,7 +27,7 @@ in_members set b is =
     has-filter (has set) (range_with_len 0 (length set)) b (has-range 0 (length set) b (omega arith) (omega (arith, low))) is
 
 pub members_apart : (set : Set) → AreApart (members set)
-members_apart set = filter_apart (has set) 0 (length set)
+members_apart set = apart-filter (has set) (range_with_len 0 (length set)) (apart-range 0 (length set))
 
 -- a member of two lists in a row is in one of them
 pub has_either : (xs ys : List ℕ) (b : ℕ) → Has (xs ++ ys) b → Has xs b ⊎ Has ys b

@@ -19,7 +19,8 @@ bytes_of image i = content image (root_of image i) (size_of image i)
 
 -- a file's size, or how many names a directory has
 abbrev pub stat_of : Image → ℕ → Stat
-stat_of image i = if kind_of image i == 1 then stat.File (size_of image i) else stat.Dir (name_count image (root_of image i) (size_of image i))
+stat_of image i = if kind_of image i == 1 then stat.File (size_of image i)
+    else stat.Dir (name_count image (root_of image i) (size_of image i))
 
 -- ---- the entries of a directory that name an inode
 
@@ -29,7 +30,8 @@ kind_seen word = if word == 1 then File else Dir
 
 -- the kind and the name of an entry
 abbrev pub entry_seen : Image → ℕ → ℕ → Option (Kind × Name)
-entry_seen image i slot = if inumber_at image i slot == 0 then None else Some (kind_seen (kind_of image (inumber_at image i slot)), name_at image i slot)
+entry_seen image i slot = if inumber_at image i slot == 0 then None
+    else Some (kind_seen (kind_of image (inumber_at image i slot)), name_at image i slot)
 
 -- those of the first entries of directory i
 abbrev pub entries_seen : Image → ℕ → ℕ → List (Kind × Name)

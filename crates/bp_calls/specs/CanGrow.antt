@@ -8,7 +8,8 @@ use Rattle.bp_limits.specs.Limits.{call_room, max_size}
 use Rattle.bp_shapes.specs.Sets.{AreExact}
 use Rattle.pm_region.specs.Memory.{Memory, current_words, room_in}
 
--- The image is well formed, the sets are exact, and inode i is a file, shorter than this size. The log has room for a call.
+-- The image is well formed, the sets are exact, and inode i is a file, shorter than this size. The log has room for a
+-- call.
 pub record CanGrowFile (memory : Memory) (blocks inodes : Set) (i size : ℕ) : Type 0 where
   pub well_formed : IsWellFormed (current_words memory)
   pub exact : AreExact (current_words memory) blocks inodes

@@ -8,7 +8,8 @@ use Rattle.bp_layout.specs.WellFormed.{IsWellFormed}
 use Rattle.bp_limits.specs.Limits.{call_room, max_size, max_write}
 use Rattle.pm_region.specs.Memory.{Memory, current_words, room_in}
 
--- The image is well formed, the sets are exact, and inode i is a file. There are bytes, no more than one call writes, and they end where a file may end. The log has room for a call.
+-- The image is well formed, the sets are exact, and inode i is a file. There are bytes, no more than one call writes,
+-- and they end where a file may end. The log has room for a call.
 pub record CanWrite (memory : Memory) (blocks inodes : Set) (i off : ℕ) (bytes : List ℕ) : Type 0 where
   pub well_formed : IsWellFormed (current_words memory)
   pub exact : AreExact (current_words memory) blocks inodes

@@ -14,4 +14,5 @@ pub record IsTopGivenUp (top shorter block : ℕ) : Type 0 where
 pub data IsGivenUpIn (image : Image) (root size level shorter slots block : ℕ) : Type 0 where
   top : IsTopGivenUp (block_of root) shorter block → IsGivenUpIn image root size level shorter slots block
   below : (slot : ℕ) → slot < slots → slot * span level < size →
-      IsGivenUp image (child image (block_of root) level slot) (piece size level slot) (shorter - slot * span level) block → IsGivenUpIn image root size level shorter slots block
+      IsGivenUp image (child image (block_of root) level slot) (piece size level slot)
+      (shorter - slot * span level) block → IsGivenUpIn image root size level shorter slots block

@@ -23,8 +23,8 @@ use Rattle.pm_region.specs.Safe.{AddsCommit}
 abbrev pub growth_need : Image → ℕ
 growth_need image = growth_count image (enters 1 false)
 
--- The image is well formed, and the sets are exact. As many blocks are free as the inode file takes, and the log has room
--- for a call.
+-- The image is well formed, and the sets are exact. As many blocks are free as the inode file takes, and the log has
+-- room for a call.
 pub record CanGrowInodes (memory : Memory) (blocks inodes : Set) : Type 0 where
   pub well_formed : IsWellFormed (current_words memory)
   pub exact : AreExact (current_words memory) blocks inodes

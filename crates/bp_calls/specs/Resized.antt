@@ -16,6 +16,8 @@ pub record ResizesFile (i size : ℕ) (old new : Image) : Type 0 where
   pub kept : (o : ℕ) → o < size → o < size_of old i → byte new (root_of new i) o ≡ byte old (root_of old i) o
   pub zeros : (o : ℕ) → o < size → size_of old i ≤ o → byte new (root_of new i) o ≡ 0
 
--- wherever a path finds file i, the second image stands for the tree with the file's bytes cut off or filled up to this size
+-- Wherever a path finds file i, the second image stands for the tree in which the file has this size: the front of its
+-- bytes, filled up with zeros.
 abbrev pub GetsSize : ℕ → ℕ → Image → Image → Type 0
-GetsSize i size old new = (tree : FileTree) (here : Path) → Stands old tree → lookup old here ≡ Some i → Stands new (with_bytes tree here (resized (bytes_at tree here) size))
+GetsSize i size old new = (tree : FileTree) (here : Path) → Stands old tree → lookup old here ≡ Some i
+    → Stands new (with_bytes tree here (resized (bytes_at tree here) size))

@@ -17,7 +17,8 @@ pub record IsSized (image : Image) (i end : ℕ) (words : List (ArrayVec ℕ × 
   pub path : map (λ word. word.0.items) words ≡ inode_path (height_of (root_of image 0)) i 2 ∷ []
   pub value : map (λ word. word.1) words ≡ end ∷ []
 
--- These bytes from an offset on, as a run in the tree of inode i once it is high enough for an end, and the word of its size, which gets that end.
+-- These bytes from an offset on, as a run in the tree of inode i once it is high enough for an end, and the word of
+-- its size, which gets that end.
 pub record TouchesAcross (image : Image) (i off end : ℕ) (bytes : List ℕ) (touched : Touched) : Type 0 where
   pub run : Run
   pub one : touched.run ≡ Some run
@@ -28,9 +29,12 @@ pub record TouchesAcross (image : Image) (i off end : ℕ) (bytes : List ℕ) (t
   pub sized : word_paths touched ≡ inode_path (height_of (root_of image 0)) i 2 ∷ []
   pub value : word_values touched ≡ end ∷ []
 
--- Bytes that begin below the size of a file and end past it, and what is touched for them: those below the size, and the size.
-pub record WritesAcross (memory : Memory) (blocks inodes : Set) (i off : ℕ) (bytes : List ℕ) (touched : Touched) : Type 0 where
+-- Bytes that begin below the size of a file and end past it, and what is touched for them: those below the size, and
+-- the size.
+pub record WritesAcross (memory : Memory) (blocks inodes : Set) (i off : ℕ) (bytes : List ℕ)
+    (touched : Touched) : Type 0 where
   pub can : CanWrite memory blocks inodes i off bytes
   pub below : off < size_of (current_words memory) i
   pub past : size_of (current_words memory) i < off + length bytes
-  pub touches : TouchesAcross (current_words memory) i off (off + length bytes) (take (size_of (current_words memory) i - off) bytes) touched
+  pub touches : TouchesAcross (current_words memory) i off (off + length bytes)
+      (take (size_of (current_words memory) i - off) bytes) touched

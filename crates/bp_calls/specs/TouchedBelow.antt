@@ -20,7 +20,8 @@ pub record TouchesBelow (image : Image) (i off : ℕ) (bytes : List ℕ) (touche
   pub bytes_are : run.bytes.now ≡ bytes
 
 -- bytes that end below the size of a file or with it, and what is touched for them
-pub record WritesBelow (memory : Memory) (blocks inodes : Set) (i off : ℕ) (bytes : List ℕ) (touched : Touched) : Type 0 where
+pub record WritesBelow (memory : Memory) (blocks inodes : Set) (i off : ℕ) (bytes : List ℕ)
+    (touched : Touched) : Type 0 where
   pub can : CanWrite memory blocks inodes i off bytes
   pub below : off + length bytes ≤ size_of (current_words memory) i
   pub touches : TouchesBelow (current_words memory) i off bytes touched

@@ -72,7 +72,8 @@ pub fn files_and_empty_directories_may_leave(image: &[u64])
         → name_count image.now (root_of image.now j) (size_of image.now j) ≡ 0 }
 {}
 
-/// A file that got another size has its bytes cut off or filled up in the plain tree, at each path that finds it.
+/// A file that got another size has the front of its bytes in the plain tree, or zeros behind them, at each path that
+/// finds it.
 pub fn resized_files_get_their_size(old: &[u64], new: &[u64])
     requires { IsWellFormed old.now }
     ensures { (i size : ℕ) → ResizesFile i size old.now new.now → GetsSize i size old.now new.now }

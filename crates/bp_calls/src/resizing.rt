@@ -70,7 +70,7 @@ fn shrink_file<R: Region>(parts: &mut Parts<R>, i: u32, tree: Tree, size: u64)
     give_back(&parts.region, tree, size, &mut parts.blocks);
 }
 
-/// Gives a file another size in bytes, by one store alone in its epoch: it is cut off there, or gets zeros behind its
+/// Gives a file another size in bytes, by one store alone in its epoch: it ends there, or gets zeros behind its old
 /// bytes.
 ///
 /// # Errors

@@ -9,11 +9,10 @@ use Rattle.pm_region.specs.Memory.{Adds, Memory, current_words}
 use Rattle.pm_region.specs.Safe.{AddsMay}
 use Rattle.pm_region.proofs.MayLaws.{each_after, may_weaker}
 use Rattle.pm_region.proofs.MemoryLaws.{adds_both, current_words-adds}
+use Rattle.bp_tree.proofs.PerformsLaws.{same_equivalence}
 use Rattle.bp_dirs.specs.Written.{HasNameAt}
 use Rattle.bp_tree.specs.Within.{IsWithin}
 use Rattle.bp_tree.specs.Performs.{AddsTaking, IsOpen}
-use Rattle.pm_epochs.specs.Crash.{IsPartialEquivalence}
-use Rattle.bp_layout.proofs.SameLaws.{same_symmetric, same_transitive}
 use Rattle.bp_layout.specs.Directory.{EntryNames, empty_slot, entry_count, inumber_at, name_at}
 use Rattle.bp_layout.specs.Inode.{ContentStandsAt, kind_of, root_of, size_of}
 use Rattle.bp_layout.specs.Reached.{IsReached}
@@ -36,9 +35,6 @@ use Rattle.bp_rename.specs.CanRename.{CanRename, moved_inode}
 use Rattle.bp_rename.specs.TouchesTwo.{TouchesTwo, inumber_path}
 use Rattle.bp_rename.specs.declared.moving.Move.{Move}
 use Rattle.bp_rename.proofs.Outside.{below_before}
-
-equivalence : IsPartialEquivalence Same
-equivalence = record { symmetric = same_symmetric; transitive = same_transitive }
 
 module _ (old third mid : Memory) (move : Move) (s entry : ℕ) (can : CanRename (current_words old) move) (new : move.to_slot ≡ None) (other : move.from_dir ≢ move.to_dir)
     (found : empty_slot (current_words old) move.to_dir ≡ Some s) (entry_at : ContentStandsAt (current_words old) move.to_dir (32 * s + 0) entry)
@@ -82,7 +78,7 @@ module _ (old third mid : Memory) (move : Move) (s entry : ℕ) (can : CanRename
       added = all_inside.added ++ Barrier ∷ [];
       adds = adds_both old third mid all_inside.added (Barrier ∷ []) all_inside.adds ends;
       quiet = quiet-barrier Same (current_words old) all_inside.added
-          (quiet_may Same equivalence (AnyAt Inside) (current_words old) all_inside.added (λ after all. prepared_same (current_words old) after can.well_formed (trees_of after all).prepared) all_inside.may);
+          (quiet_may Same same_equivalence (AnyAt Inside) (current_words old) all_inside.added (λ after all. prepared_same (current_words old) after can.well_formed (trees_of after all).prepared) all_inside.may);
       closed = IsClosed-barrier all_inside.added [] tt;
       piece = IsPiece-append 0 31 1 0 all_inside.added (Barrier ∷ []) all_inside.piece IsPiece-barrier;
     };

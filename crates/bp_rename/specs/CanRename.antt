@@ -14,8 +14,9 @@ use Rattle.bp_rename.specs.declared.moving.Move.{Move}
 abbrev pub moved_inode : Image → Move → ℕ
 moved_inode image move = inumber_at image move.from_dir move.from_slot
 
--- The image is well formed. The entry names an inode, and the new directory is neither that inode nor below it: so no inode is lost. The entry that has the
--- new name, where there is one, is another one, and names a file or an empty directory.
+-- The image is well formed. The entry names an inode, and the new directory is neither that inode nor below it: so no
+-- inode is lost. The entry that has the new name, where there is one, is another one, and names a file or an empty
+-- directory.
 pub record CanRename (image : Image) (move : Move) : Type 0 where
   pub well_formed : IsWellFormed image
   pub source : IsReached image move.from_dir

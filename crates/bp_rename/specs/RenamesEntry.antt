@@ -10,8 +10,9 @@ use Rattle.bp_rename.specs.declared.moving.Move.{Move}
 abbrev pub new_slot : Image → ℕ → ℕ
 new_slot image i = unwrap_or (empty_slot image i) (entry_count image i)
 
--- Onto an entry: it names the inode that moves. Within its directory: its entry has the new name. Across to another directory: an entry there has the new
--- name and names it. Its old entry is empty, but within a directory. All other entries keep their slots, their names and what they name.
+-- Onto an entry: it names the inode that moves. Within its directory: its entry has the new name. Across to another
+-- directory: an entry there has the new name and names it. Its old entry is empty, but within a directory. All other
+-- entries keep their slots, their names and what they name.
 pub data RenamesEntry (move : Move) (old new : Image) : Type 0 where
   onto : (r : ℕ) → move.to_slot ≡ Some r →
       MovesEntry old new move.from_dir move.from_slot move.to_dir r (moved_inode old move) → RenamesEntry move old new

@@ -9,7 +9,8 @@ use Rattle.bp_layout.specs.Words.{Image, height_of}
 
 -- the path of the inumber of an entry
 abbrev pub inumber_path : Image → ℕ → ℕ → WordPath
-inumber_path image i slot = tree_path (height_of (root_of image 0)) i (suc (height_of (root_of image i))) (32 * slot + 0)
+inumber_path image i slot =
+    tree_path (height_of (root_of image 0)) i (suc (height_of (root_of image i))) (32 * slot + 0)
 
 -- the path of the size word of an inode
 abbrev pub size_path : Image → ℕ → WordPath

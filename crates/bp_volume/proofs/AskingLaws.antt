@@ -1,6 +1,6 @@
 -- What calls that ask answer.
-use Rattle.std.proofs.Common.{◌≡◌, ◌≢◌, ℕ, ◌≤◌, ◌==◌, List, [], ◌∷◌, take, drop, Bool, true, false, not, Option, None, Some, refl, sym, ◌∙◌, ap, arith}
-use Rattle.std.specs.Prelude.{unwrap_or, if◌then◌else◌}
+use Rattle.std.proofs.Common.{◌≡◌, ◌≢◌, ℕ, ◌≤◌, ◌==◌, List, [], ◌∷◌, take, drop, Bool, true, false, not, Option, None, Some, refl, sym, ◌∙◌, ap, arith, subst}
+use Rattle.std.specs.Prelude.{Result, Ok, Err, IsErrAnd, MatchResult, IfOk, unwrap_or, if◌then◌else◌}
 use Rattle.std.proofs.lemmas.Bool.{eqb-true, eqb-false}
 use Rattle.std.specs.FinMap.{get}
 use Rattle.std.proofs.lemmas.List.FromFn.{length-map-range_with_len}
@@ -12,6 +12,9 @@ use Rattle.bp_layout.specs.Reached.{IsReached}
 use Rattle.bp_layout.specs.Lookup.{Path, lookup}
 use Rattle.bp_layout.specs.Lookup.Node.{dir, file}
 use Rattle.bp_layout.specs.declared.fields.Kind.{Kind}
+use Rattle.bp_plain.specs.declared.errors.FsError.{FsError}
+use Rattle.bp_plain.specs.declared.errors.FsError.TheVariants.{Memory}
+use Rattle.bp_plain.specs.Seen.{refusal_of}
 use Rattle.bp_plain.specs.PlainTree.{FileTree}
 use Rattle.bp_plain.specs.Stands.{Stands}
 use Rattle.bp_plain.specs.Calls.{Answer, Refusal}
@@ -27,7 +30,7 @@ use Rattle.bp_volume.proofs.WalkLaws.{some_inode, reached_at, node_at, dir_at, w
 use Rattle.bp_volume.proofs.EntryLaws.{length-entries}
 use Rattle.bp_calls.specs.Asked.{stat_of}
 use Rattle.bp_calls.proofs.ReadingLaws.{IsInode, inode_reached, length-seen}
-use Rattle.bp_volume.specs.Seen.{stat_seen}
+use Rattle.bp_volume.specs.Seen.{list_answer_of, stat_seen}
 use Rattle.bp_volume.proofs.StepLaws.{refused_steps, answer_steps, memory_steps, refusal-list_stopped, refusal-list_walked, refusal-read_walked}
 
 module _ (image : Image) (wf : IsWellFormed image) where
@@ -119,3 +122,10 @@ module _ (image : Image) (text : List ℕ) where
         node_at image tree stands at.path i at.inode ∙ ap (λ k. Some (if k == 1 then file (content image (root_of image i) (size_of image i)) else dir)) kind in
         answer_steps image tree (read text off len) (bytes told) (refusal_of_read off len tree stands ∙ ap (λ k. first (when (k == 2) is_dir ∷ [])) kind) refl
         (ap (λ p. bytes (take len (drop off (bytes_at tree p)))) path_is ∙ ap (λ o. bytes (take len (drop off (bytes_in o)))) node ∙ ap bytes (sym says))
+
+-- the names that were listed, with a lack of memory told as a refusal
+pub listed_or_full : {E : Type 0} (image : Image) (text : List ℕ) (inner : Result (List (Kind × Name)) E) (outer : Result (List (Kind × Name)) FsError) →
+    MatchResult inner (λ x. outer ≡ Ok x) (λ lacks. IsErrAnd outer (λ error. error ≡ Memory)) → IfOk inner (λ told. Tells image (list text) (names told)) → Tells image (list text) (refused no_memory) → Tells image (list text) (list_answer_of outer)
+listed_or_full image text (Ok told) outer maps lists full = subst (λ r. Tells image (list text) (list_answer_of r)) (sym maps) lists
+listed_or_full image text (Err lacks) (Ok told) maps lists full = absurd maps
+listed_or_full image text (Err lacks) (Err error) maps lists full = subst (λ e. Tells image (list text) (refused (refusal_of e))) (sym maps) full

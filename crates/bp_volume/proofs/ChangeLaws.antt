@@ -1,35 +1,39 @@
 -- A call that changes the tree, from the change that it makes.
-use Rattle.std.proofs.Common.{◌≡◌, ℕ, ◌<◌, ◌≤◌, true, ◌∙◌, sym, ap, subst, arith, None}
-use Rattle.std.specs.Prelude.{◌&&◌, is_none, if◌then◌else◌}
+use Rattle.std.proofs.Common.{◌≡◌, ℕ, ◌<◌, ◌≤◌, true, true≢false, ◌∙◌, sym, ap, subst, arith, None}
+use Rattle.std.specs.Prelude.{◌&&◌, is_none, if◌then◌else◌, is_err, Result, Ok, Err, IsErrAnd, MatchResult, IfErr, OnErr, OnOk}
 use Rattle.pm_region.specs.Memory.{Memory, current_words, room_in}
 use Rattle.bp_free.specs.declared.parts.NoSpace.{NoSpace}
 use Rattle.bp_layout.specs.Words.{Image}
 use Rattle.bp_layout.specs.Free.{HasFree}
 use Rattle.bp_layout.specs.Need.{Change, need}
+use Rattle.bp_plain.specs.declared.errors.FsError.{FsError}
 use Rattle.bp_plain.specs.PlainTree.{FileTree}
 use Rattle.bp_plain.specs.Stands.{Stands}
 use Rattle.bp_plain.specs.Calls.{Call}
 use Rattle.bp_plain.specs.Calls.Refusal.{no_space}
 use Rattle.bp_plain.specs.Calls.Answer.{done, refused}
 use Rattle.bp_plain.specs.Plain.{plain, is_changing, refusal, changes, answer, answer_or, tree_after}
+use Rattle.bp_plain.specs.Seen.{refusal_of}
 use Rattle.bp_tree.specs.Performs.{Performs}
 use Rattle.bp_tree.proofs.PerformsLaws.{performs_as, performs_fits}
 use Rattle.bp_calls.specs.Space.{LacksSpace}
-use Rattle.bp_volume.specs.Step.{Steps, IsChange, Fits}
-use Rattle.bp_volume.specs.Step.Steps.{changed}
+use Rattle.bp_volume.specs.Step.{StepFor, IsChange, Fits}
+use Rattle.bp_volume.specs.Step.StepFor.{changed}
 use Rattle.bp_volume.specs.Told.{Tells}
-use Rattle.bp_volume.specs.Carried.{ChangesTree, PerformsCall}
+use Rattle.bp_volume.specs.Carried.{CarriesOut, ChangesTree, PerformsCall}
+use Rattle.bp_volume.specs.Carried.CarriesOut.{changed as carried, unchanged}
+use Rattle.bp_volume.specs.Seen.{unit_answer}
 use Rattle.bp_volume.proofs.StepLaws.{no_space_steps}
 
 -- The change is the one that the call makes of an image, and no tree for which that stands refuses the call.
-pub record Makes (image : Image) (call : Call) (change : Change) : Type 0 where
+pub record MakesChange (image : Image) (call : Call) (change : Change) : Type 0 where
   pub is : IsChange image call change
   pub alike : (other : Change) → IsChange image call other → need image other ≡ need image change
   pub allowed : (tree : FileTree) → Stands image tree → refusal tree call ≡ None
   pub changing : (tree : FileTree) → Stands image tree → changes tree call ≡ true
   pub says : (tree : FileTree) → answer tree call ≡ done
 
-module _ (image : Image) (call : Call) (change : Change) (makes : Makes image call change) where
+module _ (image : Image) (call : Call) (change : Change) (makes : MakesChange image call change) where
   changes_now : (tree : FileTree) → Stands image tree → is_changing tree call ≡ true
   changes_now tree stands = ap (λ o. is_none o && changes tree call) (makes.allowed tree stands) ∙ makes.changing tree stands
 
@@ -49,11 +53,11 @@ module _ (image : Image) (call : Call) (change : Change) (makes : Makes image ca
         let says : (plain tree call).0 ≡ done = ap (λ o. (answer_or tree call o).0) none ∙ makes.says tree in
         let gives : (plain tree call).1 ≡ tree_after tree call = ap (λ o. (answer_or tree call o).1) none ∙ ap (λ b. if b then tree_after tree call else tree) (makes.changing tree stands) in (
           ap (λ b. b && true) (changes_now tree stands),
-          subst (λ a. Steps image tree call a new) says (changed (changes_now tree stands) fits (subst (Stands new) (sym gives) (becomes tree stands))),
+          subst (λ a. StepFor image tree call a new) says (changed (changes_now tree stands) fits (subst (Stands new) (sym gives) (becomes tree stands))),
         )
 
 -- a change that is performed, with what it makes of the plain tree
-pub performs_call : (old new : Memory) (call : Call) (change : Change) (Effect : Image → Image → Type 0) → Makes (current_words old) call change → Performs old new change Effect →
+pub performs_call : (old new : Memory) (call : Call) (change : Change) (Effect : Image → Image → Type 0) → MakesChange (current_words old) call change → Performs old new change Effect →
     (Effect (current_words old) (current_words new) → (tree : FileTree) → Stands (current_words old) tree → Stands (current_words new) (tree_after tree call)) → 0 < room_in new → PerformsCall old call done new
 performs_call old new call change Effect makes performs becomes room = record {
   change = change;
@@ -62,3 +66,12 @@ performs_call old new call change Effect makes performs becomes room = record {
       (λ effect. changed_steps (current_words old) call change makes (performs_fits old new change Effect performs) (current_words new) (becomes effect));
   room = room;
 }
+
+-- A call on inodes, and its result with the refusal told as that of a call with a path: it is performed, or it lacks space and has changed nothing.
+pub carried_or_lacks : (old new : Memory) (call : Call) (inner : Result (Unit {0}) NoSpace) (outer : Result (Unit {0}) FsError) →
+    MatchResult inner (λ x. outer ≡ Ok x) (λ lacks. IsErrAnd outer (λ error. refusal_of error ≡ no_space lacks.need lacks.free)) → OnOk inner (PerformsCall old call done new) →
+    OnErr inner (new ≡ old) → IfErr inner (λ lacks. Tells (current_words old) call (refused (no_space lacks.need lacks.free))) → CarriesOut old call (unit_answer outer) new
+carried_or_lacks old new call (Ok x) (Ok y) maps performs same tells = carried performs
+carried_or_lacks old new call (Ok x) (Err error) maps performs same tells = absurd (true≢false (ap is_err maps))
+carried_or_lacks old new call (Err lacks) (Ok y) maps performs same tells = absurd maps
+carried_or_lacks old new call (Err lacks) (Err error) maps performs same tells = unchanged same (rw maps tells)

@@ -1,22 +1,22 @@
 -- What a crash leaves of a volume.
 use Rattle.std.proofs.Common.{◌≡◌, ℕ, ◌*◌, ◌/◌, sym, ◌∙◌, ap}
-use Rattle.pm_epochs.specs.Replay.{Cut, IsRight, kept_calls, kept_stores, after_calls}
+use Rattle.pm_epochs.specs.Replay.{PowerCut, IsRight, kept_calls, kept_stores, after_calls}
 use Rattle.pm_epochs.proofs.CrashLaws.{length-words_after}
 use Rattle.pm_region.specs.Memory.{Memory, current_words, crashed}
 use Rattle.pm_region.specs.Safe.{IsSafe}
 use Rattle.pm_region.proofs.MemoryLaws.{length-current_words}
 use Rattle.pm_region.proofs.SafeLaws.{safe_crashed}
+use Rattle.bp_tree.proofs.PerformsLaws.{same_equivalence}
 use Rattle.bp_free.specs.Set.{Set}
 use Rattle.bp_layout.specs.Same.{Same}
 use Rattle.bp_layout.specs.WellFormed.{IsWellFormed}
 use Rattle.bp_layout.specs.Words.{block_count}
 use Rattle.bp_shapes.specs.Sets.{AreExact}
 use Rattle.bp_volume.specs.Volume.{IsVolume}
-use Rattle.bp_volume.proofs.FileCallLaws.{same-equivalence}
 
-module _ (memory : Memory) (blocks inodes : Set) (pending : ℕ) (volume : IsVolume memory blocks inodes pending) (cut : Cut) (right : IsRight memory.events cut) (new : Memory) (left : new ≡ crashed memory cut) where
+module _ (memory : Memory) (blocks inodes : Set) (pending : ℕ) (volume : IsVolume memory blocks inodes pending) (cut : PowerCut) (right : IsRight memory.events cut) (new : Memory) (left : new ≡ crashed memory cut) where
   pub crashed_safe : IsSafe Same new
-  crashed_safe = rw left (safe_crashed Same same-equivalence memory cut volume.safe right)
+  crashed_safe = rw left (safe_crashed Same same_equivalence memory cut volume.safe right)
 
   pub crashed_well_formed : IsWellFormed (current_words new)
   crashed_well_formed = crashed_safe.well.old_well_formed

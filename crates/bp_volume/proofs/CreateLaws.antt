@@ -29,7 +29,7 @@ use Rattle.bp_volume.specs.Carried.{making}
 use Rattle.bp_volume.specs.Step.{IsChange, FindsNew, last_of}
 use Rattle.bp_volume.specs.Step.IsChange.{by_create, by_mkdir}
 use Rattle.bp_volume.specs.Told.{Refuses, StopsAtNew, refusal_of_new}
-use Rattle.bp_volume.proofs.ChangeLaws.{Makes}
+use Rattle.bp_volume.proofs.ChangeLaws.{MakesChange}
 use Rattle.bp_volume.proofs.WalkLaws.{dir_at, get-next, walk-found}
 
 pub create_stopped : (tree : FileTree) (path : Path) (why : Refusal) → path ≢ [] → walk_parent tree path ≡ Some why → refusal_of_new tree path ≡ Some why
@@ -112,7 +112,7 @@ module _ (image : Image) (text : List ℕ) (i : ℕ) (name : Name) (names : Find
     need_dir _ (by_mkdir {name = other} {i = k} {free = f} new told) = ap₂ (λ j b. need image (enters j b)) (same_directory k other new) (same_free f told)
 
     -- the name is what the call makes
-    pub making_makes : (kind : Kind) → Makes image (making kind text) (enters i free)
+    pub making_makes : (kind : Kind) → MakesChange image (making kind text) (enters i free)
     making_makes File = record { is = by_create names tells; alike = need_file; allowed = goes; changing = λ tree stands. refl; says = λ tree. refl }
     making_makes Dir = record { is = by_mkdir names tells; alike = need_dir; allowed = goes; changing = λ tree stands. refl; says = λ tree. refl }
 

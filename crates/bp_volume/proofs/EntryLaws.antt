@@ -25,19 +25,19 @@ use Rattle.bp_plain.specs.Stands.{Stands}
 use Rattle.bp_plain.specs.Plain.{kind_of_node, listing}
 use Rattle.bp_calls.specs.Asked.{ListsNames, kind_seen, entry_seen, entries_seen}
 use Rattle.bp_volume.proofs.WalkLaws.{reached_at, get-next}
-use Rattle.bp_volume.proofs.ListingLaws.{name_cmp, by_name, AreApart, name_cmp-IsAntisymmetric, length-listing, sorted-listing, comes_before, keyed}
+use Rattle.bp_volume.proofs.ListingLaws.{by_bytes, by_name, NamesDiffer, by_bytes-IsAntisymmetric, length-listing, sorted-listing, comes_before, keyed}
 
 -- the test of names in the order of names
-tied-names : (name other : Name) → eq_by_cmp name_cmp name other ≡ bytes_eq other name
-tied-names name other = go (bytes_eq other name) refl (eq_by_cmp name_cmp name other) refl
+tied-names : (name other : Name) → eq_by_cmp by_bytes name other ≡ bytes_eq other name
+tied-names name other = go (bytes_eq other name) refl (eq_by_cmp by_bytes name other) refl
   where
-    go : (b : Bool) → bytes_eq other name ≡ b → (t : Bool) → eq_by_cmp name_cmp name other ≡ t → eq_by_cmp name_cmp name other ≡ bytes_eq other name
+    go : (b : Bool) → bytes_eq other name ≡ b → (t : Bool) → eq_by_cmp by_bytes name other ≡ t → eq_by_cmp by_bytes name other ≡ bytes_eq other name
     go true at true tied = tied ∙ sym at
     go true at false tied =
         let same : other ≡ name = same_text other name (sym at) in
-        absurd (true≢false (sym (ap is_eq (tied_itself nat_list_cmp_total name)) ∙ ap (eq_by_cmp name_cmp name) (sym same) ∙ tied))
+        absurd (true≢false (sym (ap is_eq (tied_itself nat_list_cmp_total name)) ∙ ap (eq_by_cmp by_bytes name) (sym same) ∙ tied))
     go false at true tied =
-        let same : name ≡ other = name_cmp-IsAntisymmetric name other ((Equal-is (name_cmp name other)).0 tied) in
+        let same : name ≡ other = by_bytes-IsAntisymmetric name other ((Equal-is (by_bytes name other)).0 tied) in
         absurd (true≢false (sym ((bytes_eq-Decides other name).1 (sym same)) ∙ at))
     go false at false tied = tied ∙ sym at
 
@@ -57,34 +57,34 @@ module _ (image : Image) (wf : IsWellFormed image) (i : ℕ) (reached : IsReache
 
   -- no later entry has the name of an earlier one
   others : (slot first count : ℕ) → slot < first → first + count ≤ entry_count image i → inumber_at image i slot ≢ 0 →
-      AllByRecursion (λ y. eq_by_cmp name_cmp (name_at image i slot) y ≡ false) (map (λ e. e.0) (map by_name (seen_from first count)))
+      AllByRecursion (λ y. eq_by_cmp by_bytes (name_at image i slot) y ≡ false) (map (λ e. e.0) (map by_name (seen_from first count)))
   others slot first zero low high not_empty = tt
   others slot first (suc count) low high not_empty = go (others slot (first + 1) count (omega arith) (omega (arith, high)) not_empty) (inumber_at image i first == 0) refl
     where
-      apart : inumber_at image i first ≢ 0 → (b : Bool) → eq_by_cmp name_cmp (name_at image i slot) (name_at image i first) ≡ b → b ≡ false
+      apart : inumber_at image i first ≢ 0 → (b : Bool) → eq_by_cmp by_bytes (name_at image i slot) (name_at image i first) ≡ b → b ≡ false
       apart there true at =
-          let same : name_at image i slot ≡ name_at image i first = name_cmp-IsAntisymmetric _ _ ((Equal-is (name_cmp (name_at image i slot) (name_at image i first))).0 at) in
+          let same : name_at image i slot ≡ name_at image i first = by_bytes-IsAntisymmetric _ _ ((Equal-is (by_bytes (name_at image i slot) (name_at image i first))).0 at) in
           let once : slot ≡ first = wf.names_once i slot first (inumber_at image i slot) (inumber_at image i first) reached (entry_at slot (omega arith) not_empty) (entry_at first (omega (arith, high)) there) same in
           absurd (omega (arith, once))
       apart there false at = refl
 
-      go : AllByRecursion (λ y. eq_by_cmp name_cmp (name_at image i slot) y ≡ false) (map (λ e. e.0) (map by_name (seen_from (first + 1) count))) →
+      go : AllByRecursion (λ y. eq_by_cmp by_bytes (name_at image i slot) y ≡ false) (map (λ e. e.0) (map by_name (seen_from (first + 1) count))) →
           (b : Bool) → (inumber_at image i first == 0) ≡ b →
-          AllByRecursion (λ y. eq_by_cmp name_cmp (name_at image i slot) y ≡ false) (map (λ e. e.0) (map by_name (seen_from first (suc count))))
+          AllByRecursion (λ y. eq_by_cmp by_bytes (name_at image i slot) y ≡ false) (map (λ e. e.0) (map by_name (seen_from first (suc count))))
       go rest true at = rw at rest
       go rest false at = rw at (apart (eqb-false _ _ at) _ refl, rest)
 
-  apart_from : (first count : ℕ) → first + count ≤ entry_count image i → AreApart (map by_name (seen_from first count))
+  apart_from : (first count : ℕ) → first + count ≤ entry_count image i → NamesDiffer (map by_name (seen_from first count))
   unfolding IsDistinct
   apart_from first zero high = tt
   apart_from first (suc count) high = go (apart_from (first + 1) count (omega (arith, high))) (inumber_at image i first == 0) refl
     where
-      go : AreApart (map by_name (seen_from (first + 1) count)) → (b : Bool) → (inumber_at image i first == 0) ≡ b → AreApart (map by_name (seen_from first (suc count)))
+      go : NamesDiffer (map by_name (seen_from (first + 1) count)) → (b : Bool) → (inumber_at image i first == 0) ≡ b → NamesDiffer (map by_name (seen_from first (suc count)))
       go rest true at = rw at rest
       go rest false at = rw at (others first (first + 1) count (omega arith) (omega (arith, high)) (eqb-false _ _ at), rest)
 
   find-seen : (name : Name) (first count : ℕ) →
-      find name_cmp name (map by_name (seen_from first count)) ≡ option_map (λ slot. kind_seen (kind_of image (inumber_at image i slot))) (find_first (is_named image i name) (range_with_len first count))
+      find by_bytes name (map by_name (seen_from first count)) ≡ option_map (λ slot. kind_seen (kind_of image (inumber_at image i slot))) (find_first (is_named image i name) (range_with_len first count))
   find-seen name first zero = refl
   find-seen name first (suc count) = go (find-seen name (first + 1) count) (inumber_at image i first == 0) refl
     where
@@ -93,19 +93,19 @@ module _ (image : Image) (wf : IsWellFormed image) (i : ℕ) (reached : IsReache
       pushed true o = refl
       pushed false o = refl
 
-      go : find name_cmp name (map by_name (seen_from (first + 1) count)) ≡ option_map (λ slot. kind_seen (kind_of image (inumber_at image i slot))) (find_first (is_named image i name) (range_with_len (first + 1) count)) →
+      go : find by_bytes name (map by_name (seen_from (first + 1) count)) ≡ option_map (λ slot. kind_seen (kind_of image (inumber_at image i slot))) (find_first (is_named image i name) (range_with_len (first + 1) count)) →
           (b : Bool) → (inumber_at image i first == 0) ≡ b →
-          find name_cmp name (map by_name (seen_from first (suc count))) ≡ option_map (λ slot. kind_seen (kind_of image (inumber_at image i slot))) (find_first (is_named image i name) (range_with_len first (suc count)))
+          find by_bytes name (map by_name (seen_from first (suc count))) ≡ option_map (λ slot. kind_seen (kind_of image (inumber_at image i slot))) (find_first (is_named image i name) (range_with_len first (suc count)))
       go rest true at = rw at rest
       go rest false at = rw at (
           ap₂ (λ b o. cond b (Some (kind_seen (kind_of image (inumber_at image i first)))) o) (tied-names name (name_at image i first)) rest
           ∙ pushed (bytes_eq (name_at image i first) name) (find_first (is_named image i name) (range_with_len (first + 1) count)))
 
 module _ (image : Image) (tree : FileTree) (stands : Stands image tree) (here : Path) (i : ℕ) (at : lookup image here ≡ Some i) (kind : kind_of image i ≡ 2) where
-  seen_once : AreApart (map by_name (entries_seen image i (entry_count image i)))
+  seen_once : NamesDiffer (map by_name (entries_seen image i (entry_count image i)))
   seen_once = apart_from image stands.well_formed i (reached_at image stands.well_formed here i at) kind 0 (entry_count image i) (omega arith)
 
-  seen_found : (name : Name) → find name_cmp name (map by_name (entries_seen image i (entry_count image i))) ≡ option_map kind_of_node (get tree (here ++ name ∷ []))
+  seen_found : (name : Name) → find by_bytes name (map by_name (entries_seen image i (entry_count image i))) ≡ option_map kind_of_node (get tree (here ++ name ∷ []))
   seen_found name =
       find-seen image stands.well_formed i (reached_at image stands.well_formed here i at) kind name 0 (entry_count image i)
       ∙ go (slot_named image i name)

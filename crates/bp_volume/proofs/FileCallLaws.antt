@@ -1,9 +1,8 @@
 -- A call on a file, from its parts.
 use Rattle.std.proofs.Common.{◌≡◌, ℕ, [], ◌∷◌, ◌++◌, true, false, refl, sym, ◌∙◌, ap, subst}
 use Rattle.pm_epochs.specs.declared.event.Event.TheVariants.{Mark}
-use Rattle.pm_epochs.specs.Crash.{IsPartialEquivalence}
 use Rattle.bp_tree.specs.Performs.{IsShort}
-use Rattle.bp_tree.proofs.PerformsLaws.{performed, performs_short, performs_unmarked, performs_adds, performs_safe}
+use Rattle.bp_tree.proofs.PerformsLaws.{performed, performs_adds, performs_safe, performs_short, performs_unmarked, same_equivalence}
 use Rattle.pm_region.specs.Memory.{Memory, current_words, with_room, Adds}
 use Rattle.pm_region.specs.Safe.{IsSafe}
 use Rattle.pm_region.proofs.MemoryLaws.{adds_both, current_words-adds, capacity-adds, current_words-with_room}
@@ -18,17 +17,11 @@ use Rattle.bp_volume.specs.FileCall.{FileCall}
 use Rattle.bp_volume.specs.Told.{Tells}
 use Rattle.bp_volume.specs.Volume.{IsVolume}
 
-pub same-equivalence : IsPartialEquivalence Same
-same-equivalence = record {
-  symmetric = λ first second same. record { old_well_formed = same.new_well_formed; new_well_formed = same.old_well_formed; shows = λ path. sym (same.shows path) };
-  transitive = λ first second third same more. record { old_well_formed = same.old_well_formed; new_well_formed = more.new_well_formed; shows = λ path. more.shows path ∙ same.shows path };
-}
-
 pub volume-marked : (old new : Memory) (blocks inodes : Set) (pending : ℕ) → IsVolume old blocks inodes pending → Adds old new (Mark ∷ []) → IsVolume new blocks inodes pending
 volume-marked old new blocks inodes pending volume adds =
     let words : current_words new ≡ current_words old = current_words-adds old new (Mark ∷ []) adds in
     record {
-      safe = safe_mark Same same-equivalence old new volume.safe adds;
+      safe = safe_mark Same same_equivalence old new volume.safe adds;
       roomy = rw (capacity-adds old new (Mark ∷ []) adds) volume.roomy;
       well_formed = rw words volume.well_formed;
       exact = rw words volume.exact;
@@ -51,7 +44,7 @@ file_call_unchanged old middle new call answer room safe adds tells =
       step = λ tree stands. rw words (told tree stands).1;
       silent = λ tree stands none. refl;
       short = λ tree stands changed. absurd (let both : true ≡ false = sym changed ∙ (told tree stands).0 in cc);
-      safe = safe_mark Same same-equivalence middle new safe adds;
+      safe = safe_mark Same same_equivalence middle new safe adds;
     }
 
 -- a call that changes the tree: a preparation, one store alone in its epoch, and its mark

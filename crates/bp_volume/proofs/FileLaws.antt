@@ -24,7 +24,7 @@ use Rattle.bp_plain.specs.Stands.{Stands}
 use Rattle.bp_volume.specs.Step.{IsChange, PathFinds}
 use Rattle.bp_volume.specs.Step.IsChange.{by_write, by_truncate}
 use Rattle.bp_volume.specs.Told.{Refuses, RefusesFileAt, StopsAtFile, Tells, refusal_of_file}
-use Rattle.bp_volume.proofs.ChangeLaws.{Makes}
+use Rattle.bp_volume.proofs.ChangeLaws.{MakesChange}
 use Rattle.bp_volume.proofs.StepLaws.{first_two, refused_steps, answer_steps}
 use Rattle.bp_volume.proofs.WalkLaws.{node_at, dir_at, walk-found}
 
@@ -108,7 +108,7 @@ module _ (image : Image) (text : List ℕ) (i : ℕ) (at : PathFinds image text 
     write_need : (other : Change) → IsChange image (write text off new) other → need image other ≡ need image (writes i off (length new))
     write_need _ (by_write {i = k} finds) = ap (λ j. need image (writes j off (length new))) (same_file k finds)
 
-    pub write_makes : 0 < length new → off + length new ≤ max_size → Makes image (write text off new) (writes i off (length new))
+    pub write_makes : 0 < length new → off + length new ≤ max_size → MakesChange image (write text off new) (writes i off (length new))
     write_makes some fits = record {
       is = by_write at;
       alike = write_need;
@@ -140,7 +140,7 @@ module _ (image : Image) (text : List ℕ) (i : ℕ) (at : PathFinds image text 
     truncate_need : (other : Change) → IsChange image (truncate text size) other → need image other ≡ need image (resizes i size)
     truncate_need _ (by_truncate {i = k} finds) = ap (λ j. need image (resizes j size)) (same_file k finds)
 
-    pub truncate_makes : size ≤ max_size → size ≢ size_of image i → Makes image (truncate text size) (resizes i size)
+    pub truncate_makes : size ≤ max_size → size ≢ size_of image i → MakesChange image (truncate text size) (resizes i size)
     truncate_makes fits other = record {
       is = by_truncate at;
       alike = truncate_need;

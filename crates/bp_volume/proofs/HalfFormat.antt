@@ -9,11 +9,12 @@ use Rattle.pm_epochs.proofs.CrashLaws.{joined_replays}
 use Rattle.pm_epochs.proofs.Cuts.{kept_stores_right}
 use Rattle.pm_epochs.proofs.MayLaws.{EachMay-stored, StoresMay-stores_of, same_where_none}
 use Rattle.bp_layout.specs.Words.{Image, word}
-use Rattle.bp_limits.specs.Limits.{magic}
+use Rattle.bp_layout.specs.Format.{empty_words}
+use Rattle.bp_limits.specs.Limits.{magic, super_magic}
 use Rattle.bp_plain.specs.PlainTree.{empty_tree}
 use Rattle.bp_plain.specs.Stands.{Stands}
 use Rattle.bp_plain.proofs.FormatStands.{format_stands}
-use Rattle.bp_volume.specs.Laid.{IsLeftByFormat, format_epoch, format_events}
+use Rattle.bp_volume.specs.Laid.{IsLeftByFormat, format_events, stores_epoch}
 use Rattle.bp_volume.specs.Laid.IsLeftByFormat.{untouched, unmarked, empty}
 
 -- a replay of some events keeps stores of some epochs and a mask
@@ -37,13 +38,13 @@ word_stays base events place may image found =
 
 module _ (base : Image) (blocks : ℕ) (whole : length base ≡ 512 * blocks) (least : 8 ≤ blocks) (most : blocks ≤ 16384) where
   abbrev unmarking : List Event
-  unmarking = format_epoch blocks 0 1
+  unmarking = stores_epoch ((super_magic, 0) ∷ [])
 
   abbrev filling : List Event
-  filling = format_epoch blocks 1 7
+  filling = stores_epoch (empty_words blocks)
 
   abbrev marking : List Event
-  marking = format_epoch blocks 7 8
+  marking = stores_epoch ((super_magic, magic) ∷ [])
 
   cleared : word (set base 0 0) 0 ≡ 0
   cleared = get_or-set_same base 0 0 0 (omega (arith, whole, least))

@@ -24,7 +24,7 @@ use Rattle.bp_plain.specs.Stands.{Stands}
 use Rattle.bp_volume.specs.Step.{FindsEntry, IsChange, StandsIn, last_of}
 use Rattle.bp_volume.specs.Step.IsChange.{by_unlink, by_rmdir}
 use Rattle.bp_volume.specs.Told.{Refuses, StopsAtEntry, refusal_of_entry}
-use Rattle.bp_volume.proofs.ChangeLaws.{Makes}
+use Rattle.bp_volume.proofs.ChangeLaws.{MakesChange}
 use Rattle.bp_volume.proofs.CreateLaws.{by_parent, not_root}
 use Rattle.bp_volume.proofs.FewBlocks.{IsFew, few_left}
 use Rattle.bp_volume.proofs.EntryLaws.{length-entries}
@@ -126,7 +126,7 @@ module _ (image : Image) (text : List ℕ) (i s j : ℕ) (at : FindsEntry image 
   unlink_need : (other : Change) → IsChange image (unlink text) other → need image other ≡ need image (leaves i s)
   unlink_need _ (by_unlink {i = k} {s = r} stands) = ap₂ (λ d t. need image (leaves d t)) (same_entry k r stands).0 (same_entry k r stands).1
 
-  pub unlink_makes : kind_of image j ≡ 1 → Makes image (unlink text) (leaves i s)
+  pub unlink_makes : kind_of image j ≡ 1 → MakesChange image (unlink text) (leaves i s)
   unlink_makes kind = record {
     is = by_unlink stands_in;
     alike = unlink_need;
@@ -147,7 +147,7 @@ module _ (image : Image) (text : List ℕ) (i s j : ℕ) (at : FindsEntry image 
   rmdir_need : (other : Change) → IsChange image (rmdir text) other → need image other ≡ need image (leaves i s)
   rmdir_need _ (by_rmdir {i = k} {s = r} stands) = ap₂ (λ d t. need image (leaves d t)) (same_entry k r stands).0 (same_entry k r stands).1
 
-  pub rmdir_makes : kind_of image j ≡ 2 → name_count image (root_of image j) (size_of image j) ≡ 0 → Makes image (rmdir text) (leaves i s)
+  pub rmdir_makes : kind_of image j ≡ 2 → name_count image (root_of image j) (size_of image j) ≡ 0 → MakesChange image (rmdir text) (leaves i s)
   rmdir_makes kind none = record {
     is = by_rmdir stands_in;
     alike = rmdir_need;

@@ -19,30 +19,23 @@ use Rattle.bp_layout.specs.Below.{rest_below}
 use Rattle.bp_layout.specs.declared.fields.Kind.{Kind}
 use Rattle.bp_layout.proofs.Below.{rest_below-append, rest_below-is}
 use Rattle.bp_plain.specs.PlainTree.{FileTree, path_cmp}
-use Rattle.bp_plain.specs.Plain.{kind_of_node, only_name, listing}
+use Rattle.bp_plain.specs.Plain.{kind_of_node, listed_in, only_name, listing}
+use Rattle.bp_plain.proofs.Kept.{left_holds, right_holds}
 use Rattle.bp_plain.proofs.Uniqueness.{same_path_from}
 
-abbrev pub name_cmp : Name → Name → Ordering
-name_cmp = slice_cmp nat_cmp
+abbrev pub by_bytes : Name → Name → Ordering
+by_bytes = slice_cmp nat_cmp
 
 -- an entry of a listing under its name
 abbrev pub by_name : Kind × Name → Name × Kind
 by_name entry = (entry.1, entry.0)
 
-pub name_cmp-IsAntisymmetric : IsAntisymmetric name_cmp
-name_cmp-IsAntisymmetric = slice_cmp-IsAntisymmetric nat_cmp-IsAntisymmetric
+pub by_bytes-IsAntisymmetric : IsAntisymmetric by_bytes
+by_bytes-IsAntisymmetric = slice_cmp-IsAntisymmetric nat_cmp-IsAntisymmetric
 
 both : (a b : Bool) → T a → T b → T (a && b)
 both true b p q = q
 both false b p q = p
-
-left : (a b : Bool) → T (a && b) → T a
-left true b p = tt
-left false b p = p
-
-right : (a b : Bool) → T (a && b) → T b
-right true b p = p
-right false b p = absurd p
 
 then_equal : (o : Ordering) → ordering_then o Equal ≡ o
 then_equal Less = refl
@@ -57,21 +50,18 @@ only_is (Some []) name e = absurd (cc)
 only_is (Some (first ∷ [])) name e = let same : first ≡ name = cc in ap (λ n. Some (n ∷ [])) same
 only_is (Some (first ∷ second ∷ rest)) name e = absurd (cc)
 
-path_cmp-below : (here : Path) (a b : Name) → path_cmp (here ++ a ∷ []) (here ++ b ∷ []) ≡ name_cmp a b
-path_cmp-below [] a b = then_equal (name_cmp a b)
+path_cmp-below : (here : Path) (a b : Name) → path_cmp (here ++ a ∷ []) (here ++ b ∷ []) ≡ by_bytes a b
+path_cmp-below [] a b = then_equal (by_bytes a b)
 path_cmp-below (name ∷ here) a b = ap (λ o. ordering_then o (path_cmp (here ++ a ∷ []) (here ++ b ∷ []))) (tied_itself nat_list_cmp_total name) ∙ path_cmp-below here a b
 
 module _ (here : Path) where
-  abbrev pub picked : Path × Node → Option (Kind × Name)
-  picked entry = option_map (λ name. (kind_of_node entry.1, name)) (only_name (rest_below here entry.0))
-
   only_at : (path : Path) (name : Name) → only_name (rest_below here path) ≡ Some name → path ≡ here ++ name ∷ []
   only_at path name e = rest_below-is here path (name ∷ []) (only_is (rest_below here path) name e)
 
   at_only : (name : Name) → only_name (rest_below here (here ++ name ∷ [])) ≡ Some name
   at_only name = ap only_name (rest_below-append here (name ∷ []))
 
-  -- an entry that is not picked has no such path
+  -- an entry that is not listed has no such path
   not_there : (path : Path) (name : Name) → only_name (rest_below here path) ≡ None → eq_by_cmp path_cmp (here ++ name ∷ []) path ≡ false
   not_there path name e = go (eq_by_cmp path_cmp (here ++ name ∷ []) path) refl
     where
@@ -82,13 +72,13 @@ module _ (here : Path) where
           absurd (cc)
       go false at = refl
 
-  find-picked : (es : List (Path × Node)) (name : Name) → find name_cmp name (map by_name (filter_map picked es)) ≡ option_map kind_of_node (find path_cmp (here ++ name ∷ []) es)
-  find-picked [] name = refl
-  find-picked (entry ∷ es) name = go (find-picked es name) (only_name (rest_below here entry.0)) refl
+  find-listed : (es : List (Path × Node)) (name : Name) → find by_bytes name (map by_name (filter_map (listed_in here) es)) ≡ option_map kind_of_node (find path_cmp (here ++ name ∷ []) es)
+  find-listed [] name = refl
+  find-listed (entry ∷ es) name = go (find-listed es name) (only_name (rest_below here entry.0)) refl
     where
-      go : find name_cmp name (map by_name (filter_map picked es)) ≡ option_map kind_of_node (find path_cmp (here ++ name ∷ []) es) →
+      go : find by_bytes name (map by_name (filter_map (listed_in here) es)) ≡ option_map kind_of_node (find path_cmp (here ++ name ∷ []) es) →
           (o : Option Name) → only_name (rest_below here entry.0) ≡ o →
-          find name_cmp name (map by_name (filter_map picked (entry ∷ es))) ≡ option_map kind_of_node (find path_cmp (here ++ name ∷ []) (entry ∷ es))
+          find by_bytes name (map by_name (filter_map (listed_in here) (entry ∷ es))) ≡ option_map kind_of_node (find path_cmp (here ++ name ∷ []) (entry ∷ es))
       go rest None at = rw at (rw (not_there entry.0 name at) rest)
       go rest (Some other) at = rw at (
           ap₂ (λ b o. cond b (Some (kind_of_node entry.1)) o) (sym (ap is_eq (path_cmp-below here name other))) rest
@@ -99,39 +89,39 @@ module _ (here : Path) where
           pushed true = refl
           pushed false = refl
 
-  below_picked : (name : Name) (es : List (Path × Node)) → T (below_all path_cmp (here ++ name ∷ []) es) → T (below_all name_cmp name (map by_name (filter_map picked es)))
-  below_picked name [] h = tt
-  below_picked name (entry ∷ es) h = go (below_picked name es (right _ _ h)) (only_name (rest_below here entry.0)) refl
+  below_listed : (name : Name) (es : List (Path × Node)) → T (below_all path_cmp (here ++ name ∷ []) es) → T (below_all by_bytes name (map by_name (filter_map (listed_in here) es)))
+  below_listed name [] h = tt
+  below_listed name (entry ∷ es) h = go (below_listed name es (right_holds _ _ h)) (only_name (rest_below here entry.0)) refl
     where
-      go : T (below_all name_cmp name (map by_name (filter_map picked es))) → (o : Option Name) → only_name (rest_below here entry.0) ≡ o →
-          T (below_all name_cmp name (map by_name (filter_map picked (entry ∷ es))))
+      go : T (below_all by_bytes name (map by_name (filter_map (listed_in here) es))) → (o : Option Name) → only_name (rest_below here entry.0) ≡ o →
+          T (below_all by_bytes name (map by_name (filter_map (listed_in here) (entry ∷ es))))
       go rest None at = rw at rest
       go rest (Some other) at =
-          let less : T (is_lt (path_cmp (here ++ name ∷ []) (here ++ other ∷ []))) = subst (λ p. T (is_lt (path_cmp (here ++ name ∷ []) p))) (only_at entry.0 other at) (left _ _ h) in
+          let less : T (is_lt (path_cmp (here ++ name ∷ []) (here ++ other ∷ []))) = subst (λ p. T (is_lt (path_cmp (here ++ name ∷ []) p))) (only_at entry.0 other at) (left_holds _ _ h) in
           rw at (both _ _ (subst (λ o. T (is_lt o)) (path_cmp-below here name other) less) rest)
 
-  sorted_picked : (es : List (Path × Node)) → T (is_sorted path_cmp es) → T (is_sorted name_cmp (map by_name (filter_map picked es)))
-  sorted_picked [] h = tt
-  sorted_picked (entry ∷ es) h = go (sorted_picked es (right _ _ h)) (only_name (rest_below here entry.0)) refl
+  sorted_listed : (es : List (Path × Node)) → T (is_sorted path_cmp es) → T (is_sorted by_bytes (map by_name (filter_map (listed_in here) es)))
+  sorted_listed [] h = tt
+  sorted_listed (entry ∷ es) h = go (sorted_listed es (right_holds _ _ h)) (only_name (rest_below here entry.0)) refl
     where
-      go : T (is_sorted name_cmp (map by_name (filter_map picked es))) → (o : Option Name) → only_name (rest_below here entry.0) ≡ o →
-          T (is_sorted name_cmp (map by_name (filter_map picked (entry ∷ es))))
+      go : T (is_sorted by_bytes (map by_name (filter_map (listed_in here) es))) → (o : Option Name) → only_name (rest_below here entry.0) ≡ o →
+          T (is_sorted by_bytes (map by_name (filter_map (listed_in here) (entry ∷ es))))
       go rest None at = rw at rest
       go rest (Some name) at =
-          let below : T (below_all path_cmp (here ++ name ∷ []) es) = subst (λ p. T (below_all path_cmp p es)) (only_at entry.0 name at) (left _ _ h) in
-          rw at (both _ _ (below_picked name es below) rest)
+          let below : T (below_all path_cmp (here ++ name ∷ []) es) = subst (λ p. T (below_all path_cmp p es)) (only_at entry.0 name at) (left_holds _ _ h) in
+          rw at (both _ _ (below_listed name es below) rest)
 
 -- what a listing has under a name, and that it is sorted
-pub find-listing : (tree : FileTree) (here : Path) (name : Name) → find name_cmp name (map by_name (listing tree here)) ≡ option_map kind_of_node (get tree (here ++ name ∷ []))
-find-listing tree here name = find-picked here (entries tree) name ∙ ap (option_map kind_of_node) (sym (get-entries tree (here ++ name ∷ [])))
+pub find-listing : (tree : FileTree) (here : Path) (name : Name) → find by_bytes name (map by_name (listing tree here)) ≡ option_map kind_of_node (get tree (here ++ name ∷ []))
+find-listing tree here name = find-listed here (entries tree) name ∙ ap (option_map kind_of_node) (sym (get-entries tree (here ++ name ∷ [])))
 
-pub sorted_listing : (tree : FileTree) (here : Path) → T (is_sorted name_cmp (map by_name (listing tree here)))
-sorted_listing tree here = sorted_picked here (entries tree) (entries_sorted tree)
+pub sorted_listing : (tree : FileTree) (here : Path) → T (is_sorted by_bytes (map by_name (listing tree here)))
+sorted_listing tree here = sorted_listed here (entries tree) (entries_sorted tree)
 
 -- ---- entries of which no two have one name
 
-abbrev pub AreApart : List (Name × Kind) → Type 0
-AreApart es = IsDistinct (eq_by_cmp name_cmp) (map (λ e. e.0) es)
+abbrev pub NamesDiffer : List (Name × Kind) → Type 0
+NamesDiffer es = IsDistinct (eq_by_cmp by_bytes) (map (λ e. e.0) es)
 
 get_or-next : {A : Type 0} (x : A) (xs : List A) (k : ℕ) (d : A) → get_or (x ∷ xs) (k + 1) d ≡ get_or xs k d
 get_or-next x xs k d = rw add-one refl
@@ -139,13 +129,13 @@ get_or-next x xs k d = rw add-one refl
 contains-next : {A : Type 0} (x : A) (xs : List A) (y : A) → Contains xs y → Contains (x ∷ xs) y
 contains-next x xs y c = (c.0 + 1, omega (arith, c.1), get_or-next x xs c.0 y ∙ c.2)
 
-find-contains : (es : List (Name × Kind)) (name : Name) (kind : Kind) → find name_cmp name es ≡ Some kind → Contains es (name, kind)
+find-contains : (es : List (Name × Kind)) (name : Name) (kind : Kind) → find by_bytes name es ≡ Some kind → Contains es (name, kind)
 find-contains [] name kind e = absurd (cc)
-find-contains (entry ∷ es) name kind e = go (λ r. find-contains es name kind r) (eq_by_cmp name_cmp name entry.0) refl
+find-contains (entry ∷ es) name kind e = go (λ r. find-contains es name kind r) (eq_by_cmp by_bytes name entry.0) refl
   where
-    go : (find name_cmp name es ≡ Some kind → Contains es (name, kind)) → (b : Bool) → eq_by_cmp name_cmp name entry.0 ≡ b → Contains (entry ∷ es) (name, kind)
+    go : (find by_bytes name es ≡ Some kind → Contains es (name, kind)) → (b : Bool) → eq_by_cmp by_bytes name entry.0 ≡ b → Contains (entry ∷ es) (name, kind)
     go rest true at =
-        let same : name ≡ entry.0 = name_cmp-IsAntisymmetric name entry.0 ((Equal-is (name_cmp name entry.0)).0 at) in
+        let same : name ≡ entry.0 = by_bytes-IsAntisymmetric name entry.0 ((Equal-is (by_bytes name entry.0)).0 at) in
         let kinds : Some entry.1 ≡ Some kind = rw at at e in
         let value : entry.1 ≡ kind = cc in
         (0, omega arith, ap₂ (λ n k. (n, k)) (sym same) value)
@@ -159,40 +149,40 @@ all-contains P (entry ∷ es) x all c = go c.0 c.1 c.2 (λ r. all-contains P es 
     go zero low is rest = subst P (ap (λ (e : Name × Kind). e.0) is) all.0
     go (suc k) low is rest = rest (k, omega (arith, low), is)
 
-contains-find : (es : List (Name × Kind)) (name : Name) (kind : Kind) → AreApart es → Contains es (name, kind) → find name_cmp name es ≡ Some kind
+contains-find : (es : List (Name × Kind)) (name : Name) (kind : Kind) → NamesDiffer es → Contains es (name, kind) → find by_bytes name es ≡ Some kind
 unfolding IsDistinct
 contains-find [] name kind apart c = absurd (omega (arith, c.1))
 contains-find (entry ∷ es) name kind apart c = go c.0 c.1 c.2 (λ r. contains-find es name kind apart.1 r)
   where
-    go : (k : ℕ) → k < length (entry ∷ es) → get_or (entry ∷ es) k (name, kind) ≡ (name, kind) → (Contains es (name, kind) → find name_cmp name es ≡ Some kind) → find name_cmp name (entry ∷ es) ≡ Some kind
+    go : (k : ℕ) → k < length (entry ∷ es) → get_or (entry ∷ es) k (name, kind) ≡ (name, kind) → (Contains es (name, kind) → find by_bytes name es ≡ Some kind) → find by_bytes name (entry ∷ es) ≡ Some kind
     go zero low is rest =
         let first : name ≡ entry.0 = sym (ap (λ (e : Name × Kind). e.0) is) in
         let second : entry.1 ≡ kind = ap (λ (e : Name × Kind). e.1) is in
-        let tied : eq_by_cmp name_cmp name entry.0 ≡ true = ap (λ n. eq_by_cmp name_cmp name n) (sym first) ∙ ap is_eq (tied_itself nat_list_cmp_total name) in
+        let tied : eq_by_cmp by_bytes name entry.0 ≡ true = ap (λ n. eq_by_cmp by_bytes name n) (sym first) ∙ ap is_eq (tied_itself nat_list_cmp_total name) in
         rw tied (ap Some second)
     go (suc k) low is rest =
         let there : Contains es (name, kind) = (k, omega (arith, low), is) in
-        let other : eq_by_cmp name_cmp entry.0 name ≡ false = all-contains (λ y. eq_by_cmp name_cmp entry.0 y ≡ false) es (name, kind) apart.0 there in
+        let other : eq_by_cmp by_bytes entry.0 name ≡ false = all-contains (λ y. eq_by_cmp by_bytes entry.0 y ≡ false) es (name, kind) apart.0 there in
         rw ((eq_by_cmp_equiv nat_list_cmp_total).symm name entry.0 ∙ other) (rest there)
 
-find-same_members : (es fs : List (Name × Kind)) → AreApart es → AreApart fs → ((x : Name × Kind) → Contains es x → Contains fs x) → ((x : Name × Kind) → Contains fs x → Contains es x) →
-    (name : Name) → find name_cmp name es ≡ find name_cmp name fs
-find-same_members es fs apart also there back name = go (find name_cmp name es) refl (find name_cmp name fs) refl
+find-same_members : (es fs : List (Name × Kind)) → NamesDiffer es → NamesDiffer fs → ((x : Name × Kind) → Contains es x → Contains fs x) → ((x : Name × Kind) → Contains fs x → Contains es x) →
+    (name : Name) → find by_bytes name es ≡ find by_bytes name fs
+find-same_members es fs apart also there back name = go (find by_bytes name es) refl (find by_bytes name fs) refl
   where
-    go : (o : Option Kind) → find name_cmp name es ≡ o → (p : Option Kind) → find name_cmp name fs ≡ p → find name_cmp name es ≡ find name_cmp name fs
+    go : (o : Option Kind) → find by_bytes name es ≡ o → (p : Option Kind) → find by_bytes name fs ≡ p → find by_bytes name es ≡ find by_bytes name fs
     go (Some kind) e p f = e ∙ sym (contains-find fs name kind also (there (name, kind) (find-contains es name kind e)))
     go None e (Some kind) f = contains-find es name kind apart (back (name, kind) (find-contains fs name kind f)) ∙ sym f
     go None e None f = e ∙ sym f
 
-find_nothing : (es : List (Name × Kind)) (name : Name) → AllByRecursion (λ y. eq_by_cmp name_cmp name y ≡ false) (map (λ e. e.0) es) → find name_cmp name es ≡ None
+find_nothing : (es : List (Name × Kind)) (name : Name) → AllByRecursion (λ y. eq_by_cmp by_bytes name y ≡ false) (map (λ e. e.0) es) → find by_bytes name es ≡ None
 find_nothing [] name all = refl
 find_nothing (entry ∷ es) name all = rw all.0 (find_nothing es name all.1)
 
-len-from_apart : (es : List (Name × Kind)) → AreApart es → len (from_entries {R = name_cmp} es) ≡ length es
+len-from_apart : (es : List (Name × Kind)) → NamesDiffer es → len (from_entries {R = by_bytes} es) ≡ length es
 unfolding IsDistinct
-len-from_apart [] apart = len-empty name_cmp Kind
+len-from_apart [] apart = len-empty by_bytes Kind
 len-from_apart (entry ∷ es) apart =
-    let rest : FinMap name_cmp Kind = from_entries es in
+    let rest : FinMap by_bytes Kind = from_entries es in
     let none : contains_key rest entry.0 ≡ false = ap (λ (o : Option Kind). elim o as (λ o. Bool) [ None ↦ false | Some kind ↦ true ]) (get-from_entries nat_list_cmp_total es entry.0 ∙ find_nothing es entry.0 apart.0) in
     len-insert nat_list_cmp_total rest entry.0 entry.1 ∙ rw none (omega (arith, len-from_apart es apart.1))
 
@@ -203,29 +193,29 @@ module _ {Item : Type 0} (seen : Item → Kind × Name) where
   keyed item = by_name (seen item)
 
   abbrev pub comes_before : Item → Item → Bool
-  comes_before x y = is_lt (name_cmp (seen x).1 (seen y).1)
+  comes_before x y = is_lt (by_bytes (seen x).1 (seen y).1)
 
   sorted-tail : (x : Item) (xs : List Item) → IsSortedBy comes_before (x ∷ xs) → IsSortedBy comes_before xs
   sorted-tail x xs up k d low high =
       let here : comes_before (get_or (x ∷ xs) (k + 1 + 1) d) (get_or (x ∷ xs) (k + 1) d) ≡ false = up (k + 1) d (omega arith) (omega (arith, high)) in
       ap₂ comes_before (sym (get_or-next x xs (k + 1) d)) (sym (get_or-next x xs k d)) ∙ here
 
-  less_from : (a b : Name) → is_lt (name_cmp b a) ≡ false → eq_by_cmp name_cmp a b ≡ false → T (is_lt (name_cmp a b))
-  less_from a b above apart = go (name_cmp b a) refl
+  less_from : (a b : Name) → is_lt (by_bytes b a) ≡ false → eq_by_cmp by_bytes a b ≡ false → T (is_lt (by_bytes a b))
+  less_from a b above apart = go (by_bytes b a) refl
     where
-      go : (o : Ordering) → name_cmp b a ≡ o → T (is_lt (name_cmp a b))
+      go : (o : Ordering) → by_bytes b a ≡ o → T (is_lt (by_bytes a b))
       go Less at = absurd (true≢false (sym (ap is_lt at) ∙ above))
       go Equal at = absurd (true≢false (sym (ap is_eq (nat_list_cmp_total.antisymm a b ∙ ap ordering_reverse at)) ∙ apart))
       go Greater at = subst (λ o. T (is_lt o)) (sym (nat_list_cmp_total.antisymm a b ∙ ap ordering_reverse at)) tt
 
   below_items : (x : Item) (xs : List Item) → ((k : ℕ) (d : Item) → k < length xs → comes_before (get_or xs k d) x ≡ false) →
-      AllByRecursion (λ y. eq_by_cmp name_cmp (seen x).1 y ≡ false) (map (λ e. e.0) (map keyed xs)) → T (below_all name_cmp (seen x).1 (map keyed xs))
+      AllByRecursion (λ y. eq_by_cmp by_bytes (seen x).1 y ≡ false) (map (λ e. e.0) (map keyed xs)) → T (below_all by_bytes (seen x).1 (map keyed xs))
   below_items x [] above apart = tt
   below_items x (y ∷ xs) above apart =
       both _ _ (less_from (seen x).1 (seen y).1 (above 0 y (omega arith)) apart.0)
       (below_items x xs (λ k d low. ap (λ z. comes_before z x) (sym (get_or-next y xs k d)) ∙ above (k + 1) d (omega (arith, low))) apart.1)
 
-  sorted_items : (items : List Item) → IsSortedBy comes_before items → AreApart (map keyed items) → T (is_sorted name_cmp (map keyed items))
+  sorted_items : (items : List Item) → IsSortedBy comes_before items → NamesDiffer (map keyed items) → T (is_sorted by_bytes (map keyed items))
   unfolding IsDistinct
   sorted_items [] up apart = tt
   sorted_items (x ∷ xs) up apart =
@@ -236,14 +226,14 @@ module _ {Item : Type 0} (seen : Item → Kind × Name) where
   seen_back [] = refl
   seen_back (x ∷ xs) = ap (λ ys. seen x ∷ ys) (seen_back xs)
 
-  module _ (tree : FileTree) (here : Path) (items : List Item) (apart : AreApart (map keyed items))
-      (finds : (name : Name) → find name_cmp name (map keyed items) ≡ option_map kind_of_node (get tree (here ++ name ∷ []))) where
+  module _ (tree : FileTree) (here : Path) (items : List Item) (apart : NamesDiffer (map keyed items))
+      (finds : (name : Name) → find by_bytes name (map keyed items) ≡ option_map kind_of_node (get tree (here ++ name ∷ []))) where
     -- there are as many as the listing has
     pub length-listing : length (listing tree here) ≡ length items
     length-listing =
-        let made : FinMap name_cmp Kind = from_entries (map keyed items) in
+        let made : FinMap by_bytes Kind = from_entries (map keyed items) in
         let same : entries made ≡ map by_name (listing tree here) =
-        same_entries name_cmp nat_list_cmp_total name_cmp-IsAntisymmetric (entries made) (map by_name (listing tree here)) (entries_sorted made) (sorted_listing tree here)
+        same_entries by_bytes nat_list_cmp_total by_bytes-IsAntisymmetric (entries made) (map by_name (listing tree here)) (entries_sorted made) (sorted_listing tree here)
         (λ name. sym (get-entries made name) ∙ get-from_entries nat_list_cmp_total (map keyed items) name ∙ finds name ∙ sym (find-listing tree here name)) in
         omega (arith, length-map (listing tree here) by_name, ap length same, len-entries made, len-from_apart (map keyed items) apart, length-map items keyed)
 
@@ -251,14 +241,14 @@ module _ {Item : Type 0} (seen : Item → Kind × Name) where
     pub sorted-listing : (done : List Item) → IsPermutation items done → IsSortedBy comes_before done → map seen done ≡ listing tree here
     sorted-listing done moved up =
         let moved_keys : IsPermutation (map keyed items) (map keyed done) = IsPermutation-map keyed items done moved in
-        let still : AreApart (map keyed done) =
-        IsDistinct-IsPermutation (eq_by_cmp name_cmp) (eq_by_cmp_equiv nat_list_cmp_total).symm (map (λ e. e.0) (map keyed items)) (map (λ e. e.0) (map keyed done))
+        let still : NamesDiffer (map keyed done) =
+        IsDistinct-IsPermutation (eq_by_cmp by_bytes) (eq_by_cmp_equiv nat_list_cmp_total).symm (map (λ e. e.0) (map keyed items)) (map (λ e. e.0) (map keyed done))
         (IsPermutation-map (λ e. e.0) (map keyed items) (map keyed done) moved_keys) apart in
-        let found : (name : Name) → find name_cmp name (map keyed done) ≡ find name_cmp name (map keyed items) =
+        let found : (name : Name) → find by_bytes name (map keyed done) ≡ find by_bytes name (map keyed items) =
         find-same_members (map keyed done) (map keyed items) still apart
         (λ x c. Contains-permutation _ _ x (IsPermutation-sym _ _ moved_keys) c) (λ x c. Contains-permutation _ _ x moved_keys c) in
         let same : map keyed done ≡ map by_name (listing tree here) =
-        same_entries name_cmp nat_list_cmp_total name_cmp-IsAntisymmetric (map keyed done) (map by_name (listing tree here)) (sorted_items done up still) (sorted_listing tree here)
+        same_entries by_bytes nat_list_cmp_total by_bytes-IsAntisymmetric (map keyed done) (map by_name (listing tree here)) (sorted_items done up still) (sorted_listing tree here)
         (λ name. found name ∙ finds name ∙ sym (find-listing tree here name)) in
         sym (seen_back done) ∙ ap (map (λ (e : Name × Kind). (e.1, e.0))) same ∙ listed_back (listing tree here)
       where

@@ -29,7 +29,7 @@ use Rattle.bp_volume.specs.Renaming.{FindsEnds, IsMoveOf, MayMove}
 use Rattle.bp_volume.specs.Step.{FindsEntry, IsChange, FindsNew, StandsIn, last_of}
 use Rattle.bp_volume.specs.Step.IsChange.{onto, across, within}
 use Rattle.bp_volume.specs.declared.renaming.Ends.{Ends}
-use Rattle.bp_volume.proofs.ChangeLaws.{Makes}
+use Rattle.bp_volume.proofs.ChangeLaws.{MakesChange}
 use Rattle.bp_volume.proofs.CreateLaws.{by_parent}
 use Rattle.bp_volume.proofs.FewBlocks.{IsFew}
 use Rattle.bp_volume.proofs.FewMoved.{few_moved}
@@ -139,7 +139,7 @@ module _ (image : Image) (from to : List ℕ) (ends : Ends) (may : MayMove image
       go (inl same) = rw (eq-eqb i j same) (within source (subst (λ k. FindsNew image to k name) (sym same) (new_name at)))
       go (inr apart) = rw (ne_eqb i j apart) (across source (new_name at) apart)
 
-  rename_makes : Makes image (rename from to) change
+  rename_makes : MakesChange image (rename from to) change
   rename_makes = record {
     is = is_change (slot_named image j name) refl;
     alike = λ made is. ap (need image) (change_is made is);
@@ -161,8 +161,8 @@ module _ (image : Image) (from to : List ℕ) (ends : Ends) (may : MayMove image
     change_same : change_of move ≡ change
     change_same = rw (is.from_dir, is.from_slot, is.to_dir, is.name, slot) refl
 
-    pub moving_makes : Makes image (rename from to) (change_of move)
-    moving_makes = subst (Makes image (rename from to)) (sym change_same) rename_makes
+    pub moving_makes : MakesChange image (rename from to) (change_of move)
+    moving_makes = subst (MakesChange image (rename from to)) (sym change_same) rename_makes
 
     source_found : IsFoundAt image (parent_of p) (last_of p) move.from_dir move.from_slot ends.source.inumber
     source_found = rw (is.from_dir, is.from_slot) (is_found image from i s ends.source.inumber source_entry)

@@ -16,6 +16,7 @@ use Rattle.bp_layout.specs.Words.{Image}
 use Rattle.bp_layout.proofs.Below.{same_path-is, same_path-self}
 use Rattle.bp_layout.proofs.Paths.{path_once}
 use Rattle.bp_path.specs.declared.steps.FoundEntry.{FoundEntry}
+use Rattle.bp_plain.proofs.PathLaws.{first_one}
 use Rattle.bp_plain.specs.Calls.{Refusal}
 use Rattle.bp_plain.specs.Calls.Answer.{done}
 use Rattle.bp_plain.specs.Calls.Call.{rename}
@@ -31,7 +32,7 @@ use Rattle.bp_volume.specs.declared.walking.Target.{Target}
 use Rattle.bp_volume.proofs.CreateLaws.{get-name, not_root, parent_goes}
 use Rattle.bp_volume.proofs.EntryLaws.{length-entries}
 use Rattle.bp_volume.proofs.StepLaws.{answer_steps}
-use Rattle.bp_volume.proofs.WalkLaws.{dir_at, first_one, node_at, walk-found}
+use Rattle.bp_volume.proofs.WalkLaws.{dir_at, node_at, walk-found}
 
 pub other_path : (p q : Path) → p ≢ q → same_path p q ≡ false
 other_path p q other = go (same_path p q) refl

@@ -10,32 +10,32 @@ use Rattle.bp_plain.specs.Calls.Call.{list, read}
 use Rattle.bp_plain.specs.Calls.Refusal.{not_dir, is_dir, no_memory, no_space}
 use Rattle.bp_plain.specs.Calls.Answer.{refused}
 use Rattle.bp_plain.specs.Plain.{plain, is_changing, refusal, walk, changes, answer, answer_or, on_parsed, on_path, first, when, is_dir_at}
-use Rattle.bp_volume.specs.Step.{Steps, HasNeed}
-use Rattle.bp_volume.specs.Step.Steps.{unchanged, no_listing, no_room}
+use Rattle.bp_volume.specs.Step.{StepFor, HasNeed}
+use Rattle.bp_volume.specs.Step.StepFor.{unchanged, no_listing, no_room}
 use Rattle.bp_volume.specs.FileCall.{has_changed, is_refused}
 
 module _ (image : Image) (tree : FileTree) where
   -- a call that is refused
-  pub refused_steps : (call : Call) (why : Refusal) → refusal tree call ≡ Some why → (has_changed tree call (refused why) ≡ false) × Steps image tree call (refused why) image
+  pub refused_steps : (call : Call) (why : Refusal) → refusal tree call ≡ Some why → (has_changed tree call (refused why) ≡ false) × StepFor image tree call (refused why) image
   refused_steps call why is =
       let still : is_changing tree call ≡ false = ap (λ o. is_none o && changes tree call) is in
       let told : (plain tree call).0 ≡ refused why = ap (λ o. (answer_or tree call o).0) is in
-      (ap (λ b. b && not (is_refused (refused why))) still, subst (λ a. Steps image tree call a image) told (unchanged still))
+      (ap (λ b. b && not (is_refused (refused why))) still, subst (λ a. StepFor image tree call a image) told (unchanged still))
 
   -- a call that asks
-  pub answer_steps : (call : Call) (told : Answer) → refusal tree call ≡ None → changes tree call ≡ false → answer tree call ≡ told → (has_changed tree call told ≡ false) × Steps image tree call told image
+  pub answer_steps : (call : Call) (told : Answer) → refusal tree call ≡ None → changes tree call ≡ false → answer tree call ≡ told → (has_changed tree call told ≡ false) × StepFor image tree call told image
   answer_steps call told none still is =
       let same : is_changing tree call ≡ false = ap (λ o. is_none o && changes tree call) none ∙ still in
       let says : (plain tree call).0 ≡ told = ap (λ o. (answer_or tree call o).0) none ∙ is in
-      (ap (λ b. b && not (is_refused told)) same, subst (λ a. Steps image tree call a image) says (unchanged same))
+      (ap (λ b. b && not (is_refused told)) same, subst (λ a. StepFor image tree call a image) says (unchanged same))
 
   -- a listing for which there is no memory
-  pub memory_steps : (text : List ℕ) → refusal tree (list text) ≡ None → (has_changed tree (list text) (refused no_memory) ≡ false) × Steps image tree (list text) (refused no_memory) image
+  pub memory_steps : (text : List ℕ) → refusal tree (list text) ≡ None → (has_changed tree (list text) (refused no_memory) ≡ false) × StepFor image tree (list text) (refused no_memory) image
   memory_steps text none = (ap (λ o. is_none o && false && not (is_refused (refused no_memory))) none, no_listing none)
 
   -- a call for which there is no space
   pub no_space_steps : (call : Call) (needed free : ℕ) → is_changing tree call ≡ true → HasNeed image call needed free → free < needed →
-      (has_changed tree call (refused (no_space needed free)) ≡ false) × Steps image tree call (refused (no_space needed free)) image
+      (has_changed tree call (refused (no_space needed free)) ≡ false) × StepFor image tree call (refused (no_space needed free)) image
   no_space_steps call needed free changing need short = (ap (λ b. b && false) changing, no_room changing need short)
 
 -- ---- refusals by the path

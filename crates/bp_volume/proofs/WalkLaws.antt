@@ -15,9 +15,9 @@ use Rattle.bp_layout.specs.WellFormed.{IsWellFormed}
 use Rattle.bp_layout.proofs.View.{lookup_from-reached}
 use Rattle.bp_layout.proofs.Paths.{ByLast, by_last, last_step, lookup_from-append}
 use Rattle.bp_layout.proofs.Paths.ByLast.{none, more}
+use Rattle.bp_plain.proofs.PathLaws.{first_one}
 use Rattle.bp_plain.specs.PlainTree.{FileTree}
 use Rattle.bp_plain.specs.Stands.{Stands}
-use Rattle.bp_plain.specs.Calls.{Refusal}
 use Rattle.bp_plain.specs.Calls.Refusal.{not_found, not_dir}
 use Rattle.bp_plain.specs.Plain as plain
 use Rattle.bp_plain.specs.Plain.{is_a_dir, is_dir_at, first, when, walk, walk_parent, parent_of}
@@ -25,10 +25,6 @@ use Rattle.bp_path.specs.Walk.{Walked, onward, walk_from, in_directory}
 use Rattle.bp_path.specs.Walk.Walked.{found, missing, in_file}
 use Rattle.bp_path.proofs.WalkLaws.{walk_is_lookup}
 use Rattle.bp_volume.specs.Told.{refusal_of_walk}
-
-pub first_one : (r : Option Refusal) → first (r ∷ []) ≡ r
-first_one None = refl
-first_one (Some r) = refl
 
 kind_test : (kind : ℕ) (content : List ℕ) → 1 ≤ kind → kind ≤ 2 → is_a_dir (Some (if kind == 1 then file content else dir)) ≡ (kind == 2)
 kind_test kind content low high = go (kind == 1) refl

@@ -1,24 +1,29 @@
 -- Where the path of a call leads, as its answer tells it.
-use Rattle.std.proofs.Common.{◌≡◌, ◌≢◌, ℕ, List, [], ◌∷◌, length, true, false, not, ◌&&◌, ◌==◌, Option, None, Some, bytes_eq, refl, sym, ◌∙◌, ap, true≢false}
-use Rattle.std.specs.Prelude.{is_some, nat_le}
+use Rattle.std.proofs.Common.{◌≡◌, ◌≢◌, ℕ, [], ◌∷◌, length, true, false, not, ◌&&◌, ◌==◌, Option, None, Some, bytes_eq, refl, sym, ◌∙◌, ap, subst, true≢false}
+use Rattle.std.specs.Prelude.{is_some, is_err, nat_le, Result, Ok, Err, IsErrAnd, MatchResult, IfErr, IfOk}
 use Rattle.std.specs.List.{AllByRecursion, list_all}
 use Rattle.std.proofs.lemmas.Bool.{and_parts, leb-true, eqb-false, not-true}
 use Rattle.std.proofs.lemmas.List.Elements.{All-from_recursion}
+use Rattle.std.proofs.lemmas.Result.{IfOk-at_ok}
 use Rattle.std.proofs.lemmas.Slice.Eq.{bytes_eq-Decides}
 use Rattle.bp_layout.specs.Words.{Image}
 use Rattle.bp_layout.specs.Inode.{kind_of}
 use Rattle.bp_layout.specs.Directory.{Name, IsName, slot_named}
 use Rattle.bp_layout.specs.Lookup.{Path, lookup}
-use Rattle.bp_layout.specs.PathText.{is_name, parse}
+use Rattle.bp_layout.specs.PathText.{is_name}
+use Rattle.bp_plain.proofs.PathLaws.{first_one}
+use Rattle.bp_plain.specs.declared.errors.FsError.{FsError}
+use Rattle.bp_plain.specs.Seen.{refusal_of}
 use Rattle.bp_plain.specs.Calls.{Refusal}
 use Rattle.bp_plain.specs.Calls.Refusal.{exists, is_dir}
-use Rattle.bp_plain.specs.Plain.{on_parsed, first, when, is_dir_at, walk, parent_of}
-use Rattle.bp_path.specs.FoundEntries.{IsEntryOf}
+use Rattle.bp_plain.specs.Plain.{first, when, is_dir_at, walk, parent_of}
+use Rattle.bp_path.specs.FoundEntries.{IsEntryOf, dir_of, fault_of, walked_of}
 use Rattle.bp_path.specs.Walk.{Walked, walk_from, in_directory}
 use Rattle.bp_path.specs.declared.steps.FoundEntry.{FoundEntry}
+use Rattle.bp_path.specs.declared.steps.WalkFault.{WalkFault}
 use Rattle.bp_volume.specs.Step.{IsEntryOn, IsNewOn, last_of}
-use Rattle.bp_volume.specs.Told.{StopsAtEntry, StopsWalk, RefusesEntry, RefusesFileAt, RefusesNew, RefusesWalk, refusal_of_entry, refusal_of_new, refusal_of_walk}
-use Rattle.bp_volume.proofs.WalkLaws.{first_one, walk-image, walk-found, walk_parent-image, dir_at}
+use Rattle.bp_volume.specs.Told.{RefusesEntry, RefusesFileAt, RefusesNew, RefusesWalk, refusal_of_new, refusal_of_walk}
+use Rattle.bp_volume.proofs.WalkLaws.{walk-image, walk-found, walk_parent-image, dir_at}
 use Rattle.bp_volume.proofs.CreateLaws.{by_parent, create_stopped, create_there, not_root}
 
 -- ---- the form of a name
@@ -52,8 +57,24 @@ name_form name e =
 pub walk_ends : (image : Image) (path : Path) (walked : Walked) (why : Refusal) → walked ≡ walk_from image 1 path → refusal_of_walk walked ≡ Some why → RefusesWalk image path why
 walk_ends image path walked why is told tree stands = walk-image image tree stands path ∙ ap refusal_of_walk (sym is) ∙ told
 
-pub walk_stops : (image : Image) (text : List ℕ) (path : Path) (why : Refusal) → parse text ≡ Some path → RefusesWalk image path why → StopsWalk image text why
-walk_stops image text path why parsed ends tree stands = ap (λ o. on_parsed o (walk tree)) parsed ∙ ends tree stands
+-- behind the `?` of a result whose error is told as another one, its value has what the result had
+pub ok_was : {T E : Type 0} (P : T → Type 0) (inner : Result T E) (v : T) → MatchResult inner (λ x. ◌≡◌ {A = Result T FsError} (Ok v) (Ok x)) (λ _. ⊥) → IfOk inner P → P v
+ok_was P (Ok x) v maps holds = IfOk-at_ok P {r = Ok x} (sym maps) holds
+ok_was P (Err e) v maps holds = absurd maps
+
+-- the fault of a walk to a parent, told as a refusal
+pub fault_told : (inner : Result ℕ WalkFault) (error : FsError) → MatchResult inner (λ x. ◌≡◌ {A = Result ℕ FsError} (Err error) (Ok x)) (λ fault. refusal_of_walk (fault_of fault) ≡ Some (refusal_of error)) →
+    refusal_of_walk (dir_of inner) ≡ Some (refusal_of error)
+fault_told (Ok x) error maps = absurd (true≢false (ap is_err maps))
+fault_told (Err fault) error maps = maps
+
+-- a walk, and its result with the fault told as a refusal
+pub walk_told : (image : Image) (path : Path) (inner : Result FoundEntry WalkFault) (outer : Result FoundEntry FsError) → walked_of inner ≡ walk_from image 1 path →
+    MatchResult inner (λ x. outer ≡ Ok x) (λ fault. IsErrAnd outer (λ error. refusal_of_walk (fault_of fault) ≡ Some (refusal_of error))) → IfErr outer (λ error. RefusesWalk image path (refusal_of error))
+walk_told image path (Ok x) (Ok y) is maps = tt
+walk_told image path (Ok x) (Err error) is maps = absurd (true≢false (ap is_err maps))
+walk_told image path (Err fault) (Ok y) is maps = absurd maps
+walk_told image path (Err fault) (Err error) is maps = walk_ends image path _ _ is maps
 
 -- ---- the entry at a path
 
@@ -62,12 +83,15 @@ entry_found image path entry below is_entry found =
     let both = is_entry.below (parent_of path) (last_of path) (by_parent path below) in
     record { below = below; parent = both.0; slot = both.1; inode = found }
 
+pub walk_found : (image : Image) (path : Path) (inner : Result FoundEntry WalkFault) (outer : Result FoundEntry FsError) → path ≢ [] → IfOk inner (IsEntryOf image path) → IfOk inner (λ entry. lookup image path ≡ Some entry.inumber) →
+    MatchResult inner (λ x. outer ≡ Ok x) (λ fault. IsErrAnd outer (λ error. refusal_of_walk (fault_of fault) ≡ Some (refusal_of error))) → IfOk outer (λ entry. IsEntryOn image path entry.dir entry.slot entry.inumber)
+walk_found image path (Ok entry) outer below is_entry found maps = subst (λ r. IfOk r (λ other. IsEntryOn image path other.dir other.slot other.inumber)) (sym maps) (entry_found image path entry below is_entry found)
+walk_found image path (Err fault) (Ok y) below is_entry found maps = absurd maps
+walk_found image path (Err fault) (Err error) below is_entry found maps = tt
+
 pub entry_ends : (image : Image) (path : Path) (root why : Refusal) → path ≢ [] → RefusesWalk image path why → RefusesEntry image path root why
 entry_ends image path root why below ends tree stands =
     ap (λ b. first (when b root ∷ walk tree path ∷ [])) (not_root path below) ∙ first_one (walk tree path) ∙ ends tree stands
-
-pub entry_stops : (image : Image) (text : List ℕ) (path : Path) (root why : Refusal) → parse text ≡ Some path → RefusesEntry image path root why → StopsAtEntry image text root why
-entry_stops image text path root why parsed ends tree stands = ap (λ o. on_parsed o (refusal_of_entry root tree)) parsed ∙ ends tree stands
 
 -- ---- the file at a path
 

@@ -10,7 +10,7 @@ use Rattle.bp_plain.specs.Stands.{Stands}
 use Rattle.bp_plain.specs.Calls.{Call, Answer}
 use Rattle.bp_plain.specs.Calls.Call.{create, mkdir}
 use Rattle.bp_tree.specs.Performs.{Performs}
-use Rattle.bp_volume.specs.Step.{Steps, IsChange}
+use Rattle.bp_volume.specs.Step.{StepFor, IsChange}
 use Rattle.bp_volume.specs.FileCall.{has_changed}
 use Rattle.bp_volume.specs.Told.{Tells}
 
@@ -22,7 +22,7 @@ making Dir text = mkdir text
 -- the call with this answer changes the tree for which the first image stands, and is a step to the second
 abbrev pub ChangesTree : Call → Answer → Image → Image → Type 0
 ChangesTree call answer image new = (tree : FileTree) → Stands image tree →
-    (has_changed tree call answer ≡ true) × Steps image tree call answer new
+    (has_changed tree call answer ≡ true) × StepFor image tree call answer new
 
 -- the call makes one change of the image, is that step by it, and leaves room for its mark
 pub record PerformsCall (old : Memory) (call : Call) (answer : Answer) (new : Memory) : Type 0 where

@@ -26,7 +26,8 @@ pub record IsTarget (image : Image) (path : Path) (target : Target) : Type 0 whe
   pub last : last_of path ≡ target.name.now
   pub form : IsName target.name.now
   pub new : target.there ≡ None → slot_named image target.dir target.name.now ≡ None
-  pub there : (entry : FoundEntry) → target.there ≡ Some entry → IsEntryOn image path target.dir entry.slot entry.inumber
+  pub there : (entry : FoundEntry) → target.there ≡ Some entry
+      → IsEntryOn image path target.dir entry.slot entry.inumber
   pub empty : target.there ≡ None → target.empty ≡ empty_slot image target.dir
 
 -- The first path finds an entry. The second is a name in a directory, and not below the first.

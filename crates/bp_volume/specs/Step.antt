@@ -94,14 +94,14 @@ Fits image call = (needed free : ℕ) → HasNeed image call needed free → nee
 
 -- The image stands for a tree. A changing call that needs more blocks than are free is refused; want of memory may be
 -- answered to a listing; else the answer is that of the plain tree, and the new image stands for the new tree.
-pub data Steps (image : Image) (tree : FileTree) : Call → Answer → Image → Type 0 where
+pub data StepFor (image : Image) (tree : FileTree) : Call → Answer → Image → Type 0 where
   no_room : {call : Call} {needed free : ℕ} → is_changing tree call ≡ true → HasNeed image call needed free →
-      free < needed → Steps image tree call (refused (no_space needed free)) image
+      free < needed → StepFor image tree call (refused (no_space needed free)) image
   no_listing : {text : List ℕ} → refusal tree (list text) ≡ None →
-      Steps image tree (list text) (refused no_memory) image
-  unchanged : {call : Call} → is_changing tree call ≡ false → Steps image tree call (plain tree call).0 image
+      StepFor image tree (list text) (refused no_memory) image
+  unchanged : {call : Call} → is_changing tree call ≡ false → StepFor image tree call (plain tree call).0 image
   changed : {call : Call} {new : Image} → is_changing tree call ≡ true → Fits image call →
-      Stands new (plain tree call).1 → Steps image tree call (plain tree call).0 new
+      Stands new (plain tree call).1 → StepFor image tree call (plain tree call).0 new
 
 abbrev pub Step : Image → Call → Answer → Image → Type 0
-Step image call answer new = (tree : FileTree) → Stands image tree → Steps image tree call answer new
+Step image call answer new = (tree : FileTree) → Stands image tree → StepFor image tree call answer new

@@ -10,13 +10,13 @@ use Rattle.bp_plain.specs.Plain.{on_path, refusal, walk, walk_parent, first, whe
 use Rattle.bp_plain.specs.Calls.Refusal.{not_found, not_dir, is_dir, exists}
 use Rattle.bp_path.specs.Walk.{Walked}
 use Rattle.bp_path.specs.Walk.Walked.{found, missing, in_file}
-use Rattle.bp_volume.specs.Step.{Steps}
+use Rattle.bp_volume.specs.Step.{StepFor}
 use Rattle.bp_volume.specs.FileCall.{has_changed}
 
 -- the call changes nothing, and this may be its answer
 abbrev pub Tells : Image → Call → Answer → Type 0
 Tells image call answer = (tree : FileTree) → Stands image tree →
-    (has_changed tree call answer ≡ false) × Steps image tree call answer image
+    (has_changed tree call answer ≡ false) × StepFor image tree call answer image
 
 -- the refusal of a walk
 abbrev pub refusal_of_walk : Walked → Option Refusal

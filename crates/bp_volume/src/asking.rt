@@ -14,17 +14,22 @@ use bp_inodes::get;
 use bp_layout::{Kind, Listing, Stat};
 use bp_plain::FsError;
 use pm_region::Region;
-use std::alloc::Global;
+use std::alloc::{AllocError, Global};
 
 /// What `stat` answers.
 pub(crate) fn stat_at<R: Region>(region: &R, text: &[u8]) -> Result<Stat, FsError>
     requires { IsWellFormed (current_words (R.memory region.now)) }
     ensures { Tells (current_words (R.memory region.now)) (stat text.now) (stat_answer_of result) }
 {
-    match inode_at(region, text) {
-        Ok(i) => Ok(stat(region, i)),
-        Err(error) => Err(error),
-    }
+    let i = inode_at(region, text)?;
+    Ok(stat(region, i))
+}
+
+/// The refusal of a call for which there is no memory.
+fn no_memory(_: AllocError) -> FsError
+    ensures { result ≡ FsError.Memory }
+{
+    FsError::Memory
 }
 
 /// The names in the directory at a path text, which has inode `i`.
@@ -35,10 +40,7 @@ fn list_inode<R: Region>(alloc: Global, region: &R, text: &[u8], i: u32) -> Resu
 {
     match get(region, i).kind {
         Kind::File => Err(FsError::NotDir),
-        Kind::Dir => match list(alloc, region, i) {
-            Ok(listing) => Ok(listing),
-            Err(_) => Err(FsError::Memory),
-        },
+        Kind::Dir => list(alloc, region, i).map_err(no_memory),
     }
 }
 
@@ -47,10 +49,8 @@ pub(crate) fn list_at<R: Region>(alloc: Global, region: &R, text: &[u8]) -> Resu
     requires { IsWellFormed (current_words (R.memory region.now)) }
     ensures { Tells (current_words (R.memory region.now)) (list text.now) (list_answer_of result) }
 {
-    match inode_at(region, text) {
-        Ok(i) => list_inode(alloc, region, text, i),
-        Err(error) => Err(error),
-    }
+    let i = inode_at(region, text)?;
+    list_inode(alloc, region, text, i)
 }
 
 /// What `read` answers.
@@ -67,8 +67,6 @@ pub(crate) fn read_at<R: Region>(
     ensures rest { IfOk result (λ count. drop count into.new ≡ drop count into.old) }
     ensures unread { OnErr result (into.new ≡ into.old) }
 {
-    match file_at(region, text) {
-        Ok(file) => Ok(read(region, file.inumber, off, into)),
-        Err(error) => Err(error),
-    }
+    let file = file_at(region, text)?;
+    Ok(read(region, file.inumber, off, into))
 }

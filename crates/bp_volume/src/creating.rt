@@ -34,10 +34,7 @@ fn create_new<R: Region>(
         (R.memory parts.new.region) }
     ensures exact { AreExact (current_words (R.memory parts.new.region)) parts.new.blocks parts.new.inodes }
 {
-    match create_in(parts, new.dir, new.slot, new.name, kind) {
-        Ok(()) => Ok(()),
-        Err(lacks) => Err(no_space(lacks)),
-    }
+    create_in(parts, new.dir, new.slot, new.name, kind).map_err(no_space)
 }
 
 /// What `create` and `mkdir` do before their mark.
@@ -53,8 +50,6 @@ pub(crate) fn create_at<R: Region>(
         (R.memory parts.new.region) }
     ensures exact { AreExact (current_words (R.memory parts.new.region)) parts.new.blocks parts.new.inodes }
 {
-    match new_name(&parts.region, text) {
-        Ok(new) => create_new(parts, text, new, kind),
-        Err(error) => Err(error),
-    }
+    let new = new_name(&parts.region, text)?;
+    create_new(parts, text, new, kind)
 }

@@ -7,7 +7,9 @@ ghost use Rattle.bp_volume.specs.Laid.{IsLeftByFormat, format_events};
 ghost use Rattle.pm_epochs.specs.Replay.{IsReplay};
 ghost use Rattle.pm_region.specs.Memory.{Adds, room_in};
 
-use bp_limits::{BLOCK_SIZE, MAGIC, SUPER_BLOCKS, SUPER_MAGIC, SUPER_ROOT, SUPER_SIZE};
+use bp_limits::{
+    BLOCK_SIZE, BLOCK_WORDS, MAGIC, SUPER_BLOCKS, SUPER_MAGIC, SUPER_ROOT, SUPER_SIZE,
+};
 use pm_region::Region;
 
 /// Makes an empty file system of a region of 8 to 16,384 blocks of 512 words. Its stores are not written back until
@@ -23,7 +25,7 @@ pub fn lay_out<R: Region>(region: &mut R)
     ensures left { (image : Image) → IsReplay (R.memory region.new).base (R.memory region.new).events image
         → IsLeftByFormat (R.memory region.old).base image }
 {
-    let blocks = region.words() / 512;
+    let blocks = region.words() / BLOCK_WORDS;
     // The mark is gone before any other word changes, and comes back once all of them are written back.
     region.store(SUPER_MAGIC, 0);
     region.barrier();

@@ -34,12 +34,10 @@ fn file_entry<R: Region>(region: &R, text: &[u8]) -> Result<FoundEntry, FsError>
     ensures refused { IfErr result
         (λ e. Refuses (current_words (R.memory region.now)) (unlink text.now) (refusal_of e)) }
 {
-    match entry_at(region, text, FsError::IsDir) {
-        Ok(entry) => match get(region, entry.inumber).kind {
-            Kind::File => Ok(entry),
-            Kind::Dir => Err(FsError::IsDir),
-        },
-        Err(error) => Err(error),
+    let entry = entry_at(region, text, FsError::IsDir)?;
+    match get(region, entry.inumber).kind {
+        Kind::File => Ok(entry),
+        Kind::Dir => Err(FsError::IsDir),
     }
 }
 
@@ -83,10 +81,8 @@ fn empty_entry<R: Region>(region: &R, text: &[u8]) -> Result<FoundEntry, FsError
     ensures refused { IfErr result
         (λ e. Refuses (current_words (R.memory region.now)) (rmdir text.now) (refusal_of e)) }
 {
-    match entry_at(region, text, FsError::IsRoot) {
-        Ok(entry) => without_names(region, text, entry),
-        Err(error) => Err(error),
-    }
+    let entry = entry_at(region, text, FsError::IsRoot)?;
+    without_names(region, text, entry)
 }
 
 /// What `unlink` does before its mark.
@@ -98,13 +94,9 @@ pub(crate) fn unlink_at<R: Region>(parts: &mut Parts<R>, text: &[u8]) -> Result<
         (R.memory parts.new.region) }
     ensures exact { AreExact (current_words (R.memory parts.new.region)) parts.new.blocks parts.new.inodes }
 {
-    match file_entry(&parts.region, text) {
-        Ok(entry) => {
-            remove(parts, entry.dir, entry.slot);
-            Ok(())
-        }
-        Err(error) => Err(error),
-    }
+    let entry = file_entry(&parts.region, text)?;
+    remove(parts, entry.dir, entry.slot);
+    Ok(())
 }
 
 /// What `rmdir` does before its mark.
@@ -116,11 +108,7 @@ pub(crate) fn rmdir_at<R: Region>(parts: &mut Parts<R>, text: &[u8]) -> Result<(
         (R.memory parts.new.region) }
     ensures exact { AreExact (current_words (R.memory parts.new.region)) parts.new.blocks parts.new.inodes }
 {
-    match empty_entry(&parts.region, text) {
-        Ok(entry) => {
-            remove(parts, entry.dir, entry.slot);
-            Ok(())
-        }
-        Err(error) => Err(error),
-    }
+    let entry = empty_entry(&parts.region, text)?;
+    remove(parts, entry.dir, entry.slot);
+    Ok(())
 }

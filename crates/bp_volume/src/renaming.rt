@@ -16,7 +16,7 @@ ghost use Rattle.bp_volume.specs.Told.{Refuses, RefusesRename};
 ghost use Rattle.pm_region.specs.Memory.{current_words, room_in};
 
 use crate::refusing::no_space;
-use crate::walking::{Target, entry_on, target_on};
+use crate::walking::{Target, bad_path, entry_on, target_on};
 use bp_dirs::is_empty;
 use bp_free::Parts;
 use bp_inodes::get;
@@ -50,15 +50,11 @@ fn ends_from<'a, R: Region>(
     ensures refused { IfErr result
         (λ e. RefusesRename (current_words (R.memory region.now)) from.now to.now (refusal_of e)) }
 {
-    match target_on(region, to) {
-        Ok(target) => {
-            if to.is_below(from) {
-                Err(FsError::IntoSelf)
-            } else {
-                Ok(Ends { source, target })
-            }
-        }
-        Err(error) => Err(error),
+    let target = target_on(region, to)?;
+    if to.is_below(from) {
+        Err(FsError::IntoSelf)
+    } else {
+        Ok(Ends { source, target })
     }
 }
 
@@ -75,10 +71,8 @@ fn ends_on<'a, R: Region>(region: &R, from: &Path<'_>, to: &Path<'a>) -> Result<
     if to.is_root() {
         return Err(FsError::IsRoot);
     }
-    match entry_on(region, from) {
-        Ok(source) => ends_from(region, from, source, to),
-        Err(error) => Err(error),
-    }
+    let source = entry_on(region, from)?;
+    ends_from(region, from, source, to)
 }
 
 /// The ends of a rename of one path text to another one.
@@ -88,13 +82,9 @@ fn ends_at<'a, R: Region>(region: &R, from: &[u8], to: &'a [u8]) -> Result<Ends<
     ensures refused { IfErr result
         (λ e. Refuses (current_words (R.memory region.now)) (rename from.now to.now) (refusal_of e)) }
 {
-    match parse(from) {
-        Ok(source) => match parse(to) {
-            Ok(target) => ends_on(region, &source, &target),
-            Err(_) => Err(FsError::BadPath),
-        },
-        Err(_) => Err(FsError::BadPath),
-    }
+    let source = parse(from).map_err(bad_path)?;
+    let target = parse(to).map_err(bad_path)?;
+    ends_on(region, &source, &target)
 }
 
 /// Refuses a rename onto what may not be replaced so: only a file moves onto a file, and only a directory onto a
@@ -201,10 +191,7 @@ fn move_name<R: Region>(
     ensures exact { AreExact (current_words (R.memory parts.new.region)) parts.new.blocks parts.new.inodes }
 {
     let to_move = move_of(ends);
-    match rename_in(parts, &to_move, ends.target.empty) {
-        Ok(()) => Ok(()),
-        Err(lacks) => Err(no_space(lacks)),
-    }
+    rename_in(parts, &to_move, ends.target.empty).map_err(no_space)
 }
 
 /// Moves a name between the ends that were found. A name that is to move onto itself stays.
@@ -225,10 +212,8 @@ fn rename_found<R: Region>(
     if are_same(ends) {
         return Ok(());
     }
-    match may_move(&parts.region, from, to, ends) {
-        Ok(()) => move_name(parts, from, to, ends),
-        Err(error) => Err(error),
-    }
+    may_move(&parts.region, from, to, ends)?;
+    move_name(parts, from, to, ends)
 }
 
 /// What `rename` does before its mark.
@@ -244,8 +229,6 @@ pub(crate) fn rename_at<R: Region>(
         (R.memory parts.new.region) }
     ensures exact { AreExact (current_words (R.memory parts.new.region)) parts.new.blocks parts.new.inodes }
 {
-    match ends_at(&parts.region, from, to) {
-        Ok(ends) => rename_found(parts, from, to, &ends),
-        Err(error) => Err(error),
-    }
+    let ends = ends_at(&parts.region, from, to)?;
+    rename_found(parts, from, to, &ends)
 }

@@ -41,10 +41,7 @@ fn resize<R: Region>(
     if size == file.size {
         return Ok(());
     }
-    match bp_calls::truncate(parts, file.inumber, size) {
-        Ok(()) => Ok(()),
-        Err(lacks) => Err(no_space(lacks)),
-    }
+    bp_calls::truncate(parts, file.inumber, size).map_err(no_space)
 }
 
 /// What `truncate` does before its mark.
@@ -60,8 +57,6 @@ pub(crate) fn truncate_at<R: Region>(
         (R.memory parts.new.region) }
     ensures exact { AreExact (current_words (R.memory parts.new.region)) parts.new.blocks parts.new.inodes }
 {
-    match file_at(&parts.region, text) {
-        Ok(file) => resize(parts, text, file, size),
-        Err(error) => Err(error),
-    }
+    let file = file_at(&parts.region, text)?;
+    resize(parts, text, file, size)
 }

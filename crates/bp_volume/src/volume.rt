@@ -34,7 +34,7 @@ use crate::space::Space;
 use crate::writing::write_at;
 use bp_free::Parts;
 use bp_layout::{Kind, Listing, Stat};
-use bp_limits::CALL_ROOM;
+use bp_limits::{BLOCK_WORDS, CALL_ROOM};
 use bp_plain::{Call, FsError, Reply};
 use bp_scan::{MountFault, Pending, Totals, scan};
 use pm_epochs::{BadChoice, Choice, Kept};
@@ -78,7 +78,7 @@ impl<R: Region> Volume<R> {
         ensures handed_back { IfErr result (λ e. e.0 ≡ region) }
         ensures memory { IfErr result (λ e. e.1 ≡ MountFault.Memory) }
     {
-        let Ok(sets) = Sets::new(alloc, (region.words() / 512) as u32) else {
+        let Ok(sets) = Sets::new(alloc, region.words() / BLOCK_WORDS) else {
             return Err((region, MountFault::Memory));
         };
         let mut region = region;
@@ -111,7 +111,7 @@ impl<R: Region> Volume<R> {
         ensures fault { IfErr result (λ e. (e.1 ≡ MountFault.Memory) ⊎ IsFault (R.memory region).base e.1) }
         ensures exact { IsWellFormed (R.memory region).base → IfErr result (λ e. e.1 ≡ MountFault.Memory) }
     {
-        match Sets::new(alloc, (region.words() / 512) as u32) {
+        match Sets::new(alloc, region.words() / BLOCK_WORDS) {
             Ok(sets) => Volume::scanned(region, sets),
             Err(_) => Err((region, MountFault::Memory)),
         }
@@ -274,7 +274,7 @@ impl<R: Region> Volume<R> {
         made
     }
 
-    /// Gives the file at a path another size in bytes: it is cut off there, or gets zeros behind its end.
+    /// Gives the file at a path another size in bytes: it ends there, or gets zeros behind its old bytes.
     ///
     /// # Errors
     ///

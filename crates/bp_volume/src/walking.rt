@@ -21,7 +21,7 @@ use bp_calls::tree_of;
 use bp_dirs::{Spot, find_or_free, inumber};
 use bp_inodes::get;
 use bp_layout::Kind;
-use bp_path::{FoundEntry, Path, WalkFault, parse, walk, walk_parent};
+use bp_path::{BadPath, FoundEntry, Path, WalkFault, parse, walk, walk_parent};
 use bp_plain::FsError;
 use pm_region::Region;
 
@@ -68,16 +68,21 @@ fn refused(fault: WalkFault) -> FsError
     }
 }
 
+/// The refusal of a call whose path text is none.
+pub(crate) fn bad_path(_: BadPath) -> FsError
+    ensures { result ≡ FsError.BadPath }
+{
+    FsError::BadPath
+}
+
 /// The inode at a path.
 pub(crate) fn inode_on<R: Region>(region: &R, path: &Path<'_>) -> Result<u32, FsError>
     requires { IsWellFormed (current_words (R.memory region.now)) }
     ensures found { IfOk result (λ i. lookup (current_words (R.memory region.now)) path.now ≡ Some i) }
     ensures stopped { IfErr result (λ e. RefusesWalk (current_words (R.memory region.now)) path.now (refusal_of e)) }
 {
-    match walk(region, path) {
-        Ok(entry) => Ok(entry.inumber),
-        Err(fault) => Err(refused(fault)),
-    }
+    let entry = walk(region, path).map_err(refused)?;
+    Ok(entry.inumber)
 }
 
 /// The inode at a path text.
@@ -86,13 +91,8 @@ pub(crate) fn inode_at<R: Region>(region: &R, text: &[u8]) -> Result<u32, FsErro
     ensures found { IfOk result (λ i. PathFinds (current_words (R.memory region.now)) text.now i) }
     ensures stopped { IfErr result (λ e. StopsWalk (current_words (R.memory region.now)) text.now (refusal_of e)) }
 {
-    match parse(text) {
-        Ok(path) => match inode_on(region, &path) {
-            Ok(i) => Ok(i),
-            Err(error) => Err(error),
-        },
-        Err(_) => Err(FsError::BadPath),
-    }
+    let path = parse(text).map_err(bad_path)?;
+    inode_on(region, &path)
 }
 
 /// The file at a path.
@@ -103,18 +103,14 @@ pub(crate) fn file_on<R: Region>(region: &R, path: &Path<'_>) -> Result<FoundFil
     ensures size { IfOk result (λ file. file.size ≡ size_of (current_words (R.memory region.now)) file.inumber) }
     ensures refused { IfErr result (λ e. RefusesFileAt (current_words (R.memory region.now)) path.now (refusal_of e)) }
 {
-    match inode_on(region, path) {
-        Ok(i) => {
-            let inode = get(region, i);
-            match inode.kind {
-                Kind::File => Ok(FoundFile {
-                    inumber: i,
-                    size: inode.size,
-                }),
-                Kind::Dir => Err(FsError::IsDir),
-            }
-        }
-        Err(error) => Err(error),
+    let i = inode_on(region, path)?;
+    let inode = get(region, i);
+    match inode.kind {
+        Kind::File => Ok(FoundFile {
+            inumber: i,
+            size: inode.size,
+        }),
+        Kind::Dir => Err(FsError::IsDir),
     }
 }
 
@@ -126,13 +122,8 @@ pub(crate) fn file_at<R: Region>(region: &R, text: &[u8]) -> Result<FoundFile, F
     ensures size { IfOk result (λ file. file.size ≡ size_of (current_words (R.memory region.now)) file.inumber) }
     ensures refused { IfErr result (λ e. StopsAtFile (current_words (R.memory region.now)) text.now (refusal_of e)) }
 {
-    match parse(text) {
-        Ok(path) => match file_on(region, &path) {
-            Ok(file) => Ok(file),
-            Err(error) => Err(error),
-        },
-        Err(_) => Err(FsError::BadPath),
-    }
+    let path = parse(text).map_err(bad_path)?;
+    file_on(region, &path)
 }
 
 /// The entry at a path below the root directory.
@@ -144,10 +135,7 @@ pub(crate) fn entry_on<R: Region>(region: &R, path: &Path<'_>) -> Result<FoundEn
     ensures refused { IfErr result
         (λ e. (root : Refusal) → RefusesEntry (current_words (R.memory region.now)) path.now root (refusal_of e)) }
 {
-    match walk(region, path) {
-        Ok(entry) => Ok(entry),
-        Err(fault) => Err(refused(fault)),
-    }
+    walk(region, path).map_err(refused)
 }
 
 /// The entry by which a path text finds what stands there. The root directory has none: there it is the error `root`.
@@ -162,18 +150,11 @@ pub(crate) fn entry_at<R: Region>(
     ensures refused { IfErr result
         (λ e. StopsAtEntry (current_words (R.memory region.now)) text.now (refusal_of root) (refusal_of e)) }
 {
-    match parse(text) {
-        Ok(path) => {
-            if path.is_root() {
-                return Err(root);
-            }
-            match entry_on(region, &path) {
-                Ok(entry) => Ok(entry),
-                Err(error) => Err(error),
-            }
-        }
-        Err(_) => Err(FsError::BadPath),
+    let path = parse(text).map_err(bad_path)?;
+    if path.is_root() {
+        return Err(root);
     }
+    entry_on(region, &path)
 }
 
 /// Where a directory has a name, or where it has room for it.
@@ -196,15 +177,11 @@ fn last_name<'a, R: Region>(region: &R, path: &Path<'a>) -> Result<NewName<'a>, 
     ensures slot { IfOk result (λ new. new.slot ≡ empty_slot (current_words (R.memory region.now)) new.dir) }
     ensures refused { IfErr result (λ e. RefusesNew (current_words (R.memory region.now)) path.now (refusal_of e)) }
 {
-    match walk_parent(region, path) {
-        Ok(dir) => {
-            let name = path.last();
-            match spot_of(region, dir, name) {
-                Spot::Named(_) => Err(FsError::Exists),
-                Spot::Free(slot) => Ok(NewName { dir, name, slot }),
-            }
-        }
-        Err(fault) => Err(refused(fault)),
+    let dir = walk_parent(region, path).map_err(refused)?;
+    let name = path.last();
+    match spot_of(region, dir, name) {
+        Spot::Named(_) => Err(FsError::Exists),
+        Spot::Free(slot) => Ok(NewName { dir, name, slot }),
     }
 }
 
@@ -215,32 +192,28 @@ pub(crate) fn target_on<'a, R: Region>(region: &R, path: &Path<'a>) -> Result<Ta
     ensures found { IfOk result (λ target. IsTarget (current_words (R.memory region.now)) path.now target) }
     ensures refused { IfErr result (λ e. RefusesParent (current_words (R.memory region.now)) path.now (refusal_of e)) }
 {
-    match walk_parent(region, path) {
-        Ok(dir) => {
-            let name = path.last();
-            match spot_of(region, dir, name) {
-                Spot::Named(slot) => {
-                    let entry = FoundEntry {
-                        inumber: inumber(region, tree_of(region, dir), slot) as u32,
-                        dir,
-                        slot,
-                    };
-                    Ok(Target {
-                        dir,
-                        name,
-                        there: Some(entry),
-                        empty: None,
-                    })
-                }
-                Spot::Free(empty) => Ok(Target {
-                    dir,
-                    name,
-                    there: None,
-                    empty,
-                }),
-            }
+    let dir = walk_parent(region, path).map_err(refused)?;
+    let name = path.last();
+    match spot_of(region, dir, name) {
+        Spot::Named(slot) => {
+            let entry = FoundEntry {
+                inumber: inumber(region, tree_of(region, dir), slot) as u32,
+                dir,
+                slot,
+            };
+            Ok(Target {
+                dir,
+                name,
+                there: Some(entry),
+                empty: None,
+            })
         }
-        Err(fault) => Err(refused(fault)),
+        Spot::Free(empty) => Ok(Target {
+            dir,
+            name,
+            there: None,
+            empty,
+        }),
     }
 }
 
@@ -251,14 +224,10 @@ pub(crate) fn new_name<'a, R: Region>(region: &R, text: &'a [u8]) -> Result<NewN
     ensures slot { IfOk result (λ new. new.slot ≡ empty_slot (current_words (R.memory region.now)) new.dir) }
     ensures refused { IfErr result (λ e. StopsAtNew (current_words (R.memory region.now)) text.now (refusal_of e)) }
 {
-    match parse(text) {
-        Ok(path) => {
-            if path.is_root() {
-                Err(FsError::Exists)
-            } else {
-                last_name(region, &path)
-            }
-        }
-        Err(_) => Err(FsError::BadPath),
+    let path = parse(text).map_err(bad_path)?;
+    if path.is_root() {
+        Err(FsError::Exists)
+    } else {
+        last_name(region, &path)
     }
 }

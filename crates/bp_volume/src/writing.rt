@@ -14,7 +14,7 @@ ghost use Rattle.bp_volume.specs.Told.{Refuses};
 ghost use Rattle.pm_region.specs.Memory.{current_words, room_in};
 
 use crate::refusing::no_space;
-use crate::walking::file_on;
+use crate::walking::{bad_path, file_on};
 use bp_free::Parts;
 use bp_limits::{MAX_SIZE, MAX_WRITE};
 use bp_path::parse;
@@ -31,18 +31,12 @@ fn file_for<R: Region>(region: &R, text: &[u8], bytes: &[u8]) -> Result<u32, FsE
     ensures refused { IfErr result (λ e. (off : ℕ) → Refuses (current_words (R.memory region.now))
         (write text.now off bytes.now) (refusal_of e)) }
 {
-    match parse(text) {
-        Ok(path) => {
-            if bytes.len() > MAX_WRITE {
-                return Err(FsError::TooLong);
-            }
-            match file_on(region, &path) {
-                Ok(file) => Ok(file.inumber),
-                Err(error) => Err(error),
-            }
-        }
-        Err(_) => Err(FsError::BadPath),
+    let path = parse(text).map_err(bad_path)?;
+    if bytes.len() > MAX_WRITE {
+        return Err(FsError::TooLong);
     }
+    let file = file_on(region, &path)?;
+    Ok(file.inumber)
 }
 
 /// Writes bytes into the file at a path text, which has inode `i`.
@@ -69,10 +63,7 @@ fn write_into<R: Region>(
     if off > MAX_SIZE - bytes.len() as u64 {
         return Err(FsError::TooBig);
     }
-    match bp_calls::write(parts, i, off, bytes) {
-        Ok(()) => Ok(()),
-        Err(lacks) => Err(no_space(lacks)),
-    }
+    bp_calls::write(parts, i, off, bytes).map_err(no_space)
 }
 
 /// What `write` does before its mark.
@@ -89,8 +80,6 @@ pub(crate) fn write_at<R: Region>(
         (R.memory parts.new.region) }
     ensures exact { AreExact (current_words (R.memory parts.new.region)) parts.new.blocks parts.new.inodes }
 {
-    match file_for(&parts.region, text, bytes) {
-        Ok(i) => write_into(parts, text, i, off, bytes),
-        Err(error) => Err(error),
-    }
+    let i = file_for(&parts.region, text, bytes)?;
+    write_into(parts, text, i, off, bytes)
 }

@@ -1,6 +1,7 @@
 use Rattle.std.proofs.Common.{◌∙◌, sym, ap}
+use Rattle.std.proofs.lemmas.Result.{IfOk-weaker}
 use Rattle.bp_layout.specs.Fields.{kind_word}
-use Rattle.bp_volume.proofs.AskingLaws.{at_reached, at_low, list_file, list_memory, list_tells}
+use Rattle.bp_volume.proofs.AskingLaws.{at_reached, at_low, list_file, listed_or_full, list_memory, list_tells}
 use Rattle.bp_calls.proofs.ReadingLaws.{inode_file_sound, inode_reached}
 use Rattle.bp_volume.proofs.EntryLaws.{listing-names}
 use Rattle.bp_volume.proofs.asking.list_inode.Goals as goal
@@ -29,9 +30,9 @@ list-requires-clause-directory g c = sym c.get.ensures.kind ∙ ap kind_word c.i
 pub returns-in-File : goal.returns-in-File
 returns-in-File g c = list_file _ c.args.text.now c.args.i c.requires.at (sym c.get.ensures.kind ∙ ap kind_word c.in-File.is)
 
-pub returns-in-Ok : goal.returns-in-Ok
-returns-in-Ok g c = list_tells _ c.args.text.now c.args.i c.requires.at (sym c.get.ensures.kind ∙ ap kind_word c.in-Dir.is) _
-    (λ tree here stands at. listing-names _ tree stands here c.args.i at (sym c.get.ensures.kind ∙ ap kind_word c.in-Dir.is) _ c.in-Ok.ensures)
-
-pub returns-in-Err : goal.returns-in-Err
-returns-in-Err g c = list_memory _ c.args.text.now c.args.i c.requires.at (sym c.get.ensures.kind ∙ ap kind_word c.in-Dir.is)
+pub returns-in-Dir : goal.returns-in-Dir
+returns-in-Dir g c =
+    let kind = sym c.get.ensures.kind ∙ ap kind_word c.in-Dir.is in
+    listed_or_full _ c.args.text.now c.list.result c.map_err.result c.map_err.ensures.cases
+    (IfOk-weaker c.list.result _ _ (λ told lists. list_tells _ c.args.text.now c.args.i c.requires.at kind told (λ tree here stands at. listing-names _ tree stands here c.args.i at kind _ lists)) c.list.ensures)
+    (list_memory _ c.args.text.now c.args.i c.requires.at kind)

@@ -1,12 +1,15 @@
+use Rattle.std.proofs.lemmas.Result.{err_from_is_err_and}
 use Rattle.pm_region.specs.Memory.{current_words}
 use Rattle.bp_volume.proofs.AskingLaws.{at_reached, read_stops, read_tells}
 use Rattle.bp_volume.proofs.asking.read_at.Goals as goal
 
 pub read-requires-clause-reached : goal.read-requires-clause-reached
-read-requires-clause-reached g c = at_reached _ c.requires c.args.text.now _ c.in-Ok.ensures.found
+read-requires-clause-reached g c = at_reached _ c.requires c.args.text.now _ c.in_ok-file.ensures.found
 
-pub returns-in-Ok-clause-told : goal.returns-in-Ok-clause-told
-returns-in-Ok-clause-told g c = read_tells (current_words (g.R.Region.memory c.args.region.now)) c.args.text.now c.in-Ok.file.inumber c.in-Ok.ensures.found c.args.off _ _ c.in-Ok.ensures.kind c.read.ensures.bytes
+pub returns-clause-told : goal.returns-clause-told
+returns-clause-told g c = read_tells (current_words (g.R.Region.memory c.args.region.now)) c.args.text.now c.in_ok-file.file.inumber c.in_ok-file.ensures.found c.args.off _ _ c.in_ok-file.ensures.kind c.read.ensures.bytes
 
-pub returns-in-Err-clause-told : goal.returns-in-Err-clause-told
-returns-in-Err-clause-told g c = read_stops _ c.args.text.now _ _ _ c.in-Err.ensures.refused
+pub returns-in_err-file-clause-told : goal.returns-in_err-file-clause-told
+returns-in_err-file-clause-told g c =
+    let p = err_from_is_err_and c.from_residual.result c.from_residual.ensures.1 in
+    rw (p.1, p.2) (read_stops _ c.args.text.now _ _ _ c.in_err-file.ensures.refused)

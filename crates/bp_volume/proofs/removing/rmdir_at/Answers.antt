@@ -1,4 +1,5 @@
 use Rattle.std.proofs.Common.{refl}
+use Rattle.std.proofs.lemmas.Result.{err_from_is_err_and}
 use Rattle.bp_layout.specs.Need.Change.{leaves}
 use Rattle.bp_stands.proofs.NameStands.{unlink_stands}
 use Rattle.bp_volume.specs.Carried.CarriesOut.{changed, unchanged}
@@ -9,14 +10,16 @@ use Rattle.bp_volume.proofs.StepLaws.{refused_steps}
 use Rattle.bp_volume.proofs.removing.rmdir_at.Goals as goal
 
 pub remove-requires-clause-can : goal.remove-requires-clause-can
-remove-requires-clause-can g c = directory_leaves _ c.args.text.now _ _ _ c.in-Ok.ensures.found c.in-Ok.ensures.empty
+remove-requires-clause-can g c = directory_leaves _ c.args.text.now _ _ _ c.in_ok-entry.ensures.found c.in_ok-entry.ensures.empty
 
-pub returns-in-Ok-clause-called : goal.returns-in-Ok-clause-called
-returns-in-Ok-clause-called g c =
-    let can = directory_leaves _ c.args.text.now _ _ _ c.in-Ok.ensures.found c.in-Ok.ensures.empty in
-    changed (performs_call _ _ _ (leaves c.in-Ok.entry.dir c.in-Ok.entry.slot) _ (rmdir_makes _ c.args.text.now _ _ _ c.in-Ok.ensures.found c.in-Ok.ensures.directory c.in-Ok.ensures.empty) c.remove.ensures.performs
-    (λ removes. name_lost _ c.args.text.now _ _ _ c.in-Ok.ensures.found _ (λ tree here stands at. unlink_stands _ _ c.requires.well_formed _ _ _ can removes here at tree stands))
-    (performs_room _ _ _ _ c.remove.ensures.performs (leaves_few _ c.args.text.now _ _ _ c.in-Ok.ensures.found c.requires.well_formed can) c.requires.room))
+pub returns-clause-called : goal.returns-clause-called
+returns-clause-called g c =
+    let can = directory_leaves _ c.args.text.now _ _ _ c.in_ok-entry.ensures.found c.in_ok-entry.ensures.empty in
+    changed (performs_call _ _ _ (leaves c.in_ok-entry.entry.dir c.in_ok-entry.entry.slot) _ (rmdir_makes _ c.args.text.now _ _ _ c.in_ok-entry.ensures.found c.in_ok-entry.ensures.directory c.in_ok-entry.ensures.empty) c.remove.ensures.performs
+    (λ removes. name_lost _ c.args.text.now _ _ _ c.in_ok-entry.ensures.found _ (λ tree here stands at. unlink_stands _ _ c.requires.well_formed _ _ _ can removes here at tree stands))
+    (performs_room _ _ _ _ c.remove.ensures.performs (leaves_few _ c.args.text.now _ _ _ c.in_ok-entry.ensures.found c.requires.well_formed can) c.requires.room))
 
-pub returns-in-Err-clause-called : goal.returns-in-Err-clause-called
-returns-in-Err-clause-called g c = unchanged refl (λ tree stands. refused_steps _ tree _ _ (c.in-Err.ensures.refused tree stands))
+pub returns-in_err-entry-clause-called : goal.returns-in_err-entry-clause-called
+returns-in_err-entry-clause-called g c =
+    let p = err_from_is_err_and c.from_residual.result c.from_residual.ensures.1 in
+    rw (p.1, p.2) (unchanged refl (λ tree stands. refused_steps _ tree _ _ (c.in_err-entry.ensures.refused tree stands)))

@@ -1,10 +1,10 @@
 use Rattle.std.proofs.Common.{ap}
+use Rattle.std.proofs.lemmas.Result.{MatchResult-weaker, on_err_weaker, on_ok_weaker}
 use Rattle.pm_region.specs.Memory.{current_words}
 use Rattle.bp_free.specs.declared.parts.Parts.{Parts}
 use Rattle.bp_rename.proofs.RenamedStands.{renamed_moves}
 use Rattle.bp_rename.specs.CanRename.{change_of}
-use Rattle.bp_volume.specs.Carried.CarriesOut.{changed, unchanged}
-use Rattle.bp_volume.proofs.ChangeLaws.{lacks_space, performs_call}
+use Rattle.bp_volume.proofs.ChangeLaws.{carried_or_lacks, lacks_space, performs_call}
 use Rattle.bp_volume.proofs.FewBlocks.{performs_room}
 use Rattle.bp_volume.proofs.MovingLaws.{may_rename, moving_becomes, moving_few, moving_makes}
 use Rattle.bp_volume.proofs.TargetLaws.{slot_handed}
@@ -13,17 +13,17 @@ use Rattle.bp_volume.proofs.renaming.move_name.Goals as goal
 pub rename_in-requires-clause-can : goal.rename_in-requires-clause-can
 rename_in-requires-clause-can g c = may_rename _ c.args.from.now c.args.to.now c.args.ends.now c.requires.may c.requires.well_formed c.move_of-to_move.result c.move_of-to_move.ensures
 
-pub returns-in-Ok-clause-called : goal.returns-in-Ok-clause-called
-returns-in-Ok-clause-called g c =
-    changed (performs_call _ _ _ (change_of c.move_of-to_move.result) _ (moving_makes _ c.args.from.now c.args.to.now c.args.ends.now c.requires.may c.requires.well_formed c.move_of-to_move.result c.move_of-to_move.ensures) c.in-Ok.ensures.performs
+pub returns-clause-called : goal.returns-clause-called
+returns-clause-called g c =
+    let makes = moving_makes _ c.args.from.now c.args.to.now c.args.ends.now c.requires.may c.requires.well_formed c.move_of-to_move.result c.move_of-to_move.ensures in
+    carried_or_lacks _ _ _ c.rename_in.result c.map_err.result c.map_err.ensures.cases
+    (on_ok_weaker c.rename_in.result (λ performs. performs_call _ _ _ (change_of c.move_of-to_move.result) _ makes performs
     (λ renames. moving_becomes _ c.args.from.now c.args.to.now c.args.ends.now c.requires.may c.requires.well_formed c.move_of-to_move.result c.move_of-to_move.ensures _
     (renamed_moves _ _ c.move_of-to_move.result (may_rename _ c.args.from.now c.args.to.now c.args.ends.now c.requires.may c.requires.well_formed c.move_of-to_move.result c.move_of-to_move.ensures) renames))
-    (performs_room _ _ _ _ c.in-Ok.ensures.performs (moving_few _ c.args.from.now c.args.to.now c.args.ends.now c.requires.may c.requires.well_formed c.move_of-to_move.result c.move_of-to_move.ensures) c.requires.room))
-
-pub returns-in-Err-clause-called : goal.returns-in-Err-clause-called
-returns-in-Err-clause-called g c =
-    unchanged (ap (λ (parts : Parts g.row.R.Denot). g.R.Region.memory parts.region) c.in-Err.ensures.same)
-    (rw c.no_space.ensures (lacks_space _ _ (change_of c.move_of-to_move.result) (moving_makes _ c.args.from.now c.args.to.now c.args.ends.now c.requires.may c.requires.well_formed c.move_of-to_move.result c.move_of-to_move.ensures) _ c.in-Err.ensures.refused))
+    (performs_room _ _ _ _ performs (moving_few _ c.args.from.now c.args.to.now c.args.ends.now c.requires.may c.requires.well_formed c.move_of-to_move.result c.move_of-to_move.ensures) c.requires.room))
+    c.rename_in.ensures.performs)
+    (on_err_weaker c.rename_in.result (ap (λ (parts : Parts g.row.R.Denot). g.R.Region.memory parts.region)) c.rename_in.ensures.same)
+    (MatchResult-weaker c.rename_in.result c.rename_in.ensures.refused (λ _ nothing. nothing) (lacks_space _ _ (change_of c.move_of-to_move.result) makes))
 
 pub rename_in-requires-clause-empty : goal.rename_in-requires-clause-empty
 rename_in-requires-clause-empty g c = slot_handed (current_words (g.R.Region.memory c.args.parts.now.region)) c.args.ends.now c.move_of-to_move.result c.move_of-to_move.ensures c.requires.may.found.are.target.empty

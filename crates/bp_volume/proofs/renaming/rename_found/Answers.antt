@@ -1,4 +1,5 @@
 use Rattle.std.proofs.Common.{refl, sym, ◌∙◌}
+use Rattle.std.proofs.lemmas.Result.{err_from_is_err_and}
 use Rattle.bp_volume.specs.Carried.CarriesOut.{unchanged}
 use Rattle.bp_volume.proofs.RenameLaws.{same_stays}
 use Rattle.bp_volume.proofs.StepLaws.{refused_steps}
@@ -8,5 +9,7 @@ pub returns-then-are_same-clause-called : goal.returns-then-are_same-clause-call
 returns-then-are_same-clause-called g c =
     unchanged refl (same_stays _ c.args.from.now c.args.to.now c.args.ends.now c.requires.found c.requires.well_formed (sym c.are_same.ensures ∙ c.if-are_same.true))
 
-pub returns-in-Err-clause-called : goal.returns-in-Err-clause-called
-returns-in-Err-clause-called g c = unchanged refl (λ tree stands. refused_steps _ tree _ _ (c.in-Err.ensures.refused tree stands))
+pub returns-in_err-may_move-clause-called : goal.returns-in_err-may_move-clause-called
+returns-in_err-may_move-clause-called g c =
+    let p = err_from_is_err_and c.from_residual.result c.from_residual.ensures.1 in
+    rw (p.1, p.2) (unchanged refl (λ tree stands. refused_steps _ tree _ _ (c.in_err-may_move.ensures.refused tree stands)))

@@ -1,12 +1,13 @@
 use Rattle.std.proofs.Common.{◌≢◌, refl, ap, arith}
+use Rattle.std.proofs.lemmas.Result.{MatchResult-weaker, on_err_weaker, on_ok_weaker}
 use Rattle.bp_calls.proofs.ResizedStands.{resized_gets}
 use Rattle.bp_free.specs.declared.parts.Parts.{Parts}
 use Rattle.bp_layout.specs.Inode.{size_of}
 use Rattle.bp_layout.specs.Need.Change.{resizes}
 use Rattle.pm_region.specs.Memory.{current_words}
-use Rattle.bp_volume.specs.Carried.CarriesOut.{changed, unchanged}
+use Rattle.bp_volume.specs.Carried.CarriesOut.{unchanged}
 use Rattle.bp_volume.proofs.AskingLaws.{at_reached}
-use Rattle.bp_volume.proofs.ChangeLaws.{lacks_space, performs_call}
+use Rattle.bp_volume.proofs.ChangeLaws.{carried_or_lacks, lacks_space, performs_call}
 use Rattle.bp_volume.proofs.FewBlocks.{few_resized, performs_room}
 use Rattle.bp_volume.proofs.FileLaws.{truncate_becomes, truncate_makes, truncate_nothing, truncate_too_big}
 use Rattle.bp_volume.proofs.resizing.resize.Goals as goal
@@ -21,17 +22,14 @@ returns-then-size-file-clause-called g c =
 pub truncate-requires-clause-reached : goal.truncate-requires-clause-reached
 truncate-requires-clause-reached g c = at_reached _ c.requires.well_formed c.args.text.now c.args.file.inumber c.requires.at
 
-pub returns-in-Ok-clause-called : goal.returns-in-Ok-clause-called
-returns-in-Ok-clause-called g c =
+pub returns-clause-called : goal.returns-clause-called
+returns-clause-called g c =
     let other : c.args.size ≢ size_of (current_words (g.R.Region.memory c.args.parts.now.region)) c.args.file.inumber = omega (arith, c.requires.size) in
-    changed (performs_call _ _ _ (resizes c.args.file.inumber c.args.size) _
-    (truncate_makes _ c.args.text.now c.args.file.inumber c.requires.at c.requires.kind c.args.size (omega arith) other) c.in-Ok.ensures.performs
+    let makes = truncate_makes _ c.args.text.now c.args.file.inumber c.requires.at c.requires.kind c.args.size (omega arith) other in
+    carried_or_lacks _ _ _ c.truncate.result c.map_err.result c.map_err.ensures.cases
+    (on_ok_weaker c.truncate.result (λ performs. performs_call _ _ _ (resizes c.args.file.inumber c.args.size) _ makes performs
     (λ resizes_file. truncate_becomes _ c.args.text.now c.args.file.inumber c.requires.at c.requires.kind c.args.size _ (resized_gets _ _ c.requires.well_formed c.args.file.inumber c.args.size resizes_file))
-    (performs_room _ _ _ _ c.in-Ok.ensures.performs (few_resized _ c.requires.well_formed c.args.file.inumber (at_reached _ c.requires.well_formed c.args.text.now c.args.file.inumber c.requires.at) c.args.size) c.requires.room))
-
-pub returns-in-Err-clause-called : goal.returns-in-Err-clause-called
-returns-in-Err-clause-called g c =
-    let other : c.args.size ≢ size_of (current_words (g.R.Region.memory c.args.parts.now.region)) c.args.file.inumber = omega (arith, c.requires.size) in
-    unchanged (ap (λ (parts : Parts g.row.R.Denot). g.R.Region.memory parts.region) c.in-Err.ensures.same)
-    (rw c.no_space.ensures (lacks_space _ _ (resizes c.args.file.inumber c.args.size)
-    (truncate_makes _ c.args.text.now c.args.file.inumber c.requires.at c.requires.kind c.args.size (omega arith) other) _ c.in-Err.ensures.refused))
+    (performs_room _ _ _ _ performs (few_resized _ c.requires.well_formed c.args.file.inumber (at_reached _ c.requires.well_formed c.args.text.now c.args.file.inumber c.requires.at) c.args.size) c.requires.room))
+    c.truncate.ensures.performs)
+    (on_err_weaker c.truncate.result (ap (λ (parts : Parts g.row.R.Denot). g.R.Region.memory parts.region)) c.truncate.ensures.same)
+    (MatchResult-weaker c.truncate.result c.truncate.ensures.refused (λ _ nothing. nothing) (lacks_space _ _ (resizes c.args.file.inumber c.args.size) makes))

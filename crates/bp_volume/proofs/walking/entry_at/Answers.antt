@@ -1,5 +1,9 @@
-use Rattle.bp_volume.proofs.WalkingLaws.{entry_stops}
+use Rattle.std.proofs.lemmas.Result.{IfErr-weaker, IfOk-weaker}
+use Rattle.bp_volume.proofs.WalkingLaws.{ok_was}
 use Rattle.bp_volume.proofs.walking.entry_at.Goals as goal
 
-pub returns-in-Err-entry_on-clause-refused : goal.returns-in-Err-entry_on-clause-refused
-returns-in-Err-entry_on-clause-refused g c = entry_stops _ c.args.text.now _ _ _ c.in-Ok.ensures.ok (c.in-Err-entry_on.ensures.refused _)
+pub returns-clause-found : goal.returns-clause-found
+returns-clause-found g c = IfOk-weaker c.entry_on.result _ _ (λ entry found. record { path = c.in_ok-path.path; parsed = ok_was _ c.parse.result _ c.in_ok-path.ensures.cases c.parse.ensures.ok; entry = found }) c.entry_on.ensures.found
+
+pub returns-clause-refused : goal.returns-clause-refused
+returns-clause-refused g c = IfErr-weaker c.entry_on.result _ _ (λ error stops tree stands. rw (ok_was _ c.parse.result _ c.in_ok-path.ensures.cases c.parse.ensures.ok) (stops _ tree stands)) c.entry_on.ensures.refused

@@ -1,5 +1,8 @@
-use Rattle.bp_volume.proofs.WalkingLaws.{walk_ends}
+use Rattle.std.proofs.lemmas.Result.{err_from_is_err_and}
+use Rattle.bp_volume.proofs.WalkingLaws.{walk_told}
 use Rattle.bp_volume.proofs.walking.inode_on.Goals as goal
 
-pub returns-in-Err-clause-stopped : goal.returns-in-Err-clause-stopped
-returns-in-Err-clause-stopped g c = walk_ends _ c.args.path.now _ _ c.in-Err.ensures.walked c.refused.ensures
+pub returns-in_err-entry-clause-stopped : goal.returns-in_err-entry-clause-stopped
+returns-in_err-entry-clause-stopped g c =
+    let p = err_from_is_err_and c.from_residual.result c.from_residual.ensures.1 in
+    rw (p.1, p.2) (walk_told _ c.args.path.now c.walk.result _ c.walk.ensures.walked c.in_err-entry.ensures.cases)

@@ -1,7 +1,10 @@
 use Rattle.std.proofs.Common.{refl}
+use Rattle.std.proofs.lemmas.Result.{err_from_is_err_and}
 use Rattle.bp_volume.specs.Carried.CarriesOut.{unchanged}
 use Rattle.bp_volume.proofs.StepLaws.{refused_steps}
 use Rattle.bp_volume.proofs.writing.write_at.Goals as goal
 
-pub returns-in-Err-clause-called : goal.returns-in-Err-clause-called
-returns-in-Err-clause-called g c = unchanged refl (λ tree stands. refused_steps _ tree _ _ (c.in-Err.ensures.refused c.args.off tree stands))
+pub returns-in_err-i-clause-called : goal.returns-in_err-i-clause-called
+returns-in_err-i-clause-called g c =
+    let p = err_from_is_err_and c.from_residual.result c.from_residual.ensures.1 in
+    rw (p.1, p.2) (unchanged refl (λ tree stands. refused_steps _ tree _ _ (c.in_err-i.ensures.refused c.args.off tree stands)))

@@ -1,12 +1,13 @@
 use Rattle.std.proofs.Common.{◌∙◌, ◌≢◌, ◌≤◌, ◌+◌, length, refl, sym, ap, arith}
 use Rattle.std.proofs.lemmas.Bool.{eqb-true, eqb-false}
+use Rattle.std.proofs.lemmas.Result.{MatchResult-weaker, on_err_weaker, on_ok_weaker}
 use Rattle.bp_calls.proofs.WrittenStands.{written_gets}
 use Rattle.bp_free.specs.declared.parts.Parts.{Parts}
 use Rattle.bp_layout.specs.Need.Change.{writes}
 use Rattle.bp_limits.specs.Limits.{max_size}
-use Rattle.bp_volume.specs.Carried.CarriesOut.{changed, unchanged}
+use Rattle.bp_volume.specs.Carried.CarriesOut.{unchanged}
 use Rattle.bp_volume.proofs.AskingLaws.{at_low, at_reached}
-use Rattle.bp_volume.proofs.ChangeLaws.{lacks_space, performs_call}
+use Rattle.bp_volume.proofs.ChangeLaws.{carried_or_lacks, lacks_space, performs_call}
 use Rattle.bp_volume.proofs.FewBlocks.{few_writes, performs_room}
 use Rattle.bp_volume.proofs.FileLaws.{write_becomes, write_makes, write_nothing, write_too_big}
 use Rattle.bp_volume.proofs.writing.write_into.Goals as goal
@@ -36,20 +37,16 @@ write-requires g c =
       };
     }
 
-pub returns-in-Ok-clause-called : goal.returns-in-Ok-clause-called
-returns-in-Ok-clause-called g c =
+pub returns-clause-called : goal.returns-clause-called
+returns-clause-called g c =
     let some : length c.args.bytes.now ≢ 0 = eqb-false _ _ (sym c.is_empty.ensures ∙ c.if-is_empty.false) in
     let fits : c.args.off + length c.args.bytes.now ≤ max_size = omega (arith, c.requires.short) in
-    changed (performs_call _ _ _ (writes c.args.i c.args.off (length c.args.bytes.now)) _
-    (write_makes _ c.args.text.now c.args.i c.requires.at c.requires.kind c.args.off c.args.bytes.now c.requires.short (omega (arith, some)) fits) c.in-Ok.ensures.performs
+    let makes = write_makes _ c.args.text.now c.args.i c.requires.at c.requires.kind c.args.off c.args.bytes.now c.requires.short (omega (arith, some)) fits in
+    carried_or_lacks _ _ _ c.write.result c.map_err.result c.map_err.ensures.cases
+    (on_ok_weaker c.write.result (λ performs. performs_call _ _ _ (writes c.args.i c.args.off (length c.args.bytes.now)) _ makes performs
     (λ writes_file. write_becomes _ c.args.text.now c.args.i c.requires.at c.requires.kind c.args.off c.args.bytes.now _ (written_gets _ _ c.requires.well_formed c.args.i c.args.off c.args.bytes.now writes_file))
-    (performs_room _ _ _ _ c.in-Ok.ensures.performs
+    (performs_room _ _ _ _ performs
     (few_writes _ c.requires.well_formed c.args.i (at_low _ c.requires.well_formed c.args.text.now c.args.i c.requires.at) (at_reached _ c.requires.well_formed c.args.text.now c.args.i c.requires.at) c.args.off (length c.args.bytes.now) c.requires.short) c.requires.room))
-
-pub returns-in-Err-clause-called : goal.returns-in-Err-clause-called
-returns-in-Err-clause-called g c =
-    let some : length c.args.bytes.now ≢ 0 = eqb-false _ _ (sym c.is_empty.ensures ∙ c.if-is_empty.false) in
-    let fits : c.args.off + length c.args.bytes.now ≤ max_size = omega (arith, c.requires.short) in
-    unchanged (ap (λ (parts : Parts g.row.R.Denot). g.R.Region.memory parts.region) c.in-Err.ensures.same)
-    (rw c.no_space.ensures (lacks_space _ _ (writes c.args.i c.args.off (length c.args.bytes.now))
-    (write_makes _ c.args.text.now c.args.i c.requires.at c.requires.kind c.args.off c.args.bytes.now c.requires.short (omega (arith, some)) fits) _ c.in-Err.ensures.refused))
+    c.write.ensures.performs)
+    (on_err_weaker c.write.result (ap (λ (parts : Parts g.row.R.Denot). g.R.Region.memory parts.region)) c.write.ensures.same)
+    (MatchResult-weaker c.write.result c.write.ensures.refused (λ _ nothing. nothing) (lacks_space _ _ (writes c.args.i c.args.off (length c.args.bytes.now)) makes))

@@ -11,16 +11,28 @@ abbrev pub file_rule : Rule
 file_rule = record (new_rule (codes "FILE")) { required = true }
 
 abbrev pub blocks_rule : Rule
-blocks_rule = record (new_rule (codes "blocks")) { long = Some (codes "blocks"); required = true; parser = Some (vp.Unsigned 8 16384) }
+blocks_rule = record (new_rule (codes "blocks")) {
+  long = Some (codes "blocks");
+  required = true;
+  parser = Some (vp.Unsigned 8 16384);
+}
 
 abbrev pub format_app : App
 format_app = with_rule (with_rule (new_app (codes "format")) file_rule) blocks_rule
 
 abbrev pub seed_rule : Rule
-seed_rule = record (new_rule (codes "seed")) { long = Some (codes "seed"); required = true; parser = Some (vp.Unsigned 0 18446744073709551615) }
+seed_rule = record (new_rule (codes "seed")) {
+  long = Some (codes "seed");
+  required = true;
+  parser = Some (vp.Unsigned 0 18446744073709551615);
+}
 
 abbrev pub count_rule : Rule
-count_rule = record (new_rule (codes "count")) { long = Some (codes "count"); required = true; parser = Some (vp.Unsigned 0 1000000) }
+count_rule = record (new_rule (codes "count")) {
+  long = Some (codes "count");
+  required = true;
+  parser = Some (vp.Unsigned 0 1000000);
+}
 
 abbrev pub run_app : App
 run_app = with_rule (new_app (codes "run")) file_rule
@@ -35,7 +47,8 @@ abbrev pub bare_app : App
 bare_app = let a = new_app (codes "bpfs") in record a { top = record a.top { subcommand_required = true } }
 
 abbrev pub bpfs_app : App
-bpfs_app = with_subcommand (with_subcommand (with_subcommand (with_subcommand bare_app format_app.top) run_app.top) check_app.top) play_app.top
+bpfs_app = with_subcommand (with_subcommand (with_subcommand (with_subcommand bare_app format_app.top) run_app.top)
+    check_app.top) play_app.top
 
 pub record IsArgument (r : Rule) (a : Arg) : Type 0 where
   pub rule : rule_of a ≡ r

@@ -46,7 +46,8 @@ abbrev pub program_words : Program → List (List ℕ)
 program_words (formats name blocks) = codes "format" ∷ name ∷ codes "--blocks" ∷ decimal blocks ∷ []
 program_words (runs name) = codes "run" ∷ name ∷ []
 program_words (checks name) = codes "check" ∷ name ∷ []
-program_words (plays name seed count) = codes "play" ∷ name ∷ codes "--seed" ∷ decimal seed ∷ codes "--count" ∷ decimal count ∷ []
+program_words (plays name seed count) =
+    codes "play" ∷ name ∷ codes "--seed" ∷ decimal seed ∷ codes "--count" ∷ decimal count ∷ []
 
 abbrev pub IsProper : Program → Type 0
 IsProper (formats name blocks) = IsFileName name × (min_blocks ≤ blocks) × (blocks ≤ max_blocks)
@@ -68,7 +69,8 @@ pub record HasNumber (option : Text) (least most : ℕ) (rows : List Row) : Type
   pub given : one_of option rows ≡ Some digits
   pub passes : accepts false (vp.Unsigned least most) digits ≡ true
 
--- what the values of a program's subcommand are: a file's name, for a format a number of blocks, for a play a seed and a count
+-- what the values of a program's subcommand are: a file's name, for a format a number of blocks, for a play a seed
+-- and a count
 pub record HasValues (verb : Text) (rows : List Row) : Type 0 where
   pub program : (verb ≡ codes "format") ⊎ (verb ≡ codes "run") ⊎ (verb ≡ codes "check") ⊎ (verb ≡ codes "play")
   pub name : Text
@@ -104,10 +106,12 @@ HasCount rows count = GivesNumber (codes "count") 0 max_turns rows count
 
 -- a subcommand with these values asks for the program
 abbrev pub Names : Text → List Row → Program → Type 0
-Names verb rows (formats name blocks) = (verb ≡ codes "format") × (first_of (codes "FILE") rows ≡ Some name) × AsksForBlocks rows blocks
+Names verb rows (formats name blocks) =
+    (verb ≡ codes "format") × (first_of (codes "FILE") rows ≡ Some name) × AsksForBlocks rows blocks
 Names verb rows (runs name) = (verb ≡ codes "run") × (first_of (codes "FILE") rows ≡ Some name)
 Names verb rows (checks name) = (verb ≡ codes "check") × (first_of (codes "FILE") rows ≡ Some name)
-Names verb rows (plays name seed count) = (verb ≡ codes "play") × (first_of (codes "FILE") rows ≡ Some name) × HasSeed rows seed × HasCount rows count
+Names verb rows (plays name seed count) =
+    (verb ≡ codes "play") × (first_of (codes "FILE") rows ≡ Some name) × HasSeed rows seed × HasCount rows count
 
 -- The command takes the words, and the subcommand that they name asks with its values for the program.
 pub record Requests (words : List Text) (program : Program) : Type 0 where

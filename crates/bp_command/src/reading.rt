@@ -126,10 +126,7 @@ pub fn read_words<'a>(alloc: Global, words: &'a [&'a str]) -> Result<Program<'a>
     ensures range { IfOk result (λ program. HasNumbersInRange (program_of program)) }
     ensures usage { IsErrOf result WordsFault.Usage → ¬ IsTaken (map (λ word. word.now) words.now) }
 {
-    let found = match matches(alloc, words) {
-        Ok(found) => found,
-        Err(fault) => return Err(fault),
-    };
+    let found = matches(alloc, words)?;
     taken_words_have_values();
     match found.subcommand() {
         Some((verb, values)) => Ok(program_named(verb, values)),

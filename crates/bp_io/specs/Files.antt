@@ -16,7 +16,7 @@ block_bytes bytes i = blocks_of bytes i 1
 abbrev pub with_block : ℕ → List ℕ → List ℕ → List ℕ
 with_block i block bytes = take (block_size * i) bytes ++ block ++ drop (block_size * i + block_size) bytes
 
--- a file cut to a length, or filled up to it with zeros
+-- the front of a file of a length, filled up to it with zeros
 abbrev pub resized_file : ℕ → List ℕ → List ℕ
 resized_file n bytes = take n bytes ++ replicate (n - length bytes) 0
 
@@ -24,9 +24,9 @@ resized_file n bytes = take n bytes ++ replicate (n - length bytes) 0
 abbrev pub Known : Type 0
 Known = Option (Option (List ℕ))
 
--- What is told of files at a moment: under which names one is attached, how many whole blocks the attached one has (0 where
--- none is), whether it may be written, whether all that was written is known to be flushed, what is known of the file of each
--- name, and how often they have failed, up to 2^64 - 1, where the count stops.
+-- What is told of files at a moment: under which names one is attached, how many whole blocks the attached one has (0
+-- where none is), whether it may be written, whether all that was written is known to be flushed, what is known of
+-- the file of each name, and how often they have failed, up to 2^64 - 1, where the count stops.
 pub record View : Type 0 where
   pub is_attached : List ℕ → Bool
   pub blocks : ℕ
@@ -113,7 +113,8 @@ KeepsOthers old new = (name : List ℕ) → old.is_attached name ≡ false → S
 
 -- The attached file changes so.
 abbrev pub ChangesBytes : (List ℕ → List ℕ) → View → View → Type 0
-ChangesBytes f old new = (name : List ℕ) → old.is_attached name ≡ true → Becomes f (old.contents name) (new.contents name)
+ChangesBytes f old new =
+    (name : List ℕ) → old.is_attached name ≡ true → Becomes f (old.contents name) (new.contents name)
 
 -- The attached file stays.
 abbrev pub KeepsAttached : View → View → Type 0

@@ -15,7 +15,7 @@ impl Access {
     ghost use Rattle.std.specs.Prelude.{◌≡◌};
     ghost use Rattle.bp_io.specs.Files.{makes, may_change};
 
-    // Whether an attached file may be written.
+    /// Whether an attached file may be written.
     pub(crate) fn may_change(self) -> bool
         ensures { result ≡ may_change self }
     {
@@ -25,7 +25,7 @@ impl Access {
         }
     }
 
-    // Whether a name that is not there is given a file.
+    /// Whether a name that is not there is given a file.
     pub(crate) fn makes(self) -> bool
         ensures { result ≡ makes self }
     {

@@ -64,7 +64,7 @@ impl<R: rt::Files<File = File> + Drop> DiskFiles<R> {
     }
 }
 
-// The file that is attached.
+/// The file that is attached.
 fn attached(file: &Option<File>) -> &File
     requires { is_some file.now ≡ true }
 {
@@ -74,13 +74,13 @@ fn attached(file: &Option<File>) -> &File
     }
 }
 
-// The fault of a name whose file has no blocks, as a folder or a device.
+/// The fault of a name whose file has no blocks, as a folder or a device.
 fn no_file_of_blocks() -> io::Error {
     io::Error::new(ErrorKind::InvalidInput, "not a regular file")
 }
 
-// Opens a regular file, and answers it with its length in bytes. One that may only be read is looked
-// at before it is opened, since opening a pipe so would wait for a writer.
+/// Opens a regular file, and answers it with its length in bytes. One that may only be read is looked
+/// at before it is opened, since opening a pipe so would wait for a writer.
 fn open<R: rt::Files<File = File>>(
     runtime: &R,
     name: &str,

@@ -9,7 +9,7 @@ use std::io;
 #[derive(Clone, Copy, Debug, PartialEq, Eq)]
 pub struct Failed;
 
-// Counts a fault.
+/// Counts a fault.
 pub(crate) fn raise(faults: &mut u64) -> Failed
     ensures later { faults.old ≤ faults.new }
     ensures rose { Rose faults.old faults.new }
@@ -18,7 +18,7 @@ pub(crate) fn raise(faults: &mut u64) -> Failed
     Failed
 }
 
-// The faults of a device of the system: how many there were, and the last one.
+/// The faults of a device of the system: how many there were, and the last one.
 #[derive(Drop)]
 pub(crate) struct SystemFaults {
     pub(crate) count: u64,
@@ -35,7 +35,7 @@ impl SystemFaults {
         }
     }
 
-    // Counts and keeps a fault.
+    /// Counts and keeps a fault.
     pub(crate) fn raise(&mut self, error: io::Error) -> Failed
         ensures later { self.old.count ≤ self.new.count }
         ensures rose { Rose self.old.count self.new.count }
@@ -44,7 +44,7 @@ impl SystemFaults {
         raise(&mut self.count)
     }
 
-    // An error of std is a fault.
+    /// An error of std is a fault.
     pub(crate) fn or_fault(&mut self, done: io::Result<()>) -> Result<(), Failed>
         ensures { HasCause self.old.count self.new.count result }
     {
@@ -55,7 +55,7 @@ impl SystemFaults {
     }
 }
 
-// The calls of an object in memory, of which those fail whose numbers are in a list.
+/// The calls of an object in memory, of which those fail whose numbers are in a list.
 #[derive(Drop)]
 pub(crate) struct CallPlan<'a> {
     fail_at: &'a [u64],
@@ -78,7 +78,7 @@ impl<'a> CallPlan<'a> {
         }
     }
 
-    // Counts a call, and a fault where it is one of those that fail.
+    /// Counts a call, and a fault where it is one of those that fail.
     pub(crate) fn call(&mut self) -> Result<(), Failed>
         ensures fails { IsErr result ↔ FailsNext (plan_of self.old) }
         ensures plan { plan_of self.new ≡ after_call (plan_of self.old) }
@@ -92,7 +92,7 @@ impl<'a> CallPlan<'a> {
         Ok(())
     }
 
-    // Counts a fault of a call that was not to fail.
+    /// Counts a fault of a call that was not to fail.
     pub(crate) fn fault(&mut self) -> Failed
         ensures plan { plan_of self.new ≡ plan_of self.old }
         ensures later { self.old.faults ≤ self.new.faults }

@@ -71,7 +71,7 @@ pub trait Files {
         ensures flushed { (view self.new).is_flushed ≡ false }
         ensures cause { HasCause (view self.old).faults (view self.new).faults result };
 
-    /// Gives the attached file a length of `n` blocks: it is cut off there, or filled up with zeros.
+    /// Gives the attached file a length of `n` blocks: it ends there, or is filled up with zeros.
     ///
     /// # Errors
     ///

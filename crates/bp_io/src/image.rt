@@ -6,13 +6,13 @@ ghost use Rattle.bp_io.specs.Files.{blocks_of, with_block, resized_file};
 use bp_limits::{BLOCK_SIZE, MAX_BLOCKS};
 use std::alloc::{AllocError, Global};
 
-// The bytes of a block, as a length.
+/// The bytes of a block, as a length.
 const BLOCK: usize = BLOCK_SIZE as usize;
 
-// The bytes of the most blocks.
+/// The bytes of the most blocks.
 const ROOM: usize = BLOCK * MAX_BLOCKS as usize;
 
-// A file's bytes, with room for the most blocks from the start, so that no change wants memory.
+/// A file's bytes, with room for the most blocks from the start, so that no change wants memory.
 #[derive(Drop)]
 pub(crate) struct Image {
     bytes: Vec<u8>,

@@ -34,7 +34,7 @@ impl<R: Read> StdSource<R> {
     }
 }
 
-// The first answer that is not a signal's interruption.
+/// The first answer that is not a signal's interruption.
 fn read_retrying<R: Read>(reader: &mut R, into: &mut [u8]) -> io::Result<usize>
     ensures bound { ReadsAtMost result into.new }
     ensures bytes { ReadConsumes (R.remaining reader.old) (R.remaining reader.new) result into.new }
@@ -89,7 +89,7 @@ impl<W: Write> StdSink<W> {
     }
 }
 
-// The first answer that is not a signal's interruption.
+/// The first answer that is not a signal's interruption.
 fn write_retrying<W: Write>(writer: &mut W, piece: &[u8]) -> io::Result<usize>
     ensures bound { WritesAtMost result piece.now }
     ensures bytes { WriteAppends (W.contents writer.old) (W.contents writer.new) result piece.now }

@@ -7,13 +7,13 @@ use std::fs::File;
 use std::io;
 use std::os::unix::fs::FileExt;
 
-// The bytes of a block, as a length.
+/// The bytes of a block, as a length.
 const BLOCK: usize = BLOCK_SIZE as usize;
 
-// The most blocks that a window has.
+/// The most blocks that a window has.
 const ROOM: usize = 64;
 
-// Blocks of a file that lie one behind another and wait to be written. Many blocks so take one call of the system.
+/// Blocks of a file that lie one behind another and wait to be written. Many blocks so take one call of the system.
 #[derive(Drop)]
 pub(crate) struct Window {
     bytes: Vec<u8>,
@@ -33,7 +33,7 @@ impl Window {
         })
     }
 
-    // Writes its blocks, and forgets them. They are forgotten also where that fails.
+    /// Writes its blocks, and forgets them. They are forgotten also where that fails.
     pub(crate) fn write_out(&mut self, file: &File) -> io::Result<()>
         ensures { self.new.count ≡ 0 }
     {
@@ -42,14 +42,14 @@ impl Window {
         file.write_all_at(&self.bytes[..BLOCK * count], BLOCK_SIZE * self.first)
     }
 
-    // Whether the block `i` can wait behind those that wait already.
+    /// Whether the block `i` can wait behind those that wait already.
     fn takes(&self, i: u64) -> bool
         ensures { result ≡ true → self.now.count < 64 }
     {
         self.count < ROOM && i == self.first + self.count as u64
     }
 
-    // Puts the block `i` behind those that wait, or writes those and puts it in their place.
+    /// Puts the block `i` behind those that wait, or writes those and puts it in their place.
     pub(crate) fn write_block(&mut self, file: &File, i: u32, from: &[u8; 4096]) -> io::Result<()> {
         let i = u64::from(i);
         if !self.takes(i) {

@@ -111,15 +111,15 @@ one_counted (no_space need free) count = refl
 one_counted no_memory count = refl
 
 -- one more at an index
-abbrev raised : List ℕ → ℕ → List ℕ
-raised xs i = slice_set xs i (slice_index_or xs i 0 + 1)
+abbrev one_more_at : List ℕ → ℕ → List ℕ
+one_more_at xs i = slice_set xs i (slice_index_or xs i 0 + 1)
 
-pub refusal_counted : (old : Summary) (why : Refusal) (number : ℕ) → number ≡ refusal_number why → CountsReply old (answered (refused why)) (summary old.ok (raised old.refused (number - 1)) old.crashes old.kept old.of)
+pub refusal_counted : (old : Summary) (why : Refusal) (number : ℕ) → number ≡ refusal_number why → CountsReply old (answered (refused why)) (summary old.ok (one_more_at old.refused (number - 1)) old.crashes old.kept old.of)
 refusal_counted old why number is = record {
   sums = λ replies was.
-      let now : summary old.ok (raised old.refused (number - 1)) old.crashes old.kept old.of ≡ summary (count_by is_ok replies) (raised (map (refusals replies) numbers) (refusal_number why - 1)) (count_by is_crash replies) (sum_by kept_in replies) (sum_by total_in replies) =
-      ap₂ (λ (s : Summary) (n : ℕ). summary s.ok (raised s.refused (n - 1)) s.crashes s.kept s.of) was is in
-      let sums_now : summary (count_by is_ok replies) (raised (map (refusals replies) numbers) (refusal_number why - 1)) (count_by is_crash replies) (sum_by kept_in replies) (sum_by total_in replies)
+      let now : summary old.ok (one_more_at old.refused (number - 1)) old.crashes old.kept old.of ≡ summary (count_by is_ok replies) (one_more_at (map (refusals replies) numbers) (refusal_number why - 1)) (count_by is_crash replies) (sum_by kept_in replies) (sum_by total_in replies) =
+      ap₂ (λ (s : Summary) (n : ℕ). summary s.ok (one_more_at s.refused (n - 1)) s.crashes s.kept s.of) was is in
+      let sums_now : summary (count_by is_ok replies) (one_more_at (map (refusals replies) numbers) (refusal_number why - 1)) (count_by is_crash replies) (sum_by kept_in replies) (sum_by total_in replies)
       ≡ summary (count_by is_ok replies) (counted (answered (refused why)) (refusals replies) numbers) (count_by is_crash replies) (sum_by kept_in replies + 0) (sum_by total_in replies + 0) =
       same_summary _ _ _ _ _ _ _ _ _ _ refl (sym (one_counted why (refusals replies))) refl (plus_nothing _) (plus_nothing _) in
       now ∙ sums_now ∙ sym (sums_more replies (answered (refused why)));

@@ -9,31 +9,31 @@ use Rattle.bp_limits.specs.Limits.{log_events}
 use Rattle.bp_script.specs.Commands.{Command}
 use Rattle.bp_script.specs.Texts.{LineReply}
 use Rattle.bp_session.specs.Acting.{state}
-use Rattle.bp_session.specs.Session.{Line, Session}
+use Rattle.bp_session.specs.Session.{SessionLine, Session}
 use Rattle.bp_session.proofs.ServingLaws.{session_append}
 use Rattle.bp_play.specs.Turns.{turn, turns}
 
 -- the state of the generator behind so many turns
-abbrev pub state_after : ℕ → ℕ → ℕ
-state_after seed zero = seed
-state_after seed (suc count) = state_after (turn seed).state count
+abbrev pub seed_after : ℕ → ℕ → ℕ
+seed_after seed zero = seed
+seed_after seed (suc count) = seed_after (turn seed).state count
 
-state_after-suc : (seed count : ℕ) → state_after seed (suc count) ≡ (turn (state_after seed count)).state
-state_after-suc seed zero = refl
-state_after-suc seed (suc count) = state_after-suc (turn seed).state count
+seed_after-suc : (seed count : ℕ) → seed_after seed (suc count) ≡ (turn (seed_after seed count)).state
+seed_after-suc seed zero = refl
+seed_after-suc seed (suc count) = seed_after-suc (turn seed).state count
 
-turns-suc : (seed count : ℕ) → turns seed (suc count) ≡ turns seed count ++ (turn (state_after seed count)).command ∷ []
+turns-suc : (seed count : ℕ) → turns seed (suc count) ≡ turns seed count ++ (turn (seed_after seed count)).command ∷ []
 turns-suc seed zero = refl
 turns-suc seed (suc count) = ap (λ (rest : List Command). (turn seed).command ∷ rest) (turns-suc (turn seed).state count)
 
-pub state_more : (seed count at behind : ℕ) → at ≡ state_after seed count → behind ≡ (turn at).state → behind ≡ state_after seed (count + 1)
-state_more seed count at behind here is = is ∙ ap (λ (s : ℕ). (turn s).state) here ∙ sym (state_after-suc seed count) ∙ ap (state_after seed) (sym (add-one count))
+pub state_more : (seed count at behind : ℕ) → at ≡ seed_after seed count → behind ≡ (turn at).state → behind ≡ seed_after seed (count + 1)
+state_more seed count at behind here is = is ∙ ap (λ (s : ℕ). (turn s).state) here ∙ sym (seed_after-suc seed count) ∙ ap (seed_after seed) (sym (add-one count))
 
-pub one_more : (old middle new : Memory) (seed count at : ℕ) (command : Command) (replies : List LineReply) (reply : LineReply) → at ≡ state_after seed count → command ≡ (turn at).command
-    → ((saved : Image) → Session (state old saved) (turns seed count) replies (state middle saved)) → ((saved : Image) → Line (state middle saved) command reply (state new saved))
+pub one_more : (old middle new : Memory) (seed count at : ℕ) (command : Command) (replies : List LineReply) (reply : LineReply) → at ≡ seed_after seed count → command ≡ (turn at).command
+    → ((saved : Image) → Session (state old saved) (turns seed count) replies (state middle saved)) → ((saved : Image) → SessionLine (state middle saved) command reply (state new saved))
     → (saved : Image) → Session (state old saved) (turns seed (count + 1)) (replies ++ reply ∷ []) (state new saved)
 one_more old middle new seed count at command replies reply here is session line saved =
-    let asked : command ≡ (turn (state_after seed count)).command = is ∙ ap (λ (s : ℕ). (turn s).command) here in
+    let asked : command ≡ (turn (seed_after seed count)).command = is ∙ ap (λ (s : ℕ). (turn s).command) here in
     let all : turns seed count ++ command ∷ [] ≡ turns seed (count + 1) = ap (λ (c : Command). turns seed count ++ c ∷ []) asked ∙ sym (turns-suc seed count) ∙ ap (turns seed) (sym (add-one count)) in
     subst (λ (commands : List Command). Session (state old saved) commands (replies ++ reply ∷ []) (state new saved)) all
     (session_append (state old saved) (state middle saved) (state new saved) (turns seed count) (command ∷ []) replies (reply ∷ []) (session saved) (state new saved, line saved, refl))

@@ -5,7 +5,7 @@ use Rattle.bp_layout.specs.Words.{Image}
 use Rattle.bp_script.specs.Commands.{Command}
 use Rattle.bp_script.specs.Texts.{LineReply}
 use Rattle.bp_session.specs.Acting.{state}
-use Rattle.bp_session.specs.Session.{Line, Session}
+use Rattle.bp_session.specs.Session.{SessionLine, Session}
 use Rattle.bp_play.specs.Counting.{CountsReply}
 use Rattle.bp_play.specs.Summaries.{sums}
 use Rattle.bp_play.specs.Turns.{turns}
@@ -20,6 +20,6 @@ pub record Plays (old new : Memory) (seed count : ℕ) (summary : Summary) : Typ
 -- One command is served, and its reply is counted.
 pub record TakesTurn (old new : Memory) (command : Command) (before after : Summary) : Type 0 where
   pub reply : LineReply
-  pub line : (saved : Image) → Line (state old saved) command reply (state new saved)
+  pub line : (saved : Image) → SessionLine (state old saved) command reply (state new saved)
   pub counted : CountsReply before reply after
   pub capacity : new.capacity ≡ old.capacity

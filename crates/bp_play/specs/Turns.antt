@@ -1,5 +1,5 @@
--- The turns of a play: a script that is made from one number. Each turn draws first what it does, and then its paths, places,
--- lengths and bytes, in the order in which they stand here.
+-- The turns of a play: a script that is made from one number. Each turn draws first what it does, and then its paths,
+-- places, lengths and bytes, in the order in which they stand here.
 use Rattle.std.specs.Prelude.{ℕ, ◌+◌, ◌/◌, ◌%◌, ◌==◌, nat_lt, List, [], ◌∷◌, ◌++◌, codes, if◌then◌else◌, replicate}
 use Rattle.std.proofs.Common.{zero, suc}
 use Rattle.bp_plain.specs.Calls.Call.{create, mkdir, unlink, rmdir, read, write, truncate, rename}

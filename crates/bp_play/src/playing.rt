@@ -19,7 +19,7 @@ use pm_region::Region;
 use pm_steps::Backs;
 use std::alloc::{AllocError, Global};
 
-// The most bytes that a turn writes.
+/// The most bytes that a turn writes.
 const MOST_BYTES: usize = 9_000;
 
 /// The memory of a play. It takes no other.
@@ -46,7 +46,7 @@ impl PlayBuffers {
     }
 }
 
-// Sets the bytes to those that a call writes.
+/// Sets the bytes to those that a call writes.
 fn fill(bytes: &mut Vec<u8>, call: &PlayCall)
     requires small { IsSmall call.now }
     requires room { most_bytes ≤ vec_capacity bytes.old }
@@ -62,7 +62,7 @@ fn fill(bytes: &mut Vec<u8>, call: &PlayCall)
     }
 }
 
-// The call, with the bytes that it writes.
+/// The call, with the bytes that it writes.
 fn with_bytes<'a>(call: &'a PlayCall, bytes: &'a [u8]) -> Call<'a>
     requires { bytes.now ≡ bytes_by call.now }
     ensures { call_of result ≡ call_by call.now }
@@ -93,7 +93,7 @@ fn with_bytes<'a>(call: &'a PlayCall, bytes: &'a [u8]) -> Call<'a>
     }
 }
 
-// Makes a call, and counts its answer.
+/// Makes a call, and counts its answer.
 fn make_call<R: Region>(
     alloc: Global,
     volume: &mut Volume<R>,
@@ -111,7 +111,7 @@ fn make_call<R: Region>(
     summary.count_answer(&buffers.reply.answer());
 }
 
-// Crashes with what a storm keeps, and counts that.
+/// Crashes with what a storm keeps, and counts that.
 fn raise_storm<R: Region>(
     volume: &mut Volume<R>,
     seed: u64,
@@ -136,7 +136,7 @@ fn raise_storm<R: Region>(
     }
 }
 
-// Takes one turn.
+/// Takes one turn.
 fn take_turn<R: Region>(
     alloc: Global,
     volume: &mut Volume<R>,

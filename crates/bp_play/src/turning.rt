@@ -48,7 +48,7 @@ pub(crate) enum Turn {
     Storm(u64),
 }
 
-// Draws the path of a file.
+/// Draws the path of a file.
 fn file(generator: &mut Generator) -> PlayPath
     ensures path { play_path result ≡ path_name (drawn generator.old.state) }
     ensures state { generator.new.state ≡ next_state generator.old.state }
@@ -56,7 +56,7 @@ fn file(generator: &mut Generator) -> PlayPath
     PlayPath::file(generator.draw())
 }
 
-// Draws the path of a directory.
+/// Draws the path of a directory.
 fn dir(generator: &mut Generator) -> PlayPath
     ensures path { play_path result ≡ dir_name (drawn generator.old.state) }
     ensures state { generator.new.state ≡ next_state generator.old.state }
@@ -64,7 +64,7 @@ fn dir(generator: &mut Generator) -> PlayPath
     PlayPath::dir(generator.draw())
 }
 
-// Draws a number below a bound.
+/// Draws a number below a bound.
 fn below(generator: &mut Generator, bound: u32) -> u32
     requires { 0 < bound }
     ensures number { result ≡ drawn generator.old.state % bound }
@@ -121,7 +121,7 @@ fn draw_dir_rename(generator: &mut Generator) -> Turn
     Turn::Call(PlayCall::Rename { from, to })
 }
 
-// Draws what a turn of a sort asks for.
+/// Draws what a turn of a sort asks for.
 fn draw_by(sort: Sort, generator: &mut Generator) -> Turn
     ensures { IsDrawn (draw_of sort generator.old.state) result generator.new.state }
 {

@@ -30,7 +30,7 @@ impl Device {
 
 /// A line of the input. Numbers that are still text are read where they are used.
 #[derive(Clone, Copy)]
-pub enum Line<'a> {
+pub enum InputLine<'a> {
     /// An empty line, or one that begins with `#`.
     Nothing,
     /// A row of this name begins: FILE is missing, the script empty, and no device fails.
@@ -81,43 +81,43 @@ pub fn number(text: &str) -> Option<u64> {
     }
 }
 
-fn fill(text: &str) -> Option<Line<'_>> {
+fn fill(text: &str) -> Option<InputLine<'_>> {
     let mut words = text.split_whitespace();
     let from = number(words.next()?)?;
     let to = number(words.next()?)?;
     let value = number(words.next()?)?;
-    Some(Line::Fill { from, to, value })
+    Some(InputLine::Fill { from, to, value })
 }
 
 /// Reads a line, `None` where it has no such form.
-pub fn read(line: &str) -> Option<Line<'_>> {
+pub fn read(line: &str) -> Option<InputLine<'_>> {
     let (word, rest) = line.split_once(' ').unwrap_or((line, ""));
     Some(match word {
-        "" | "#" => Line::Nothing,
-        "row" => Line::Row(rest),
-        "format" => Line::Format(rest),
-        "zeros" => Line::Zeros(number(rest)?),
-        "missing" => Line::Missing,
-        "keep" => Line::Keep,
-        "kept" => Line::Kept,
-        "set" => Line::Set(rest),
+        "" | "#" => InputLine::Nothing,
+        "row" => InputLine::Row(rest),
+        "format" => InputLine::Format(rest),
+        "zeros" => InputLine::Zeros(number(rest)?),
+        "missing" => InputLine::Missing,
+        "keep" => InputLine::Keep,
+        "kept" => InputLine::Kept,
+        "set" => InputLine::Set(rest),
         "fill" => fill(rest)?,
         "fail" => {
             let (device, numbers) = rest.split_once(' ')?;
-            Line::Fail(Device::named(device)?, numbers)
+            InputLine::Fail(Device::named(device)?, numbers)
         }
-        "piece" => Line::Piece(number(rest)?),
-        "words" => Line::Words(rest),
-        ">" => Line::Script(rest),
-        ">|" => Line::Part(rest),
-        "go" => Line::Go,
-        "plain" => Line::Plain(rest),
-        "?" => Line::Ask(rest),
-        "cuts" => Line::Cuts(rest),
-        "parts" => Line::Parts,
+        "piece" => InputLine::Piece(number(rest)?),
+        "words" => InputLine::Words(rest),
+        ">" => InputLine::Script(rest),
+        ">|" => InputLine::Part(rest),
+        "go" => InputLine::Go,
+        "plain" => InputLine::Plain(rest),
+        "?" => InputLine::Ask(rest),
+        "cuts" => InputLine::Cuts(rest),
+        "parts" => InputLine::Parts,
         "sweep" => {
             let (device, count) = rest.split_once(' ')?;
-            Line::Sweep(Device::named(device)?, number(count)?)
+            InputLine::Sweep(Device::named(device)?, number(count)?)
         }
         _ => return None,
     })

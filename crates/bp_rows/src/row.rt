@@ -1,7 +1,7 @@
 //! A row: what FILE is, the script, what is run, and which calls fail.
 
 use crate::image::set_word;
-use crate::line::{Device, Line, number};
+use crate::line::{Device, InputLine, number};
 use crate::playing::formatted;
 use crate::script::expand;
 use bp_limits::{BLOCK_SIZE, MAX_BLOCKS};
@@ -77,26 +77,26 @@ impl Row {
     }
 
     /// Sets what a line says. False is the answer where it can't be.
-    pub fn set(&mut self, alloc: Global, line: Line<'_>) -> Result<bool, AllocError> {
+    pub fn set(&mut self, alloc: Global, line: InputLine<'_>) -> Result<bool, AllocError> {
         match line {
-            Line::Format(blocks) => {
+            InputLine::Format(blocks) => {
                 self.file = formatted(alloc, blocks)?;
                 return Ok(self.file.is_some());
             }
-            Line::Zeros(count) => return self.set_zeros(alloc, count),
-            Line::Missing => self.file = None,
-            Line::Set(pairs) => return Ok(self.set_words(pairs)),
-            Line::Fill { from, to, value } => return Ok(self.fill(from, to, value)),
-            Line::Fail(device, calls) => return self.fail(device, calls),
-            Line::Piece(most) => self.piece = most.min(PIECE as u64) as usize,
-            Line::Words(words) => self.words = String::from_str(alloc, words)?,
-            Line::Script(text) => {
+            InputLine::Zeros(count) => return self.set_zeros(alloc, count),
+            InputLine::Missing => self.file = None,
+            InputLine::Set(pairs) => return Ok(self.set_words(pairs)),
+            InputLine::Fill { from, to, value } => return Ok(self.fill(from, to, value)),
+            InputLine::Fail(device, calls) => return self.fail(device, calls),
+            InputLine::Piece(most) => self.piece = most.min(PIECE as u64) as usize,
+            InputLine::Words(words) => self.words = String::from_str(alloc, words)?,
+            InputLine::Script(text) => {
                 let is_whole = expand(text, &mut self.script)?;
                 self.script.push_str("\n")?;
                 return Ok(is_whole);
             }
-            Line::Part(text) => return expand(text, &mut self.script),
-            Line::Ask(text) => {
+            InputLine::Part(text) => return expand(text, &mut self.script),
+            InputLine::Ask(text) => {
                 self.asks.push_str(text)?;
                 self.asks.push_str("\n")?;
             }

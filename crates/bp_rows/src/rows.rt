@@ -2,7 +2,7 @@
 
 use crate::comparing::compare;
 use crate::cutting::cut_all_over;
-use crate::line::{Device, Line, read};
+use crate::line::{Device, InputLine, read};
 use crate::parts::serve_parts;
 use crate::playing::{formatted, play};
 use crate::row::{Failing, Row};
@@ -47,20 +47,20 @@ impl Rows {
             return self.refuse(text);
         };
         match line {
-            Line::Row(name) => self.begin(name),
-            Line::Keep => {
+            InputLine::Row(name) => self.begin(name),
+            InputLine::Keep => {
                 self.kept = copy_of(self.alloc, &self.row.file)?;
                 Ok(())
             }
-            Line::Kept => {
+            InputLine::Kept => {
                 self.row.file = copy_of(self.alloc, &self.kept)?;
                 Ok(())
             }
-            Line::Go => self.go(),
-            Line::Plain(blocks) => self.plain(text, blocks),
-            Line::Cuts(blocks) => self.cut(text, blocks),
-            Line::Parts => serve_parts(self.alloc, &mut self.report),
-            Line::Sweep(device, count) => self.sweep(device, count),
+            InputLine::Go => self.go(),
+            InputLine::Plain(blocks) => self.plain(text, blocks),
+            InputLine::Cuts(blocks) => self.cut(text, blocks),
+            InputLine::Parts => serve_parts(self.alloc, &mut self.report),
+            InputLine::Sweep(device, count) => self.sweep(device, count),
             _ => {
                 if self.row.set(self.alloc, line)? {
                     Ok(())

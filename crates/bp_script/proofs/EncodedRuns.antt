@@ -50,8 +50,8 @@ lows_low zero (b ∷ w) = tt
 lows_low (suc n) [] = tt
 lows_low (suc n) (b ∷ w) = (omega arith, lows_low n w)
 
-abbrev digits : List ℕ → List ℕ
-digits vs = map (λ v. slice_index lower_digits v) vs
+abbrev as_digits : List ℕ → List ℕ
+as_digits vs = map (λ v. slice_index lower_digits v) vs
 
 -- the digits of a run, in order
 abbrev woven : List ℕ → List ℕ → List ℕ
@@ -60,14 +60,14 @@ woven h l =
     ++ pick_l 0 (h ++ l) (8 ∷ 24 ∷ 9 ∷ 25 ∷ 10 ∷ 26 ∷ 11 ∷ 27 ∷ 12 ∷ 28 ∷ 13 ∷ 29 ∷ 14 ∷ 30 ∷ 15 ∷ 31 ∷ [])
 
 woven_is : (e : List ℕ) (w : List ℕ) → e ≡ pick_l 0 w (range_with_len 0 16)
-    → woven (digits (zip2 (λ a b. a / b) e (replicate 16 16))) (digits (zip2 (λ a b. a % b) e (replicate 16 16))) ≡ encode_with lower_digits e
+    → woven (as_digits (zip2 (λ a b. a / b) e (replicate 16 16))) (as_digits (zip2 (λ a b. a % b) e (replicate 16 16))) ≡ encode_with lower_digits e
 unfolding encode_with
 woven_is e w is = rw is refl
 
 pub run_encoded : (w h l : List ℕ) → length w ≡ 16
-    → h ≡ digits (zip2 (λ a b. a / b) w (replicate 16 16)) → l ≡ digits (zip2 (λ a b. a % b) w (replicate 16 16))
+    → h ≡ as_digits (zip2 (λ a b. a / b) w (replicate 16 16)) → l ≡ as_digits (zip2 (λ a b. a % b) w (replicate 16 16))
     → woven h l ≡ encode_with lower_digits w
-run_encoded w h l long is_h is_l = ap (λ x. woven x l) is_h ∙ ap (λ x. woven (digits (zip2 (λ a b. a / b) w (replicate 16 16))) x) is_l ∙ woven_is w w (sym (pick_l_whole 0 w 16 long))
+run_encoded w h l long is_h is_l = ap (λ x. woven x l) is_h ∙ ap (λ x. woven (as_digits (zip2 (λ a b. a / b) w (replicate 16 16))) x) is_l ∙ woven_is w w (sym (pick_l_whole 0 w 16 long))
 
 encoded_joined : (t xs ys : List ℕ) → encode_with t (xs ++ ys) ≡ encode_with t xs ++ encode_with t ys
 unfolding encode_with

@@ -13,8 +13,7 @@ use Rattle.hex.specs.Hex.{decode_of, is_hex_digit}
 use Rattle.hex.specs.declared.error.FromHexError.{FromHexError}
 use Rattle.hex.proofs.HexLemmas.{decode_of-ok}
 use Rattle.bp_script.specs.Commands.{asked_by, bare_command, bytes_spelled, decoded, is_empty_word, long_command, masked_crash, number_spelled, path_bytes, read_command, truncate_command, words_of, write_command}
-use Rattle.bp_script.specs.Commands.Command.{bad_syntax, crash, log, space, sync}
-use Rattle.bp_replay.specs.Wanted.Wanted.{all}
+use Rattle.bp_script.specs.Commands.Command.{bad_syntax, log, space, sync}
 use Rattle.bp_script.specs.Lines.{path_row}
 use Rattle.bp_script.specs.declared.lines.PathVerb.{PathVerb}
 use Rattle.bp_script.specs.declared.lines.PathVerb.TheVariants as verb

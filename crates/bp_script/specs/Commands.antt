@@ -51,7 +51,8 @@ is_numeral word = nat_le 1 (length word) && nat_le (length word) 20 && list_all 
 
 -- the number that a word of digits stands for, where it is below 2 ^ 64
 abbrev pub number_spelled : List ℕ → Option ℕ
-number_spelled word = if is_numeral word && nat_lt (digits_value 10 word) 18446744073709551616 then Some (digits_value 10 word) else None
+number_spelled word =
+    if is_numeral word && nat_lt (digits_value 10 word) 18446744073709551616 then Some (digits_value 10 word) else None
 
 -- ---- bytes
 
@@ -125,7 +126,8 @@ abbrev pub long_command : List ℕ → List ℕ → List ℕ → List ℕ → Co
 long_command verb first second third =
     if bytes_eq verb (codes "read") then read_command first (number_spelled second) (number_spelled third)
     else if bytes_eq verb (codes "write") then write_command first (number_spelled second) (bytes_spelled third)
-    else if bytes_eq verb (codes "crash") then masked_crash (number_spelled first) (number_spelled second) (bytes_spelled third)
+    else if bytes_eq verb (codes "crash") then masked_crash (number_spelled first) (number_spelled second)
+    (bytes_spelled third)
     else bad_syntax
 
 -- The table of commands, by the words of a line.

@@ -35,10 +35,12 @@ FitsReply _ = Unit {0}
 
 -- the line of a clean image, of the digits of its numbers
 abbrev pub clean_line : List ℕ → List ℕ → List ℕ → List ℕ → List ℕ → List ℕ
-clean_line files dirs bytes live free = codes "clean " ++ files ++ codes " " ++ dirs ++ codes " " ++ bytes ++ codes " " ++ live ++ codes " " ++ free ++ codes "\n"
+clean_line files dirs bytes live free = codes "clean " ++ files ++ codes " " ++ dirs ++ codes " " ++ bytes ++ codes " "
+    ++ live ++ codes " " ++ free ++ codes "\n"
 
 abbrev pub clean_text : ℕ → ℕ → ℕ → ℕ → ℕ → List ℕ
-clean_text files dirs bytes live free = clean_line (decimal files) (decimal dirs) (decimal bytes) (decimal live) (decimal free)
+clean_text files dirs bytes live free =
+    clean_line (decimal files) (decimal dirs) (decimal bytes) (decimal live) (decimal free)
 
 abbrev pub notice_text : Notice → List ℕ
 notice_text (notice.Formatted blocks free) = pair_text (codes "formatted ") blocks free
@@ -47,4 +49,5 @@ notice_text (notice.BadSize found wanted) = pair_text (codes "err 31 badsize ") 
 notice_text (notice.Damaged check place) = pair_text (codes "err 32 damaged ") check place
 notice_text (notice.Clean files dirs bytes live free) = clean_text files dirs bytes live free
 notice_text notice.NoFile = codes "err 34 nofile\n"
-notice_text notice.Usage = codes "usage: bpfs format FILE --blocks N / run FILE / check FILE / play FILE --seed S --count C\n"
+notice_text notice.Usage =
+    codes "usage: bpfs format FILE --blocks N / run FILE / check FILE / play FILE --seed S --count C\n"

@@ -63,7 +63,8 @@ kept_text count total = codes "kept " ++ decimal count ++ codes " of " ++ decima
 
 -- how many events, barriers and calls the log has
 abbrev pub log_text : ℕ → ℕ → ℕ → List ℕ
-log_text events barriers calls = codes "log " ++ decimal events ++ codes " " ++ decimal barriers ++ codes " " ++ decimal calls ++ codes "\n"
+log_text events barriers calls =
+    codes "log " ++ decimal events ++ codes " " ++ decimal barriers ++ codes " " ++ decimal calls ++ codes "\n"
 
 -- the numbers that stand behind a refusal's word
 abbrev pub details : Refusal → List ℕ
@@ -71,7 +72,8 @@ details (no_space need free) = codes " " ++ decimal need ++ codes " " ++ decimal
 details _ = []
 
 abbrev pub refusal_text : Refusal → List ℕ
-refusal_text refusal = codes "err " ++ decimal (refusal_number refusal) ++ codes " " ++ refusal_word refusal ++ details refusal ++ codes "\n"
+refusal_text refusal = codes "err " ++ decimal (refusal_number refusal) ++ codes " " ++ refusal_word refusal
+    ++ details refusal ++ codes "\n"
 
 abbrev pub syntax_text : List ℕ
 syntax_text = codes "err 20 syntax\n"

@@ -233,10 +233,10 @@ impl Decoded {
         ensures meaning { line_asks result ≡ decoded (write_command path.now off (bytes_spelled word.now)) }
     {
         match off {
-            Some(off) => match self.path_and_bytes(path, digits_of(word)) {
-                Ok(()) => Ok(self.write_held(off)),
-                Err(error) => Err(error),
-            },
+            Some(off) => {
+                self.path_and_bytes(path, digits_of(word))?;
+                Ok(self.write_held(off))
+            }
             None => Err(Syntax),
         }
     }
@@ -264,10 +264,10 @@ impl Decoded {
         ensures meaning { line_asks result ≡ masked_crash moment epoch (bytes_spelled word.now) }
     {
         match (moment, epoch) {
-            (Some(moment), Some(epoch)) => match self.mask(digits_of(word)) {
-                Ok(()) => Ok(self.crash_held(moment, epoch)),
-                Err(error) => Err(error),
-            },
+            (Some(moment), Some(epoch)) => {
+                self.mask(digits_of(word))?;
+                Ok(self.crash_held(moment, epoch))
+            }
             _ => Err(Syntax),
         }
     }

@@ -5,7 +5,7 @@ use Rattle.pm_epochs.proofs.CrashLaws.{barriers-append, length-words_after, mark
 use Rattle.pm_epochs.specs.declared.event.Event.{Event}
 use Rattle.pm_epochs.specs.declared.event.Event.TheVariants.{Mark}
 use Rattle.pm_epochs.specs.Log.{barriers, marks}
-use Rattle.pm_epochs.specs.Replay.{Cut, kept_calls, kept_stores}
+use Rattle.pm_epochs.specs.Replay.{PowerCut, kept_calls, kept_stores}
 use Rattle.pm_region.specs.Memory.{Memory, crashed, current_words, drained, with_room, room_in}
 use Rattle.bp_layout.specs.Words.{Image}
 use Rattle.bp_layout.specs.Bytes.{image_bytes}
@@ -20,8 +20,8 @@ use Rattle.bp_plain.specs.PlainTree.{FileTree}
 use Rattle.bp_plain.proofs.Existence.{stands_for, tree_of}
 use Rattle.bp_layout.specs.Same.{Same}
 use Rattle.pm_region.specs.Safe.{IsSafe}
-use Rattle.bp_volume.specs.Step.{Steps}
-use Rattle.bp_volume.specs.Step.Steps.{no_room, no_listing, unchanged, changed}
+use Rattle.bp_volume.specs.Step.{StepFor}
+use Rattle.bp_volume.specs.Step.StepFor.{no_room, no_listing, unchanged, changed}
 use Rattle.bp_limits.specs.Limits.{call_room, max_line, max_mask}
 use Rattle.bp_volume.specs.FileCall.{FileCall, has_changed}
 use Rattle.std.proofs.lemmas.Bool.{le-ltb, lt-ltb}
@@ -35,7 +35,7 @@ use Rattle.bp_script.specs.Texts.LineReply.{synced}
 use Rattle.bp_session.specs.Files.{Holds, HoldsAs, HoldsBytes}
 use Rattle.bp_session.specs.Acting.{CrashesTo, Does, HasCrashed, is_done, may_have_changed, reply_of, state, to_save}
 use Rattle.bp_session.specs.Serving.{Acts, SyncFails}
-use Rattle.bp_session.specs.Session.{Crashes, Line, State}
+use Rattle.bp_session.specs.Session.{Crashes, SessionLine, State}
 use Rattle.bp_session.specs.declared.outcome.Outcome.{Outcome}
 use Rattle.bp_session.specs.declared.outcome.Outcome.TheVariants.{Answered, Synced, Counted, Kept, Logged, BadChoice, TooLong}
 use Rattle.bp_session.proofs.BlockLaws.{length-image_bytes}
@@ -51,7 +51,7 @@ size-with_room wanted memory = elim (nat_lt (room_in memory) wanted) as (λ full
   | false ↦ refl
 ]
 
-pub size-crashed : (memory : Memory) (cut : Cut) → length (crashed memory cut).base ≡ length memory.base
+pub size-crashed : (memory : Memory) (cut : PowerCut) → length (crashed memory cut).base ≡ length memory.base
 size-crashed memory cut = length-words_after memory.base (kept_stores memory.events cut)
 
 capacity-with_room : (wanted : ℕ) (memory : Memory) → (with_room wanted memory).capacity ≡ memory.capacity
@@ -85,7 +85,7 @@ done_changing tree call e = go (refusal tree call) refl
     go None is = rw is (done_changes tree call (let both : (is_none (refusal tree call) && changes tree call) ≡ true = e in rw is at both))
     go (Some why) is = absurd (let both : (is_none (refusal tree call) && changes tree call) ≡ true = e in let no : false ≡ true = rw is at both in cc)
 
-not_changed : (image new : Image) (tree : FileTree) (call : Call) (told : Answer) → is_done told ≡ false → Steps image tree call told new → has_changed tree call told ≡ false
+not_changed : (image new : Image) (tree : FileTree) (call : Call) (told : Answer) → is_done told ≡ false → StepFor image tree call told new → has_changed tree call told ≡ false
 not_changed image new tree call told other (no_room changing needs less) = rw changing refl
 not_changed image new tree call told other (no_listing allowed) = and_false _
   where
@@ -146,8 +146,8 @@ does_space memory free live answer has_free has_live = record {
 }
 
 -- a crash to a cut, by whatever command
-module _ (old new : Memory) (cut : Cut) (outcome : Outcome) (answer : Answer) where
-  does_crashed : (command : Command) → HasCrashed old cut outcome new → ((saved : Image) → Crashes (state old saved) cut (reply_of outcome answer) (state new saved) → Line (state old saved) command (reply_of outcome answer) (state new (to_save command old saved)))
+module _ (old new : Memory) (cut : PowerCut) (outcome : Outcome) (answer : Answer) where
+  does_crashed : (command : Command) → HasCrashed old cut outcome new → ((saved : Image) → Crashes (state old saved) cut (reply_of outcome answer) (state new saved) → SessionLine (state old saved) command (reply_of outcome answer) (state new (to_save command old saved)))
       → ¬ (command ≡ sync) → ((saved : Image) → to_save command old saved ≡ saved) → Does old command outcome answer new
   does_crashed command does line other same = record {
     line = λ saved. line saved (record {

@@ -17,9 +17,9 @@ use Rattle.bp_session.specs.Files.{Holds, HoldsAs, HoldsPartly}
 use Rattle.bp_session.specs.Lines.{commands_from}
 use Rattle.bp_session.specs.Outside.{IsFirstFault, counts}
 use Rattle.bp_session.specs.Session.{State}
-use Rattle.bp_session.specs.Serving.{Acts, DoesBreakOff, FailsLine, HoldsAt, Input, Keeps, LineOutcome, Moment, PieceOutcome, ServeOutcome, Serves, ServesAll, Stops, SyncFails, moment}
+use Rattle.bp_session.specs.Serving.{Acts, DoesBreakOff, FailsLine, HoldsAt, Input, Keeps, LineOutcome, Moment, PieceOutcome, ServeOutcome, Serves, ServesAll, StopsAtSave, SyncFails, moment}
 use Rattle.bp_session.specs.Taking.{TakesPart}
-use Rattle.bp_session.specs.Gathering.{Clears, AwaitsReply, IsUnheard, IsUntold, LineGathers, PassesOn, Reaches}
+use Rattle.bp_session.specs.Gathering.{Clears, AwaitsReply, IsUnheard, IsUntold, LineGathers, PassesOn, ReachesOutcome}
 use Rattle.bp_session.proofs.GatheringLaws.{handed_behind, part_behind, passed_part, passes_behind, taken_behind, with_nothing, with_waiting}
 use Rattle.bp_session.proofs.OutcomeLaws.{files_fault, first_after, line_broken, line_stopped, line_whole, no_fault, piece_newline, piece_quiet, piece_then, sink_fault}
 use Rattle.bp_session.proofs.SavingLaws.{stays_attached, still_attached}
@@ -42,7 +42,7 @@ acts_alone is_saved files words name acts = record { after = acts.after; line = 
 
 -- a sync that couldn't save, behind what was handed over
 stops_handed : (old : State) (memory : Memory) (partly : Image → Image → Type 0) (command : Command) (more : List Command) (t u : Option (List ℕ)) → SyncFails old memory partly command → Appends t u []
-    → Stops old memory partly (command ∷ more) t u
+    → StopsAtSave old memory partly (command ∷ more) t u
 stops_handed old memory partly command more t u fails took = record {
   front = [];
   last = command;
@@ -195,7 +195,7 @@ module _ (start : Moment) (most : ℕ) (held input middle a : List ℕ) (now : M
         go (inl untold) = reached_part new line.keeps.size line.keeps.capacity untold.done new.taken untold.part
         go (inr unheard) = broken_old new.memory new.files new.taken unheard.files unheard.part
 
-    broken_ends : (b keeps : List ℕ) → LineGathers 4 (command_of middle) a b now new → Reaches 4 most (PieceOutcome 4 held (input ++ 10 ∷ []) keeps start) new
+    broken_ends : (b keeps : List ℕ) → LineGathers 4 (command_of middle) a b now new → ReachesOutcome 4 most (PieceOutcome 4 held (input ++ 10 ∷ []) keeps start) new
     broken_ends b keeps line =
         let reached = broken_reached b line in
         record {
@@ -211,7 +211,7 @@ module _ (start : Moment) (most : ℕ) (held input middle a : List ℕ) (now : M
           };
         }
 
-    stop_ends : (b keeps : List ℕ) → LineGathers 5 (command_of middle) a b now new → Reaches 5 most (PieceOutcome 5 held (input ++ 10 ∷ []) keeps start) new
+    stop_ends : (b keeps : List ℕ) → LineGathers 5 (command_of middle) a b now new → ReachesOutcome 5 most (PieceOutcome 5 held (input ++ 10 ∷ []) keeps start) new
     stop_ends b keeps line =
         let unsaved = line.stopped refl in
         record {
@@ -231,10 +231,10 @@ module _ (start : Moment) (most : ℕ) (held input middle a : List ℕ) (now : M
         }
 
     -- a fault ends it
-    pub line_ends : (status : ℕ) (b keeps : List ℕ) → ¬ (status ≡ 0) → LineGathers status (command_of middle) a b now new → Reaches status most (PieceOutcome status held (input ++ 10 ∷ []) keeps start) new
+    pub line_ends : (status : ℕ) (b keeps : List ℕ) → ¬ (status ≡ 0) → LineGathers status (command_of middle) a b now new → ReachesOutcome status most (PieceOutcome status held (input ++ 10 ∷ []) keeps start) new
     line_ends status b keeps other line = go line.one_of
       where
-        go : (status ≡ 0) ⊎ (status ≡ 4) ⊎ (status ≡ 5) → Reaches status most (PieceOutcome status held (input ++ 10 ∷ []) keeps start) new
+        go : (status ≡ 0) ⊎ (status ≡ 4) ⊎ (status ≡ 5) → ReachesOutcome status most (PieceOutcome status held (input ++ 10 ∷ []) keeps start) new
         go (inl e) = absurd (other e)
         go (inr (inl e)) = rw e (broken_ends b keeps (rw e at line))
         go (inr (inr e)) = rw e (stop_ends b keeps (rw e at line))
@@ -261,7 +261,7 @@ module _ (start : Moment) (most : ℕ) (held input middle a : List ℕ) (now : M
       (piece_then 0 held input middle [] middle _ _ _ one.piece (piece_handed middle (record now { taken = with_waiting now.taken a }) taken (handed_behind a now.taken taken took)))
 
   -- .. or the sink fails
-  pub waits_broken : (taken : Option (List ℕ)) (faults : ℕ) (keeps : List ℕ) → TakesPart a now.taken taken → Rose now.faults faults → Reaches 4 most (PieceOutcome 4 held input keeps start) (record now { taken = taken; faults = faults })
+  pub waits_broken : (taken : Option (List ℕ)) (faults : ℕ) (keeps : List ℕ) → TakesPart a now.taken taken → Rose now.faults faults → ReachesOutcome 4 most (PieceOutcome 4 held input keeps start) (record now { taken = taken; faults = faults })
   waits_broken taken faults keeps part rose =
       let reached = one.may taken part in
       record {
@@ -364,13 +364,13 @@ module _ (command : Command) (old new : Moment) where
 -- ---- pieces
 
 -- where no reply broke off, the memory that was reached is the volume's
-pub reached_own : (status most : ℕ) (outcome : Moment → Type 0) (now : Moment) → (status ≡ 4 → most ≡ 0) → Reaches status most outcome now → outcome now
+pub reached_own : (status most : ℕ) (outcome : Moment → Type 0) (now : Moment) → (status ≡ 4 → most ≡ 0) → ReachesOutcome status most outcome now → outcome now
 reached_own status most outcome now own reaches = subst (λ (m : Memory). outcome (record now { memory = m })) (reaches.same own) reaches.is
 
-pub reaches_all : (status most : ℕ) (outcome : Moment → Type 0) (now : Moment) → outcome now → Reaches status most outcome now
+pub reaches_all : (status most : ℕ) (outcome : Moment → Type 0) (now : Moment) → outcome now → ReachesOutcome status most outcome now
 reaches_all status most outcome now is = record { memory = now.memory; same = λ _. refl; is = is }
 
-pub reaches_then : (status most : ℕ) (first second : Moment → Type 0) (new : Moment) → ((now : Moment) → first now → second now) → Reaches status most first new → Reaches status most second new
+pub reaches_then : (status most : ℕ) (first second : Moment → Type 0) (new : Moment) → ((now : Moment) → first now → second now) → ReachesOutcome status most first new → ReachesOutcome status most second new
 reaches_then status most first second new f reaches = record { memory = reaches.memory; same = reaches.same; is = f _ reaches.is }
 
 -- ---- what is taken of a file

@@ -6,7 +6,7 @@ use Rattle.std.specs.Prelude.{Some, None}
 use Rattle.memchr.specs.Find.{IsFirst, IsFirstByte, Nowhere, Passes, is_byte}
 use Rattle.bp_session.specs.Lines.{commands_from}
 use Rattle.bp_script.specs.Commands.{command_of}
-use Rattle.bp_session.specs.Gathering.{LineGathers, Reaches}
+use Rattle.bp_session.specs.Gathering.{LineGathers, ReachesOutcome}
 use Rattle.bp_session.specs.Serving.{Moment, PieceOutcome}
 use Rattle.bp_session.proofs.AheadLaws.{Waits, line_ends, line_waits, reaches_then, waits_run}
 use Rattle.bp_session.proofs.OutcomeLaws.{piece_stops}
@@ -79,7 +79,7 @@ module _ (start : Moment) (most : ℕ) (xs held middle kept a : List ℕ) (at en
     pub next_waits : (most ≡ 0 → b ≡ []) → LineGathers 0 (command_of kept) a b now new → Waits start most held (take (end + 1) xs) [] b new
     next_waits few line = subst (λ (l : List ℕ). Waits start most held l [] b new) next (line_waits start most held (take end xs) kept a now run_waits new b few line)
 
-    pub next_ends : (status count : ℕ) (keeps : List ℕ) → ¬ (status ≡ 0) → end + 1 ≤ count → LineGathers status (command_of kept) a b now new → Reaches status most (PieceOutcome status held (take count xs) keeps start) new
+    pub next_ends : (status count : ℕ) (keeps : List ℕ) → ¬ (status ≡ 0) → end + 1 ≤ count → LineGathers status (command_of kept) a b now new → ReachesOutcome status most (PieceOutcome status held (take count xs) keeps start) new
     next_ends status count keeps other inside line =
         reaches_then status most _ _ new (λ moment piece. line_stops status xs held keeps (end + 1) count start moment other inside piece)
-        (subst (λ (l : List ℕ). Reaches status most (PieceOutcome status held l keeps start) new) next (line_ends start most held (take end xs) kept a now run_waits new status b keeps other line))
+        (subst (λ (l : List ℕ). ReachesOutcome status most (PieceOutcome status held l keeps start) new) next (line_ends start most held (take end xs) kept a now run_waits new status b keeps other line))

@@ -12,9 +12,9 @@ use Rattle.bp_script.specs.Commands.{Command, command_of}
 use Rattle.bp_session.specs.Lines.{commands_from, lines_from}
 use Rattle.bp_script.specs.Texts.{LineReply, reply_text}
 use Rattle.bp_session.specs.Lines.{text_of}
-use Rattle.bp_session.specs.Session.{State, Line, Session}
+use Rattle.bp_session.specs.Session.{State, SessionLine, Session}
 use Rattle.bp_session.specs.Acting.{state}
-use Rattle.bp_session.specs.Serving.{Acts, Told, Serves, ServesAll, BreaksOff, Stops}
+use Rattle.bp_session.specs.Serving.{Acts, Told, Serves, ServesAll, BreaksOff, StopsAtSave}
 
 -- ---- sessions
 
@@ -51,7 +51,7 @@ told_then a b c xs ys t u v first rest = record {
   taken = rw (text_append first.replies rest.replies) (Appends-trans t u v _ _ first.taken rest.taken);
 }
 
-pub told_one : (a b : State) (x : Command) (p : LineReply) (t u : Option (List ℕ)) → Line a x p b → Appends t u (reply_text p) → Told a b (x ∷ []) t u
+pub told_one : (a b : State) (x : Command) (p : LineReply) (t u : Option (List ℕ)) → SessionLine a x p b → Appends t u (reply_text p) → Told a b (x ∷ []) t u
 told_one a b x p t u line taken = record { replies = p ∷ []; session = (b, line, refl); taken = rw (text_one p) taken }
 
 -- ---- lines
@@ -161,7 +161,7 @@ breaks_then old middle new holds xs ys t u v first broken = record {
   taken = rw (text_append first.replies broken.replies, append_assoc (text_of first.replies) (text_of broken.replies) (take broken.count (reply_text broken.reply))) (Appends-trans t u v _ _ first.taken broken.taken);
 }
 
-pub stops_then : (old middle : State) (new : Memory) (partly : Image → Image → Type 0) (xs ys : List Command) (t u v : Option (List ℕ)) → Told old middle xs t u → Stops middle new partly ys u v → Stops old new partly (xs ++ ys) t v
+pub stops_then : (old middle : State) (new : Memory) (partly : Image → Image → Type 0) (xs ys : List Command) (t u v : Option (List ℕ)) → Told old middle xs t u → StopsAtSave middle new partly ys u v → StopsAtSave old new partly (xs ++ ys) t v
 stops_then old middle new partly xs ys t u v first stop = record {
   front = xs ++ stop.front;
   last = stop.last;
@@ -208,7 +208,7 @@ breaks_behind old memory holds xs behind t u broken = record {
   taken = broken.taken;
 }
 
-pub stops_behind : (old : State) (memory : Memory) (partly : Image → Image → Type 0) (xs behind : List Command) (t u : Option (List ℕ)) → Stops old memory partly xs t u → Stops old memory partly (xs ++ behind) t u
+pub stops_behind : (old : State) (memory : Memory) (partly : Image → Image → Type 0) (xs behind : List Command) (t u : Option (List ℕ)) → StopsAtSave old memory partly xs t u → StopsAtSave old memory partly (xs ++ behind) t u
 stops_behind old memory partly xs behind t u stop = record {
   front = stop.front;
   last = stop.last;
@@ -225,7 +225,7 @@ module _ (old : State) (middle : Memory) (first : Image → Type 0) (a i b : Lis
   pub breaks_in : (new : Memory) (holds : Image → Type 0) (j : List ℕ) → BreaksOff (state middle one.after) new holds (commands_from b j) u v → BreaksOff old new holds (commands_from a (i ++ j)) t v
   breaks_in new holds j broken = rw (one.lines j) (breaks_then old (state middle one.after) new holds one.commands (commands_from b j) t u v one.told broken)
 
-  pub stops_in : (new : Memory) (partly : Image → Image → Type 0) (j : List ℕ) → Stops (state middle one.after) new partly (commands_from b j) u v → Stops old new partly (commands_from a (i ++ j)) t v
+  pub stops_in : (new : Memory) (partly : Image → Image → Type 0) (j : List ℕ) → StopsAtSave (state middle one.after) new partly (commands_from b j) u v → StopsAtSave old new partly (commands_from a (i ++ j)) t v
   stops_in new partly j stop = rw (one.lines j) (stops_then old (state middle one.after) new partly one.commands (commands_from b j) t u v one.told stop)
 
   pub serves_to_end : (new : Memory) (holds : Image → Type 0) (j : List ℕ) → ServesAll (state middle one.after) new holds (commands_from b j) u v → ServesAll old new holds (commands_from a (i ++ j)) t v

@@ -1,7 +1,7 @@
 -- What a line came to.
 use Rattle.std.specs.Prelude.{◌≡◌, ◌⊎◌, Bool, true, false, length}
 use Rattle.pm_epochs.specs.Log.{marks}
-use Rattle.pm_epochs.specs.Replay.{Cut, IsRight, kept_calls}
+use Rattle.pm_epochs.specs.Replay.{PowerCut, IsRight, kept_calls}
 use Rattle.pm_region.specs.Memory.{Memory, crashed, current_words}
 use Rattle.bp_layout.specs.Words.{Image}
 use Rattle.bp_plain.specs.Calls.{Answer}
@@ -10,7 +10,7 @@ use Rattle.bp_script.specs.Commands.{Command}
 use Rattle.bp_script.specs.Commands.Command.{file_call, sync, space, crash, storm, log, bad_syntax, too_long}
 use Rattle.bp_script.specs.Texts.{LineReply}
 use Rattle.bp_script.specs.Texts.LineReply.{answered, synced, space_of, kept_of, log_of, bad_choice, syntax, long}
-use Rattle.bp_session.specs.Session.{Line, State}
+use Rattle.bp_session.specs.Session.{SessionLine, State}
 use Rattle.bp_session.specs.declared.outcome.Outcome.{Outcome}
 use Rattle.bp_session.specs.declared.outcome.Outcome.TheVariants.{Answered, Synced, Counted, Kept, Logged, BadChoice, BadSyntax, TooLong}
 
@@ -59,7 +59,7 @@ may_have_changed TooLong answer = false
 -- A command was done and replied to, but for the file, which is to be saved where the outcome is a sync.
 pub record Does (old : Memory) (command : Command) (outcome : Outcome) (answer : Answer) (new : Memory) : Type 0 where
   pub line : (saved : Image)
-      → Line (state old saved) command (reply_of outcome answer) (state new (to_save command old saved))
+      → SessionLine (state old saved) command (reply_of outcome answer) (state new (to_save command old saved))
   pub size : length new.base ≡ length old.base
   pub capacity : new.capacity ≡ old.capacity
   pub is_sync : outcome ≡ Synced → command ≡ sync
@@ -68,17 +68,17 @@ pub record Does (old : Memory) (command : Command) (outcome : Outcome) (answer :
   pub words : may_have_changed outcome answer ≡ false → current_words new ≡ current_words old
 
 -- A crash to this cut: the calls that are kept are counted, and the memory is what it leaves.
-pub record HasCrashed (old : Memory) (cut : Cut) (outcome : Outcome) (new : Memory) : Type 0 where
+pub record HasCrashed (old : Memory) (cut : PowerCut) (outcome : Outcome) (new : Memory) : Type 0 where
   pub right : IsRight old.events cut
   pub told : outcome ≡ Kept (kept_calls old.events cut) (marks old.events)
   pub left : new ≡ crashed old cut
 
 -- the log does not allow the cut, and nothing is done
-pub record HasRefused (old : Memory) (cut : Cut) (outcome : Outcome) (new : Memory) : Type 0 where
+pub record HasRefused (old : Memory) (cut : PowerCut) (outcome : Outcome) (new : Memory) : Type 0 where
   pub wrong : ¬ IsRight old.events cut
   pub told : outcome ≡ BadChoice
   pub same : new ≡ old
 
 -- what a crash to a cut comes to
-abbrev pub CrashesTo : Memory → Cut → Outcome → Memory → Type 0
+abbrev pub CrashesTo : Memory → PowerCut → Outcome → Memory → Type 0
 CrashesTo old cut outcome new = HasCrashed old cut outcome new ⊎ HasRefused old cut outcome new

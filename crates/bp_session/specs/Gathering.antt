@@ -67,9 +67,9 @@ pub record LineGathers (status : ℕ) (command : Command) (before after : List �
 abbrev pub reached_at : Memory → Moment → Moment
 reached_at memory now = record now { memory = memory }
 
--- An outcome of a memory that was reached. It is the volume's own, but where a reply broke off behind which more than so
--- many bytes of replies may have waited: then it is the one behind that reply's line.
-pub record Reaches (status most : ℕ) (outcome : Moment → Type 0) (new : Moment) : Type 0 where
+-- An outcome of a memory that was reached. It is the volume's own, but where a reply broke off behind which more than
+-- so many bytes of replies may have waited: then it is the one behind that reply's line.
+pub record ReachesOutcome (status most : ℕ) (outcome : Moment → Type 0) (new : Moment) : Type 0 where
   pub memory : Memory
   pub same : (status ≡ 4 → most ≡ 0) → memory ≡ new.memory
   pub is : outcome (reached_at memory new)

@@ -8,7 +8,7 @@ use Rattle.bp_plain.specs.Calls.Answer.{refused}
 use Rattle.bp_plain.specs.Calls.Refusal.{no_space, no_memory}
 use Rattle.bp_plain.specs.Plain.{plain, is_changing, refusal}
 use Rattle.pm_epochs.specs.Log.{marks}
-use Rattle.pm_epochs.specs.Replay.{Cut, IsRight, replay, kept_calls, after_calls}
+use Rattle.pm_epochs.specs.Replay.{PowerCut, IsRight, replay, kept_calls, after_calls}
 use Rattle.pm_region.specs.Memory.{Memory, current_words}
 use Rattle.bp_replay.specs.Wanted.{Wanted}
 use Rattle.bp_replay.specs.Wanted.Wanted.{all, nothing, at}
@@ -27,7 +27,7 @@ pub data PlainCall (tree : FileTree) : Call → Answer → FileTree → Type 0 w
   no_listing : {text : List ℕ} → refusal tree (list text) ≡ None → PlainCall tree (list text) (refused no_memory) tree
 
 -- The tree that is certain, and the trees after each call since, the last one last.
-pub record Plain : Type 0 where
+pub record PlainState : Type 0 where
   pub certain : FileTree
   pub since : List FileTree
 
@@ -40,48 +40,48 @@ latest certain (tree ∷ since) = latest tree since
 abbrev pub tree_at : FileTree → List FileTree → ℕ → FileTree
 tree_at certain since count = latest certain (take count since)
 
-abbrev pub fresh : FileTree → Plain
+abbrev pub fresh : FileTree → PlainState
 fresh tree = record { certain = tree; since = [] }
 
-abbrev pub tree_now : Plain → FileTree
+abbrev pub tree_now : PlainState → FileTree
 tree_now p = latest p.certain p.since
 
 -- the tree that a crash leaves which keeps so many calls
-abbrev pub after_crash : Plain → ℕ → FileTree
+abbrev pub after_crash : PlainState → ℕ → FileTree
 after_crash p count = tree_at p.certain p.since count
 
-abbrev pub with_call : Plain → FileTree → Plain
+abbrev pub with_call : PlainState → FileTree → PlainState
 with_call p tree = record { certain = p.certain; since = p.since ++ tree ∷ [] }
 
 -- ---- one line
 
 -- A call may first make all earlier calls certain.
-pub record PlainCalls (old : Plain) (call : Call) (reply : LineReply) (new : Plain) : Type 0 where
+pub record PlainCalls (old : PlainState) (call : Call) (reply : LineReply) (new : PlainState) : Type 0 where
   pub answer : Answer
   pub tree : FileTree
   pub told : reply ≡ answered answer
   pub does : PlainCall (tree_now old) call answer tree
   pub goes_on : (new ≡ with_call old tree) ⊎ (new ≡ with_call (fresh (tree_now old)) tree)
 
-pub record PlainTells (old : Plain) (wanted reply : LineReply) (new : Plain) : Type 0 where
+pub record PlainTells (old : PlainState) (wanted reply : LineReply) (new : PlainState) : Type 0 where
   pub told : reply ≡ wanted
   pub same : new ≡ old
 
 -- two numbers of blocks are told, of which a plain tree knows nothing
-pub record PlainSpace (old : Plain) (reply : LineReply) (new : Plain) : Type 0 where
+pub record PlainSpace (old : PlainState) (reply : LineReply) (new : PlainState) : Type 0 where
   pub free : ℕ
   pub live : ℕ
   pub told : reply ≡ space_of free live
   pub same : new ≡ old
 
 -- A crash keeps the first calls since, so many, and all that it keeps is certain. It tells how many of how many.
-pub record PlainCrashes (old : Plain) (count : ℕ) (reply : LineReply) (new : Plain) : Type 0 where
+pub record PlainCrashes (old : PlainState) (count : ℕ) (reply : LineReply) (new : PlainState) : Type 0 where
   pub few : count ≤ length old.since
   pub told : reply ≡ kept_of count (length old.since)
   pub leaves : new ≡ fresh (after_crash old count)
 
 -- Only the certain tree is left: the calls that are counted as kept, the first ones, changed nothing.
-pub record PlainCrashesToNothing (old : Plain) (reply : LineReply) (new : Plain) : Type 0 where
+pub record PlainCrashesToNothing (old : PlainState) (reply : LineReply) (new : PlainState) : Type 0 where
   pub count : ℕ
   pub few : count ≤ length old.since
   pub unchanged : (earlier : ℕ) → earlier ≤ count → after_crash old earlier ≡ old.certain
@@ -89,25 +89,25 @@ pub record PlainCrashesToNothing (old : Plain) (reply : LineReply) (new : Plain)
   pub leaves : new ≡ fresh old.certain
 
 -- some of the calls are kept, the first ones; a plain tree doesn't know how many
-pub record PlainCrashesSomewhere (old : Plain) (reply : LineReply) (new : Plain) : Type 0 where
+pub record PlainCrashesSomewhere (old : PlainState) (reply : LineReply) (new : PlainState) : Type 0 where
   pub count : ℕ
   pub crashes : PlainCrashes old count reply new
 
 -- Three numbers of a log are told. A plain tree knows the last: how many calls are not certain.
-pub record PlainLog (old : Plain) (reply : LineReply) (new : Plain) : Type 0 where
+pub record PlainLog (old : PlainState) (reply : LineReply) (new : PlainState) : Type 0 where
   pub events : ℕ
   pub barriers : ℕ
   pub told : reply ≡ log_of events barriers (length old.since)
   pub same : new ≡ old
 
 -- what each crash that a line spells does: that of a moment may be refused
-abbrev pub PlainCrash : Plain → Wanted → LineReply → Plain → Type 0
+abbrev pub PlainCrash : PlainState → Wanted → LineReply → PlainState → Type 0
 PlainCrash old all reply new = PlainCrashes old (length old.since) reply new
 PlainCrash old nothing reply new = PlainCrashesToNothing old reply new
 PlainCrash old (at moment epoch mask) reply new =
     PlainTells old bad_choice reply new ⊎ PlainCrashesSomewhere old reply new
 
-abbrev pub PlainLine : Plain → Command → LineReply → Plain → Type 0
+abbrev pub PlainLine : PlainState → Command → LineReply → PlainState → Type 0
 PlainLine old (file_call call) reply new = PlainCalls old call reply new
 PlainLine old sync reply new = (reply ≡ synced) × (new ≡ fresh (tree_now old))
 PlainLine old space reply new = PlainSpace old reply new
@@ -117,20 +117,20 @@ PlainLine old log reply new = PlainLog old reply new
 PlainLine old bad_syntax reply new = PlainTells old syntax reply new
 PlainLine old too_long reply new = PlainTells old long reply new
 
-abbrev pub PlainSession : Plain → List Command → List LineReply → Plain → Type 0
+abbrev pub PlainSession : PlainState → List Command → List LineReply → PlainState → Type 0
 PlainSession old [] [] new = new ≡ old
 PlainSession old [] (reply ∷ replies) new = ⊥
 PlainSession old (command ∷ commands) [] new = ⊥
 PlainSession old (command ∷ commands) (reply ∷ replies) new =
-    (middle : Plain) × PlainLine old command reply middle × PlainSession middle commands replies new
+    (middle : PlainState) × PlainLine old command reply middle × PlainSession middle commands replies new
 
 -- The words now stand for the tree now, and after a crash at any moment they stand for the tree after the calls that it
 -- keeps.
-pub record Follows (memory : Memory) (p : Plain) : Type 0 where
+pub record Follows (memory : Memory) (p : PlainState) : Type 0 where
   pub now : Stands (current_words memory) (tree_now p)
   pub calls : marks memory.events ≡ length p.since
   pub after : (count : ℕ) → Stands (after_calls memory.base memory.events count) (after_crash p count)
-  pub crash : (cut : Cut) → IsRight memory.events cut
+  pub crash : (cut : PowerCut) → IsRight memory.events cut
       → Stands (replay memory.base memory.events cut) (after_crash p (kept_calls memory.events cut))
 
 -- ---- a session
@@ -138,7 +138,7 @@ pub record Follows (memory : Memory) (p : Plain) : Type 0 where
 -- These are a plain tree's replies to these commands, and the words then follow it.
 pub record IsPlainly (tree : FileTree) (commands : List Command) (replies : List LineReply)
     (memory : Memory) : Type 0 where
-  pub plain : Plain
+  pub plain : PlainState
   pub session : PlainSession (fresh tree) commands replies plain
   pub follows : Follows memory plain
 

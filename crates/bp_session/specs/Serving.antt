@@ -13,14 +13,14 @@ use Rattle.bp_session.specs.Lines.{commands_from, text_of}
 use Rattle.bp_session.specs.Acting.{state}
 use Rattle.bp_session.specs.Files.{Holds, HoldsAs, HoldsPartly, IsReady}
 use Rattle.bp_session.specs.Outside.{IsFirstFault, counts}
-use Rattle.bp_session.specs.Session.{State, Line, Session}
+use Rattle.bp_session.specs.Session.{State, SessionLine, Session}
 use Rattle.bp_session.specs.Pieces.{piece_size}
 
 -- A command was done, with this reply.
 pub record Acts (old : State) (memory : Memory) (holds : Image → Type 0) (command : Command)
     (reply : LineReply) : Type 0 where
   pub after : Image
-  pub line : Line old command reply (state memory after)
+  pub line : SessionLine old command reply (state memory after)
   pub file : holds after
 
 -- A sync drained, and couldn't save.
@@ -65,14 +65,14 @@ pub record BreaksOff (old : State) (memory : Memory) (holds : Image → Type 0) 
   pub session : Session old front replies middle
   pub reply : LineReply
   pub after : Image
-  pub line : Line middle last reply (state memory after)
+  pub line : SessionLine middle last reply (state memory after)
   pub file : holds after
   pub count : ℕ
   pub proper : count < length (reply_text reply)
   pub taken : Appends before now (text_of replies ++ take count (reply_text reply))
 
 -- The first of these commands were answered, and then a sync drained and couldn't save.
-pub record Stops (old : State) (memory : Memory) (holds_partly : Image → Image → Type 0) (commands : List Command)
+pub record StopsAtSave (old : State) (memory : Memory) (holds_partly : Image → Image → Type 0) (commands : List Command)
     (before now : Option (List ℕ)) : Type 0 where
   pub front : List Command
   pub last : Command
@@ -141,7 +141,7 @@ DoesBreakOff old new commands = (name : List ℕ) (saved : Image) → HoldsAt ol
 -- .. and a sync among these commands couldn't save.
 abbrev pub DoesStop : Moment → Moment → List Command → Type 0
 DoesStop old new commands = (name : List ℕ) (saved : Image) → HoldsAt old name saved →
-    Stops (state old.memory saved) new.memory (HoldsPartly new.files name) commands old.taken new.taken
+    StopsAtSave (state old.memory saved) new.memory (HoldsPartly new.files name) commands old.taken new.taken
 
 -- The region keeps its size and the room of its log, the same file is attached, and what was flushed before is flushed
 -- where no sync failed.

@@ -1,7 +1,7 @@
 -- What a run of a script does, and what it answers.
 use Rattle.std.specs.Prelude.{◌≡◌, ◌⊎◌, ℕ, List, [], ◌∷◌, length}
 use Rattle.pm_epochs.specs.Log.{barriers, marks}
-use Rattle.pm_epochs.specs.Replay.{Cut, IsRight, kept_calls}
+use Rattle.pm_epochs.specs.Replay.{PowerCut, IsRight, kept_calls}
 use Rattle.pm_region.specs.Memory.{Memory, crashed, current_words, drained}
 use Rattle.bp_replay.specs.Wanted.{cut_for}
 use Rattle.bp_replay.specs.Storm.{storm_cut}
@@ -25,7 +25,7 @@ abbrev pub synced_state : State → State
 synced_state s = record { memory = drained s.memory; saved = current_words s.memory }
 
 -- the words are those that the cut leaves, with an empty log, and the file is as before
-abbrev pub crashed_state : State → Cut → State
+abbrev pub crashed_state : State → PowerCut → State
 crashed_state s cut = record { memory = crashed s.memory cut; saved = s.saved }
 
 -- ---- one line
@@ -55,13 +55,13 @@ pub record TellsSpace (old : State) (reply : LineReply) (new : State) : Type 0 w
   pub same : new ≡ old
 
 -- A crash: the calls that the cut keeps are told, and how many the log had.
-pub record Crashes (old : State) (cut : Cut) (reply : LineReply) (new : State) : Type 0 where
+pub record Crashes (old : State) (cut : PowerCut) (reply : LineReply) (new : State) : Type 0 where
   pub right : IsRight old.memory.events cut
   pub told : reply ≡ kept_of (kept_calls old.memory.events cut) (marks old.memory.events)
   pub done : new ≡ crashed_state old cut
 
 -- the log does not allow the cut, and nothing is done
-pub record RefusesCut (old : State) (cut : Cut) (reply : LineReply) (new : State) : Type 0 where
+pub record RefusesCut (old : State) (cut : PowerCut) (reply : LineReply) (new : State) : Type 0 where
   pub wrong : ¬ IsRight old.memory.events cut
   pub told : reply ≡ bad_choice
   pub same : new ≡ old
@@ -70,16 +70,16 @@ pub record RefusesCut (old : State) (cut : Cut) (reply : LineReply) (new : State
 abbrev pub log_reply : State → LineReply
 log_reply s = log_of (length s.memory.events) (barriers s.memory.events) (marks s.memory.events)
 
-abbrev pub Line : State → Command → LineReply → State → Type 0
-Line old (file_call call) reply new = AnswersCall old call reply new
-Line old sync reply new = Syncs old reply new
-Line old space reply new = TellsSpace old reply new
-Line old (crash wanted) reply new =
+abbrev pub SessionLine : State → Command → LineReply → State → Type 0
+SessionLine old (file_call call) reply new = AnswersCall old call reply new
+SessionLine old sync reply new = Syncs old reply new
+SessionLine old space reply new = TellsSpace old reply new
+SessionLine old (crash wanted) reply new =
     let cut = cut_for old.memory.events wanted in Crashes old cut reply new ⊎ RefusesCut old cut reply new
-Line old (storm seed) reply new = Crashes old (storm_cut old.memory.events seed) reply new
-Line old log reply new = TellsReply old (log_reply old) reply new
-Line old bad_syntax reply new = TellsReply old syntax reply new
-Line old too_long reply new = TellsReply old long reply new
+SessionLine old (storm seed) reply new = Crashes old (storm_cut old.memory.events seed) reply new
+SessionLine old log reply new = TellsReply old (log_reply old) reply new
+SessionLine old bad_syntax reply new = TellsReply old syntax reply new
+SessionLine old too_long reply new = TellsReply old long reply new
 
 -- ---- a script
 
@@ -88,4 +88,4 @@ Session old [] [] new = new ≡ old
 Session old [] (reply ∷ replies) new = ⊥
 Session old (command ∷ commands) [] new = ⊥
 Session old (command ∷ commands) (reply ∷ replies) new =
-    (middle : State) × Line old command reply middle × Session middle commands replies new
+    (middle : State) × SessionLine old command reply middle × Session middle commands replies new

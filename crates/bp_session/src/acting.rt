@@ -28,7 +28,7 @@ use pm_region::Region;
 use pm_steps::Backs;
 use std::alloc::Global;
 
-// Crashes a volume to a choice.
+/// Crashes a volume to a choice.
 fn crash_to<R: Region>(volume: &mut Volume<R>, choice: &Choice) -> Outcome
     ensures { CrashesTo volume.old choice.now.cut result volume.new }
 {
@@ -41,7 +41,7 @@ fn crash_to<R: Region>(volume: &mut Volume<R>, choice: &Choice) -> Outcome
     }
 }
 
-// Crashes a volume to what a line asks to keep.
+/// Crashes a volume to what a line asks to keep.
 fn crash<R: Region>(volume: &mut Volume<R>, asked: &Cut<'_>, choice: &mut Choice) -> Outcome
     requires roomy { volume.old.capacity ≤ log_events }
     requires mask { mask_places asked.now ≤ max_mask }
@@ -57,7 +57,7 @@ fn crash<R: Region>(volume: &mut Volume<R>, asked: &Cut<'_>, choice: &mut Choice
     }
 }
 
-// Crashes a volume to what a storm leaves.
+/// Crashes a volume to what a storm leaves.
 fn crash_by_storm<R: Region>(
     volume: &mut Volume<R>,
     seed: u64,
@@ -77,7 +77,7 @@ fn crash_by_storm<R: Region>(
     crash_to(volume, choice)
 }
 
-// Counts what the log of a region has.
+/// Counts what the log of a region has.
 fn count_log<R: Region>(region: &R) -> Outcome
     ensures { result ≡ Logged (length (R.memory region.now).events) (barriers (R.memory region.now).events)
         (marks (R.memory region.now).events) }
@@ -138,7 +138,7 @@ pub fn act<R: Region>(alloc: Global, volume: &mut Volume<R>, buffers: &mut LineB
     }
 }
 
-// Whether a line may have changed the words.
+/// Whether a line may have changed the words.
 fn may_change(outcome: Outcome, reply: &Reply) -> bool
     ensures { result ≡ may_have_changed outcome reply.now.answer }
 {
@@ -149,7 +149,7 @@ fn may_change(outcome: Outcome, reply: &Reply) -> bool
     }
 }
 
-// Whether a file that held the words as they were before a line that is no sync holds them as they are behind it.
+/// Whether a file that held the words as they were before a line that is no sync holds them as they are behind it.
 fn stays_saved(is_saved: bool, outcome: Outcome, reply: &Reply) -> bool
     ensures { result ≡ (is_saved && not (may_have_changed outcome reply.now.answer)) }
 {

@@ -8,7 +8,7 @@ ghost use Rattle.pm_region.specs.Memory.{current_words};
 use pm_region::Region;
 use pm_words::{read_word, write_word};
 
-// The words of block `i` as they are now.
+/// The words of block `i` as they are now.
 fn load_block<R: Region>(region: &R, i: u32, into: &mut [u64; 512])
     requires inside { 512 * i + 512 ≤ length (R.memory region.now).base }
     requires fits { 512 * i + 512 < 2 ^ 32 }
@@ -19,7 +19,7 @@ fn load_block<R: Region>(region: &R, i: u32, into: &mut [u64; 512])
     }
 }
 
-// The bytes that spell the words of a block.
+/// The bytes that spell the words of a block.
 fn encode(words: &[u64; 512], into: &mut [u8; 4096])
     ensures { into.new ≡ image_bytes words.now }
 {

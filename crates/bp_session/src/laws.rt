@@ -1,7 +1,7 @@
 //! What a session is, in words of a plain file tree.
 
 ghost use Rattle.std.specs.Prelude.{◌≡◌, List, [], ◌++◌};
-ghost use Rattle.pm_epochs.specs.Replay.{Cut, IsRight, replay, kept_calls};
+ghost use Rattle.pm_epochs.specs.Replay.{PowerCut, IsRight, replay, kept_calls};
 ghost use Rattle.bp_layout.specs.Bytes.{image_bytes};
 ghost use Rattle.bp_layout.specs.Words.{Image};
 ghost use Rattle.bp_session.specs.Files.{AreWordsOf64Bits};
@@ -10,29 +10,29 @@ ghost use Rattle.bp_plain.specs.Stands.{Stands};
 ghost use Rattle.bp_script.specs.Commands.{Command};
 ghost use Rattle.bp_script.specs.Texts.{LineReply};
 ghost use Rattle.bp_session.specs.Session.{State, Session};
-ghost use Rattle.bp_session.specs.PlainSession.{Plain, PlainSession, Follows, fresh, after_crash};
+ghost use Rattle.bp_session.specs.PlainSession.{PlainState, PlainSession, Follows, fresh, after_crash};
 
 /// A session over an image that stands for a tree is one of that plain tree: the replies are the plain tree's, and at
 /// the session's end every right choice leaves an image that stands for the tree after the calls that it keeps.
 pub fn sessions_are_plain()
     ensures { (old new : State) (tree : FileTree) (commands : List Command) (replies : List LineReply) →
         old.memory.events ≡ [] → Stands old.memory.base tree → Session old commands replies new →
-        (plain : Plain) × PlainSession (fresh tree) commands replies plain × Follows new.memory plain }
+        (plain : PlainState) × PlainSession (fresh tree) commands replies plain × Follows new.memory plain }
 {}
 
 /// So is one that begins in the middle.
 pub fn sessions_stay_plain()
-    ensures { (old new : State) (plain : Plain) (commands : List Command) (replies : List LineReply) →
+    ensures { (old new : State) (plain : PlainState) (commands : List Command) (replies : List LineReply) →
         Follows old.memory plain → Session old commands replies new →
-        (after : Plain) × PlainSession plain commands replies after × Follows new.memory after }
+        (after : PlainState) × PlainSession plain commands replies after × Follows new.memory after }
 {}
 
 /// A crash at any moment since the last drain leaves an image that stands for the tree after the calls that it keeps.
 pub fn crashes_keep_calls()
     ensures { (old new : State) (tree : FileTree) (commands : List Command) (replies : List LineReply) →
         old.memory.events ≡ [] → Stands old.memory.base tree → Session old commands replies new →
-        (plain : Plain) × PlainSession (fresh tree) commands replies plain ×
-        ((cut : Cut) → IsRight new.memory.events cut →
+        (plain : PlainState) × PlainSession (fresh tree) commands replies plain ×
+        ((cut : PowerCut) → IsRight new.memory.events cut →
         Stands (replay new.memory.base new.memory.events cut) (after_crash plain (kept_calls new.memory.events cut))) }
 {}
 

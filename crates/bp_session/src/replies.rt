@@ -77,7 +77,7 @@ impl Replies {
         Ok(())
     }
 
-    // Adds a line of a reply, where there is room for it.
+    /// Adds a line of a reply, where there is room for it.
     fn add(&mut self, said: &Said<'_>)
         requires room { length (waiting self.old) ≤ gathered_size }
         requires short { FitsReply said.now }

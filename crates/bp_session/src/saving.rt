@@ -13,7 +13,7 @@ use bp_io::{Failed, Files};
 use bp_limits::BLOCK_WORDS;
 use pm_region::Region;
 
-// Writes each block of the words to the attached file, in order.
+/// Writes each block of the words to the attached file, in order.
 fn write_blocks<R: Region, F: Files>(region: &R, files: &mut F) -> Result<(), Failed>
     requires { IsReady (R.memory region.now).base (F.view files.old) }
     ensures saved { OnOk result ((name was : List ℕ) → HoldsBytes (F.view files.old) name was →
@@ -33,7 +33,7 @@ fn write_blocks<R: Region, F: Files>(region: &R, files: &mut F) -> Result<(), Fa
     Ok(())
 }
 
-// Flushes the attached file.
+/// Flushes the attached file.
 fn flush<F: Files>(files: &mut F) -> Result<(), Failed>
     requires attached { (name : List ℕ) × ((F.view files.old).is_attached name ≡ true) }
     requires may_write { (F.view files.old).may_write ≡ true }

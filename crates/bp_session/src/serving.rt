@@ -9,7 +9,7 @@ ghost use Rattle.bp_script.specs.Commands.Command.{sync};
 ghost use Rattle.bp_script.specs.Commands.{command_of};
 ghost use Rattle.bp_session.specs.Files.{IsReady};
 ghost use Rattle.bp_session.specs.Lines.{commands_from};
-ghost use Rattle.bp_session.specs.Gathering.{LineGathers, Reaches};
+ghost use Rattle.bp_session.specs.Gathering.{LineGathers, ReachesOutcome};
 ghost use Rattle.bp_session.specs.Pieces.{gathered_size, piece_size};
 ghost use Rattle.bp_session.specs.Serving.{CanServe, LineOutcome, PieceOutcome, ServeOutcome, ServesAgain};
 ghost use Rattle.bp_session.specs.Serving.{moment, saved_if, told};
@@ -26,7 +26,7 @@ use memchr::memchr;
 use pm_region::Region;
 use std::alloc::Global;
 
-// Serves the line that is held. Where more replies than so many bytes then wait, they are handed over.
+/// Serves the line that is held. Where more replies than so many bytes then wait, they are handed over.
 fn answer_line<R: Region, K: Sink, F: Files>(
     alloc: Global,
     volume: &mut Volume<R>,
@@ -61,7 +61,7 @@ fn answer_line<R: Region, K: Sink, F: Files>(
     }
 }
 
-// Serves the line that is held, and hands its reply over.
+/// Serves the line that is held, and hands its reply over.
 fn answer_alone<R: Region, K: Sink, F: Files>(
     alloc: Global,
     volume: &mut Volume<R>,
@@ -105,8 +105,8 @@ pub fn serve_line<R: Region, K: Sink, F: Files>(
     answer_alone(alloc, volume, work, out, files)
 }
 
-// Serves the line that a newline ends, and begins the next. Where more replies than so many bytes then wait, they are
-// handed over.
+/// Serves the line that a newline ends, and begins the next. Where more replies than so many bytes then wait, they are
+/// handed over.
 fn end_line<R: Region, K: Sink, F: Files>(
     alloc: Global,
     volume: &mut Volume<R>,
@@ -130,7 +130,7 @@ fn end_line<R: Region, K: Sink, F: Files>(
     status
 }
 
-// Goes on by bytes of the piece that have no newline.
+/// Goes on by bytes of the piece that have no newline.
 fn take_run(work: &mut Work, from: usize, to: usize)
     requires order { from ≤ to }
     requires inside { to ≤ piece_size }
@@ -146,7 +146,7 @@ fn take_run(work: &mut Work, from: usize, to: usize)
     buffers.add(&piece[from..to]);
 }
 
-// Where the first newline stands from one place of the bytes up to another.
+/// Where the first newline stands from one place of the bytes up to another.
 fn newline_in(bytes: &[u8], from: usize, to: usize) -> Option<usize>
     requires order { from ≤ to }
     requires inside { to ≤ length bytes.now }
@@ -158,7 +158,7 @@ fn newline_in(bytes: &[u8], from: usize, to: usize) -> Option<usize>
     }
 }
 
-// Goes on by the first bytes of the piece that was read.
+/// Goes on by the first bytes of the piece that was read.
 fn take_piece<R: Region, K: Sink, F: Files>(
     alloc: Global,
     volume: &mut Volume<R>,
@@ -170,7 +170,7 @@ fn take_piece<R: Region, K: Sink, F: Files>(
 ) -> u8
     requires serves { CanServe volume.old (F.view files.old) }
     requires inside { count ≤ piece_size }
-    ensures outcome { Reaches result most
+    ensures outcome { ReachesOutcome result most
         (PieceOutcome result (held_line work.old) (take count (read_piece work.old)) (held_line work.new)
         (saved_if (is_saved_in work.old) (moment volume.old (F.view files.old) (K.taken out.old) (K.faults out.old))))
         (saved_if (is_saved_in work.new) (moment volume.new (F.view files.new) (K.taken out.new) (K.faults out.new))) }
@@ -193,7 +193,7 @@ fn take_piece<R: Region, K: Sink, F: Files>(
     }
 }
 
-// Serves a line that ends the input.
+/// Serves a line that ends the input.
 fn finish<R: Region, K: Sink, F: Files>(
     alloc: Global,
     volume: &mut Volume<R>,
@@ -212,7 +212,7 @@ fn finish<R: Region, K: Sink, F: Files>(
     answer_alone(alloc, volume, work, out, files)
 }
 
-// Reads a piece of the input.
+/// Reads a piece of the input.
 fn fill<S: Source>(src: &mut S, piece: &mut Vec<u8>) -> Result<usize, Failed>
     ensures len { vec_len piece.new ≡ vec_len piece.old }
     ensures bound { ReadsAtMost result piece.new.items }
@@ -222,7 +222,7 @@ fn fill<S: Source>(src: &mut S, piece: &mut Vec<u8>) -> Result<usize, Failed>
     src.read(piece)
 }
 
-// Answers each line of a source. Replies of at most so many bytes wait while more lines of the same piece follow.
+/// Answers each line of a source. Replies of at most so many bytes wait while more lines of the same piece follow.
 fn serve_by<R: Region, S: Source, K: Sink, F: Files>(
     alloc: Global,
     volume: &mut Volume<R>,
@@ -233,7 +233,7 @@ fn serve_by<R: Region, S: Source, K: Sink, F: Files>(
     files: &mut F,
 ) -> u8
     requires { CanServe volume.old (F.view files.old) }
-    ensures outcome { Reaches result most
+    ensures outcome { ReachesOutcome result most
         (ServeOutcome result (told (S.left src.old) (S.faults src.old)) (told (S.left src.new) (S.faults src.new))
         (saved_if (is_saved_in work.old) (moment volume.old (F.view files.old) (K.taken out.old) (K.faults out.old))))
         (saved_if (is_saved_in work.new) (moment volume.new (F.view files.new) (K.taken out.new) (K.faults out.new))) }
@@ -295,7 +295,7 @@ pub fn serve_gathered<R: Region, S: Source, K: Sink, F: Files>(
     files: &mut F,
 ) -> u8
     requires { CanServe volume.old (F.view files.old) }
-    ensures outcome { Reaches result gathered_size
+    ensures outcome { ReachesOutcome result gathered_size
         (ServeOutcome result (told (S.left src.old) (S.faults src.old)) (told (S.left src.new) (S.faults src.new))
         (saved_if (is_saved_in work.old) (moment volume.old (F.view files.old) (K.taken out.old) (K.faults out.old))))
         (saved_if (is_saved_in work.new) (moment volume.new (F.view files.new) (K.taken out.new) (K.faults out.new))) }

@@ -15,7 +15,7 @@ use bp_layout::Listing;
 use bp_plain::{Answer, Reply};
 use bp_script::Said;
 
-// Tells a line for each name, and the line that ends a listing.
+/// Tells a line for each name, and the line that ends a listing.
 fn tell_names<K: Sink>(listing: &Listing, replies: &mut Replies, out: &mut K) -> Result<(), Failed>
     ensures all { OnOk result (PassesOn (answer_text (names listing.now)) (waiting replies.old) (waiting replies.new)
         (K.taken out.old) (K.taken out.new)) }
@@ -30,7 +30,7 @@ fn tell_names<K: Sink>(listing: &Listing, replies: &mut Replies, out: &mut K) ->
     replies.tell(&Said::End, out)
 }
 
-// Tells the answer of a call.
+/// Tells the answer of a call.
 fn tell_answer<K: Sink>(reply: &Reply, replies: &mut Replies, out: &mut K) -> Result<(), Failed>
     ensures all { OnOk result (PassesOn (answer_text reply.now.answer) (waiting replies.old) (waiting replies.new)
         (K.taken out.old) (K.taken out.new)) }
@@ -44,7 +44,7 @@ fn tell_answer<K: Sink>(reply: &Reply, replies: &mut Replies, out: &mut K) -> Re
     }
 }
 
-// Tells what a line came to, behind the replies that wait. Where the sink failed, it took a proper front of them all.
+/// Tells what a line came to, behind the replies that wait. Where the sink failed, it took a proper front of them all.
 fn tell<K: Sink>(
     outcome: Outcome,
     reply: &Reply,

@@ -13,7 +13,7 @@ use pm_epochs::Choice;
 use pm_steps::Backs;
 use std::alloc::{AllocError, Global};
 
-// The bytes of a read.
+/// The bytes of a read.
 const PIECE: usize = 65_536;
 
 /// A line, of which one byte more than the longest is kept, and what it takes to answer it.

@@ -18,10 +18,10 @@ use Rattle.bp_session.specs.Lines.{commands_from}
 use Rattle.bp_shell.specs.Opening.{HoldsFileSystem, RefusesFile, start}
 use Rattle.bp_shell.specs.Opening.RefusesFile.{by_length, not_formatted, by_count, damaged}
 use Rattle.bp_session.specs.PlainSession.{FollowsTree}
-use Rattle.bp_shell.specs.Running.{Begins, BreaksOffPlainly, IsComplete, Runs, RunsBroken, RunsLong, RunsPart, RunsStopped, RunsUnsaved, Saves, SavesPartly, StopsPlainly}
+use Rattle.bp_shell.specs.Running.{BeginsRun, BreaksOffPlainly, IsComplete, Runs, RunsBroken, RunsLong, RunsPart, RunsStopped, RunsUnsaved, Saves, SavesPartly, StopsPlainly}
 use Rattle.bp_session.specs.Outside.{Outside, SourceFailed, SinkFailed, FilesFailed}
 use Rattle.bp_shell.specs.Ending.{IsReadComplete}
-use Rattle.bp_session.specs.Serving.{BreaksOff, OfLines, Serves, ServesAll, Stops, Told}
+use Rattle.bp_session.specs.Serving.{BreaksOff, OfLines, Serves, ServesAll, StopsAtSave, Told}
 use Rattle.bp_session.specs.Session.{Session, State}
 use Rattle.bp_session.proofs.BlockLaws.{image_once, length-image_bytes}
 use Rattle.bp_session.proofs.PlainLaws.{follows_tree}
@@ -53,7 +53,7 @@ breaks_told old memory holds saves commands t u f s = record {
 }
 
 pub stops_told : (old : State) (memory : Memory) (holds saves : Image → Image → Type 0) (commands : List Command) (t u : Option (List ℕ)) → ((first second : Image) → holds first second → saves first second)
-    → Stops old memory holds commands t u → Stops old memory saves commands t u
+    → StopsAtSave old memory holds commands t u → StopsAtSave old memory saves commands t u
 stops_told old memory holds saves commands t u f s = record {
   front = s.front;
   last = s.last;
@@ -67,7 +67,7 @@ stops_told old memory holds saves commands t u f s = record {
 -- ---- the end of a run, by its status
 
 module _ (before after : Outside) (image : Image) (memory new : Memory) (found : HoldsFileSystem before.file image) (same : memory ≡ (start image).memory) where
-  abbrev begins : (input : List ℕ) → Consumes before.left after.left input → Begins before after
+  abbrev begins : (input : List ℕ) → Consumes before.left after.left input → BeginsRun before after
   begins input read = record { image = image; found = found; tree = tree_of image found.well_formed; stands = stands_for image found.well_formed; input = input; read = read }
 
   plainly : (commands : List Command) (replies : List LineReply) (end : State) → Session (start image) commands replies end → FollowsTree (tree_of image found.well_formed) (start image) commands replies end
@@ -132,14 +132,14 @@ module _ (before after : Outside) (image : Image) (memory new : Memory) (found :
     ];
   }
 
-  stops_plainly : (partly : Image → Image → Type 0) → ((i j : Image) → partly i j → SavesPartly after i j) → (commands : List Command) → Stops (state memory image) new partly commands before.taken after.taken
+  stops_plainly : (partly : Image → Image → Type 0) → ((i j : Image) → partly i j → SavesPartly after i j) → (commands : List Command) → StopsAtSave (state memory image) new partly commands before.taken after.taken
       → StopsPlainly image (tree_of image found.well_formed) new before after commands
   stops_plainly partly f commands stops =
-      let told : Stops (start image) new (SavesPartly after) commands before.taken after.taken = stops_told (start image) new partly (SavesPartly after) commands before.taken after.taken f (rw same at stops) in
+      let told : StopsAtSave (start image) new (SavesPartly after) commands before.taken after.taken = stops_told (start image) new partly (SavesPartly after) commands before.taken after.taken f (rw same at stops) in
       record { stops = told; plainly = plainly _ _ _ told.told.session }
 
   pub runs_stopped : (input : List ℕ) (partly : Image → Image → Type 0) → ((i j : Image) → partly i j → SavesPartly after i j) → Consumes before.left after.left input
-      → OfLines after.left input (λ commands. Stops (state memory image) new partly commands before.taken after.taken) → RunsStopped before after
+      → OfLines after.left input (λ commands. StopsAtSave (state memory image) new partly commands before.taken after.taken) → RunsStopped before after
   runs_stopped input partly f read stops = record {
     begins = begins input read;
     memory = new;

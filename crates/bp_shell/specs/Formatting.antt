@@ -14,7 +14,8 @@ new_image blocks = formatted (replicate (block_words * blocks) 0) blocks
 pub record IsPartlyFormatted (old wanted found : List ℕ) : Type 0 where
   pub size : (length found ≡ length old) ⊎ (length found ≡ length wanted)
   pub blocks : (i : ℕ) → block_size * i < length found → (block_bytes found i ≡ block_bytes old i)
-      ⊎ (block_bytes found i ≡ resized_file block_size (block_bytes old i)) ⊎ (block_bytes found i ≡ block_bytes wanted i)
+      ⊎ (block_bytes found i ≡ resized_file block_size (block_bytes old i))
+      ⊎ (block_bytes found i ≡ block_bytes wanted i)
 
 -- the bytes of a file, none where there is no file
 abbrev pub bytes_there : Option (List ℕ) → List ℕ

@@ -17,7 +17,7 @@ use Rattle.bp_script.specs.Sayings.{notice_text}
 use Rattle.bp_session.specs.Acting.{state}
 use Rattle.bp_session.specs.Lines.{commands_from}
 use Rattle.bp_session.specs.Files.{AreWordsOf64Bits, HasBytes, HasBlocksOf}
-use Rattle.bp_session.specs.Serving.{BreaksOff, SyncFails, OfLines, Serves, Stops, Told}
+use Rattle.bp_session.specs.Serving.{BreaksOff, SyncFails, OfLines, Serves, StopsAtSave, Told}
 use Rattle.bp_session.specs.PlainSession.{FollowsTree}
 use Rattle.bp_session.specs.Session.{State}
 use Rattle.bp_shell.specs.Opening.{HoldsFileSystem, start}
@@ -39,7 +39,7 @@ abbrev pub SavesPartly : Outside → Image → Image → Type 0
 SavesPartly after first second = HasBlocksOf after.file (image_bytes first) (image_bytes second)
 
 -- A run began: FILE holds a file system, which stands for a tree, and this input was read.
-pub record Begins (before after : Outside) : Type 0 where
+pub record BeginsRun (before after : Outside) : Type 0 where
   pub image : Image
   pub found : HoldsFileSystem before.file image
   pub tree : FileTree
@@ -49,7 +49,7 @@ pub record Begins (before after : Outside) : Type 0 where
 
 -- Every line was answered, as a plain file tree answers it, and FILE holds the words at the end.
 pub record Runs (before after : Outside) : Type 0 where
-  pub begins : Begins before after
+  pub begins : BeginsRun before after
   pub all : IsAtEnd after.left
   pub few : length begins.input ≤ max_input
   pub new : State
@@ -60,7 +60,7 @@ pub record Runs (before after : Outside) : Type 0 where
 
 -- The lines that were read whole were answered, and FILE is as at the last sync.
 pub record RunsPart (before after : Outside) : Type 0 where
-  pub begins : Begins before after
+  pub begins : BeginsRun before after
   pub keeps : List ℕ
   pub memory : Memory
   pub serves : Serves (start begins.image) memory (Saves after) [] begins.input keeps before.taken after.taken
@@ -69,7 +69,7 @@ pub record RunsPart (before after : Outside) : Type 0 where
 
 -- The most bytes were taken, and the read that ended there gave more.
 pub record RunsLong (before after : Outside) : Type 0 where
-  pub begins : Begins before after
+  pub begins : BeginsRun before after
   pub served : List ℕ
   pub more : List ℕ
   pub are : begins.input ≡ served ++ more
@@ -91,7 +91,7 @@ pub record BreaksOffPlainly (image : Image) (tree : FileTree) (memory : Memory) 
 
 -- A reply was not taken whole. Its line was read whole, or ended the input.
 pub record RunsBroken (before after : Outside) : Type 0 where
-  pub begins : Begins before after
+  pub begins : BeginsRun before after
   pub memory : Memory
   pub breaks : OfLines after.left begins.input (BreaksOffPlainly begins.image begins.tree memory before after)
 
@@ -99,18 +99,18 @@ pub record RunsBroken (before after : Outside) : Type 0 where
 -- one now.
 pub record StopsPlainly (image : Image) (tree : FileTree) (memory : Memory) (before after : Outside)
     (commands : List Command) : Type 0 where
-  pub stops : Stops (start image) memory (SavesPartly after) commands before.taken after.taken
+  pub stops : StopsAtSave (start image) memory (SavesPartly after) commands before.taken after.taken
   pub plainly : FollowsTree tree (start image) stops.front stops.told.replies stops.middle
 
 -- A sync couldn't save. Its line was read whole, or ended the input.
 pub record RunsStopped (before after : Outside) : Type 0 where
-  pub begins : Begins before after
+  pub begins : BeginsRun before after
   pub memory : Memory
   pub stops : OfLines after.left begins.input (StopsPlainly begins.image begins.tree memory before after)
 
 -- Every line was answered, and the sync at the input's end couldn't save.
 pub record RunsUnsaved (before after : Outside) : Type 0 where
-  pub begins : Begins before after
+  pub begins : BeginsRun before after
   pub all : IsAtEnd after.left
   pub few : length begins.input ≤ max_input
   pub memory : Memory

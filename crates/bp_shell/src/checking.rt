@@ -28,7 +28,7 @@ use pm_raw::RawRegion;
 use pm_region::Region;
 use std::alloc::{AllocError, Global};
 
-// Memory for the scan of an image of so many blocks.
+/// Memory for the scan of an image of so many blocks.
 fn room(alloc: Global, blocks: u32) -> Result<(Blocks, Inodes, Pending), AllocError>
     requires { blocks ≤ MAX_BLOCKS }
     ensures blocks { IfOk result (λ room. room.0 ≡ empty blocks) }
@@ -43,7 +43,7 @@ fn room(alloc: Global, blocks: u32) -> Result<(Blocks, Inodes, Pending), AllocEr
     ))
 }
 
-// Scans an image, and tells what it holds.
+/// Scans an image, and tells what it holds.
 fn survey(alloc: Global, region: &RawRegion) -> Result<Notice, Stop>
     requires fresh { region.now.events ≡ [] }
     requires whole { length region.now.base ≡ block_words * block_count region.now.base }
@@ -71,7 +71,7 @@ fn survey(alloc: Global, region: &RawRegion) -> Result<Notice, Stop>
     }
 }
 
-// Reads the file of a name, and tells what it holds.
+/// Reads the file of a name, and tells what it holds.
 fn examine<F: Files>(alloc: Global, name: &str, files: &mut F) -> Result<Notice, Stop>
     ensures checks { IfOk result (Checks ((F.view files.old).contents name.now)) }
     ensures reason { IfErr result (IsReason ((F.view files.old).contents name.now)) }

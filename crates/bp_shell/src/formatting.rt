@@ -21,7 +21,7 @@ use bp_volume::Volume;
 use pm_region::{ListRegion, Region};
 use std::alloc::Global;
 
-// A new file system of so many blocks; none for want of memory.
+/// A new file system of so many blocks; none for want of memory.
 fn new_volume(alloc: Global, blocks: u32) -> Option<Volume<ListRegion>>
     requires least { MIN_BLOCKS ≤ blocks }
     requires most { blocks ≤ MAX_BLOCKS }
@@ -42,7 +42,7 @@ fn new_volume(alloc: Global, blocks: u32) -> Option<Volume<ListRegion>>
     }
 }
 
-// Makes the file of a name the words of a region.
+/// Makes the file of a name the words of a region.
 fn write_image<R: Region, F: Files>(
     region: &R,
     name: &str,

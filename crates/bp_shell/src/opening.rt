@@ -22,13 +22,13 @@ use bp_volume::Volume;
 use pm_raw::{Filling, RawRegion};
 use std::alloc::Global;
 
-// The bytes of a block, as a length.
+/// The bytes of a block, as a length.
 const BLOCK: usize = BLOCK_SIZE as usize;
 
-// The most blocks that are read in one call.
+/// The most blocks that are read in one call.
 const RUN: u32 = 16;
 
-// Puts a block's words behind those that are there. They are words of 64 bits, as their type says.
+/// Puts a block's words behind those that are there. They are words of 64 bits, as their type says.
 fn push_block(filling: &mut Filling, words: &[u64; 512])
     requires room { length filling.old.words + block_words ≤ filling.old.size }
     ensures pushed { filling.new ≡ record filling.old { words = filling.old.words ++ words.now } }
@@ -37,7 +37,7 @@ fn push_block(filling: &mut Filling, words: &[u64; 512])
     filling.push_all(words);
 }
 
-// The block of a run at this place.
+/// The block of a run at this place.
 fn block_at(run: &[u8], k: usize) -> &[u8; 4096]
     requires { block_size * k + block_size ≤ length run.now }
     ensures { result.now ≡ block_bytes run.now k }
@@ -49,7 +49,7 @@ fn block_at(run: &[u8], k: usize) -> &[u8; 4096]
     }
 }
 
-// Puts the words that a run of so many blocks spells behind those that are there.
+/// Puts the words that a run of so many blocks spells behind those that are there.
 fn push_run(filling: &mut Filling, run: &[u8], count: usize)
     requires run { length run.now ≡ block_size * count }
     requires room { length filling.old.words + block_words * count ≤ filling.old.size }
@@ -66,7 +66,7 @@ fn push_run(filling: &mut Filling, run: &[u8], count: usize)
     }
 }
 
-// Reads a run of so many blocks of the attached file, behind those whose words are there.
+/// Reads a run of so many blocks of the attached file, behind those whose words are there.
 fn load_run<F: Files>(
     filling: &mut Filling,
     first: u32,
@@ -92,7 +92,7 @@ fn load_run<F: Files>(
     }
 }
 
-// Reads the attached file, as the words of a region in the making of its size.
+/// Reads the attached file, as the words of a region in the making of its size.
 fn load<F: Files>(filling: &mut Filling, count: u32, files: &mut F) -> Result<(), Stop>
     requires count { count ≡ (F.view files.old).blocks }
     requires size { filling.old ≡ record { words = []; size = block_words * count } }
@@ -109,10 +109,8 @@ fn load<F: Files>(filling: &mut Filling, count: u32, files: &mut F) -> Result<()
     while first < count {
         let run = RUN.min(count - first);
         let into = &mut bytes[..BLOCK * run as usize];
-        match load_run(filling, first, run, into, files) {
-            Ok(()) => first += run,
-            Err(stop) => return Err(stop),
-        }
+        load_run(filling, first, run, into, files)?;
+        first += run;
     }
     Ok(())
 }
@@ -132,7 +130,7 @@ pub(crate) fn stop_of(fault: MountFault) -> Stop
     }
 }
 
-// Attaches the file of a name, and answers how many blocks its image has. No file is made.
+/// Attaches the file of a name, and answers how many blocks its image has. No file is made.
 fn find_image<F: Files>(name: &str, access: Access, files: &mut F) -> Result<u32, Stop>
     requires { makes access ≡ false }
     ensures found { IfOk result
@@ -185,7 +183,7 @@ pub(crate) fn load_file<F: Files>(
     Ok(region)
 }
 
-// Mounts a region of the words of an image.
+/// Mounts a region of the words of an image.
 fn mount(alloc: Global, region: RawRegion) -> Result<Volume<RawRegion>, Stop>
     requires starts { region ≡ (start region.base).memory }
     requires whole { length region.base ≡ block_words * block_count region.base }

@@ -27,7 +27,7 @@ struct Played {
     free: u32,
 }
 
-// Plays over a volume, and tells what it then holds.
+/// Plays over a volume, and tells what it then holds.
 fn play_over<R: Region>(
     alloc: Global,
     volume: &mut Volume<R>,
@@ -49,7 +49,7 @@ fn play_over<R: Region>(
     })
 }
 
-// Writes numbers, each behind a space.
+/// Writes numbers, each behind a space.
 fn write_spaced(text: &mut String, numbers: &[u64]) -> Result<(), AllocError>
     ensures { OnOk result (text.new.bytes.items ≡ text.old.bytes.items ++ spaced numbers.now) }
 {
@@ -59,7 +59,7 @@ fn write_spaced(text: &mut String, numbers: &[u64]) -> Result<(), AllocError>
     Ok(())
 }
 
-// Writes the lines of a summary.
+/// Writes the lines of a summary.
 fn write_summary(text: &mut String, count: u32, summary: &Summary) -> Result<(), AllocError>
     ensures { OnOk result (text.new.bytes.items ≡ text.old.bytes.items ++ turns_text count summary.now.ok
         ++ spaced summary.now.refused ++ crashes_text summary.now.crashes summary.now.kept summary.now.of) }
@@ -73,7 +73,7 @@ fn write_summary(text: &mut String, count: u32, summary: &Summary) -> Result<(),
     )
 }
 
-// Writes the line of what is held in all.
+/// Writes the line of what is held in all.
 fn write_tree(text: &mut String, totals: &Totals, free: u32) -> Result<(), AllocError>
     ensures { OnOk result (text.new.bytes.items ≡ text.old.bytes.items ++ tree_text totals.now free) }
 {
@@ -85,7 +85,7 @@ fn write_tree(text: &mut String, totals: &Totals, free: u32) -> Result<(), Alloc
     write!(text, " space {free} {}\n", totals.live)
 }
 
-// The five lines of a play.
+/// The five lines of a play.
 fn text_of(alloc: Global, count: u32, played: &Played) -> Result<String, AllocError>
     ensures { IfOk result (λ text. text.bytes.items ≡
         play_text count played.now.summary played.now.totals played.now.free) }
@@ -96,7 +96,7 @@ fn text_of(alloc: Global, count: u32, played: &Played) -> Result<String, AllocEr
     Ok(text)
 }
 
-// Plays over the file of a name, in memory alone, and tells what came of it.
+/// Plays over the file of a name, in memory alone, and tells what came of it.
 fn perform<F: Files>(
     alloc: Global,
     name: &str,

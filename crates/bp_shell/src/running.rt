@@ -23,7 +23,7 @@ use bp_session::saving::save_unless_saved;
 use bp_session::{Work, serve_gathered};
 use std::alloc::Global;
 
-// Serves the script of a source over the file of a name.
+/// Serves the script of a source over the file of a name.
 fn run_file<S: Source, K: Sink, F: Files>(
     alloc: Global,
     name: &str,
@@ -58,7 +58,7 @@ fn run_file<S: Source, K: Sink, F: Files>(
     }
 }
 
-// Does what a program asks for.
+/// Does what a program asks for.
 fn run_program<S: Source, K: Sink, F: Files>(
     alloc: Global,
     program: &Program<'_>,

@@ -17,12 +17,12 @@ use std::env::{self, Env};
 use std::io::ErrorKind;
 use std::process::ExitCode;
 
-// The status of a fault of the files, and the one for want of memory.
+/// The status of a fault of the files, and the one for want of memory.
 const FILES_FAILED: u8 = 5;
 
 const NO_MEMORY: u8 = 8;
 
-// The words as text.
+/// The words as text.
 fn texts(alloc: Global, words: &[String]) -> Result<Vec<&str>, AllocError>
     ensures { IfOk result (λ texts. map (λ text. text.now) texts.items ≡ map string_bytes words.entry.now) }
 {
@@ -33,7 +33,7 @@ fn texts(alloc: Global, words: &[String]) -> Result<Vec<&str>, AllocError>
     Ok(texts)
 }
 
-// The name of the file that the words speak of.
+/// The name of the file that the words speak of.
 fn file_name<'a>(alloc: Global, words: &'a [&'a str]) -> &'a str {
     match read_words(alloc, words) {
         Ok(Program::Format { name, blocks: _ }) => name,
@@ -50,7 +50,7 @@ fn file_name<'a>(alloc: Global, words: &'a [&'a str]) -> &'a str {
     }
 }
 
-// The words of the call. Words that are not text ask for no program.
+/// The words of the call. Words that are not text ask for no program.
 fn program_words<R: Env + AllocGlobal>(rt: &R) -> Result<Vec<String>, AllocError> {
     match env::args(rt) {
         Ok(args) => args.collect(rt.alloc()),
@@ -59,7 +59,7 @@ fn program_words<R: Env + AllocGlobal>(rt: &R) -> Result<Vec<String>, AllocError
     }
 }
 
-// Tells that memory is out, and gives the status of that.
+/// Tells that memory is out, and gives the status of that.
 fn out_of_memory<E: Eprint>(rt: &E) -> ExitCode {
     tell_reason(rt, Reason::Memory);
     ExitCode::from(NO_MEMORY)

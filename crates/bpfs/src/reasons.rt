@@ -18,7 +18,7 @@ pub(crate) enum Reason<'a> {
     Memory,
 }
 
-// Writes what failed, with the system's word for it.
+/// Writes what failed, with the system's word for it.
 fn tell_fault<E: Eprint>(rt: &E, device: &str, error: Option<io::Error>) -> io::Result<()> {
     match error {
         Some(error) => eprintln!(rt; "bpfs: {device}: {error}"),

@@ -26,7 +26,7 @@ pub(crate) fn take_streams<R: rt::Files<File = File>>(runtime: &R) -> io::Result
     })
 }
 
-// The file, where its descriptor is at most this one. A new file has the least that is free.
+/// The file, where its descriptor is at most this one. A new file has the least that is free.
 fn up_to(last: i32, file: File) -> Option<File> {
     if file.as_raw_fd() <= last {
         Some(file)

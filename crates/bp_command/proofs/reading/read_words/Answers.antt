@@ -6,16 +6,16 @@ use Rattle.bp_command.proofs.reading.read_words.Goals as goal
 
 pub program_named-requires : goal.program_named-requires
 program_named-requires c =
-    let named = c.taken_words_have_values.ensures _ c.in-Ok.ensures.taken in
-    let same = met_parts _ c.in-Ok.found c.in-Some.verb.now (rows_of (found_of c.in-Some.values.now)) c.in-Ok.ensures.matches c.in-Some.ensures.name c.in-Some.ensures.rows named.verb named.rows named.is in
+    let named = c.taken_words_have_values.ensures _ c.in_ok-found.ensures.taken in
+    let same = met_parts _ c.in_ok-found.found c.in-Some.verb.now (rows_of (found_of c.in-Some.values.now)) c.in_ok-found.ensures.matches c.in-Some.ensures.name c.in-Some.ensures.rows named.verb named.rows named.is in
     subst (λ (w : Text). HasValues w (rows_of (found_of c.in-Some.values.now))) (sym same.0) (subst (λ (r : List Row). HasValues named.verb r) (sym same.1) named.has)
 
 pub returns-clause-asks : goal.returns-clause-asks
 returns-clause-asks c =
-    let named = c.taken_words_have_values.ensures _ c.in-Ok.ensures.taken in
-    let same = met_parts _ c.in-Ok.found c.in-Some.verb.now (rows_of (found_of c.in-Some.values.now)) c.in-Ok.ensures.matches c.in-Some.ensures.name c.in-Some.ensures.rows named.verb named.rows named.is in
+    let named = c.taken_words_have_values.ensures _ c.in_ok-found.ensures.taken in
+    let same = met_parts _ c.in_ok-found.found c.in-Some.verb.now (rows_of (found_of c.in-Some.values.now)) c.in_ok-found.ensures.matches c.in-Some.ensures.name c.in-Some.ensures.rows named.verb named.rows named.is in
     record {
-      taken = c.in-Ok.ensures.taken;
+      taken = c.in_ok-found.ensures.taken;
       verb = named.verb;
       rows = named.rows;
       is = named.is;
@@ -25,5 +25,5 @@ returns-clause-asks c =
 
 pub unreachable-requires : goal.unreachable-requires
 unreachable-requires c =
-    let named = c.taken_words_have_values.ensures _ c.in-Ok.ensures.taken in
-    met_nothing _ c.in-Ok.found c.in-Ok.ensures.matches c.in-None.ensures.name named.verb named.rows named.is
+    let named = c.taken_words_have_values.ensures _ c.in_ok-found.ensures.taken in
+    met_nothing _ c.in_ok-found.found c.in_ok-found.ensures.matches c.in-None.ensures.name named.verb named.rows named.is

@@ -28,7 +28,7 @@ loop-first-preserved g c =
     let here = c.loop-first.invariant in
     record {
       within = omega arith;
-      loaded = loaded_before _ _ _ _ here.reads c.in-Ok.ensures.loaded;
+      loaded = loaded_before _ _ _ _ here.reads c.in_ok-load_run.ensures.loaded;
       reads = reads_then _ _ _ here.reads c.load_run.ensures.reads;
       faults = search rules;
     }

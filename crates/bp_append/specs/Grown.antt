@@ -4,7 +4,7 @@ use Rattle.pm_epochs.specs.declared.event.Event.TheVariants.{Barrier}
 use Rattle.pm_epochs.specs.May.{links_of}
 use Rattle.bp_layout.specs.Words.{height_of}
 use Rattle.bp_layout.specs.Tree.{HasBlock, IsSound, IsFull}
-use Rattle.bp_limits.specs.Limits.{max_size, max_height}
+use Rattle.bp_limits.specs.Limits.{block_size, block_words, max_height, max_size}
 use Rattle.bp_layout.specs.Nodes.{nodes_for, height_with}
 use Rattle.bp_layout.specs.Members.{Has, AreApart}
 use Rattle.bp_shapes.specs.Links.{raised_by, LeadDown}
@@ -24,11 +24,12 @@ pub record CanGrow (memory : Memory) (free : List ℕ) (root size from to : ℕ)
   pub order : size ≤ to
   pub fits : to ≤ max_size
   pub sound : IsSound (current_words memory) root size
-  pub some : 0 < length memory.base / 512
-  pub usable : IsUsable (length memory.base / 512) free
+  pub some : 0 < length memory.base / block_words
+  pub usable : IsUsable (length memory.base / block_words) free
   pub outside : (b : ℕ) → Has free b → HasBlock (current_words memory) root size b → ⊥
   pub enough : length (nodes_for (current_words memory) root size from to) ≤ length free
-  pub room : 512 * (length (nodes_for (current_words memory) root size from to) + suc max_height) + 4 ≤ room_in memory
+  pub room : block_words * (length (nodes_for (current_words memory) root size from to) + suc max_height) + 4
+      ≤ room_in memory
 
 -- the links in an epoch of their own
 abbrev pub Links : Memory → Memory → List (ℕ × ℕ) → Type 0
@@ -45,10 +46,10 @@ pub record Grows (old new : Memory) (free_old free_new : List ℕ) (place root s
   pub between : Memory
   pub stores : AddsInto (visited ++ raised) (λ p value. InBlocks (visited ++ raised) p
       ⊎ IsBehind (current_words old) root size p value)
-      (512 * length (visited ++ raised) + stores_behind size from to max_height) old between
+      (block_words * length (visited ++ raised) + stores_behind size from to max_height) old between
   pub links : List (ℕ × ℕ)
   pub hung : AreHung (current_words old) (current_words between) root size from to bytes visited
-      (λ p. HasBlock (current_words old) root size (p / 512)) links
+      (λ p. HasBlock (current_words old) root size (p / block_words)) links
   pub chain : List ℕ
   pub tall : height_of root + length chain ≡ height_with root size to
   pub inside : (b : ℕ) → Has chain b → Has raised b
@@ -71,9 +72,9 @@ pub record Roots (old new : Memory) (free_old free_new : List ℕ) (root size fr
   pub taken : List ℕ
   pub takes : free_old ≡ taken ++ free_new
   pub counted : length taken ≡ length (nodes_for (current_words old) root size from to)
-  pub stores : AddsInto taken (λ p value. InBlocks taken p) (512 * length taken) old new
+  pub stores : AddsInto taken (λ p value. InBlocks taken p) (block_words * length taken) old new
   pub height : height_of top ≡ height_with root size to
-  pub bits : top % 4096 ≡ height_of top
+  pub bits : top % block_size ≡ height_of top
   pub tree : IsBuilt (current_words new) top to (given_at from bytes 0) (Has taken) (from ≡ 0)
 
 -- A tree without blocks was prepared: such a root word was made and stored.

@@ -2,6 +2,7 @@
 -- begins and as it ends, a tree, a node, and the bytes that are wanted.
 use Rattle.std.specs.Prelude.{ℕ, suc, ◌+◌, ◌-◌, ◌*◌, ◌≤◌, min, max, List, Option}
 use Rattle.bp_free.specs.Set.{Set, members}
+use Rattle.bp_limits.specs.Limits.{block_words}
 use Rattle.bp_layout.specs.Words.{height_of}
 use Rattle.bp_layout.specs.Tree.{span}
 use Rattle.bp_tree.specs.declared.tree.Tree.{Tree}
@@ -67,7 +68,7 @@ abbrev pub HangsNode : {R : Type 0} → (R → Memory) → R → R → Set → S
     → Type 0
 HangsNode memory old new blocks_old blocks_new node slot wanted bytes hung =
     Hung (memory old) (memory new) (members blocks_old) (members blocks_new) (node.level - 1)
-    (node.start + slot * span (node.level - 1)) wanted.from wanted.to bytes (512 * node.block + slot)
+    (node.start + slot * span (node.level - 1)) wanted.from wanted.to bytes (block_words * node.block + slot)
     (links_in hung)
 
 -- ---- nodes above a tree

@@ -6,7 +6,7 @@ use Rattle.bp_layout.specs.Inode.{root_of, size_of}
 use Rattle.bp_layout.specs.Reached.{IsReached, IsLiveBlock}
 use Rattle.bp_layout.specs.WellFormed.{IsWellFormed}
 use Rattle.bp_layout.specs.WordPaths.{WordPath, tree_path}
-use Rattle.bp_limits.specs.Limits.{max_size, max_height}
+use Rattle.bp_limits.specs.Limits.{block_words, max_height, max_size}
 use Rattle.bp_layout.specs.Nodes.{nodes_for, height_with}
 use Rattle.bp_layout.specs.Members.{Has, Each}
 use Rattle.bp_changes.specs.SameContent.{IsReadByWords}
@@ -34,10 +34,10 @@ pub record CanPrepare (memory : Memory) (free : List ℕ) (t : ℕ) (path : Word
   pub order : from ≤ to
   pub fits : to ≤ max_size
   pub by_words : IsReadByWords (current_words memory) t → from ≡ size_of (current_words memory) t
-  pub usable : IsUsable (length memory.base / 512) free
+  pub usable : IsUsable (length memory.base / block_words) free
   pub unused : Each (λ b. IsLiveBlock (current_words memory) b → ⊥) free
   pub enough : need_for (current_words memory) t from to ≤ length free
-  pub room : 512 * (need_for (current_words memory) t from to + suc max_height) + 4 ≤ room_in memory
+  pub room : block_words * (need_for (current_words memory) t from to + suc max_height) + 4 ≤ room_in memory
 
 -- Tree t is ready for the bytes up to the end: these are the given ones, in its old blocks and those taken. Nothing
 -- else has changed that an image means, nor a live word of another tree but the root word of t.

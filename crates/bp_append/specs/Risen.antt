@@ -1,6 +1,6 @@
 -- Higher nodes over a tree, and what they hold behind it.
 use Rattle.std.specs.Prelude.{◌≡◌, ◌⊎◌, ℕ, zero, suc, ◌+◌, ◌-◌, ◌*◌, ◌/◌, ◌<◌, ◌≤◌, min, nat_lt, if◌then◌else◌, List, [], ◌∷◌, ◌++◌, length}
-use Rattle.bp_limits.specs.Limits.{max_height, max_size}
+use Rattle.bp_limits.specs.Limits.{block_words, max_height, max_size}
 use Rattle.bp_layout.specs.Words.{Image, height_of}
 use Rattle.bp_layout.specs.Tree.{byte, span, HasBlock, IsSound, IsFull}
 use Rattle.bp_layout.specs.Members.{Has, AreApart}
@@ -30,17 +30,17 @@ edge from to height = tally (suc height) from (min to (span height))
 -- no link is in one of these blocks
 abbrev pub AreOutside : List ℕ → List (ℕ × ℕ) → Type 0
 AreOutside free [] = Unit {0}
-AreOutside free (link ∷ links) = (Has free (link.0 / 512) → ⊥) × AreOutside free links
+AreOutside free (link ∷ links) = (Has free (link.0 / block_words) → ⊥) × AreOutside free links
 
 -- There are free blocks and room for the nodes above a tree.
 pub record CanRise (memory : Memory) (free : List ℕ) (low height from to : ℕ) : Type 0 where
   pub most : height ≤ max_height
   pub some : 0 < to
   pub few_to : to ≤ 2 * max_size
-  pub usable : IsUsable (length memory.base / 512) free
+  pub usable : IsUsable (length memory.base / block_words) free
   pub enough : edge from to height + idles from to low height ≤ length free + edge from to low
-  pub room : 512 * (edge from to height + idles from to low height) + (height - low)
-      ≤ room_in memory + 512 * edge from to low
+  pub room : block_words * (edge from to height + idles from to low height) + (height - low)
+      ≤ room_in memory + block_words * edge from to low
 
 -- the bytes of a tree of a height, and behind them the given ones
 abbrev pub risen : Image → ℕ → ℕ → ℕ → List ℕ → ℕ → ℕ
@@ -53,7 +53,8 @@ pub record Rises (old new : Memory) (free_old free_new : List ℕ) (root top low
   pub taken : List ℕ
   pub takes : free_old ≡ taken ++ free_new
   pub counted : length taken + edge from to low ≡ edge from to height + idles from to low height
-  pub stores : AddsInto taken (λ place value. InBlocks taken place) (512 * length taken + (height - low)) old new
+  pub stores : AddsInto taken (λ place value. InBlocks taken place) (block_words * length taken + (height - low))
+      old new
   pub chain : List ℕ
   pub named : top ≡ raised_by root chain
   pub tall : height_of root + length chain ≡ height

@@ -1,7 +1,7 @@
 -- The size of a file is stored behind a preparation.
 use Rattle.std.specs.Prelude.{◌≡◌, ℕ, suc, ◌+◌, ◌*◌, ◌<◌, List}
 use Rattle.pm_epochs.specs.Crash.{commit}
-use Rattle.bp_layout.specs.Inode.{kind_of, size_of, ContentStandsAt}
+use Rattle.bp_layout.specs.Inode.{ContentStandsAt, IsFile, size_of}
 use Rattle.bp_layout.specs.Need.Change.{resizes}
 use Rattle.bp_layout.specs.WordPaths.{WordPath}
 use Rattle.pm_region.specs.Memory.{Memory, current_words, Adds}
@@ -14,7 +14,7 @@ pub record GrowsFile (old middle new : Memory) (free_old free_new : List ℕ) (p
     (n size place : ℕ) : Type 0 where
   pub can : CanPrepare old free_old (suc n) path size size
   pub longer : size_of (current_words old) (suc n) < size
-  pub is_file : kind_of (current_words old) (suc n) ≡ 1
+  pub is_file : IsFile (current_words old) (suc n)
   pub stands : ContentStandsAt (current_words old) 0 (8 * suc n + 2) place
   pub bytes : List ℕ
   pub prepared : PreparesWith old middle free_old free_new (suc n) size size bytes

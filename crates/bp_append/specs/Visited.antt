@@ -1,6 +1,6 @@
 -- What going down a tree to its last byte makes behind its size.
 use Rattle.std.specs.Prelude.{◌≡◌, ◌≢◌, ◌⊎◌, ℕ, suc, ◌+◌, ◌-◌, ◌*◌, ◌/◌, ◌%◌, ◌<◌, ◌≤◌, min, max, nat_lt, if◌then◌else◌, List, [], ◌∷◌, ◌++◌, length, Option, None, Some}
-use Rattle.bp_limits.specs.Limits.{max_height, max_size}
+use Rattle.bp_limits.specs.Limits.{block_size, block_words, max_height, max_size}
 use Rattle.bp_layout.specs.Words.{Image, height_of, slot_word}
 use Rattle.bp_layout.specs.Tree.{node, byte, span, IsLivePointer, HasBlock, IsSound, IsFull}
 use Rattle.bp_layout.specs.Pieces.{child}
@@ -30,7 +30,7 @@ extended image root size from bytes start i =
 -- a store behind the size of a tree, into a block of a part of it
 pub record IsBehindPart (image : Image) (root size part part_size place value : ℕ) : Type 0 where
   pub behind : IsBehind image root size place value
-  pub has : HasBlock image part part_size (place / 512)
+  pub has : HasBlock image part part_size (place / block_words)
 
 -- A live pointer of the tree is null, and a tree of the given bytes is made for its place.
 pub record Hangs (old new : Image) (root size from to place pointer : ℕ) (bytes taken : List ℕ) : Type 0 where
@@ -38,9 +38,9 @@ pub record Hangs (old new : Image) (root size from to place pointer : ℕ) (byte
   pub index : ℕ
   pub live : IsLivePointer root size (suc depth) index
   pub null : node old root (suc depth) index ≡ 0
-  pub present : node old root depth (index / 512) ≢ 0
-  pub at : 512 * node old root depth (index / 512) + index % 512 ≡ place
-  pub bits : pointer % 4096 ≡ 0
+  pub present : node old root depth (index / block_words) ≢ 0
+  pub at : block_words * node old root depth (index / block_words) + index % block_words ≡ place
+  pub bits : pointer % block_size ≡ 0
   pub below : List ℕ
   pub inside : (b : ℕ) → Has below b → Has taken b
   pub built : IsBuilt new (pointer + live.level) (min (to - index * span live.level) (span live.level))
@@ -69,14 +69,14 @@ pub record CanVisit (memory : Memory) (free : List ℕ) (root size level start b
   pub few_to : to ≤ 2 * max_size
   pub named : node (current_words memory) root depth index ≡ block
   pub some_block : 1 ≤ block
-  pub in_range : block < length memory.base / 512
-  pub sound : IsSound (current_words memory) (4096 * block + level) (size - start)
-  pub outside : (b : ℕ) → Has free b → HasBlock (current_words memory) (4096 * block + level) (size - start) b → ⊥
-  pub usable : IsUsable (length memory.base / 512) free
+  pub in_range : block < length memory.base / block_words
+  pub sound : IsSound (current_words memory) (block_size * block + level) (size - start)
+  pub outside : (b : ℕ) → Has free b → HasBlock (current_words memory) (block_size * block + level) (size - start) b → ⊥
+  pub usable : IsUsable (length memory.base / block_words) free
   pub enough : tally (suc level) (max from start) (min to (start + span level))
       ≤ length free + spine (current_words memory) root size from to (suc level)
-  pub room : 512 * tally (suc level) (max from start) (min to (start + span level)) + 512 * suc level
-      ≤ room_in memory + 512 * spine (current_words memory) root size from to (suc level)
+  pub room : block_words * tally (suc level) (max from start) (min to (start + span level)) + block_words * suc level
+      ≤ room_in memory + block_words * spine (current_words memory) root size from to (suc level)
 
 -- The part of the tree under the block, with the links, has its old bytes and the given ones, in its old blocks and
 -- those taken.
@@ -87,18 +87,19 @@ pub record Visits (old new : Memory) (free_old free_new : List ℕ) (root size l
   pub counted : length taken + spine (current_words old) root size from to (suc level)
       ≡ tally (suc level) (max from start) (min to (start + span level))
   pub stores : AddsInto taken (λ place value. InBlocks taken place
-      ⊎ IsBehindPart (current_words old) root size (4096 * block + level) (size - start) place value)
-      (512 * length taken + stores_behind size from to level) old new
+      ⊎ IsBehindPart (current_words old) root size (block_size * block + level) (size - start) place value)
+      (block_words * length taken + stores_behind size from to level) old new
   pub hung : AreHung (current_words old) (current_words new) root size from to bytes taken
-      (λ place. HasBlock (current_words old) (4096 * block + level) (size - start) (place / 512)) links
-  pub tree : IsBuilt (after_stores (current_words new) links) (4096 * block + level) (min (to - start) (span level))
-      (extended (current_words old) (4096 * block + level) size from bytes start)
-      (λ b. HasBlock (current_words old) (4096 * block + level) (size - start) b ⊎ Has taken b)
-      (IsFull (current_words old) (4096 * block + level) (size - start) × (from ≡ size))
+      (λ place. HasBlock (current_words old) (block_size * block + level) (size - start) (place / block_words)) links
+  pub tree : IsBuilt (after_stores (current_words new) links) (block_size * block + level)
+      (min (to - start) (span level))
+      (extended (current_words old) (block_size * block + level) size from bytes start)
+      (λ b. HasBlock (current_words old) (block_size * block + level) (size - start) b ⊎ Has taken b)
+      (IsFull (current_words old) (block_size * block + level) (size - start) × (from ≡ size))
 
 -- the last slot of a node that begins before the size
 pub record IsLast (size below start slot : ℕ) : Type 0 where
-  pub few : slot < 512
+  pub few : slot < block_words
   pub begun : start + slot * span below < size
   pub ends : size ≤ start + slot * span below + span below
 
@@ -112,11 +113,11 @@ pub record VisitsSlot (old new : Memory) (free_old free_new : List ℕ) (root si
   pub stores : AddsInto taken (λ place value. InBlocks taken place
       ⊎ IsBehindPart (current_words old) root size (child (current_words old) block below slot)
       (size - (start + slot * span below)) place value)
-      (512 * length taken + stores_behind size from to below) old new
+      (block_words * length taken + stores_behind size from to below) old new
   pub hung : AreHung (current_words old) (current_words new) root size from to bytes taken
       (λ place. HasBlock (current_words old) (child (current_words old) block below slot)
-      (size - (start + slot * span below)) (place / 512) ⊎ (place ≡ 512 * block + slot)) links
-  pub word : slot_word (after_stores (current_words new) links) block slot % 4096 ≡ 0
+      (size - (start + slot * span below)) (place / block_words) ⊎ (place ≡ block_words * block + slot)) links
+  pub word : slot_word (after_stores (current_words new) links) block slot % block_size ≡ 0
   pub tree : IsBuilt (after_stores (current_words new) links)
       (child (after_stores (current_words new) links) block below slot)
       (min (to - (start + slot * span below)) (span below))

@@ -1,7 +1,7 @@
 -- A write across the size of a file, by the number of its inode: what its parts ask and give.
 use Rattle.std.proofs.Common.{◌≡◌, ℕ, zero, suc, ◌+◌, ◌-◌, ◌*◌, ◌/◌, ◌<◌, ◌≤◌, List, ◌++◌, length, take, drop, slice_index, sym, ◌∙◌, ap, subst, subst₂, inl, inr, arith}
 use Rattle.std.proofs.lemmas.List.{append-nil, length-append}
-use Rattle.bp_free.specs.Set.{Set, has, members}
+use Rattle.bp_free.specs.Set.{Set, members}
 use Rattle.bp_layout.specs.Free.{HasFree}
 use Rattle.bp_layout.specs.Inode.{root_of, size_of}
 use Rattle.bp_layout.specs.Need.Change.{writes}

@@ -3,6 +3,7 @@ use Rattle.std.specs.Prelude.{ℕ, List, ◌==◌, Option, None, Some, if◌then
 use Rattle.std.specs.List.{filter_map, range_with_len}
 use Rattle.std.specs.List.Sorted.{IsPermutation, IsSortedBy}
 use Rattle.bp_dirs.specs.Names.{name_count}
+use Rattle.bp_limits.specs.Limits.{file_kind}
 use Rattle.bp_layout.specs.Listing.{comes_before}
 use Rattle.bp_layout.specs.Words.{Image}
 use Rattle.bp_layout.specs.Tree.{content}
@@ -19,7 +20,7 @@ bytes_of image i = content image (root_of image i) (size_of image i)
 
 -- a file's size, or how many names a directory has
 abbrev pub stat_of : Image → ℕ → Stat
-stat_of image i = if kind_of image i == 1 then stat.File (size_of image i)
+stat_of image i = if kind_of image i == file_kind then stat.File (size_of image i)
     else stat.Dir (name_count image (root_of image i) (size_of image i))
 
 -- ---- the entries of a directory that name an inode

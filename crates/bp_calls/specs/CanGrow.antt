@@ -1,7 +1,7 @@
 -- What a file asks that gets longer without bytes of its own.
-use Rattle.std.specs.Prelude.{◌≡◌, ℕ, ◌<◌, ◌≤◌}
+use Rattle.std.specs.Prelude.{ℕ, ◌<◌, ◌≤◌}
 use Rattle.bp_free.specs.Set.{Set}
-use Rattle.bp_layout.specs.Inode.{kind_of, size_of}
+use Rattle.bp_layout.specs.Inode.{IsFile, size_of}
 use Rattle.bp_layout.specs.Reached.{IsReached}
 use Rattle.bp_layout.specs.WellFormed.{IsWellFormed}
 use Rattle.bp_limits.specs.Limits.{call_room, max_size}
@@ -14,7 +14,7 @@ pub record CanGrowFile (memory : Memory) (blocks inodes : Set) (i size : ℕ) : 
   pub well_formed : IsWellFormed (current_words memory)
   pub exact : AreExact (current_words memory) blocks inodes
   pub reached : IsReached (current_words memory) i
-  pub file : kind_of (current_words memory) i ≡ 1
+  pub file : IsFile (current_words memory) i
   pub longer : size_of (current_words memory) i < size
   pub fits : size ≤ max_size
   pub room : call_room ≤ room_in memory

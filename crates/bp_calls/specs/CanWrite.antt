@@ -1,8 +1,8 @@
 -- What a write into a file asks.
-use Rattle.std.specs.Prelude.{◌≡◌, ℕ, ◌+◌, ◌≤◌, List, length}
+use Rattle.std.specs.Prelude.{ℕ, ◌+◌, ◌≤◌, List, length}
 use Rattle.bp_shapes.specs.Sets.{AreExact}
 use Rattle.bp_free.specs.Set.{Set}
-use Rattle.bp_layout.specs.Inode.{kind_of}
+use Rattle.bp_layout.specs.Inode.{IsFile}
 use Rattle.bp_layout.specs.Reached.{IsReached}
 use Rattle.bp_layout.specs.WellFormed.{IsWellFormed}
 use Rattle.bp_limits.specs.Limits.{call_room, max_size, max_write}
@@ -14,7 +14,7 @@ pub record CanWrite (memory : Memory) (blocks inodes : Set) (i off : ℕ) (bytes
   pub well_formed : IsWellFormed (current_words memory)
   pub exact : AreExact (current_words memory) blocks inodes
   pub reached : IsReached (current_words memory) i
-  pub file : kind_of (current_words memory) i ≡ 1
+  pub file : IsFile (current_words memory) i
   pub some : 1 ≤ length bytes
   pub short : length bytes ≤ max_write
   pub fits : off + length bytes ≤ max_size

@@ -1,8 +1,9 @@
 -- What stands ready for a new name, before the one store that shows it.
 use Rattle.std.specs.Prelude.{◌≡◌, ◌≢◌, ℕ, ◌+◌, ◌/◌, ◌<◌, ◌≤◌}
+use Rattle.bp_limits.specs.Limits.{entry_size}
 use Rattle.bp_layout.specs.Directory.{Name, inumber_at, inumber_in, name_at, name_in, entry_count}
 use Rattle.bp_layout.specs.Free.{IsFreeInode}
-use Rattle.bp_layout.specs.Inode.{kind_of, root_of, size_of}
+use Rattle.bp_layout.specs.Inode.{IsDirectory, kind_of, root_of, size_of}
 use Rattle.bp_layout.specs.Reached.{IsReached}
 use Rattle.bp_layout.specs.Tree.{HasBlock, IsSound, IsFull}
 use Rattle.bp_layout.specs.Words.{Image}
@@ -18,7 +19,7 @@ pub record IsNewInode (image : Image) (j kind : ℕ) : Type 0 where
 -- entry s of directory i is empty, and has this name in its other words
 pub record IsReadyEntry (image : Image) (i s : ℕ) (name : Name) : Type 0 where
   pub reached : IsReached image i
-  pub directory : kind_of image i ≡ 2
+  pub directory : IsDirectory image i
   pub slot : s < entry_count image i
   pub empty : inumber_at image i s ≡ 0
   pub spelled : name_at image i s ≡ name
@@ -27,10 +28,11 @@ pub record IsReadyEntry (image : Image) (i s : ℕ) (name : Name) : Type 0 where
 -- sound and without a null, and no other tree has a block of it.
 pub record IsReadyBehind (image : Image) (i j : ℕ) (name : Name) : Type 0 where
   pub reached : IsReached image i
-  pub directory : kind_of image i ≡ 2
-  pub sound : IsSound image (root_of image i) (size_of image i + 256)
-  pub full : IsFull image (root_of image i) (size_of image i + 256)
-  pub apart : (u b : ℕ) → IsReached image u → u ≢ i → HasBlock image (root_of image i) (size_of image i + 256) b →
+  pub directory : IsDirectory image i
+  pub sound : IsSound image (root_of image i) (size_of image i + entry_size)
+  pub full : IsFull image (root_of image i) (size_of image i + entry_size)
+  pub apart : (u b : ℕ) → IsReached image u → u ≢ i →
+      HasBlock image (root_of image i) (size_of image i + entry_size) b →
       HasBlock image (root_of image u) (size_of image u) b → ⊥
-  pub inumber : inumber_in image (root_of image i) (size_of image i / 256) ≡ j
-  pub spelled : name_in image (root_of image i) (size_of image i / 256) ≡ name
+  pub inumber : inumber_in image (root_of image i) (size_of image i / entry_size) ≡ j
+  pub spelled : name_in image (root_of image i) (size_of image i / entry_size) ≡ name

@@ -4,20 +4,17 @@ use Rattle.bp_changes.specs.SameMeaning.{SameMeaning}
 use Rattle.bp_free.specs.Set.{Set, members}
 use Rattle.bp_layout.specs.Inode.{root_of, size_of}
 use Rattle.bp_layout.specs.Members.{Has}
-use Rattle.bp_layout.specs.Need.{Change, cover, growth_count, need}
+use Rattle.bp_layout.specs.Need.{growth_count}
 use Rattle.bp_layout.specs.Need.Change.{enters}
 use Rattle.bp_layout.specs.Nodes.{height_with}
 use Rattle.bp_layout.specs.Reached.{IsReached}
-use Rattle.bp_layout.specs.Same.{Same}
 use Rattle.bp_layout.specs.Tree.{byte, word_at, HasBlock, IsLiveWord}
 use Rattle.bp_layout.specs.WellFormed.{IsWellFormed}
-use Rattle.bp_layout.specs.WordPaths.{address}
 use Rattle.bp_layout.specs.Words.{Image, height_of}
 use Rattle.bp_limits.specs.Limits.{block_size, block_words, call_room}
 use Rattle.bp_shapes.specs.Sets.{AreExact}
-use Rattle.bp_tree.specs.Performs.{IsOpen, TakesBlocks, AddsTaking}
+use Rattle.bp_tree.specs.Performs.{AddsTaking}
 use Rattle.pm_region.specs.Memory.{Memory, current_words, room_in}
-use Rattle.pm_region.specs.Safe.{AddsCommit}
 
 -- how many blocks the inode file takes for one more leaf: as many in each change that needs an inode and finds none
 abbrev pub growth_need : Image → ℕ

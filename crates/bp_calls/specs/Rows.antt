@@ -1,9 +1,9 @@
 -- The words of entries of a directory that is reached.
-use Rattle.std.specs.Prelude.{◌≡◌, ◌+◌, ◌<◌, ◌≤◌, ℕ, List}
+use Rattle.std.specs.Prelude.{◌+◌, ◌<◌, ◌≤◌, ℕ, List}
 use Rattle.bp_dirs.specs.EntryWords.{HasWords, IsRow}
 use Rattle.bp_layout.specs.Words.{Image}
 use Rattle.bp_layout.specs.Directory.{entry_count}
-use Rattle.bp_layout.specs.Inode.{kind_of, root_of}
+use Rattle.bp_layout.specs.Inode.{IsDirectory, root_of}
 use Rattle.bp_layout.specs.Reached.{IsReached}
 
 -- those of one entry
@@ -11,7 +11,7 @@ pub record IsEntryRow (image : Image) (words : List ℕ) : Type 0 where
   pub directory : ℕ
   pub slot : ℕ
   pub reached : IsReached image directory
-  pub kind : kind_of image directory ≡ 2
+  pub kind : IsDirectory image directory
   pub live : slot < entry_count image directory
   pub has : HasWords image (root_of image directory) slot words
 
@@ -21,6 +21,6 @@ pub record AreEntries (image : Image) (words : List ℕ) : Type 0 where
   pub first : ℕ
   pub count : ℕ
   pub reached : IsReached image directory
-  pub kind : kind_of image directory ≡ 2
+  pub kind : IsDirectory image directory
   pub live : first + count ≤ entry_count image directory
   pub row : IsRow image (root_of image directory) first count words

@@ -4,7 +4,7 @@ use Rattle.bp_append.specs.Prepared.{need_for}
 use Rattle.bp_free.specs.Set.{Set, members}
 use Rattle.bp_layout.specs.Directory.{Name, IsName, empty_slot, slot_named}
 use Rattle.bp_layout.specs.Free.{IsFreeInode}
-use Rattle.bp_layout.specs.Inode.{kind_of, size_of}
+use Rattle.bp_layout.specs.Inode.{IsDirectory, size_of}
 use Rattle.bp_layout.specs.Need.{need}
 use Rattle.bp_layout.specs.Need.Change.{enters}
 use Rattle.bp_layout.specs.Reached.{IsReached}
@@ -18,7 +18,7 @@ use Rattle.pm_region.specs.Memory.{Memory, current_words, room_in}
 pub record LacksName (image : Image) (i : ℕ) (name : Name) : Type 0 where
   pub well_formed : IsWellFormed image
   pub reached : IsReached image i
-  pub directory : kind_of image i ≡ 2
+  pub directory : IsDirectory image i
   pub form : IsName name
   pub missing : slot_named image i name ≡ None
 

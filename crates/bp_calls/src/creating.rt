@@ -8,7 +8,7 @@ ghost use Rattle.bp_calls.specs.Steps.{CanEnter, LacksName};
 ghost use Rattle.bp_free.specs.Set.{IsLeast, members, without};
 ghost use Rattle.bp_layout.specs.Directory.{IsName, empty_slot, slot_named};
 ghost use Rattle.bp_layout.specs.Free.{TellsFreeInode};
-ghost use Rattle.bp_layout.specs.Inode.{kind_of, root_of, size_of};
+ghost use Rattle.bp_layout.specs.Inode.{IsDirectory, root_of, size_of};
 ghost use Rattle.bp_layout.specs.Need.{need};
 ghost use Rattle.bp_layout.specs.Need.Change.{enters};
 ghost use Rattle.bp_layout.specs.Reached.{IsReached};
@@ -45,7 +45,7 @@ fn take<K>(numbers: &mut Numbers<K>) -> u32
 fn entry_need<R: Region>(region: &R, dir: u32, tree: Tree, slot: Option<u64>) -> u32
     requires well_formed { IsWellFormed (current_words (R.memory region.now)) }
     requires reached { IsReached (current_words (R.memory region.now)) dir }
-    requires directory { kind_of (current_words (R.memory region.now)) dir ≡ 2 }
+    requires directory { IsDirectory (current_words (R.memory region.now)) dir }
     requires root { tree.root ≡ root_of (current_words (R.memory region.now)) dir }
     requires size { tree.size ≡ size_of (current_words (R.memory region.now)) dir }
     requires slot { slot ≡ empty_slot (current_words (R.memory region.now)) dir }
@@ -112,7 +112,7 @@ pub fn create_in<R: Region>(
     requires well_formed { IsWellFormed (current_words (R.memory parts.old.region)) }
     requires exact { AreExact (current_words (R.memory parts.old.region)) parts.old.blocks parts.old.inodes }
     requires reached { IsReached (current_words (R.memory parts.old.region)) dir }
-    requires directory { kind_of (current_words (R.memory parts.old.region)) dir ≡ 2 }
+    requires directory { IsDirectory (current_words (R.memory parts.old.region)) dir }
     requires name { IsName name.now }
     requires slot { slot ≡ empty_slot (current_words (R.memory parts.old.region)) dir }
     requires new { slot_named (current_words (R.memory parts.old.region)) dir name.now ≡ None }
@@ -160,7 +160,7 @@ pub fn create<R: Region>(
     requires well_formed { IsWellFormed (current_words (R.memory parts.old.region)) }
     requires exact { AreExact (current_words (R.memory parts.old.region)) parts.old.blocks parts.old.inodes }
     requires reached { IsReached (current_words (R.memory parts.old.region)) dir }
-    requires directory { kind_of (current_words (R.memory parts.old.region)) dir ≡ 2 }
+    requires directory { IsDirectory (current_words (R.memory parts.old.region)) dir }
     requires name { IsName name.now }
     requires new { slot_named (current_words (R.memory parts.old.region)) dir name.now ≡ None }
     requires room { call_room ≤ room_in (R.memory parts.old.region) }

@@ -13,7 +13,7 @@ ghost use Rattle.bp_dirs.specs.Names.{name_count};
 ghost use Rattle.bp_free.specs.Set.{has, members};
 ghost use Rattle.bp_layout.specs.Directory.{Name, inumber_at, name_at};
 ghost use Rattle.bp_layout.specs.Free.{AreFreeBlocks, HasFree};
-ghost use Rattle.bp_layout.specs.Inode.{kind_of, root_of, size_of};
+ghost use Rattle.bp_layout.specs.Inode.{IsDirectory, IsFile, root_of, size_of};
 ghost use Rattle.bp_layout.specs.Lookup.{Path};
 ghost use Rattle.bp_layout.specs.Need.{Change};
 ghost use Rattle.bp_layout.specs.WellFormed.{IsWellFormed};
@@ -65,10 +65,10 @@ pub fn files_and_empty_directories_may_leave(image: &[u64])
     ensures spelled { (parent : Path) (name : Name) (i s j : ℕ) → IsFoundAt image.now parent name i s j
         → name_at image.now i s ≡ name }
     ensures file { (parent : Path) (name : Name) (i s j : ℕ) → IsFoundAt image.now parent name i s j
-        → kind_of image.now j ≡ 1 → CanUnlink image.now i s j }
+        → IsFile image.now j → CanUnlink image.now i s j }
     ensures directory { (parent : Path) (name : Name) (i s j : ℕ) → IsFoundAt image.now parent name i s j
         → name_count image.now (root_of image.now j) (size_of image.now j) ≡ 0 → CanUnlink image.now i s j }
-    ensures no_other { (i s j : ℕ) → CanUnlink image.now i s j → kind_of image.now j ≡ 2
+    ensures no_other { (i s j : ℕ) → CanUnlink image.now i s j → IsDirectory image.now j
         → name_count image.now (root_of image.now j) (size_of image.now j) ≡ 0 }
 {}
 

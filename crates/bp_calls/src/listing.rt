@@ -6,7 +6,7 @@ ghost use Rattle.bp_calls.specs.Asked.{ListsNames, entries_seen, entry_seen};
 ghost use Rattle.bp_calls.specs.Rows.{AreEntries, IsEntryRow};
 ghost use Rattle.bp_dirs.specs.EntryWords.{HasWords, IsRow};
 ghost use Rattle.bp_layout.specs.Directory.{entry_count};
-ghost use Rattle.bp_layout.specs.Inode.{kind_of, root_of};
+ghost use Rattle.bp_layout.specs.Inode.{IsDirectory, root_of};
 ghost use Rattle.bp_layout.specs.Reached.{IsReached};
 ghost use Rattle.bp_layout.specs.WellFormed.{IsWellFormed};
 ghost use Rattle.bp_limits.specs.Limits.{max_name};
@@ -17,10 +17,13 @@ use crate::entering::tree_of;
 use bp_dirs::count;
 use bp_inodes::get;
 use bp_layout::Listing;
-use bp_limits::{ENTRY_SIZE, MAX_NAME};
+use bp_limits::{BLOCK_ENTRIES, ENTRY_SIZE, ENTRY_WORDS, MAX_NAME};
 use bp_tree::{leaf_words, unpack};
 use pm_region::Region;
 use std::alloc::{AllocError, Global};
+
+/// The words of an entry, as a length.
+const ENTRY: usize = ENTRY_WORDS as usize;
 
 /// The names in directory `i` with their kinds, in the order of their bytes.
 ///
@@ -30,7 +33,7 @@ use std::alloc::{AllocError, Global};
 pub fn list<R: Region>(alloc: Global, region: &R, i: u32) -> Result<Listing, AllocError>
     requires well_formed { IsWellFormed (current_words (R.memory region.now)) }
     requires reached { IsReached (current_words (R.memory region.now)) i }
-    requires directory { kind_of (current_words (R.memory region.now)) i ≡ 2 }
+    requires directory { IsDirectory (current_words (R.memory region.now)) i }
     ensures { IfOk result (λ names. ListsNames (current_words (R.memory region.now)) i names) }
 {
     let mut listing = entries(alloc, region, i)?;
@@ -42,17 +45,17 @@ pub fn list<R: Region>(alloc: Global, region: &R, i: u32) -> Result<Listing, All
 fn entries<R: Region>(alloc: Global, region: &R, i: u32) -> Result<Listing, AllocError>
     requires well_formed { IsWellFormed (current_words (R.memory region.now)) }
     requires reached { IsReached (current_words (R.memory region.now)) i }
-    requires directory { kind_of (current_words (R.memory region.now)) i ≡ 2 }
+    requires directory { IsDirectory (current_words (R.memory region.now)) i }
     ensures { let image = current_words (R.memory region.now) in
         IfOk result (λ listing. listing ≡ entries_seen image i (entry_count image i)) }
 {
     let tree = tree_of(region, i);
     let slots = tree.size / ENTRY_SIZE;
     let mut listing = Listing::with_capacity(alloc, count(region, tree) as usize)?;
-    for leaf in 0..slots.div_ceil(16) {
+    for leaf in 0..slots.div_ceil(BLOCK_ENTRIES) {
         if let Some(words) = leaf_words(region, tree, leaf) {
-            let count = (slots - 16 * leaf).min(16) as usize;
-            list_row(region, &words[..32 * count], &mut listing)?;
+            let count = (slots - BLOCK_ENTRIES * leaf).min(BLOCK_ENTRIES) as usize;
+            list_row(region, &words[..ENTRY * count], &mut listing)?;
         }
     }
     Ok(listing)
@@ -66,8 +69,12 @@ fn list_row<R: Region>(region: &R, words: &[u64], listing: &mut Listing) -> Resu
         (i first count : ℕ) → IsRow image (root_of image i) first count words.now
         → OnOk result (listing.new ≡ listing.old ++ filter_map (entry_seen image i) (range_with_len first count)) }
 {
-    for index in 0..words.len() / 32 {
-        list_entry(region, &words[32 * index..32 * index + 32], listing)?;
+    for index in 0..words.len() / ENTRY {
+        list_entry(
+            region,
+            &words[ENTRY * index..ENTRY * index + ENTRY],
+            listing,
+        )?;
     }
     Ok(())
 }

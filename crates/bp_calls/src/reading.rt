@@ -2,7 +2,7 @@
 
 ghost use Rattle.std.specs.Prelude.{◌≡◌, ◌≤◌, drop, length, take};
 ghost use Rattle.bp_calls.specs.Asked.{bytes_of, stat_of};
-ghost use Rattle.bp_layout.specs.Inode.{kind_of};
+ghost use Rattle.bp_layout.specs.Inode.{IsFile};
 ghost use Rattle.bp_layout.specs.Reached.{IsReached};
 ghost use Rattle.bp_layout.specs.WellFormed.{IsWellFormed};
 ghost use Rattle.pm_region.specs.Memory.{current_words};
@@ -19,7 +19,7 @@ use pm_region::Region;
 pub fn read<R: Region>(region: &R, i: u32, off: u64, into: &mut [u8]) -> usize
     requires well_formed { IsWellFormed (current_words (R.memory region.now)) }
     requires reached { IsReached (current_words (R.memory region.now)) i }
-    requires file { kind_of (current_words (R.memory region.now)) i ≡ 1 }
+    requires file { IsFile (current_words (R.memory region.now)) i }
     ensures bytes { take result into.new ≡
         take (length into.old) (drop off (bytes_of (current_words (R.memory region.now)) i)) }
     ensures fits { result ≤ length into.new }

@@ -4,7 +4,7 @@ ghost use Rattle.std.specs.Prelude.{◌≡◌, ◌≢◌, ◌<◌, ◌≤◌, If
 ghost use Rattle.bp_calls.specs.Space.{LacksSpace};
 ghost use Rattle.bp_calls.specs.CanGrow.{CanGrowFile};
 ghost use Rattle.bp_calls.specs.Resized.{ResizesFile};
-ghost use Rattle.bp_layout.specs.Inode.{kind_of, root_of, size_of};
+ghost use Rattle.bp_layout.specs.Inode.{IsFile, root_of, size_of};
 ghost use Rattle.bp_layout.specs.Need.Change.{resizes};
 ghost use Rattle.bp_layout.specs.Reached.{IsReached};
 ghost use Rattle.bp_layout.specs.WellFormed.{IsWellFormed};
@@ -56,7 +56,7 @@ fn shrink_file<R: Region>(parts: &mut Parts<R>, i: u32, tree: Tree, size: u64)
     requires well_formed { IsWellFormed (current_words (R.memory parts.old.region)) }
     requires exact { AreExact (current_words (R.memory parts.old.region)) parts.old.blocks parts.old.inodes }
     requires reached { IsReached (current_words (R.memory parts.old.region)) i }
-    requires file { kind_of (current_words (R.memory parts.old.region)) i ≡ 1 }
+    requires file { IsFile (current_words (R.memory parts.old.region)) i }
     requires root { tree.root ≡ root_of (current_words (R.memory parts.old.region)) i }
     requires size { tree.size ≡ size_of (current_words (R.memory parts.old.region)) i }
     requires smaller { size < tree.size }
@@ -80,7 +80,7 @@ pub fn truncate<R: Region>(parts: &mut Parts<R>, i: u32, size: u64) -> Result<()
     requires well_formed { IsWellFormed (current_words (R.memory parts.old.region)) }
     requires exact { AreExact (current_words (R.memory parts.old.region)) parts.old.blocks parts.old.inodes }
     requires reached { IsReached (current_words (R.memory parts.old.region)) i }
-    requires file { kind_of (current_words (R.memory parts.old.region)) i ≡ 1 }
+    requires file { IsFile (current_words (R.memory parts.old.region)) i }
     requires fits { size ≤ max_size }
     requires changed { size ≢ size_of (current_words (R.memory parts.old.region)) i }
     requires room { call_room ≤ room_in (R.memory parts.old.region) }

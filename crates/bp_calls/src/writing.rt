@@ -90,7 +90,7 @@ fn touched_below<'a, R: Region>(
 {
     let run = Run {
         root: root_path(region, i),
-        height: (tree.root & 7) as u32,
+        height: tree.height(),
         off,
         bytes,
     };

@@ -1,5 +1,5 @@
 -- One more entry in one directory: the name shows the inode, all other names stay, and the tree gains one entry.
-use Rattle.std.proofs.Common.{◌≡◌, ◌≢◌, ◌⊎◌, ℕ, suc, ◌/◌, ◌%◌, ◌<◌, ◌≤◌, [], Bool, true, false, ◌==◌, if◌then◌else◌, length, Option, None, Some, refl, sym, ◌∙◌, ap, subst, subst₂, arith, inl, inr, le_trans}
+use Rattle.std.proofs.Common.{◌≡◌, ◌≢◌, ◌⊎◌, ℕ, suc, ◌/◌, ◌%◌, ◌<◌, ◌≤◌, [], Bool, true, false, ◌==◌, if◌then◌else◌, Option, None, Some, refl, sym, ◌∙◌, ap, subst, subst₂, arith, inl, inr, le_trans}
 use Rattle.std.proofs.lemmas.Bool.{eqb-true}
 use Rattle.bp_layout.specs.Words.{Image}
 use Rattle.bp_layout.specs.Tree.{HasBlock, IsSound, IsFull}

@@ -2,7 +2,7 @@
 use Rattle.std.specs.Prelude.{◌≡◌, ◌≢◌, ℕ, ◌+◌, ◌*◌, ◌/◌, ◌%◌, ◌≤◌, ◌<◌, max, Option, unwrap_or}
 use Rattle.bp_layout.specs.Words.{Image, byte_of}
 use Rattle.bp_layout.specs.Tree.{content_word, byte}
-use Rattle.bp_layout.specs.Inode.{kind_of, root_of, size_of}
+use Rattle.bp_layout.specs.Inode.{IsFile, root_of, size_of}
 use Rattle.bp_layout.specs.Reached.{IsReached}
 use Rattle.bp_changes.specs.KeepsTrees.{KeepsTrees}
 use Rattle.bp_changes.specs.SameContent.{IsReadByWords}
@@ -21,7 +21,7 @@ pub record Commits (old new : Image) (changes : Changes) : Type 0 where
   pub inode_bytes : size_of new 0 ≡ size_of old 0
   pub words : (t k : ℕ) → IsReached old t → IsReadByWords old t → 8 * k + 8 ≤ max (size_of old t) (size_of new t) →
       (t ≡ 0 → k % 8 ≢ 1) → content_word new (root_of new t) k ≡ changed_word changes old t k
-  pub bytes : (i o : ℕ) → IsReached old i → kind_of old i ≡ 1 → o < max (size_of old i) (size_of new i) →
+  pub bytes : (i o : ℕ) → IsReached old i → IsFile old i → o < max (size_of old i) (size_of new i) →
       byte new (root_of new i) o ≡ byte_of (changed_word changes old i (o / 8)) (o % 8)
 
 -- Below the old sizes the commit gives these words new values, and no others.

@@ -1,10 +1,10 @@
 -- What a change makes of an image: told of the trees that the first image reaches, by slots and inodes. The second may
 -- have its trees in other blocks.
 use Rattle.std.specs.Prelude.{◌≡◌, ◌≢◌, ◌⊎◌, ℕ, ◌+◌, ◌*◌, ◌%◌, ◌<◌, ◌≤◌}
-use Rattle.bp_limits.specs.Limits.{block_size, entry_size}
+use Rattle.bp_limits.specs.Limits.{block_size, entry_size, entry_words}
 use Rattle.bp_layout.specs.Words.{Image}
 use Rattle.bp_layout.specs.Tree.{byte, HasBlock}
-use Rattle.bp_layout.specs.Inode.{kind_of, root_of, size_of, inode_count}
+use Rattle.bp_layout.specs.Inode.{IsDirectory, IsFile, inode_count, kind_of, root_of, size_of}
 use Rattle.bp_layout.specs.Directory.{EntryNames, IsName, name_at, inumber_at, entry_word, entry_count}
 use Rattle.bp_layout.specs.Reached.{IsReached}
 use Rattle.bp_changes.specs.KeepsTrees.{KeepsTrees}
@@ -21,15 +21,15 @@ pub record KeepsBlocks (old new : Image) : Type 0 where
 -- the bytes of file x and their number may be others
 pub record ChangesFile (old new : Image) (x : ℕ) : Type 0 where
   pub reached : IsReached old x
-  pub is_file : kind_of old x ≡ 1
+  pub is_file : IsFile old x
   pub trees : KeepsTrees old new
   pub kind : (t : ℕ) → IsReached old t → kind_of new t ≡ kind_of old t
   pub size : (t : ℕ) → IsReached old t → t ≢ x → size_of new t ≡ size_of old t
-  pub inumber : (i s : ℕ) → IsReached old i → kind_of old i ≡ 2 → s < entry_count old i →
+  pub inumber : (i s : ℕ) → IsReached old i → IsDirectory old i → s < entry_count old i →
       inumber_at new i s ≡ inumber_at old i s
-  pub entry : (i s j f : ℕ) → IsReached old i → EntryNames old i s j → f < 32 →
+  pub entry : (i s j f : ℕ) → IsReached old i → EntryNames old i s j → f < entry_words →
       entry_word new i s f ≡ entry_word old i s f
-  pub bytes : (i o : ℕ) → IsReached old i → i ≢ x → kind_of old i ≡ 1 → o < size_of old i →
+  pub bytes : (i o : ℕ) → IsReached old i → i ≢ x → IsFile old i → o < size_of old i →
       byte new (root_of new i) o ≡ byte old (root_of old i) o
 
 -- ---- an inumber
@@ -40,9 +40,9 @@ pub record SetsInumber (old new : Image) (i s value : ℕ) : Type 0 where
   pub kind : (u : ℕ) → u < inode_count old → kind_of new u ≡ kind_of old u
   pub size : (u : ℕ) → u < inode_count old → size_of new u ≡ size_of old u
   pub inumber : inumber_at new i s ≡ value
-  pub entry : (u r f : ℕ) → IsReached old u → kind_of old u ≡ 2 → r < entry_count old u → f < 32 →
-      ((i ≡ u) → (32 * s + 0 ≡ 32 * r + f) → ⊥) → entry_word new u r f ≡ entry_word old u r f
-  pub bytes : (u o : ℕ) → IsReached old u → kind_of old u ≡ 1 → o < size_of old u →
+  pub entry : (u r f : ℕ) → IsReached old u → IsDirectory old u → r < entry_count old u → f < entry_words →
+      ((i ≡ u) → (entry_words * s + 0 ≡ entry_words * r + f) → ⊥) → entry_word new u r f ≡ entry_word old u r f
+  pub bytes : (u o : ℕ) → IsReached old u → IsFile old u → o < size_of old u →
       byte new (root_of new u) o ≡ byte old (root_of old u) o
 
 -- ---- one name more
@@ -65,15 +65,15 @@ pub record AddsNames (old new : Image) (i s j : ℕ) : Type 0 where
   pub kind : (u : ℕ) → IsReached old u → kind_of new u ≡ kind_of old u
   pub new_kind : (1 ≤ kind_of new j) × (kind_of new j ≤ 2)
   pub new_size : size_of new j ≡ 0
-  pub file_size : (u : ℕ) → IsReached old u → kind_of old u ≡ 1 → size_of new u ≡ size_of old u
-  pub directory_size : (u : ℕ) → IsReached old u → kind_of old u ≡ 2 → size_of new u % entry_size ≡ 0
+  pub file_size : (u : ℕ) → IsReached old u → IsFile old u → size_of new u ≡ size_of old u
+  pub directory_size : (u : ℕ) → IsReached old u → IsDirectory old u → size_of new u % entry_size ≡ 0
   pub back : (u r k : ℕ) → IsReached old u → EntryNames new u r k → IsNewEntry i s j u r k ⊎ EntryNames old u r k
   pub stay : (u r k : ℕ) → IsReached old u → EntryNames old u r k → EntryNames new u r k
   pub entry : EntryNames new i s j
   pub same_names : (u r k : ℕ) → IsReached old u → EntryNames old u r k → name_at new u r ≡ name_at old u r
   pub name : IsName (name_at new i s)
   pub new_name : (r k : ℕ) → EntryNames old i r k → name_at old i r ≢ name_at new i s
-  pub bytes : (u o : ℕ) → IsReached old u → kind_of old u ≡ 1 → o < size_of old u →
+  pub bytes : (u o : ℕ) → IsReached old u → IsFile old u → o < size_of old u →
       byte new (root_of new u) o ≡ byte old (root_of old u) o
 
 -- ---- one name fewer
@@ -95,7 +95,7 @@ pub record CanMoveEntry (old : Image) (i s k r j : ℕ) : Type 0 where
   pub reached : IsReached old i
   pub entry : EntryNames old i s j
   pub target : IsReached old k
-  pub directory : kind_of old k ≡ 2
+  pub directory : IsDirectory old k
   pub in_size : r < entry_count old k
   pub apart : (i ≡ k) → (s ≡ r) → ⊥
   pub alone : (x l : ℕ) → inumber_at old k r ≢ 0 → EntryNames old (inumber_at old k r) x l → ⊥
@@ -109,10 +109,11 @@ pub record MovesEntry (old new : Image) (i s k r j : ℕ) : Type 0 where
   pub size : (u : ℕ) → u < inode_count old → size_of new u ≡ size_of old u
   pub emptied : inumber_at new i s ≡ 0
   pub entered : inumber_at new k r ≡ j
-  pub entry : (u x f : ℕ) → IsReached old u → kind_of old u ≡ 2 → x < entry_count old u → f < 32 →
-      ((i ≡ u) → (32 * s + 0 ≡ 32 * x + f) → ⊥) → ((k ≡ u) → (32 * r + 0 ≡ 32 * x + f) → ⊥) →
+  pub entry : (u x f : ℕ) → IsReached old u → IsDirectory old u → x < entry_count old u → f < entry_words →
+      ((i ≡ u) → (entry_words * s + 0 ≡ entry_words * x + f) → ⊥) →
+      ((k ≡ u) → (entry_words * r + 0 ≡ entry_words * x + f) → ⊥) →
       entry_word new u x f ≡ entry_word old u x f
-  pub bytes : (u o : ℕ) → IsReached old u → kind_of old u ≡ 1 → o < size_of old u →
+  pub bytes : (u o : ℕ) → IsReached old u → IsFile old u → o < size_of old u →
       byte new (root_of new u) o ≡ byte old (root_of old u) o
 
 -- another name in entry s of directory i, new to that directory, and all else as it was
@@ -122,14 +123,14 @@ pub record RespellsEntry (old new : Image) (i s j : ℕ) : Type 0 where
   pub trees : KeepsTrees old new
   pub kind : (u : ℕ) → u < inode_count old → kind_of new u ≡ kind_of old u
   pub size : (u : ℕ) → u < inode_count old → size_of new u ≡ size_of old u
-  pub inumber : (u x : ℕ) → IsReached old u → kind_of old u ≡ 2 → x < entry_count old u →
+  pub inumber : (u x : ℕ) → IsReached old u → IsDirectory old u → x < entry_count old u →
       inumber_at new u x ≡ inumber_at old u x
-  pub entry : (u x l f : ℕ) → IsReached old u → EntryNames old u x l → f < 32 → ((u ≡ i) → (x ≡ s) → ⊥) →
+  pub entry : (u x l f : ℕ) → IsReached old u → EntryNames old u x l → f < entry_words → ((u ≡ i) → (x ≡ s) → ⊥) →
       entry_word new u x f ≡ entry_word old u x f
   pub name : IsName (name_at new i s)
   pub changed : name_at old i s ≢ name_at new i s
   pub new_name : (x l : ℕ) → EntryNames old i x l → x ≢ s → name_at old i x ≢ name_at new i s
-  pub bytes : (u o : ℕ) → IsReached old u → kind_of old u ≡ 1 → o < size_of old u →
+  pub bytes : (u o : ℕ) → IsReached old u → IsFile old u → o < size_of old u →
       byte new (root_of new u) o ≡ byte old (root_of old u) o
 
 -- ---- a name carried to another directory
@@ -162,5 +163,5 @@ pub record CarriesEntry (old new : Image) (i s k r j : ℕ) : Type 0 where
       name_at new u x ≡ name_at old u x
   pub name : IsName (name_at new k r)
   pub new_name : (x l : ℕ) → EntryNames old k x l → name_at old k x ≢ name_at new k r
-  pub bytes : (u o : ℕ) → IsReached old u → kind_of old u ≡ 1 → o < size_of old u →
+  pub bytes : (u o : ℕ) → IsReached old u → IsFile old u → o < size_of old u →
       byte new (root_of new u) o ≡ byte old (root_of old u) o

@@ -1,9 +1,9 @@
 -- Which values may stand at a place of an image without a change of what it means.
 use Rattle.std.specs.Prelude.{◌≡◌, ℕ, suc, ◌+◌, ◌*◌, ◌/◌, ◌%◌, ◌<◌, ◌≤◌, length}
-use Rattle.bp_limits.specs.Limits.{super_size}
+use Rattle.bp_limits.specs.Limits.{entry_words, inode_words, super_size}
 use Rattle.bp_layout.specs.Words.{Image, word, byte_of}
 use Rattle.bp_layout.specs.Tree.{IsLivePointer}
-use Rattle.bp_layout.specs.Inode.{kind_of, root_of, size_of, StandsAt, ContentStandsAt}
+use Rattle.bp_layout.specs.Inode.{ContentStandsAt, IsDirectory, IsFile, StandsAt, root_of, size_of}
 use Rattle.bp_layout.specs.Directory.{EntryNames, entry_count}
 use Rattle.bp_layout.specs.Reached.{IsReached}
 
@@ -13,12 +13,12 @@ pub record IsHarmless (image : Image) (place value : ℕ) : Type 0 where
       StandsAt image t d k place → value ≡ word image place
   -- an inode's kind and size, and its root word where it has bytes
   pub inodes : (i f : ℕ) → IsReached image (suc i) → f < 3 → (f ≡ 1 → 0 < size_of image (suc i)) →
-      ContentStandsAt image 0 (8 * suc i + f) place → value ≡ word image place
-  pub inumbers : (i s : ℕ) → IsReached image i → kind_of image i ≡ 2 → s < entry_count image i →
-      ContentStandsAt image i (32 * s + 0) place → value ≡ word image place
-  pub names : (i s j f : ℕ) → IsReached image i → EntryNames image i s j → f < 32 →
-      ContentStandsAt image i (32 * s + f) place → value ≡ word image place
-  pub bytes : (i o : ℕ) → IsReached image i → kind_of image i ≡ 1 → o < size_of image i →
+      ContentStandsAt image 0 (inode_words * suc i + f) place → value ≡ word image place
+  pub inumbers : (i s : ℕ) → IsReached image i → IsDirectory image i → s < entry_count image i →
+      ContentStandsAt image i (entry_words * s + 0) place → value ≡ word image place
+  pub names : (i s j f : ℕ) → IsReached image i → EntryNames image i s j → f < entry_words →
+      ContentStandsAt image i (entry_words * s + f) place → value ≡ word image place
+  pub bytes : (i o : ℕ) → IsReached image i → IsFile image i → o < size_of image i →
       ContentStandsAt image i (o / 8) place → byte_of value (o % 8) ≡ byte_of (word image place) (o % 8)
 
 -- each word of the second image may stand in the first

@@ -3,7 +3,7 @@ use Rattle.std.specs.Prelude.{◌≡◌, ℕ, length}
 use Rattle.bp_limits.specs.Limits.{super_magic, super_blocks}
 use Rattle.bp_layout.specs.Words.{Image, word}
 use Rattle.bp_layout.specs.Tree.{HasBlock, IsSound, IsFull}
-use Rattle.bp_layout.specs.Inode.{kind_of, root_of, size_of}
+use Rattle.bp_layout.specs.Inode.{IsDirectory, root_of, size_of}
 use Rattle.bp_layout.specs.Reached.{IsReached}
 
 -- The image is as long, with its mark and its count. Each tree is sound, no block is in two, and none is missing in the
@@ -16,4 +16,4 @@ pub record KeepsTrees (old new : Image) : Type 0 where
   pub apart : (t u b : ℕ) → IsReached old t → IsReached old u →
       HasBlock new (root_of new t) (size_of new t) b → HasBlock new (root_of new u) (size_of new u) b → t ≡ u
   pub full_inode_file : IsFull new (root_of new 0) (size_of new 0)
-  pub full_directories : (i : ℕ) → IsReached old i → kind_of old i ≡ 2 → IsFull new (root_of new i) (size_of new i)
+  pub full_directories : (i : ℕ) → IsReached old i → IsDirectory old i → IsFull new (root_of new i) (size_of new i)

@@ -2,12 +2,12 @@
 use Rattle.std.specs.Prelude.{◌≡◌, ◌⊎◌, ℕ, ◌+◌, ◌*◌, ◌<◌, ◌≤◌}
 use Rattle.bp_layout.specs.Words.{Image}
 use Rattle.bp_layout.specs.Tree.{content_word, byte, HasBlock, IsSound, IsFull}
-use Rattle.bp_layout.specs.Inode.{kind_of}
+use Rattle.bp_layout.specs.Inode.{IsDirectory}
 use Rattle.bp_layout.specs.Reached.{IsLiveBlock}
 
 -- the inode file and directories are read by words, files by bytes
 abbrev pub IsReadByWords : Image → ℕ → Type 0
-IsReadByWords image t = (t ≡ 0) ⊎ (kind_of image t ≡ 2)
+IsReadByWords image t = (t ≡ 0) ⊎ IsDirectory image t
 
 -- Two trees hold the same below a size: each byte, and where they are read by words, the words that lie below it whole.
 pub record SameContent (ByWords : Type 0) (old new : Image) (size root other : ℕ) : Type 0 where

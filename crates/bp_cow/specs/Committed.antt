@@ -1,5 +1,6 @@
 -- The words after a commit.
 use Rattle.std.specs.Prelude.{◌≡◌, ◌≢◌, ◌⊎◌, ℕ, suc, ◌%◌, ◌<◌, ◌∷◌, length, Option, Some, unwrap_or}
+use Rattle.bp_limits.specs.Limits.{block_size, block_words, super_root}
 use Rattle.bp_layout.specs.Words.{Image, word, height_of}
 use Rattle.bp_layout.specs.Inode.{root_of}
 use Rattle.bp_shapes.specs.Trail.{Trail, word_on, block_on, IsSkeleton, LeadsTo}
@@ -20,12 +21,12 @@ changes_of old job t k =
 -- pointer. A word that is newly made under a null had the value 0.
 pub record IsCommitted (old new : Image) (Pointer turned : Trail → Type 0) (after : Trail → ℕ) : Type 0 where
   pub whole : length new ≡ length old
-  pub superblock : (place : ℕ) → place < 512 → place ≢ 2 → word new place ≡ word old place
+  pub superblock : (place : ℕ) → place < block_words → place ≢ super_root → word new place ≡ word old place
   pub skeleton : IsSkeleton new Pointer
   pub kept : (p : Trail) → Pointer p → (turned p → ⊥) → word_on new p ≡ word_on old p
-  pub bits : (p : Trail) → Pointer p → word_on new p % 4096 ≡ word_on old p % 4096
+  pub bits : (p : Trail) → Pointer p → word_on new p % block_size ≡ word_on old p % block_size
   pub fresh : (p : Trail) → Pointer p → turned p → (block_on new p ≢ 0) × (LeadsTo old Pointer (block_on new p) → ⊥)
-  pub words : (p : Trail) (slot : ℕ) → Pointer p → slot < 512 → (turned (slot ∷ p) → ⊥)
+  pub words : (p : Trail) (slot : ℕ) → Pointer p → slot < block_words → (turned (slot ∷ p) → ⊥)
       → word_on new (slot ∷ p) ≡ after (slot ∷ p)
   pub decide : (p : Trail) → turned p ⊎ (turned p → ⊥)
   pub pointers : (p : Trail) → turned p → Pointer p

@@ -16,7 +16,7 @@ use Rattle.bp_cow.specs.declared.touched.Touched.{Touched}
 pub record IsFeasible (old : Image) (bound : ℕ → ℕ) (job : Job) (from place : ℕ) (free : ℕ → Bool) : Type 0 where
   pub some : 0 < ways job
   pub some_blocks : 0 < block_count old
-  pub whole : length old ≡ 512 * block_count old
+  pub whole : length old ≡ block_words * block_count old
   pub forest : IsForest old bound
   pub exact : IsExactSet old (IsTreePointer old bound) free
   -- each way begins with the cover, and each of its fronts is a pointer
@@ -24,9 +24,9 @@ pub record IsFeasible (old : Image) (bound : ℕ → ℕ) (job : Job) (from plac
   pub short : (i : ℕ) → i < ways job → length (job.way i) ≤ 11
   pub cover : (i : ℕ) → i < ways job → front job i from ≡ front job 0 from
   pub pointers : (i d : ℕ) → i < ways job → d ≤ length (job.way i) → IsTreePointer old bound (front job i d)
-  pub slots : (i d : ℕ) → i < ways job → d < length (job.way i) → slice_index (job.way i) d < 512
+  pub slots : (i d : ℕ) → i < ways job → d < length (job.way i) → slice_index (job.way i) d < block_words
   -- the words are no pointers, and the run has none
-  pub word_slots : (i : ℕ) → i < job.words → job.slot i < 512
+  pub word_slots : (i : ℕ) → i < job.words → job.slot i < block_words
   pub contents : (i : ℕ) → i < job.words → IsTreePointer old bound (word_trail job i) → ⊥
   pub plain : (j slot old_word : ℕ) → j < job.leaves → IsTreePointer old bound (slot ∷ end_of job j)
       → job.patch j slot old_word ≡ old_word

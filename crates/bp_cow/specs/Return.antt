@@ -1,6 +1,7 @@
 -- The blocks that a commit left are given back.
 use Rattle.std.specs.Prelude.{◌≡◌, ◌≢◌, ◌⊎◌, ℕ, ◌<◌, ◌≤◌, length, Bool, true, false}
 use Rattle.bp_free.specs.Set.{Set, has}
+use Rattle.bp_limits.specs.Limits.{block_words}
 use Rattle.bp_layout.specs.Words.{Image, block_count, slot_word}
 use Rattle.bp_shapes.specs.Trail.{Trail, block_on, LeadsTo}
 use Rattle.bp_shapes.specs.Forest.{IsTreePointer}
@@ -18,7 +19,7 @@ pub record IsReturned (old : Image) (Pointer anew : Trail → Type 0) (before af
 pub record IsLeft (plan : Plan) (from : ℕ) (before : ℕ → Bool) (now : Image) : Type 0 where
   pub can : CanMake plan from
   pub whole : length now ≡ length plan.old
-  pub intact : (p : Trail) (slot : ℕ) → IsTreePointer plan.old plan.bound p → from ≤ length p → slot < 512
+  pub intact : (p : Trail) (slot : ℕ) → IsTreePointer plan.old plan.bound p → from ≤ length p → slot < block_words
       → slot_word now (block_on plan.old p) slot ≡ slot_word plan.old (block_on plan.old p) slot
   pub used : (b : ℕ) → LeadsTo plan.old (IsTreePointer plan.old plan.bound) b → before b ≡ false
 

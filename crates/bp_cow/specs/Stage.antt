@@ -1,5 +1,6 @@
 -- What a copy on write has made so far: the image as it would be if its last store were done now.
 use Rattle.std.specs.Prelude.{◌≡◌, ◌≢◌, ◌⊎◌, ℕ, ◌%◌, ◌<◌, ◌≤◌, ◌∷◌, length, Bool, true, false, Option, None, unwrap_or, slice_set}
+use Rattle.bp_limits.specs.Limits.{block_size, block_words, super_root}
 use Rattle.bp_layout.specs.Words.{Image, word, block_count}
 use Rattle.bp_shapes.specs.Trail.{Trail, word_on, block_on, place_on, IsSkeleton, IsPlaced, LeadsTo}
 
@@ -9,15 +10,15 @@ pub record IsStage (old now : Image) (Pointer anew : Trail → Type 0) (value : 
     (free : ℕ → Bool) : Type 0 where
   pub whole : length now ≡ length old
   pub skeleton : IsSkeleton now Pointer
-  pub superblock : (place : ℕ) → place < 512 → place ≢ 2 → word now place ≡ word old place
+  pub superblock : (place : ℕ) → place < block_words → place ≢ super_root → word now place ≡ word old place
   -- a pointer that was not turned
   pub kept : (p : Trail) → Pointer p → (anew p → ⊥) → word_on now p ≡ word_on old p
   -- the other words of a copied block, and of one that was not copied
-  pub words : (p : Trail) (slot : ℕ) → Pointer p → anew p → slot < 512 → (anew (slot ∷ p) → ⊥)
+  pub words : (p : Trail) (slot : ℕ) → Pointer p → anew p → slot < block_words → (anew (slot ∷ p) → ⊥)
       → word_on now (slot ∷ p) ≡ unwrap_or (value (slot ∷ p)) (laid (slot ∷ p))
-  pub still : (p : Trail) (slot : ℕ) → Pointer p → (anew p → ⊥) → slot < 512 → (anew (slot ∷ p) → ⊥)
+  pub still : (p : Trail) (slot : ℕ) → Pointer p → (anew p → ⊥) → slot < block_words → (anew (slot ∷ p) → ⊥)
       → word_on now (slot ∷ p) ≡ word_on old (slot ∷ p)
-  pub bits : (p : Trail) → Pointer p → word_on now p % 4096 ≡ word_on old p % 4096
+  pub bits : (p : Trail) → Pointer p → word_on now p % block_size ≡ word_on old p % block_size
   pub fresh : (p : Trail) → Pointer p → anew p → (block_on now p ≢ 0) × (LeadsTo old Pointer (block_on now p) → ⊥)
   pub unvalued : (p : Trail) → Pointer p → value p ≡ None
   pub early : (p : Trail) (slot : ℕ) → Pointer p → (anew p → ⊥) → value (slot ∷ p) ≡ None

@@ -19,11 +19,11 @@ ghost use Rattle.std.specs.Prelude.{
   None,
   Some,
 };
-ghost use Rattle.bp_limits.specs.Limits.{block_words, super_root};
+ghost use Rattle.bp_limits.specs.Limits.{block_words, inode_words, super_root};
 ghost use Rattle.bp_changes.specs.Commits.{Commits};
 ghost use Rattle.bp_shapes.specs.Forest.{IsForest, IsTreePointer, tree_trail};
 ghost use Rattle.bp_layout.specs.Free.{AreFreeBlocks};
-ghost use Rattle.bp_layout.specs.Inode.{kind_of, root_of, size_of};
+ghost use Rattle.bp_layout.specs.Inode.{IsDirectory, root_of, size_of};
 ghost use Rattle.bp_layout.specs.Members.{Has};
 ghost use Rattle.bp_layout.specs.Reached.{IsReached};
 ghost use Rattle.bp_shapes.specs.Trail.{Trail, word_on, trail_of, LeadsTo};
@@ -112,14 +112,14 @@ pub fn commits_are_told_on_trees(old: &[u64], new: &[u64], touched: &Touched<'_>
         IsCommittedBy bound touched.now cover old.now new.now →
         ((t : ℕ) → IsReached old.now t → size_of old.now t ≤ bound t) →
         ((t : ℕ) → IsReached old.now t → size_of new.now t ≤ bound t) → IsFull old.now (root_of old.now 0) (bound 0) →
-        ((i : ℕ) → IsReached old.now i → kind_of old.now i ≡ 2 → IsFull old.now (root_of old.now i) (bound i)) →
+        ((i : ℕ) → IsReached old.now i → IsDirectory old.now i → IsFull old.now (root_of old.now i) (bound i)) →
         Commits old.now new.now (changes_of old.now (job_of touched.now)) }
     ensures sizes { (bound : ℕ → ℕ) (cover i : ℕ) → IsForest old.now bound →
         IsCommittedBy bound touched.now cover old.now new.now →
         IsReached old.now (suc i) → size_of new.now (suc i) ≡
         after_commit old.now (job_of touched.now)
         (tree_trail (height_of (word old.now super_root)) 0
-        (suc (height_of (word old.now super_root))) (8 * suc i + 2)) }
+        (suc (height_of (word old.now super_root))) (inode_words * suc i + 2)) }
     ensures blocks { (bound : ℕ → ℕ) (cover b : ℕ) → IsForest old.now bound →
         IsCommittedBy bound touched.now cover old.now new.now →
         LeadsTo new.now (IsTreePointer old.now bound) b →

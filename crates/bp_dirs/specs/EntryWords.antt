@@ -1,5 +1,6 @@
 -- Entries and names as the words in which they stand.
 use Rattle.std.specs.Prelude.{◌≡◌, ℕ, ◌+◌, ◌-◌, ◌*◌, ◌/◌, ◌%◌, ◌<◌, ◌≤◌, List, length, slice_index, take, drop}
+use Rattle.bp_limits.specs.Limits.{entry_size, entry_words, block_entries}
 use Rattle.bp_layout.specs.Words.{Image, height_of}
 use Rattle.bp_layout.specs.Tree.{node, IsSound}
 use Rattle.bp_layout.specs.Directory.{Name, word_in}
@@ -8,23 +9,23 @@ use Rattle.bp_dirs.specs.declared.leaf.Leaf.{Leaf}
 
 -- all words of the entry in a slot
 pub record HasWords (image : Image) (root slot : ℕ) (words : List ℕ) : Type 0 where
-  pub long : length words ≡ 32
-  pub each : (field : ℕ) → field < 32 → slice_index words field ≡ word_in image root slot field
+  pub long : length words ≡ entry_words
+  pub each : (field : ℕ) → field < entry_words → slice_index words field ≡ word_in image root slot field
 
 -- all words of so many entries in a row, the first of them in this slot
 pub record IsRow (image : Image) (root first count : ℕ) (words : List ℕ) : Type 0 where
-  pub long : length words ≡ 32 * count
-  pub each : (index field : ℕ) → index < count → field < 32 → slice_index words (32 * index + field)
+  pub long : length words ≡ entry_words * count
+  pub each : (index field : ℕ) → index < count → field < entry_words → slice_index words (entry_words * index + field)
       ≡ word_in image root (first + index) field
 
 -- slots in a row, from the first of a leaf on, and the block with their entries
 pub record IsLeaf (image : Image) (leaf : Leaf) : Type 0 where
   pub sound : IsSound image leaf.tree.root leaf.tree.size
-  pub starts : leaf.first % 16 ≡ 0
+  pub starts : leaf.first % block_entries ≡ 0
   pub some : 0 < leaf.count
-  pub few : leaf.count ≤ 16
-  pub live : leaf.first + leaf.count ≤ leaf.tree.size / 256
-  pub block : leaf.block ≡ node image leaf.tree.root (height_of leaf.tree.root) (leaf.first / 16)
+  pub few : leaf.count ≤ block_entries
+  pub live : leaf.first + leaf.count ≤ leaf.tree.size / entry_size
+  pub block : leaf.block ≡ node image leaf.tree.root (height_of leaf.tree.root) (leaf.first / block_entries)
 
 -- the eight bytes of a name that stand in a word, fewer in the last
 abbrev pub part_word : Name → ℕ → ℕ

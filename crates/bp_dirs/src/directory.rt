@@ -4,7 +4,7 @@ ghost use Rattle.std.specs.Prelude.{◌≡◌, ◌≢◌, ◌+◌, ◌*◌, ◌/
 ghost use Rattle.bp_layout.specs.Words.{height_of};
 ghost use Rattle.bp_layout.specs.Tree.{node, IsSound, IsFull};
 ghost use Rattle.bp_layout.specs.Directory.{inumber_in, empty_slot_in, slot_named_in};
-ghost use Rattle.bp_limits.specs.Limits.{max_name};
+ghost use Rattle.bp_limits.specs.Limits.{block_words, entry_size, entry_words, max_name};
 ghost use Rattle.pm_region.specs.Memory.{current_words};
 ghost use Rattle.bp_dirs.specs.Names.{name_count};
 ghost use Rattle.bp_dirs.specs.Spots.{FreeIs, found_slot, named_slot};
@@ -12,16 +12,17 @@ ghost use Rattle.bp_dirs.specs.Spots.{FreeIs, found_slot, named_slot};
 use crate::leaf::{leaf_count, leaf_from};
 use crate::name_words::last_word;
 use crate::spot::{Found, Spot};
+use bp_limits::{BLOCK_ENTRIES, ENTRY_WORDS};
 use bp_tree::{Tree, content_place, content_word};
 use pm_region::Region;
 
 /// The number of the inode that the entry in a slot names, 0 where the entry is empty.
 pub fn inumber<R: Region>(region: &R, tree: Tree, slot: u64) -> u64
     requires sound { IsSound (current_words (R.memory region.now)) tree.root tree.size }
-    requires live { slot < tree.size / 256 }
+    requires live { slot < tree.size / entry_size }
     ensures { result ≡ inumber_in (current_words (R.memory region.now)) tree.root slot }
 {
-    content_word(region, tree, 32 * slot)
+    content_word(region, tree, ENTRY_WORDS as u64 * slot)
 }
 
 /// The least slot whose entry names an inode by this name, None where no entry does.
@@ -47,7 +48,7 @@ pub fn find_entry<R: Region>(region: &R, tree: Tree, name: &[u8]) -> Option<Foun
 {
     let last = last_word(name);
     for number in 0..leaf_count(tree) {
-        let leaf = leaf_from(region, tree, 16 * number);
+        let leaf = leaf_from(region, tree, BLOCK_ENTRIES * number);
         if let Some(found) = leaf.find(region, name, last) {
             return Some(found);
         }
@@ -61,7 +62,7 @@ pub fn free_slot<R: Region>(region: &R, tree: Tree) -> Option<u64>
     ensures { result ≡ empty_slot_in (current_words (R.memory region.now)) tree.root tree.size }
 {
     for number in 0..leaf_count(tree) {
-        let leaf = leaf_from(region, tree, 16 * number);
+        let leaf = leaf_from(region, tree, BLOCK_ENTRIES * number);
         if let Some(slot) = leaf.first_empty(region) {
             return Some(slot);
         }
@@ -80,7 +81,7 @@ pub fn find_or_free<R: Region>(region: &R, tree: Tree, name: &[u8]) -> Spot
     let last = last_word(name);
     let mut empty = None;
     for number in 0..leaf_count(tree) {
-        let leaf = leaf_from(region, tree, 16 * number);
+        let leaf = leaf_from(region, tree, BLOCK_ENTRIES * number);
         if let Some(found) = leaf.find(region, name, last) {
             return Spot::Named(found.slot);
         }
@@ -96,7 +97,7 @@ pub fn count<R: Region>(region: &R, tree: Tree) -> u64
 {
     let mut names = 0;
     for number in 0..leaf_count(tree) {
-        names += leaf_from(region, tree, 16 * number).count_names(region);
+        names += leaf_from(region, tree, BLOCK_ENTRIES * number).count_names(region);
     }
     names
 }
@@ -107,7 +108,7 @@ pub fn is_empty<R: Region>(region: &R, tree: Tree) -> bool
     ensures { IsTrue result ↔ (name_count (current_words (R.memory region.now)) tree.root tree.size ≡ 0) }
 {
     for number in 0..leaf_count(tree) {
-        if leaf_from(region, tree, 16 * number).count_names(region) != 0 {
+        if leaf_from(region, tree, BLOCK_ENTRIES * number).count_names(region) != 0 {
             return false;
         }
     }
@@ -118,13 +119,13 @@ pub fn is_empty<R: Region>(region: &R, tree: Tree) -> bool
 pub fn entry_place<R: Region>(region: &R, tree: Tree, slot: u64, field: u32) -> u32
     requires sound { IsSound (current_words (R.memory region.now)) tree.root tree.size }
     requires full { IsFull (current_words (R.memory region.now)) tree.root tree.size }
-    requires live { slot < tree.size / 256 }
-    requires field { field < 32 }
-    ensures place { result ≡ 512 * node (current_words (R.memory region.now)) tree.root (height_of tree.root)
-        ((32 * slot + field) / 512) + (32 * slot + field) % 512 }
+    requires live { slot < tree.size / entry_size }
+    requires field { field < entry_words }
+    ensures place { result ≡ block_words * node (current_words (R.memory region.now)) tree.root (height_of tree.root)
+        ((entry_words * slot + field) / block_words) + (entry_words * slot + field) % block_words }
     ensures present { node (current_words (R.memory region.now)) tree.root (height_of tree.root)
-        ((32 * slot + field) / 512) ≢ 0 }
+        ((entry_words * slot + field) / block_words) ≢ 0 }
     ensures in_range { result < length (current_words (R.memory region.now)) }
 {
-    content_place(region, tree, 32 * slot + field as u64)
+    content_place(region, tree, ENTRY_WORDS as u64 * slot + field as u64)
 }

@@ -4,7 +4,7 @@ ghost use Rattle.std.specs.Prelude.{◌≡◌, ℕ, ◌≤◌, length};
 ghost use Rattle.bp_layout.specs.Words.{Image};
 ghost use Rattle.bp_layout.specs.Directory.{is_named_in};
 ghost use Rattle.bp_dirs.specs.EntryWords.{HasWords, last_part, part_word};
-ghost use Rattle.bp_limits.specs.Limits.{max_name};
+ghost use Rattle.bp_limits.specs.Limits.{entry_words, max_name};
 
 use crate::name_words::{last_part, whole_word};
 use pm_words::low_bytes;
@@ -12,7 +12,7 @@ use pm_words::low_bytes;
 /// Whether the entry with these words names an inode by this name, whose last word is `last`. Where names are many they begin
 /// alike, so the last words tell most of them apart.
 pub(crate) fn is_named(words: &[u64], name: &[u8], last: u64) -> bool
-    requires long { length words.now ≡ 32 }
+    requires long { length words.now ≡ entry_words }
     requires short { length name.now ≤ max_name }
     requires last { last ≡ part_word name.now (last_part name.now) }
     ensures { (image : Image) (root slot : ℕ) → HasWords image root slot words.now

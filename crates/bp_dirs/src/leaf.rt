@@ -7,12 +7,16 @@ ghost use Rattle.bp_layout.specs.Directory.{inumber_in, is_named_in};
 ghost use Rattle.pm_region.specs.Memory.{current_words};
 ghost use Rattle.bp_dirs.specs.EntryWords.{IsLeaf, IsRow, last_part, part_word};
 ghost use Rattle.bp_dirs.specs.Spots.{found_slot};
-ghost use Rattle.bp_limits.specs.Limits.{max_name};
+ghost use Rattle.bp_limits.specs.Limits.{block_entries, entry_size, max_name};
 
 use crate::entry_words::is_named;
 use crate::spot::Found;
+use bp_limits::{BLOCK_ENTRIES, BLOCK_WORDS, ENTRY_SIZE, ENTRY_WORDS};
 use bp_tree::{Tree, leaf_block};
 use pm_region::Region;
+
+/// The words of an entry, as a length.
+const ENTRY: usize = ENTRY_WORDS as usize;
 
 /// Slots in a row whose entries share a block.
 #[derive(Clone, Copy)]
@@ -29,27 +33,27 @@ pub(crate) struct Leaf {
 
 /// How many leaves have the slots of a directory.
 pub(crate) fn leaf_count(tree: Tree) -> u64
-    ensures most { (leaf : ℕ) → leaf < result → 16 * leaf < tree.size / 256 }
-    ensures all { tree.size / 256 ≤ 16 * result }
+    ensures most { (leaf : ℕ) → leaf < result → block_entries * leaf < tree.size / entry_size }
+    ensures all { tree.size / entry_size ≤ block_entries * result }
 {
-    (tree.size / 256).div_ceil(16)
+    (tree.size / ENTRY_SIZE).div_ceil(BLOCK_ENTRIES)
 }
 
 /// The leaf that begins with a slot.
 pub(crate) fn leaf_from<R: Region>(region: &R, tree: Tree, first: u64) -> Leaf
     requires sound { IsSound (current_words (R.memory region.now)) tree.root tree.size }
-    requires starts { first % 16 ≡ 0 }
-    requires live { first < tree.size / 256 }
+    requires starts { first % block_entries ≡ 0 }
+    requires live { first < tree.size / entry_size }
     ensures leaf { IsLeaf (current_words (R.memory region.now)) result }
     ensures tree { result.tree ≡ tree }
     ensures first { result.first ≡ first }
-    ensures count { result.count ≡ min 16 (tree.size / 256 - first) }
+    ensures count { result.count ≡ min block_entries (tree.size / entry_size - first) }
 {
     Leaf {
         tree,
         first,
-        count: (tree.size / 256 - first).min(16),
-        block: leaf_block(region, tree, first / 16),
+        count: (tree.size / ENTRY_SIZE - first).min(BLOCK_ENTRIES),
+        block: leaf_block(region, tree, first / BLOCK_ENTRIES),
     }
 }
 
@@ -63,7 +67,10 @@ impl Leaf {
     {
         // Words are counted in 32 bits, so that the place of one fits.
         let _words = region.words();
-        region.load_words((512 * self.block) as u32, 32 * self.count as u32)
+        region.load_words(
+            BLOCK_WORDS * self.block as u32,
+            ENTRY_WORDS * self.count as u32,
+        )
     }
 
     /// The first of the entries that names an inode by this name, whose last word is `last`.
@@ -82,8 +89,8 @@ impl Leaf {
         }
         let words = self.words(region);
         for index in 0..self.count {
-            let at = 32 * index as usize;
-            if is_named(&words[at..at + 32], name, last) {
+            let at = ENTRY * index as usize;
+            if is_named(&words[at..at + ENTRY], name, last) {
                 return Some(Found {
                     slot: self.first + index,
                     inumber: words[at],
@@ -104,7 +111,7 @@ impl Leaf {
         }
         let words = self.words(region);
         for index in 0..self.count {
-            if words[32 * index as usize] == 0 {
+            if words[ENTRY * index as usize] == 0 {
                 return Some(self.first + index);
             }
         }
@@ -139,7 +146,7 @@ impl Leaf {
         let words = self.words(region);
         let mut names = 0;
         for index in 0..self.count {
-            if words[32 * index as usize] != 0 {
+            if words[ENTRY * index as usize] != 0 {
                 names += 1;
             }
         }

@@ -1,8 +1,8 @@
 //! Stores of a name.
 
-ghost use Rattle.std.specs.Prelude.{◌≡◌, ◌+◌, ◌≤◌, length};
+ghost use Rattle.std.specs.Prelude.{◌+◌, ◌≤◌, length};
 ghost use Rattle.bp_dirs.specs.Written.{HasNameAt};
-ghost use Rattle.bp_limits.specs.Limits.{max_name};
+ghost use Rattle.bp_limits.specs.Limits.{entry_words, max_name};
 ghost use Rattle.bp_tree.specs.Within.{IsWithin};
 ghost use Rattle.pm_epochs.specs.May.{AnyAt};
 ghost use Rattle.pm_region.specs.Memory.{current_words, room_in};
@@ -13,7 +13,7 @@ use pm_region::Region;
 
 /// Writes a name into the entry at a word of the region: its length in bytes, and its bytes.
 pub fn put_name<R: Region>(region: &mut R, place: u32, name: &[u8])
-    requires in_range { place + 32 ≤ length (R.memory region.old).base }
+    requires in_range { place + entry_words ≤ length (R.memory region.old).base }
     requires short { length name.now ≤ max_name }
     requires room { 31 ≤ room_in (R.memory region.old) }
     ensures stores { AddsMay (AnyAt (IsWithin (place + 1) 31)) 0 31 (R.memory region.old) (R.memory region.new) }

@@ -1,5 +1,6 @@
 -- What is stored where an inode is new.
 use Rattle.std.specs.Prelude.{◌≡◌, ℕ, ◌+◌, ◌*◌}
+use Rattle.bp_limits.specs.Limits.{inode_words}
 use Rattle.bp_layout.specs.Inode.{ContentStandsAt}
 use Rattle.bp_layout.specs.Words.{Image, word}
 use Rattle.bp_tree.specs.Within.{IsWithin}
@@ -17,6 +18,6 @@ pub record HasInodeAt (image : Image) (place kind : ℕ) : Type 0 where
 -- has no bytes.
 pub record FillsInode (old new : Memory) (i kind : ℕ) : Type 0 where
   pub place : ℕ
-  pub stands : ContentStandsAt (current_words old) 0 (8 * i) place
+  pub stands : ContentStandsAt (current_words old) 0 (inode_words * i) place
   pub stores : AddsMay (AnyAt (IsWithin place 3)) 0 3 old new
   pub inode : HasInodeAt (current_words new) place kind

@@ -4,6 +4,7 @@
 #![tactic(auto)]
 
 ghost use Rattle.std.specs.Prelude.{◌≡◌, ◌+◌, ◌*◌, ◌<◌, ◌≤◌, length};
+ghost use Rattle.bp_limits.specs.Limits.{inode_words};
 ghost use Rattle.bp_layout.specs.Tree.{IsFull, IsSound};
 ghost use Rattle.bp_layout.specs.Inode.{ContentStandsAt, inode_count, kind_of, root_of, size_of};
 ghost use Rattle.bp_layout.specs.Fields.{kind_word};
@@ -16,6 +17,7 @@ ghost use Rattle.pm_region.specs.Memory.{current_words, room_in};
 ghost use Rattle.pm_region.specs.Safe.{AddsMay};
 
 use bp_layout::{Inode, Kind};
+use bp_limits::{BLOCK_INODES, BLOCK_WORDS, INODE_WORDS, SUPER_ROOT, SUPER_SIZE};
 use bp_tree::{Tree, content_place, leaf_block};
 use pm_region::Region;
 
@@ -26,8 +28,8 @@ pub fn inode_file<R: Region>(region: &R) -> Tree
     ensures size { result.size ≡ size_of (current_words (R.memory region.now)) 0 }
 {
     Tree {
-        root: region.load(2),
-        size: region.load(3),
+        root: region.load(SUPER_ROOT),
+        size: region.load(SUPER_SIZE),
     }
 }
 
@@ -44,11 +46,10 @@ pub fn get<R: Region>(region: &R, i: u32) -> Inode
     ensures size { result.size ≡ size_of (current_words (R.memory region.now)) i }
 {
     let inodes = inode_file(region);
-    let i = i as u64;
-    let block = leaf_block(region, inodes, i / 64);
+    let block = leaf_block(region, inodes, (i / BLOCK_INODES) as u64);
     // An inode that is there stands in a block, and words are counted in 32 bits, so that the place of one fits.
     let _words = region.words();
-    let first = (512 * block + 8 * (i % 64)) as u32;
+    let first = BLOCK_WORDS * block as u32 + INODE_WORDS * (i % BLOCK_INODES);
     let words = region.load_words(first, 3);
     Inode::read(&[words[0], words[1], words[2]])
 }
@@ -60,11 +61,15 @@ pub fn place<R: Region>(region: &R, i: u32, field: u32) -> u32
     requires full { let words = current_words (R.memory region.now) in
         IsFull words (root_of words 0) (size_of words 0) }
     requires there { i < inode_count (current_words (R.memory region.now)) }
-    requires field { field < 8 }
-    ensures place { ContentStandsAt (current_words (R.memory region.now)) 0 (8 * i + field) result }
+    requires field { field < inode_words }
+    ensures place { ContentStandsAt (current_words (R.memory region.now)) 0 (inode_words * i + field) result }
     ensures in_range { result < length (current_words (R.memory region.now)) }
 {
-    content_place(region, inode_file(region), 8 * i as u64 + field as u64)
+    content_place(
+        region,
+        inode_file(region),
+        INODE_WORDS as u64 * i as u64 + field as u64,
+    )
 }
 
 /// Makes the inode at a word of the region a file or a directory without bytes.

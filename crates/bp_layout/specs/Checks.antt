@@ -1,10 +1,10 @@
 -- Which check of a mount fails at which place. Liveness is followed only through what passes: pointers in form and in
 -- range, and trees whose height holds their size.
-use Rattle.std.specs.Prelude.{◌≡◌, ◌≢◌, ◌⊎◌, ℕ, zero, suc, ◌+◌, ◌*◌, ◌/◌, ◌%◌, ◌<◌, ◌≤◌, length}
-use Rattle.bp_layout.specs.Words.{Image, word, block_count, height_of}
-use Rattle.bp_limits.specs.Limits.{magic, max_height, min_blocks, max_blocks}
+use Rattle.std.specs.Prelude.{◌≡◌, ◌≢◌, ◌⊎◌, ℕ, zero, suc, ◌+◌, ◌*◌, ◌/◌, ◌%◌, ◌<◌, ◌≤◌}
+use Rattle.bp_layout.specs.Words.{Image, block_count, height_of}
+use Rattle.bp_limits.specs.Limits.{block_size, block_words, directory_kind, entry_size, entry_words, file_kind, inode_words, max_height, root_inumber, super_root, super_size}
 use Rattle.bp_layout.specs.Tree.{word_at, node, place_of, covered, IsLivePointer}
-use Rattle.bp_layout.specs.Inode.{kind_of, root_of, size_of, inode_count}
+use Rattle.bp_layout.specs.Inode.{IsDirectory, inode_count, kind_of, root_of, size_of}
 use Rattle.bp_layout.specs.Directory.{EntryNames, IsName, name_at}
 use Rattle.bp_layout.specs.declared.check.Check.{Check}
 use Rattle.bp_layout.specs.declared.check.Check.TheVariants.{Height, PointerBits, Range, BlockTwice, Hole, InodeFileSize, Inumber, InodeTwice, Kind, DirectorySize, Capacity, NameForm, NameTwice}
@@ -27,34 +27,35 @@ number_of NameTwice = 13
 
 -- the pointer at a depth and number is in form and in range
 abbrev pub Passes : Image → ℕ → ℕ → ℕ → Type 0
-Passes image root zero index = (root % 4096 ≤ max_height) × (node image root zero index < block_count image)
+Passes image root zero index = (root % block_size ≤ max_height) × (node image root zero index < block_count image)
 Passes image root (suc depth) index =
-    (word_at image root (suc depth) index % 4096 ≡ 0) × (node image root (suc depth) index < block_count image)
+    (word_at image root (suc depth) index % block_size ≡ 0) × (node image root (suc depth) index < block_count image)
 
 -- each pointer above passes, none is null, and the height holds the size
 abbrev pub IsFollowed : Image → ℕ → ℕ → ℕ → ℕ → Type 0
 IsFollowed image root size zero index = Unit {0}
 IsFollowed image root size (suc depth) index =
-    (size ≤ covered (suc (height_of root))) × IsFollowed image root size depth (index / 512)
-    × Passes image root depth (index / 512) × (node image root depth (index / 512) ≢ 0)
+    (size ≤ covered (suc (height_of root))) × IsFollowed image root size depth (index / block_words)
+    × Passes image root depth (index / block_words) × (node image root depth (index / block_words) ≢ 0)
 
 -- the place of the root word of a tree, and of its size
 abbrev pub inode_place : Image → ℕ → ℕ → ℕ
-inode_place image i f = place_of image 2 (root_of image 0) (suc (height_of (root_of image 0))) (8 * i + f)
+inode_place image i f =
+    place_of image super_root (root_of image 0) (suc (height_of (root_of image 0))) (inode_words * i + f)
 
 abbrev pub root_place : Image → ℕ → ℕ
-root_place image zero = 2
+root_place image zero = super_root
 root_place image (suc i) = inode_place image (suc i) 1
 
 abbrev pub size_place : Image → ℕ → ℕ
-size_place image zero = 3
+size_place image zero = super_size
 size_place image (suc i) = inode_place image (suc i) 2
 
 abbrev pub pointer_place : Image → ℕ → ℕ → ℕ → ℕ
 pointer_place image t depth index = place_of image (root_place image t) (root_of image t) depth index
 
 abbrev pub entry_place : Image → ℕ → ℕ → ℕ → ℕ
-entry_place image i slot f = pointer_place image i (suc (height_of (root_of image i))) (32 * slot + f)
+entry_place image i slot f = pointer_place image i (suc (height_of (root_of image i))) (entry_words * slot + f)
 
 -- the content word of a tree is followed
 abbrev pub ContentFollowed : Image → ℕ → ℕ → Type 0
@@ -64,10 +65,10 @@ ContentFollowed image t index =
 -- the trees that are followed
 pub data IsFound (image : Image) : ℕ → Type 0 where
   inode_file : IsFound image 0
-  root_directory : ContentFollowed image 0 8 → IsFound image 1
-  named : {i j : ℕ} → (slot : ℕ) → IsFound image i → EntryNames image i slot j → ContentFollowed image i (32 * slot)
-      → j < inode_count image → ContentFollowed image 0 (8 * j) →
-      IsFound image j
+  root_directory : ContentFollowed image 0 inode_words → IsFound image root_inumber
+  named : {i j : ℕ} → (slot : ℕ) → IsFound image i → EntryNames image i slot j
+      → ContentFollowed image i (entry_words * slot) → j < inode_count image
+      → ContentFollowed image 0 (inode_words * j) → IsFound image j
 
 -- a live pointer that is followed, and where it stands
 pub record IsPointer (image : Image) (t depth index place : ℕ) : Type 0 where
@@ -80,30 +81,32 @@ pub record IsPointer (image : Image) (t depth index place : ℕ) : Type 0 where
 pub record IsEntry (image : Image) (i slot j place : ℕ) : Type 0 where
   pub found : IsFound image i
   pub names : EntryNames image i slot j
-  pub followed : ContentFollowed image i (32 * slot)
+  pub followed : ContentFollowed image i (entry_words * slot)
   pub at : entry_place image i slot 0 ≡ place
 
 -- this check fails at this place
 pub data Fails (image : Image) : Check → ℕ → Type 0 where
   height : {t p : ℕ} → IsPointer image t 0 0 p → max_height < height_of (root_of image t) → Fails image Height p
   root_bits : {t p : ℕ} → IsPointer image t 0 0 p → root_of image t / 8 % 512 ≢ 0 → Fails image PointerBits p
-  pointer_bits : {t d k p : ℕ} → IsPointer image t (suc d) k p → word_at image (root_of image t) (suc d) k % 4096 ≢ 0
-      → Fails image PointerBits p
+  pointer_bits : {t d k p : ℕ} → IsPointer image t (suc d) k p
+      → word_at image (root_of image t) (suc d) k % block_size ≢ 0 → Fails image PointerBits p
   range : {t d k p : ℕ} → IsPointer image t d k p → block_count image ≤ node image (root_of image t) d k
       → Fails image Range p
   twice : {t d k p u e l q : ℕ} → IsPointer image t d k p → IsPointer image u e l q → p ≢ q →
       node image (root_of image t) d k ≢ 0 → node image (root_of image t) d k ≡ node image (root_of image u) e l
       → Fails image BlockTwice p
-  hole : {t d k p : ℕ} → IsPointer image t d k p → (t ≡ 0) ⊎ (kind_of image t ≡ 2)
+  hole : {t d k p : ℕ} → IsPointer image t d k p → (t ≡ 0) ⊎ IsDirectory image t
       → node image (root_of image t) d k ≡ 0 → Fails image Hole p
-  inode_file_size : (size_of image 0 % 4096 ≢ 0) ⊎ (size_of image 0 < 4096) → Fails image InodeFileSize 3
+  inode_file_size : (size_of image 0 % block_size ≢ 0) ⊎ (size_of image 0 < block_size)
+      → Fails image InodeFileSize super_size
   inumber : {i s j p : ℕ} → IsEntry image i s j p → inode_count image ≤ j → Fails image Inumber p
-  root_named : {i s p : ℕ} → IsEntry image i s 1 p → Fails image InodeTwice p
+  root_named : {i s p : ℕ} → IsEntry image i s root_inumber p → Fails image InodeTwice p
   inode_twice : {i s j p k r q : ℕ} → IsEntry image i s j p → IsEntry image k r j q → p ≢ q → Fails image InodeTwice p
-  kind : {i p : ℕ} → IsFound image (suc i) → kind_of image (suc i) ≢ 1 → kind_of image (suc i) ≢ 2
+  kind : {i p : ℕ} → IsFound image (suc i) → kind_of image (suc i) ≢ file_kind → kind_of image (suc i) ≢ directory_kind
       → inode_place image (suc i) 0 ≡ p → Fails image Kind p
-  root_kind : {p : ℕ} → IsFound image 1 → kind_of image 1 ≢ 2 → inode_place image 1 0 ≡ p → Fails image Kind p
-  directory_size : {i p : ℕ} → IsFound image i → kind_of image i ≡ 2 → size_of image i % 256 ≢ 0
+  root_kind : {p : ℕ} → IsFound image root_inumber → kind_of image root_inumber ≢ directory_kind
+      → inode_place image root_inumber 0 ≡ p → Fails image Kind p
+  directory_size : {i p : ℕ} → IsFound image i → IsDirectory image i → size_of image i % entry_size ≢ 0
       → size_place image i ≡ p → Fails image DirectorySize p
   capacity : {t p : ℕ} → IsFound image t → covered (suc (height_of (root_of image t))) < size_of image t
       → size_place image t ≡ p → Fails image Capacity p

@@ -4,8 +4,8 @@ use Rattle.std.specs.Prelude.{◌≡◌, ◌≢◌, ℕ, ◌+◌, ◌*◌, ◌/�
 use Rattle.std.specs.List.{range_with_len}
 use Rattle.bp_layout.specs.Words.{Image}
 use Rattle.bp_layout.specs.Tree.{content_word, byte}
-use Rattle.bp_limits.specs.Limits.{max_name}
-use Rattle.bp_layout.specs.Inode.{kind_of, root_of, size_of}
+use Rattle.bp_limits.specs.Limits.{directory_kind, entry_size, entry_words, max_name}
+use Rattle.bp_layout.specs.Inode.{IsDirectory, kind_of, root_of, size_of}
 
 abbrev pub Name : Type 0
 Name = List ℕ
@@ -21,18 +21,18 @@ pub record IsName (name : Name) : Type 0 where
 -- ---- the entries of a tree
 
 abbrev pub word_in : Image → ℕ → ℕ → ℕ → ℕ
-word_in image root slot f = content_word image root (32 * slot + f)
+word_in image root slot f = content_word image root (entry_words * slot + f)
 
 abbrev pub inumber_in : Image → ℕ → ℕ → ℕ
 inumber_in image root slot = word_in image root slot 0
 
 abbrev pub name_in : Image → ℕ → ℕ → Name
 name_in image root slot =
-    map (λ o. byte image root (256 * slot + 16 + o)) (range_with_len 0 (word_in image root slot 1))
+    map (λ o. byte image root (entry_size * slot + 16 + o)) (range_with_len 0 (word_in image root slot 1))
 
 -- the slots whose entries lie below the size
 abbrev pub slots : ℕ → List ℕ
-slots size = range_with_len 0 (size / 256)
+slots size = range_with_len 0 (size / entry_size)
 
 -- the least slot that is empty, and the least with a name
 abbrev pub empty_slot_in : Image → ℕ → ℕ → Option ℕ
@@ -50,7 +50,7 @@ abbrev pub entry_word : Image → ℕ → ℕ → ℕ → ℕ
 entry_word image i slot f = word_in image (root_of image i) slot f
 
 abbrev pub entry_count : Image → ℕ → ℕ
-entry_count image i = size_of image i / 256
+entry_count image i = size_of image i / entry_size
 
 abbrev pub inumber_at : Image → ℕ → ℕ → ℕ
 inumber_at image i slot = inumber_in image (root_of image i) slot
@@ -69,7 +69,7 @@ empty_slot image i = empty_slot_in image (root_of image i) (size_of image i)
 
 -- directory i names inode j at this slot
 pub record EntryNames (image : Image) (i slot j : ℕ) : Type 0 where
-  pub directory : kind_of image i ≡ 2
+  pub directory : IsDirectory image i
   pub in_size : slot < entry_count image i
   pub inumber : inumber_at image i slot ≡ j
   pub not_empty : j ≢ 0
@@ -77,4 +77,4 @@ pub record EntryNames (image : Image) (i slot j : ℕ) : Type 0 where
 -- the inode that a name stands for in a directory
 abbrev pub lookup_in : Image → ℕ → Name → Option ℕ
 lookup_in image i name =
-    if kind_of image i == 2 then option_map (inumber_at image i) (slot_named image i name) else None
+    if kind_of image i == directory_kind then option_map (inumber_at image i) (slot_named image i name) else None

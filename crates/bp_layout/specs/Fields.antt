@@ -2,7 +2,7 @@
 use Rattle.std.specs.Prelude.{◌≡◌, ℕ, ◌+◌, ◌*◌, ◌/◌, ◌%◌, ◌≤◌, List, [], ◌∷◌, map, slice_index}
 use Rattle.std.specs.List.{range_with_len}
 use Rattle.bp_layout.specs.Words.{byte_of, height_of}
-use Rattle.bp_limits.specs.Limits.{max_height}
+use Rattle.bp_limits.specs.Limits.{block_size, directory_kind, file_kind, max_height}
 use Rattle.bp_layout.specs.declared.fields.Kind.{Kind}
 use Rattle.bp_layout.specs.declared.fields.Kind.TheVariants.{File, Dir}
 use Rattle.bp_layout.specs.declared.fields.Super.{Super}
@@ -13,26 +13,26 @@ abbrev pub IsRootWord : ℕ → Type 0
 IsRootWord word = (height_of word ≤ max_height) × (word / 8 % 512 ≡ 0)
 
 abbrev pub root_word : ℕ → ℕ → ℕ
-root_word height block = 4096 * block + height
+root_word height block = block_size * block + height
 
 -- A pointer has a block in bits 12 to 63. Bits 0 to 11 are zero.
 abbrev pub IsPointerWord : ℕ → Type 0
-IsPointerWord word = word % 4096 ≡ 0
+IsPointerWord word = word % block_size ≡ 0
 
 abbrev pub pointer_word : ℕ → ℕ
-pointer_word block = 4096 * block
+pointer_word block = block_size * block
 
 -- the first word of an inode
 abbrev pub kind_word : Kind → ℕ
-kind_word File = 1
-kind_word Dir = 2
+kind_word File = file_kind
+kind_word Dir = directory_kind
 
 -- the first words of a superblock and of an inode
-abbrev pub super_words : Super → List ℕ
-super_words super = super.magic ∷ super.blocks ∷ super.root ∷ super.size ∷ []
+abbrev pub words_of_super : Super → List ℕ
+words_of_super super = super.magic ∷ super.blocks ∷ super.root ∷ super.size ∷ []
 
-abbrev pub inode_words : Inode → List ℕ
-inode_words inode = kind_word inode.kind ∷ inode.root ∷ inode.size ∷ []
+abbrev pub words_of_inode : Inode → List ℕ
+words_of_inode inode = kind_word inode.kind ∷ inode.root ∷ inode.size ∷ []
 
 -- a byte of the name in the words of an entry, and the name: as many bytes as word 1 says, from word 2 on
 abbrev pub name_byte : List ℕ → ℕ → ℕ

@@ -1,32 +1,39 @@
 -- The trees of an image have numbers: 0 is the inode file, and any other number is an inode's.
 use Rattle.std.specs.Prelude.{◌≡◌, ◌≢◌, ℕ, zero, suc, ◌+◌, ◌*◌, ◌/◌, ◌%◌}
+use Rattle.bp_limits.specs.Limits.{block_words, directory_kind, file_kind, inode_size, inode_words, super_root, super_size}
 use Rattle.bp_layout.specs.Words.{Image, word, height_of}
 use Rattle.bp_layout.specs.Tree.{node, content_word}
 
 -- word f of inode i, a word of the inode file's content
 abbrev pub inode_word : Image → ℕ → ℕ → ℕ
-inode_word image i f = content_word image (word image 2) (8 * i + f)
+inode_word image i f = content_word image (word image super_root) (inode_words * i + f)
 
--- 1 is a file and 2 a directory
+-- the first word of an inode
 abbrev pub kind_of : Image → ℕ → ℕ
 kind_of image zero = 0
 kind_of image (suc i) = inode_word image (suc i) 0
 
+abbrev pub IsFile : Image → ℕ → Type 0
+IsFile image i = kind_of image i ≡ file_kind
+
+abbrev pub IsDirectory : Image → ℕ → Type 0
+IsDirectory image i = kind_of image i ≡ directory_kind
+
 abbrev pub root_of : Image → ℕ → ℕ
-root_of image zero = word image 2
+root_of image zero = word image super_root
 root_of image (suc i) = inode_word image (suc i) 1
 
 abbrev pub size_of : Image → ℕ → ℕ
-size_of image zero = word image 3
+size_of image zero = word image super_size
 size_of image (suc i) = inode_word image (suc i) 2
 
 abbrev pub inode_count : Image → ℕ
-inode_count image = size_of image 0 / 64
+inode_count image = size_of image 0 / inode_size
 
 -- word `index` at `depth` + 1 of tree t stands at this place
 pub record StandsAt (image : Image) (t depth index place : ℕ) : Type 0 where
-  pub present : node image (root_of image t) depth (index / 512) ≢ 0
-  pub at : 512 * node image (root_of image t) depth (index / 512) + index % 512 ≡ place
+  pub present : node image (root_of image t) depth (index / block_words) ≢ 0
+  pub at : block_words * node image (root_of image t) depth (index / block_words) + index % block_words ≡ place
 
 -- the same of a word of its content
 abbrev pub ContentStandsAt : Image → ℕ → ℕ → ℕ → Type 0
@@ -34,5 +41,5 @@ ContentStandsAt image t index place = StandsAt image t (height_of (root_of image
 
 -- the place of the root word of a tree
 pub data RootPlace (image : Image) : ℕ → ℕ → Type 0 where
-  top : {t place : ℕ} → t ≡ 0 → place ≡ 2 → RootPlace image t place
-  inode : {t place : ℕ} → t ≢ 0 → ContentStandsAt image 0 (8 * t + 1) place → RootPlace image t place
+  top : {t place : ℕ} → t ≡ 0 → place ≡ super_root → RootPlace image t place
+  inode : {t place : ℕ} → t ≢ 0 → ContentStandsAt image 0 (inode_words * t + 1) place → RootPlace image t place

@@ -1,7 +1,7 @@
 -- What a change touches, and how many blocks it needs.
 use Rattle.std.specs.Prelude.{ℕ, suc, ◌+◌, ◌-◌, ◌*◌, ◌/◌, min, max, List, [], ◌∷◌, ◌++◌, length, take, drop, map, filter, flat_map, Bool, false, not, ◌&&◌, ◌||◌, ◌==◌, nat_lt, nat_le, bytes_eq, Option, None, Some, if◌then◌else◌, fold}
 use Rattle.std.specs.List.{range_with_len, list_any}
-use Rattle.bp_limits.specs.Limits.{block_size, entry_size}
+use Rattle.bp_limits.specs.Limits.{block_size, block_words, entry_size, entry_words}
 use Rattle.bp_layout.specs.Words.{Image, height_of}
 use Rattle.bp_layout.specs.Nodes.{TreeNode, is_present, height_with, nodes_for}
 use Rattle.bp_layout.specs.Inode.{root_of, size_of}
@@ -80,7 +80,7 @@ abbrev pub content_path : Image → Change → ℕ → ℕ → WordPath
 content_path image change t index = tree_path (height_after image change 0) t (suc (height_after image change t)) index
 
 abbrev pub entry_path : Image → Change → ℕ → ℕ → ℕ → WordPath
-entry_path image change i slot f = content_path image change i (32 * slot + f)
+entry_path image change i slot f = content_path image change i (entry_words * slot + f)
 
 abbrev pub entered : Image → Change → ℕ → Option ℕ → WordPath
 entered image change i None = inode_word_path image change i 2
@@ -108,7 +108,7 @@ abbrev pub is_prefix : WordPath → WordPath → Bool
 is_prefix prefix path = bytes_eq prefix (take (length prefix) path)
 
 abbrev pub path_number : List ℕ → ℕ
-path_number ds = fold (λ n d. 512 * n + d) 0 ds
+path_number ds = fold (λ n d. block_words * n + d) 0 ds
 
 -- the tree and the node to which the pointer at a path points, where the inode file has this height and the other
 -- trees have theirs

@@ -2,7 +2,7 @@
 use Rattle.std.specs.Prelude.{◌≡◌, ℕ, suc, ◌+◌, ◌-◌, ◌*◌, ◌/◌, ◌%◌, ◌<◌, ◌≤◌, min}
 use Rattle.bp_layout.specs.Words.{Image, block_count, block_of, height_of, slot_word}
 use Rattle.bp_layout.specs.Tree.{span, HasBlock, IsSound}
-use Rattle.bp_limits.specs.Limits.{max_height}
+use Rattle.bp_limits.specs.Limits.{block_size, max_height}
 
 -- how many bytes of a tree of this size lie in the child of a slot, where the children stand at this level
 abbrev pub piece : ℕ → ℕ → ℕ → ℕ
@@ -17,7 +17,7 @@ pub record HasChildren (image : Image) (root size level : ℕ) : Type 0 where
   pub height : height_of root ≡ suc level
   pub low : suc level ≤ max_height
   pub fits : size ≤ span (suc level)
-  pub words : (c : ℕ) → c * span level < size → slot_word image (block_of root) c % 4096 ≡ 0
+  pub words : (c : ℕ) → c * span level < size → slot_word image (block_of root) c % block_size ≡ 0
 
 -- sound trees in the slots, with no block in two of them
 pub record Joins (image : Image) (root size level : ℕ) : Type 0 where

@@ -1,5 +1,6 @@
 -- The trees that an image's meaning stands on, and the blocks that they hold.
 use Rattle.std.specs.Prelude.{ℕ, ◌<◌, ◌≤◌}
+use Rattle.bp_limits.specs.Limits.{root_inumber}
 use Rattle.bp_layout.specs.Words.{Image, block_count}
 use Rattle.bp_layout.specs.Tree.{HasBlock}
 use Rattle.bp_layout.specs.Inode.{root_of, size_of}
@@ -8,7 +9,7 @@ use Rattle.bp_layout.specs.Directory.{EntryNames}
 -- the inode file, the root directory, and what an entry of a reached directory names
 pub data IsReached (image : Image) : ℕ → Type 0 where
   inode_file : IsReached image 0
-  root_directory : IsReached image 1
+  root_directory : IsReached image root_inumber
   named : {i j : ℕ} → (slot : ℕ) → IsReached image i → EntryNames image i slot j → IsReached image j
 
 -- one of these trees, under a size for each, has the block

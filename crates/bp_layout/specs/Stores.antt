@@ -1,5 +1,6 @@
 -- Stores, one after the other.
 use Rattle.std.specs.Prelude.{◌≡◌, ◌≢◌, ℕ, ◌/◌, List, [], ◌∷◌, length, slice_set}
+use Rattle.bp_limits.specs.Limits.{block_words}
 use Rattle.bp_layout.specs.Words.{Image, word}
 
 -- the image after each store of a value at a place
@@ -10,4 +11,4 @@ after_stores image (store ∷ stores) = after_stores (slice_set image store.0 st
 -- the second image has the words of the first, but for one block
 pub record EqualBut (block : ℕ) (old new : Image) : Type 0 where
   pub whole : length new ≡ length old
-  pub others : (place : ℕ) → place / 512 ≢ block → word new place ≡ word old place
+  pub others : (place : ℕ) → place / block_words ≢ block → word new place ≡ word old place

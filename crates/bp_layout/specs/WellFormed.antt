@@ -1,8 +1,8 @@
 -- When an image is a file system.
-use Rattle.std.specs.Prelude.{◌≡◌, ◌≢◌, ℕ, suc, ◌*◌, ◌%◌, ◌<◌, ◌≤◌, length}
-use Rattle.bp_layout.specs.Words.{Image, word, block_count}
+use Rattle.std.specs.Prelude.{◌≡◌, ◌≢◌, ℕ, suc, ◌%◌, ◌<◌, ◌≤◌}
+use Rattle.bp_layout.specs.Words.{Image}
 use Rattle.bp_layout.specs.Tree.{HasBlock, IsSound, IsFull}
-use Rattle.bp_layout.specs.Inode.{kind_of, root_of, size_of, inode_count}
+use Rattle.bp_layout.specs.Inode.{IsDirectory, inode_count, kind_of, root_of, size_of}
 use Rattle.bp_layout.specs.Directory.{EntryNames, IsName, name_at}
 use Rattle.bp_layout.specs.Reached.{IsReached}
 use Rattle.bp_limits.specs.Limits.{magic, min_blocks, max_blocks}
@@ -19,19 +19,19 @@ pub record IsWellFormed (image : Image) : Type 0 where
       HasBlock image (root_of image t) (size_of image t) b → HasBlock image (root_of image u) (size_of image u) b
       → t ≡ u
   pub full_inode_file : IsFull image (root_of image 0) (size_of image 0)
-  pub full_directories : (i : ℕ) → IsReached image i → kind_of image i ≡ 2
+  pub full_directories : (i : ℕ) → IsReached image i → IsDirectory image i
       → IsFull image (root_of image i) (size_of image i)
   -- the inode file is whole blocks of inodes
-  pub inode_blocks : size_of image 0 % 4096 ≡ 0
-  pub some_inodes : 4096 ≤ size_of image 0
+  pub inode_blocks : size_of image 0 % block_size ≡ 0
+  pub some_inodes : block_size ≤ size_of image 0
   -- each entry names an inode that is there, no other entry names it, and none names the root
   pub inumbers : (i s j : ℕ) → IsReached image i → EntryNames image i s j → j < inode_count image
-  pub not_root : (i s j : ℕ) → IsReached image i → EntryNames image i s j → j ≢ 1
+  pub not_root : (i s j : ℕ) → IsReached image i → EntryNames image i s j → j ≢ root_inumber
   pub named_once : (i s k r j : ℕ) → IsReached image i → IsReached image k → EntryNames image i s j
       → EntryNames image k r j → (i ≡ k) × (s ≡ r)
   pub kinds : (i : ℕ) → IsReached image (suc i) → (1 ≤ kind_of image (suc i)) × (kind_of image (suc i) ≤ 2)
-  pub root_kind : kind_of image 1 ≡ 2
-  pub directory_sizes : (i : ℕ) → IsReached image i → kind_of image i ≡ 2 → size_of image i % 256 ≡ 0
+  pub root_kind : IsDirectory image root_inumber
+  pub directory_sizes : (i : ℕ) → IsReached image i → IsDirectory image i → size_of image i % entry_size ≡ 0
   pub names : (i s j : ℕ) → IsReached image i → EntryNames image i s j → IsName (name_at image i s)
   pub names_once : (i s r j k : ℕ) → IsReached image i → EntryNames image i s j → EntryNames image i r k
       → name_at image i s ≡ name_at image i r → s ≡ r

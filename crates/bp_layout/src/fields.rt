@@ -1,12 +1,12 @@
 //! The fields of an image: root words, pointers, the superblock and inodes.
 
 ghost use Rattle.std.specs.Prelude.{◌*◌, ◌+◌, ◌<◌, ◌^◌, ◌↔◌, ◌≡◌, ◌≤◌, IfOk, IsOk, slice_index};
-ghost use Rattle.bp_layout.specs.Fields.{IsPointerWord, IsRootWord, inode_words, kind_word, pointer_word, root_word, super_words};
+ghost use Rattle.bp_layout.specs.Fields.{IsPointerWord, IsRootWord, words_of_inode, kind_word, pointer_word, root_word, words_of_super};
 ghost use Rattle.bp_limits.specs.Limits.{max_height};
 ghost use Rattle.bp_layout.specs.Words.{block_of, height_of};
 
 use arrayvec::ArrayVec;
-use bp_limits::{BLOCK_SIZE, MAX_HEIGHT, MAX_NAME};
+use bp_limits::{BLOCK_SIZE, DIRECTORY_KIND, FILE_KIND, MAX_HEIGHT, MAX_NAME};
 
 /// The kind of an inode.
 #[derive(Clone, Copy, Debug, PartialEq, Eq)]
@@ -127,7 +127,7 @@ impl Super {
 
     /// The words with these fields.
     pub fn words(&self) -> [u64; 4]
-        ensures { result ≡ super_words self.now }
+        ensures { result ≡ words_of_super self.now }
     {
         [self.magic, self.blocks, self.root, self.size]
     }
@@ -154,7 +154,7 @@ impl Inode {
         ensures size { result.size ≡ slice_index words.now 2 }
     {
         let kind = match words[0] {
-            1 => Kind::File,
+            FILE_KIND => Kind::File,
             _ => Kind::Dir,
         };
         Inode {
@@ -166,7 +166,7 @@ impl Inode {
 
     /// The words with these fields.
     pub fn words(&self) -> [u64; 3]
-        ensures { result ≡ inode_words self.now }
+        ensures { result ≡ words_of_inode self.now }
     {
         [self.kind.word(), self.root, self.size]
     }
@@ -178,8 +178,8 @@ impl Kind {
         ensures { result ≡ kind_word self }
     {
         match self {
-            Kind::File => 1,
-            Kind::Dir => 2,
+            Kind::File => FILE_KIND,
+            Kind::Dir => DIRECTORY_KIND,
         }
     }
 }

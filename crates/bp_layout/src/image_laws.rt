@@ -4,7 +4,7 @@ ghost use Rattle.std.specs.Prelude.{None, Some, [], ℕ, ◌*◌, ◌∷◌, ◌
 ghost use Rattle.bp_layout.specs.Checks.{IsFormatted, NoneFails};
 ghost use Rattle.bp_layout.specs.Directory.{Name};
 ghost use Rattle.bp_layout.specs.Format.{formatted};
-ghost use Rattle.bp_limits.specs.Limits.{max_blocks, min_blocks};
+ghost use Rattle.bp_limits.specs.Limits.{block_words, max_blocks, min_blocks};
 ghost use Rattle.bp_layout.specs.Lookup.{Path, lookup, shown};
 ghost use Rattle.bp_layout.specs.Lookup.Node.{dir};
 ghost use Rattle.bp_layout.specs.WellFormed.{IsWellFormed};
@@ -16,7 +16,7 @@ pub fn well_formed_by_checks(image: &[u64])
 
 /// A format over any words makes an image that is well formed and shows the root directory alone.
 pub fn format_shows_the_root(image: &[u64], blocks: u64)
-    requires whole { length image.now ≡ 512 * blocks }
+    requires whole { length image.now ≡ block_words * blocks }
     requires least { min_blocks ≤ blocks }
     requires most { blocks ≤ max_blocks }
     ensures well_formed { IsWellFormed (formatted image.now blocks) }

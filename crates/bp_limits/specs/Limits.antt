@@ -36,6 +36,39 @@ super_root = 2
 abbrev pub super_size : ℕ
 super_size = 3
 
+-- ---- inodes and directories
+
+-- the bytes of an inode, its words, and the inodes of a block
+abbrev pub inode_size : ℕ
+inode_size = 64
+
+abbrev pub inode_words : ℕ
+inode_words = 8
+
+abbrev pub block_inodes : ℕ
+block_inodes = 64
+
+-- the number of the root directory's inode
+abbrev pub root_inumber : ℕ
+root_inumber = 1
+
+-- the first word of a file's inode, and of a directory's
+abbrev pub file_kind : ℕ
+file_kind = 1
+
+abbrev pub directory_kind : ℕ
+directory_kind = 2
+
+-- the bytes of an entry of a directory, its words, and the entries of a block
+abbrev pub entry_size : ℕ
+entry_size = 256
+
+abbrev pub entry_words : ℕ
+entry_words = 32
+
+abbrev pub block_entries : ℕ
+block_entries = 16
+
 -- ---- trees
 
 -- the greatest height of a tree
@@ -45,13 +78,6 @@ max_height = 3
 -- the greatest size of a file, a directory and the inode file, in bytes: what a tree of the greatest height covers
 abbrev pub max_size : ℕ
 max_size = 549755813888
-
--- the bytes of an inode, and of an entry of a directory
-abbrev pub inode_size : ℕ
-inode_size = 64
-
-abbrev pub entry_size : ℕ
-entry_size = 256
 
 -- ---- names and calls
 

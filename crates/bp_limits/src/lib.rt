@@ -34,6 +34,35 @@ pub const SUPER_ROOT: u32 = 2;
 /// The place of the size of the inode file.
 pub const SUPER_SIZE: u32 = 3;
 
+// ---- inodes and directories
+
+/// The bytes of an inode.
+pub const INODE_SIZE: u64 = 64;
+
+/// The words of an inode.
+pub const INODE_WORDS: u32 = 8;
+
+/// The inodes of a block.
+pub const BLOCK_INODES: u32 = 64;
+
+/// The number of the root directory's inode.
+pub const ROOT_INUMBER: u32 = 1;
+
+/// The first word of a file's inode.
+pub const FILE_KIND: u64 = 1;
+
+/// The first word of a directory's inode.
+pub const DIRECTORY_KIND: u64 = 2;
+
+/// The bytes of an entry of a directory.
+pub const ENTRY_SIZE: u64 = 256;
+
+/// The words of an entry.
+pub const ENTRY_WORDS: u32 = 32;
+
+/// The entries of a block.
+pub const BLOCK_ENTRIES: u64 = 16;
+
 // ---- trees
 
 /// The greatest height of a tree.
@@ -41,12 +70,6 @@ pub const MAX_HEIGHT: u32 = 3;
 
 /// The greatest size of a file, a directory and the inode file, in bytes: what a tree of the greatest height covers.
 pub const MAX_SIZE: u64 = 549_755_813_888;
-
-/// The bytes of an inode.
-pub const INODE_SIZE: u64 = 64;
-
-/// The bytes of an entry of a directory.
-pub const ENTRY_SIZE: u64 = 256;
 
 // ---- names and calls
 

@@ -1,5 +1,6 @@
 -- A walk along names, from an inode on.
 use Rattle.std.specs.Prelude.{◌≡◌, ◌↔◌, ℕ, [], ◌∷◌, ◌==◌, Option, None, Some, if◌then◌else◌}
+use Rattle.bp_limits.specs.Limits.{directory_kind}
 use Rattle.bp_layout.specs.Words.{Image}
 use Rattle.bp_layout.specs.Inode.{kind_of}
 use Rattle.bp_layout.specs.Directory.{lookup_in}
@@ -18,11 +19,12 @@ onward walk (Some i) = walk i
 abbrev pub walk_from : Image → ℕ → Path → Walked
 walk_from image i [] = found i
 walk_from image i (name ∷ names) =
-    if kind_of image i == 2 then onward (λ j. walk_from image j names) (lookup_in image i name) else in_file
+    if kind_of image i == directory_kind then onward (λ j. walk_from image j names) (lookup_in image i name)
+    else in_file
 
 -- a walk that is to end in a directory
 abbrev pub in_directory : Image → Walked → Walked
-in_directory image (found i) = if kind_of image i == 2 then found i else in_file
+in_directory image (found i) = if kind_of image i == directory_kind then found i else in_file
 in_directory image missing = missing
 in_directory image in_file = in_file
 

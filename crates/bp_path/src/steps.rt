@@ -2,9 +2,9 @@
 
 ghost use Rattle.std.specs.Prelude.{◌≡◌, ◌≢◌, ◌++◌, ◌∷◌, ◌≤◌, [], true, List, ℕ, length, Some, IfOk, IfErr};
 ghost use Rattle.std.specs.List.{list_all};
-ghost use Rattle.bp_layout.specs.Inode.{kind_of};
+ghost use Rattle.bp_layout.specs.Inode.{IsDirectory};
 ghost use Rattle.bp_layout.specs.Directory.{inumber_at, slot_named};
-ghost use Rattle.bp_limits.specs.Limits.{max_name};
+ghost use Rattle.bp_limits.specs.Limits.{max_name, root_inumber};
 ghost use Rattle.bp_layout.specs.Lookup.{lookup};
 ghost use Rattle.bp_layout.specs.PathText.{is_name};
 ghost use Rattle.bp_layout.specs.Reached.{IsReached};
@@ -19,11 +19,9 @@ use crate::path::Path;
 use bp_dirs::find_entry;
 use bp_inodes::get;
 use bp_layout::Kind;
+use bp_limits::ROOT_INUMBER;
 use bp_tree::Tree;
 use pm_region::Region;
-
-/// The number of the root directory's inode.
-const ROOT: u32 = 1;
 
 /// The directory entry that a path finds, and the inode that it names. The path `/` has an inode and no entry.
 #[derive(Clone, Copy, Debug, PartialEq, Eq)]
@@ -55,7 +53,7 @@ pub fn step<R: Region>(region: &R, dir: u32, name: &[u8]) -> Result<FoundEntry, 
     requires reached { IsReached (current_words (R.memory region.now)) dir }
     requires some { 1 ≤ dir }
     requires short { length name.now ≤ max_name }
-    ensures kind { IfOk result (λ entry. kind_of (current_words (R.memory region.now)) dir ≡ 2) }
+    ensures kind { IfOk result (λ entry. IsDirectory (current_words (R.memory region.now)) dir) }
     ensures dir { IfOk result (λ entry. entry.dir ≡ dir) }
     ensures slot { let words = current_words (R.memory region.now) in
         IfOk result (λ entry. slot_named words dir name.now ≡ Some entry.slot) }
@@ -83,7 +81,8 @@ pub fn step<R: Region>(region: &R, dir: u32, name: &[u8]) -> Result<FoundEntry, 
 fn walk_names<R: Region>(region: &R, text: &[u8]) -> Result<FoundEntry, WalkFault>
     requires well { IsWellFormed (current_words (R.memory region.now)) }
     requires names { list_all is_name (path_parts text.now) ≡ true }
-    ensures walked { walked_of result ≡ walk_from (current_words (R.memory region.now)) 1 (path_parts text.now) }
+    ensures walked { let words = current_words (R.memory region.now) in
+        walked_of result ≡ walk_from words root_inumber (path_parts text.now) }
     ensures lookup { let words = current_words (R.memory region.now) in
         IfOk result (λ entry. lookup words (path_parts text.now) ≡ Some entry.inumber) }
     ensures entry { IfOk result (λ entry. IsEntryOf (current_words (R.memory region.now)) (path_parts text.now) entry) }
@@ -91,7 +90,7 @@ fn walk_names<R: Region>(region: &R, text: &[u8]) -> Result<FoundEntry, WalkFaul
     ensures some { IfOk result (λ entry. 1 ≤ entry.inumber) }
 {
     let mut entry = FoundEntry {
-        inumber: ROOT,
+        inumber: ROOT_INUMBER,
         dir: 0,
         slot: 0,
     };
@@ -111,7 +110,7 @@ fn walk_names<R: Region>(region: &R, text: &[u8]) -> Result<FoundEntry, WalkFaul
 /// The first name that fails, in order: `NotDir` where it is sought in a file, `NotFound` where a directory lacks it.
 pub fn walk<R: Region>(region: &R, path: &Path<'_>) -> Result<FoundEntry, WalkFault>
     requires { IsWellFormed (current_words (R.memory region.now)) }
-    ensures walked { walked_of result ≡ walk_from (current_words (R.memory region.now)) 1 path.now }
+    ensures walked { walked_of result ≡ walk_from (current_words (R.memory region.now)) root_inumber path.now }
     ensures lookup { let words = current_words (R.memory region.now) in
         IfOk result (λ entry. lookup words path.now ≡ Some entry.inumber) }
     ensures entry { IfOk result (λ entry. IsEntryOf (current_words (R.memory region.now)) path.now entry) }
@@ -131,11 +130,11 @@ pub fn walk_parent<R: Region>(region: &R, path: &Path<'_>) -> Result<u32, WalkFa
     requires below { path.now ≢ [] }
     ensures walked { let words = current_words (R.memory region.now) in
         (parent : List (List ℕ)) (name : List ℕ) → path.now ≡ parent ++ name ∷ []
-        → dir_of result ≡ in_directory words (walk_from words 1 parent) }
+        → dir_of result ≡ in_directory words (walk_from words root_inumber parent) }
     ensures lookup { let words = current_words (R.memory region.now) in
         (parent : List (List ℕ)) (name : List ℕ) → path.now ≡ parent ++ name ∷ []
         → IfOk result (λ dir. lookup words parent ≡ Some dir) }
-    ensures kind { IfOk result (λ dir. kind_of (current_words (R.memory region.now)) dir ≡ 2) }
+    ensures kind { IfOk result (λ dir. IsDirectory (current_words (R.memory region.now)) dir) }
     ensures reached { IfOk result (λ dir. IsReached (current_words (R.memory region.now)) dir) }
     ensures some { IfOk result (λ dir. 1 ≤ dir) }
 {

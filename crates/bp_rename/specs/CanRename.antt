@@ -2,7 +2,7 @@
 use Rattle.std.specs.Prelude.{◌≡◌, ◌≢◌, ℕ, ◌==◌, length, Option, None, Some, if◌then◌else◌}
 use Rattle.bp_changes.specs.Effects.{IsAtOrBelow}
 use Rattle.bp_layout.specs.Directory.{EntryNames, IsName, empty_slot, inumber_at, slot_named}
-use Rattle.bp_layout.specs.Inode.{kind_of}
+use Rattle.bp_layout.specs.Inode.{IsDirectory}
 use Rattle.bp_layout.specs.Need.{Change}
 use Rattle.bp_layout.specs.Need.Change.{moves, replaces, respells}
 use Rattle.bp_layout.specs.Reached.{IsReached}
@@ -22,7 +22,7 @@ pub record CanRename (image : Image) (move : Move) : Type 0 where
   pub source : IsReached image move.from_dir
   pub entry : EntryNames image move.from_dir move.from_slot (inumber_at image move.from_dir move.from_slot)
   pub target : IsReached image move.to_dir
-  pub directory : kind_of image move.to_dir ≡ 2
+  pub directory : IsDirectory image move.to_dir
   pub outside : IsAtOrBelow image (inumber_at image move.from_dir move.from_slot) move.to_dir → ⊥
   pub name : IsName move.name.now
   pub slot : slot_named image move.to_dir move.name.now ≡ move.to_slot

@@ -3,7 +3,7 @@ use Rattle.std.specs.Prelude.{◌≡◌, ◌≢◌, ℕ, [], ◌∷◌, ◌++◌
 use Rattle.bp_changes.specs.Effects.{CanUnlink}
 use Rattle.bp_layout.specs.Below.{rest_below}
 use Rattle.bp_layout.specs.Directory.{IsName, inumber_at, name_at, slot_named}
-use Rattle.bp_layout.specs.Inode.{kind_of}
+use Rattle.bp_layout.specs.Inode.{IsDirectory}
 use Rattle.bp_layout.specs.Lookup.{Path, lookup}
 use Rattle.bp_layout.specs.Words.{Image}
 use Rattle.bp_plain.specs.Plain.{moved}
@@ -23,7 +23,7 @@ MovesPath move old new = (tree : FileTree) (from to : Path) → Stands old tree 
 -- new name there, it may leave.
 pub record IsFoundTarget (image : Image) (source to : Path) (move : Move) : Type 0 where
   pub found : lookup image to ≡ Some move.to_dir
-  pub directory : kind_of image move.to_dir ≡ 2
+  pub directory : IsDirectory image move.to_dir
   pub outside : rest_below source to ≡ None
   pub name : IsName move.name.now
   pub slot : slot_named image move.to_dir move.name.now ≡ move.to_slot

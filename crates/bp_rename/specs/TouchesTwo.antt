@@ -3,6 +3,7 @@ use Rattle.std.specs.Prelude.{◌≡◌, ℕ, suc, ◌+◌, ◌*◌, List, [], �
 use Rattle.arrayvec.specs.ArrayVec.{ArrayVec}
 use Rattle.bp_cow.specs.Touched.{word_paths, word_values}
 use Rattle.bp_cow.specs.declared.touched.Touched.{Touched}
+use Rattle.bp_limits.specs.Limits.{entry_words}
 use Rattle.bp_layout.specs.Inode.{root_of}
 use Rattle.bp_layout.specs.WordPaths.{WordPath, inode_path, tree_path}
 use Rattle.bp_layout.specs.Words.{Image, height_of}
@@ -10,7 +11,7 @@ use Rattle.bp_layout.specs.Words.{Image, height_of}
 -- the path of the inumber of an entry
 abbrev pub inumber_path : Image → ℕ → ℕ → WordPath
 inumber_path image i slot =
-    tree_path (height_of (root_of image 0)) i (suc (height_of (root_of image i))) (32 * slot + 0)
+    tree_path (height_of (root_of image 0)) i (suc (height_of (root_of image i))) (entry_words * slot + 0)
 
 -- the path of the size word of an inode
 abbrev pub size_path : Image → ℕ → WordPath

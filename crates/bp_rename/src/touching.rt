@@ -1,8 +1,9 @@
 //! The words that a rename touches.
 
 ghost use Rattle.std.specs.Prelude.{◌≡◌, suc, ◌+◌, ◌*◌, ◌<◌, ◌≤◌, None};
+ghost use Rattle.bp_limits.specs.Limits.{entry_words};
 ghost use Rattle.bp_layout.specs.Directory.{entry_count};
-ghost use Rattle.bp_layout.specs.Inode.{root_of, size_of};
+ghost use Rattle.bp_layout.specs.Inode.{root_of};
 ghost use Rattle.bp_layout.specs.Reached.{IsReached};
 ghost use Rattle.bp_layout.specs.WellFormed.{IsWellFormed};
 ghost use Rattle.bp_layout.specs.WordPaths.{tree_path};
@@ -22,7 +23,7 @@ pub(crate) fn entry_path<R: Region>(region: &R, dir: u32, slot: u64) -> Slots
     requires some { 1 ≤ dir }
     requires live { slot < entry_count (current_words (R.memory region.now)) dir }
     ensures { result.items ≡ tree_path (height_of (root_of (current_words (R.memory region.now)) 0)) dir
-        (suc (height_of (root_of (current_words (R.memory region.now)) dir))) (32 * slot + 0) }
+        (suc (height_of (root_of (current_words (R.memory region.now)) dir))) (entry_words * slot + 0) }
 {
     let mut path = root_path(region, dir);
     let within = word_path(tree_of(region, dir), slot * ENTRY_SIZE);

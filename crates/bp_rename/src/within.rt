@@ -60,7 +60,7 @@ fn touched_name<'a, R: Region>(
     let tree = tree_of(region, to_move.from_dir);
     let run = Run {
         root: root_path(region, to_move.from_dir),
-        height: (tree.root & 7) as u32,
+        height: tree.height(),
         off: to_move.from_slot * ENTRY_SIZE + 8,
         bytes: &bytes[..8 + 8 * to_move.name.len().div_ceil(8)],
     };

@@ -1,8 +1,10 @@
 //! Sets of free numbers: each call once, and the numbers at the ends of words.
 
 ghost use Rattle.std.specs.Prelude.{◌≡◌, ◌+◌, ◌<◌, ◌≤◌, length};
+ghost use Rattle.bp_limits.specs.Limits.{max_blocks};
 
 use bp_free::{Blocks, Inodes, Steps};
+use bp_limits::MAX_BLOCKS;
 use std::marker::Brand;
 use std::sync::ledger::{Blank, Ledger};
 use std::test::Fail;
@@ -44,7 +46,7 @@ fn inodes_are_filled_and_cleared(rt: HostRuntime) -> Result<(), Fail> {
 
 /// A search of 16,384 numbers has five steps at most.
 fn take_in_five<L: Ledger>(blocks: &mut Blocks, steps: &mut Steps<L>) -> Option<u32>
-    requires { length blocks.old ≡ 16384 }
+    requires { length blocks.old ≡ max_blocks }
     ensures { steps.new ≤ steps.old + 5 }
 {
     blocks.take_counted(steps)
@@ -54,7 +56,7 @@ fn take_counting<L: Ledger>(blocks: &mut Blocks, blank: Blank) -> Option<u32>
     requires name { blank.name ≡ L.name }
     requires parts { blank.parts ≡ L.parts }
     requires some { 0 < L.parts }
-    requires room { length blocks.old ≡ 16384 }
+    requires room { length blocks.old ≡ max_blocks }
 {
     let mut steps = Steps::<L>::new(blank);
     take_in_five(blocks, &mut steps)
@@ -62,14 +64,14 @@ fn take_counting<L: Ledger>(blocks: &mut Blocks, blank: Blank) -> Option<u32>
 
 #[test]
 fn blocks_are_found_in_few_steps(rt: HostRuntime) -> Result<(), Fail> {
-    let mut blocks = Blocks::new(rt.alloc(), 16384)?;
+    let mut blocks = Blocks::new(rt.alloc(), MAX_BLOCKS)?;
     for block in [16383, 64] {
         if block < blocks.room() && !blocks.is_free(block) {
             blocks.give(block);
         }
     }
     assert_eq!(rt; blocks.count(), 2);
-    assert_eq!(rt; blocks.room(), 16384);
+    assert_eq!(rt; blocks.room(), MAX_BLOCKS);
     let taken = take_counting::<Brand>(&mut blocks, Blank::new(1));
     assert_eq!(rt; taken, Some(64));
     assert_eq!(rt; blocks.take(), Some(16383));

@@ -1,7 +1,7 @@
 -- Why an image is no file system.
 use Rattle.std.specs.Prelude.{◌≡◌, ◌≢◌, ◌-◌, ◌*◌, ◌^◌, min}
 use Rattle.bp_layout.specs.Checks.{Fails}
-use Rattle.bp_limits.specs.Limits.{block_size, magic}
+use Rattle.bp_limits.specs.Limits.{block_size, magic, super_blocks, super_magic}
 use Rattle.bp_layout.specs.Words.{Image, word, block_count}
 use Rattle.bp_scan.specs.declared.fault.MountFault.{MountFault}
 use Rattle.bp_scan.specs.declared.fault.MountFault.TheVariants.{NotFormatted, BadSize, Damaged, Memory}
@@ -11,8 +11,8 @@ use Rattle.bp_scan.specs.declared.fault.MountFault.TheVariants.{NotFormatted, Ba
 abbrev pub IsFault : Image → MountFault → Type 0
 IsFault image NotFormatted = word image 0 ≢ magic
 IsFault image (BadSize found wanted) =
-    (word image 0 ≡ magic) × (word image 1 ≢ block_count image) × (found ≡ block_size * block_count image)
-    × (wanted ≡ min (block_size * word image 1) (2 ^ 64 - 1))
+    (word image super_magic ≡ magic) × (word image super_blocks ≢ block_count image)
+    × (found ≡ block_size * block_count image) × (wanted ≡ min (block_size * word image super_blocks) (2 ^ 64 - 1))
 IsFault image (Damaged check place) =
-    (word image 0 ≡ magic) × (word image 1 ≡ block_count image) × Fails image check place
+    (word image super_magic ≡ magic) × (word image super_blocks ≡ block_count image) × Fails image check place
 IsFault image Memory = ⊥

@@ -1,8 +1,9 @@
 -- What is found where an inode is entered.
 use Rattle.std.specs.Prelude.{length, Bool, false, ◌≡◌, ◌≢◌, ℕ, ◌+◌, ◌%◌, ◌<◌, ◌≤◌}
 use Rattle.bp_free.specs.Set.{Set, with}
+use Rattle.bp_limits.specs.Limits.{root_inumber, file_kind, directory_kind, entry_size}
 use Rattle.bp_layout.specs.Words.{Image, word}
-use Rattle.bp_layout.specs.Inode.{kind_of, root_of, size_of}
+use Rattle.bp_layout.specs.Inode.{IsDirectory, kind_of, root_of, size_of}
 use Rattle.bp_layout.specs.Checks.{inode_place, root_place, size_place}
 use Rattle.bp_layout.specs.declared.check.Check.{Check}
 use Rattle.bp_layout.specs.declared.check.Check.TheVariants.{DirectorySize, Kind}
@@ -26,29 +27,29 @@ pub record AreWords (image : Image) (i : ℕ) (words : InodeWords) : Type 0 wher
 pub record IsRightInode (i kind size : ℕ) : Type 0 where
   pub least : 1 ≤ kind
   pub most : kind ≤ 2
-  pub root : i ≡ 1 → kind ≡ 2
-  pub entries : kind ≡ 2 → size % 256 ≡ 0
+  pub root : i ≡ root_inumber → kind ≡ directory_kind
+  pub entries : kind ≡ directory_kind → size % entry_size ≡ 0
 
 -- the check that the words of an inode fail, where the first stands at a place
 pub data IsWrong (i kind size place : ℕ) : Check → ℕ → Type 0 where
-  no_kind : kind ≢ 1 → kind ≢ 2 → IsWrong i kind size place Kind place
-  root_file : i ≡ 1 → kind ≢ 2 → IsWrong i kind size place Kind place
-  part_of_entry : kind ≡ 2 → size % 256 ≢ 0 → IsWrong i kind size place DirectorySize (place + 2)
+  no_kind : kind ≢ file_kind → kind ≢ directory_kind → IsWrong i kind size place Kind place
+  root_file : i ≡ root_inumber → kind ≢ directory_kind → IsWrong i kind size place Kind place
+  part_of_entry : kind ≡ directory_kind → size % entry_size ≢ 0 → IsWrong i kind size place DirectorySize (place + 2)
 
 -- inode i is right, its blocks left the set, and it is to do where it is a directory
 pub record EntersInode (image : Image) (i : ℕ) (old new : Scan) : Type 0 where
   pub right : IsRightInode i (kind_of image i) (size_of image i)
   pub holes : Bool
-  pub full : kind_of image i ≡ 2 → holes ≡ false
+  pub full : IsDirectory image i → holes ≡ false
   pub tree : TakesTree image (root_place image i) (root_of image i) (size_of image i) holes old.blocks new.blocks
   pub inodes : new.inodes ≡ old.inodes
-  pub directory : kind_of image i ≡ 2 → new.todo ≡ with old.todo i
-  pub file : kind_of image i ≢ 2 → new.todo ≡ old.todo
+  pub directory : IsDirectory image i → new.todo ≡ with old.todo i
+  pub file : kind_of image i ≢ directory_kind → new.todo ≡ old.todo
 
 -- the check that inode i or its tree fails
 pub data FailsInode (image : Image) (i : ℕ) (old : Set) : Check → ℕ → Type 0 where
   words : {c : Check} {p : ℕ} → IsWrong i (kind_of image i) (size_of image i) (inode_place image i 0) c p
       → FailsInode image i old c p
-  tree : {c : Check} {p : ℕ} (holes : Bool) → (holes ≡ false → kind_of image i ≡ 2)
+  tree : {c : Check} {p : ℕ} (holes : Bool) → (holes ≡ false → IsDirectory image i)
       → FailsTree image (root_place image i) (root_of image i) (size_of image i) holes old c p →
       FailsInode image i old c p

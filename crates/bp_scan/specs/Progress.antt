@@ -3,7 +3,7 @@
 use Rattle.std.specs.Prelude.{◌≡◌, ◌≢◌, ◌⊎◌, ℕ, ◌<◌, ◌≤◌, true, false}
 use Rattle.bp_free.specs.Set.{Set, has}
 use Rattle.bp_layout.specs.Words.{Image}
-use Rattle.bp_layout.specs.Inode.{kind_of, inode_count}
+use Rattle.bp_layout.specs.Inode.{IsDirectory, inode_count}
 use Rattle.bp_layout.specs.Directory.{EntryNames}
 use Rattle.bp_scan.specs.Scanned.{IsScanned, HasAllBlocks}
 
@@ -14,7 +14,7 @@ IsEntered image inodes t = (t < inode_count image) × (has inodes t ≡ false)
 -- an entry was gone through: its directory was entered and is not to do, or it is the directory at hand and the entry
 -- stands before the slot
 abbrev pub IsDone : Image → Set → Set → ℕ → ℕ → ℕ → ℕ → Type 0
-IsDone image inodes todo current slot i s = (IsEntered image inodes i × (kind_of image i ≡ 2) × (has todo i ≡ false)
+IsDone image inodes todo current slot i s = (IsEntered image inodes i × IsDirectory image i × (has todo i ≡ false)
     × (i ≢ current)) ⊎ ((i ≡ current) × (s < slot))
 
 -- an entry that was gone through names the inode
@@ -27,7 +27,7 @@ pub record NamedBy (image : Image) (inodes todo : Set) (current slot j : ℕ) : 
 -- the directory at hand is 0 between directories
 pub record IsUnderWay (image : Image) (all blocks inodes todo : Set) (current slot : ℕ) : Type 0 where
   pub scanned : IsScanned image (IsEntered image inodes) (IsDone image inodes todo current slot) all blocks
-  pub todo_entered : (i : ℕ) → has todo i ≡ true → IsEntered image inodes i × (kind_of image i ≡ 2)
+  pub todo_entered : (i : ℕ) → has todo i ≡ true → IsEntered image inodes i × IsDirectory image i
   -- whoever was entered but the inode file and the root was named by an entry that was gone through
   pub named : (j : ℕ) → 2 ≤ j → IsEntered image inodes j → NamedBy image inodes todo current slot j
 

@@ -1,6 +1,7 @@
 -- What holds while the trees of an image are read.
 use Rattle.std.specs.Prelude.{length, true, false, ◌≡◌, ◌⊎◌, ℕ, ◌+◌, ◌*◌, ◌%◌, ◌<◌, ◌≤◌}
 use Rattle.bp_free.specs.Set.{Set, has, members, empty}
+use Rattle.bp_limits.specs.Limits.{block_size, block_inodes, root_inumber}
 use Rattle.bp_layout.specs.Words.{Image, block_count}
 use Rattle.bp_layout.specs.Inode.{kind_of, root_of, size_of, inode_count}
 use Rattle.bp_layout.specs.Checks.{IsFormatted}
@@ -14,8 +15,8 @@ use Rattle.bp_scan.specs.declared.work.Scan.{Scan}
 -- whole blocks of inodes, in an image that is formatted
 pub record HasWholeInodes (image : Image) : Type 0 where
   pub formatted : IsFormatted image
-  pub inode_blocks : size_of image 0 % 4096 ≡ 0
-  pub some_inodes : 4096 ≤ size_of image 0
+  pub inode_blocks : size_of image 0 % block_size ≡ 0
+  pub some_inodes : block_size ≤ size_of image 0
 
 -- the inode file was entered, and no other tree
 abbrev pub HasInodeFile : Image → Set → Set → Type 0
@@ -25,22 +26,22 @@ HasInodeFile image all left = IsScanned image (λ t. ⊥ ⊎ (t ≡ 0)) (λ i s.
 pub record IsUnread (image : Image) (work : Scan) : Type 0 where
   pub room : HasRoom image work
   pub blocks : work.blocks ≡ empty (block_count image)
-  pub inodes : work.inodes ≡ empty (64 * block_count image)
-  pub todo : work.todo ≡ empty (64 * block_count image)
+  pub inodes : work.inodes ≡ empty (block_inodes * block_count image)
+  pub todo : work.todo ≡ empty (block_inodes * block_count image)
 
 -- the work in the middle of a scan; the directory at hand is 0 between directories
 pub record IsReading (image : Image) (work : Scan) (current slot : ℕ) : Type 0 where
   pub ready : HasWholeInodes image
   pub room : HasRoom image work
   pub range : (i : ℕ) → has work.inodes i ≡ true → (2 ≤ i) × (i < inode_count image)
-  pub root_kind : kind_of image 1 ≡ 2
+  pub root_kind : IsDirectory image root_inumber
   pub midway : IsMidway image work.blocks work.inodes work.todo current slot
 
 -- a directory is at hand
 pub record IsAtHand (image : Image) (work : Scan) (current slot : ℕ) : Type 0 where
   pub reading : IsReading image work current slot
   pub entered : IsEntered image work.inodes current
-  pub kind : kind_of image current ≡ 2
+  pub kind : IsDirectory image current
   pub out : has work.todo current ≡ false
 
 -- the same of one whose names are right

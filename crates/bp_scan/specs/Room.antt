@@ -1,5 +1,6 @@
 -- The memory of a scan.
 use Rattle.std.specs.Prelude.{◌≡◌, ◌*◌, ◌/◌, ◌≤◌, length, vec_capacity}
+use Rattle.bp_limits.specs.Limits.{block_inodes, block_entries}
 use Rattle.bp_layout.specs.Words.{Image, block_count}
 use Rattle.bp_scan.specs.declared.pending.Pending.TheInside.{Inside}
 use Rattle.bp_scan.specs.declared.work.Scan.{Scan}
@@ -8,9 +9,9 @@ use Rattle.bp_scan.specs.declared.work.Scan.{Scan}
 -- block 64 inodes and 16 entries
 pub record HasRoom (image : Image) (work : Scan) : Type 0 where
   pub blocks : length work.blocks ≡ block_count image
-  pub inodes : length work.inodes ≡ 64 * block_count image
-  pub todo : length work.todo ≡ 64 * block_count image
-  pub entries : 16 * block_count image ≤ vec_capacity work.entries
+  pub inodes : length work.inodes ≡ block_inodes * block_count image
+  pub todo : length work.todo ≡ block_inodes * block_count image
+  pub entries : block_entries * block_count image ≤ vec_capacity work.entries
 
 -- the same between scans, but for the sets that are lent
 pub record HasReserved (pending : Inside) : Type 0 where

@@ -1,9 +1,10 @@
 -- What a scan has seen so far of an image.
 use Rattle.std.specs.Prelude.{length, true, false, ◌≡◌, ◌≢◌, ◌⊎◌, ℕ, suc, ◌%◌, ◌<◌, ◌≤◌}
 use Rattle.bp_free.specs.Set.{Set, has}
+use Rattle.bp_limits.specs.Limits.{block_size, root_inumber, entry_size}
 use Rattle.bp_layout.specs.Words.{Image, block_count, height_of}
 use Rattle.bp_layout.specs.Tree.{node, covered, IsLivePointer}
-use Rattle.bp_layout.specs.Inode.{kind_of, root_of, size_of, inode_count}
+use Rattle.bp_layout.specs.Inode.{IsDirectory, inode_count, kind_of, root_of, size_of}
 use Rattle.bp_layout.specs.Directory.{EntryNames, IsName, name_at}
 use Rattle.bp_layout.specs.Checks.{IsFound, IsPointer, IsFollowed, Passes, entry_place}
 use Rattle.bp_walk.specs.Taken.{Takes}
@@ -13,7 +14,7 @@ pub record IsChecked (image : Image) (t : ℕ) : Type 0 where
   pub fits : size_of image t ≤ covered (suc (height_of (root_of image t)))
   pub passes : (d k : ℕ) → IsLivePointer (root_of image t) (size_of image t) d k
       → IsFollowed image (root_of image t) (size_of image t) d k → Passes image (root_of image t) d k
-  pub full : (t ≡ 0) ⊎ (kind_of image t ≡ 2) → (d k : ℕ) → IsLivePointer (root_of image t) (size_of image t) d k
+  pub full : (t ≡ 0) ⊎ IsDirectory image t → (d k : ℕ) → IsLivePointer (root_of image t) (size_of image t) d k
       → IsFollowed image (root_of image t) (size_of image t) d k →
       node image (root_of image t) d k ≢ 0
 
@@ -32,9 +33,9 @@ pub record IsScanned (image : Image) (E : ℕ → Type 0) (D : ℕ → ℕ → T
   pub checked : (t : ℕ) → E t → IsChecked image t
   pub takes : Takes image (IsSeen image E) all left
   pub kinds : (i : ℕ) → E (suc i) → (1 ≤ kind_of image (suc i)) × (kind_of image (suc i) ≤ 2)
-  pub sizes : (i : ℕ) → E i → kind_of image i ≡ 2 → size_of image i % 256 ≡ 0
+  pub sizes : (i : ℕ) → E i → IsDirectory image i → size_of image i % entry_size ≡ 0
   pub inumbers : (i s j : ℕ) → D i s → EntryNames image i s j → j < inode_count image
-  pub not_root : (i s j : ℕ) → D i s → EntryNames image i s j → j ≢ 1
+  pub not_root : (i s j : ℕ) → D i s → EntryNames image i s j → j ≢ root_inumber
   pub forms : (i s j : ℕ) → D i s → EntryNames image i s j → IsName (name_at image i s)
   pub enters : (i s j : ℕ) → D i s → EntryNames image i s j → E j
   pub named_once : (i s k r j : ℕ) → D i s → D k r → EntryNames image i s j → EntryNames image k r j
@@ -44,11 +45,11 @@ pub record IsScanned (image : Image) (E : ℕ → Type 0) (D : ℕ → ℕ → T
 
 -- nothing is left to do
 pub record IsAll (image : Image) (E : ℕ → Type 0) (D : ℕ → ℕ → Type 0) : Type 0 where
-  pub blocks : size_of image 0 % 4096 ≡ 0
-  pub some : 4096 ≤ size_of image 0
+  pub blocks : size_of image 0 % block_size ≡ 0
+  pub some : block_size ≤ size_of image 0
   pub inode_file : E 0
-  pub root : E 1
-  pub directory : kind_of image 1 ≡ 2
+  pub root : E root_inumber
+  pub directory : IsDirectory image root_inumber
   pub slots : (i s j : ℕ) → E i → EntryNames image i s j → D i s
 
 -- all blocks but the first

@@ -2,6 +2,7 @@
 use Rattle.std.specs.Prelude.{◌≡◌, ℕ, ◌+◌, ◌≤◌, List, ◌==◌, if◌then◌else◌}
 use Rattle.std.specs.List.{Contains, sum_by}
 use Rattle.std.specs.List.Sorted.{IsStrictlyIncreasing}
+use Rattle.bp_limits.specs.Limits.{file_kind, directory_kind}
 use Rattle.bp_layout.specs.Words.{Image, block_count}
 use Rattle.bp_layout.specs.Free.{HasFree}
 use Rattle.bp_layout.specs.Inode.{kind_of, size_of}
@@ -20,7 +21,7 @@ of_kind image kind i = if kind_of image i == kind then 1 else 0
 
 -- the size of a file
 abbrev pub file_bytes : Image → ℕ → ℕ
-file_bytes image i = if kind_of image i == 1 then size_of image i else 0
+file_bytes image i = if kind_of image i == file_kind then size_of image i else 0
 
 -- so many blocks are live: all but the first and the free ones
 abbrev pub HasLive : Image → ℕ → Type 0
@@ -30,7 +31,7 @@ HasLive image live = (free : ℕ) → HasFree image free → live + free + 1 ≡
 pub record HasTotals (image : Image) (totals : Totals) : Type 0 where
   pub inodes : List ℕ
   pub are : AreReached image inodes
-  pub files : totals.files ≡ sum_by (of_kind image 1) inodes
-  pub dirs : totals.dirs ≡ sum_by (of_kind image 2) inodes
+  pub files : totals.files ≡ sum_by (of_kind image file_kind) inodes
+  pub dirs : totals.dirs ≡ sum_by (of_kind image directory_kind) inodes
   pub bytes : totals.bytes ≡ sum_by (file_bytes image) inodes
   pub live : HasLive image totals.live

@@ -4,7 +4,7 @@ ghost use Rattle.std.specs.Prelude.{◌≡◌, ◌+◌, ◌*◌, ◌/◌, ◌%�
 ghost use Rattle.bp_layout.specs.Checks.{Fails};
 ghost use Rattle.bp_layout.specs.Directory.{inumber_in};
 ghost use Rattle.bp_layout.specs.Tree.{IsFull, IsSound};
-ghost use Rattle.bp_limits.specs.Limits.{entry_size};
+ghost use Rattle.bp_limits.specs.Limits.{block_entries, entry_size};
 ghost use Rattle.bp_scan.specs.Reading.{IsReading, IsAtHand, IsInside, steps};
 ghost use Rattle.bp_scan.specs.Room.{HasRoom};
 ghost use Rattle.bp_scan.specs.Misspelled.{FailsNames};
@@ -16,7 +16,7 @@ use crate::work::{Scan, make_room};
 use bp_dirs::entry_place;
 use bp_inodes::{get, inode_file};
 use bp_layout::Check;
-use bp_limits::{ENTRY_SIZE, INODE_SIZE};
+use bp_limits::{BLOCK_ENTRIES, ENTRY_SIZE, ENTRY_WORDS, INODE_SIZE};
 use bp_spelling::{NameFault, Spelled, check_names, named_in_row};
 use bp_tree::Tree;
 use bp_walk::CheckFault;
@@ -88,22 +88,22 @@ fn read_leaf<R: Region>(
     work: &mut Scan,
 ) -> Result<(), CheckFault>
     requires inside { IsInside (current_words (R.memory region.now)) work.old directory first }
-    requires starts { first % 16 ≡ 0 }
+    requires starts { first % block_entries ≡ 0 }
     requires live { first < directory.tree.size / entry_size }
     ensures inside { let words = current_words (R.memory region.now) in
-        let end = min (first + 16) (directory.tree.size / entry_size) in
+        let end = min (first + block_entries) (directory.tree.size / entry_size) in
         OnOk result (IsInside words work.new directory end) }
     ensures steps { OnOk result (steps work.new ≤ steps work.old) }
     ensures fault { IfErr result (λ f. Fails (current_words (R.memory region.now)) f.check f.place) }
     ensures room { HasRoom (current_words (R.memory region.now)) work.new }
 {
     let place = entry_place(region, directory.tree, first, 0);
-    let count = (directory.tree.size / ENTRY_SIZE - first).min(16) as u32;
+    let count = (directory.tree.size / ENTRY_SIZE - first).min(BLOCK_ENTRIES) as u32;
     let named = named_in_row(region, place, count);
     for k in 0..count {
         let slot = Slot {
             number: first + k as u64,
-            place: place + 32 * k,
+            place: place + ENTRY_WORDS * k,
             named: named[k as usize],
         };
         read_entry(region, directory, slot, work)?;
@@ -124,8 +124,8 @@ fn read_entries<R: Region>(
     ensures fault { IfErr result (λ f. Fails (current_words (R.memory region.now)) f.check f.place) }
     ensures room { HasRoom (current_words (R.memory region.now)) work.new }
 {
-    for leaf in 0..(directory.tree.size / ENTRY_SIZE).div_ceil(16) {
-        read_leaf(region, directory, 16 * leaf, work)?;
+    for leaf in 0..(directory.tree.size / ENTRY_SIZE).div_ceil(BLOCK_ENTRIES) {
+        read_leaf(region, directory, BLOCK_ENTRIES * leaf, work)?;
     }
     Ok(())
 }

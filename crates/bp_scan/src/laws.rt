@@ -6,7 +6,7 @@ ghost use Rattle.bp_limits.specs.Limits.{block_size};
 ghost use Rattle.bp_layout.specs.Checks.{Fails, IsFormatted, IsFound, root_place};
 ghost use Rattle.bp_layout.specs.declared.check.Check.{Check};
 ghost use Rattle.bp_layout.specs.Free.{AreFreeBlocks, AreFreeInodes};
-ghost use Rattle.bp_layout.specs.Inode.{inode_count, kind_of, root_of, size_of};
+ghost use Rattle.bp_layout.specs.Inode.{IsDirectory, inode_count, root_of, size_of};
 ghost use Rattle.bp_layout.specs.WellFormed.{IsWellFormed};
 ghost use Rattle.bp_walk.specs.Walk.{FailsTree};
 ghost use Rattle.bp_scan.specs.Progress.{IsMidway};
@@ -19,7 +19,7 @@ pub fn nothing_is_left(image: &[u64], blocks: &Blocks, inodes: &Inodes, todo: &I
     requires formatted { IsFormatted image.now }
     requires inode_blocks { size_of image.now 0 % block_size ≡ 0 }
     requires some_inodes { block_size ≤ size_of image.now 0 }
-    requires root_kind { kind_of image.now 1 ≡ 2 }
+    requires root_kind { IsDirectory image.now root_inumber }
     requires range { (i : ℕ) → has inodes.now i ≡ true → (2 ≤ i) × (i < inode_count image.now) }
     requires midway { IsMidway image.now blocks.now inodes.now todo.now 0 0 }
     requires none_left { (i : ℕ) → has todo.now i ≡ false }
@@ -44,7 +44,7 @@ pub fn fault_of_a_tree(
     requires inode_file { has inodes.now 0 ≡ false }
     requires new { has inodes.now inode ≡ true }
     requires found { IsFound image.now inode }
-    requires kind { holes ≡ false → kind_of image.now inode ≡ 2 }
+    requires kind { holes ≡ false → IsDirectory image.now inode }
     ensures { (check : Check) (place : ℕ) →
         FailsTree image.now (root_place image.now inode) (root_of image.now inode) (size_of image.now inode)
         holes blocks.now check place →

@@ -6,7 +6,7 @@ ghost use Rattle.bp_layout.specs.Checks.{IsFormatted};
 ghost use Rattle.bp_layout.specs.Free.{AreFreeBlocks, AreFreeInodes};
 ghost use Rattle.bp_layout.specs.WellFormed.{IsWellFormed};
 ghost use Rattle.bp_layout.specs.Words.{block_count, word};
-ghost use Rattle.bp_limits.specs.Limits.{block_words, max_blocks, min_blocks, super_blocks, super_magic};
+ghost use Rattle.bp_limits.specs.Limits.{block_inodes, block_words, super_blocks, super_magic, super_root, super_size};
 ghost use Rattle.bp_scan.specs.Faults.{IsFault};
 ghost use Rattle.bp_scan.specs.Room.{HasRoom};
 ghost use Rattle.bp_scan.specs.Totals.{HasTotals};
@@ -31,6 +31,8 @@ fn read_superblock<R: Region>(region: &R) -> Super
     requires { block_words ≤ length (current_words (R.memory region.now)) }
     ensures magic { result.magic ≡ word (current_words (R.memory region.now)) super_magic }
     ensures blocks { result.blocks ≡ word (current_words (R.memory region.now)) super_blocks }
+    ensures root { result.root ≡ word (current_words (R.memory region.now)) super_root }
+    ensures size { result.size ≡ word (current_words (R.memory region.now)) super_size }
 {
     Super::read(&[
         region.load(SUPER_MAGIC),
@@ -115,8 +117,8 @@ pub fn scan<R: Region>(
     requires least { min_blocks ≤ block_count (current_words (R.memory region.now)) }
     requires most { block_count (current_words (R.memory region.now)) ≤ max_blocks }
     requires blocks { length blocks.old ≡ block_count (current_words (R.memory region.now)) }
-    requires inodes { length inodes.old ≡ 64 * block_count (current_words (R.memory region.now)) }
-    requires pending { pending.old ≡ 64 * block_count (current_words (R.memory region.now)) }
+    requires inodes { length inodes.old ≡ block_inodes * block_count (current_words (R.memory region.now)) }
+    requires pending { pending.old ≡ block_inodes * block_count (current_words (R.memory region.now)) }
     ensures well_formed { IsOk result ↔ IsWellFormed (current_words (R.memory region.now)) }
     ensures blocks { OnOk result (AreFreeBlocks (current_words (R.memory region.now)) (has blocks.new)) }
     ensures inodes { OnOk result (AreFreeInodes (current_words (R.memory region.now)) (has inodes.new)) }

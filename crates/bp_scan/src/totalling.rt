@@ -2,6 +2,7 @@
 
 ghost use Rattle.std.specs.Prelude.{◌≡◌, ℕ, ◌+◌, ◌*◌, ◌<◌, ◌≤◌, false, length};
 ghost use Rattle.bp_free.specs.Set.{has};
+ghost use Rattle.bp_limits.specs.Limits.{block_inodes};
 ghost use Rattle.bp_layout.specs.Free.{AreFreeBlocks, AreFreeInodes};
 ghost use Rattle.bp_layout.specs.Inode.{inode_count};
 ghost use Rattle.bp_layout.specs.Reached.{IsReached};
@@ -54,7 +55,7 @@ pub(crate) fn all_totals<R: Region>(region: &R, blocks: &Blocks, inodes: &Inodes
     requires reached { let words = current_words (R.memory region.now) in
         (i : ℕ) → 1 ≤ i → i < inode_count words → has inodes.now i ≡ false → IsReached words i }
     requires block_room { length blocks.now ≡ block_count (current_words (R.memory region.now)) }
-    requires inode_room { length inodes.now ≡ 64 * block_count (current_words (R.memory region.now)) }
+    requires inode_room { length inodes.now ≡ block_inodes * block_count (current_words (R.memory region.now)) }
     ensures { HasTotals (current_words (R.memory region.now)) result }
 {
     let mut totals = Totals {

@@ -15,26 +15,19 @@ use crate::work::Scan;
 use bp_free::Blocks;
 use bp_inodes::{inode_file, place};
 use bp_layout::Check;
-use bp_limits::{BLOCK_SIZE, ENTRY_SIZE, SUPER_ROOT, SUPER_SIZE};
+use bp_limits::{
+    BLOCK_SIZE, DIRECTORY_KIND, ENTRY_SIZE, FILE_KIND, ROOT_INUMBER, SUPER_ROOT, SUPER_SIZE,
+};
 use bp_tree::Tree;
 use bp_walk::{CheckFault, take_tree};
 use pm_region::Region;
-
-/// The kind of a file.
-const FILE: u64 = 1;
-
-/// The kind of a directory.
-const DIRECTORY: u64 = 2;
-
-/// The inode of the root directory.
-const ROOT: u32 = 1;
 
 /// The words of an inode that are in use.
 #[derive(Clone, Copy)]
 struct InodeWords {
     /// The word of the region at which the first stands.
     place: u32,
-    /// 1 for a file, 2 for a directory, where it is right.
+    /// `FILE_KIND` or `DIRECTORY_KIND`, where it is right.
     kind: u64,
     /// Its root word and its size in bytes.
     tree: Tree,
@@ -60,7 +53,7 @@ pub(crate) fn enter_inode_file<R: Region>(region: &R, blocks: &mut Blocks) -> Re
 }
 
 /// Reads the words of an inode.
-fn inode_words<R: Region>(region: &R, inode: u32) -> InodeWords
+fn load_inode<R: Region>(region: &R, inode: u32) -> InodeWords
     requires formatted { IsFormatted (current_words (R.memory region.now)) }
     requires sound { let words = current_words (R.memory region.now) in
         IsSound words (root_of words 0) (size_of words 0) }
@@ -88,12 +81,12 @@ fn check_words(inode: u32, words: InodeWords) -> Result<(), CheckFault>
     ensures err { IfErr result (λ f. IsWrong inode words.kind words.tree.size words.place f.check f.place) }
 {
     match words.kind {
-        DIRECTORY if words.tree.size % ENTRY_SIZE == 0 => Ok(()),
-        DIRECTORY => Err(CheckFault {
+        DIRECTORY_KIND if words.tree.size % ENTRY_SIZE == 0 => Ok(()),
+        DIRECTORY_KIND => Err(CheckFault {
             check: Check::DirectorySize,
             place: words.place + 2,
         }),
-        FILE if inode != ROOT => Ok(()),
+        FILE_KIND if inode != ROOT_INUMBER => Ok(()),
         _ => Err(CheckFault {
             check: Check::Kind,
             place: words.place,
@@ -120,9 +113,9 @@ pub(crate) fn enter<R: Region>(region: &R, inode: u32, work: &mut Scan) -> Resul
         IfErr result (λ f. FailsInode words inode work.old.blocks f.check f.place) }
     ensures room { HasRoom (current_words (R.memory region.now)) work.new }
 {
-    let words = inode_words(region, inode);
+    let words = load_inode(region, inode);
     check_words(inode, words)?;
-    let holes = words.kind != DIRECTORY;
+    let holes = words.kind != DIRECTORY_KIND;
     take_tree(region, words.place + 1, words.tree, holes, &mut work.blocks)?;
     if !holes {
         work.todo.give(inode);

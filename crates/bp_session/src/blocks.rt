@@ -2,20 +2,22 @@
 
 ghost use Rattle.std.specs.Prelude.{◌≡◌, ◌≤◌, ◌<◌, ◌^◌, ◌+◌, ◌*◌, drop, length, take};
 ghost use Rattle.bp_io.specs.Files.{block_bytes};
+ghost use Rattle.bp_limits.specs.Limits.{block_words};
 ghost use Rattle.bp_layout.specs.Bytes.{image_bytes};
 ghost use Rattle.pm_region.specs.Memory.{current_words};
 
+use bp_limits::BLOCK_WORDS;
 use pm_region::Region;
 use pm_words::{read_word, write_word};
 
 /// The words of block `i` as they are now.
 fn load_block<R: Region>(region: &R, i: u32, into: &mut [u64; 512])
-    requires inside { 512 * i + 512 ≤ length (R.memory region.now).base }
-    requires fits { 512 * i + 512 < 2 ^ 32 }
-    ensures { into.new ≡ take 512 (drop (512 * i) (current_words (R.memory region.now))) }
+    requires inside { block_words * i + block_words ≤ length (R.memory region.now).base }
+    requires fits { block_words * i + block_words < 2 ^ 32 }
+    ensures { into.new ≡ take block_words (drop (block_words * i) (current_words (R.memory region.now))) }
 {
-    for k in 0..512u32 {
-        into[k as usize] = region.load(512 * i + k);
+    for k in 0..BLOCK_WORDS {
+        into[k as usize] = region.load(BLOCK_WORDS * i + k);
     }
 }
 
@@ -30,8 +32,8 @@ fn encode(words: &[u64; 512], into: &mut [u8; 4096])
 
 /// The bytes of block `i` of the words as they are now.
 pub fn read_block<R: Region>(region: &R, i: u32, into: &mut [u8; 4096])
-    requires inside { 512 * i + 512 ≤ length (R.memory region.now).base }
-    requires fits { 512 * i + 512 < 2 ^ 32 }
+    requires inside { block_words * i + block_words ≤ length (R.memory region.now).base }
+    requires fits { block_words * i + block_words < 2 ^ 32 }
     ensures { into.new ≡ block_bytes (image_bytes (current_words (R.memory region.now))) i }
 {
     // In two loops, each of which is a copy of a block.

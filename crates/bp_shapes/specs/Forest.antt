@@ -1,6 +1,6 @@
 -- The trees of an image on their trails.
 use Rattle.std.specs.Prelude.{◌≡◌, ℕ, zero, suc, ◌+◌, ◌*◌, ◌/◌, ◌%◌, ◌<◌, ◌≤◌, [], ◌∷◌, Bool, true, false}
-use Rattle.bp_limits.specs.Limits.{super_root, inode_size}
+use Rattle.bp_limits.specs.Limits.{block_words, inode_size, inode_words, super_root}
 use Rattle.bp_layout.specs.Words.{Image, word, block_count, height_of}
 use Rattle.bp_layout.specs.Tree.{IsLivePointer, HasBlock, IsSound}
 use Rattle.bp_layout.specs.Inode.{root_of}
@@ -10,12 +10,12 @@ use Rattle.bp_shapes.specs.Trail.{Trail, LeadsTo}
 -- the trail of a word of a tree, behind that of its root word
 abbrev pub along : Trail → ℕ → ℕ → Trail
 along base zero index = base
-along base (suc depth) index = (index % 512) ∷ along base depth (index / 512)
+along base (suc depth) index = (index % block_words) ∷ along base depth (index / block_words)
 
 -- where the inode file has this height
 abbrev pub root_trail : ℕ → ℕ → Trail
 root_trail height zero = []
-root_trail height (suc i) = along [] (suc height) (8 * suc i + 1)
+root_trail height (suc i) = along [] (suc height) (inode_words * suc i + 1)
 
 abbrev pub tree_trail : ℕ → ℕ → ℕ → ℕ → Trail
 tree_trail height t depth index = along (root_trail height t) depth index
@@ -39,8 +39,8 @@ pub record IsTreePointer (image : Image) (bound : ℕ → ℕ) (p : Trail) : Typ
 
 -- a word of a block to which no pointer leads
 pub record IsUnseen (image : Image) (bound : ℕ → ℕ) (place : ℕ) : Type 0 where
-  pub low : 512 ≤ place
-  pub dead : LeadsTo image (IsTreePointer image bound) (place / 512) → ⊥
+  pub low : block_words ≤ place
+  pub dead : LeadsTo image (IsTreePointer image bound) (place / block_words) → ⊥
 
 -- the set has just the blocks to which no pointer of these trails leads
 pub record IsExactSet (image : Image) (Pointer : Trail → Type 0) (free : ℕ → Bool) : Type 0 where

@@ -4,13 +4,13 @@ use Rattle.bp_layout.specs.Words.{Image, block_count, block_of, height_of, slot_
 use Rattle.bp_layout.specs.Tree.{word_at, node, IsLivePointer}
 use Rattle.bp_layout.specs.Inode.{root_of, size_of, StandsAt}
 use Rattle.bp_layout.specs.Reached.{IsReached, IsLiveBlock}
-use Rattle.bp_limits.specs.Limits.{max_height}
+use Rattle.bp_limits.specs.Limits.{block_size, block_words, max_height}
 use Rattle.bp_layout.specs.Members.{Each, AreApart}
 
 -- word l at depth e stands at or under word k at depth d + 1, so many deeper
 pub data IsUnder (d k : ℕ) : ℕ → ℕ → ℕ → Type 0 where
   here : {e l : ℕ} → e ≡ suc d → l ≡ k → IsUnder d k e l 0
-  under : {e l r : ℕ} → IsUnder d k e (l / 512) r → IsUnder d k (suc e) l (suc r)
+  under : {e l r : ℕ} → IsUnder d k e (l / block_words) r → IsUnder d k (suc e) l (suc r)
 
 -- Pointer k at depth d + 1 of tree t is null and live. The block's tree, which is to stand there, is free, sound, and
 -- zero below the size.
@@ -19,22 +19,23 @@ pub record CanHang (image : Image) (t d k place block : ℕ) : Type 0 where
   pub live : IsLivePointer (root_of image t) (size_of image t) (suc d) k
   pub null : node image (root_of image t) (suc d) k ≡ 0
   pub stands : StandsAt image t d k place
-  pub bits : (e l r : ℕ) → IsUnder d k e (l / 512) r → IsLivePointer (root_of image t) (size_of image t) (suc e) l →
-      word_at image (4096 * block) (suc r) l % 4096 ≡ 0
+  pub bits : (e l r : ℕ) → IsUnder d k e (l / block_words) r →
+      IsLivePointer (root_of image t) (size_of image t) (suc e) l →
+      word_at image (block_size * block) (suc r) l % block_size ≡ 0
   pub in_range : (e l r : ℕ) → IsUnder d k e l r → IsLivePointer (root_of image t) (size_of image t) e l →
-      node image (4096 * block) r l < block_count image
+      node image (block_size * block) r l < block_count image
   pub free : (e l r : ℕ) → IsUnder d k e l r → IsLivePointer (root_of image t) (size_of image t) e l →
-      node image (4096 * block) r l ≢ 0 → IsLiveBlock image (node image (4096 * block) r l) → ⊥
+      node image (block_size * block) r l ≢ 0 → IsLiveBlock image (node image (block_size * block) r l) → ⊥
   pub once : (e l r f m q : ℕ) → IsUnder d k e l r → IsUnder d k f m q →
       IsLivePointer (root_of image t) (size_of image t) e l → IsLivePointer (root_of image t) (size_of image t) f m →
-      node image (4096 * block) r l ≢ 0 → node image (4096 * block) r l ≡ node image (4096 * block) q m →
-      (e ≡ f) × (l ≡ m)
-  pub zero_bytes : (o r : ℕ) → IsUnder d k (height_of (root_of image t)) (o / 8 / 512) r → o < size_of image t →
-      byte_of (word_at image (4096 * block) (suc r) (o / 8)) (o % 8) ≡ 0
+      node image (block_size * block) r l ≢ 0 →
+      node image (block_size * block) r l ≡ node image (block_size * block) q m → (e ≡ f) × (l ≡ m)
+  pub zero_bytes : (o r : ℕ) → IsUnder d k (height_of (root_of image t)) (o / 8 / block_words) r → o < size_of image t →
+      byte_of (word_at image (block_size * block) (suc r) (o / 8)) (o % 8) ≡ 0
 
 -- a root word one higher, with this block on top
 abbrev pub raised : ℕ → ℕ → ℕ
-raised root block = 4096 * block + suc (height_of root)
+raised root block = block_size * block + suc (height_of root)
 
 -- the root word over these blocks, the lowest first
 abbrev pub raised_by : ℕ → List ℕ → ℕ
@@ -45,7 +46,7 @@ raised_by root (block ∷ blocks) = raised_by (raised root block) blocks
 abbrev pub LeadDown : Image → ℕ → List ℕ → Type 0
 LeadDown image root [] = Unit {0}
 LeadDown image root (block ∷ blocks) =
-    (slot_word image block 0 ≡ 4096 * block_of root) × LeadDown image (raised root block) blocks
+    (slot_word image block 0 ≡ block_size * block_of root) × LeadDown image (raised root block) blocks
 
 -- free blocks that lead down to the root's block
 pub record IsChain (image : Image) (root : ℕ) (blocks : List ℕ) : Type 0 where

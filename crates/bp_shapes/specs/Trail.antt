@@ -1,7 +1,7 @@
 -- A trail names a word by the slots through which one goes to it, the last slot first. The empty trail is the root
 -- word of the inode file.
 use Rattle.std.specs.Prelude.{◌≡◌, ◌≢◌, ℕ, zero, suc, ◌+◌, ◌*◌, ◌<◌, List, [], ◌∷◌, length, slice_index}
-use Rattle.bp_limits.specs.Limits.{super_root}
+use Rattle.bp_limits.specs.Limits.{block_words, super_root}
 use Rattle.bp_layout.specs.Words.{Image, word, block_count, block_of, slot_word}
 
 abbrev pub Trail : Type 0
@@ -19,24 +19,25 @@ block_on image trail = block_of (word_on image trail)
 -- the place of that word
 abbrev pub place_on : Image → Trail → ℕ
 place_on image [] = super_root
-place_on image (slot ∷ above) = 512 * block_on image above + slot
+place_on image (slot ∷ above) = block_words * block_on image above + slot
 
 -- the pointers that are followed: a set of trails that has all above each of its own
 pub record ArePointers (Pointer : Trail → Type 0) : Type 0 where
   pub top : Pointer []
   pub above : (slot : ℕ) (p : Trail) → Pointer (slot ∷ p) → Pointer p
-  pub slots : (slot : ℕ) (p : Trail) → Pointer (slot ∷ p) → slot < 512
+  pub slots : (slot : ℕ) (p : Trail) → Pointer (slot ∷ p) → slot < block_words
 
 -- the pointers of an image lead to blocks of it, no two to one
 pub record IsSkeleton (image : Image) (Pointer : Trail → Type 0) : Type 0 where
-  pub whole : length image ≡ 512 * block_count image
+  pub whole : length image ≡ block_words * block_count image
   pub in_range : (p : Trail) → Pointer p → block_on image p < block_count image
   pub once : (p q : Trail) → Pointer p → Pointer q → block_on image p ≢ 0 → block_on image p ≡ block_on image q → p ≡ q
 
 -- the word at the end of a trail stands in the image: the pointer above it is not null
 pub data IsPlaced (image : Image) (Pointer : Trail → Type 0) : Trail → Type 0 where
   at_top : IsPlaced image Pointer []
-  in_block : (slot : ℕ) (p : Trail) → Pointer p → block_on image p ≢ 0 → slot < 512 → IsPlaced image Pointer (slot ∷ p)
+  in_block : (slot : ℕ) (p : Trail) → Pointer p → block_on image p ≢ 0 → slot < block_words
+      → IsPlaced image Pointer (slot ∷ p)
 
 -- a pointer of the image leads to the block
 pub record LeadsTo (image : Image) (Pointer : Trail → Type 0) (block : ℕ) : Type 0 where

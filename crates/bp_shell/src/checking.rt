@@ -4,7 +4,7 @@ ghost use Rattle.bp_free.specs.Set.{empty};
 ghost use Rattle.bp_io.specs.Files.{Known};
 ghost use Rattle.bp_layout.specs.WellFormed.{IsWellFormed};
 ghost use Rattle.bp_layout.specs.Words.{block_count};
-ghost use Rattle.bp_limits.specs.Limits.{block_words};
+ghost use Rattle.bp_limits.specs.Limits.{block_inodes};
 ghost use Rattle.bp_script.specs.declared.notices.Notice.{Notice};
 ghost use Rattle.bp_shell.specs.Checking.{CheckOutcome, Checks, IsClean};
 ghost use Rattle.bp_session.specs.Files.{HasImage};
@@ -13,7 +13,7 @@ ghost use Rattle.bp_session.specs.Outside.{outside};
 ghost use Rattle.bp_shell.specs.Statuses.{code_of};
 ghost use Rattle.bp_shell.specs.Stops.{HasStopCause, IsReason};
 ghost use Rattle.bp_shell.specs.declared.stop.Stop.TheVariants.{Memory, Refused};
-ghost use Rattle.std.specs.Prelude.{◌*◌, ◌≡◌, ◌≤◌, ◌⊎◌, ℕ, [], IfErr, IfOk, List, OnOk, Option, length};
+ghost use Rattle.std.specs.Prelude.{◌*◌, ◌≡◌, ◌⊎◌, ℕ, [], IfErr, IfOk, List, OnOk, Option, length};
 
 use crate::opening::{load_file, stop_of};
 use crate::printing::{print, tell_stop};

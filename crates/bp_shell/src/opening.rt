@@ -1,10 +1,10 @@
 //! The file of a program.
 
-ghost use Rattle.std.specs.Prelude.{◌≡◌, ◌<◌, ◌≤◌, ◌+◌, ◌*◌, ◌++◌, [], List, ℕ, ◌⊎◌, IfErr, IfOk, OnOk, false, length, true};
+ghost use Rattle.std.specs.Prelude.{◌≡◌, ◌<◌, ◌≤◌, ◌+◌, ◌*◌, ◌++◌, [], ◌⊎◌, IfErr, IfOk, OnOk, false, length};
 ghost use Rattle.bp_io.specs.Files.{Known, Reads, block_bytes, makes, may_change};
 ghost use Rattle.bp_layout.specs.Bytes.{image_bytes};
 ghost use Rattle.bp_layout.specs.WellFormed.{IsWellFormed};
-ghost use Rattle.bp_layout.specs.Words.{Image, block_count};
+ghost use Rattle.bp_layout.specs.Words.{Image};
 ghost use Rattle.bp_limits.specs.Limits.{block_size, block_words, log_events};
 ghost use Rattle.bp_script.specs.declared.notices.Notice.{Notice};
 ghost use Rattle.bp_session.specs.Files.{AreWordsOf64Bits, HasImage, Holds, HoldsFirstBlocks, IsReady};

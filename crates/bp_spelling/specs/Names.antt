@@ -1,6 +1,6 @@
 -- Whether the names of a directory's entries are right.
 use Rattle.std.specs.Prelude.{◌≡◌, ◌≢◌, ℕ, ◌+◌, ◌*◌, ◌/◌, ◌%◌, ◌<◌}
-use Rattle.bp_limits.specs.Limits.{entry_size}
+use Rattle.bp_limits.specs.Limits.{block_words, entry_size, entry_words}
 use Rattle.bp_layout.specs.Words.{Image, height_of}
 use Rattle.bp_layout.specs.Tree.{node}
 use Rattle.bp_layout.specs.Directory.{IsName, inumber_in, name_in}
@@ -14,7 +14,9 @@ pub record IsUsed (image : Image) (root size slot : ℕ) : Type 0 where
 
 -- the word of the region at which the first word of an entry stands
 abbrev pub entry_place_in : Image → ℕ → ℕ → ℕ
-entry_place_in image root slot = 512 * node image root (height_of root) ((32 * slot + 0) / 512) + (32 * slot + 0) % 512
+entry_place_in image root slot =
+    block_words * node image root (height_of root) ((entry_words * slot + 0) / block_words)
+    + (entry_words * slot + 0) % block_words
 
 -- each name has the form of one, and no two are equal
 pub record AreNames (image : Image) (root size : ℕ) : Type 0 where

@@ -1,9 +1,9 @@
 //! Whether a name has the form of one.
 
-ghost use Rattle.std.specs.Prelude.{◌≡◌, ◌≢◌, ◌⊎◌, ℕ, ◌+◌, ◌/◌, ◌%◌, ◌≤◌, ◌<◌, ◌↔◌, IsTrue, length, slice_index};
+ghost use Rattle.std.specs.Prelude.{◌≡◌, ◌≢◌, ℕ, ◌+◌, ◌/◌, ◌%◌, ◌≤◌, ◌<◌, ◌↔◌, IsTrue, length, slice_index};
 ghost use Rattle.bp_layout.specs.Directory.{IsName};
 ghost use Rattle.bp_layout.specs.Words.{byte_of};
-ghost use Rattle.bp_limits.specs.Limits.{max_name};
+ghost use Rattle.bp_limits.specs.Limits.{entry_words, max_name};
 ghost use Rattle.bp_spelling.specs.Places.{name_there, IsPlain, ArePlain, ArePlainBytes, IsDots};
 ghost use Rattle.pm_region.specs.Memory.{current_words};
 
@@ -73,7 +73,7 @@ fn is_dots(word: u64, count: u64) -> bool
 
 /// Whether the entry at a place has a name of the right form: 1 to 240 bytes, no byte 0 and no `/`, and neither `.` nor `..`.
 pub(crate) fn is_name<R: Region>(region: &R, place: u32) -> bool
-    requires { place + 32 ≤ length (current_words (R.memory region.now)) }
+    requires { place + entry_words ≤ length (current_words (R.memory region.now)) }
     ensures { IsTrue result ↔ IsName (name_there (current_words (R.memory region.now)) place) }
 {
     let _words = region.words();

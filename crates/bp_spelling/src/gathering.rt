@@ -3,7 +3,7 @@
 ghost use Rattle.std.specs.Prelude.{◌≡◌, ◌+◌, ◌/◌, ◌%◌, ◌<◌, ◌≤◌, min, length, take, All, IfOk, OnOk, IfErr};
 ghost use Rattle.bp_layout.specs.Directory.{slots};
 ghost use Rattle.bp_layout.specs.Tree.{IsSound, IsFull};
-ghost use Rattle.bp_limits.specs.Limits.{entry_size};
+ghost use Rattle.bp_limits.specs.Limits.{block_entries, entry_size};
 ghost use Rattle.bp_spelling.specs.Gathered.{IsGathered};
 ghost use Rattle.bp_spelling.specs.Hashes.{IsSpelled, places_of};
 ghost use Rattle.bp_spelling.specs.Places.{used_places, HaveForms, IsMisspelled};
@@ -15,7 +15,7 @@ use crate::form::is_name;
 use crate::hashing::hash_name;
 use crate::rows::named_in_row;
 use bp_dirs::entry_place;
-use bp_limits::ENTRY_SIZE;
+use bp_limits::{BLOCK_ENTRIES, ENTRY_SIZE, ENTRY_WORDS};
 use bp_tree::Tree;
 use pm_region::Region;
 
@@ -30,24 +30,24 @@ fn gather_leaf<R: Region>(
 ) -> Result<usize, u32>
     requires sound { IsSound (current_words (R.memory region.now)) tree.root tree.size }
     requires full { IsFull (current_words (R.memory region.now)) tree.root tree.size }
-    requires starts { first % 16 ≡ 0 }
+    requires starts { first % block_entries ≡ 0 }
     requires live { first < tree.size / entry_size }
     requires room { tree.size / entry_size ≤ length entries.old }
     requires before { let words = current_words (R.memory region.now) in
         IsGathered words tree.root (tree.size / entry_size) first entries.old before }
     ensures gathered { let words = current_words (R.memory region.now) in
         let end = tree.size / entry_size in
-        IfOk result (λ count. IsGathered words tree.root end (min (first + 16) end) entries.new count) }
+        IfOk result (λ count. IsGathered words tree.root end (min (first + block_entries) end) entries.new count) }
     ensures err { IfErr result (IsMisspelled (current_words (R.memory region.now)) tree.root tree.size) }
     ensures room { length entries.new ≡ length entries.old }
 {
     let _words = region.words();
     let row = entry_place(region, tree, first, 0);
-    let slots = (tree.size / ENTRY_SIZE - first).min(16) as u32;
+    let slots = (tree.size / ENTRY_SIZE - first).min(BLOCK_ENTRIES) as u32;
     let named = named_in_row(region, row, slots);
     let mut count = before;
     for k in 0..slots {
-        let place = row + 32 * k;
+        let place = row + ENTRY_WORDS * k;
         if named[k as usize] != 0 {
             if !is_name(region, place) {
                 return Err(place + 1);
@@ -86,8 +86,8 @@ pub(crate) fn gather<R: Region>(
     ensures room { length entries.new ≡ length entries.old }
 {
     let mut count = 0;
-    for leaf in 0..(tree.size / ENTRY_SIZE).div_ceil(16) {
-        count = gather_leaf(region, tree, 16 * leaf, entries, count)?;
+    for leaf in 0..(tree.size / ENTRY_SIZE).div_ceil(BLOCK_ENTRIES) {
+        count = gather_leaf(region, tree, BLOCK_ENTRIES * leaf, entries, count)?;
     }
     Ok(count)
 }

@@ -2,7 +2,7 @@
 
 ghost use Rattle.std.specs.Prelude.{◌≡◌, ◌+◌, ◌≤◌, length};
 ghost use Rattle.bp_layout.specs.Words.{word};
-ghost use Rattle.bp_limits.specs.Limits.{max_name};
+ghost use Rattle.bp_limits.specs.Limits.{entry_words, max_name};
 ghost use Rattle.bp_spelling.specs.Hashes.{mixed, name_hash};
 ghost use Rattle.pm_region.specs.Memory.{current_words};
 
@@ -24,7 +24,7 @@ fn mix(state: u64, word: u64) -> u64
 /// The hash of the name of the entry at a place: of its length, and of its words without the dead bytes.
 pub(crate) fn hash_name<R: Region>(region: &R, place: u32) -> u32
     requires short { word (current_words (R.memory region.now)) (place + 1) ≤ max_name }
-    requires within { place + 32 ≤ length (current_words (R.memory region.now)) }
+    requires within { place + entry_words ≤ length (current_words (R.memory region.now)) }
     ensures { result ≡ name_hash (current_words (R.memory region.now)) place }
 {
     let _words = region.words();

@@ -1,22 +1,25 @@
 //! What the entries of a leaf name.
 
 ghost use Rattle.std.specs.Prelude.{◌≡◌, ℕ, ◌+◌, ◌*◌, ◌<◌, ◌≤◌, length, slice_index};
+ghost use Rattle.bp_limits.specs.Limits.{entry_words, block_entries};
 ghost use Rattle.bp_layout.specs.Words.{word};
 ghost use Rattle.pm_region.specs.Memory.{current_words};
 
+use bp_limits::{BLOCK_ENTRIES, ENTRY_WORDS};
 use pm_region::Region;
 
 /// The numbers of the inodes that entries in a row name, 0 where one is empty: of so many, sixteen at most, from the one
 /// on that begins at a word of the region. They are read in one go, so the processor waits for all of them at once.
-pub fn named_in_row<R: Region>(region: &R, place: u32, count: u32) -> [u64; 16]
-    requires few { count ≤ 16 }
-    requires within { place + 32 * count ≤ length (current_words (R.memory region.now)) }
-    ensures { (k : ℕ) → k < count → slice_index result k ≡ word (current_words (R.memory region.now)) (place + 32 * k) }
+pub fn named_in_row<R: Region>(region: &R, place: u32, count: u32) -> [u64; BLOCK_ENTRIES as usize]
+    requires few { count ≤ block_entries }
+    requires within { place + entry_words * count ≤ length (current_words (R.memory region.now)) }
+    ensures { (k : ℕ) → k < count →
+        slice_index result k ≡ word (current_words (R.memory region.now)) (place + entry_words * k) }
 {
     let _words = region.words();
-    let mut named = [0; 16];
+    let mut named = [0; BLOCK_ENTRIES as usize];
     for k in 0..count {
-        named[k as usize] = region.load(place + 32 * k);
+        named[k as usize] = region.load(place + ENTRY_WORDS * k);
     }
     named
 }

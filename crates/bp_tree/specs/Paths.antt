@@ -1,5 +1,6 @@
 -- Word paths that stay inside of an image.
 use Rattle.std.specs.Prelude.{ℕ, ◌+◌, ◌*◌, ◌<◌, [], ◌∷◌}
+use Rattle.bp_limits.specs.Limits.{block_words, super_root}
 use Rattle.bp_layout.specs.Words.{Image, word, block_of, block_count}
 use Rattle.bp_layout.specs.WordPaths.{WordPath}
 
@@ -7,7 +8,7 @@ use Rattle.bp_layout.specs.WordPaths.{WordPath}
 abbrev pub IsInRangeFrom : Image → ℕ → WordPath → Type 0
 IsInRangeFrom image place [] = Unit {0}
 IsInRangeFrom image place (slot ∷ path) = (block_of (word image place) < block_count image)
-    × IsInRangeFrom image (512 * block_of (word image place) + slot) path
+    × IsInRangeFrom image (block_words * block_of (word image place) + slot) path
 
 abbrev pub IsInRange : Image → WordPath → Type 0
-IsInRange image path = IsInRangeFrom image 2 path
+IsInRange image path = IsInRangeFrom image super_root path

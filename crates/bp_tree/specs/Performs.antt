@@ -5,7 +5,7 @@ use Rattle.pm_epochs.specs.Log.{StoresTo, IsStoredIn, stores, barriers, last_sto
 use Rattle.pm_epochs.specs.May.{AnyAt, StoresMay}
 use Rattle.pm_region.specs.Memory.{Memory, current_words}
 use Rattle.pm_region.specs.Safe.{AddsQuiet, AddsCommit}
-use Rattle.bp_limits.specs.Limits.{super_root, super_size}
+use Rattle.bp_limits.specs.Limits.{block_words, super_root, super_size}
 use Rattle.bp_layout.specs.Members.{Has, Each, AreApart}
 use Rattle.bp_layout.specs.Need.{Change, cover, need}
 use Rattle.bp_layout.specs.Reached.{IsLiveBlock, IsFreeBlock}
@@ -16,13 +16,13 @@ use Rattle.bp_layout.specs.Words.{Image}
 
 -- a word of a block
 abbrev pub InBlock : ℕ → ℕ → Type 0
-InBlock block word = word / 512 ≡ block
+InBlock block word = word / block_words ≡ block
 
 -- Where a call that takes these blocks may store: into them, into blocks that are live, and at the two words of the
 -- superblock that tell of the inode file.
 pub data IsOpen (image : Image) (taken : List ℕ) (word : ℕ) : Type 0 where
-  in_taken : Has taken (word / 512) → IsOpen image taken word
-  in_live : IsLiveBlock image (word / 512) → IsOpen image taken word
+  in_taken : Has taken (word / block_words) → IsOpen image taken word
+  in_live : IsLiveBlock image (word / block_words) → IsOpen image taken word
   at_root : word ≡ super_root → IsOpen image taken word
   at_size : word ≡ super_size → IsOpen image taken word
 
@@ -49,8 +49,8 @@ most_stores needed = 512 * (needed + 6) + 64
 -- for, and its word stands in the image after, since a preparation may put a tree one level lower.
 pub record Performs (old new : Memory) (change : Change) (Effect : Image → Image → Type 0) : Type 0 where
   pub value : ℕ
-  pub commit : AddsCommit Same (address (current_words new) (cover (current_words old) change)) value 8
-      (most_stores (need (current_words old) change)) old new
+  pub commit : AddsCommit Same (address (current_words new) (cover (current_words old) change)) value
+      most_barriers most old new
   pub taken : List ℕ
   pub takes : TakesBlocks (current_words old) taken commit.prepared
   pub number : length taken ≡ need (current_words old) change
@@ -78,4 +78,4 @@ pub record IsShort (old new : Image) (change : Change) (events : List Event) : T
   pub few_barriers : barriers events ≤ 8
   pub few_stores : length (stores events) ≤ most_stores (need old change)
   -- and it leaves the words of the superblock that nobody reads
-  pub idle : (word : ℕ) → 4 ≤ word → word < 512 → IsStoredIn events word → ⊥
+  pub idle : (word : ℕ) → 4 ≤ word → word < block_words → IsStoredIn events word → ⊥

@@ -1,10 +1,10 @@
 //! Word paths: the slots through which one goes to a word from the root word of the inode file.
 
-ghost use Rattle.std.specs.Prelude.{◌≡◌, ℕ, suc, ◌+◌, ◌*◌, ◌/◌, ◌%◌, ◌<◌, ◌≤◌, length};
+ghost use Rattle.std.specs.Prelude.{◌≡◌, suc, ◌+◌, ◌*◌, ◌/◌, ◌<◌, length};
 ghost use Rattle.std.specs.List.{All};
 ghost use Rattle.bp_layout.specs.Words.{height_of};
 ghost use Rattle.bp_layout.specs.WordPaths.{digits, address, Exists};
-ghost use Rattle.bp_limits.specs.Limits.{super_root};
+ghost use Rattle.bp_limits.specs.Limits.{block_words, super_root};
 ghost use Rattle.pm_region.specs.Memory.{current_words};
 ghost use Rattle.bp_tree.specs.Paths.{IsInRange};
 
@@ -34,7 +34,7 @@ pub fn word_path(tree: Tree, offset: u64) -> Slots
 /// The word of the region that a path names.
 pub fn address<R: Region>(region: &R, path: &Slots) -> u32
     requires exists { Exists (current_words (R.memory region.now)) path.now.items }
-    requires slots { All (λ slot. slot < 512) path.now.items }
+    requires slots { All (λ slot. slot < block_words) path.now.items }
     requires in_range { IsInRange (current_words (R.memory region.now)) path.now.items }
     ensures address { result ≡ address (current_words (R.memory region.now)) path.now.items }
     ensures in_range { let count = length (current_words (R.memory region.now)) in super_root < count → result < count }

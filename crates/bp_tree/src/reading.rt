@@ -2,7 +2,7 @@
 
 ghost use Rattle.std.specs.Prelude.{◌≡◌, ℕ, ◌+◌, ◌-◌, ◌*◌, ◌/◌, ◌%◌, ◌<◌, ◌≤◌, IfNone, IfSome, length, slice_index, take, drop, min};
 ghost use Rattle.bp_layout.specs.Tree.{IsSound, content_word};
-ghost use Rattle.bp_limits.specs.Limits.{block_size};
+ghost use Rattle.bp_limits.specs.Limits.{block_size, block_words};
 ghost use Rattle.pm_region.specs.Memory.{current_words};
 ghost use Rattle.bp_tree.specs.Bytes.{stored_bytes, content_part};
 
@@ -102,11 +102,12 @@ fn read_part<R: Region>(region: &R, word: u32, first: usize, into: &mut [u8])
 pub fn leaf_words<R: Region>(region: &R, tree: Tree, leaf: u64) -> Option<&[u64]>
     requires sound { IsSound (current_words (R.memory region.now)) tree.root tree.size }
     requires live { block_size * leaf < tree.size }
-    ensures len { IfSome result (λ words. length words.now ≡ 512) }
-    ensures words { IfSome result (λ words. (i : ℕ) → i < 512 →
-        slice_index words.now i ≡ content_word (current_words (R.memory region.now)) tree.root (512 * leaf + i)) }
-    ensures none { IfNone result ((i : ℕ) → i < 512 →
-        content_word (current_words (R.memory region.now)) tree.root (512 * leaf + i) ≡ 0) }
+    ensures len { IfSome result (λ words. length words.now ≡ block_words) }
+    ensures words { let image = current_words (R.memory region.now) in
+        IfSome result (λ words. (i : ℕ) → i < block_words →
+        slice_index words.now i ≡ content_word image tree.root (block_words * leaf + i)) }
+    ensures none { IfNone result ((i : ℕ) → i < block_words →
+        content_word (current_words (R.memory region.now)) tree.root (block_words * leaf + i) ≡ 0) }
 {
     let _words = region.words();
     let block = leaf_block(region, tree, leaf);

@@ -3,13 +3,16 @@
 ghost use Rattle.std.specs.Prelude.{◌≡◌, ◌≢◌, ◌+◌, ◌-◌, ◌*◌, ◌/◌, ◌%◌, ◌<◌, ◌≤◌, suc, length};
 ghost use Rattle.bp_layout.specs.Words.{block_count, block_of, height_of, slot_word};
 ghost use Rattle.bp_layout.specs.Tree.{node, content_word, covered, IsSound};
-ghost use Rattle.bp_limits.specs.Limits.{block_size};
+ghost use Rattle.bp_limits.specs.Limits.{block_size, block_words};
 ghost use Rattle.pm_region.specs.Memory.{current_words};
 
 use crate::descent::descend;
 use bp_layout::Inode;
 use bp_limits::BLOCK_WORDS;
 use pm_region::Region;
+
+/// The content words of a leaf.
+const LEAF_WORDS: u64 = BLOCK_WORDS as u64;
 
 /// A tree: its root word, which holds the height and the topmost block, and its size in bytes.
 #[derive(Clone, Copy, Debug, PartialEq, Eq)]
@@ -50,7 +53,7 @@ impl Tree {
 /// The word in a slot of a block, 0 where the block is 0, which stands for no block.
 pub fn load_slot<R: Region>(region: &R, block: u64, slot: u64) -> u64
     requires block { block < block_count (current_words (R.memory region.now)) }
-    requires slot { slot < 512 }
+    requires slot { slot < block_words }
     ensures { result ≡ slot_word (current_words (R.memory region.now)) block slot }
 {
     // Words are counted in 32 bits, so that the place of one fits.
@@ -98,11 +101,12 @@ pub fn content_word<R: Region>(region: &R, tree: Tree, index: u64) -> u64
 pub fn content_place<R: Region>(region: &R, tree: Tree, index: u64) -> u32
     requires sound { IsSound (current_words (R.memory region.now)) tree.root tree.size }
     requires live { 8 * index < tree.size }
-    requires present { node (current_words (R.memory region.now)) tree.root (height_of tree.root) (index / 512) ≢ 0 }
+    requires present { let words = current_words (R.memory region.now) in
+        node words tree.root (height_of tree.root) (index / block_words) ≢ 0 }
     ensures place { let words = current_words (R.memory region.now) in
-        result ≡ 512 * node words tree.root (height_of tree.root) (index / 512) + index % 512 }
+        result ≡ block_words * node words tree.root (height_of tree.root) (index / block_words) + index % block_words }
     ensures in_range { result < length (current_words (R.memory region.now)) }
 {
     let _words = region.words();
-    (512 * leaf_block(region, tree, index / 512) + index % 512) as u32
+    (LEAF_WORDS * leaf_block(region, tree, index / LEAF_WORDS) + index % LEAF_WORDS) as u32
 }

@@ -2,7 +2,7 @@
 use Rattle.std.specs.Prelude.{◌≡◌, ◌≢◌, ◌==◌, ℕ, List, [], Bool, false, Option, None, Some, option_map}
 use Rattle.bp_changes.specs.Effects.{CanUnlink}
 use Rattle.bp_layout.specs.Directory.{IsName, empty_slot, inumber_at, slot_named}
-use Rattle.bp_layout.specs.Inode.{kind_of}
+use Rattle.bp_layout.specs.Inode.{IsDirectory}
 use Rattle.bp_layout.specs.Lookup.{Path, lookup}
 use Rattle.bp_layout.specs.PathText.{parse}
 use Rattle.bp_layout.specs.Words.{Image}
@@ -22,7 +22,7 @@ use Rattle.bp_volume.specs.declared.walking.Target.{Target}
 pub record IsTarget (image : Image) (path : Path) (target : Target) : Type 0 where
   pub below : path ≢ []
   pub parent : lookup image (parent_of path) ≡ Some target.dir
-  pub directory : kind_of image target.dir ≡ 2
+  pub directory : IsDirectory image target.dir
   pub last : last_of path ≡ target.name.now
   pub form : IsName target.name.now
   pub new : target.there ≡ None → slot_named image target.dir target.name.now ≡ None

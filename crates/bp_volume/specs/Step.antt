@@ -2,7 +2,7 @@
 use Rattle.std.specs.Prelude.{◌≡◌, ◌≢◌, ℕ, ◌<◌, ◌≤◌, List, [], ◌∷◌, length, Bool, true, false, None, Some}
 use Rattle.bp_layout.specs.Words.{Image}
 use Rattle.bp_layout.specs.Directory.{Name, IsName, slot_named}
-use Rattle.bp_layout.specs.Inode.{kind_of}
+use Rattle.bp_layout.specs.Inode.{IsDirectory}
 use Rattle.bp_layout.specs.Lookup.{Path, lookup}
 use Rattle.bp_plain.specs.PlainTree.{FileTree}
 use Rattle.bp_plain.specs.Stands.{Stands}
@@ -33,7 +33,7 @@ pub record IsNewOn (image : Image) (path : Path) (i : ℕ) (name : Name) : Type 
   pub below : path ≢ []
   pub parent : lookup image (parent_of path) ≡ Some i
   pub last : last_of path ≡ name
-  pub directory : kind_of image i ≡ 2
+  pub directory : IsDirectory image i
   pub form : IsName name
   pub missing : slot_named image i name ≡ None
 

@@ -2,7 +2,7 @@
 
 ghost use Rattle.std.specs.Prelude.{◌≡◌, ◌≤◌, IfErr, IfOk, OnOk};
 ghost use Rattle.bp_dirs.specs.Names.{name_count};
-ghost use Rattle.bp_layout.specs.Inode.{kind_of, root_of, size_of};
+ghost use Rattle.bp_layout.specs.Inode.{IsDirectory, IsFile, root_of, size_of};
 ghost use Rattle.bp_layout.specs.WellFormed.{IsWellFormed};
 ghost use Rattle.bp_limits.specs.Limits.{call_room};
 ghost use Rattle.bp_plain.specs.Calls.Call.{rmdir, unlink};
@@ -30,7 +30,7 @@ fn file_entry<R: Region>(region: &R, text: &[u8]) -> Result<FoundEntry, FsError>
     requires { IsWellFormed (current_words (R.memory region.now)) }
     ensures found { IfOk result
         (λ entry. FindsEntry (current_words (R.memory region.now)) text.now entry.dir entry.slot entry.inumber) }
-    ensures file { IfOk result (λ entry. kind_of (current_words (R.memory region.now)) entry.inumber ≡ 1) }
+    ensures file { IfOk result (λ entry. IsFile (current_words (R.memory region.now)) entry.inumber) }
     ensures refused { IfErr result
         (λ e. Refuses (current_words (R.memory region.now)) (unlink text.now) (refusal_of e)) }
 {
@@ -50,7 +50,7 @@ fn without_names<R: Region>(
     requires well_formed { IsWellFormed (current_words (R.memory region.now)) }
     requires at { FindsEntry (current_words (R.memory region.now)) text.now entry.dir entry.slot entry.inumber }
     ensures same { IfOk result (λ empty. empty ≡ entry) }
-    ensures directory { OnOk result (kind_of (current_words (R.memory region.now)) entry.inumber ≡ 2) }
+    ensures directory { OnOk result (IsDirectory (current_words (R.memory region.now)) entry.inumber) }
     ensures empty { let words = current_words (R.memory region.now) in
         OnOk result (name_count words (root_of words entry.inumber) (size_of words entry.inumber) ≡ 0) }
     ensures refused { IfErr result
@@ -75,7 +75,7 @@ fn empty_entry<R: Region>(region: &R, text: &[u8]) -> Result<FoundEntry, FsError
     requires { IsWellFormed (current_words (R.memory region.now)) }
     ensures found { IfOk result
         (λ entry. FindsEntry (current_words (R.memory region.now)) text.now entry.dir entry.slot entry.inumber) }
-    ensures directory { IfOk result (λ entry. kind_of (current_words (R.memory region.now)) entry.inumber ≡ 2) }
+    ensures directory { IfOk result (λ entry. IsDirectory (current_words (R.memory region.now)) entry.inumber) }
     ensures empty { let words = current_words (R.memory region.now) in
         IfOk result (λ entry. name_count words (root_of words entry.inumber) (size_of words entry.inumber) ≡ 0) }
     ensures refused { IfErr result

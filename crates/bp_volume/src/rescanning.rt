@@ -1,6 +1,7 @@
 //! A scan of what a volume has.
 
 ghost use Rattle.std.specs.Prelude.{◌*◌, ◌≡◌, length};
+ghost use Rattle.bp_limits.specs.Limits.{block_inodes};
 ghost use Rattle.bp_layout.specs.WellFormed.{IsWellFormed};
 ghost use Rattle.bp_layout.specs.Words.{block_count};
 ghost use Rattle.bp_scan.specs.Totals.{HasTotals};
@@ -16,8 +17,8 @@ use pm_region::Region;
 pub(crate) fn rescan<R: Region>(parts: &mut Parts<R>, pending: &mut Pending) -> Totals
     requires well_formed { IsWellFormed (current_words (R.memory parts.old.region)) }
     requires blocks { length parts.old.blocks ≡ block_count (current_words (R.memory parts.old.region)) }
-    requires inodes { length parts.old.inodes ≡ 64 * block_count (current_words (R.memory parts.old.region)) }
-    requires pending { pending.old ≡ 64 * block_count (current_words (R.memory parts.old.region)) }
+    requires inodes { length parts.old.inodes ≡ block_inodes * block_count (current_words (R.memory parts.old.region)) }
+    requires pending { pending.old ≡ block_inodes * block_count (current_words (R.memory parts.old.region)) }
     ensures region { parts.new.region ≡ parts.old.region }
     ensures exact { AreExact (current_words (R.memory parts.new.region)) parts.new.blocks parts.new.inodes }
     ensures totals { HasTotals (current_words (R.memory parts.old.region)) result }

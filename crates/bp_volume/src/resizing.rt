@@ -1,7 +1,7 @@
 //! Files of another size.
 
 ghost use Rattle.std.specs.Prelude.{◌≡◌, ◌≤◌};
-ghost use Rattle.bp_layout.specs.Inode.{kind_of, size_of};
+ghost use Rattle.bp_layout.specs.Inode.{IsFile, size_of};
 ghost use Rattle.bp_layout.specs.WellFormed.{IsWellFormed};
 ghost use Rattle.bp_limits.specs.Limits.{call_room};
 ghost use Rattle.bp_plain.specs.Calls.Call.{truncate};
@@ -28,7 +28,7 @@ fn resize<R: Region>(
     requires well_formed { IsWellFormed (current_words (R.memory parts.old.region)) }
     requires exact { AreExact (current_words (R.memory parts.old.region)) parts.old.blocks parts.old.inodes }
     requires at { PathFinds (current_words (R.memory parts.old.region)) text.now file.inumber }
-    requires kind { kind_of (current_words (R.memory parts.old.region)) file.inumber ≡ 1 }
+    requires kind { IsFile (current_words (R.memory parts.old.region)) file.inumber }
     requires size { file.size ≡ size_of (current_words (R.memory parts.old.region)) file.inumber }
     requires room { call_room ≤ room_in (R.memory parts.old.region) }
     ensures called { CarriesOut (R.memory parts.old.region) (truncate text.now size) (unit_answer result)

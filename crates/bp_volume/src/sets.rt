@@ -2,9 +2,10 @@
 
 ghost use Rattle.std.specs.Prelude.{◌≡◌, ◌*◌, ◌≤◌, IfOk};
 ghost use Rattle.bp_free.specs.Set.{empty};
-ghost use Rattle.bp_limits.specs.Limits.{max_blocks};
+ghost use Rattle.bp_limits.specs.Limits.{block_inodes, max_blocks};
 
 use bp_free::{Blocks, Inodes};
+use bp_limits::BLOCK_INODES;
 use bp_scan::Pending;
 use std::alloc::{AllocError, Global};
 
@@ -28,8 +29,8 @@ impl Sets {
     pub fn new(alloc: Global, blocks: u32) -> Result<Sets, AllocError>
         requires { blocks ≤ max_blocks }
         ensures blocks { IfOk result (λ sets. sets.blocks ≡ empty blocks) }
-        ensures inodes { IfOk result (λ sets. sets.inodes ≡ empty (64 * blocks)) }
-        ensures pending { IfOk result (λ sets. sets.pending ≡ 64 * blocks) }
+        ensures inodes { IfOk result (λ sets. sets.inodes ≡ empty (block_inodes * blocks)) }
+        ensures pending { IfOk result (λ sets. sets.pending ≡ block_inodes * blocks) }
     {
         Ok(Sets {
             blocks: Blocks::new(alloc, blocks)?,

@@ -5,7 +5,7 @@ ghost use Rattle.bp_layout.specs.Free.{HasFree};
 ghost use Rattle.bp_layout.specs.Same.{Same};
 ghost use Rattle.bp_layout.specs.WellFormed.{IsWellFormed};
 ghost use Rattle.bp_layout.specs.Words.{block_count};
-ghost use Rattle.bp_limits.specs.Limits.{call_room, max_blocks, min_blocks};
+ghost use Rattle.bp_limits.specs.Limits.{block_inodes, call_room};
 ghost use Rattle.pm_epochs.specs.Log.{marks};
 ghost use Rattle.pm_epochs.specs.Replay.{IsRight, after_calls, kept_calls};
 ghost use Rattle.pm_region.specs.Memory.{crashed, current_words, drained, room_in, with_room};
@@ -398,8 +398,8 @@ impl<R: Region> Volume<R> {
         requires fresh { (R.memory region).events ≡ [] }
         requires roomy { call_room ≤ (R.memory region).capacity }
         requires blocks { length sets.blocks ≡ block_count (R.memory region).base }
-        requires inodes { length sets.inodes ≡ 64 * block_count (R.memory region).base }
-        requires pending { sets.pending ≡ 64 * block_count (R.memory region).base }
+        requires inodes { length sets.inodes ≡ block_inodes * block_count (R.memory region).base }
+        requires pending { sets.pending ≡ block_inodes * block_count (R.memory region).base }
         ensures same { IfOk result (λ volume. volume ≡ R.memory region) }
         ensures well_formed { IsOk result ↔ IsWellFormed (R.memory region).base }
         ensures handed_back { IfErr result (λ e. e.0 ≡ region) }

@@ -3,7 +3,7 @@
 ghost use Rattle.std.specs.Prelude.{◌≡◌, ◌≢◌, ◌≤◌, IfErr, IfOk, Some, [], length};
 ghost use Rattle.bp_dirs.specs.Spots.{FreeIs, named_slot};
 ghost use Rattle.bp_layout.specs.Directory.{empty_slot, slot_named};
-ghost use Rattle.bp_layout.specs.Inode.{kind_of, size_of};
+ghost use Rattle.bp_layout.specs.Inode.{IsFile, size_of};
 ghost use Rattle.bp_layout.specs.Lookup.{lookup};
 ghost use Rattle.bp_limits.specs.Limits.{max_name};
 ghost use Rattle.bp_layout.specs.Reached.{IsReached};
@@ -99,7 +99,7 @@ pub(crate) fn inode_at<R: Region>(region: &R, text: &[u8]) -> Result<u32, FsErro
 pub(crate) fn file_on<R: Region>(region: &R, path: &Path<'_>) -> Result<FoundFile, FsError>
     requires { IsWellFormed (current_words (R.memory region.now)) }
     ensures found { IfOk result (λ file. lookup (current_words (R.memory region.now)) path.now ≡ Some file.inumber) }
-    ensures kind { IfOk result (λ file. kind_of (current_words (R.memory region.now)) file.inumber ≡ 1) }
+    ensures kind { IfOk result (λ file. IsFile (current_words (R.memory region.now)) file.inumber) }
     ensures size { IfOk result (λ file. file.size ≡ size_of (current_words (R.memory region.now)) file.inumber) }
     ensures refused { IfErr result (λ e. RefusesFileAt (current_words (R.memory region.now)) path.now (refusal_of e)) }
 {
@@ -118,7 +118,7 @@ pub(crate) fn file_on<R: Region>(region: &R, path: &Path<'_>) -> Result<FoundFil
 pub(crate) fn file_at<R: Region>(region: &R, text: &[u8]) -> Result<FoundFile, FsError>
     requires { IsWellFormed (current_words (R.memory region.now)) }
     ensures found { IfOk result (λ file. PathFinds (current_words (R.memory region.now)) text.now file.inumber) }
-    ensures kind { IfOk result (λ file. kind_of (current_words (R.memory region.now)) file.inumber ≡ 1) }
+    ensures kind { IfOk result (λ file. IsFile (current_words (R.memory region.now)) file.inumber) }
     ensures size { IfOk result (λ file. file.size ≡ size_of (current_words (R.memory region.now)) file.inumber) }
     ensures refused { IfErr result (λ e. StopsAtFile (current_words (R.memory region.now)) text.now (refusal_of e)) }
 {

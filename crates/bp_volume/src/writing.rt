@@ -1,7 +1,7 @@
 //! Bytes into files.
 
-ghost use Rattle.std.specs.Prelude.{◌≡◌, ◌≤◌, ℕ, IfErr, IfOk, OnOk, length};
-ghost use Rattle.bp_layout.specs.Inode.{kind_of};
+ghost use Rattle.std.specs.Prelude.{◌≤◌, ℕ, IfErr, IfOk, OnOk, length};
+ghost use Rattle.bp_layout.specs.Inode.{IsFile};
 ghost use Rattle.bp_layout.specs.WellFormed.{IsWellFormed};
 ghost use Rattle.bp_limits.specs.Limits.{call_room, max_write};
 ghost use Rattle.bp_plain.specs.Calls.Call.{write};
@@ -26,7 +26,7 @@ use pm_region::Region;
 fn file_for<R: Region>(region: &R, text: &[u8], bytes: &[u8]) -> Result<u32, FsError>
     requires { IsWellFormed (current_words (R.memory region.now)) }
     ensures found { IfOk result (λ i. PathFinds (current_words (R.memory region.now)) text.now i) }
-    ensures kind { IfOk result (λ i. kind_of (current_words (R.memory region.now)) i ≡ 1) }
+    ensures kind { IfOk result (λ i. IsFile (current_words (R.memory region.now)) i) }
     ensures short { OnOk result (length bytes.now ≤ max_write) }
     ensures refused { IfErr result (λ e. (off : ℕ) → Refuses (current_words (R.memory region.now))
         (write text.now off bytes.now) (refusal_of e)) }
@@ -50,7 +50,7 @@ fn write_into<R: Region>(
     requires well_formed { IsWellFormed (current_words (R.memory parts.old.region)) }
     requires exact { AreExact (current_words (R.memory parts.old.region)) parts.old.blocks parts.old.inodes }
     requires at { PathFinds (current_words (R.memory parts.old.region)) text.now i }
-    requires kind { kind_of (current_words (R.memory parts.old.region)) i ≡ 1 }
+    requires kind { IsFile (current_words (R.memory parts.old.region)) i }
     requires short { length bytes.now ≤ max_write }
     requires room { call_room ≤ room_in (R.memory parts.old.region) }
     ensures called { CarriesOut (R.memory parts.old.region) (write text.now off bytes.now) (unit_answer result)

@@ -1,6 +1,7 @@
 -- What a walk over the pointers of one tree finds.
 use Rattle.std.specs.Prelude.{◌≡◌, ◌≢◌, ◌⊎◌, ℕ, suc, ◌+◌, ◌*◌, ◌/◌, ◌%◌, ◌<◌, ◌≤◌, Bool, true, false}
 use Rattle.bp_free.specs.Set.{Set, has, without}
+use Rattle.bp_limits.specs.Limits.{block_size, block_words}
 use Rattle.bp_layout.specs.Words.{Image, block_count, block_of, height_of}
 use Rattle.bp_layout.specs.Tree.{word_at, node, place_of, covered, IsLivePointer}
 use Rattle.bp_layout.specs.Checks.{IsFollowed, Passes}
@@ -11,7 +12,7 @@ use Rattle.bp_walk.specs.Taken.{Takes}
 -- pointer l at depth e is below pointer k at depth d, or is it
 pub data IsPointerUnder (d k : ℕ) : ℕ → ℕ → Type 0 where
   here : IsPointerUnder d k d k
-  under : {e l : ℕ} → IsPointerUnder d k e (l / 512) → IsPointerUnder d k (suc e) l
+  under : {e l : ℕ} → IsPointerUnder d k e (l / block_words) → IsPointerUnder d k (suc e) l
 
 -- a live pointer of a tree that is followed, and where it stands
 pub record IsPlace (image : Image) (at root size depth index place : ℕ) : Type 0 where
@@ -25,12 +26,13 @@ pub record IsBelow (image : Image) (at root size d k slots place : ℕ) : Type 0
   pub low : slot < slots
   pub depth : ℕ
   pub index : ℕ
-  pub under : IsPointerUnder (suc d) (512 * k + slot) depth index
+  pub under : IsPointerUnder (suc d) (block_words * k + slot) depth index
   pub is : IsPlace image at root size depth index place
 
 -- each of these passes, and is not null where holes are not let through
 abbrev pub ArePassing : Image → ℕ → ℕ → Bool → ℕ → ℕ → ℕ → Type 0
-ArePassing image root size holes d k slots = (slot e l : ℕ) → slot < slots → IsPointerUnder (suc d) (512 * k + slot) e l
+ArePassing image root size holes d k slots = (slot e l : ℕ) → slot < slots
+    → IsPointerUnder (suc d) (block_words * k + slot) e l
     → IsLivePointer root size e l → IsFollowed image root size e l →
     Passes image root e l × (holes ≡ false → node image root e l ≢ 0)
 
@@ -43,7 +45,7 @@ pub record WalksBelow (image : Image) (at root size : ℕ) (holes : Bool) (d k s
 -- both pointers are below the node, or the block had left the set before. In the second the pointer itself stands in
 -- a block that had not, so it is none of those that were walked over.
 pub data FailsBelow (image : Image) (at root size : ℕ) (holes : Bool) (block : ℕ) (old : Set) : Check → ℕ → Type 0 where
-  bits : {d k p : ℕ} → IsPlace image at root size (suc d) k p → word_at image root (suc d) k % 4096 ≢ 0
+  bits : {d k p : ℕ} → IsPlace image at root size (suc d) k p → word_at image root (suc d) k % block_size ≢ 0
       → FailsBelow image at root size holes block old PointerBits p
   range : {d k p : ℕ} → IsPlace image at root size (suc d) k p → block_count image ≤ node image root (suc d) k
       → FailsBelow image at root size holes block old Range p
@@ -51,7 +53,8 @@ pub data FailsBelow (image : Image) (at root size : ℕ) (holes : Bool) (block :
       → FailsBelow image at root size holes block old Hole p
   taken : {d k p : ℕ} → IsPlace image at root size (suc d) k p → node image root (suc d) k ≢ 0
       → node image root (suc d) k < block_count image → has old (node image root (suc d) k) ≡ false →
-      (p / 512 ≡ block) ⊎ (has old (p / 512) ≡ true) → FailsBelow image at root size holes block old BlockTwice p
+      (p / block_words ≡ block) ⊎ (has old (p / block_words) ≡ true)
+      → FailsBelow image at root size holes block old BlockTwice p
   twice : {d k e l p q : ℕ} → IsPlace image at root size (suc d) k p → IsPlace image at root size (suc e) l q → p ≢ q
       → node image root (suc d) k ≢ 0 →
       node image root (suc d) k ≡ node image root (suc e) l → FailsBelow image at root size holes block old BlockTwice p

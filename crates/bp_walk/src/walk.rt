@@ -3,7 +3,7 @@
 ghost use Rattle.std.specs.Prelude.{◌≡◌, ◌≢◌, ℕ, suc, ◌+◌, ◌*◌, ◌<◌, ◌≤◌, true, false, length, slice_index, OnOk, IfOk, IfErr};
 ghost use Rattle.bp_free.specs.Set.{has};
 ghost use Rattle.bp_layout.specs.Words.{word, block_count, height_of};
-ghost use Rattle.bp_limits.specs.Limits.{max_blocks, max_height};
+ghost use Rattle.bp_limits.specs.Limits.{block_words, max_blocks, max_height};
 ghost use Rattle.bp_layout.specs.Tree.{node, covered, IsLivePointer};
 ghost use Rattle.bp_layout.specs.Checks.{IsFollowed, Passes};
 ghost use Rattle.bp_layout.specs.declared.check.Check.TheVariants.{Height, PointerBits};
@@ -13,7 +13,7 @@ ghost use Rattle.bp_walk.specs.Walk.{WalksBelow, FailsBelow, TakesTree, FailsTre
 
 use bp_free::Blocks;
 use bp_layout::{Check, RootWord};
-use bp_limits::MAX_HEIGHT;
+use bp_limits::{BLOCK_WORDS, MAX_HEIGHT};
 use bp_tree::Tree;
 use pm_region::Region;
 
@@ -98,12 +98,13 @@ fn live_slots(size: u64, top: Pointer) -> u32
     requires least { 1 ≤ top.level }
     requires most { top.level ≤ max_height }
     requires live { top.index * covered (suc top.level) < size }
-    ensures most { result ≤ 512 }
-    ensures live { (slot : ℕ) → slot < result → (512 * top.index + slot) * covered top.level < size }
-    ensures all { (slot : ℕ) → slot < 512 → (512 * top.index + slot) * covered top.level < size → slot < result }
+    ensures most { result ≤ block_words }
+    ensures live { (slot : ℕ) → slot < result → (block_words * top.index + slot) * covered top.level < size }
+    ensures all { (slot : ℕ) → slot < block_words → (block_words * top.index + slot) * covered top.level < size
+        → slot < result }
 {
     let rest = size - top.index * span(top.level + 1);
-    ((rest - 1) / span(top.level) + 1).min(512) as u32
+    ((rest - 1) / span(top.level) + 1).min(BLOCK_WORDS as u64) as u32
 }
 
 /// Whether all of these pointers are null. It looks at each, which takes less time than to stop at the first that
@@ -121,7 +122,7 @@ fn are_null(pointers: &[u64]) -> bool
 /// A slot behind one whose pointer is null, with none but null pointers between them. It may be null too.
 fn past_nulls(pointers: &[u64], slot: u32) -> u32
     requires low { slot < length pointers.now }
-    requires few { length pointers.now ≤ 512 }
+    requires few { length pointers.now ≤ block_words }
     ensures further { slot < result }
     ensures most { result ≤ length pointers.now }
     ensures nulls { (i : ℕ) → slot < i → i < result → slice_index pointers.now i ≡ 0 }
@@ -141,7 +142,7 @@ fn take_below<R: Region>(
     top: Pointer,
     blocks: &mut Blocks,
 ) -> Result<(), CheckFault>
-    requires whole { let words = current_words (R.memory region.now) in length words ≡ 512 * block_count words }
+    requires whole { let words = current_words (R.memory region.now) in length words ≡ block_words * block_count words }
     requires most { block_count (current_words (R.memory region.now)) ≤ max_blocks }
     requires room { length blocks.old ≡ block_count (current_words (R.memory region.now)) }
     requires not_first { has blocks.old 0 ≡ false }
@@ -156,12 +157,13 @@ fn take_below<R: Region>(
     requires present { top.block ≢ 0 }
     requires taken { has blocks.old top.block ≡ false }
     ensures ok { let words = current_words (R.memory region.now) in
-        OnOk result (WalksBelow words 0 tree.root tree.size holes top.depth top.index 512 blocks.old blocks.new) }
+        OnOk result
+        (WalksBelow words 0 tree.root tree.size holes top.depth top.index block_words blocks.old blocks.new) }
     ensures err { let words = current_words (R.memory region.now) in
         IfErr result (λ f. FailsBelow words 0 tree.root tree.size holes top.block blocks.old f.check f.place) }
     ensures room { length blocks.new ≡ length blocks.old }
 {
-    let first = 512 * top.block;
+    let first = BLOCK_WORDS * top.block;
     let live = live_slots(tree.size, top);
     let pointers = region.load_words(first, live);
     let mut slot = 0;
@@ -180,7 +182,7 @@ fn take_below<R: Region>(
             });
         };
         let block = claim_pointed(named, place, holes, blocks)?;
-        let index = 512 * top.index + slot as u64;
+        let index = BLOCK_WORDS as u64 * top.index + slot as u64;
         slot += 1;
         if top.level == 1 {
             continue;
@@ -223,7 +225,7 @@ pub fn take_tree<R: Region>(
     holes: bool,
     blocks: &mut Blocks,
 ) -> Result<(), CheckFault>
-    requires whole { let words = current_words (R.memory region.now) in length words ≡ 512 * block_count words }
+    requires whole { let words = current_words (R.memory region.now) in length words ≡ block_words * block_count words }
     requires most { block_count (current_words (R.memory region.now)) ≤ max_blocks }
     requires room { length blocks.old ≡ block_count (current_words (R.memory region.now)) }
     requires not_first { has blocks.old 0 ≡ false }

@@ -1,5 +1,4 @@
 use Rattle.std.proofs.Common.{refl, ◌∙◌, ap}
-use Rattle.std.proofs.lemmas.Nat.{and_mask}
 use Rattle.bp_layout.specs.Words.{height_of}
 use Rattle.bp_calls.proofs.writing.touched_below.Goals as goal
 
@@ -9,7 +8,7 @@ returns g c = record {
   one = refl;
   no_words = refl;
   root = c.root_path.ensures;
-  height = and_mask c.args.tree.root 3 ∙ ap height_of c.requires.root;
+  height = c.height.ensures ∙ ap height_of c.requires.root;
   from = refl;
   bytes_are = refl;
 }

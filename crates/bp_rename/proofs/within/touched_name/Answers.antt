@@ -1,5 +1,4 @@
 use Rattle.std.proofs.Common.{◌≡◌, ◌+◌, ◌*◌, take, refl, ◌∙◌, ap, arith}
-use Rattle.std.proofs.lemmas.Nat.{and_mask}
 use Rattle.bp_layout.specs.Words.{height_of}
 use Rattle.pm_region.specs.Memory.{current_words}
 use Rattle.bp_rename.specs.Respelled.{respelled_length}
@@ -10,5 +9,5 @@ pub returns : goal.returns
 returns g c =
     let count : 8 + 8 * c.div_ceil.result ≡ respelled_length c.args.to_move.now.name.now = omega (arith, c.div_ceil.ensures) in
     touches_name (current_words (g.R.Region.memory c.args.region.now)) c.args.to_move.now.from_dir c.args.to_move.now.from_slot c.args.to_move.now.name.now c.args.bytes.now
-    refl refl c.root_path.ensures (and_mask c.tree_of-tree.result.root 3 ∙ ap height_of c.tree_of-tree.ensures.root) (omega arith)
+    refl refl c.root_path.ensures (c.height.ensures ∙ ap height_of c.tree_of-tree.ensures.root) (omega arith)
     (ap (λ n. take n c.args.bytes.now) count) (omega (arith, c.told-bytes)) c.requires.can.name.short c.requires.bytes c.fits-bytes

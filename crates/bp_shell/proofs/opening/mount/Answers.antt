@@ -1,4 +1,4 @@
-use Rattle.std.proofs.Common.{rules, ◌≡◌, ◌∙◌, sym, inl, inr}
+use Rattle.std.proofs.Common.{◌≡◌, ◌∙◌, sym, inl, inr}
 use Rattle.bp_shell.specs.Stops.{stop_by}
 use Rattle.bp_shell.specs.declared.stop.Stop.TheVariants.{Refused}
 use Rattle.bp_shell.proofs.OpeningLaws.{no_refusal, stop_refused}

@@ -39,7 +39,7 @@ leads_to image zero wf reached = record {
   slots = All-nil (λ slot. slot < 512);
   in_range = tt;
   stands = top refl refl;
-  low = let some : 8 ≤ block_count image = wf.at_least in omega (arith, some);
+  low = let some : 8 ≤ block_count image = wf.formatted.sized.at_least in omega (arith, some);
   root = refl;
   size = refl;
 }
@@ -48,7 +48,7 @@ leads_to image (suc i) wf reached = subst (Leads image (suc i)) (sym (append-nil
   slots = small_digits (suc height) number;
   in_range = in_range-digits image 2 (word image 2) (word image 3) refl sound (suc height) number live under;
   stands = inode (λ e. omega (arith, e)) (record { present = under; at = sym at });
-  low = let range = sound.in_range height (number / 512) above in omega (arith, at, range, number_is, wf.whole);
+  low = let range = sound.in_range height (number / 512) above in omega (arith, at, range, number_is, wf.formatted.sized.whole);
   root = ap (word image) at ∙ sym (slot_word-at image (node image (word image 2) height (number / 512)) (number % 512) under) ∙ sym (word_at-suc image (word image 2) height number);
   size =
       let row : (8 * suc i + 2) / 512 ≡ number / 512 = omega arith in
@@ -91,7 +91,7 @@ grow_can memory free t path from to can = record {
   order = le_trans can.behind can.order;
   fits = can.fits;
   sound = can.well.sound t can.reached;
-  some = let some : 8 ≤ block_count (current_words memory) = can.well.at_least in omega (arith, some, length-current_words memory);
+  some = let some : 8 ≤ block_count (current_words memory) = can.well.formatted.sized.at_least in omega (arith, some, length-current_words memory);
   usable = can.usable;
   outside = λ b m has. each-has (λ c. IsLiveBlock (current_words memory) c → ⊥) free b can.unused m (record { tree = t; reached = can.reached; has = has });
   enough = can.enough;

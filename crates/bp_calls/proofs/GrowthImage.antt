@@ -76,7 +76,7 @@ module _ (old mid : Image) (taken : List ℕ) (wf : IsWellFormed old) (ready : P
   new = set mid 3 end
 
   size_here : size_of new 0 ≡ end
-  size_here = get_or-set_same mid 3 end 0 (omega (arith, ready.meaning.trees.whole, wf.whole, wf.at_least))
+  size_here = get_or-set_same mid 3 end 0 (omega (arith, ready.meaning.trees.whole, wf.formatted.sized.whole, wf.formatted.sized.at_least))
 
   word_here : (t k : ℕ) → content_word new (root_of new t) k ≡ content_word mid (root_of mid t) k
   word_here t k = rw (root_stays mid end t) (content_stays mid end (root_of mid t) k)

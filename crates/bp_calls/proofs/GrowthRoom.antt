@@ -27,11 +27,11 @@ module _ (image : Image) (wf : IsWellFormed image) where
   pub inodes_end_low : size_of image 0 + block_size ≤ block_size * block_count image
   inodes_end_low =
       let few : size_of image 0 / 4096 < block_count image =
-      few_leaves image (root_of image 0) (size_of image 0) (wf.sound 0 inode_file) wf.full_inode_file (omega (arith, wf.at_least)) (size_of image 0 / 4096) (λ k low. omega (arith, low)) in
+      few_leaves image (root_of image 0) (size_of image 0) (wf.sound 0 inode_file) wf.full_inode_file (omega (arith, wf.formatted.sized.at_least)) (size_of image 0 / 4096) (λ k low. omega (arith, low)) in
       omega (arith, few, wf.inode_blocks)
 
   pub inodes_end_fits : size_of image 0 + block_size ≤ max_size
-  inodes_end_fits = omega (arith, inodes_end_low, wf.at_most)
+  inodes_end_fits = omega (arith, inodes_end_low, wf.formatted.sized.at_most)
 
   pub growth_few : growth_need image ≤ 18 + 3 * max_height
   growth_few =
@@ -69,14 +69,14 @@ module _ (old : Memory) (blocks inodes : Set) (path : WordPath) (size : ℕ) (ca
   last_fits = omega (arith, is, inodes_end_low (current_words old) can.well_formed, can.exact.inode_room)
 
   pub last_low : (size + block_size) / inode_size ≤ block_size / inode_size * max_blocks
-  last_low = omega (arith, last_fits, can.exact.inode_room, can.well_formed.at_most)
+  last_low = omega (arith, last_fits, can.exact.inode_room, can.well_formed.formatted.sized.at_most)
 
   module _ (middle : Memory) (after : Set) (prepares : Ready path size → PreparesWith old middle (members blocks) (members after) 0 size (size + block_size) []) where
     prepared : PreparesWith old middle (members blocks) (members after) 0 (size_of (current_words old) 0) (size_of (current_words old) 0 + block_size) []
     prepared = subst (λ s. PreparesWith old middle (members blocks) (members after) 0 s (s + block_size) []) is (prepares can_prepare_at)
 
     pub base_prepared : super_size < length middle.base
-    base_prepared = omega (arith, ap length (base-adds old middle prepared.adds.part.added prepared.adds.part.adds), length-current_words old, can.well_formed.whole, can.well_formed.at_least)
+    base_prepared = omega (arith, ap length (base-adds old middle prepared.adds.part.added prepared.adds.part.adds), length-current_words old, can.well_formed.formatted.sized.whole, can.well_formed.formatted.sized.at_least)
 
     -- for the store of the size and its barrier
     pub room_prepared : 2 ≤ room_in middle

@@ -152,7 +152,7 @@ module _ (image : Image) (i s j place : ℕ) (can : CanLeave image i s j place) 
     pub inode_in_room : j < length inodes
     inode_in_room =
         let low : j < inode_count image = wf.inumbers i s j reached entry in
-        let few : size_of image 0 / 64 ≤ 64 * block_count image = few_inodes image (root_of image 0) (size_of image 0) (wf.sound 0 inode_file) wf.full_inode_file (omega (arith, wf.at_least)) wf.inode_blocks in
+        let few : size_of image 0 / 64 ≤ 64 * block_count image = few_inodes image (root_of image 0) (size_of image 0) (wf.sound 0 inode_file) wf.full_inode_file (omega (arith, wf.formatted.sized.at_least)) wf.inode_blocks in
         omega (arith, low, few, exact.inode_room)
 
     pub inode_taken : has inodes j ≡ false

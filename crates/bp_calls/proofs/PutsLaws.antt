@@ -27,8 +27,8 @@ use Rattle.bp_calls.proofs.TakenBlocks.{unused_members, usable_members}
 -- a directory is small, since it has no nulls
 pub small_directory : (image : Image) → IsWellFormed image → (i : ℕ) → IsReached image i → kind_of image i ≡ 2 → size_of image i + 256 ≤ max_size
 small_directory image wf i reached kind =
-    let few = few_entries image (root_of image i) (size_of image i) (wf.sound i reached) (wf.full_directories i reached kind) (omega (arith, wf.at_least)) in
-    omega (arith, few, wf.at_most, wf.directory_sizes i reached kind)
+    let few = few_entries image (root_of image i) (size_of image i) (wf.sound i reached) (wf.full_directories i reached kind) (omega (arith, wf.formatted.sized.at_least)) in
+    omega (arith, few, wf.formatted.sized.at_most, wf.directory_sizes i reached kind)
 
 -- one entry needs few blocks
 pub few_behind : (image : Image) → IsWellFormed image → (i : ℕ) → IsReached image i → need_for image i (size_of image i) (size_of image i + 256) ≤ 18 + 3 * 3

@@ -29,8 +29,8 @@ module _ (image : Image) (wf : IsWellFormed image) where
   -- inode numbers are small
   pub few_inode : (j : ℕ) → j < inode_count image → j < 1048576
   few_inode j high =
-      let few : size_of image 0 / 64 ≤ 64 * block_count image = few_inodes image (root_of image 0) (size_of image 0) inode_file_sound wf.full_inode_file (omega (arith, wf.at_least)) wf.inode_blocks in
-      omega (arith, few, high, wf.at_most)
+      let few : size_of image 0 / 64 ≤ 64 * block_count image = few_inodes image (root_of image 0) (size_of image 0) inode_file_sound wf.full_inode_file (omega (arith, wf.formatted.sized.at_least)) wf.inode_blocks in
+      omega (arith, few, high, wf.formatted.sized.at_most)
 
   -- an inode that is reached, and not the inode file
   pub record IsInode (j : ℕ) : Type 0 where

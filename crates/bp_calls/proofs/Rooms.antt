@@ -24,4 +24,4 @@ pub row_in_range : (memory : Memory) → IsWellFormed (current_words memory) →
 row_in_range memory wf t k place count reached below fits stands =
     let low : node (current_words memory) (root_of (current_words memory) t) (height_of (root_of (current_words memory) t)) (k / 512) < block_count (current_words memory) =
     (wf.sound t reached).in_range _ _ (live_leaf (root_of (current_words memory) t) (size_of (current_words memory) t) (k / 512) below) in
-    omega (arith, low, stands.at, fits, wf.whole, length-current_words memory)
+    omega (arith, low, stands.at, fits, wf.formatted.sized.whole, length-current_words memory)

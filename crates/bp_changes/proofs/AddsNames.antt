@@ -15,6 +15,7 @@ use Rattle.bp_layout.specs.Lookup.{node_of}
 use Rattle.bp_layout.specs.Lookup.Node.{dir, file}
 use Rattle.bp_layout.proofs.Paths.{AddsName}
 use Rattle.bp_layout.proofs.LookupLaws.{Shows, lookup_in-shows, lookup_in-found, lookup_in-none}
+use Rattle.bp_changes.proofs.Formatted.{stays_formatted}
 
 module _ (old new : Image) (wf : IsWellFormed old) (i s j : ℕ) (adds : AddsNames old new i s j) where
   nothing_named : (r k : ℕ) → EntryNames new j r k → ⊥
@@ -74,13 +75,8 @@ module _ (old new : Image) (wf : IsWellFormed old) (i s j : ℕ) (adds : AddsNam
 
   pub linked_well_formed : IsWellFormed new
   linked_well_formed =
-      let whole : length new ≡ length old = adds.trees.whole in
       record {
-        whole = rw whole wf.whole;
-        at_least = rw whole wf.at_least;
-        at_most = rw whole wf.at_most;
-        marked = adds.trees.marked ∙ wf.marked;
-        counted = adds.trees.counted ∙ rw whole wf.counted;
+        formatted = stays_formatted old new adds.trees wf.formatted;
         sound = λ t r. sound_cases t (reached_cases t r);
         apart = λ t u b r q one two. apart_cases t u b (reached_cases t r) (reached_cases u q) one two;
         full_inode_file = adds.trees.full_inode_file;

@@ -14,6 +14,7 @@ use Rattle.bp_layout.proofs.Finding.{map-same}
 use Rattle.bp_layout.proofs.Reached.{reached-in_file}
 use Rattle.bp_layout.proofs.LookupLaws.{Shows, lookup_in-shows, lookup_in-found, lookup_in-none}
 use Rattle.bp_changes.proofs.MoveName.{MovesName}
+use Rattle.bp_changes.proofs.Formatted.{stays_formatted}
 
 module _ (old new : Image) (wf : IsWellFormed old) (i s k r j : ℕ) (carries : CarriesEntry old new i s k r j) where
   -- an entry of the new image: the target, or one of the old image but the source
@@ -54,11 +55,7 @@ module _ (old new : Image) (wf : IsWellFormed old) (i s k r j : ℕ) (carries : 
 
   pub carried_well_formed : IsWellFormed new
   carried_well_formed = record {
-    whole = rw carries.trees.whole wf.whole;
-    at_least = rw carries.trees.whole wf.at_least;
-    at_most = rw carries.trees.whole wf.at_most;
-    marked = carries.trees.marked ∙ wf.marked;
-    counted = carries.trees.counted ∙ rw carries.trees.whole wf.counted;
+    formatted = stays_formatted old new carries.trees wf.formatted;
     sound = λ t q. carries.trees.sound t (reached_back t q);
     apart = λ t u b q p one two. carries.trees.apart t u b (reached_back t q) (reached_back u p) one two;
     full_inode_file = carries.trees.full_inode_file;

@@ -16,6 +16,7 @@ use Rattle.std.proofs.lemmas.Bool.{eqb-true}
 use Rattle.bp_changes.specs.Effects.{ChangesFile}
 use Rattle.bp_layout.proofs.Finding.{map-same}
 use Rattle.bp_layout.proofs.View.{SameDirectories, lookup_from-same, lookup_from-reached}
+use Rattle.bp_changes.proofs.Formatted.{stays_formatted}
 
 module _ (old new : Image) (x : ℕ) (wf : IsWellFormed old) (same : ChangesFile old new x) where
   pub not_zero : 0 ≢ x
@@ -76,11 +77,7 @@ module _ (old new : Image) (x : ℕ) (wf : IsWellFormed old) (same : ChangesFile
   well_formed-same =
       let inodes : size_of new 0 ≡ size_of old 0 = same.size 0 inode_file not_zero in
       record {
-        whole = rw same.trees.whole wf.whole;
-        at_least = rw same.trees.whole wf.at_least;
-        at_most = rw same.trees.whole wf.at_most;
-        marked = same.trees.marked ∙ wf.marked;
-        counted = same.trees.counted ∙ rw same.trees.whole wf.counted;
+        formatted = stays_formatted old new same.trees wf.formatted;
         sound = λ t r. same.trees.sound t (reached-back t r);
         apart = λ t u b r q has also. same.trees.apart t u b (reached-back t r) (reached-back u q) has also;
         full_inode_file = same.trees.full_inode_file;

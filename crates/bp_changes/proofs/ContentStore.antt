@@ -15,7 +15,7 @@ pub place_in_image : (image : Image) → IsWellFormed image → (t d k place : �
 place_in_image image wf t d k place reached live stands =
     let low : node image (root_of image t) d (k / 512) < block_count image =
     (wf.sound t reached).in_range d (k / 512) (live_above (root_of image t) (size_of image t) d k live) in
-    omega (arith, low, stands.at, wf.whole)
+    omega (arith, low, stands.at, wf.formatted.sized.whole)
 
 module _ (old : Image) (wf : IsWellFormed old) (t d k place value : ℕ) (reached : IsReached old t)
     (live : IsLiveWord (root_of old t) (size_of old t) (suc d) k) (stands : StandsAt old t d k place) where

@@ -1,3 +1,4 @@
+pub mod Formatted
 pub mod SameMeaning
 pub mod Frame
 pub mod Stores

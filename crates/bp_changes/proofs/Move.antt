@@ -17,6 +17,7 @@ use Rattle.bp_layout.proofs.Finding.{map-same}
 use Rattle.bp_layout.proofs.Reached.{reached-in_file}
 use Rattle.bp_layout.proofs.LookupLaws.{Shows, lookup_in-shows, lookup_in-found, lookup_in-none}
 use Rattle.bp_changes.proofs.MoveName.{MovesName}
+use Rattle.bp_changes.proofs.Formatted.{stays_formatted}
 
 module _ (old new : Image) (wf : IsWellFormed old) (i s k r j : ℕ) (can : CanMoveEntry old i s k r j) (moves : MovesEntry old new i s k r j) where
   in_inodes : (t : ℕ) → IsReached old t → t < inode_count old
@@ -104,11 +105,7 @@ module _ (old new : Image) (wf : IsWellFormed old) (i s k r j : ℕ) (can : CanM
   moved_well_formed =
       let inodes : size_of new 0 ≡ size_of old 0 = moves.size 0 (in_inodes 0 inode_file) in
       record {
-        whole = rw moves.trees.whole wf.whole;
-        at_least = rw moves.trees.whole wf.at_least;
-        at_most = rw moves.trees.whole wf.at_most;
-        marked = moves.trees.marked ∙ wf.marked;
-        counted = moves.trees.counted ∙ rw moves.trees.whole wf.counted;
+        formatted = stays_formatted old new moves.trees wf.formatted;
         sound = λ t q. moves.trees.sound t (reached_back t q);
         apart = λ t u b q p one two. moves.trees.apart t u b (reached_back t q) (reached_back u p) one two;
         full_inode_file = moves.trees.full_inode_file;

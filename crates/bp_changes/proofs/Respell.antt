@@ -17,6 +17,7 @@ use Rattle.bp_layout.proofs.Finding.{map-same}
 use Rattle.bp_layout.proofs.Reached.{reached-in_file}
 use Rattle.bp_layout.proofs.LookupLaws.{Shows, lookup_in-shows, lookup_in-found, lookup_in-none}
 use Rattle.bp_changes.proofs.MoveName.{MovesName}
+use Rattle.bp_changes.proofs.Formatted.{stays_formatted}
 
 module _ (old new : Image) (wf : IsWellFormed old) (i s j : ℕ) (spells : RespellsEntry old new i s j) where
   in_inodes : (t : ℕ) → IsReached old t → t < inode_count old
@@ -76,11 +77,7 @@ module _ (old new : Image) (wf : IsWellFormed old) (i s j : ℕ) (spells : Respe
   respelled_well_formed =
       let inodes : size_of new 0 ≡ size_of old 0 = spells.size 0 (in_inodes 0 inode_file) in
       record {
-        whole = rw spells.trees.whole wf.whole;
-        at_least = rw spells.trees.whole wf.at_least;
-        at_most = rw spells.trees.whole wf.at_most;
-        marked = spells.trees.marked ∙ wf.marked;
-        counted = spells.trees.counted ∙ rw spells.trees.whole wf.counted;
+        formatted = stays_formatted old new spells.trees wf.formatted;
         sound = λ t q. spells.trees.sound t (reached_back t q);
         apart = λ t u b q p one two. spells.trees.apart t u b (reached_back t q) (reached_back u p) one two;
         full_inode_file = spells.trees.full_inode_file;

@@ -13,6 +13,7 @@ use Rattle.bp_layout.specs.Same.{Same}
 use Rattle.bp_changes.specs.SameMeaning.{SameMeaning}
 use Rattle.bp_layout.proofs.Finding.{map-same}
 use Rattle.bp_layout.proofs.View.{SameView, shown-same}
+use Rattle.bp_changes.proofs.Formatted.{stays_formatted}
 
 module _ (old new : Image) (wf : IsWellFormed old) (same : SameMeaning old new) where
   size-same : (i kind : ℕ) → kind_of old i ≡ suc kind → IsReached old i → size_of new i ≡ size_of old i
@@ -57,11 +58,7 @@ module _ (old new : Image) (wf : IsWellFormed old) (same : SameMeaning old new) 
   pub well_formed-same : IsWellFormed new
   well_formed-same =
       record {
-        whole = rw same.trees.whole wf.whole;
-        at_least = rw same.trees.whole wf.at_least;
-        at_most = rw same.trees.whole wf.at_most;
-        marked = same.trees.marked ∙ wf.marked;
-        counted = same.trees.counted ∙ rw same.trees.whole wf.counted;
+        formatted = stays_formatted old new same.trees wf.formatted;
         sound = λ t r. same.trees.sound t (reached-back t r);
         apart = λ t u b r q has also. same.trees.apart t u b (reached-back t r) (reached-back u q) has also;
         full_inode_file = same.trees.full_inode_file;

@@ -19,6 +19,7 @@ use Rattle.bp_layout.proofs.Reached.{reached-in_file}
 use Rattle.bp_layout.proofs.View.{lookup_in-reached, lookup_from-reached}
 use Rattle.bp_layout.proofs.LookupLaws.{Shows, lookup_in-shows, lookup_in-found, lookup_in-none}
 use Rattle.bp_layout.proofs.Paths.{lookup_from-append, path_once, same_name}
+use Rattle.bp_changes.proofs.Formatted.{stays_formatted}
 
 module _ (old new : Image) (wf : IsWellFormed old) (i s j : ℕ) (can : CanUnlink old i s j) (removes : RemovesEntry old new i s) where
   in_inodes : (t : ℕ) → IsReached old t → t < inode_count old
@@ -101,11 +102,7 @@ module _ (old new : Image) (wf : IsWellFormed old) (i s j : ℕ) (can : CanUnlin
   unlinked_well_formed =
       let inodes : size_of new 0 ≡ size_of old 0 = removes.size 0 (in_inodes 0 inode_file) in
       record {
-        whole = rw removes.trees.whole wf.whole;
-        at_least = rw removes.trees.whole wf.at_least;
-        at_most = rw removes.trees.whole wf.at_most;
-        marked = removes.trees.marked ∙ wf.marked;
-        counted = removes.trees.counted ∙ rw removes.trees.whole wf.counted;
+        formatted = stays_formatted old new removes.trees wf.formatted;
         sound = λ t r. removes.trees.sound t (reached_back t r);
         apart = λ t u b r q one two. removes.trees.apart t u b (reached_back t r) (reached_back u q) one two;
         full_inode_file = removes.trees.full_inode_file;

@@ -277,8 +277,8 @@ module _ (old : Image) (bound : ℕ → ℕ) (touched : Touched) (free : ℕ →
     pub can_build : (place : ℕ) → ((k : ℕ) → k < n → block_on old (trail_of first k) ≢ 0) → place_on old (trail_of first n) ≡ place → IsFeasible old bound (job_of touched) n place free
     can_build place exists at = record {
       some = some-ways;
-      some_blocks = let least = wf.at_least in omega (arith, least);
-      whole = wf.whole;
+      some_blocks = let least = wf.formatted.sized.at_least in omega (arith, least);
+      whole = wf.formatted.sized.whole;
       forest = can.forest;
       exact = unheld_exact old bound can.forest free can.exact;
       below = λ i here. (begin-way i here).0;
@@ -329,7 +329,7 @@ module _ (old : Image) (bound : ℕ → ℕ) (touched : Touched) (free : ℕ →
       let next : d + 1 ≡ suc d = omega arith in
       let less : BeginAlike touched d = alike-less d (subst (BeginAlike touched) next alike) in
       let short : d ≤ length ((job_of touched).way 0) = omega (arith, first-length, alike.long 0 (some-ends touched can.shape)) in
-      (skeleton old bound can.forest wf.whole).in_range _ (first-pointer d less short d short)
+      (skeleton old bound can.forest wf.formatted.sized.whole).in_range _ (first-pointer d less short d short)
 
   -- ---- one touched word, which exists
 
@@ -560,10 +560,10 @@ module _ (old : Image) (bound : ℕ → ℕ) (touched : Touched) (free : ℕ →
 
     module _ (exists : (k : ℕ) → k < suc m → block_on old (trail_of whole k) ≢ 0) where
       bones : IsSkeleton old (IsTreePointer old bound)
-      bones = skeleton old bound can.forest wf.whole
+      bones = skeleton old bound can.forest wf.formatted.sized.whole
 
       some-blocks : 0 < block_count old
-      some-blocks = let least = wf.at_least in omega (arith, least)
+      some-blocks = let least = wf.formatted.sized.at_least in omega (arith, least)
 
       none-past : (q : Trail) → IsTreePointer old bound q → block_on old q ≢ block_count old
       none-past q l e = let range : block_on old q < block_count old = bones.in_range q l in absurd (omega (arith, range, e))

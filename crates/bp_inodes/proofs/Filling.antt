@@ -47,7 +47,7 @@ inode_in_range memory wf i place free stands =
     let low : node (current_words memory) (root_of (current_words memory) 0) (height_of (root_of (current_words memory) 0)) ((8 * i + 0) / 512) < block_count (current_words memory) =
     subst (λ l. node (current_words memory) (root_of (current_words memory) 0) (height_of (root_of (current_words memory) 0)) l < block_count (current_words memory)) (sym leaf)
     ((wf.sound 0 inode_file).in_range _ _ (leaf_pointer (current_words memory) i free.high)) in
-    omega (arith, low, stands.at, wf.whole, length-current_words memory)
+    omega (arith, low, stands.at, wf.formatted.sized.whole, length-current_words memory)
 
 -- the first word of an inode stands at its place
 pub first_word : (memory : Memory) (i place : ℕ) → ContentStandsAt (current_words memory) 0 (8 * i + 0) place → ContentStandsAt (current_words memory) 0 (8 * i) place

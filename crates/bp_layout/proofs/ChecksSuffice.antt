@@ -8,7 +8,8 @@ use Rattle.bp_layout.specs.Directory.{Name, EntryNames, IsName}
 use Rattle.bp_layout.specs.Reached.{IsReached}
 use Rattle.bp_layout.specs.Reached.IsReached.{inode_file as the_inode_file, root_directory as the_root_directory, named as by_name}
 use Rattle.bp_layout.specs.WellFormed.{IsWellFormed}
-use Rattle.bp_layout.specs.Checks.{IsFormatted, NoneFails, IsFound, IsPointer, IsEntry, IsFollowed, Passes, ContentFollowed, pointer_place, entry_place, size_place}
+use Rattle.bp_layout.specs.Checks.{NoneFails, IsFound, IsPointer, IsEntry, IsFollowed, Passes, ContentFollowed, pointer_place, entry_place, size_place}
+use Rattle.bp_layout.specs.Formatted.{IsFormatted}
 use Rattle.bp_layout.specs.Checks.IsFound.{inode_file, root_directory, named}
 use Rattle.bp_layout.specs.declared.check.Check.TheVariants.{Height, PointerBits, Range, BlockTwice, Hole, InodeFileSize, Inumber, InodeTwice, Kind, DirectorySize, Capacity, NameForm, NameTwice}
 use Rattle.bp_layout.specs.Checks.Fails.{height, root_bits, pointer_bits, range, twice, hole, inode_file_size, inumber, root_named, inode_twice, kind, root_kind, directory_size, capacity, name_form, name_twice}
@@ -180,12 +181,8 @@ module _ (image : Image) (none : NoneFails image) where
 
   pub checks_suffice : IsFormatted image → IsWellFormed image
   checks_suffice formatted = record {
-    whole = formatted.whole;
-    at_least = formatted.at_least;
-    at_most = formatted.at_most;
-    marked = formatted.marked;
-    counted = formatted.counted;
-    sound = λ t r. sound formatted.at_least t (found_all t r);
+    formatted = formatted;
+    sound = λ t r. sound formatted.sized.at_least t (found_all t r);
     apart = λ t u b r q one two.
         let all : (t ≡ u) × (one.depth ≡ two.depth) × (one.index ≡ two.index) =
         once t one.depth one.index u two.depth two.index (found_all t r) (found_all u q) one.pointer two.pointer (λ null. one.not_null (sym one.named ∙ null)) (one.named ∙ sym two.named) in

@@ -113,11 +113,11 @@ module _ (image : Image) (has : HasFormat image) where
 
   pub format_well_formed : length image ≡ 512 * block_count image → 8 ≤ block_count image → block_count image ≤ 16384 → IsWellFormed image
   format_well_formed whole least most = record {
-    whole = whole;
-    at_least = least;
-    at_most = most;
-    marked = has.marked;
-    counted = has.counted;
+    formatted = record {
+      sized = record { whole = whole; at_least = least; at_most = most };
+      marked = has.marked;
+      counted = has.counted;
+    };
     sound = each_tree (λ t. IsSound image (root_of image t) (size_of image t)) (inode_file_sound least) root_sound;
     apart = λ t u b r q one two. blocks_apart t u b (two_reached t r) (two_reached u q) one two;
     full_inode_file = leaf_full image (word image 2) (word image 3) (rw has.root refl) (rw has.root (omega arith)) (rw has.size (omega arith));

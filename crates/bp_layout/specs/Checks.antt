@@ -117,11 +117,3 @@ pub data Fails (image : Image) : Check → ℕ → Type 0 where
 -- no check fails at any place
 pub record NoneFails (image : Image) : Type 0 where
   pub none : (c : Check) (p : ℕ) → Fails image c p → ⊥
-
--- whole blocks, as many as the superblock says, under the mark of a format
-pub record IsFormatted (image : Image) : Type 0 where
-  pub whole : length image ≡ 512 * block_count image
-  pub at_least : min_blocks ≤ block_count image
-  pub at_most : block_count image ≤ max_blocks
-  pub marked : word image 0 ≡ magic
-  pub counted : word image 1 ≡ block_count image

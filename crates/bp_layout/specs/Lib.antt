@@ -8,6 +8,7 @@ pub mod Directory
 pub mod Reached
 -- what an image shows, when it is a file system, and when it means the same as another
 pub mod Lookup
+pub mod Formatted
 pub mod WellFormed
 pub mod Checks
 pub mod Same

@@ -5,14 +5,11 @@ use Rattle.bp_layout.specs.Tree.{HasBlock, IsSound, IsFull}
 use Rattle.bp_layout.specs.Inode.{IsDirectory, inode_count, kind_of, root_of, size_of}
 use Rattle.bp_layout.specs.Directory.{EntryNames, IsName, name_at}
 use Rattle.bp_layout.specs.Reached.{IsReached}
-use Rattle.bp_limits.specs.Limits.{magic, min_blocks, max_blocks}
+use Rattle.bp_layout.specs.Formatted.{IsFormatted}
+use Rattle.bp_limits.specs.Limits.{block_size, entry_size, root_inumber}
 
 pub record IsWellFormed (image : Image) : Type 0 where
-  pub whole : length image ≡ 512 * block_count image
-  pub at_least : min_blocks ≤ block_count image
-  pub at_most : block_count image ≤ max_blocks
-  pub marked : word image 0 ≡ magic
-  pub counted : word image 1 ≡ block_count image
+  pub formatted : IsFormatted image
   -- each tree by itself, and no block in two
   pub sound : (t : ℕ) → IsReached image t → IsSound image (root_of image t) (size_of image t)
   pub apart : (t u b : ℕ) → IsReached image t → IsReached image u →

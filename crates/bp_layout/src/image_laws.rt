@@ -1,7 +1,8 @@
 //! Laws of what an image means. Each is the contract of a function that does nothing.
 
 ghost use Rattle.std.specs.Prelude.{None, Some, [], ℕ, ◌*◌, ◌∷◌, ◌↔◌, ◌≡◌, ◌≤◌, length};
-ghost use Rattle.bp_layout.specs.Checks.{IsFormatted, NoneFails};
+ghost use Rattle.bp_layout.specs.Checks.{NoneFails};
+ghost use Rattle.bp_layout.specs.Formatted.{IsFormatted};
 ghost use Rattle.bp_layout.specs.Directory.{Name};
 ghost use Rattle.bp_layout.specs.Format.{formatted};
 ghost use Rattle.bp_limits.specs.Limits.{block_words, max_blocks, min_blocks};

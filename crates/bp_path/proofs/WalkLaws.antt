@@ -73,8 +73,8 @@ there image _ wf (named {i = u} {j = k} slot from n) = wf.inumbers u slot k from
 pub low_number : (image : Image) (i : ℕ) → IsWellFormed image → i < inode_count image → i < 2 ^ 32
 low_number image i wf inside =
     let few : size_of image 0 / 64 ≤ 64 * block_count image =
-    few_inodes image (root_of image 0) (size_of image 0) (wf.sound 0 inode_file) wf.full_inode_file (omega (arith, wf.at_least)) wf.inode_blocks in
-    omega (arith, few, inside, wf.at_most)
+    few_inodes image (root_of image 0) (size_of image 0) (wf.sound 0 inode_file) wf.full_inode_file (omega (arith, wf.formatted.sized.at_least)) wf.inode_blocks in
+    omega (arith, few, inside, wf.formatted.sized.at_most)
 
 pub right_kind : (image : Image) (i : ℕ) → IsWellFormed image → IsReached image i → 1 ≤ i → (1 ≤ kind_of image i) × (kind_of image i ≤ 2)
 right_kind image zero wf reached some = absurd (omega (arith, some))

@@ -183,7 +183,7 @@ module _ (image : Image) (bound : ℕ → ℕ) (forest : IsForest image bound) (
       let first : end_path touched 0 ≡ path_of (word_paths touched) 0 = ap (λ r. end_path_of r (word_paths touched) 0) are.none in
       let long : d + 1 ≤ length (end_path touched 0) = alike.long 0 (some-ends touched words_shape) in
       let deep : d < length (path_of (word_paths touched) 0) = subst (λ (p : WordPath). d < length p) first (omega (arith, long)) in
-      (skeleton image bound forest wf.whole).in_range _ (subst (λ p. IsTreePointer image bound (trail_of p d)) (sym first) (words_fronts 0 d (omega (arith, are.some)) deep))
+      (skeleton image bound forest wf.formatted.sized.whole).in_range _ (subst (λ p. IsTreePointer image bound (trail_of p d)) (sym first) (words_fronts 0 d (omega (arith, are.some)) deep))
 
   module _ (sizes : (t : ℕ) → IsReached image t → size_of image t ≤ bound t) (free : ℕ → Bool) (exact : AreUnheld image (IsReached image) bound free) where
     pub words_can : CanCommit image bound touched free

@@ -84,7 +84,7 @@ module _ (image : Image) (wf : IsWellFormed image) (n : ℕ) (reached : IsReache
       go : end_path touched 0 ≡ run_path run (run.off / 8) → d + 1 ≤ length (end_path touched 0) → block_on image (trail_of (end_path touched 0) d) < block_count image
       go first long =
           let deep : d < length (run_path run (run.off / 8)) = subst (λ (p : List ℕ). d < length p) first (omega (arith, long)) in
-          (skeleton image (size_of image) (wf_forest image wf) wf.whole).in_range _ (subst (λ p. IsTreePointer image (size_of image) (trail_of p d)) (sym first) (run_live d deep))
+          (skeleton image (size_of image) (wf_forest image wf) wf.formatted.sized.whole).in_range _ (subst (λ p. IsTreePointer image (size_of image) (trail_of p d)) (sym first) (run_live d deep))
 
   -- ---- what the commit makes
 

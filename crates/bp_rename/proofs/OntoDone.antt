@@ -172,7 +172,7 @@ module _ (old new : Memory) (move : Move) (r : ℕ) (can : CanRename (current_wo
   pub inode_in_room : inumber_at (current_words old) move.to_dir r < length inodes
   inode_in_room =
       let few : size_of (current_words old) 0 / 64 ≤ 64 * block_count (current_words old) =
-      few_inodes (current_words old) (root_of (current_words old) 0) (size_of (current_words old) 0) (can.well_formed.sound 0 inode_file) can.well_formed.full_inode_file (omega (arith, can.well_formed.at_least)) can.well_formed.inode_blocks in
+      few_inodes (current_words old) (root_of (current_words old) 0) (size_of (current_words old) 0) (can.well_formed.sound 0 inode_file) can.well_formed.full_inode_file (omega (arith, can.well_formed.formatted.sized.at_least)) can.well_formed.inode_blocks in
       omega (arith, inode_low, few, exact.inode_room)
 
   pub inode_taken : has inodes (inumber_at (current_words old) move.to_dir r) ≡ false

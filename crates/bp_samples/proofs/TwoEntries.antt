@@ -156,11 +156,15 @@ module _ (image : Image) (sample : HasTwoEntries image) where
 
   laid_well_formed : IsWellFormed image
   laid_well_formed = record {
-    whole = sample.whole ∙ ap (λ n. 512 * n) (sym blocks);
-    at_least = omega (arith, blocks);
-    at_most = omega (arith, blocks);
-    marked = sample.marked;
-    counted = sample.counted ∙ sym blocks;
+    formatted = record {
+      sized = record {
+        whole = sample.whole ∙ ap (λ n. 512 * n) (sym blocks);
+        at_least = omega (arith, blocks);
+        at_most = omega (arith, blocks);
+      };
+      marked = sample.marked;
+      counted = sample.counted ∙ sym blocks;
+    };
     sound = each_tree (λ t. IsSound image (root_of image t) (size_of image t)) sound_file sound_root;
     apart = λ t u b r q one two.
         let first = block-is t b r one in

@@ -2,7 +2,7 @@
 use Rattle.std.proofs.Common.{◌≡◌, ℕ, ◌%◌, ◌<◌, ◌≤◌, ◌⊎◌, true, false, inl, inr, arith}
 use Rattle.bp_free.specs.Set.{Set, has}
 use Rattle.bp_layout.specs.Words.{Image}
-use Rattle.bp_layout.specs.Checks.{IsFormatted}
+use Rattle.bp_layout.specs.Formatted.{IsFormatted}
 use Rattle.bp_layout.specs.Free.{AreFreeBlocks, AreFreeInodes}
 use Rattle.bp_layout.specs.Inode.{kind_of, size_of, inode_count}
 use Rattle.bp_layout.specs.WellFormed.{IsWellFormed}
@@ -36,7 +36,7 @@ module _ (image : Image) (blocks inodes todo : Set) (formatted : IsFormatted ima
   end_well_formed = well_formed image (IsEntered image inodes) (IsDone image inodes todo 0 0) midway.all blocks midway.under_way.scanned all formatted
 
   pub end_blocks : AreFreeBlocks image (has blocks)
-  end_blocks = free_blocks image (IsEntered image inodes) (IsDone image inodes todo 0 0) midway.all blocks midway.under_way.scanned all formatted.at_least midway.whole
+  end_blocks = free_blocks image (IsEntered image inodes) (IsDone image inodes todo 0 0) midway.all blocks midway.under_way.scanned all formatted.sized.at_least midway.whole
 
   pub end_inodes : AreFreeInodes image (has inodes)
   end_inodes = free_inodes image (IsEntered image inodes) (IsDone image inodes todo 0 0) midway.all blocks midway.under_way.scanned all inodes rest

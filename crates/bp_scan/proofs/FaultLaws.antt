@@ -9,8 +9,8 @@ use Rattle.bp_scan.specs.declared.fault.MountFault.{MountFault}
 use Rattle.bp_scan.specs.declared.fault.MountFault.TheVariants.{NotFormatted, BadSize, Damaged, Memory}
 
 pub fault_refutes : (image : Image) (fault : MountFault) → IsFault image fault → IsWellFormed image → ⊥
-fault_refutes image NotFormatted unmarked wf = unmarked wf.marked
-fault_refutes image (BadSize found wanted) is wf = is.1 wf.counted
+fault_refutes image NotFormatted unmarked wf = unmarked wf.formatted.marked
+fault_refutes image (BadSize found wanted) is wf = is.1 wf.formatted.counted
 fault_refutes image (Damaged check place) is wf = none_fails image wf check place is.2
 fault_refutes image Memory is wf = is
 

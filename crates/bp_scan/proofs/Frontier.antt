@@ -9,7 +9,8 @@ use Rattle.bp_layout.specs.Checks.IsFound.{inode_file, root_directory, named}
 use Rattle.bp_layout.specs.Checks.Fails.{height, root_bits, pointer_bits, range, twice, hole, inode_file_size, inumber, root_named, inode_twice, kind, root_kind, directory_size, capacity, name_form, name_twice}
 use Rattle.bp_layout.specs.declared.check.Check.{Check}
 use Rattle.bp_layout.proofs.ChecksLaws.{same_entry, found_reached}
-use Rattle.bp_layout.specs.Checks.{NoneFails, IsFormatted}
+use Rattle.bp_layout.specs.Checks.{NoneFails}
+use Rattle.bp_layout.specs.Formatted.{IsFormatted}
 use Rattle.bp_layout.specs.Free.{IsFreeInode, AreFreeBlocks, AreFreeInodes}
 use Rattle.bp_layout.proofs.ChecksSuffice.{checks_suffice, found_all as reached_found, pointer_at as pointer_found}
 use Rattle.bp_layout.specs.WellFormed.{IsWellFormed}

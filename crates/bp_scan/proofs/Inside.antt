@@ -48,7 +48,7 @@ module _ (image : Image) (work : Scan) (current slot : ℕ) (reading : IsReading
 
   pub inodes_few : inode_count image ≤ length work.inodes
   inodes_few =
-      let few : inode_count image ≤ 64 * block_count image = few_inodes image (root_of image 0) (size_of image 0) inodes_sound inodes_full (omega (arith, reading.ready.formatted.at_least)) reading.ready.inode_blocks in
+      let few : inode_count image ≤ 64 * block_count image = few_inodes image (root_of image 0) (size_of image 0) inodes_sound inodes_full (omega (arith, reading.ready.formatted.sized.at_least)) reading.ready.inode_blocks in
       omega (arith, few, reading.room.inodes)
 
   -- an inode in the set is not to do
@@ -70,7 +70,7 @@ module _ (image : Image) (work : Scan) (current slot : ℕ) (reading : IsReading
     here_full = is_full image E D reading.midway.all work.blocks reading.ready.some_inodes first scanned current entered (inr kind)
 
     pub here_few : size_of image current / 256 ≤ 16 * block_count image
-    here_few = few_entries image (root_of image current) (size_of image current) here_sound here_full (omega (arith, reading.ready.formatted.at_least))
+    here_few = few_entries image (root_of image current) (size_of image current) here_sound here_full (omega (arith, reading.ready.formatted.sized.at_least))
 
     pub here_found : (r j : ℕ) → EntryNames image current r j → j < inode_count image → IsFound image j
     here_found r j names low = inode_found image E D reading.midway.all work.blocks reading.ready.some_inodes first scanned current r j entered names low

@@ -62,7 +62,7 @@ module _ (image : Image) (ready : HasWholeInodes image) (all left : Set) (whole 
   file_full = is_full image File NoEntry all left ready.some_inodes (inr refl) file 0 (inr refl) (inl refl)
 
   pub file_few : inode_count image ≤ 64 * block_count image
-  file_few = few_inodes image (root_of image 0) (size_of image 0) file_sound file_full (omega (arith, ready.formatted.at_least)) ready.inode_blocks
+  file_few = few_inodes image (root_of image 0) (size_of image 0) file_sound file_full (omega (arith, ready.formatted.sized.at_least)) ready.inode_blocks
 
   pub file_not_first : has left 0 ≡ false
   file_not_first = file.takes.less 0 whole.not_first
@@ -113,7 +113,7 @@ module _ (image : Image) (ready : HasWholeInodes image) (all left : Set) (whole 
       which (inr directory) = enters.full directory
 
       listed : has after.todo 1 ≡ true
-      listed = ap (λ (s : Set). has s 1) later_is ∙ has_with_same before.todo 1 (omega (arith, todo_length, ready.formatted.at_least))
+      listed = ap (λ (s : Set). has s 1) later_is ∙ has_with_same before.todo 1 (omega (arith, todo_length, ready.formatted.sized.at_least))
 
       alone : (i : ℕ) → i ≢ 1 → has after.todo i ≡ false
       alone i other = ap (λ (s : Set). has s i) later_is ∙ has_with_other before.todo 1 i other ∙ ap (λ (s : Set). has s i) todo_is ∙ has_empty (64 * block_count image) i

@@ -9,7 +9,7 @@ use Rattle.bp_scan.specs.declared.fault.MountFault.TheVariants.{NotFormatted, Ba
 -- This is why: the image has no mark; or its mark, and another number of blocks than it says; or both as they should
 -- be, and a check fails at a place. It is never want of memory.
 abbrev pub IsFault : Image → MountFault → Type 0
-IsFault image NotFormatted = word image 0 ≢ magic
+IsFault image NotFormatted = word image super_magic ≢ magic
 IsFault image (BadSize found wanted) =
     (word image super_magic ≡ magic) × (word image super_blocks ≢ block_count image)
     × (found ≡ block_size * block_count image) × (wanted ≡ min (block_size * word image super_blocks) (2 ^ 64 - 1))

@@ -3,8 +3,8 @@ use Rattle.std.specs.Prelude.{length, true, false, ◌≡◌, ◌⊎◌, ℕ, �
 use Rattle.bp_free.specs.Set.{Set, has, members, empty}
 use Rattle.bp_limits.specs.Limits.{block_size, block_inodes, root_inumber}
 use Rattle.bp_layout.specs.Words.{Image, block_count}
-use Rattle.bp_layout.specs.Inode.{kind_of, root_of, size_of, inode_count}
-use Rattle.bp_layout.specs.Checks.{IsFormatted}
+use Rattle.bp_layout.specs.Inode.{IsDirectory, inode_count, root_of, size_of}
+use Rattle.bp_layout.specs.Formatted.{IsFormatted}
 use Rattle.bp_spelling.specs.Names.{AreNames}
 use Rattle.bp_scan.specs.Scanned.{IsScanned}
 use Rattle.bp_scan.specs.Progress.{IsEntered, IsMidway}

@@ -2,8 +2,9 @@
 
 ghost use Rattle.std.specs.Prelude.{◌≡◌, ℕ, ◌%◌, ◌<◌, ◌≤◌, false, true};
 ghost use Rattle.bp_free.specs.Set.{has};
-ghost use Rattle.bp_limits.specs.Limits.{block_size};
-ghost use Rattle.bp_layout.specs.Checks.{Fails, IsFormatted, IsFound, root_place};
+ghost use Rattle.bp_limits.specs.Limits.{block_size, root_inumber};
+ghost use Rattle.bp_layout.specs.Checks.{Fails, IsFound, root_place};
+ghost use Rattle.bp_layout.specs.Formatted.{IsFormatted};
 ghost use Rattle.bp_layout.specs.declared.check.Check.{Check};
 ghost use Rattle.bp_layout.specs.Free.{AreFreeBlocks, AreFreeInodes};
 ghost use Rattle.bp_layout.specs.Inode.{IsDirectory, inode_count, root_of, size_of};

@@ -2,7 +2,8 @@
 
 ghost use Rattle.std.specs.Prelude.{◌≡◌, ◌<◌, ◌≤◌, ℕ, false, OnOk, IfErr};
 ghost use Rattle.bp_free.specs.Set.{has};
-ghost use Rattle.bp_layout.specs.Checks.{Fails, IsFormatted};
+ghost use Rattle.bp_layout.specs.Checks.{Fails};
+ghost use Rattle.bp_layout.specs.Formatted.{IsFormatted};
 ghost use Rattle.bp_layout.specs.Free.{AreFreeBlocks, AreFreeInodes};
 ghost use Rattle.bp_layout.specs.Inode.{inode_count};
 ghost use Rattle.bp_layout.specs.Reached.{IsReached};

@@ -2,7 +2,7 @@
 
 ghost use Rattle.std.specs.Prelude.{◌≡◌, ◌*◌, ◌≤◌, ◌↔◌, length, IsOk, OnOk, OnErr, IfOk, IfErr};
 ghost use Rattle.bp_free.specs.Set.{has, empty};
-ghost use Rattle.bp_layout.specs.Checks.{IsFormatted};
+ghost use Rattle.bp_layout.specs.Formatted.{IsFormatted, IsSized};
 ghost use Rattle.bp_layout.specs.Free.{AreFreeBlocks, AreFreeInodes};
 ghost use Rattle.bp_layout.specs.WellFormed.{IsWellFormed};
 ghost use Rattle.bp_layout.specs.Words.{block_count, word};
@@ -49,9 +49,7 @@ fn read_superblock<R: Region>(region: &R) -> Super
 /// `NotFormatted` exactly where word 0 is not the mark; `BadSize` exactly where it is, and word 1 is not the number of
 /// blocks.
 fn check_superblock<R: Region>(region: &R) -> Result<(), MountFault>
-    requires whole { let words = current_words (R.memory region.now) in length words ≡ 512 * block_count words }
-    requires least { min_blocks ≤ block_count (current_words (R.memory region.now)) }
-    requires most { block_count (current_words (R.memory region.now)) ≤ max_blocks }
+    requires sized { IsSized (current_words (R.memory region.now)) }
     ensures formatted { OnOk result (IsFormatted (current_words (R.memory region.now))) }
     ensures fault { IfErr result (IsFault (current_words (R.memory region.now))) }
 {
@@ -71,9 +69,7 @@ fn check_superblock<R: Region>(region: &R) -> Result<(), MountFault>
 
 /// Does what [`scan`] does, with the two sets in the work.
 fn scan_with<R: Region>(region: &R, work: &mut Scan) -> Result<Totals, MountFault>
-    requires whole { let words = current_words (R.memory region.now) in length words ≡ 512 * block_count words }
-    requires least { min_blocks ≤ block_count (current_words (R.memory region.now)) }
-    requires most { block_count (current_words (R.memory region.now)) ≤ max_blocks }
+    requires sized { IsSized (current_words (R.memory region.now)) }
     requires room { HasRoom (current_words (R.memory region.now)) work.old }
     ensures well_formed { IsOk result ↔ IsWellFormed (current_words (R.memory region.now)) }
     ensures blocks { OnOk result (AreFreeBlocks (current_words (R.memory region.now)) (has work.new.blocks)) }
@@ -113,9 +109,7 @@ pub fn scan<R: Region>(
     inodes: &mut Inodes,
     pending: &mut Pending,
 ) -> Result<Totals, MountFault>
-    requires whole { let words = current_words (R.memory region.now) in length words ≡ 512 * block_count words }
-    requires least { min_blocks ≤ block_count (current_words (R.memory region.now)) }
-    requires most { block_count (current_words (R.memory region.now)) ≤ max_blocks }
+    requires sized { IsSized (current_words (R.memory region.now)) }
     requires blocks { length blocks.old ≡ block_count (current_words (R.memory region.now)) }
     requires inodes { length inodes.old ≡ block_inodes * block_count (current_words (R.memory region.now)) }
     requires pending { pending.old ≡ block_inodes * block_count (current_words (R.memory region.now)) }

@@ -2,7 +2,8 @@
 
 ghost use Rattle.std.specs.Prelude.{◌≡◌, ◌+◌, ◌<◌, ◌≤◌, false, length, OnOk, IfErr};
 ghost use Rattle.bp_free.specs.Set.{has};
-ghost use Rattle.bp_layout.specs.Checks.{Fails, IsFormatted};
+ghost use Rattle.bp_layout.specs.Checks.{Fails};
+ghost use Rattle.bp_layout.specs.Formatted.{IsFormatted};
 ghost use Rattle.bp_layout.specs.Inode.{inode_count, root_of, size_of};
 ghost use Rattle.bp_layout.specs.Tree.{IsFull, IsSound};
 ghost use Rattle.bp_scan.specs.Inodes.{AreWords, IsRightInode, IsWrong, EntersInode, FailsInode};

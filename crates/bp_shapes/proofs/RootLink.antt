@@ -70,7 +70,7 @@ module _ (old : Image) (wf : IsWellFormed old) (t place other : ℕ) (reached : 
     where
       go : RootPlace old t place → root_of (set old place other) t ≡ other
       go (top first two) =
-          let some : 8 ≤ length old / 512 = wf.at_least in
+          let some : 8 ≤ length old / 512 = wf.formatted.sized.at_least in
           rw (first, two) (get_or-set_same old 2 other 0 (omega (arith, some)))
       go (inode some stands) =
           let two : word (set old place other) 2 ≡ word old 2 = low_words 2 (omega arith) (inl some) in

@@ -53,7 +53,7 @@ same_unseen old bound free wf forest sizes exact image size others =
         go (inl low) =
             others place (λ unseen.
             let small : 512 ≤ place = unseen.low in
-            let whole : length old ≡ 512 * block_count old = wf.whole in
+            let whole : length old ≡ 512 * block_count old = wf.formatted.sized.whole in
             let open_block : free (place / 512) ≡ true = exact.dead (place / 512) (omega (arith, small)) (omega (arith, low, whole)) unseen.dead in
             absurd (cc))
         go (inr past) = get_or-eq_default image 0 (subst (λ n. n ≤ place) (sym size) past) ∙ sym (get_or-eq_default old 0 past)

@@ -125,9 +125,11 @@ module _ (was : Known) (name : List ℕ) (count : ℕ) (found now : View) (base 
   pub is_sized : HasSized was base
   is_sized = record {
     has = record { bytes = known; words = words };
-    whole = omega (arith, size);
-    at_least = omega (arith, size, finds.at_least);
-    at_most = omega (arith, size, finds.at_most);
+    sized = record {
+      whole = omega (arith, size);
+      at_least = omega (arith, size, finds.at_least);
+      at_most = omega (arith, size, finds.at_most);
+    };
   }
 
   pub is_held : Holds now name base

@@ -172,10 +172,10 @@ wanted_whole n least most = omega arith
 
 not_refused : (image : Image) (notice : Notice) → AreWordsOf64Bits image → IsWellFormed image → RefusesFile (Some (Some (image_bytes image))) notice → ⊥
 not_refused image line words well (by_length {len = len} has wrong) =
-    let size : len ≡ 4096 * (length image / 512) = omega (arith, has, length-image_bytes image, well.whole) in
-    wrong (size ∙ sym (wanted_whole (length image / 512) well.at_least well.at_most) ∙ ap wanted_length (sym size))
-not_refused image line words well (not_formatted {image = other} has wrong) = let same = image_once image other words has.has.words has.has.bytes in wrong (rw (← same) well.marked)
-not_refused image line words well (by_count {image = other} has marked wrong) = let same = image_once image other words has.has.words has.has.bytes in wrong (rw (← same) well.counted)
+    let size : len ≡ 4096 * (length image / 512) = omega (arith, has, length-image_bytes image, well.formatted.sized.whole) in
+    wrong (size ∙ sym (wanted_whole (length image / 512) well.formatted.sized.at_least well.formatted.sized.at_most) ∙ ap wanted_length (sym size))
+not_refused image line words well (not_formatted {image = other} has wrong) = let same = image_once image other words has.has.words has.has.bytes in wrong (rw (← same) well.formatted.marked)
+not_refused image line words well (by_count {image = other} has marked wrong) = let same = image_once image other words has.has.words has.has.bytes in wrong (rw (← same) well.formatted.counted)
 not_refused image line words well (damaged {image = other} {check = check} {place = place} has marked counted wrong) =
     let same = image_once image other words has.has.words has.has.bytes in
     none_fails image well check place (rw same wrong)

@@ -1,6 +1,7 @@
 -- Which files are file systems, and why others are refused.
 use Rattle.std.specs.Prelude.{◌≡◌, ◌≢◌, ◌≤◌, ℕ, ◌-◌, ◌*◌, ◌^◌, List, length, min, [], true}
 use Rattle.bp_io.specs.Files.{Known, View}
+use Rattle.bp_layout.specs.Formatted.{IsSized}
 use Rattle.bp_layout.specs.Words.{Image, word, block_count}
 use Rattle.bp_limits.specs.Limits.{block_size, block_words, log_events, magic, max_blocks, min_blocks, super_blocks, super_magic}
 use Rattle.bp_layout.specs.Checks.{Fails, number_of}
@@ -21,9 +22,7 @@ pub record HoldsFileSystem (known : Known) (image : Image) : Type 0 where
 -- The file has the bytes of an image of a length that an image may have.
 pub record HasSized (known : Known) (image : Image) : Type 0 where
   pub has : HasImage known image
-  pub whole : length image ≡ block_words * block_count image
-  pub at_least : min_blocks ≤ block_count image
-  pub at_most : block_count image ≤ max_blocks
+  pub sized : IsSized image
 
 -- The file of this name, of which so much was known, is attached, and has so many blocks of an image.
 pub record FindsImage (was : Known) (name : List ℕ) (count : ℕ) (files : View) : Type 0 where

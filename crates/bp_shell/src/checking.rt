@@ -2,6 +2,7 @@
 
 ghost use Rattle.bp_free.specs.Set.{empty};
 ghost use Rattle.bp_io.specs.Files.{Known};
+ghost use Rattle.bp_layout.specs.Formatted.{IsSized};
 ghost use Rattle.bp_layout.specs.WellFormed.{IsWellFormed};
 ghost use Rattle.bp_layout.specs.Words.{block_count};
 ghost use Rattle.bp_limits.specs.Limits.{block_inodes};
@@ -46,9 +47,10 @@ fn room(alloc: Global, blocks: u32) -> Result<(Blocks, Inodes, Pending), AllocEr
 /// Scans an image, and tells what it holds.
 fn survey(alloc: Global, region: &RawRegion) -> Result<Notice, Stop>
     requires fresh { region.now.events ≡ [] }
-    requires whole { length region.now.base ≡ block_words * block_count region.now.base }
-    requires least { MIN_BLOCKS ≤ block_count region.now.base }
-    requires most { block_count region.now.base ≤ MAX_BLOCKS }
+    requires sized { IsSized region.now.base }
+    requires blocks { length sets.old.blocks ≡ block_count region.now.base }
+    requires inodes { length sets.old.inodes ≡ block_inodes * block_count region.now.base }
+    requires pending { sets.old.pending ≡ block_inodes * block_count region.now.base }
     ensures well_formed { OnOk result (IsWellFormed region.now.base) }
     ensures clean { IfOk result (λ notice. IsClean region.now.base notice) }
     ensures refused { IfErr result (λ stop. (known : Known) (notice : Notice) → HasImage known region.now.base →
@@ -68,6 +70,22 @@ fn survey(alloc: Global, region: &RawRegion) -> Result<Notice, Stop>
             free: blocks.count(),
         }),
         Err(fault) => Err(stop_of(fault)),
+    }
+}
+
+/// Scans an image, and tells what it holds.
+fn survey(alloc: Global, region: &RawRegion) -> Result<Notice, Stop>
+    requires fresh { region.now.events ≡ [] }
+    requires sized { IsSized region.now.base }
+    ensures well_formed { OnOk result (IsWellFormed region.now.base) }
+    ensures clean { IfOk result (λ notice. IsClean region.now.base notice) }
+    ensures refused { IfErr result (λ stop. (known : Known) (notice : Notice) → HasImage known region.now.base →
+        stop ≡ Refused notice → RefusesFile known notice) }
+    ensures kinds { IfErr result (λ stop. ((notice : Notice) × (stop ≡ Refused notice)) ⊎ (stop ≡ Memory)) }
+{
+    match Sets::new(alloc, region.words() / BLOCK_WORDS) {
+        Ok(mut sets) => survey_with(region, &mut sets),
+        Err(_) => Err(Stop::Memory),
     }
 }
 

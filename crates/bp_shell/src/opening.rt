@@ -2,6 +2,7 @@
 
 ghost use Rattle.std.specs.Prelude.{◌≡◌, ◌<◌, ◌≤◌, ◌+◌, ◌*◌, ◌++◌, [], ◌⊎◌, IfErr, IfOk, OnOk, false, length};
 ghost use Rattle.bp_io.specs.Files.{Known, Reads, block_bytes, makes, may_change};
+ghost use Rattle.bp_layout.specs.Formatted.{IsSized};
 ghost use Rattle.bp_layout.specs.Bytes.{image_bytes};
 ghost use Rattle.bp_layout.specs.WellFormed.{IsWellFormed};
 ghost use Rattle.bp_layout.specs.Words.{Image};
@@ -186,9 +187,7 @@ pub(crate) fn load_file<F: Files>(
 /// Mounts a region of the words of an image.
 fn mount(alloc: Global, region: RawRegion) -> Result<Volume<RawRegion>, Stop>
     requires starts { region ≡ (start region.base).memory }
-    requires whole { length region.base ≡ block_words * block_count region.base }
-    requires least { MIN_BLOCKS ≤ block_count region.base }
-    requires most { block_count region.base ≤ MAX_BLOCKS }
+    requires sized { IsSized region.base }
     ensures same { IfOk result (λ volume. volume ≡ region) }
     ensures well_formed { OnOk result (IsWellFormed region.base) }
     ensures refused { IfErr result (λ stop. (known : Known) (notice : Notice) → HasImage known region.base →

@@ -31,7 +31,7 @@ module _ (image : Image) (wf : IsWellFormed image) (blocks inodes : Set) (exact 
       others n = rw first (omega (arith, length-filter (has blocks) (range_with_len (0 + 1) n), count_by-le-length (has blocks) (range_with_len (0 + 1) n), length-range_with_len (0 + 1) n))
 
       go : (n : ℕ) → length blocks ≡ n → length (members blocks) + 1 ≤ length blocks
-      go zero at = absurd (omega (arith, at, exact.block_room, wf.at_least))
+      go zero at = absurd (omega (arith, at, exact.block_room, wf.formatted.sized.at_least))
       go (suc n) at = omega (arith, at, ap (λ k. length (filter (has blocks) (range_with_len 0 k))) at, others n)
 
   pub live_counted : (live : ℕ) → live + length (members blocks) + 1 ≡ length blocks → HasLive image live

@@ -1,6 +1,7 @@
 //! The stores of a format.
 
-ghost use Rattle.std.specs.Prelude.{[], ◌*◌, ◌≡◌, ◌≤◌, length};
+ghost use Rattle.std.specs.Prelude.{[], ◌≡◌, ◌≤◌};
+ghost use Rattle.bp_layout.specs.Formatted.{IsSized};
 ghost use Rattle.bp_layout.specs.Words.{Image, block_count};
 ghost use Rattle.bp_volume.specs.Laid.{IsLeftByFormat, format_events};
 ghost use Rattle.pm_epochs.specs.Replay.{IsReplay};
@@ -14,9 +15,7 @@ use pm_region::Region;
 /// Makes an empty file system of a region of 8 to 16,384 blocks of 512 words. Its stores are not written back until
 /// the region is drained: up to then a crash may leave the old words, or words without the mark.
 pub fn lay_out<R: Region>(region: &mut R)
-    requires whole { length (R.memory region.old).base ≡ 512 * block_count (R.memory region.old).base }
-    requires least { min_blocks ≤ block_count (R.memory region.old).base }
-    requires most { block_count (R.memory region.old).base ≤ max_blocks }
+    requires sized { IsSized (R.memory region.old).base }
     requires fresh { (R.memory region.old).events ≡ [] }
     requires room { 16 ≤ room_in (R.memory region.old) }
     ensures stores { Adds (R.memory region.old) (R.memory region.new)

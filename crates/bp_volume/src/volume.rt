@@ -1,6 +1,7 @@
 //! The volume.
 
-ghost use Rattle.std.specs.Prelude.{[], ◌*◌, ◌∷◌, ◌≡◌, ◌⊎◌, ◌≤◌, ◌↔◌, IfErr, IfOk, IsOk, OnErr, OnOk, drop, length};
+ghost use Rattle.std.specs.Prelude.{[], ◌*◌, ◌≡◌, ◌⊎◌, ◌≤◌, ◌↔◌, IfErr, IfOk, IsOk, OnErr, OnOk, drop, length};
+ghost use Rattle.bp_layout.specs.Formatted.{IsSized};
 ghost use Rattle.bp_layout.specs.Free.{HasFree};
 ghost use Rattle.bp_layout.specs.Same.{Same};
 ghost use Rattle.bp_layout.specs.WellFormed.{IsWellFormed};
@@ -67,9 +68,7 @@ impl<R: Region> Volume<R> {
     ///
     /// `Memory` where there is none for the volume. The region comes back as it was.
     pub fn format(alloc: Global, region: R) -> Result<Volume<R>, (R, MountFault)>
-        requires whole { length (R.memory region).base ≡ 512 * block_count (R.memory region).base }
-        requires least { min_blocks ≤ block_count (R.memory region).base }
-        requires most { block_count (R.memory region).base ≤ max_blocks }
+        requires sized { IsSized (R.memory region).base }
         requires fresh { (R.memory region).events ≡ [] }
         requires roomy { call_room ≤ (R.memory region).capacity }
         ensures made { IfOk result (λ volume. volume ≡ formatted_memory (R.memory region)) }
@@ -99,9 +98,7 @@ impl<R: Region> Volume<R> {
     /// another number of blocks; `Damaged` where a check of the format fails, with one that does; `Memory` where
     /// there is none for the volume. The region comes back as it was.
     pub fn mount(alloc: Global, region: R) -> Result<Volume<R>, (R, MountFault)>
-        requires whole { length (R.memory region).base ≡ 512 * block_count (R.memory region).base }
-        requires least { min_blocks ≤ block_count (R.memory region).base }
-        requires most { block_count (R.memory region).base ≤ max_blocks }
+        requires sized { IsSized (R.memory region).base }
         requires fresh { (R.memory region).events ≡ [] }
         requires roomy { call_room ≤ (R.memory region).capacity }
         ensures same { IfOk result (λ volume. volume ≡ R.memory region) }
@@ -392,9 +389,7 @@ impl<R: Region> Volume<R> {
 
     /// Makes a volume of a region with an empty log whose image passes a scan.
     fn scanned(region: R, sets: Sets) -> Result<Volume<R>, (R, MountFault)>
-        requires whole { length (R.memory region).base ≡ 512 * block_count (R.memory region).base }
-        requires least { min_blocks ≤ block_count (R.memory region).base }
-        requires most { block_count (R.memory region).base ≤ max_blocks }
+        requires sized { IsSized (R.memory region).base }
         requires fresh { (R.memory region).events ≡ [] }
         requires roomy { call_room ≤ (R.memory region).capacity }
         requires blocks { length sets.blocks ≡ block_count (R.memory region).base }

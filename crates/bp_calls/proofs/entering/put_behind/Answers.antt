@@ -11,7 +11,7 @@ overflow_add-end g c =
     omega (arith, small, c.requires.size)
 
 pub root_path-at-requires : goal.root_path-at-requires
-root_path-at-requires g c = let wf = c.requires.can.lacks.well_formed in omega (arith, wf.at_least, wf.whole)
+root_path-at-requires g c = let wf = c.requires.can.lacks.well_formed in omega (arith, wf.formatted.sized.at_least, wf.formatted.sized.whole)
 
 pub prep-requires : goal.prep-requires
 prep-requires g c =

@@ -4,9 +4,6 @@ use Rattle.bp_layout.proofs.image_laws.well_formed_by_checks.Goals as goal
 
 pub returns : goal.returns
 returns c = (
-  λ wf. (
-    record { whole = wf.whole; at_least = wf.at_least; at_most = wf.at_most; marked = wf.marked; counted = wf.counted },
-    record { none = none_fails c.args.image.now wf },
-  ),
+  λ wf. (wf.formatted, record { none = none_fails c.args.image.now wf }),
   λ both. checks_suffice c.args.image.now both.1 both.0,
 )

@@ -23,7 +23,7 @@ overflow_cast-inode g c =
     let low : c.args.slot.named < length c.args.work.now.inodes =
     in_room image c.args.work.now c.args.directory c.args.slot.number c.requires.inside c.requires.live c.args.slot.named c.requires.named c.if-named-eq0.false
     (subst (λ x. c.args.slot.named < x / 64) c.inode_file.ensures.size c.if-named-inode_file.false) in
-    let rooms : length c.args.work.now.inodes ≤ 1048576 = omega (arith, c.requires.inside.at.reading.room.inodes, c.requires.inside.at.reading.ready.formatted.at_most) in
+    let rooms : length c.args.work.now.inodes ≤ 1048576 = omega (arith, c.requires.inside.at.reading.room.inodes, c.requires.inside.at.reading.ready.formatted.sized.at_most) in
     let small : c.args.slot.named < 4294967296 = omega (arith, low, rooms) in
     search (rules, small)
 

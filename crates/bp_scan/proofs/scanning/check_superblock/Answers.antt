@@ -15,9 +15,7 @@ returns-clause-formatted g c =
     let long = length_now (g.R.Region.memory c.args.region.now) in
     let blocks : c.from-blocks.result ≡ block_count (current_words (g.R.Region.memory c.args.region.now)) = omega (arith, long) in
     record {
-      whole = c.requires.whole;
-      at_least = c.requires.least;
-      at_most = c.requires.most;
+      sized = c.requires.sized;
       marked = sym c.read_superblock-superblock.ensures.magic ∙ c.if-superblock-ne-MAGIC.false;
       counted = sym c.read_superblock-superblock.ensures.blocks ∙ c.if-superblock-blocks.false ∙ blocks;
     }

@@ -12,7 +12,7 @@ use Rattle.bp_scan.proofs.totalling.all_totals.Goals as goal
 
 few : (image : Image) → IsWellFormed image → inode_count image ≤ 64 * block_count image
 few image wf =
-    let least : 8 ≤ block_count image = wf.at_least in
+    let least : 8 ≤ block_count image = wf.formatted.sized.at_least in
     few_inodes image (root_of image 0) (size_of image 0) (wf.sound 0 inode_file) wf.full_inode_file (omega (arith, least)) wf.inode_blocks
 
 some : (image : Image) → IsWellFormed image → 64 ≤ inode_count image
@@ -20,7 +20,7 @@ some image wf = let bytes : 4096 ≤ size_of image 0 = wf.some_inodes in omega (
 
 pub overflow_sub-totals-2 : goal.overflow_sub-totals-2
 overflow_sub-totals-2 g c =
-    let least : 8 ≤ block_count (current_words (g.R.Region.memory c.args.region.now)) = c.requires.well_formed.at_least in
+    let least : 8 ≤ block_count (current_words (g.R.Region.memory c.args.region.now)) = c.requires.well_formed.formatted.sized.at_least in
     let less : length (members c.args.blocks.now) < length c.args.blocks.now =
     few_free (current_words (g.R.Region.memory c.args.region.now)) c.args.blocks.now c.requires.blocks (omega (arith, c.requires.block_room, least)) in
     omega (arith, less)
@@ -28,7 +28,7 @@ overflow_sub-totals-2 g c =
 pub overflow_cast-inode_count : goal.overflow_cast-inode_count
 overflow_cast-inode_count g c =
     let all = few (current_words (g.R.Region.memory c.args.region.now)) c.requires.well_formed in
-    omega (arith, all, c.inode_file.ensures.size, c.requires.well_formed.at_most)
+    omega (arith, all, c.inode_file.ensures.size, c.requires.well_formed.formatted.sized.at_most)
 
 pub count_inode-totals-requires-clause-in_range : goal.count_inode-totals-requires-clause-in_range
 count_inode-totals-requires-clause-in_range g c =
@@ -38,7 +38,7 @@ count_inode-totals-requires-clause-in_range g c =
 pub returns : goal.returns
 returns g c =
     let image = current_words (g.R.Region.memory c.args.region.now) in
-    let least : 8 ≤ block_count image = c.requires.well_formed.at_least in
+    let least : 8 ≤ block_count image = c.requires.well_formed.formatted.sized.at_least in
     let low : 64 ≤ inode_count image = some image c.requires.well_formed in
     let end : c.loop-i.i ≡ inode_count image = omega (arith, c.inode_file.ensures.size, low) in
     let less : length (members c.args.blocks.now) < length c.args.blocks.now =

@@ -9,5 +9,5 @@ returns-clause-refused c = λ known notice has e.
     let told : stop_by c.in-Err.fault ≡ Refused notice = sym c.stop_of.ensures ∙ e in
     elim c.in-Err.ensures.fault [
       | inl out ↦ absurd (no_refusal notice (rw out at told))
-      | inr why ↦ stop_refused c.in-Err.fault c.args.region.base known notice why (record { has = has; whole = search rules; at_least = c.requires.least; at_most = c.requires.most }) told
+      | inr why ↦ stop_refused c.in-Err.fault c.args.region.base known notice why (record { has = has; sized = c.requires.sized }) told
     ]

@@ -9,4 +9,4 @@ pub returns-clause-left : goal.returns-clause-left
 returns-clause-left g c image found =
     let old : Memory = g.R.Region.memory c.args.region.now in
     let adds : Adds old (g.R.Region.memory c.barrier-3.new.self) (format_events (block_count old.base)) = search rules in
-    left_by_format old.base (block_count old.base) c.requires.whole c.requires.least c.requires.most image (rw (adds, c.requires.fresh) at found)
+    left_by_format old.base (block_count old.base) c.requires.sized.whole c.requires.sized.at_least c.requires.sized.at_most image (rw (adds, c.requires.fresh) at found)

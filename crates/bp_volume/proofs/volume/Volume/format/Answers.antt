@@ -15,11 +15,11 @@ unreachable-requires g c =
     let old : Memory = g.R.Region.memory c.args.region in
     let made : g.R.Region.memory c.drain.new.self ≡ formatted_memory old = c.drain.ensures ∙ drained_format old _ c.requires.fresh c.lay_out.ensures.stores in
     let wf : IsWellFormed (g.R.Region.memory c.drain.new.self).base =
-    subst (λ (memory : Memory). IsWellFormed memory.base) (sym made) (formatted_well_formed old.base (block_count old.base) c.requires.whole c.requires.least c.requires.most) in
+    subst (λ (memory : Memory). IsWellFormed memory.base) (sym made) (formatted_well_formed old.base (block_count old.base) c.requires.sized.whole c.requires.sized.at_least c.requires.sized.at_most) in
     true≢false (sym (c.in-Err.ensures.well_formed.1 wf))
 
 pub returns-clause-empty : goal.returns-clause-empty
 returns-clause-empty g c =
     let old : Memory = g.R.Region.memory c.args.region in
     let made : c.in-Ok-scanned.volume ≡ formatted_memory old = c.in-Ok-scanned.ensures.same ∙ c.drain.ensures ∙ drained_format old _ c.requires.fresh c.lay_out.ensures.stores in
-    subst (λ (memory : Memory). Stands (current_words memory) empty_tree) (sym made) (format_stands old.base (block_count old.base) c.requires.whole c.requires.least c.requires.most)
+    subst (λ (memory : Memory). Stands (current_words memory) empty_tree) (sym made) (format_stands old.base (block_count old.base) c.requires.sized.whole c.requires.sized.at_least c.requires.sized.at_most)

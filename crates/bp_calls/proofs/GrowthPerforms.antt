@@ -8,10 +8,10 @@ use Rattle.bp_layout.specs.Reached.{IsReached, IsFreeBlock}
 use Rattle.bp_layout.specs.WellFormed.{IsWellFormed}
 use Rattle.bp_layout.specs.WordPaths.{address}
 use Rattle.bp_layout.specs.Words.{Image}
-use Rattle.bp_tree.specs.Performs.{Performs, most_stores}
+use Rattle.bp_tree.specs.Performs.{Performs, PerformsWithin, most_stores}
 use Rattle.bp_tree.proofs.PerformsLaws.{performs_twice}
 use Rattle.pm_region.specs.Memory.{Memory, current_words}
-use Rattle.bp_calls.specs.Growth.{GrowsInodes, PerformsWithin, growth_need, growth_stores, stores_behind_growth}
+use Rattle.bp_calls.specs.Growth.{GrowsInodes, growth_need, growth_stores, stores_behind_growth}
 use Rattle.bp_calls.proofs.GrowthCover.{longer_cover, longer_need}
 use Rattle.bp_calls.proofs.GrowthLaws.{longer_free, longer_live}
 

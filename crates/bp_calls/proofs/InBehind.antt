@@ -29,10 +29,10 @@ use Rattle.bp_layout.specs.declared.fields.Kind.{Kind}
 use Rattle.bp_layout.proofs.Reached.{reached-in_file}
 use Rattle.bp_layout.proofs.SmallTrees.{empty_has_none}
 use Rattle.bp_shapes.specs.Sets.{AreExact}
-use Rattle.bp_tree.specs.Performs.{AddsTaking, IsOpen, TakesBlocks}
+use Rattle.bp_tree.specs.Performs.{AddsTaking, IsOpen, PerformsWithin, TakesBlocks}
 use Rattle.bp_tree.specs.Within.{IsWithin}
 use Rattle.bp_tree.specs.Performs.IsOpen.{in_taken, in_live, at_root, at_size}
-use Rattle.bp_tree.proofs.PerformsLaws.{same_equivalence, takes_twice}
+use Rattle.bp_tree.proofs.PerformsLaws.{same_equivalence, takes_twice, within_committed, within_more}
 use Rattle.bp_append.proofs.StoresLaws.{behind_whole}
 use Rattle.pm_epochs.specs.Crash.{commit}
 use Rattle.pm_epochs.specs.Log.{words_after}
@@ -47,13 +47,12 @@ use Rattle.pm_region.proofs.MemoryLaws.{adds_both, base-adds, current_words-adds
 use Rattle.bp_calls.specs.Created.{EntersName}
 use Rattle.bp_calls.specs.Entered.{IsNewInode, IsReadyBehind}
 use Rattle.bp_calls.specs.Entries.{PutsBehind}
-use Rattle.bp_calls.specs.Growth.{PerformsWithin, stores_behind_growth}
+use Rattle.bp_calls.specs.Growth.{stores_behind_growth}
 use Rattle.bp_calls.specs.Spare.{IsSpare}
 use Rattle.bp_calls.specs.Steps.{CanEnterBehind}
 use Rattle.bp_calls.proofs.AfterLaws.{prepared_well_formed, prepared_same, size_after, slot_named_over}
 use Rattle.bp_calls.proofs.EnteredLaws.{Enters, directory_inode}
 use Rattle.bp_calls.proofs.GrownLaws.{GrowsBlocks, grown, grown_blocks, grown_file}
-use Rattle.bp_calls.proofs.GrowthWithin.{within_committed, within_more}
 use Rattle.bp_calls.proofs.InSlot.{inode_inside, inode_row}
 use Rattle.bp_calls.proofs.NeedLaws.{need_behind}
 use Rattle.bp_calls.proofs.OpenPlaces.{content_open, each_weaker, size_covered}

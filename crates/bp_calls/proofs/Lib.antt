@@ -34,7 +34,6 @@ pub mod Shorter
 pub mod ResizedStands
 pub mod GrowthImage
 pub mod GrowthLaws
-pub mod GrowthWithin
 pub mod GrowthMemory
 pub mod GrowthRoom
 pub mod GrowthSets

@@ -16,10 +16,10 @@ use Rattle.bp_layout.specs.declared.fields.Kind.{Kind}
 use Rattle.bp_layout.proofs.Reached.{reached-in_file}
 use Rattle.bp_limits.specs.Limits.{call_room}
 use Rattle.bp_shapes.specs.Sets.{AreExact}
-use Rattle.bp_tree.specs.Performs.{Performs, most_stores}
+use Rattle.bp_tree.specs.Performs.{Performs, PerformsWithin, most_stores}
 use Rattle.pm_region.specs.Memory.{Memory, current_words, room_in}
 use Rattle.bp_calls.specs.Created.{EntersName}
-use Rattle.bp_calls.specs.Growth.{CanGrowInodes, GrowsInodes, PerformsWithin, growth_need, stores_behind_growth}
+use Rattle.bp_calls.specs.Growth.{CanGrowInodes, GrowsInodes, growth_need, stores_behind_growth}
 use Rattle.bp_calls.specs.Space.{LacksSpace}
 use Rattle.bp_calls.specs.Steps.{CanEnter, CanEnterBehind, CanName, LacksName}
 use Rattle.bp_calls.proofs.AfterLaws.{empty_slot_over, slot_named_over}
@@ -29,7 +29,7 @@ use Rattle.bp_calls.proofs.GrowthMemory.{room_behind_growth}
 use Rattle.bp_calls.proofs.GrowthNeed.{need_growing}
 use Rattle.bp_calls.proofs.GrowthPerforms.{grown_need, performs_grown}
 use Rattle.bp_calls.proofs.GrowthRoom.{growth_few}
-use Rattle.bp_calls.proofs.GrowthWithin.{performs_within}
+use Rattle.bp_tree.proofs.PerformsLaws.{within_more}
 use Rattle.bp_calls.proofs.NeedLaws.{need_behind}
 use Rattle.bp_calls.proofs.Refusals.{has_members, tells, tells_false, tells_true}
 use Rattle.bp_calls.proofs.StandsLaws.{entered_over}
@@ -117,10 +117,13 @@ module _ (old mid : Memory) (blocks inodes after filled : Set) (i : ℕ) (name :
 pub within_call : (old new : Memory) (i : ℕ) (Effect : Image → Image → Type 0) → PerformsWithin 5 (stores_behind_growth (need (current_words old) (enters i true))) old new (enters i true) Effect →
     Performs old new (enters i true) Effect
 within_call old new i Effect done =
-    performs_within 5 (stores_behind_growth (need (current_words old) (enters i true))) old new (enters i true) Effect done (omega arith) (few (need (current_words old) (enters i true)))
+    within_more 5 (stores_behind_growth needed) old new (enters i true) Effect done 8 (most_stores needed) (omega arith) few
   where
-    few : (needed : ℕ) → stores_behind_growth needed ≤ most_stores needed
-    few needed = omega arith
+    needed : ℕ
+    needed = need (current_words old) (enters i true)
+
+    few : stores_behind_growth needed ≤ most_stores needed
+    few = omega arith
 
 module _ (old : Memory) (blocks inodes : Set) (i : ℕ) (exact : AreExact (current_words old) blocks inodes) where
   -- whatever is told of free inodes

@@ -63,16 +63,3 @@ pub record GrowsInodes (old new : Memory) : Type 0 where
   pub adds : AddsTaking taken 3 (growth_stores (length taken)) old new
   pub number : length taken ≡ growth_need (current_words old)
   pub grown : AddsInodes (current_words old) (current_words new) taken
-
--- What is performed, with so many barriers and stores at most.
-pub record PerformsWithin (most_barriers most : ℕ) (old new : Memory) (change : Change)
-    (Effect : Image → Image → Type 0) : Type 0 where
-  pub value : ℕ
-  pub commit : AddsCommit Same (address (current_words new) (cover (current_words old) change)) value
-      most_barriers most old new
-  pub taken : List ℕ
-  pub takes : TakesBlocks (current_words old) taken commit.prepared
-  pub number : length taken ≡ need (current_words old) change
-  pub in_open : IsOpen (current_words old) taken (address (current_words new) (cover (current_words old) change))
-  pub well_formed : IsWellFormed (current_words new)
-  pub effect : Effect (current_words old) (current_words new)

@@ -2,7 +2,7 @@
 
 ghost use Rattle.std.specs.Prelude.{◌≡◌, ◌≢◌, ◌+◌, ◌*◌, ◌≤◌, [], None, false, true, Bool, IfErr, OnErr, OnOk, length};
 ghost use Rattle.bp_calls.specs.Created.{EntersName};
-ghost use Rattle.bp_calls.specs.Growth.{PerformsWithin, stores_behind_growth};
+ghost use Rattle.bp_calls.specs.Growth.{stores_behind_growth};
 ghost use Rattle.bp_calls.specs.Space.{LacksSpace};
 ghost use Rattle.bp_calls.specs.Steps.{CanEnter, LacksName};
 ghost use Rattle.bp_free.specs.Set.{IsLeast, members, without};
@@ -15,7 +15,7 @@ ghost use Rattle.bp_layout.specs.Reached.{IsReached};
 ghost use Rattle.bp_layout.specs.WellFormed.{IsWellFormed};
 ghost use Rattle.bp_limits.specs.Limits.{call_room, max_height};
 ghost use Rattle.bp_shapes.specs.Sets.{AreExact};
-ghost use Rattle.bp_tree.specs.Performs.{Performs};
+ghost use Rattle.bp_tree.specs.Performs.{Performs, PerformsWithin};
 ghost use Rattle.pm_region.specs.Memory.{current_words, room_in};
 
 use crate::entering::{enter_behind, enter_slot, tree_of};

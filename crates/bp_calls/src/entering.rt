@@ -4,7 +4,7 @@ ghost use Rattle.std.specs.Prelude.{Some, true, ◌≡◌, ◌+◌, ◌≤◌, l
 ghost use Rattle.bp_shapes.specs.Sets.{AreExact};
 ghost use Rattle.bp_calls.specs.Created.{EntersName};
 ghost use Rattle.bp_calls.specs.Entries.{AreEntryBytes, PutsBehind, entry_byte};
-ghost use Rattle.bp_calls.specs.Growth.{PerformsWithin, stores_behind_growth};
+ghost use Rattle.bp_calls.specs.Growth.{stores_behind_growth};
 ghost use Rattle.bp_calls.specs.Steps.{CanEnterBehind, CanName, CanPutBehind, entering_room};
 ghost use Rattle.bp_free.specs.Set.{Set, members, without};
 ghost use Rattle.bp_layout.specs.Directory.{empty_slot};
@@ -13,6 +13,7 @@ ghost use Rattle.bp_layout.specs.Need.{need};
 ghost use Rattle.bp_layout.specs.Need.Change.{enters};
 ghost use Rattle.bp_layout.specs.Reached.{IsReached};
 ghost use Rattle.bp_layout.specs.WellFormed.{IsWellFormed};
+ghost use Rattle.bp_tree.specs.Performs.{PerformsWithin};
 ghost use Rattle.pm_region.specs.Memory.{current_words, room_in};
 
 use crate::writing::root_path;

@@ -8,24 +8,24 @@ use Rattle.std.proofs.lemmas.List.{append_assoc, length-append}
 use Rattle.pm_epochs.specs.declared.event.Event.{Event}
 use Rattle.pm_epochs.specs.declared.event.Event.TheVariants.{Store, Barrier, Mark}
 use Rattle.pm_epochs.specs.Log.{words_after, StoresTo, marks}
-use Rattle.pm_epochs.specs.May.{AnyAt, StoresMay}
+use Rattle.pm_epochs.specs.May.{AnyAt, EachMay, StoresMay}
 use Rattle.pm_epochs.specs.Crash.{IsPartialEquivalence, commit}
-use Rattle.pm_epochs.proofs.MayLaws.{StoresMay-weaker, StoresMay-append}
+use Rattle.pm_epochs.proofs.MayLaws.{quiet_may, StoresMay-weaker, StoresMay-append}
 use Rattle.pm_epochs.proofs.CrashLaws.{IsClosed-append, quiet-append}
 use Rattle.pm_epochs.proofs.PieceLaws.{IsPiece-append, IsPiece-more, IsPiece-commit, last_stored-commit, StoresTo-append, StoresTo-front, StoresTo-behind}
 use Rattle.pm_region.specs.Memory.{Memory, current_words, events_between, Adds}
-use Rattle.pm_region.specs.Safe.{IsSafe, AddsCommit}
+use Rattle.pm_region.specs.Safe.{IsSafe, AddsCommit, AddsMay}
 use Rattle.pm_region.proofs.MemoryLaws.{adds_both, current_words-adds}
 use Rattle.pm_region.proofs.SafeLaws.{safe_committed}
 use Rattle.bp_layout.proofs.SameLaws.{same_self, same_symmetric, same_transitive}
-use Rattle.bp_layout.specs.Members.{Has}
+use Rattle.bp_layout.specs.Members.{AreApart, Each, Has}
 use Rattle.bp_layout.specs.Need.{Change, cover, need}
 use Rattle.bp_layout.specs.Reached.{IsLiveBlock, IsFreeBlock}
 use Rattle.bp_layout.specs.Same.{Same}
 use Rattle.bp_layout.specs.WellFormed.{IsWellFormed}
 use Rattle.bp_layout.specs.WordPaths.{address}
 use Rattle.bp_layout.specs.Words.{Image, block_count}
-use Rattle.bp_tree.specs.Performs.{InBlock, IsOpen, TakesBlocks, AddsTaking, most_stores, Performs, IsShort}
+use Rattle.bp_tree.specs.Performs.{InBlock, IsOpen, TakesBlocks, AddsTaking, most_stores, Performs, PerformsWithin, IsShort}
 use Rattle.bp_tree.specs.Performs.IsOpen.{in_taken, in_live, at_root, at_size}
 
 pub same_equivalence : IsPartialEquivalence Same
@@ -105,6 +105,25 @@ module _ (old mid new : Memory) (first second : List ℕ) (most_barriers most mo
 
 -- ---- calls
 
+module _ (most_barriers most : ℕ) (old new : Memory) (change : Change) (Effect : Image → Image → Type 0) (done : PerformsWithin most_barriers most old new change Effect) where
+  -- looser bounds
+  pub within_more : (barriers stores : ℕ) → most_barriers ≤ barriers → most ≤ stores → PerformsWithin barriers stores old new change Effect
+  within_more barriers stores low few = record {
+    value = done.value;
+    commit = record {
+      prepared = done.commit.prepared;
+      adds = done.commit.adds;
+      quiet = done.commit.quiet;
+      piece = IsPiece-more most_barriers most barriers stores (done.commit.prepared ++ commit (address (current_words new) (cover (current_words old) change)) done.value) low few done.commit.piece;
+    };
+    taken = done.taken;
+    takes = done.takes;
+    number = done.number;
+    in_open = done.in_open;
+    well_formed = done.well_formed;
+    effect = done.effect;
+  }
+
 module _ (old new : Memory) (change : Change) (Effect : Image → Image → Type 0) where
   abbrev covered : ℕ
   covered = address (current_words new) (cover (current_words old) change)
@@ -113,29 +132,18 @@ module _ (old new : Memory) (change : Change) (Effect : Image → Image → Type
   needed = need (current_words old) change
 
   -- a commit whose stores are told
-  pub performs_committed : (word value most_barriers most : ℕ) (taken : List ℕ) (done : AddsCommit Same word value most_barriers most old new) → TakesBlocks (current_words old) taken done.prepared → word ≡ covered →
-      most_barriers ≤ 8 → most ≤ most_stores needed → length taken ≡ needed → IsOpen (current_words old) taken word → IsWellFormed (current_words new) → Effect (current_words old) (current_words new) →
-      Performs old new change Effect
-  performs_committed word value most_barriers most taken done takes at low few number inside well_formed effect = make moved
+  pub within_committed : (word value most_barriers most : ℕ) (taken : List ℕ) (done : AddsCommit Same word value most_barriers most old new) → TakesBlocks (current_words old) taken done.prepared → word ≡ covered →
+      length taken ≡ need (current_words old) change → IsOpen (current_words old) taken word → IsWellFormed (current_words new) → Effect (current_words old) (current_words new) →
+      PerformsWithin most_barriers most old new change Effect
+  within_committed word value most_barriers most taken done takes at number inside well_formed effect = make moved
     where
       Moved : ℕ → Type 0
-      Moved place = (commit : AddsCommit Same place value 8 (most_stores needed) old new) × (TakesBlocks (current_words old) taken commit.prepared × IsOpen (current_words old) taken place)
-
-      here : Moved word
-      here = (
-        record {
-          prepared = done.prepared;
-          adds = done.adds;
-          quiet = done.quiet;
-          piece = IsPiece-more most_barriers most 8 (most_stores needed) (done.prepared ++ commit word value) low few done.piece;
-        },
-        (takes, inside),
-      )
+      Moved place = (commit : AddsCommit Same place value most_barriers most old new) × (TakesBlocks (current_words old) taken commit.prepared × IsOpen (current_words old) taken place)
 
       moved : Moved covered
-      moved = subst Moved at here
+      moved = subst Moved at (done, (takes, inside))
 
-      make : Moved covered → Performs old new change Effect
+      make : Moved covered → PerformsWithin most_barriers most old new change Effect
       make (commit, (of, open_word)) = record {
         value = value;
         commit = commit;
@@ -146,6 +154,28 @@ module _ (old new : Memory) (change : Change) (Effect : Image → Image → Type
         well_formed = well_formed;
         effect = effect;
       }
+
+  -- stores that nobody sees, and then the commit of one word in its place
+  pub within_stores : (May : ℕ → ℕ → Type 0) (most : ℕ) (middle : Memory) (word value : ℕ) (taken : List ℕ) → ((image : Image) → EachMay May (current_words old) image → Same (current_words old) image) →
+      (part : AddsMay May 0 most old middle) → Adds middle new (commit word value) → AreApart taken → Each (IsFreeBlock (current_words old)) taken → Each (λ b. StoresTo (InBlock b) part.added) taken →
+      ((place stored : ℕ) → May place stored → IsOpen (current_words old) taken place) → word ≡ covered → length taken ≡ need (current_words old) change → IsOpen (current_words old) taken word →
+      IsWellFormed (current_words new) → Effect (current_words old) (current_words new) → PerformsWithin 2 (most + 1) old new change Effect
+  within_stores May most middle word value taken unseen part adds once free stored inside at number open_word well_formed effect =
+      within_committed word value 2 (most + 1) taken
+      (record {
+        prepared = part.added;
+        adds = adds_both old middle new part.added (commit word value) part.adds adds;
+        quiet = quiet_may Same same_equivalence May (current_words old) part.added unseen part.may;
+        piece = IsPiece-append 0 most 2 1 part.added (commit word value) part.piece (IsPiece-commit word value);
+      })
+      (record { once = once; free = free; stored = stored; only = StoresMay-weaker May (AnyAt (IsOpen (current_words old) taken)) inside part.added part.may }) at number open_word well_formed effect
+
+  -- and within the bounds of a call
+  pub performs_committed : (word value most_barriers most : ℕ) (taken : List ℕ) (done : AddsCommit Same word value most_barriers most old new) → TakesBlocks (current_words old) taken done.prepared → word ≡ covered →
+      most_barriers ≤ 8 → most ≤ most_stores needed → length taken ≡ needed → IsOpen (current_words old) taken word → IsWellFormed (current_words new) → Effect (current_words old) (current_words new) →
+      Performs old new change Effect
+  performs_committed word value most_barriers most taken done takes at low few number inside well_formed effect =
+      within_more most_barriers most old new change Effect (within_committed word value most_barriers most taken done takes at number inside well_formed effect) 8 (most_stores needed) low few
 
   -- a preparation, and then the commit of one word in its place
   pub performs_word : (middle : Memory) (word value most_barriers most : ℕ) (taken : List ℕ) → AddsTaking taken most_barriers most old middle → Adds middle new (commit word value) → word ≡ covered →

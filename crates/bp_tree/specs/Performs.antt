@@ -42,12 +42,14 @@ pub record AddsTaking (taken : List ℕ) (most_barriers most_stores : ℕ) (old 
 
 -- how many stores a call makes at most that needs so many blocks
 abbrev pub most_stores : ℕ → ℕ
-most_stores needed = 512 * (needed + 6) + 64
+most_stores needed = block_words * (needed + 6) + 64
 
 -- A changing call before its mark: a quiet preparation, and then one store alone in its epoch, at the word of the
--- cover. It takes just as many blocks as it needs. The cover is told of the image before, where the call is asked
--- for, and its word stands in the image after, since a preparation may put a tree one level lower.
-pub record Performs (old new : Memory) (change : Change) (Effect : Image → Image → Type 0) : Type 0 where
+-- cover, with so many barriers and stores at most. It takes just as many blocks as it needs. The cover is told of the
+-- image before, where the call is asked for, and its word stands in the image after, since a preparation may put a tree
+-- one level lower.
+pub record PerformsWithin (most_barriers most : ℕ) (old new : Memory) (change : Change)
+    (Effect : Image → Image → Type 0) : Type 0 where
   pub value : ℕ
   pub commit : AddsCommit Same (address (current_words new) (cover (current_words old) change)) value
       most_barriers most old new
@@ -57,6 +59,11 @@ pub record Performs (old new : Memory) (change : Change) (Effect : Image → Ima
   pub in_open : IsOpen (current_words old) taken (address (current_words new) (cover (current_words old) change))
   pub well_formed : IsWellFormed (current_words new)
   pub effect : Effect (current_words old) (current_words new)
+
+-- as many as a call makes at most
+abbrev pub Performs : Memory → Memory → Change → (Image → Image → Type 0) → Type 0
+Performs old new change Effect =
+    PerformsWithin 8 (most_stores (need (current_words old) change)) old new change Effect
 
 -- whatever it makes of the image
 abbrev pub IsPerformed : Memory → Memory → Change → Type 0

@@ -6,16 +6,14 @@ use Rattle.bp_layout.specs.Free.{HasFree}
 use Rattle.bp_layout.specs.Inode.{root_of, size_of}
 use Rattle.bp_layout.specs.Need.Change.{writes}
 use Rattle.bp_layout.specs.Nodes.{nodes_for}
-use Rattle.bp_layout.specs.WellFormed.{IsWellFormed}
 use Rattle.bp_layout.specs.WordPaths.{WordPath, inode_path}
-use Rattle.bp_layout.specs.Words.{Image, block_count, height_of}
+use Rattle.bp_layout.specs.Words.{Image, height_of}
 use Rattle.bp_limits.specs.Limits.{block_words, call_room, max_height}
 use Rattle.bp_append.specs.Prepared.{CanPrepare, PreparesWith, need_for}
 use Rattle.bp_append.proofs.StoresLaws.{behind_whole}
 use Rattle.bp_shapes.specs.Sets.{AreExact}
 use Rattle.bp_tree.specs.Performs.{Performs}
-use Rattle.bp_cow.specs.CanCommit.{CanCommit}
-use Rattle.bp_cow.specs.Commit.{CommitsTouched, HasBlocks, HasRoom}
+use Rattle.bp_cow.specs.Commit.{CanCommitIn, CommitsTouched}
 use Rattle.bp_cow.specs.Cover.{LeadsInside, copied_count}
 use Rattle.bp_cow.specs.Touched.{IsTouched, NoneBegins, all_paths}
 use Rattle.bp_cow.specs.declared.touched.Touched.{Touched}
@@ -31,14 +29,6 @@ use Rattle.bp_calls.proofs.SizesWith.{sizes_with}
 use Rattle.bp_calls.proofs.AcrossTouched.{across_apart, across_copies, across_inside, across_made, across_needs, across_shape, across_words}
 use Rattle.bp_calls.proofs.FreeCounts.{free_members}
 use Rattle.bp_calls.proofs.TakenBlocks.{unused_members, usable_members}
-
--- what a commit asks of a memory
-pub record CanCommitIn (middle : Memory) (touched : Touched) (after : Set) : Type 0 where
-  pub well_formed : IsWellFormed (current_words middle)
-  pub can : CanCommit (current_words middle) (sizes_with (current_words middle) touched) touched (has after)
-  pub fits : block_count (current_words middle) ≤ length after
-  pub some : HasBlocks middle touched after
-  pub room : HasRoom middle touched
 
 parted : (taken rest : List ℕ) {all : List ℕ} → all ≡ taken ++ rest → length all ≡ length taken + length rest
 parted taken rest e = ap (λ (xs : List ℕ). length xs) e ∙ length-append taken rest
@@ -133,7 +123,7 @@ module _ (old : Memory) (blocks inodes : Set) (off : ℕ) (bytes : List ℕ) (to
     pub at_commit : (i root size made : ℕ) → WritesAcross old blocks inodes i off bytes touched → root ≡ root_of (current_words old) i → size ≡ size_of (current_words old) i →
         made ≡ length (nodes_for (current_words old) root size size (off + length bytes)) → made + copied_count (current_words old) touched ≤ length (members blocks) →
         PreparesWith old middle (members blocks) (members after) i (size_of (current_words old) i) (off + length bytes) (drop (size_of (current_words old) i - off) bytes) → length after ≡ length blocks →
-        CanCommitIn middle touched after
+        CanCommitIn (sizes_with (current_words middle) touched) middle touched after
     at_commit zero root size made across = not_inodes _ across
     at_commit (suc n) root size made across = λ one two counted enough prepared room.
         let count = middle_count old middle blocks inodes after n off bytes touched across prepared in

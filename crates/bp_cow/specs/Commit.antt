@@ -8,10 +8,12 @@ use Rattle.bp_layout.specs.Free.{AreUnheld}
 use Rattle.bp_layout.specs.Members.{Each}
 use Rattle.bp_layout.specs.Reached.{IsReached}
 use Rattle.bp_layout.specs.Same.{Same}
+use Rattle.bp_layout.specs.WellFormed.{IsWellFormed}
 use Rattle.bp_layout.specs.WordPaths.{address}
-use Rattle.bp_layout.specs.Words.{Image}
+use Rattle.bp_layout.specs.Words.{Image, block_count}
 use Rattle.bp_shapes.specs.Forest.{IsTreePointer}
 use Rattle.bp_tree.specs.Performs.{TakesBlocks}
+use Rattle.bp_cow.specs.CanCommit.{CanCommit}
 use Rattle.bp_cow.specs.Committed.{IsCommitted, after_commit}
 use Rattle.bp_cow.specs.Cover.{commit_cover, copied_count}
 use Rattle.bp_cow.specs.Job.{IsTurned}
@@ -29,6 +31,14 @@ HasBlocks memory touched blocks = copied_count (current_words memory) touched �
 
 abbrev pub HasRoom : Memory → Touched → Type 0
 HasRoom memory touched = commit_stores (current_words memory) touched + 2 ≤ room_in memory
+
+-- All that a commit asks for, of the memory and of the set of free blocks.
+pub record CanCommitIn (bound : ℕ → ℕ) (memory : Memory) (touched : Touched) (blocks : Set) : Type 0 where
+  pub well_formed : IsWellFormed (current_words memory)
+  pub can : CanCommit (current_words memory) bound touched (has blocks)
+  pub fits : block_count (current_words memory) ≤ length blocks
+  pub some : HasBlocks memory touched blocks
+  pub room : HasRoom memory touched
 
 -- the word of the cover
 abbrev pub cover_word : Image → Touched → ℕ

@@ -5,11 +5,9 @@ ghost use Rattle.bp_free.specs.Set.{Set, has};
 ghost use Rattle.bp_limits.specs.Limits.{block_words};
 ghost use Rattle.bp_layout.specs.Words.{word, block_count};
 ghost use Rattle.bp_shapes.specs.Forest.{IsExactSet, IsTreePointer};
-ghost use Rattle.bp_layout.specs.WellFormed.{IsWellFormed};
 ghost use Rattle.pm_epochs.specs.Crash.{commit};
 ghost use Rattle.pm_region.specs.Memory.{current_words, room_in, Adds};
-ghost use Rattle.bp_cow.specs.CanCommit.{CanCommit};
-ghost use Rattle.bp_cow.specs.Commit.{CommitsTouched, HasBlocks, HasRoom};
+ghost use Rattle.bp_cow.specs.Commit.{CanCommitIn, CommitsTouched};
 ghost use Rattle.bp_cow.specs.Found.{IsCoverIn};
 ghost use Rattle.bp_cow.specs.Plan.{Plan};
 ghost use Rattle.bp_cow.specs.Touched.{IsTouched, only_value};
@@ -88,11 +86,7 @@ fn commit_one<R: Region>(region: &mut R, touched: &Touched<'_>, place: u32)
 /// What [`commit`] does, for a caller that has found the cover of the touched words.
 pub fn commit_at<R: Region>(parts: &mut Parts<R>, touched: &Touched<'_>, cover: FoundCover)
     ghost bound: { ℕ → ℕ }
-    requires well_formed { IsWellFormed (current_words (R.memory parts.old.region)) }
-    requires can { CanCommit (current_words (R.memory parts.old.region)) bound touched.now (has parts.old.blocks) }
-    requires fits { block_count (current_words (R.memory parts.old.region)) ≤ length parts.old.blocks }
-    requires some { HasBlocks (R.memory parts.old.region) touched.now parts.old.blocks }
-    requires room { HasRoom (R.memory parts.old.region) touched.now }
+    requires can { CanCommitIn bound (R.memory parts.old.region) touched.now parts.old.blocks }
     requires cover { IsCoverIn (current_words (R.memory parts.old.region)) touched.now cover }
     ensures commits { CommitsTouched bound touched.now
         (R.memory parts.old.region) (R.memory parts.new.region) parts.old.blocks parts.new.blocks }
@@ -117,11 +111,7 @@ pub fn commit_at<R: Region>(parts: &mut Parts<R>, touched: &Touched<'_>, cover: 
 /// words. As many blocks are taken as `need_cover` tells. Those that were copied are given back in the end.
 pub fn commit<R: Region>(parts: &mut Parts<R>, touched: &Touched<'_>)
     ghost bound: { ℕ → ℕ }
-    requires well_formed { IsWellFormed (current_words (R.memory parts.old.region)) }
-    requires can { CanCommit (current_words (R.memory parts.old.region)) bound touched.now (has parts.old.blocks) }
-    requires fits { block_count (current_words (R.memory parts.old.region)) ≤ length parts.old.blocks }
-    requires some { HasBlocks (R.memory parts.old.region) touched.now parts.old.blocks }
-    requires room { HasRoom (R.memory parts.old.region) touched.now }
+    requires can { CanCommitIn bound (R.memory parts.old.region) touched.now parts.old.blocks }
     ensures commits { CommitsTouched bound touched.now
         (R.memory parts.old.region) (R.memory parts.new.region) parts.old.blocks parts.new.blocks }
     ensures size { length parts.new.blocks ≡ length parts.old.blocks }

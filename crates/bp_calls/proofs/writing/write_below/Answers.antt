@@ -18,7 +18,7 @@ use Rattle.bp_calls.specs.TouchedBelow.{WritesBelow}
 use Rattle.bp_calls.proofs.writing.write_below.Goals as goal
 
 pub touched_below-touched-requires-clause-some : goal.touched_below-touched-requires-clause-some
-touched_below-touched-requires-clause-some g c = omega (arith, c.requires.can.well_formed.whole, c.requires.can.well_formed.at_least)
+touched_below-touched-requires-clause-some g c = omega (arith, c.requires.can.well_formed.formatted.sized.whole, c.requires.can.well_formed.formatted.sized.at_least)
 
 pub find_cover-cover-requires : goal.find_cover-cover-requires
 find_cover-cover-requires g c =
@@ -28,7 +28,7 @@ find_cover-cover-requires g c =
     (record { can = c.requires.can; below = c.requires.below; touches = c.touched_below-touched.ensures }) in
     record {
       touched = can.shape;
-      some = omega (arith, c.requires.can.well_formed.whole, c.requires.can.well_formed.at_least);
+      some = omega (arith, c.requires.can.well_formed.formatted.sized.whole, c.requires.can.well_formed.formatted.sized.at_least);
       in_range = λ d alike. first-range (current_words old) (size_of (current_words old)) c.touched_below-touched.result (has blocks) c.requires.can.well_formed can d alike;
     }
 
@@ -62,7 +62,7 @@ commit_at-requires g c κs within =
     let can = write_can old blocks inodes c.args.i c.args.off c.args.bytes.now touched write in
     let room = write_room old blocks inodes c.args.i c.args.off c.args.bytes.now touched write in
     let count = counted (current_words old) (has blocks) touched c.find_cover-cover.result c.copies_below-copies.result c.requires.can.well_formed can c.find_cover-cover.ensures.has c.copies_below-copies.ensures in
-    (within, (c.requires.can.well_formed, (can, (omega (arith, c.requires.can.exact.block_room), (omega (arith, count, c.count-free.ensures, c.if-free-copies.false), (room, c.find_cover-cover.ensures))))))
+    (within, (record { well_formed = c.requires.can.well_formed; can = can; fits = omega (arith, c.requires.can.exact.block_room); some = omega (arith, count, c.count-free.ensures, c.if-free-copies.false); room = room }, c.find_cover-cover.ensures))
 
 pub returns : goal.returns
 returns g c =

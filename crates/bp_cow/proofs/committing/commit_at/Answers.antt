@@ -13,23 +13,23 @@ use Rattle.bp_cow.proofs.committing.commit_at.Goals as goal
 
 pub way_len-requires-clause-touched : goal.way_len-requires-clause-touched
 way_len-requires-clause-touched g c =
-    c.requires.1.1.0.shape
+    c.requires.1.0.can.shape
 
 pub way_len-requires-clause-i : goal.way_len-requires-clause-i
 way_len-requires-clause-i g c =
-    c.requires.1.1.0.shape.some
+    c.requires.1.0.can.shape.some
 
 pub commit_one-requires-clause-touched : goal.commit_one-requires-clause-touched
 commit_one-requires-clause-touched g c =
-    c.requires.1.1.0.shape
+    c.requires.1.0.can.shape
 
 pub commit_one-requires-clause-place : goal.commit_one-requires-clause-place
 commit_one-requires-clause-place g c =
-    c.requires.1.1.1.1.1.1.at.low
+    c.requires.1.1.at.low
 
 pub commit_one-requires-clause-room : goal.commit_one-requires-clause-room
 commit_one-requires-clause-room g c =
-    omega (arith, c.requires.1.1.1.1.1.0)
+    omega (arith, c.requires.1.0.room)
 
 pub commit_copies-requires : goal.commit_copies-requires
 commit_copies-requires g c κs within =
@@ -38,33 +38,33 @@ commit_copies-requires g c κs within =
     let short : from ≤ length ((job_of c.args.touched.now).way 0) = omega (arith, c.way_len.ensures, c.if-way_len-cover.false) in
     let count : copies (job_of c.args.touched.now) from ≡ copied_count image c.args.touched.now =
     sym (copied-some (job_of c.args.touched.now) from short)
-    ∙ count_is c.args.touched.now c.requires.1.1.0.shape image (none-begins image g.bound c.args.touched.now (has c.args.parts.now.blocks) c.requires.1.0 c.requires.1.1.0) from c.requires.1.1.1.1.1.1.has in (
+    ∙ count_is c.args.touched.now c.requires.1.0.can.shape image (none-begins image g.bound c.args.touched.now (has c.args.parts.now.blocks) c.requires.1.0.well_formed c.requires.1.0.can) from c.requires.1.1.has in (
       within,
       (
-        c.requires.1.1.0.shape,
+        c.requires.1.0.can.shape,
         (
           record {
-            can = can_build image g.bound c.args.touched.now (has c.args.parts.now.blocks) c.requires.1.0 c.requires.1.1.0 from c.requires.1.1.1.1.1.1.at.alike short c.args.cover.place c.requires.1.1.1.1.1.1.at.exists c.requires.1.1.1.1.1.1.at.place;
+            can = can_build image g.bound c.args.touched.now (has c.args.parts.now.blocks) c.requires.1.0.well_formed c.requires.1.0.can from c.requires.1.1.at.alike short c.args.cover.place c.requires.1.1.at.exists c.requires.1.1.at.place;
             old = refl;
             free = refl;
             at = refl;
-            well = c.requires.1.0;
-            sizes = c.requires.1.1.0.sizes;
-            some = rw count c.requires.1.1.1.1.0;
-            room = rw count (omega (arith, c.requires.1.1.1.1.1.0));
+            well = c.requires.1.0.well_formed;
+            sizes = c.requires.1.0.can.sizes;
+            some = rw count c.requires.1.0.some;
+            room = rw count (omega (arith, c.requires.1.0.room));
           },
-          c.requires.1.1.1.0,
+          c.requires.1.0.fits,
         ),
       ),
     )
 
 pub returns-then-way_len-cover-clause-commits : goal.returns-then-way_len-cover-clause-commits
 returns-then-way_len-cover-clause-commits g c =
-    commits_touched g.bound c.args.touched.now (g.R.Region.memory c.args.parts.now.region) (g.R.Region.memory c.commit_one.new.region) c.args.parts.now.blocks c.args.parts.now.blocks c.requires.1.0 c.requires.1.1.0 c.requires.1.1.1.0
-    (commits_one g.bound c.args.touched.now (g.R.Region.memory c.args.parts.now.region) (g.R.Region.memory c.commit_one.new.region) c.args.parts.now.blocks c.requires.1.0 c.requires.1.1.0 c.args.cover c.requires.1.1.1.1.1.1.at c.requires.1.1.1.1.1.1.has (subst (λ n. n < c.args.cover.len) c.way_len.ensures c.if-way_len-cover.true) c.commit_one.ensures)
+    commits_touched g.bound c.args.touched.now (g.R.Region.memory c.args.parts.now.region) (g.R.Region.memory c.commit_one.new.region) c.args.parts.now.blocks c.args.parts.now.blocks c.requires.1.0.well_formed c.requires.1.0.can c.requires.1.0.fits
+    (commits_one g.bound c.args.touched.now (g.R.Region.memory c.args.parts.now.region) (g.R.Region.memory c.commit_one.new.region) c.args.parts.now.blocks c.requires.1.0.well_formed c.requires.1.0.can c.args.cover c.requires.1.1.at c.requires.1.1.has (subst (λ n. n < c.args.cover.len) c.way_len.ensures c.if-way_len-cover.true) c.commit_one.ensures)
 
 pub returns-else-way_len-cover-clause-commits : goal.returns-else-way_len-cover-clause-commits
 returns-else-way_len-cover-clause-commits g c =
-    commits_touched g.bound c.args.touched.now (g.R.Region.memory c.args.parts.now.region) (g.R.Region.memory c.commit_copies.new.region) c.args.parts.now.blocks c.commit_copies.new.blocks c.requires.1.0 c.requires.1.1.0 c.requires.1.1.1.0
-    (commits_turned g.bound c.args.touched.now (g.R.Region.memory c.args.parts.now.region) (g.R.Region.memory c.commit_copies.new.region) c.args.parts.now.blocks c.requires.1.0 c.requires.1.1.0 c.args.cover c.requires.1.1.1.1.1.1.at c.requires.1.1.1.1.1.1.has
+    commits_touched g.bound c.args.touched.now (g.R.Region.memory c.args.parts.now.region) (g.R.Region.memory c.commit_copies.new.region) c.args.parts.now.blocks c.commit_copies.new.blocks c.requires.1.0.well_formed c.requires.1.0.can c.requires.1.0.fits
+    (commits_turned g.bound c.args.touched.now (g.R.Region.memory c.args.parts.now.region) (g.R.Region.memory c.commit_copies.new.region) c.args.parts.now.blocks c.requires.1.0.well_formed c.requires.1.0.can c.args.cover c.requires.1.1.at c.requires.1.1.has
     (omega (arith, c.way_len.ensures, c.if-way_len-cover.false)) 0 (has c.args.parts.now.blocks) c.commit_copies.new.blocks c.commit_copies.ensures.done.0 c.commit_copies.ensures.done.1 c.commit_copies.ensures.exact)

@@ -68,7 +68,7 @@ commit-requires g c κs inside =
     let formed = mid_formed old third mid move c.args.slot c.entry_place-entry.result c.requires.can c.requires.new c.requires.other c.requires.found stands c.put_name.ensures.stores c.put_name.ensures.name c.barrier.ensures in
     let fits = into_fits old third mid move c.args.slot c.entry_place-entry.result c.requires.can c.requires.new c.requires.other c.requires.found stands c.put_name.ensures.stores c.put_name.ensures.name c.barrier.ensures
     c.touched_two-touched.result touches c.args.parts.now.blocks c.args.parts.now.inodes c.requires.exact c.requires.room in
-    (inside, (formed, (ready, (fits, (omega (arith, count, c.requires.enough), room)))))
+    (inside, record { well_formed = formed; can = ready; fits = fits; some = omega (arith, count, c.requires.enough); room = room })
 
 pub returns-clause-performs : goal.returns-clause-performs
 returns-clause-performs g c =

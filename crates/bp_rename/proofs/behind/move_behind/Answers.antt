@@ -45,7 +45,7 @@ commit-requires g c κs inside =
     c.touched_two-touched.result touches c.requires.enough in
     let room = behind_room old mid move c.args.parts.now.blocks c.args.parts.now.inodes c.put_behind.new.parts.blocks c.requires.can c.requires.new c.requires.other c.requires.none c.requires.exact c.requires.room puts c.put_behind.ensures.blocks
     c.touched_two-touched.result touches in
-    (inside, (formed, (can, (fits, (some, room)))))
+    (inside, record { well_formed = formed; can = can; fits = fits; some = some; room = room })
 
 pub returns-clause-performs : goal.returns-clause-performs
 returns-clause-performs g c =

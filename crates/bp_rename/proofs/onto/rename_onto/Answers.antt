@@ -30,7 +30,7 @@ commit-requires g c κs within =
     c.touched_two-touched.result touches c.args.parts.now.blocks c.args.parts.now.inodes c.requires.exact c.requires.room in
     let count = onto_need (current_words old) c.args.to_move.now c.args.slot c.requires.can c.requires.onto
     c.touched_two-touched.result touches in
-    (within, (c.requires.can.well_formed, (can, (omega (arith, c.requires.exact.block_room), (omega (arith, count, c.requires.enough), room)))))
+    (within, record { well_formed = c.requires.can.well_formed; can = can; fits = omega (arith, c.requires.exact.block_room); some = omega (arith, count, c.requires.enough); room = room })
 
 pub get-inode-requires-clause-sound : goal.get-inode-requires-clause-sound
 get-inode-requires-clause-sound g c =

@@ -16,7 +16,7 @@ commit-requires g c κs inside =
     let ready = within_ready_at old move.from_slot j move.name.now c.touched_name-touched.result c.args.parts.now.blocks c.args.parts.now.inodes c.requires.exact c.requires.room move.from_dir can c.touched_name-touched.ensures in
     let room = within_room_at old move.from_slot j move.name.now c.touched_name-touched.result c.args.parts.now.blocks c.args.parts.now.inodes c.requires.exact c.requires.room move.from_dir can c.touched_name-touched.ensures in
     let count = within_need_at (current_words old) move.from_slot j move.name.now c.touched_name-touched.result move.from_dir can c.touched_name-touched.ensures in
-    (inside, (c.requires.can.well_formed, (ready, (omega (arith, c.requires.exact.block_room), (omega (arith, count, c.requires.enough), room)))))
+    (inside, record { well_formed = c.requires.can.well_formed; can = ready; fits = omega (arith, c.requires.exact.block_room); some = omega (arith, count, c.requires.enough); room = room })
 
 pub returns-clause-performs : goal.returns-clause-performs
 returns-clause-performs g c =

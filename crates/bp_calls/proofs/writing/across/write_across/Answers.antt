@@ -71,7 +71,7 @@ commit-requires g c κs within =
     c.tree_of-tree.result.root _ c.need_prep-behind.result c.root_path-root.result.items across c.tree_of-tree.ensures.root c.tree_of-tree.ensures.size c.need_prep-behind.ensures (omega (arith, enough)) c.root_path-root.ensures)) c.tree_of-tree.ensures.size c.split_at.ensures.back in
     let asks = at_commit (g.R.Region.memory c.args.parts.now.region) c.args.parts.now.blocks c.args.parts.now.inodes c.args.off c.args.bytes.now c.touched_across-touched.result (g.R.Region.memory c.prep.new.parts.region) c.prep.new.parts.blocks
     c.args.i c.tree_of-tree.result.root c.tree_of-tree.result.size c.need_prep-behind.result across c.tree_of-tree.ensures.root c.tree_of-tree.ensures.size c.need_prep-behind.ensures enough prepared c.prep.ensures.room in
-    (within, (asks.well_formed, (asks.can, (asks.fits, (asks.some, asks.room)))))
+    (within, asks)
 
 pub returns-clause-performs : goal.returns-clause-performs
 returns-clause-performs g c =

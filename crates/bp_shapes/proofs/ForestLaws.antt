@@ -69,6 +69,17 @@ module _ (image : Image) (bound : ℕ → ℕ) (forest : IsForest image bound) w
   pub short : (t d k : ℕ) → IsReached image t → IsLivePointer (root_of image t) (bound t) d k → HasFewDigits d k
   short t d k reached live = short_pointer (root_of image t) (bound t) d k (forest.sound t reached).fits live
 
+  -- a word of the inode file stands on no trail of another tree
+  crossed : (d k j e l : ℕ) → IsReached image (suc j) → HasFewDigits d k → HasFewDigits e l → d ≤ suc (height_of (word image 2)) → (d ≡ suc (height_of (word image 2)) → k % 8 ≢ 1) →
+      along [] d k ≡ along (along [] (suc (height_of (word image 2))) (8 * suc j + 1)) e l → ⊥
+  crossed d k j zero l q short also low no_root same =
+      let lengths : d ≡ suc (height_of (word image 2)) = omega (arith, length-along [] d k, length-along [] (suc (height_of (word image 2))) (8 * suc j + 1), ap (λ (x : Trail). length x) same) in
+      let rest = same_along [] [] d k (8 * suc j + 1) short (subst (λ x. HasFewDigits x (8 * suc j + 1)) (sym lengths) (short_root j q)) (same ∙ ap (λ x. along [] x (8 * suc j + 1)) (sym lengths)) in
+      let number : k ≡ 8 * suc j + 1 = rest.1 in
+      no_root lengths (omega (arith, number))
+  crossed d k j (suc e) l q short also low no_root same =
+      omega (arith, low, length-along [] d k, length-along (along [] (suc (height_of (word image 2))) (8 * suc j + 1)) (suc e) l, length-along [] (suc (height_of (word image 2))) (8 * suc j + 1), ap (λ (x : Trail). length x) same)
+
   -- Different words stand on different trails. At a depth one past the height stand content words.
   pub same_trail : (t d k u e l : ℕ) → IsReached image t → IsReached image u → HasFewDigits d k → HasFewDigits e l →
       d ≤ suc (height_of (root_of image t)) → e ≤ suc (height_of (root_of image u)) →
@@ -80,28 +91,8 @@ module _ (image : Image) (bound : ℕ → ℕ) (forest : IsForest image bound) w
       (refl, depths, rest.1)
   same_trail zero d k (suc j) e l r q short also low few no_root not_root same =
       absurd (crossed d k j e l q short also low (no_root refl) same)
-    where
-      crossed : (d k j e l : ℕ) → IsReached image (suc j) → HasFewDigits d k → HasFewDigits e l → d ≤ suc (height_of (word image 2)) → (d ≡ suc (height_of (word image 2)) → k % 8 ≢ 1) →
-          along [] d k ≡ along (along [] (suc (height_of (word image 2))) (8 * suc j + 1)) e l → ⊥
-      crossed d k j zero l q short also low no_root same =
-          let lengths : d ≡ suc (height_of (word image 2)) = omega (arith, length-along [] d k, length-along [] (suc (height_of (word image 2))) (8 * suc j + 1), ap (λ (x : Trail). length x) same) in
-          let rest = same_along [] [] d k (8 * suc j + 1) short (subst (λ x. HasFewDigits x (8 * suc j + 1)) (sym lengths) (short_root j q)) (same ∙ ap (λ x. along [] x (8 * suc j + 1)) (sym lengths)) in
-          let number : k ≡ 8 * suc j + 1 = rest.1 in
-          no_root lengths (omega (arith, number))
-      crossed d k j (suc e) l q short also low no_root same =
-          omega (arith, low, length-along [] d k, length-along (along [] (suc (height_of (word image 2))) (8 * suc j + 1)) (suc e) l, length-along [] (suc (height_of (word image 2))) (8 * suc j + 1), ap (λ (x : Trail). length x) same)
   same_trail (suc i) d k zero e l r q short also low few no_root not_root same =
       absurd (crossed e l i d k r also short few (not_root refl) (sym same))
-    where
-      crossed : (d k j e l : ℕ) → IsReached image (suc j) → HasFewDigits d k → HasFewDigits e l → d ≤ suc (height_of (word image 2)) → (d ≡ suc (height_of (word image 2)) → k % 8 ≢ 1) →
-          along [] d k ≡ along (along [] (suc (height_of (word image 2))) (8 * suc j + 1)) e l → ⊥
-      crossed d k j zero l q short also low no_root same =
-          let lengths : d ≡ suc (height_of (word image 2)) = omega (arith, length-along [] d k, length-along [] (suc (height_of (word image 2))) (8 * suc j + 1), ap (λ (x : Trail). length x) same) in
-          let rest = same_along [] [] d k (8 * suc j + 1) short (subst (λ x. HasFewDigits x (8 * suc j + 1)) (sym lengths) (short_root j q)) (same ∙ ap (λ x. along [] x (8 * suc j + 1)) (sym lengths)) in
-          let number : k ≡ 8 * suc j + 1 = rest.1 in
-          no_root lengths (omega (arith, number))
-      crossed d k j (suc e) l q short also low no_root same =
-          omega (arith, low, length-along [] d k, length-along (along [] (suc (height_of (word image 2))) (8 * suc j + 1)) (suc e) l, length-along [] (suc (height_of (word image 2))) (8 * suc j + 1), ap (λ (x : Trail). length x) same)
   same_trail (suc i) d k (suc j) e l r q short also low few no_root not_root same =
       let H : ℕ = height_of (word image 2) in
       let one : Trail = along [] (suc H) (8 * suc i + 1) in

@@ -1,6 +1,5 @@
 //! The program `check`.
 
-ghost use Rattle.bp_free.specs.Set.{empty};
 ghost use Rattle.bp_io.specs.Files.{Known};
 ghost use Rattle.bp_layout.specs.Formatted.{IsSized};
 ghost use Rattle.bp_layout.specs.WellFormed.{IsWellFormed};
@@ -20,32 +19,17 @@ use crate::opening::{load_file, stop_of};
 use crate::printing::{print, tell_stop};
 use crate::status::Status;
 use crate::stop::Stop;
-use bp_free::{Blocks, Inodes};
 use bp_io::{Access, Failed, Files, Sink};
-use bp_limits::{BLOCK_WORDS, MAX_BLOCKS, MIN_BLOCKS};
-use bp_scan::{Pending, scan};
+use bp_limits::BLOCK_WORDS;
+use bp_scan::scan;
 use bp_script::Notice;
+use bp_volume::Sets;
 use pm_raw::RawRegion;
 use pm_region::Region;
-use std::alloc::{AllocError, Global};
+use std::alloc::Global;
 
-/// Memory for the scan of an image of so many blocks.
-fn room(alloc: Global, blocks: u32) -> Result<(Blocks, Inodes, Pending), AllocError>
-    requires { blocks ≤ MAX_BLOCKS }
-    ensures blocks { IfOk result (λ room. room.0 ≡ empty blocks) }
-    ensures inodes { IfOk result (λ room. room.1 ≡ empty (64 * blocks)) }
-    ensures pending { IfOk result (λ room. room.2 ≡ 64 * blocks) }
-{
-    let inodes = 64 * blocks;
-    Ok((
-        Blocks::new(alloc, blocks)?,
-        Inodes::new(alloc, inodes)?,
-        Pending::new(alloc, inodes)?,
-    ))
-}
-
-/// Scans an image, and tells what it holds.
-fn survey(alloc: Global, region: &RawRegion) -> Result<Notice, Stop>
+/// Scans an image with these sets, and tells what it holds.
+fn survey_with(region: &RawRegion, sets: &mut Sets) -> Result<Notice, Stop>
     requires fresh { region.now.events ≡ [] }
     requires sized { IsSized region.now.base }
     requires blocks { length sets.old.blocks ≡ block_count region.now.base }
@@ -57,11 +41,12 @@ fn survey(alloc: Global, region: &RawRegion) -> Result<Notice, Stop>
         stop ≡ Refused notice → RefusesFile known notice) }
     ensures kinds { IfErr result (λ stop. ((notice : Notice) × (stop ≡ Refused notice)) ⊎ (stop ≡ Memory)) }
 {
-    let (mut blocks, mut inodes, mut pending) = match room(alloc, region.words() / BLOCK_WORDS) {
-        Ok(room) => room,
-        Err(_) => return Err(Stop::Memory),
-    };
-    match scan(region, &mut blocks, &mut inodes, &mut pending) {
+    let Sets {
+        blocks,
+        inodes,
+        pending,
+    } = sets;
+    match scan(region, blocks, inodes, pending) {
         Ok(totals) => Ok(Notice::Clean {
             files: totals.files,
             dirs: totals.dirs,

@@ -2,14 +2,14 @@
 
 ghost use Rattle.bp_io.specs.Causes.{HasCause};
 ghost use Rattle.bp_layout.specs.Bytes.{image_bytes};
-ghost use Rattle.bp_limits.specs.Limits.{block_words};
+ghost use Rattle.bp_limits.specs.Limits.{block_words, call_room};
 ghost use Rattle.bp_session.specs.Files.{HasBytes};
 ghost use Rattle.bp_shell.specs.Formatting.{HasPartly, new_image};
 ghost use Rattle.bp_session.specs.Outside.{outside};
 ghost use Rattle.bp_shell.specs.Running.{FormatOutcome};
 ghost use Rattle.bp_shell.specs.Statuses.{code_of};
 ghost use Rattle.pm_region.specs.Memory.{current_words};
-ghost use Rattle.std.specs.Prelude.{◌*◌, ◌≡◌, ◌≤◌, [], true, ℕ, IfSome, List, OnErr, OnOk, Option, length};
+ghost use Rattle.std.specs.Prelude.{◌*◌, ◌≡◌, ◌≤◌, [], true, ℕ, IfSome, List, OnErr, OnOk, Option, length, replicate};
 
 use crate::printing::print;
 use crate::status::Status;
@@ -21,6 +21,23 @@ use bp_volume::Volume;
 use pm_region::{ListRegion, Region};
 use std::alloc::Global;
 
+/// A region of so many blocks, whose words are 0; none for want of memory.
+fn empty_region(alloc: Global, blocks: u32) -> Option<ListRegion>
+    requires most { blocks ≤ MAX_BLOCKS }
+    ensures words { IfSome result (λ region. region.base ≡ replicate (block_words * blocks) 0) }
+    ensures drained { IfSome result (λ region. region.events ≡ []) }
+    ensures room { IfSome result (λ region. region.capacity ≡ call_room) }
+{
+    let words = match vec![in alloc; 0u64; (BLOCK_WORDS * blocks) as usize] {
+        Ok(words) => words,
+        Err(_) => return None,
+    };
+    match ListRegion::new(alloc, words, CALL_ROOM) {
+        Ok(region) => Some(region),
+        Err(_) => None,
+    }
+}
+
 /// A new file system of so many blocks; none for want of memory.
 fn new_volume(alloc: Global, blocks: u32) -> Option<Volume<ListRegion>>
     requires least { MIN_BLOCKS ≤ blocks }
@@ -28,13 +45,9 @@ fn new_volume(alloc: Global, blocks: u32) -> Option<Volume<ListRegion>>
     ensures image { IfSome result (λ volume. volume.base ≡ new_image blocks) }
     ensures drained { IfSome result (λ volume. volume.events ≡ []) }
 {
-    let words = match vec![in alloc; 0u64; (BLOCK_WORDS * blocks) as usize] {
-        Ok(words) => words,
-        Err(_) => return None,
-    };
-    let region = match ListRegion::new(alloc, words, CALL_ROOM) {
-        Ok(region) => region,
-        Err(_) => return None,
+    let region = match empty_region(alloc, blocks) {
+        Some(region) => region,
+        None => return None,
     };
     match Volume::format(alloc, region) {
         Ok(volume) => Some(volume),

@@ -32,10 +32,23 @@ impl Sets {
         ensures inodes { IfOk result (λ sets. sets.inodes ≡ empty (block_inodes * blocks)) }
         ensures pending { IfOk result (λ sets. sets.pending ≡ block_inodes * blocks) }
     {
+        let (free_blocks, inodes) = empty_sets(alloc, blocks)?;
         Ok(Sets {
-            blocks: Blocks::new(alloc, blocks)?,
-            inodes: Inodes::new(alloc, 64 * blocks)?,
-            pending: Pending::new(alloc, 64 * blocks)?,
+            blocks: free_blocks,
+            inodes,
+            pending: Pending::new(alloc, BLOCK_INODES * blocks)?,
         })
     }
+}
+
+/// Empty sets of blocks and of inodes.
+fn empty_sets(alloc: Global, blocks: u32) -> Result<(Blocks, Inodes), AllocError>
+    requires { blocks ≤ max_blocks }
+    ensures blocks { IfOk result (λ sets. sets.0 ≡ empty blocks) }
+    ensures inodes { IfOk result (λ sets. sets.1 ≡ empty (block_inodes * blocks)) }
+{
+    Ok((
+        Blocks::new(alloc, blocks)?,
+        Inodes::new(alloc, BLOCK_INODES * blocks)?,
+    ))
 }

@@ -13,7 +13,7 @@ use Rattle.bp_calls.specs.CanWrite.{CanWrite}
 use Rattle.pm_region.specs.Memory.{Memory, current_words}
 
 -- the word of the size of inode i alone, with the value that it is given
-pub record IsSized (image : Image) (i end : ℕ) (words : List (ArrayVec ℕ × ℕ)) : Type 0 where
+pub record IsSizeWord (image : Image) (i end : ℕ) (words : List (ArrayVec ℕ × ℕ)) : Type 0 where
   pub path : map (λ word. word.0.items) words ≡ inode_path (height_of (root_of image 0)) i 2 ∷ []
   pub value : map (λ word. word.1) words ≡ end ∷ []
 

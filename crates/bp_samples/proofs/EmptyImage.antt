@@ -4,17 +4,17 @@ use Rattle.bp_layout.specs.WellFormed.{IsWellFormed}
 use Rattle.bp_layout.specs.Words.{block_count, word}
 use Rattle.bp_layout.proofs.Format.{HasFormat, format_well_formed}
 use Rattle.bp_layout.proofs.LastValue.{AllWithinImage, last_value}
-use Rattle.bp_samples.specs.Laid.{laid}
+use Rattle.bp_samples.specs.Laid.{laid_image}
 use Rattle.bp_samples.specs.declared.images.TheConstants.{EMPTY}
 use Rattle.bp_samples.proofs.LaidLaws.{length-laid, word-laid}
 
-empty_word : (place : ℕ) → place < 4096 → word (laid EMPTY) place ≡ last_value EMPTY place 0
+empty_word : (place : ℕ) → place < 4096 → word (laid_image EMPTY) place ≡ last_value EMPTY place 0
 empty_word place low = let within : AllWithinImage 4096 EMPTY = omega arith in word-laid EMPTY place low within
 
-empty_blocks : block_count (laid EMPTY) ≡ 8
+empty_blocks : block_count (laid_image EMPTY) ≡ 8
 empty_blocks = ap (λ n. n / 512) (length-laid EMPTY)
 
-empty_has_format : HasFormat (laid EMPTY)
+empty_has_format : HasFormat (laid_image EMPTY)
 empty_has_format = record {
   marked = empty_word 0 (omega arith);
   counted = empty_word 1 (omega arith) ∙ sym empty_blocks;
@@ -25,6 +25,6 @@ empty_has_format = record {
   root_size = empty_word 522 (omega arith);
 }
 
-pub empty_well_formed : IsWellFormed (laid EMPTY)
+pub empty_well_formed : IsWellFormed (laid_image EMPTY)
 empty_well_formed =
-    format_well_formed (laid EMPTY) empty_has_format (length-laid EMPTY ∙ sym (ap (λ n. 512 * n) empty_blocks)) (omega (arith, empty_blocks)) (omega (arith, empty_blocks))
+    format_well_formed (laid_image EMPTY) empty_has_format (length-laid EMPTY ∙ sym (ap (λ n. 512 * n) empty_blocks)) (omega (arith, empty_blocks)) (omega (arith, empty_blocks))

@@ -15,7 +15,7 @@ use Rattle.bp_layout.specs.Words.{Image, word, block_count, block_of, slot_word}
 use Rattle.bp_layout.specs.Stores.{after_stores}
 use Rattle.bp_limits.specs.Limits.{magic}
 use Rattle.bp_layout.proofs.LastValue.{AllWithinImage, last_value, length-after_stores, word-after_stores}
-use Rattle.bp_samples.specs.Laid.{laid}
+use Rattle.bp_samples.specs.Laid.{laid_image}
 use Rattle.bp_samples.specs.declared.images.TheConstants.{EMPTY, TWO_ENTRIES}
 use Rattle.bp_samples.proofs.LaidLaws.{length-laid, word-laid}
 use Rattle.bp_layout.proofs.SmallTrees.{content_word-leaf, leaf_sound, leaf_full, node-zero, one_live}
@@ -33,16 +33,16 @@ record HasTwoEntries (image : Image) : Type 0 where
   first_empty : word image 1024 ≡ 0
   second_empty : word image 1056 ≡ 0
 
-two_entries_word : (place : ℕ) → place < 4096 → word (after_stores (laid EMPTY) TWO_ENTRIES) place ≡ last_value TWO_ENTRIES place (last_value EMPTY place 0)
+two_entries_word : (place : ℕ) → place < 4096 → word (after_stores (laid_image EMPTY) TWO_ENTRIES) place ≡ last_value TWO_ENTRIES place (last_value EMPTY place 0)
 two_entries_word place low =
     let first : AllWithinImage 4096 EMPTY = omega arith in
-    let whole : length (laid EMPTY) ≡ 4096 = length-laid EMPTY in
-    let second : AllWithinImage (length (laid EMPTY)) TWO_ENTRIES = rw whole (omega arith) in
-    word-after_stores (laid EMPTY) TWO_ENTRIES place second ∙ ap (last_value TWO_ENTRIES place) (word-laid EMPTY place low first)
+    let whole : length (laid_image EMPTY) ≡ 4096 = length-laid EMPTY in
+    let second : AllWithinImage (length (laid_image EMPTY)) TWO_ENTRIES = rw whole (omega arith) in
+    word-after_stores (laid_image EMPTY) TWO_ENTRIES place second ∙ ap (last_value TWO_ENTRIES place) (word-laid EMPTY place low first)
 
-two_entries : HasTwoEntries (after_stores (laid EMPTY) TWO_ENTRIES)
+two_entries : HasTwoEntries (after_stores (laid_image EMPTY) TWO_ENTRIES)
 two_entries = record {
-  whole = length-after_stores (laid EMPTY) TWO_ENTRIES ∙ length-laid EMPTY;
+  whole = length-after_stores (laid_image EMPTY) TWO_ENTRIES ∙ length-laid EMPTY;
   marked = two_entries_word 0 (omega arith);
   counted = two_entries_word 1 (omega arith);
   root = two_entries_word 2 (omega arith);
@@ -232,8 +232,8 @@ module _ (image : Image) (sample : HasTwoEntries image) where
       above b open_block (inl low) = absurd (open_block.free (live_block b open_block.low (omega (arith, low))))
       above b open_block (inr high) = high
 
-pub two_entries_well_formed : IsWellFormed (after_stores (laid EMPTY) TWO_ENTRIES)
+pub two_entries_well_formed : IsWellFormed (after_stores (laid_image EMPTY) TWO_ENTRIES)
 two_entries_well_formed = laid_well_formed _ two_entries
 
-pub two_entries_exact : (free inodes : Set) → Fills 3 8 (empty 8) free → Fills 2 64 (empty 512) inodes → AreExact (after_stores (laid EMPTY) TWO_ENTRIES) free inodes
+pub two_entries_exact : (free inodes : Set) → Fills 3 8 (empty 8) free → Fills 2 64 (empty 512) inodes → AreExact (after_stores (laid_image EMPTY) TWO_ENTRIES) free inodes
 two_entries_exact = laid_exact _ two_entries

@@ -4,7 +4,7 @@ use Rattle.bp_layout.specs.Words.{Image, word, block_of, slot_word}
 use Rattle.bp_layout.specs.Tree.{word_at, node, covered, IsLivePointer, IsSound}
 use Rattle.bp_layout.proofs.TreeLaws.{word_at-zero, word_at-suc}
 use Rattle.bp_layout.proofs.LastValue.{AllWithinImage, last_value}
-use Rattle.bp_samples.specs.Laid.{laid}
+use Rattle.bp_samples.specs.Laid.{laid_image}
 use Rattle.bp_samples.specs.declared.images.TheConstants.{TWO_LEAVES}
 use Rattle.bp_samples.proofs.LaidLaws.{length-laid, word-laid}
 
@@ -75,9 +75,9 @@ module _ (image : Image) (first : word image 1536 ≡ 16384) (second : word imag
       deeper d k (inl top) = absurd (omega (arith, top.0))
       deeper d k (inr below) = rw (below.0, child_is k below.1) (whole_pointer k below.1)
 
-pub two_leaves_word : (place : ℕ) → place < 4096 → word (laid TWO_LEAVES) place ≡ last_value TWO_LEAVES place 0
+pub two_leaves_word : (place : ℕ) → place < 4096 → word (laid_image TWO_LEAVES) place ≡ last_value TWO_LEAVES place 0
 two_leaves_word place low = let within : AllWithinImage 4096 TWO_LEAVES = omega arith in word-laid TWO_LEAVES place low within
 
-pub two_leaves_sound : IsSound (laid TWO_LEAVES) 12289 8200
+pub two_leaves_sound : IsSound (laid_image TWO_LEAVES) 12289 8200
 two_leaves_sound =
-    two_leaves (laid TWO_LEAVES) (two_leaves_word 1536 (omega arith)) (two_leaves_word 1537 (omega arith)) (two_leaves_word 1538 (omega arith)) (length-laid TWO_LEAVES)
+    two_leaves (laid_image TWO_LEAVES) (two_leaves_word 1536 (omega arith)) (two_leaves_word 1537 (omega arith)) (two_leaves_word 1538 (omega arith)) (length-laid TWO_LEAVES)

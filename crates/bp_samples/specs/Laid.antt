@@ -5,5 +5,5 @@ use Rattle.bp_layout.specs.Words.{Image}
 use Rattle.bp_limits.specs.Limits.{block_words, min_blocks}
 
 -- these stores over words of 0
-unfoldable pub laid : List (ℕ × ℕ) → Image
-laid stores = after_stores (replicate (min_blocks * block_words) 0) stores
+unfoldable pub laid_image : List (ℕ × ℕ) → Image
+laid_image stores = after_stores (replicate (min_blocks * block_words) 0) stores

@@ -3,7 +3,7 @@
 ghost use Rattle.std.specs.Prelude.{◌*◌, ◌≡◌, IfOk, vec_len};
 ghost use Rattle.bp_limits.specs.Limits.{block_words, min_blocks};
 ghost use Rattle.bp_layout.specs.Stores.{after_stores};
-ghost use Rattle.bp_samples.specs.Laid.{laid};
+ghost use Rattle.bp_samples.specs.Laid.{laid_image};
 
 use bp_limits::{
     BLOCK_SIZE, BLOCK_WORDS, MAGIC, MIN_BLOCKS, SUPER_BLOCKS, SUPER_MAGIC, SUPER_ROOT, SUPER_SIZE,
@@ -79,7 +79,7 @@ pub fn put(words: &mut Vec<u64>, stores: Stores<'_>)
 
 /// The words of an image of 8 blocks with these stores over words of 0.
 pub fn laid(alloc: Global, stores: Stores<'_>) -> Result<Vec<u64>, AllocError>
-    ensures words { IfOk result (λ words. words.items ≡ laid stores.now) }
+    ensures words { IfOk result (λ words. words.items ≡ laid_image stores.now) }
     ensures whole { IfOk result (λ words. vec_len words ≡ min_blocks * block_words) }
 {
     let mut words = vec![in alloc; 0u64; WORDS]?;

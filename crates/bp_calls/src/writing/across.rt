@@ -4,7 +4,7 @@
 ghost use Rattle.std.specs.Prelude.{◌≡◌, ◌+◌, ◌<◌, ◌≤◌, length, IfErr, OnErr, OnOk};
 ghost use Rattle.bp_calls.specs.CanWrite.{CanWrite};
 ghost use Rattle.bp_calls.specs.Space.{LacksSpace};
-ghost use Rattle.bp_calls.specs.TouchedAcross.{IsSized, TouchesAcross};
+ghost use Rattle.bp_calls.specs.TouchedAcross.{IsSizeWord, TouchesAcross};
 ghost use Rattle.bp_calls.specs.WritesFile.{WritesFile};
 ghost use Rattle.bp_layout.specs.Inode.{root_of, size_of};
 ghost use Rattle.bp_layout.specs.Need.Change.{writes};
@@ -34,7 +34,7 @@ fn touched_across<'a, R: Region>(
     requires some { 4 ≤ length (current_words (R.memory region.now)) }
     requires root { tree.root ≡ root_of (current_words (R.memory region.now)) i }
     requires size { tree.size ≡ size_of (current_words (R.memory region.now)) i }
-    requires sized { IsSized (current_words (R.memory region.now)) i end sized.now }
+    requires sized { IsSizeWord (current_words (R.memory region.now)) i end sized.now }
     ensures { TouchesAcross (current_words (R.memory region.now)) i off end below.now result }
 {
     let run = Run {

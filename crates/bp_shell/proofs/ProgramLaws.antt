@@ -1,5 +1,5 @@
 -- Outcomes of the programs, from those of their parts.
-use Rattle.std.proofs.Common.{refl, sym, ◌∙◌, arith, ◌≡◌, ◌<◌, ◌≤◌, ℕ, List, length, take, inl, inr, true}
+use Rattle.std.proofs.Common.{refl, sym, ◌∙◌, arith, ◌≡◌, ◌≢◌, ◌<◌, ◌≤◌, ℕ, List, length, take, inl, inr, true}
 use Rattle.std.specs.Prelude.{Bool, ◌⊎◌}
 use Rattle.std.specs.Io.KnownBytes.{Appends}
 use Rattle.pm_region.specs.Memory.{Memory, current_words, drained}
@@ -27,28 +27,24 @@ use Rattle.bp_shell.proofs.RunningLaws.{complete, runs_broken, runs_long, runs_p
 
 -- ---- `run`
 
--- no number that serving answers is one of a run that reads nothing
+-- the numbers that serving answers
+pub serving_numbers : (number : ℕ) → (number ≡ 0) ⊎ (number ≡ 3) ⊎ (number ≡ 4) ⊎ (number ≡ 5) ⊎ (number ≡ 6)
+    → (number ≤ 6) × (number ≢ 1) × (number ≢ 2)
+serving_numbers number (inl e) = (omega (arith, e), λ one. omega (arith, e, one), λ two. omega (arith, e, two))
+serving_numbers number (inr (inl e)) = (omega (arith, e), λ one. omega (arith, e, one), λ two. omega (arith, e, two))
+serving_numbers number (inr (inr (inl e))) = (omega (arith, e), λ one. omega (arith, e, one), λ two. omega (arith, e, two))
+serving_numbers number (inr (inr (inr (inl e)))) = (omega (arith, e), λ one. omega (arith, e, one), λ two. omega (arith, e, two))
+serving_numbers number (inr (inr (inr (inr e)))) = (omega (arith, e), λ one. omega (arith, e, one), λ two. omega (arith, e, two))
+
+-- none is one of a run that reads nothing
 pub serving_reads : (number status : ℕ) → status ≡ number → (number ≡ 0) ⊎ (number ≡ 3) ⊎ (number ≡ 4) ⊎ (number ≡ 5) ⊎ (number ≡ 6)
     → (status ≡ 1) ⊎ (status ≡ 7) ⊎ (status ≡ 8) → ⊥
-serving_reads number status is one_of unread = clash (in_middle one_of) (at_ends unread)
+serving_reads number status is one_of unread = clash (serving_numbers number one_of) unread
   where
-    in_middle : (number ≡ 0) ⊎ (number ≡ 3) ⊎ (number ≡ 4) ⊎ (number ≡ 5) ⊎ (number ≡ 6) → (number ≡ 0) ⊎ ((3 ≤ number) × (number ≤ 6))
-    in_middle (inl e) = inl e
-    in_middle (inr (inl e)) = inr (omega (arith, e), omega (arith, e))
-    in_middle (inr (inr (inl e))) = inr (omega (arith, e), omega (arith, e))
-    in_middle (inr (inr (inr (inl e)))) = inr (omega (arith, e), omega (arith, e))
-    in_middle (inr (inr (inr (inr e)))) = inr (omega (arith, e), omega (arith, e))
-
-    at_ends : (status ≡ 1) ⊎ (status ≡ 7) ⊎ (status ≡ 8) → (status ≡ 1) ⊎ (7 ≤ status)
-    at_ends (inl e) = inl e
-    at_ends (inr (inl e)) = inr (omega (arith, e))
-    at_ends (inr (inr e)) = inr (omega (arith, e))
-
-    clash : (number ≡ 0) ⊎ ((3 ≤ number) × (number ≤ 6)) → (status ≡ 1) ⊎ (7 ≤ status) → ⊥
-    clash (inl low) (inl e) = omega (arith, is, low, e)
-    clash (inl low) (inr e) = omega (arith, is, low, e)
-    clash (inr middle) (inl e) = omega (arith, is, middle.0, e)
-    clash (inr middle) (inr e) = omega (arith, is, middle.1, e)
+    clash : (number ≤ 6) × (number ≢ 1) × (number ≢ 2) → (status ≡ 1) ⊎ (status ≡ 7) ⊎ (status ≡ 8) → ⊥
+    clash (most, not_missing, not_usage) (inl e) = not_missing (sym is ∙ e)
+    clash (most, not_missing, not_usage) (inr (inl e)) = omega (arith, most, is, e)
+    clash (most, not_missing, not_usage) (inr (inr e)) = omega (arith, most, is, e)
 
 module _ (status : ℕ) (before after : Outside) where
   run_outcome : (status ≡ 0 → Runs before after) → (status ≡ 3 → RunsPart before after) → (status ≡ 4 → RunsBroken before after)

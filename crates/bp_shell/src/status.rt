@@ -2,7 +2,7 @@
 
 ghost use Rattle.bp_shell.specs.Statuses.{code_of};
 ghost use Rattle.bp_shell.specs.declared.status.Status.TheVariants.{Done};
-ghost use Rattle.std.specs.Prelude.{◌≡◌, ◌⊎◌};
+ghost use Rattle.std.specs.Prelude.{◌≡◌, ◌≢◌, ◌≤◌};
 
 /// How a program ends, by its cause. The number beside a cause is the exit status.
 #[derive(Clone, Copy, Debug, PartialEq, Eq)]
@@ -37,7 +37,9 @@ impl Status {
 
     /// How a run goes on, or ends, behind the number that serving its source answered.
     pub(crate) fn of_serving(number: u8) -> Status
-        requires { (number ≡ 0) ⊎ (number ≡ 3) ⊎ (number ≡ 4) ⊎ (number ≡ 5) ⊎ (number ≡ 6) }
+        requires most { number ≤ 6 }
+        requires not_missing { number ≢ 1 }
+        requires not_usage { number ≢ 2 }
         ensures code { code_of result ≡ number }
         ensures done { number ≡ 0 → result ≡ Done }
     {

@@ -3,7 +3,7 @@ use Rattle.bp_session.proofs.AheadLaws.{reached_own}
 use Rattle.bp_session.proofs.ActingLaws.{size-drained}
 use Rattle.bp_session.specs.Serving.{Moment, moment, saved_if}
 use Rattle.bp_shell.specs.Statuses.{code_of}
-use Rattle.bp_shell.proofs.ProgramLaws.{read_now, run_memory, run_served, run_stopped, run_unsaved, run_whole, saved_drained, serving_reads}
+use Rattle.bp_shell.proofs.ProgramLaws.{read_now, run_memory, run_served, run_stopped, run_unsaved, run_whole, saved_drained, serving_numbers, serving_reads}
 use Rattle.bp_session.proofs.SavingLaws.{still_attached, still_ready}
 use Rattle.bp_shell.proofs.running.run_file.Goals as goal
 
@@ -47,3 +47,12 @@ returns-clause-outcome g c =
 
 pub save_unless_saved-requires : goal.save_unless_saved-requires
 save_unless_saved-requires g c = rw (c.region.ensures.memory, c.sync.ensures.drained) (still_ready _ _ _ _ c.serve_gathered-served.ensures.again.ready (size-drained c.serve_gathered-served.new.volume) (still_attached _))
+
+pub of_serving-requires-clause-most : goal.of_serving-requires-clause-most
+of_serving-requires-clause-most g c = (serving_numbers c.serve_gathered-served.result c.serve_gathered-served.ensures.outcome.is.one_of).0
+
+pub of_serving-requires-clause-not_missing : goal.of_serving-requires-clause-not_missing
+of_serving-requires-clause-not_missing g c = (serving_numbers c.serve_gathered-served.result c.serve_gathered-served.ensures.outcome.is.one_of).1
+
+pub of_serving-requires-clause-not_usage : goal.of_serving-requires-clause-not_usage
+of_serving-requires-clause-not_usage g c = (serving_numbers c.serve_gathered-served.result c.serve_gathered-served.ensures.outcome.is.one_of).2

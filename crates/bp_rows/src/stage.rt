@@ -30,10 +30,7 @@ pub fn serve_script<R: Region>(
     ensures capacity { volume.new.capacity ≡ volume.old.capacity }
 {
     let mut source = FairSource::new(script.as_bytes());
-    let mut sink = match MemSink::new(alloc, ROOM, &[]) {
-        Ok(sink) => sink,
-        Err(error) => return Err(error),
-    };
+    let mut sink = MemSink::new(alloc, ROOM, &[])?;
     let status = serve(alloc, volume, work, &mut source, &mut sink, files);
     tell(report, sink.bytes(), status)
 }
@@ -53,14 +50,8 @@ pub fn serve_bytes<R: Region>(
     ensures capacity { volume.new.capacity ≡ volume.old.capacity }
 {
     work.set_line(line);
-    match tell_line(work, report) {
-        Ok(()) => {}
-        Err(error) => return Err(error),
-    }
-    let mut sink = match MemSink::new(alloc, ROOM, &[]) {
-        Ok(sink) => sink,
-        Err(error) => return Err(error),
-    };
+    tell_line(work, report)?;
+    let mut sink = MemSink::new(alloc, ROOM, &[])?;
     let status = serve_line(alloc, volume, work, &mut sink, files);
     tell(report, sink.bytes(), status)
 }

@@ -71,19 +71,13 @@ fn write_image<R: Region, F: Files>(
         (image_bytes (current_words (R.memory region.now))) ((F.view files.new).contents name.now)) }
     ensures cause { HasCause (F.view files.old).faults (F.view files.new).faults result }
 {
-    match files.attach(name, Access::Make) {
-        Ok(Some(_)) => {}
-        Ok(None) => unreachable!(),
-        Err(Failed) => return Err(Failed),
+    match files.attach(name, Access::Make)? {
+        Some(_) => {}
+        None => unreachable!(),
     }
-    match files.set_blocks(blocks) {
-        Ok(()) => {}
-        Err(Failed) => return Err(Failed),
-    }
-    match save(region, files) {
-        Ok(()) => Ok(()),
-        Err(Failed) => Err(Failed),
-    }
+    files.set_blocks(blocks)?;
+    save(region, files)?;
+    Ok(())
 }
 
 /// Makes the file of a name a file system of so many blocks, and says so. It answers how that ended: `Done`,

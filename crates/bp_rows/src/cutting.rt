@@ -2,11 +2,13 @@
 
 use crate::comparing::Comparison;
 use crate::showing::put_short;
-use bp_io::{FairSource, MemFiles, MemSink, NullSink};
+use bp_io::{FairSource, MemFiles, MemSink, NullSink, Sink};
 use bp_limits::LOG_EVENTS;
 use bp_session::{Work, serve};
 use bp_shell::open;
+use bp_volume::Volume;
 use pm_epochs::{Choice, Event};
+use pm_raw::RawRegion;
 use pm_region::Region;
 use std::alloc::{AllocError, Global};
 
@@ -86,7 +88,10 @@ pub fn cut_all_over(
 
 /// Whether cuts at a moment are tried.
 fn is_tried(events: &[Event], moment: usize) -> bool {
-    let before = moment.checked_sub(1).and_then(|i| events.get(i));
+    let before = match moment.checked_sub(1) {
+        Some(last) => events.get(last),
+        None => None,
+    };
     moment % STRIDE == 0 || is_border(before) || is_border(events.get(moment))
 }
 
@@ -125,23 +130,41 @@ fn barriers_of(events: &[Event]) -> usize {
         .count()
 }
 
+/// Serves a script over an image. The volume is what it leaves; none is the answer where the image can't be opened.
+fn serve_over<K: Sink>(
+    alloc: Global,
+    work: &mut Work,
+    image: &[u8],
+    script: &str,
+    out: &mut K,
+) -> Result<Option<Volume<RawRegion>>, AllocError> {
+    let mut files = MemFiles::new(alloc, Some(image), &[])?;
+    let Ok(mut volume) = open(alloc, "f", &mut files) else {
+        return Ok(None);
+    };
+    let mut source = FairSource::new(script.as_bytes());
+    serve(alloc, &mut volume, work, &mut source, out, &mut files);
+    Ok(Some(volume))
+}
+
 impl Cuts<'_> {
+    /// Runs the script, without its replies.
+    fn run(&mut self) -> Result<Option<Volume<RawRegion>>, AllocError> {
+        let mut sink = NullSink::new();
+        serve_over(
+            self.alloc,
+            &mut self.work,
+            self.image,
+            self.script,
+            &mut sink,
+        )
+    }
+
     /// Reads the log of a run of the script.
     fn read_log(&mut self) -> Result<bool, AllocError> {
-        let mut files = MemFiles::new(self.alloc, Some(self.image), &[])?;
-        let Ok(mut volume) = open(self.alloc, "f", &mut files) else {
+        let Some(volume) = self.run()? else {
             return Ok(false);
         };
-        let mut source = FairSource::new(self.script.as_bytes());
-        let mut sink = NullSink::new();
-        serve(
-            self.alloc,
-            &mut volume,
-            &mut self.work,
-            &mut source,
-            &mut sink,
-            &mut files,
-        );
         let region = volume.region();
         for i in 0..region.event_count() {
             self.events.push(region.event(i))?;
@@ -176,50 +199,34 @@ impl Cuts<'_> {
 
     /// Cuts the power as was chosen. False is the answer where what is left is not the plain tree after the calls that are kept.
     fn cut(&mut self, report: &mut String) -> Result<bool, AllocError> {
-        let mut files = MemFiles::new(self.alloc, Some(self.image), &[])?;
-        let Ok(mut volume) = open(self.alloc, "f", &mut files) else {
+        let Some(mut volume) = self.run()? else {
             return self.differ("the script can't be run", report);
         };
-        let mut source = FairSource::new(self.script.as_bytes());
-        let mut sink = NullSink::new();
-        serve(
-            self.alloc,
-            &mut volume,
-            &mut self.work,
-            &mut source,
-            &mut sink,
-            &mut files,
-        );
         let Ok(kept) = volume.crash(&self.choice) else {
             return self.differ("the choice is refused", report);
         };
         let left = bytes_of(self.alloc, volume.region())?;
-        let told = self.asked(&left)?;
-        let expected = self.expected(kept.c)?;
-        if told.as_slice() != expected.as_bytes() {
+        if !self.is_as_plain(&left, kept.c)? {
             return self.differ("another tree", report);
         }
         self.kept |= 1 << (kept.c % 64);
         Ok(true)
     }
 
+    /// Whether what is asked is answered over the bytes that were left as by the plain tree after so many calls.
+    fn is_as_plain(&mut self, left: &[u8], calls: usize) -> Result<bool, AllocError> {
+        let told = self.asked(left)?;
+        let expected = self.expected(calls)?;
+        Ok(told.as_slice() == expected.as_bytes())
+    }
+
     /// What is answered over the bytes that were left.
     fn asked(&mut self, left: &[u8]) -> Result<Vec<u8>, AllocError> {
-        let mut files = MemFiles::new(self.alloc, Some(left), &[])?;
-        let Ok(mut volume) = open(self.alloc, "f", &mut files) else {
-            return Vec::from_slice(self.alloc, b"not mounted");
-        };
-        let mut source = FairSource::new(self.asks.as_bytes());
         let mut sink = MemSink::new(self.alloc, ROOM, &[])?;
-        serve(
-            self.alloc,
-            &mut volume,
-            &mut self.work,
-            &mut source,
-            &mut sink,
-            &mut files,
-        );
-        Vec::from_slice(self.alloc, sink.bytes())
+        match serve_over(self.alloc, &mut self.work, left, self.asks, &mut sink)? {
+            Some(_) => Vec::from_slice(self.alloc, sink.bytes()),
+            None => Vec::from_slice(self.alloc, b"not mounted"),
+        }
     }
 
     /// What the plain tree answers after the first calls of the script.
@@ -240,7 +247,8 @@ impl Cuts<'_> {
     fn differ(&self, what: &str, report: &mut String) -> Result<bool, AllocError> {
         let moment = self.choice.moment();
         let epoch = self.choice.epoch();
-        writeln!(report, "  {what} at moment {moment}, epoch {epoch}")?;
+        write!(report, "  {what} at moment {moment}")?;
+        writeln!(report, ", epoch {epoch}")?;
         put_short(report, self.script)?;
         Ok(false)
     }

@@ -30,10 +30,8 @@ fn count(
     let status = run(alloc, words, &mut source, &mut sink, files);
     let told = sink.count();
     let length = files.image().len();
-    writeln!(
-        report,
-        "status {status}, {told} bytes told, {length} in the file"
-    )
+    write!(report, "status {status}, {told} bytes told")?;
+    writeln!(report, ", {length} in the file")
 }
 
 /// Serves one script after another over the same memory. The last line of the first has no newline, and is none of the next.

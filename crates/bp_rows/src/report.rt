@@ -7,7 +7,9 @@ pub fn tell(report: &mut String, told: &[u8], status: u8) -> Result<(), AllocErr
     match str::from_utf8(told) {
         Ok(text) => {
             for line in text.lines() {
-                writeln!(report, "  {line}")?;
+                report.push_str("  ")?;
+                report.push_str(line)?;
+                report.push_str("\n")?;
             }
         }
         Err(_) => report.push_str("  no text\n")?,

@@ -248,16 +248,20 @@ fn memory_sources_give_pieces(rt: HostRuntime) {
 #[test]
 fn memory_sinks_take_pieces(rt: HostRuntime) -> Result<(), Fail> {
     let mut sink = MemSink::new(rt.alloc(), 9, &[1])?;
-    assert_eq!(rt; sink.write(b"h"), Ok(1));
-    assert_eq!(rt; sink.write(b"lost"), Err(Failed));
-    assert_eq!(rt; sink.write(b"ello wo"), Ok(7));
-    assert_eq!(rt; sink.write(b"rld"), Ok(1));
-    assert_eq!(rt; sink.write(b"ld"), Err(Failed));
-    assert_eq!(rt; sink.write(b""), Ok(0));
+    let pieces: [(&[u8], Result<usize, Failed>); 6] = [
+        (b"h", Ok(1)),
+        (b"lost", Err(Failed)),
+        (b"ello wo", Ok(7)),
+        (b"rld", Ok(1)),
+        (b"ld", Err(Failed)),
+        (b"", Ok(0)),
+    ];
+    for (piece, taken) in pieces {
+        assert_eq!(rt; sink.write(piece), taken, "{piece:?}");
+    }
     assert_eq!(rt; sink.bytes(), b"hello wor".as_slice());
     let mut null = NullSink::new();
-    assert_eq!(rt; null.write(b"ok\n"), Ok(3));
-    assert_eq!(rt; null.write(b"ok\n"), Ok(3));
+    assert_eq!(rt; [null.write(b"ok\n"), null.write(b"ok\n")], [Ok(3), Ok(3)]);
     assert_eq!(rt; null.count(), 6);
     Ok(())
 }
@@ -298,16 +302,19 @@ fn memory_files_fail_as_planned(rt: HostRuntime) -> Result<(), Fail> {
 fn blocks_fail_as_planned(rt: HostRuntime) -> Result<(), Fail> {
     let block = [77u8; 4096];
     let mut files = MemFiles::new(rt.alloc(), Some(&[0; 4096]), &[1, 4, 7])?;
+    let failed_once = [Err(Failed), Ok(())];
     assert_eq!(rt; files.attach("disk.img", Access::Write), Ok(Some(4096)));
-    assert_eq!(rt; files.write_block(0, &block), Err(Failed));
-    assert_eq!(rt; files.write_block(0, &block), Ok(()));
+    let written = [files.write_block(0, &block), files.write_block(0, &block)];
+    assert_eq!(rt; written, failed_once);
     assert_eq!(rt; files.attach("disk.img", Access::Write), Ok(Some(4096)));
     let mut read = [1u8; 4096];
-    assert_eq!(rt; files.read_blocks(0, &mut read), Err(Failed));
-    assert_eq!(rt; files.read_blocks(0, &mut read), Ok(()));
+    let done = [
+        files.read_blocks(0, &mut read),
+        files.read_blocks(0, &mut read),
+    ];
+    assert_eq!(rt; done, failed_once);
     assert!(rt; read == block);
     assert_eq!(rt; files.attach("disk.img", Access::Write), Ok(Some(4096)));
-    assert_eq!(rt; files.flush(), Err(Failed));
-    assert_eq!(rt; files.flush(), Ok(()));
+    assert_eq!(rt; [files.flush(), files.flush()], failed_once);
     Ok(())
 }

@@ -170,18 +170,39 @@ fn crash_keeps_what_was_written_back<R: Region, A: Abort>(rt: &A, region: &mut R
 }
 
 #[test]
-fn both_regions_give_the_same_answers(rt: HostRuntime) -> Result<(), Fail> {
+fn a_raw_region_crashes(rt: HostRuntime) -> Result<(), Fail> {
     for (moment, epoch, mask, left) in &CRASHES {
         let choice = chosen(rt.alloc(), *moment, *epoch, *mask)?;
         crash_leaves(&rt, &mut RawRegion::new(rt.alloc(), 3, 8)?, &choice, *left);
+    }
+    Ok(())
+}
+
+#[test]
+fn a_list_region_crashes(rt: HostRuntime) -> Result<(), Fail> {
+    for (moment, epoch, mask, left) in &CRASHES {
+        let choice = chosen(rt.alloc(), *moment, *epoch, *mask)?;
         crash_leaves(&rt, &mut list(rt.alloc(), 3, 8)?, &choice, *left);
     }
+    Ok(())
+}
+
+#[test]
+fn both_regions_keep_what_was_written_back(rt: HostRuntime) -> Result<(), Fail> {
     let choice = chosen(rt.alloc(), 2, 0, &[false, true])?;
-    let raw = &mut RawRegion::new(rt.alloc(), 4, 8)?;
-    crash_keeps_what_was_written_back(&rt, raw, &choice);
+    crash_keeps_what_was_written_back(&rt, &mut RawRegion::new(rt.alloc(), 4, 8)?, &choice);
     crash_keeps_what_was_written_back(&rt, &mut list(rt.alloc(), 4, 8)?, &choice);
+    Ok(())
+}
+
+#[test]
+fn both_regions_drain(rt: HostRuntime) -> Result<(), Fail> {
     stores_reach_the_base_at_a_drain(&rt, &mut RawRegion::new(rt.alloc(), 4, 2)?);
     stores_reach_the_base_at_a_drain(&rt, &mut list(rt.alloc(), 4, 2)?);
-    assert!(rt; RawRegion::new(rt.alloc(), 1, usize::MAX).is_err());
     Ok(())
+}
+
+#[test]
+fn a_log_too_long_is_refused(rt: HostRuntime) {
+    assert!(rt; RawRegion::new(rt.alloc(), 1, usize::MAX).is_err());
 }

@@ -1,6 +1,6 @@
 //! A small file system. Rows over the devices in memory show one damage after another (docs/rows.md).
 
-ghost use Rattle.std.specs.Prelude.{◌*◌, ◌≡◌, IfOk, vec_len};
+ghost use Rattle.std.specs.Prelude.{◌*◌, ◌≡◌, IfOk, length, vec_len};
 ghost use Rattle.bp_limits.specs.Limits.{block_words, min_blocks};
 
 use crate::images::{EMPTY, TWO_ENTRIES, TWO_NAMES, laid, put};
@@ -31,6 +31,18 @@ fn base(alloc: Global) -> Result<Vec<u64>, AllocError>
     Ok(words)
 }
 
+/// The sets of all blocks and of all inodes.
+fn full_sets(alloc: Global) -> Result<(Blocks, Inodes), AllocError>
+    ensures blocks { IfOk result (λ sets. length sets.0 ≡ BLOCKS) }
+    ensures inodes { IfOk result (λ sets. length sets.1 ≡ INODES) }
+{
+    let mut blocks = Blocks::new(alloc, BLOCKS)?;
+    let mut inodes = Inodes::new(alloc, INODES)?;
+    blocks.fill(0, BLOCKS);
+    inodes.fill(0, INODES);
+    Ok((blocks, inodes))
+}
+
 /// Scans an image. Its free blocks and inodes are those of the base image, or none where it is refused.
 fn scanned(
     rt: &(impl Abort + AllocGlobal),
@@ -39,11 +51,8 @@ fn scanned(
     requires { vec_len words ≡ min_blocks * block_words }
 {
     let region = ListRegion::new(rt.alloc(), words, 0)?;
-    let mut blocks = Blocks::new(rt.alloc(), BLOCKS)?;
-    let mut inodes = Inodes::new(rt.alloc(), INODES)?;
+    let (mut blocks, mut inodes) = full_sets(rt.alloc())?;
     let mut pending = Pending::new(rt.alloc(), INODES)?;
-    blocks.fill(0, BLOCKS);
-    inodes.fill(0, INODES);
     let answer = scan(&region, &mut blocks, &mut inodes, &mut pending);
     let free = if answer.is_ok() { (5, 60) } else { (0, 0) };
     assert_eq!(rt; (blocks.count(), inodes.count()), free);

@@ -291,7 +291,8 @@ def main():
     if words == ["--edges"]:
         for name in crates.names:
             direct = crates.direct[name]
-            print(f"{name}: {' '.join(crates.sorted(direct))} | {' '.join(crates.sorted(crates.below(name) - direct))}")
+            others = crates.sorted(crates.below(name) - direct)
+            print(" ".join([f"{name}:", *crates.sorted(direct), *(["|"] + others if others else [])]))
         return
     if words:
         write_parts(crates)

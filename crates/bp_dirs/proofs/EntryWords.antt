@@ -41,12 +41,15 @@ name_in-words image root slot words short same =
     let field : 2 + o / 8 < 32 = omega (arith, high, short) in
     ap (λ w. byte_of w (o % 8)) (same (2 + o / 8) field) ∙ sym (byte-at image root slot (o / 8) (o % 8) (omega arith)) ∙ ap (λ k. byte image root (256 * slot + 16 + k)) whole))
 
--- each entry of a null leaf is empty
-pub null_leaf : (image : Image) (leaf : Leaf) (slot : ℕ) → IsLeaf image leaf → leaf.block ≡ 0 → leaf.first ≤ slot → slot < leaf.first + leaf.count → word_in image leaf.tree.root slot 0 ≡ 0
-null_leaf image leaf slot is none low high =
+-- all words of a null leaf's entries are 0, so that each of them is empty
+pub null_word : (image : Image) (leaf : Leaf) (slot f : ℕ) → f < 32 → IsLeaf image leaf → leaf.block ≡ 0 → leaf.first ≤ slot → slot < leaf.first + leaf.count → word_in image leaf.tree.root slot f ≡ 0
+null_word image leaf slot f within is none low high =
     let same : slot / 16 ≡ leaf.first / 16 = omega (arith, is.starts, is.few) in
-    word_in-at image leaf.tree.root slot 0 (omega arith)
-    ∙ ap (λ b. slot_word image b (32 * (slot % 16) + 0)) (ap (node image leaf.tree.root (height_of leaf.tree.root)) same ∙ sym is.block ∙ none)
+    word_in-at image leaf.tree.root slot f within
+    ∙ ap (λ b. slot_word image b (32 * (slot % 16) + f)) (ap (node image leaf.tree.root (height_of leaf.tree.root)) same ∙ sym is.block ∙ none)
+
+pub null_leaf : (image : Image) (leaf : Leaf) (slot : ℕ) → IsLeaf image leaf → leaf.block ≡ 0 → leaf.first ≤ slot → slot < leaf.first + leaf.count → word_in image leaf.tree.root slot 0 ≡ 0
+null_leaf image leaf slot = null_word image leaf slot 0 (omega arith)
 
 -- ---- the words of a leaf's entries, in a row
 

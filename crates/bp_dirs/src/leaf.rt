@@ -1,9 +1,9 @@
 //! The entries of one leaf of a directory.
 
-ghost use Rattle.std.specs.Prelude.{◌≡◌, ◌≢◌, ℕ, ◌-◌, ◌*◌, ◌/◌, ◌%◌, ◌<◌, ◌≤◌, ◌==◌, not, min, length, find, filter, Option, IfSome, IfNone};
+ghost use Rattle.std.specs.Prelude.{◌≡◌, ◌≢◌, ℕ, ◌+◌, ◌-◌, ◌*◌, ◌/◌, ◌%◌, ◌<◌, ◌≤◌, ◌==◌, not, min, length, find, filter, Option, IfSome, IfNone};
 ghost use Rattle.std.specs.List.{range_with_len};
 ghost use Rattle.bp_layout.specs.Tree.{IsSound};
-ghost use Rattle.bp_layout.specs.Directory.{inumber_in, is_named_in};
+ghost use Rattle.bp_layout.specs.Directory.{inumber_in, name_in, word_in, is_named_in};
 ghost use Rattle.pm_region.specs.Memory.{current_words};
 ghost use Rattle.bp_dirs.specs.EntryWords.{IsLeaf, IsRow, last_part, part_word};
 ghost use Rattle.bp_dirs.specs.Spots.{found_slot};
@@ -11,6 +11,7 @@ ghost use Rattle.bp_limits.specs.Limits.{block_entries, entry_size, max_name};
 
 use crate::entry_words::is_named;
 use crate::spot::Found;
+use bp_layout::Entry;
 use bp_limits::{BLOCK_ENTRIES, BLOCK_WORDS, ENTRY_SIZE, ENTRY_WORDS};
 use bp_tree::{Tree, leaf_block};
 use pm_region::Region;
@@ -71,6 +72,25 @@ impl Leaf {
             BLOCK_WORDS * self.block as u32,
             ENTRY_WORDS * self.count as u32,
         )
+    }
+
+    /// What one of the entries says, where its name has a length that names have.
+    pub fn entry<R: Region>(&self, region: &R, index: u64) -> Entry
+        requires leaf { IsLeaf (current_words (R.memory region.now)) self.now }
+        requires live { index < self.now.count }
+        requires least { 1 ≤
+            word_in (current_words (R.memory region.now)) self.now.tree.root (self.now.first + index) 1 }
+        requires most {
+            word_in (current_words (R.memory region.now)) self.now.tree.root (self.now.first + index) 1 ≤ max_name }
+        ensures inumber { result.inumber ≡
+            inumber_in (current_words (R.memory region.now)) self.now.tree.root (self.now.first + index) }
+        ensures name { result.name.items ≡
+            name_in (current_words (R.memory region.now)) self.now.tree.root (self.now.first + index) }
+    {
+        let at = ENTRY * index as usize;
+        let mut words = [0; ENTRY];
+        words.copy_from_slice(&self.words(region)[at..at + ENTRY]);
+        Entry::read(&words)
     }
 
     /// The first of the entries that names an inode by this name, whose last word is `last`.

@@ -12,7 +12,7 @@ mod spot;
 mod writing;
 
 pub use directory::{
-    count, entry_place, find, find_entry, find_or_free, free_slot, inumber, is_empty,
+    count, entry, entry_place, find, find_entry, find_or_free, free_slot, inumber, is_empty,
 };
 pub use spot::{Found, Spot};
 pub use writing::put_name;

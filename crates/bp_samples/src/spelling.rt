@@ -5,8 +5,9 @@ ghost use Rattle.bp_layout.specs.Tree.{IsSound, IsFull};
 ghost use Rattle.pm_region.specs.Memory.{current_words};
 
 use crate::images::{Start, laid, leaf};
+use bp_dirs::entry;
 use bp_spelling::{NameFault, Spelled, check_names};
-use bp_tree::Tree;
+use bp_tree::{Tree, content_word};
 use pm_region::ListRegion;
 use std::alloc::{AllocError, Global};
 use std::test::Fail;
@@ -94,5 +95,16 @@ fn names_of_a_wrong_form(rt: HostRuntime) -> Result<(), Fail> {
         let answer = checked(rt.alloc(), (1, 0x61), wrong)?;
         assert_eq!(rt; answer, Err(NameFault::Form { place: 1569 }), "{wrong:?}");
     }
+    Ok(())
+}
+
+#[test]
+fn an_entry_is_read(rt: HostRuntime) -> Result<(), Fail> {
+    let region = sample(rt.alloc(), (2, 0x6261), (1, 0x7863))?;
+    // The length of the second name.
+    assert_eq!(rt; content_word(&region, TREE, 33), 1);
+    let second = entry(&region, TREE, 1);
+    assert_eq!(rt; second.inumber, 3);
+    assert_eq!(rt; second.name.as_slice(), b"c".as_slice());
     Ok(())
 }

@@ -80,8 +80,7 @@ impl Leaf {
         requires live { index < self.now.count }
         requires least { 1 ≤
             word_in (current_words (R.memory region.now)) self.now.tree.root (self.now.first + index) 1 }
-        requires most {
-            word_in (current_words (R.memory region.now)) self.now.tree.root (self.now.first + index) 1 ≤ max_name }
+        requires most { word_in (current_words (R.memory region.now)) self.now.tree.root (self.now.first + index) 1 ≤ max_name }
         ensures inumber { result.inumber ≡
             inumber_in (current_words (R.memory region.now)) self.now.tree.root (self.now.first + index) }
         ensures name { result.name.items ≡

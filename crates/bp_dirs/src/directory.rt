@@ -26,8 +26,8 @@ pub fn inumber<R: Region>(region: &R, tree: Tree, slot: u64) -> u64
     content_word(region, tree, ENTRY_WORDS as u64 * slot)
 }
 
-/// What the entry in a slot says: the number of the inode that it names, and its name. The number is 0 where the entry is
-/// empty; its name is then one that it had before.
+/// What the entry in a slot says: the number of the inode that it names, and its name. The number is 0 where the entry
+/// is empty; its name is then one that it had before.
 pub fn entry<R: Region>(region: &R, tree: Tree, slot: u64) -> Entry
     requires sound { IsSound (current_words (R.memory region.now)) tree.root tree.size }
     requires live { slot < tree.size / entry_size }

@@ -78,9 +78,10 @@ impl Leaf {
     pub fn entry<R: Region>(&self, region: &R, index: u64) -> Entry
         requires leaf { IsLeaf (current_words (R.memory region.now)) self.now }
         requires live { index < self.now.count }
-        requires least { 1 ≤
-            word_in (current_words (R.memory region.now)) self.now.tree.root (self.now.first + index) 1 }
-        requires most { word_in (current_words (R.memory region.now)) self.now.tree.root (self.now.first + index) 1 ≤ max_name }
+        requires least { let words = current_words (R.memory region.now) in
+            1 ≤ word_in words self.now.tree.root (self.now.first + index) 1 }
+        requires most { let words = current_words (R.memory region.now) in
+            word_in words self.now.tree.root (self.now.first + index) 1 ≤ max_name }
         ensures inumber { result.inumber ≡
             inumber_in (current_words (R.memory region.now)) self.now.tree.root (self.now.first + index) }
         ensures name { result.name.items ≡

@@ -147,8 +147,8 @@ impl Bits {
         }
     }
 
-    /// The least number of a word that is in, `None` where the word is empty. It tells too whether that is the only one, so
-    /// that no call that takes it out looks at the word again.
+    /// The least number of a word that is in, `None` where the word is empty. It tells too whether that is the only
+    /// one, so that no call that takes it out looks at the word again.
     pub fn first_in_word<C: Looks>(&self, word: usize, counter: &mut C) -> Option<Member>
         requires { WORD * word < length self.now }
         ensures least { MatchOption result (IsEmptyWord self.now word)

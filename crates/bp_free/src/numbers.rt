@@ -131,8 +131,8 @@ impl<Kind> Numbers<Kind> {
         self.take_by(&mut Uncounted)
     }
 
-    /// What [`Numbers::take`] does, and how many steps the search takes: a step is a look at a word of 64 numbers, or at a
-    /// word of the bits that tell which of those words are not empty.
+    /// What [`Numbers::take`] does, and how many steps the search takes: a step is a look at a word of 64 numbers, or
+    /// at a word of the bits that tell which of those words are not empty.
     pub fn take_counted<L: Ledger>(&mut self, steps: &mut Steps<L>) -> Option<u32>
         ensures least { MatchOption result ((members self.old ≡ []) × (self.new ≡ self.old))
             (λ i. IsLeast self.old i × (self.new ≡ without self.old i)) }

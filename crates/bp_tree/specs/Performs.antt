@@ -1,5 +1,5 @@
 -- What a changing call does before its mark, and what that may cost.
-use Rattle.std.specs.Prelude.{◌≡◌, ℕ, ◌+◌, ◌*◌, ◌/◌, ◌<◌, ◌≤◌, List, length, Some}
+use Rattle.std.specs.Prelude.{◌≡◌, ◌≢◌, ℕ, ◌+◌, ◌*◌, ◌/◌, ◌<◌, ◌≤◌, List, length, Some}
 use Rattle.pm_epochs.specs.declared.event.Event.{Event}
 use Rattle.pm_epochs.specs.Log.{StoresTo, IsStoredIn, stores, barriers, last_stored}
 use Rattle.pm_epochs.specs.May.{AnyAt, StoresMay}
@@ -27,8 +27,7 @@ pub data IsOpen (image : Image) (taken : List ℕ) (word : ℕ) : Type 0 where
   at_size : word ≡ super_size → IsOpen image taken word
 
 -- The blocks of the list were free, each stands once, and each gets a store. Other free blocks get none, nor do the
--- words of the superblock that nobody reads: so a call can't prepare for a later one, nor leave in the log what
--- nobody asked for.
+-- other words of the superblock: so a call can't prepare for a later one, nor leave in the log what nobody asked for.
 pub record TakesBlocks (image : Image) (taken : List ℕ) (events : List Event) : Type 0 where
   pub once : AreApart taken
   pub free : Each (IsFreeBlock image) taken
@@ -84,5 +83,5 @@ pub record IsShort (old new : Image) (change : Change) (events : List Event) : T
   pub number : length taken ≡ need old change
   pub few_barriers : barriers events ≤ 8
   pub few_stores : length (stores events) ≤ most_stores (need old change)
-  -- and it leaves the words of the superblock that nobody reads
-  pub idle : (word : ℕ) → 4 ≤ word → word < block_words → IsStoredIn events word → ⊥
+  -- and of the superblock it stores to no words but the two that tell of the inode file
+  pub idle : (word : ℕ) → word < block_words → word ≢ super_root → word ≢ super_size → IsStoredIn events word → ⊥

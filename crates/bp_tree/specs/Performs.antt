@@ -3,7 +3,7 @@ use Rattle.std.specs.Prelude.{◌≡◌, ◌≢◌, ℕ, ◌+◌, ◌*◌, ◌/�
 use Rattle.pm_epochs.specs.declared.event.Event.{Event}
 use Rattle.pm_epochs.specs.Log.{StoresTo, IsStoredIn, stores, barriers, last_stored}
 use Rattle.pm_epochs.specs.May.{AnyAt, StoresMay}
-use Rattle.pm_region.specs.Memory.{Memory, current_words}
+use Rattle.pm_region.specs.Memory.{Memory, current_words, room_in}
 use Rattle.pm_region.specs.Safe.{AddsQuiet, AddsCommit}
 use Rattle.bp_limits.specs.Limits.{block_words, super_root, super_size}
 use Rattle.bp_layout.specs.Members.{Has, Each, AreApart}
@@ -42,6 +42,14 @@ pub record AddsTaking (taken : List ℕ) (most_barriers most_stores : ℕ) (old 
 -- how many stores a call makes at most that needs so many blocks
 abbrev pub most_stores : ℕ → ℕ
 most_stores needed = block_words * (needed + 6) + 64
+
+-- and how many events it adds at most: these, 8 barriers and its mark
+abbrev pub room_for : ℕ → ℕ
+room_for needed = most_stores needed + 8 + 1
+
+-- the log has room for the change, and no more is asked of it
+abbrev pub HasRoomFor : Memory → Change → Type 0
+HasRoomFor memory change = room_for (need (current_words memory) change) ≤ room_in memory
 
 -- A changing call before its mark: a quiet preparation, and then one store alone in its epoch, at the word of the
 -- cover, with so many barriers and stores at most. It takes just as many blocks as it needs. The cover is told of the

@@ -1,7 +1,8 @@
 #!/bin/sh
 # Shows that one process at a time has FILE: while a run has it, a second run, a format, a check and a play end with status 5 and the
 # reason, by whatever name they call it, also after a sync has put a new file in its place, and nothing that the first one does is lost;
-# while a play reads it, a check does too, and a run ends with status 5.
+# while a play reads it, a check does too, and a run ends with status 5. Of a crowd of runs that begin again until they are served, each
+# makes its file.
 #
 #   examples/two-processes.sh PROGRAM      PROGRAM: crates/bpfs/out/bpfs, as `rt run` leaves it there
 set -u
@@ -72,5 +73,18 @@ kill "$first"
 wait "$first" 2> /dev/null
 first=
 "$program" run FILE < nothing > out 2> err; expect 'run after the play was killed' 0 $?
+
+"$program" format FILE --blocks 256 > out
+for member in 1 2 3 4 5 6; do
+  for turn in 1 2 3 4 5 6 7 8; do
+    until echo "create /m$member-$turn" | "$program" run FILE > "out$member" 2> "err$member" || [ "$(cat "err$member")" != \
+      'bpfs: FILE: in use by another process' ]; do :; done
+    cat "out$member" >> "served$member"
+  done &
+done
+wait
+expect 'replies to a crowd' 48 "$(cat served? | grep -c '^ok$')"
+"$program" check FILE > out 2> err; expect 'check after the crowd' 0 $?
+expect 'files of the crowd' 48 "$(echo 'list /' | "$program" run FILE | grep -c '^entry f m')"
 [ -e FILE.bpfs-sync ] && { echo 'FAILED: a second file is left'; failed=1; }
 exit $failed

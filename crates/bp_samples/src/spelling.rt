@@ -6,8 +6,9 @@ ghost use Rattle.pm_region.specs.Memory.{current_words};
 
 use crate::images::{Start, laid, leaf};
 use bp_dirs::entry;
+use bp_limits::MAX_NAME;
 use bp_spelling::{NameFault, Spelled, check_names};
-use bp_tree::{Tree, content_word};
+use bp_tree::Tree;
 use pm_region::ListRegion;
 use std::alloc::{AllocError, Global};
 use std::test::Fail;
@@ -101,10 +102,10 @@ fn names_of_a_wrong_form(rt: HostRuntime) -> Result<(), Fail> {
 #[test]
 fn an_entry_is_read(rt: HostRuntime) -> Result<(), Fail> {
     let region = sample(rt.alloc(), (2, 0x6261), (1, 0x7863))?;
-    // The length of the second name.
-    assert_eq!(rt; content_word(&region, TREE, 33), 1);
-    let second = entry(&region, TREE, 1);
-    assert_eq!(rt; second.inumber, 3);
-    assert_eq!(rt; second.name.as_slice(), b"c".as_slice());
+    let second = entry(&region, TREE, 1).expect(&rt, "its block is there");
+    assert_eq!(rt; second.inumber(), 3);
+    assert_eq!(rt; second.name_len(), 1);
+    let mut name = [0; MAX_NAME];
+    assert_eq!(rt; second.read_name(&mut name), b"c".as_slice());
     Ok(())
 }

@@ -73,6 +73,7 @@ pub fn save_unless_saved<R: Region, F: Files>(
         Holds (F.view files.new) name (current_words (R.memory region.now))) }
     ensures partly { OnErr result ((name : List ℕ) (was : Image) → Holds (F.view files.old) name was →
         HoldsPartly (F.view files.new) name was (current_words (R.memory region.now))) }
+    ensures kept { is_saved ≡ true → KeepsFiles (F.view files.old) (F.view files.new) }
     ensures flushed { OnOk result ((F.view files.new).is_flushed ≡ true) }
     ensures attached { StaysAttached (F.view files.old) (F.view files.new) }
     ensures cause { HasCause (F.view files.old).faults (F.view files.new).faults result }

@@ -26,7 +26,7 @@ use Rattle.bp_session.specs.Outside.{Outside, SourceFailed, SinkFailed, FilesFai
 use Rattle.bp_shell.specs.Checking.{CheckOutcome}
 use Rattle.bp_shell.specs.Ending.{StopOutcome}
 use Rattle.bp_shell.specs.Playing.{PlayOutcome}
-use Rattle.bp_session.specs.Pieces.{piece_size}
+use Rattle.bp_session.specs.Pieces.{gathered_size, piece_size}
 use Rattle.bp_session.specs.Taking.{TakesPart}
 
 -- ---- `run FILE`
@@ -82,12 +82,12 @@ pub record RunsLong (before after : Outside) : Type 0 where
   pub plainly : FollowsTree begins.tree (start begins.image) serves.commands serves.told.replies
       (state memory serves.after)
 
--- The reply to one of these commands broke off, and FILE is as at the last sync.
+-- The reply to one of these commands broke off, and FILE is as at the last sync up to it: none was done behind it.
 pub record BreaksOffPlainly (image : Image) (tree : FileTree) (memory : Memory) (before after : Outside)
     (commands : List Command) : Type 0 where
-  pub breaks : BreaksOff (start image) memory (Saves after) commands before.taken after.taken
-  pub plainly : FollowsTree tree (start image) (breaks.front ++ breaks.last ∷ [])
-      (breaks.replies ++ breaks.reply ∷ []) (state memory breaks.after)
+  pub breaks : BreaksOff gathered_size (start image) memory (Saves after) commands before.taken after.taken
+  pub plainly : FollowsTree tree (start image) (breaks.front ++ breaks.last ∷ breaks.ahead)
+      (breaks.replies ++ breaks.reply ∷ breaks.unheard) (state memory breaks.after)
 
 -- A reply was not taken whole. Its line was read whole, or ended the input.
 pub record RunsBroken (before after : Outside) : Type 0 where

@@ -45,14 +45,22 @@ fn run_file<S: Source, K: Sink, F: Files>(
         Err(_) => return Status::Memory,
     };
     // It was just read.
-    work.take_as_saved();
-    let served = serve_gathered(alloc, &mut volume, &mut work, src, out, files);
+    let mut is_saved = true;
+    let served = serve_gathered(
+        alloc,
+        &mut volume,
+        &mut work,
+        &mut is_saved,
+        src,
+        out,
+        files,
+    );
     match Status::of_serving(served) {
         Status::Done => {}
         broken => return broken,
     }
     volume.sync();
-    match save_unless_saved(volume.region(), work.is_saved(), files) {
+    match save_unless_saved(volume.region(), is_saved, files) {
         Ok(()) => Status::Done,
         Err(Failed) => Status::FilesFailed,
     }

@@ -130,7 +130,7 @@ pub fn run<S: Source, K: Sink, F: Files>(
     plain_words_are_taken();
     let status = match read_words(alloc, words) {
         Ok(program) => run_program(alloc, &program, src, out, files),
-        Err(WordsFault::Usage) => {
+        Err(WordsFault::Usage(_)) => {
             tell_notice(&Notice::Usage, out);
             Status::Usage
         }

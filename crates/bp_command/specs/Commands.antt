@@ -11,7 +11,7 @@ use Rattle.bp_command.specs.declared.reading.WordsFault.{WordsFault}
 use Rattle.bp_command.specs.declared.reading.WordsFault.TheVariants.{Usage, Memory}
 
 abbrev pub file_rule : Rule
-file_rule = record (new_rule (codes "FILE")) { required = true }
+file_rule = record (new_rule (codes "FILE")) { required = true; parser = Some vp.NonEmptyString }
 
 abbrev pub blocks_rule : Rule
 blocks_rule = record (new_rule (codes "blocks")) {

@@ -4,14 +4,17 @@ ghost use Rattle.std.specs.Prelude.{IfOk};
 ghost use Rattle.bp_command.specs.Commands.{IsArgument, IsCommand, bare_app, blocks_rule, bpfs_app, check_app, count_rule, file_rule, format_app, play_app, run_app, seed_rule};
 
 use bp_limits::{MAX_BLOCKS, MAX_TURNS, MIN_BLOCKS};
+use clap::builder::ValueParser;
 use clap::{Arg, Command, value_parser};
 use std::alloc::{AllocError, Global};
 
-/// The file that a program works on.
+/// The file that a program works on. No file has the empty name.
 fn file<'a>(alloc: Global) -> Arg<'a>
     ensures { IsArgument file_rule result }
 {
-    Arg::new(alloc, "FILE").required(true)
+    Arg::new(alloc, "FILE")
+        .required(true)
+        .value_parser(ValueParser::NonEmptyString)
 }
 
 /// The number of blocks of a new file system.

@@ -70,6 +70,10 @@ fn refuses_words(rt: HostRuntime) {
             "unexpected argument 'g' found",
         ),
         (
+            ["bpfs", "check", ""].as_slice(),
+            "a value is required for '<FILE>' but none was supplied",
+        ),
+        (
             ["bpfs", "format"].as_slice(),
             "the following required arguments were not provided: --blocks <blocks> <FILE>",
         ),

@@ -51,6 +51,7 @@ fn format_command<'a>(alloc: Global) -> Result<Command<'a>, AllocError>
     ensures { IfOk result (IsCommand format_app) }
 {
     Command::new(alloc, "format")
+        .about("Makes FILE an empty file system of so many blocks of 4 KiB")
         .arg(file(alloc))?
         .arg(blocks(alloc))
 }
@@ -58,19 +59,26 @@ fn format_command<'a>(alloc: Global) -> Result<Command<'a>, AllocError>
 fn run_command<'a>(alloc: Global) -> Result<Command<'a>, AllocError>
     ensures { IfOk result (IsCommand run_app) }
 {
-    Command::new(alloc, "run").arg(file(alloc))
+    Command::new(alloc, "run")
+        .about("Serves the script of standard input over FILE")
+        .arg(file(alloc))
 }
 
 fn check_command<'a>(alloc: Global) -> Result<Command<'a>, AllocError>
     ensures { IfOk result (IsCommand check_app) }
 {
-    Command::new(alloc, "check").arg(file(alloc))
+    Command::new(alloc, "check")
+        .about("Says whether FILE is a file system, and what it holds")
+        .arg(file(alloc))
 }
 
 fn play_command<'a>(alloc: Global) -> Result<Command<'a>, AllocError>
     ensures { IfOk result (IsCommand play_app) }
 {
     Command::new(alloc, "play")
+        .about(
+            "Makes calls and power cuts over FILE that follow from a seed, and writes nothing back",
+        )
         .arg(file(alloc))?
         .arg(seed(alloc))?
         .arg(count(alloc))

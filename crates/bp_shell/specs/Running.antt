@@ -1,7 +1,8 @@
 -- What a program answers, and when.
-use Rattle.std.specs.Prelude.{Some, true, ◌≡◌, ◌⊎◌, ◌≤◌, ℕ, ◌-◌, List, [], ◌∷◌, ◌++◌, length}
+use Rattle.std.specs.Prelude.{Some, ⊤, true, ◌≡◌, ◌⊎◌, ◌≤◌, ℕ, ◌-◌, List, [], ◌∷◌, ◌++◌, length}
 use Rattle.std.specs.Io.KnownBytes.{Appends, Consumes, IsAtEnd}
 use Rattle.pm_region.specs.Memory.{Memory, current_words}
+use Rattle.bp_io.specs.Files.{View}
 use Rattle.bp_limits.specs.Limits.{max_input}
 use Rattle.bp_layout.specs.Words.{Image}
 use Rattle.bp_layout.specs.Bytes.{image_bytes}
@@ -20,8 +21,8 @@ use Rattle.bp_session.specs.Files.{AreWordsOf64Bits, HasBytes, HasBlocksOf}
 use Rattle.bp_session.specs.Serving.{BreaksOff, SyncFails, OfLines, Serves, StopsAtSave, Told}
 use Rattle.bp_session.specs.PlainSession.{FollowsTree}
 use Rattle.bp_session.specs.Session.{State}
-use Rattle.bp_shell.specs.Opening.{HoldsFileSystem, start}
-use Rattle.bp_shell.specs.Formatting.{new_image, HasPartly}
+use Rattle.bp_shell.specs.Opening.{HoldsFileSystem, OnlyReads, start}
+use Rattle.bp_shell.specs.Formatting.{new_image, HasPartly, OnlyMakes}
 use Rattle.bp_session.specs.Outside.{Outside, SourceFailed, SinkFailed, FilesFailed, IsFirstFault, IsIdle}
 use Rattle.bp_shell.specs.Checking.{CheckOutcome}
 use Rattle.bp_shell.specs.Ending.{StopOutcome}
@@ -173,6 +174,13 @@ ProgramOutcome (formats name blocks) status before after = FormatOutcome status 
 ProgramOutcome (runs name) status before after = RunOutcome status before after
 ProgramOutcome (checks name) status before after = CheckOutcome status before after
 ProgramOutcome (plays name seed count) status before after = PlayOutcome status seed count before after
+
+-- What a program leaves of the files, by what is told of them before and after. Of a script nothing is said here.
+abbrev pub LeavesFiles : Program → View → View → Type 0
+LeavesFiles (formats name blocks) old new = OnlyMakes name old new
+LeavesFiles (runs name) old new = ⊤
+LeavesFiles (checks name) old new = OnlyReads name old new
+LeavesFiles (plays name seed count) old new = OnlyReads name old new
 
 -- The words ask for a program, and this is its outcome. What is known of a file is told for each name.
 pub record RunsProgram (words : List (List ℕ)) (status : ℕ) (before after : List ℕ → Outside) : Type 0 where

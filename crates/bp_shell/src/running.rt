@@ -1,11 +1,11 @@
 //! The programs.
 
 ghost use Rattle.bp_command.specs.Commands.{IsTaken};
-ghost use Rattle.bp_command.specs.Programs.{Asks, HasNumbersInRange, Program as Asked, program_of};
+ghost use Rattle.bp_command.specs.Programs.{Asks, HasNumbersInRange, Program as Asked, Requests, program_of};
 ghost use Rattle.bp_script.specs.Sayings.{notice_text};
 ghost use Rattle.bp_script.specs.declared.notices.Notice.TheVariants.{Usage};
 ghost use Rattle.bp_session.specs.Outside.{Prints, outside};
-ghost use Rattle.bp_shell.specs.Running.{RunsProgram, ProgramOutcome, RunOutcome, file_name};
+ghost use Rattle.bp_shell.specs.Running.{LeavesFiles, RunsProgram, ProgramOutcome, RunOutcome, file_name};
 ghost use Rattle.bp_shell.specs.Statuses.{code_of};
 ghost use Rattle.std.specs.Prelude.{◌≡◌, ◌⊎◌, map};
 
@@ -15,7 +15,7 @@ use crate::opening::open;
 use crate::playing::play_file;
 use crate::printing::{tell_notice, tell_stop};
 use crate::status::Status;
-use bp_command::laws::plain_words_are_taken;
+use bp_command::laws::{plain_words_are_taken, words_ask_for_one_program};
 use bp_command::{Program, WordsFault, read_words};
 use bp_io::{Failed, Files, Sink, Source};
 use bp_script::Notice;
@@ -81,6 +81,7 @@ fn run_program<S: Source, K: Sink, F: Files>(
         (outside (S.left src.new) (S.faults src.new) (K.taken out.new) (K.faults out.new) (F.view files.new) name) }
     ensures unread { (code_of result ≡ 1) ⊎ (code_of result ≡ 7) ⊎ (code_of result ≡ 8) → src.new ≡ src.old }
     ensures asked { ¬ (code_of result ≡ 2) }
+    ensures files { LeavesFiles (program_of program.now) (F.view files.old) (F.view files.new) }
 {
     match *program {
         Program::Format { name, blocks } => format_file(alloc, name, blocks, out, files),
@@ -126,8 +127,13 @@ pub fn run<S: Source, K: Sink, F: Files>(
         (λ name. outside (S.left src.new) (S.faults src.new) (K.taken out.new) (K.faults out.new)
         (F.view files.new) name)
         ⊎ ((result ≡ 8) × (src.new ≡ src.old) × (out.new ≡ out.old) × (files.new ≡ files.old)) }
+
+    // What whichever words leave of the files that are not FILE.
+    ensures files { (program : Asked) → Requests (map (λ word. word.now) words.now) program →
+        LeavesFiles program (F.view files.old) (F.view files.new) }
 {
     plain_words_are_taken();
+    words_ask_for_one_program();
     let status = match read_words(alloc, words) {
         Ok(program) => run_program(alloc, &program, src, out, files),
         Err(WordsFault::Usage(_)) => {

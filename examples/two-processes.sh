@@ -63,10 +63,17 @@ first=
 echo 'list /' | "$program" run FILE > out 2> err; expect 'run after it' 0 $?
 expect 'what the first run made' 'entry f a entry f b entry f c end' "$(tr '\n' ' ' < out | sed 's/ $//')"
 
-"$program" play FILE --seed 1 --count 1000000 > played 2> errors &
-first=$!
+# A play that meets one of these runs is refused itself, and is begun again.
 turns=0
-while "$program" run FILE < nothing > out 2> err && [ $turns -lt 500 ]; do sleep 0.02; turns=$((turns + 1)); done
+while [ $turns -lt 50 ]; do
+    turns=$((turns + 1))
+    "$program" play FILE --seed 1 --count 1000000 > played 2> errors &
+    first=$!
+    sleep 0.3
+    "$program" run FILE < nothing > out 2> err || break
+    kill "$first" 2> /dev/null || true
+    wait "$first" 2> /dev/null || true
+done
 refused run FILE
 "$program" check FILE > out 2> err; expect 'check beside a play' 0 $?
 kill "$first"

@@ -8,7 +8,7 @@ use Rattle.std.specs.Prelude.{Option, ◌⊎◌}
 use Rattle.std.specs.Io.KnownBytes.{Appends}
 use Rattle.std.proofs.KnownBytes.{Appends-trans}
 use Rattle.bp_io.specs.Causes.{Rose}
-use Rattle.bp_io.specs.Files.{View, StaysAttached}
+use Rattle.bp_io.specs.Files.{KeepsOthers, StaysAttached, View}
 use Rattle.pm_region.specs.Memory.{Memory}
 use Rattle.bp_layout.specs.Words.{Image}
 use Rattle.bp_script.specs.Commands.{Command, command_of}
@@ -23,6 +23,7 @@ use Rattle.bp_session.specs.Taking.{TakesPart}
 use Rattle.bp_session.specs.Gathering.{Clears, AwaitsReply, IsUnheard, IsUntold, LineGathers, PassesOn}
 use Rattle.bp_session.proofs.GatheringLaws.{handed_behind, part_behind, passed_part, passes_behind, taken_behind, with_nothing, with_waiting}
 use Rattle.bp_session.proofs.OutcomeLaws.{files_fault, first_after, line_broken, line_stopped, line_whole, no_fault, piece_newline, piece_quiet, piece_then, sink_fault, stops_after}
+use Rattle.bp_session.proofs.OthersLaws.{others_same, others_then}
 use Rattle.bp_session.proofs.SavingLaws.{stays_attached, still_attached}
 use Rattle.bp_session.proofs.ServingLaws.{all_as, breaks_as, breaks_behind, breaks_line, commands_at_newline, serves_as, serves_one, session_append, text_none}
 
@@ -55,7 +56,7 @@ piece_handed most held now u took = record {
   whole = λ _ saved. record { commands = []; lines = λ rest. refl; after = saved; file = λ name file. file; told = record { replies = []; session = refl; taken = rw text_none took } };
   broken = λ e. absurd (omega (arith, e));
   stopped = λ e. absurd (omega (arith, e));
-  keeps_files = record { size = refl; capacity = refl; attached = still_attached now.files; flushed = λ _ e. e };
+  keeps_files = record { size = refl; capacity = refl; attached = still_attached now.files; others = others_same now.files; flushed = λ _ e. e };
   first = no_fault 0 _ _ (λ e. omega (arith, e)) (λ e. omega (arith, e)) (λ e. omega (arith, e)) refl refl refl;
   one_of = inl refl;
 }
@@ -205,6 +206,7 @@ module _ (start : Moment) (most : ℕ) (held input middle a : List ℕ) (now : M
       size = keeps.size ∙ one.piece.keeps_files.size;
       capacity = keeps.capacity ∙ one.piece.keeps_files.capacity;
       attached = stays_attached _ _ _ one.piece.keeps_files.attached keeps.attached;
+      others = others_then start.files now.files new.files one.piece.keeps_files.attached one.piece.keeps_files.others keeps.others;
       flushed = λ other e. keeps.flushed other (one.piece.keeps_files.flushed (λ z. omega (arith, z)) e);
     }
 
@@ -221,7 +223,7 @@ module _ (start : Moment) (most : ℕ) (held input middle a : List ℕ) (now : M
               (piece_newline 0 most middle _ _
               (line_whole _ _ _
               (λ saved. serves_one _ _ _ _ _ _ _ (answered.done.does saved) (added (command_of middle) (reply_text answered.done.reply) a b answered.done.waits now.taken answered.done.taken new.taken now.files new.files answered.done.clears answered.passes))
-              (record { size = line.keeps.size; capacity = line.keeps.capacity; attached = line.keeps.attached; flushed = line.keeps.flushed })
+              (record { size = line.keeps.size; capacity = line.keeps.capacity; attached = line.keeps.attached; others = line.keeps.others; flushed = line.keeps.flushed })
               (line.first.no_sink (inl refl)) (line.first.no_files (λ e. omega (arith, e)))));
           may = λ taken part. leads_part new answered.done taken (passed_part (reply_text answered.done.reply) answered.done.waits b answered.done.taken new.taken taken answered.passes part);
           few = few;
@@ -300,21 +302,21 @@ module _ (start : Moment) (most : ℕ) (held input middle a : List ℕ) (now : M
     whole = λ e. absurd (omega (arith, e));
     broken = λ _ rest. leads_off most start now taken held input middle (one.may taken part) faults rest;
     stopped = λ e. absurd (omega (arith, e));
-    keeps_files = record { size = one.piece.keeps_files.size; capacity = one.piece.keeps_files.capacity; attached = one.piece.keeps_files.attached; flushed = λ _. one.piece.keeps_files.flushed (λ z. omega (arith, z)) };
+    keeps_files = record { size = one.piece.keeps_files.size; capacity = one.piece.keeps_files.capacity; attached = one.piece.keeps_files.attached; others = one.piece.keeps_files.others; flushed = λ _. one.piece.keeps_files.flushed (λ z. omega (arith, z)) };
     first = first_after 4 _ (counts 0 now.faults now.files) _ one.piece.first (sink_fault _ _ refl rose refl);
     one_of = inr (inl refl);
   }
 
 -- ---- what a line came to
 
-module _ (command : Command) (a b : List ℕ) (old new : Moment) (size : length new.memory.base ≡ length old.memory.base) (capacity : new.memory.capacity ≡ old.memory.capacity) (attached : StaysAttached old.files new.files) where
+module _ (command : Command) (a b : List ℕ) (old new : Moment) (size : length new.memory.base ≡ length old.memory.base) (capacity : new.memory.capacity ≡ old.memory.capacity) (attached : StaysAttached old.files new.files) (others : KeepsOthers old.files new.files) where
   pub line_told : (flushed : old.files.is_flushed ≡ true → new.files.is_flushed ≡ true) (done : AwaitsReply command a old new) → PassesOn (reply_text done.reply) done.waits b done.taken new.taken
       → new.faults ≡ old.faults → new.files.faults ≡ old.files.faults → LineGathers 0 command a b old new
   line_told flushed done passes sink files = record {
     whole = λ _. record { done = done; passes = passes };
     broken = λ e. absurd (omega (arith, e));
     stopped = λ e. absurd (omega (arith, e));
-    keeps = record { size = size; capacity = capacity; attached = attached; flushed = λ _. flushed };
+    keeps = record { size = size; capacity = capacity; attached = attached; others = others; flushed = λ _. flushed };
     first = no_fault 0 _ _ (λ e. omega (arith, e)) (λ e. omega (arith, e)) (λ e. omega (arith, e)) refl sink files;
     one_of = inl refl;
   }
@@ -324,7 +326,7 @@ module _ (command : Command) (a b : List ℕ) (old new : Moment) (size : length 
     whole = λ e. absurd (omega (arith, e));
     broken = λ _. broken;
     stopped = λ e. absurd (omega (arith, e));
-    keeps = record { size = size; capacity = capacity; attached = attached; flushed = λ _. flushed };
+    keeps = record { size = size; capacity = capacity; attached = attached; others = others; flushed = λ _. flushed };
     first = sink_fault _ _ refl rose files;
     one_of = inr (inl refl);
   }
@@ -342,7 +344,7 @@ module _ (command : Command) (a b : List ℕ) (old new : Moment) (size : length 
     whole = λ e. absurd (omega (arith, e));
     broken = λ e. absurd (omega (arith, e));
     stopped = λ _. record { fails = fails; taken = took };
-    keeps = record { size = size; capacity = capacity; attached = attached; flushed = λ no. absurd (no refl) };
+    keeps = record { size = size; capacity = capacity; attached = attached; others = others; flushed = λ no. absurd (no refl) };
     first = files_fault _ _ refl sink rose;
     one_of = inr (inr refl);
   }
@@ -404,7 +406,7 @@ line_forgets status commands old new line = record {
   whole = λ e saved. all_as _ _ _ _ _ _ (forgets old new saved) _ (line.whole e saved);
   broken = λ e saved. breaks_as _ _ _ _ _ _ (forgets old new saved) 0 0 _ (λ z. z) (line.broken e saved);
   stopped = λ e. record { stops = (line.stopped e).stops; cleared = refl };
-  keeps = record { size = line.keeps.size; capacity = line.keeps.capacity; attached = line.keeps.attached; flushed = line.keeps.flushed };
+  keeps = record { size = line.keeps.size; capacity = line.keeps.capacity; attached = line.keeps.attached; others = line.keeps.others; flushed = line.keeps.flushed };
   first = line.first;
   one_of = line.one_of;
 }
@@ -434,7 +436,7 @@ serve_forgets status most before after old new served = record {
           | inr last ↦ inr (last.0, record { stops = last.1.stops; cleared = refl })
         ],
       );
-  keeps = record { size = served.keeps.size; capacity = served.keeps.capacity; attached = served.keeps.attached; flushed = served.keeps.flushed };
+  keeps = record { size = served.keeps.size; capacity = served.keeps.capacity; attached = served.keeps.attached; others = served.keeps.others; flushed = served.keeps.flushed };
   first = served.first;
   complete = served.complete;
   one_of = served.one_of;

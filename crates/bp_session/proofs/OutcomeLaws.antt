@@ -9,6 +9,7 @@ use Rattle.bp_session.specs.Lines.{commands_from}
 use Rattle.bp_session.specs.Outside.{Faults, IsFirstFault, SinkTookAll, counts}
 use Rattle.bp_layout.specs.Words.{Image}
 use Rattle.bp_session.specs.Serving.{Carries, CarriesPartly, DoesAll, DoesBreakOff, DoesStop, Input, Keeps, LineOutcome, Moment, PieceOutcome, ServeOutcome}
+use Rattle.bp_session.proofs.OthersLaws.{others_same, others_then}
 use Rattle.bp_session.proofs.SavingLaws.{stays_attached, still_attached}
 use Rattle.bp_session.proofs.ServingLaws.{all_as, breaks_as, breaks_behind, breaks_in, commands_at_newline, commands_of_nothing, not_long, serves_as, serves_newline, serves_quietly, serves_then, serves_to_end, stops_as, stops_behind, stops_in, told_none}
 
@@ -104,13 +105,14 @@ first_with_source status s t a b other same first = record {
 -- ---- what is kept
 
 pub keeps_all : (a : Moment) → Keeps 0 a a
-keeps_all a = record { size = refl; capacity = refl; attached = still_attached a.files; flushed = λ _ e. e }
+keeps_all a = record { size = refl; capacity = refl; attached = still_attached a.files; others = others_same a.files; flushed = λ _ e. e }
 
 pub keeps_then : (status : ℕ) (a b c : Moment) → Keeps 0 a b → Keeps status b c → Keeps status a c
 keeps_then status a b c one two = record {
   size = two.size ∙ one.size;
   capacity = two.capacity ∙ one.capacity;
   attached = stays_attached _ _ _ one.attached two.attached;
+  others = others_then a.files b.files c.files one.attached one.others two.others;
   flushed = λ other e. two.flushed other (one.flushed (λ z. omega (arith, z)) e);
 }
 
@@ -239,7 +241,7 @@ module _ (most : ℕ) (before after : Input) (a b : Moment) where
     long = λ e. absurd (omega (arith, e));
     broken = λ e. absurd (omega (arith, e));
     stopped = λ e. absurd (omega (arith, e));
-    keeps = record { size = part.keeps_files.size; capacity = part.keeps_files.capacity; attached = part.keeps_files.attached; flushed = λ _. part.keeps_files.flushed (λ e. omega (arith, e)) };
+    keeps = record { size = part.keeps_files.size; capacity = part.keeps_files.capacity; attached = part.keeps_files.attached; others = part.keeps_files.others; flushed = λ _. part.keeps_files.flushed (λ e. omega (arith, e)) };
     first = source_fault _ _ rose (part.first.no_sink (inl refl)) (part.first.no_files (λ e. omega (arith, e)));
     complete = λ all told few calm quiet still. absurd (calm rose);
     one_of = inr (inl refl);
@@ -254,7 +256,7 @@ module _ (most : ℕ) (before after : Input) (a b : Moment) where
     long = λ _. (input, more, keeps, read, most, some, few, part.whole refl);
     broken = λ e. absurd (omega (arith, e));
     stopped = λ e. absurd (omega (arith, e));
-    keeps = record { size = part.keeps_files.size; capacity = part.keeps_files.capacity; attached = part.keeps_files.attached; flushed = λ _. part.keeps_files.flushed (λ e. omega (arith, e)) };
+    keeps = record { size = part.keeps_files.size; capacity = part.keeps_files.capacity; attached = part.keeps_files.attached; others = part.keeps_files.others; flushed = λ _. part.keeps_files.flushed (λ e. omega (arith, e)) };
     first = no_fault 6 _ _ (λ e. omega (arith, e)) (λ e. omega (arith, e)) (λ e. omega (arith, e)) same (part.first.no_sink (inl refl)) (part.first.no_files (λ e. omega (arith, e)));
     complete = λ all told small calm quiet still. absurd (not_long before.left after.left all input more told small read most some);
     one_of = inr (inr (inr (inr refl)));

@@ -6,7 +6,7 @@ use Rattle.std.specs.Prelude.{Result, Ok, Err, OnOk, OnErr}
 use Rattle.bp_layout.specs.Bytes.{image_bytes}
 use Rattle.pm_region.specs.Memory.{Memory, current_words}
 use Rattle.pm_epochs.proofs.CrashLaws.{length-words_after}
-use Rattle.bp_io.specs.Files.{block_bytes, with_block, Known, Becomes, KeepsFiles, Stays, StaysAttached, View}
+use Rattle.bp_io.specs.Files.{block_bytes, with_block, Known, Becomes, Stays, StaysAttached, View}
 use Rattle.bp_session.proofs.BlockLaws.{length-image_bytes}
 use Rattle.bp_layout.specs.Words.{Image}
 use Rattle.bp_session.specs.Files.{HasBytes, HasBlocksOf, IsMixed, IsReady, partly_saved}
@@ -94,14 +94,6 @@ mixed_known (Some (Some found)) first second i low same has = rw has (saved_mixe
 pub stays_told : (known new : Known) → Stays known new → is_some new ≡ is_some known
 stays_told None new stays = rw stays refl
 stays_told (Some known) new stays = rw stays refl
-
--- a file that nothing was done to
-pub still_kept : (a : View) → KeepsFiles a a
-still_kept a name = go (a.contents name)
-  where
-    go : (known : Known) → Stays known known
-    go None = refl
-    go (Some known) = refl
 
 pub becomes_told : (known new : Known) (f : List ℕ → List ℕ) (bytes : List ℕ) → HasBytes known bytes → Becomes f known new → is_some new ≡ is_some known
 becomes_told None new f bytes has becomes = rw becomes refl

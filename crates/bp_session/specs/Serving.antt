@@ -2,7 +2,7 @@
 use Rattle.std.specs.Prelude.{All, ◌≡◌, ◌≤◌, ◌⊎◌, ℕ, ◌<◌, List, [], ◌∷◌, ◌++◌, Some, Bool, true, false, length, take, Option}
 use Rattle.std.specs.Io.KnownBytes.{Appends, Consumes, IsAtEnd}
 use Rattle.bp_io.specs.Causes.{Rose}
-use Rattle.bp_io.specs.Files.{StaysAttached, View}
+use Rattle.bp_io.specs.Files.{KeepsOthers, StaysAttached, View}
 use Rattle.bp_limits.specs.Limits.{log_events, max_input}
 use Rattle.pm_region.specs.Memory.{Memory, current_words, drained}
 use Rattle.bp_layout.specs.Words.{Image}
@@ -162,12 +162,13 @@ pub record DoesStop (old new : Moment) (commands : List Command) : Type 0 where
       StopsAtSave (state old.memory saved) new.memory (CarriesPartly old new saved) commands old.taken new.taken
   pub cleared : new.is_saved ≡ false
 
--- The region keeps its size and the room of its log, the same file is attached, and what was flushed before is flushed
--- where no sync failed.
+-- The region keeps its size and the room of its log, the same file is attached, no other one changes, and what was
+-- flushed before is flushed where no sync failed.
 pub record Keeps (status : ℕ) (old new : Moment) : Type 0 where
   pub size : length new.memory.base ≡ length old.memory.base
   pub capacity : new.memory.capacity ≡ old.memory.capacity
   pub attached : StaysAttached old.files new.files
+  pub others : KeepsOthers old.files new.files
   pub flushed : ¬ (status ≡ 5) → old.files.is_flushed ≡ true → new.files.is_flushed ≡ true
 
 -- What serving asks of a volume and of the files: a file is attached that has the volume's blocks and may be written,

@@ -2,7 +2,7 @@
 
 ghost use Rattle.std.specs.Prelude.{◌&&◌, ◌≡◌, ◌≤◌, [], IfErr, IfOk, OnOk, length, not, true};
 ghost use Rattle.pm_epochs.specs.Log.{barriers, marks};
-ghost use Rattle.bp_io.specs.Files.{KeepsFiles, StaysAttached};
+ghost use Rattle.bp_io.specs.Files.{KeepsFiles, KeepsOthers, StaysAttached};
 ghost use Rattle.bp_limits.specs.Limits.{log_events, max_mask};
 ghost use Rattle.bp_replay.specs.Storm.{storm_cut};
 ghost use Rattle.bp_replay.specs.Wanted.{cut_for, mask_places, wanted_by};
@@ -209,6 +209,7 @@ pub(crate) fn act_and_save<R: Region, K: Sink, F: Files>(
     ensures files { OnOk result ((F.view files.new).faults ≡ (F.view files.old).faults) }
     ensures size { length volume.new.base ≡ length volume.old.base }
     ensures capacity { volume.new.capacity ≡ volume.old.capacity }
+    ensures others { KeepsOthers (F.view files.old) (F.view files.new) }
     ensures attached { StaysAttached (F.view files.old) (F.view files.new) }
     ensures line { line_in buffers.new ≡ line_in buffers.old }
 {

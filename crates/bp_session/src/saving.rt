@@ -77,6 +77,7 @@ pub fn save_unless_saved<R: Region, F: Files>(
         HoldsPartly (F.view files.new) name was (current_words (R.memory region.now))) }
     ensures kept { is_saved ≡ true → KeepsFiles (F.view files.old) (F.view files.new) }
     ensures flushed { OnOk result ((F.view files.new).is_flushed ≡ true) }
+    ensures others { KeepsOthers (F.view files.old) (F.view files.new) }
     ensures attached { StaysAttached (F.view files.old) (F.view files.new) }
     ensures cause { HasCause (F.view files.old).faults (F.view files.new).faults result }
 {

@@ -2,7 +2,8 @@ use Rattle.std.proofs.Common.{refl, inl, ap, ◌∙◌}
 use Rattle.pm_region.specs.Memory.{drained}
 use Rattle.bp_session.proofs.ActingLaws.{acts_done, acts_synced, fails_synced, holds_synced, saved_behind_other, size-drained}
 use Rattle.bp_session.proofs.AheadLaws.{line_unheard, line_unsaved}
-use Rattle.bp_session.proofs.SavingLaws.{still_attached, still_kept, still_ready}
+use Rattle.bp_session.proofs.OthersLaws.{others_same, stays_same}
+use Rattle.bp_session.proofs.SavingLaws.{still_attached, still_ready}
 use Rattle.bp_session.proofs.acting.act_and_save.Goals as goal
 
 pub save_unless_saved-requires : goal.save_unless_saved-requires
@@ -26,7 +27,7 @@ pub returns-in-Err-save_unless_saved-clause-stops : goal.returns-in-Err-save_unl
 returns-in-Err-save_unless_saved-clause-stops g c =
     let left = c.in-Synced.ensures.left refl in
     let done = c.sync.ensures.drained ∙ ap drained left.1 in
-    line_unsaved _ _ _ _ _ (rw done (size-drained c.args.volume.now)) (rw done refl) c.save_unless_saved.ensures.attached
+    line_unsaved _ _ _ _ _ (rw done (size-drained c.args.volume.now)) (rw done refl) c.save_unless_saved.ensures.attached c.save_unless_saved.ensures.others
     (record {
       fails = λ saved. fails_synced c.args.volume.now c.sync.new.self _ c.act_but_sync.new.buffers.reply.answer left.0 done saved _ (λ name held. rw c.region.ensures.memory at (c.in-Err-save_unless_saved.ensures.partly name saved held.file));
       cleared = refl;
@@ -35,10 +36,13 @@ returns-in-Err-save_unless_saved-clause-stops g c =
 pub returns-in-Err-clause-stops : goal.returns-in-Err-clause-stops
 returns-in-Err-clause-stops g c =
     let left = c.in-Synced.ensures.left refl in
-    rw left.1 (line_unheard _ _ _ _ _ refl refl (still_attached _) (rw c.act_but_sync.ensures.waiting at c.in-Err.ensures.some) refl c.in-Err.ensures.cause.failed)
+    rw left.1 (line_unheard _ _ _ _ _ refl refl (still_attached _) (others_same (g.F.Files.view c.args.files.now)) (rw c.act_but_sync.ensures.waiting at c.in-Err.ensures.some) refl c.in-Err.ensures.cause.failed)
 
 pub returns-in-Err-clause-kept : goal.returns-in-Err-clause-kept
-returns-in-Err-clause-kept g c = λ _. still_kept (g.F.Files.view c.args.files.now)
+returns-in-Err-clause-kept g c = λ _ name. stays_same ((g.F.Files.view c.args.files.now).contents name)
+
+pub returns-in-Err-clause-others : goal.returns-in-Err-clause-others
+returns-in-Err-clause-others g c = others_same (g.F.Files.view c.args.files.now)
 
 pub returns-in_default : goal.returns-in_default
 returns-in_default g c =
@@ -46,7 +50,7 @@ returns-in_default g c =
     record {
       does = λ saved. record { after = _; line = does.line saved; file = λ name held. rw c.stays_saved.ensures (acts_done _ _ _ _ c.act_but_sync.result _ _ name saved does c.in_default.not-Synced held) };
       flag = c.stays_saved.ensures ∙ saved_behind_other c.act_but_sync.result _ _ c.in_default.not-Synced;
-      kept = λ _. still_kept (g.F.Files.view c.args.files.now);
+      kept = λ _ name. stays_same ((g.F.Files.view c.args.files.now).contents name);
       clears = inl (λ e. c.in_default.not-Synced (does.synced e), c.act_but_sync.ensures.waiting, refl, refl);
       stops = tt;
       some = tt;
@@ -57,6 +61,7 @@ returns-in_default g c =
       files = refl;
       size = does.size;
       capacity = does.capacity;
+      others = others_same (g.F.Files.view c.args.files.now);
       attached = still_attached _;
       line = c.act_but_sync.ensures.line;
     }

@@ -1,8 +1,8 @@
 -- What a program answers, and when.
-use Rattle.std.specs.Prelude.{Some, ⊤, true, ◌≡◌, ◌⊎◌, ◌≤◌, ℕ, ◌-◌, List, [], ◌∷◌, ◌++◌, length}
+use Rattle.std.specs.Prelude.{Some, true, false, ◌≡◌, ◌⊎◌, ◌≤◌, ℕ, ◌-◌, List, [], ◌∷◌, ◌++◌, length}
 use Rattle.std.specs.Io.KnownBytes.{Appends, Consumes, IsAtEnd}
 use Rattle.pm_region.specs.Memory.{Memory, current_words}
-use Rattle.bp_io.specs.Files.{View}
+use Rattle.bp_io.specs.Files.{KeepsFiles, Stays, StaysAttached, View}
 use Rattle.bp_limits.specs.Limits.{max_input}
 use Rattle.bp_layout.specs.Words.{Image}
 use Rattle.bp_layout.specs.Bytes.{image_bytes}
@@ -141,6 +141,16 @@ pub record RunOutcome (status : ℕ) (before after : Outside) : Type 0 where
   pub one_of : (status ≡ 0) ⊎ (status ≡ 1) ⊎ (status ≡ 3) ⊎ (status ≡ 4) ⊎ (status ≡ 5) ⊎ (status ≡ 6) ⊎ (status ≡ 7)
       ⊎ (status ≡ 8)
 
+-- FILE is attached and may be written, and no other file changes.
+pub record ChangesAlone (name : List ℕ) (old new : View) : Type 0 where
+  pub attached : new.is_attached name ≡ true
+  pub may_write : new.may_write ≡ true
+  pub others : (other : List ℕ) → new.is_attached other ≡ false → Stays (old.contents other) (new.contents other)
+
+-- What a run leaves of the files: FILE alone may change; or what was attached before still is, and no file changes.
+abbrev pub OnlyWrites : List ℕ → View → View → Type 0
+OnlyWrites name old new = ChangesAlone name old new ⊎ StaysAttached old new × KeepsFiles old new
+
 -- ---- `format FILE --blocks N`
 
 -- the line that tells of a new file system
@@ -175,10 +185,10 @@ ProgramOutcome (runs name) status before after = RunOutcome status before after
 ProgramOutcome (checks name) status before after = CheckOutcome status before after
 ProgramOutcome (plays name seed count) status before after = PlayOutcome status seed count before after
 
--- What a program leaves of the files, by what is told of them before and after. Of a script nothing is said here.
+-- What a program leaves of the files, FILE and others, by what is told of them before and after.
 abbrev pub LeavesFiles : Program → View → View → Type 0
 LeavesFiles (formats name blocks) old new = OnlyMakes name old new
-LeavesFiles (runs name) old new = ⊤
+LeavesFiles (runs name) old new = OnlyWrites name old new
 LeavesFiles (checks name) old new = OnlyReads name old new
 LeavesFiles (plays name seed count) old new = OnlyReads name old new
 

@@ -216,7 +216,6 @@ pub fn open<F: Files>(alloc: Global, name: &str, files: &mut F) -> Result<Volume
     ensures capacity { IfOk result (λ volume. volume.capacity ≡ log_events) }
     ensures reason { IfErr result (IsReason ((F.view files.old).contents name.now)) }
     ensures cause { HasStopCause (F.view files.old).faults (F.view files.new).faults result }
-    ensures file { (F.view files.new).contents name.now ≡ (F.view files.old).contents name.now }
     ensures kept { KeepsFiles (F.view files.old) (F.view files.new) }
     ensures attached { AttachesAs Access.Write name.now (F.view files.old) (F.view files.new) }
     ensures flushed { (F.view files.new).is_flushed ≡ (F.view files.old).is_flushed }

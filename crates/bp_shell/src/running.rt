@@ -5,7 +5,7 @@ ghost use Rattle.bp_command.specs.Programs.{Asks, HasNumbersInRange, Program as 
 ghost use Rattle.bp_script.specs.Sayings.{notice_text};
 ghost use Rattle.bp_script.specs.declared.notices.Notice.TheVariants.{Usage};
 ghost use Rattle.bp_session.specs.Outside.{Prints, outside};
-ghost use Rattle.bp_shell.specs.Running.{LeavesFiles, RunsProgram, ProgramOutcome, RunOutcome, file_name};
+ghost use Rattle.bp_shell.specs.Running.{LeavesFiles, OnlyWrites, RunsProgram, ProgramOutcome, RunOutcome, file_name};
 ghost use Rattle.bp_shell.specs.Statuses.{code_of};
 ghost use Rattle.std.specs.Prelude.{◌≡◌, ◌⊎◌, map};
 
@@ -35,6 +35,7 @@ fn run_file<S: Source, K: Sink, F: Files>(
         (outside (S.left src.old) (S.faults src.old) (K.taken out.old) (K.faults out.old) (F.view files.old) name.now)
         (outside (S.left src.new) (S.faults src.new) (K.taken out.new) (K.faults out.new) (F.view files.new) name.now) }
     ensures unread { (code_of result ≡ 1) ⊎ (code_of result ≡ 7) ⊎ (code_of result ≡ 8) → src.new ≡ src.old }
+    ensures files { OnlyWrites name.now (F.view files.old) (F.view files.new) }
 {
     let mut volume = match open(alloc, name, files) {
         Ok(volume) => volume,
@@ -128,7 +129,7 @@ pub fn run<S: Source, K: Sink, F: Files>(
         (F.view files.new) name)
         ⊎ ((result ≡ 8) × (src.new ≡ src.old) × (out.new ≡ out.old) × (files.new ≡ files.old)) }
 
-    // What whichever words leave of the files that are not FILE.
+    // What whichever words leave of the files, FILE and others.
     ensures files { (program : Asked) → Requests (map (λ word. word.now) words.now) program →
         LeavesFiles program (F.view files.old) (F.view files.new) }
 {

@@ -4,14 +4,16 @@ use Rattle.bp_session.specs.Serving.{Moment, moment, saved_if}
 use Rattle.bp_shell.specs.Statuses.{code_of}
 use Rattle.bp_shell.proofs.ProgramLaws.{read_now, run_memory, run_served, run_stopped, run_unsaved, run_whole, saved_drained, serving_numbers, serving_reads}
 use Rattle.bp_session.proofs.SavingLaws.{still_attached, still_ready}
+use Rattle.bp_shell.proofs.FilesLaws.{only_opened, only_saved, only_written}
+use Rattle.bp_shell.proofs.OpeningLaws.{stays_equal}
 use Rattle.bp_shell.proofs.running.run_file.Goals as goal
 
 pub returns-in-Err-clause-outcome : goal.returns-in-Err-clause-outcome
 returns-in-Err-clause-outcome g c =
-    run_stopped _ _ (record { left = refl; file = c.open.ensures.file }) c.open.ensures.flushed refl _ _ c.in-Err.ensures.reason c.in-Err.ensures.cause.failed c.in-Err.ensures.cause.others c.tell_stop.ensures
+    run_stopped _ _ (record { left = refl; file = stays_equal _ _ (c.open.ensures.kept c.args.name.now) }) c.open.ensures.flushed refl _ _ c.in-Err.ensures.reason c.in-Err.ensures.cause.failed c.in-Err.ensures.cause.others c.tell_stop.ensures
 
 pub returns-in-Err-new-clause-outcome : goal.returns-in-Err-new-clause-outcome
-returns-in-Err-new-clause-outcome g c = run_memory _ _ (record { left = refl; file = c.open.ensures.file }) c.open.ensures.flushed refl refl refl c.in-Ok.ensures.cause.same
+returns-in-Err-new-clause-outcome g c = run_memory _ _ (record { left = refl; file = stays_equal _ _ (c.open.ensures.kept c.args.name.now) }) c.open.ensures.flushed refl refl refl c.in-Ok.ensures.cause.same
 
 pub returns-in_default-clause-outcome : goal.returns-in_default-clause-outcome
 returns-in_default-clause-outcome g c =
@@ -46,6 +48,31 @@ returns-clause-outcome g c =
 
 pub save_unless_saved-requires : goal.save_unless_saved-requires
 save_unless_saved-requires g c = rw (c.region.ensures.memory, c.sync.ensures.drained) (still_ready _ _ _ _ c.serve_gathered-served.ensures.again.ready (size-drained c.serve_gathered-served.new.volume) (still_attached _))
+
+-- ---- what is left of the files
+
+pub returns-in-Err-clause-files : goal.returns-in-Err-clause-files
+returns-in-Err-clause-files g c = only_opened c.args.name.now (g.F.Files.view c.args.files.now) (g.F.Files.view c.open.new.files) c.open.ensures.attached c.open.ensures.kept
+
+pub returns-in-Err-new-clause-files : goal.returns-in-Err-new-clause-files
+returns-in-Err-new-clause-files g c = only_opened c.args.name.now (g.F.Files.view c.args.files.now) (g.F.Files.view c.open.new.files) c.open.ensures.attached c.open.ensures.kept
+
+pub returns-in_default-clause-files : goal.returns-in_default-clause-files
+returns-in_default-clause-files g c =
+    let keeps = c.serve_gathered-served.ensures.outcome.keeps in
+    only_written c.args.name.now (g.F.Files.view c.args.files.now) (g.F.Files.view c.open.new.files) (g.F.Files.view c.serve_gathered-served.new.files) c.open.ensures.kept c.in-Ok.ensures.opened.3.attached c.in-Ok.ensures.ready.may_write keeps.attached keeps.others
+
+pub returns-in-Ok-save_unless_saved-clause-files : goal.returns-in-Ok-save_unless_saved-clause-files
+returns-in-Ok-save_unless_saved-clause-files g c =
+    let keeps = c.serve_gathered-served.ensures.outcome.keeps in
+    only_saved c.args.name.now (g.F.Files.view c.args.files.now) (g.F.Files.view c.open.new.files) (g.F.Files.view c.serve_gathered-served.new.files) (g.F.Files.view c.save_unless_saved.new.files) c.open.ensures.kept c.in-Ok.ensures.opened.3.attached c.in-Ok.ensures.ready.may_write
+    keeps.attached keeps.others c.save_unless_saved.ensures.attached c.save_unless_saved.ensures.others
+
+pub returns-clause-files : goal.returns-clause-files
+returns-clause-files g c =
+    let keeps = c.serve_gathered-served.ensures.outcome.keeps in
+    only_saved c.args.name.now (g.F.Files.view c.args.files.now) (g.F.Files.view c.open.new.files) (g.F.Files.view c.serve_gathered-served.new.files) (g.F.Files.view c.save_unless_saved.new.files) c.open.ensures.kept c.in-Ok.ensures.opened.3.attached c.in-Ok.ensures.ready.may_write
+    keeps.attached keeps.others c.save_unless_saved.ensures.attached c.save_unless_saved.ensures.others
 
 pub of_serving-requires-clause-most : goal.of_serving-requires-clause-most
 of_serving-requires-clause-most g c = (serving_numbers c.serve_gathered-served.result c.serve_gathered-served.ensures.outcome.one_of).0

@@ -25,12 +25,12 @@ module _ (plan : Plan) (from i depth : ℕ) (now : Image) (free : ℕ → Bool) 
       let some : block_on (seen plan now) p ≢ 0 = fresh.0 in
       let low : block_on (seen plan now) p < block_count (seen plan now) = made.stage.skeleton.in_range p live in
       let count : block_count (seen plan now) ≡ block_count plan.old = ap (λ n. n / 512) made.stage.whole in
-      can.exact.dead _ (omega (arith, some)) (rw count at low) fresh.1
+      can.exact.dead _ (omega (arith, some)) (rw count at low) fresh.1 refl
 
   pub still_free : (b : ℕ) → free b ≡ true → plan.free b ≡ true
   still_free b is =
       let range = made.stage.in_range b is in
-      can.exact.dead b range.0 range.1 (λ has. let full : free b ≡ false = made.stage.taken b (inl has) in absurd (cc))
+      can.exact.dead b range.0 range.1 (λ has. let full : free b ≡ false = made.stage.taken b (inl has) in absurd (cc)) refl
 
 module _ (plan : Plan) (from i depth : ℕ) (now : Image) (free : ℕ → Bool) (can : CanMake plan from) (here : i < ways plan.job) (low : from ≤ depth) (high : depth ≤ length (plan.job.way i))
     (made : IsMade plan from i depth now free) where

@@ -1,5 +1,7 @@
 -- The limits of the format, of calls, of scripts and of the programs.
-use Rattle.std.specs.Prelude.{ℕ}
+use Rattle.std.specs.Prelude.{ℕ, ◌==◌, Bool, true, false, if◌then◌else◌}
+use Rattle.bp_limits.specs.declared.version.Version.{Version}
+use Rattle.bp_limits.specs.declared.version.Version.TheVariants.{One, Two}
 
 -- ---- words and blocks
 
@@ -15,13 +17,22 @@ abbrev pub min_blocks : ℕ
 min_blocks = 8
 
 abbrev pub max_blocks : ℕ
-max_blocks = 16384
+max_blocks = 65536
 
 -- ---- the superblock
 
--- the bytes `BPFSRS01`
-abbrev pub magic : ℕ
-magic = 0x3130535253465042
+-- the mark of a version, word 0 of its images: the bytes `BPFSRS01` and `BPFSRS02`
+abbrev pub magic : Version → ℕ
+magic One = 0x3130535253465042
+magic Two = 0x3230535253465042
+
+-- the version that a word 0 marks, the first one where it is the mark of none
+abbrev pub version_at : ℕ → Version
+version_at word = if word == magic Two then Two else One
+
+abbrev pub is_two : Version → Bool
+is_two One = false
+is_two Two = true
 
 -- where the mark stands, the number of blocks, and the root word and the size of the inode file
 abbrev pub super_magic : ℕ
@@ -35,6 +46,13 @@ super_root = 2
 
 abbrev pub super_size : ℕ
 super_size = 3
+
+-- where version 2 has place for the root word and the size of a second inode file
+abbrev pub super_second_root : ℕ
+super_second_root = 4
+
+abbrev pub super_second_size : ℕ
+super_second_size = 5
 
 -- ---- inodes and directories
 
@@ -71,13 +89,21 @@ block_entries = 16
 
 -- ---- trees
 
--- the greatest height of a tree
+-- the greatest height of a tree, in images of any version and of each
 abbrev pub max_height : ℕ
-max_height = 3
+max_height = 5
+
+abbrev pub greatest_height : Version → ℕ
+greatest_height One = 3
+greatest_height Two = max_height
 
 -- the greatest size of a file, a directory and the inode file, in bytes: what a tree of the greatest height covers
 abbrev pub max_size : ℕ
-max_size = 549755813888
+max_size = 144115188075855872
+
+abbrev pub greatest_size : Version → ℕ
+greatest_size One = 549755813888
+greatest_size Two = max_size
 
 -- ---- names and calls
 
@@ -88,22 +114,31 @@ max_name = 240
 abbrev pub max_path : ℕ
 max_path = 4096
 
--- the most bytes that one call reads, and that one writes
+-- the most bytes that one call reads
 abbrev pub max_read : ℕ
 max_read = 65536
 
+-- the most bytes that one call writes, in images of any version and of each
 abbrev pub max_write : ℕ
-max_write = 65536
+max_write = 1048576
+
+abbrev pub greatest_write : Version → ℕ
+greatest_write One = 65536
+greatest_write Two = max_write
+
+-- the most bytes that the pieces of a batch have in all
+abbrev pub max_batch : ℕ
+max_batch = 65536
 
 -- the room in the log below which a call drains first, in events
 abbrev pub call_room : ℕ
-call_room = 65536
+call_room = 262144
 
 -- ---- scripts and programs
 
 -- the longest line of a script, without its newline, and of a reply, with it
 abbrev pub max_line : ℕ
-max_line = 140000
+max_line = 2200000
 
 abbrev pub max_text : ℕ
 max_text = 140000
@@ -114,11 +149,11 @@ max_input = 1073741824
 
 -- the events that the log of a program's region can take
 abbrev pub log_events : ℕ
-log_events = 131072
+log_events = 524288
 
 -- the most places of the mask that a script's line spells
 abbrev pub max_mask : ℕ
-max_mask = 560000
+max_mask = 8800000
 
 -- the most turns of a play
 abbrev pub max_turns : ℕ

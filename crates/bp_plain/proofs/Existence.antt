@@ -6,10 +6,11 @@ use Rattle.std.specs.FinMap.{from_entries, get-from_entries}
 use Rattle.std.specs.FinMap.Entries.{find}
 use Rattle.std.specs.Ordering.{eq_by_cmp}
 use Rattle.bp_layout.specs.Words.{Image}
+use Rattle.bp_layout.specs.Formatted.{version_of}
 use Rattle.bp_layout.specs.Lookup.{Path, Node, lookup, shown}
 use Rattle.bp_layout.specs.WellFormed.{IsWellFormed}
 use Rattle.bp_layout.proofs.Existence.{Has, all_paths, has_all}
-use Rattle.bp_plain.specs.PlainTree.{FileTree, path_cmp}
+use Rattle.bp_plain.specs.PlainTree.{Files, FileTree, path_cmp}
 use Rattle.bp_plain.specs.Stands.{Stands}
 use Rattle.bp_plain.proofs.Uniqueness.{path_cmp-IsTotalOrder, same_path_from, other_path_from}
 
@@ -51,13 +52,16 @@ module _ (image : Image) (wf : IsWellFormed image) where
       go rest None at (inr later) = rw at (rest later)
       go rest (Some other) at which = rw at (at_entry rest other at which (eq_by_cmp path_cmp q p) refl)
 
+  files_of : Files
+  files_of = from_entries (entries_of (all_paths image wf))
+
   pub tree_of : FileTree
-  tree_of = from_entries (entries_of (all_paths image wf))
+  tree_of = record { version = version_of image; files = files_of }
 
   -- the tree for which the image stands
   pub stands_for : Stands image tree_of
-  unfolding tree_of
-  stands_for = record { well_formed = wf; shows = λ path. get-from_entries path_cmp-IsTotalOrder (entries_of (all_paths image wf)) path ∙ go path (shown image path) refl (find path_cmp path (entries_of (all_paths image wf))) refl }
+  unfolding tree_of files_of
+  stands_for = record { well_formed = wf; version = refl; shows = λ path. get-from_entries path_cmp-IsTotalOrder (entries_of (all_paths image wf)) path ∙ go path (shown image path) refl (find path_cmp path (entries_of (all_paths image wf))) refl }
     where
       has_shown : (path : Path) (node : Node) → shown image path ≡ Some node → (found : Option ℕ) → lookup image path ≡ found → Has (all_paths image wf) path
       has_shown path node e None at = let none : ◌≡◌ {A = Option Node} None (Some node) = rw at at e in absurd (cc)

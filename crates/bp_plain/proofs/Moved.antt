@@ -8,7 +8,7 @@ use Rattle.std.specs.Ordering.{eq_by_cmp}
 use Rattle.std.specs.Cmp.{eq_by_cmp_equiv}
 use Rattle.bp_layout.specs.Directory.{Name}
 use Rattle.bp_layout.specs.Lookup.{Path, Node}
-use Rattle.bp_plain.specs.PlainTree.{FileTree, path_cmp}
+use Rattle.bp_plain.specs.PlainTree.{Nodes, path_cmp}
 use Rattle.bp_layout.specs.Below.{same_path, rest_below}
 use Rattle.bp_layout.proofs.Below.{rest_below-append, rest_below-is, same_path-self, same_path-is, path_case}
 use Rattle.bp_plain.specs.Plain.{moved, moved_entry, moved_path}
@@ -121,7 +121,7 @@ module _ (p q : Path) (can : CanMove p q) where
           same_test false here = rw (at, new, here) rest
 
 -- what the tree has at a path after the rename
-abbrev pub after_move : Path → Path → FileTree → Path → Option Node
+abbrev pub after_move : Path → Path → Nodes → Path → Option Node
 after_move p q tree path = below_target (rest_below q path) (rest_below p path)
   where
     below_target : Option Path → Option Path → Option Node
@@ -129,7 +129,7 @@ after_move p q tree path = below_target (rest_below q path) (rest_below p path)
     below_target None (Some rest) = None
     below_target None None = get tree path
 
-pub get-moved : (p q : Path) (tree : FileTree) → rest_below p q ≡ None → ((n : Name) (s : Path) → get tree (q ++ n ∷ s) ≡ None) → (path : Path) →
+pub get-moved : (p q : Path) (tree : Nodes) → rest_below p q ≡ None → ((n : Name) (s : Path) → get tree (q ++ n ∷ s) ≡ None) → (path : Path) →
     get (moved p q tree) path ≡ after_move p q tree path
 get-moved p q tree apart none path = get-from_entries path_cmp-IsTotalOrder (filter_map (moved_entry p q) (entries tree)) path ∙ go (rest_below q path) refl (rest_below p path) refl
   where

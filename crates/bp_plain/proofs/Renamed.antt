@@ -10,7 +10,7 @@ use Rattle.bp_layout.specs.Below.{same_path, rest_below}
 use Rattle.bp_layout.specs.Lookup.{Path, Node}
 use Rattle.bp_plain.specs.declared.trees.Node.{Node as Kept}
 use Rattle.bp_plain.specs.Plain.{moved_entry}
-use Rattle.bp_plain.specs.PlainTree.{FileTree, path_cmp}
+use Rattle.bp_plain.specs.PlainTree.{Files, path_cmp}
 use Rattle.bp_plain.specs.SeenTree.{entry_kept, names_of, with_moved}
 use Rattle.bp_plain.proofs.PathLaws.{same_name}
 
@@ -47,11 +47,11 @@ name_added before after names i name copy old low is more same so_far =
 -- ---- entries
 
 -- the last one first, so that of two at one path the first stays
-abbrev pub all_moved : Path → Path → List (Path × Node) → FileTree → FileTree
+abbrev pub all_moved : Path → Path → List (Path × Node) → Files → Files
 all_moved p q [] tree = tree
 all_moved p q (entry ∷ es) tree = with_moved p q entry (all_moved p q es tree)
 
-pub all_moved-last : (p q : Path) (es : List (Path × Node)) (entry : Path × Node) (tree : FileTree) → all_moved p q (es ++ entry ∷ []) tree ≡ all_moved p q es (with_moved p q entry tree)
+pub all_moved-last : (p q : Path) (es : List (Path × Node)) (entry : Path × Node) (tree : Files) → all_moved p q (es ++ entry ∷ []) tree ≡ all_moved p q es (with_moved p q entry tree)
 all_moved-last p q [] entry tree = refl
 all_moved-last p q (e ∷ es) entry tree = ap (with_moved p q e) (all_moved-last p q es entry tree)
 
@@ -65,7 +65,7 @@ all_moved-is p q (e ∷ es) = go (same_path e.0 q) refl (all_moved-is p q es)
     go false at rest = rw (at, rest) refl
 
 -- a further entry from the back
-pub moved_more : (p q : Path) (entry : Vec (ArrayVec ℕ) × Kept) (rest left : List (Vec (ArrayVec ℕ) × Kept)) (before after whole : FileTree) →
+pub moved_more : (p q : Path) (entry : Vec (ArrayVec ℕ) × Kept) (rest left : List (Vec (ArrayVec ℕ) × Kept)) (before after whole : Files) →
     left ≡ rest ++ entry ∷ [] → after ≡ with_moved p q (entry_kept entry) before →
     all_moved p q (map entry_kept left) before ≡ whole → all_moved p q (map entry_kept rest) after ≡ whole
 moved_more p q entry rest left before after whole is made so_far =

@@ -3,6 +3,7 @@ pub mod Stands
 pub mod Calls
 pub mod Refusals
 pub mod Plain
+pub mod Export
 pub mod Seen
 pub mod ReplyView
 pub mod SeenAnswers

@@ -7,6 +7,8 @@ ghost use Rattle.bp_plain.specs.PlainTree.{FileTree, IsFileTree, empty_tree};
 ghost use Rattle.bp_plain.specs.Stands.{Stands, StandsForOne};
 ghost use Rattle.std.specs.Prelude.{◌*◌, ◌≡◌, ◌≤◌, length};
 
+use bp_limits::Version;
+
 /// A well-formed image stands for exactly one plain tree.
 pub fn one_tree(_image: &[u64])
     requires { IsWellFormed _image.now }
@@ -18,10 +20,10 @@ pub fn file_tree(_image: &[u64])
     ensures { (tree : FileTree) → Stands _image.now tree → IsFileTree tree }
 {}
 
-/// After the stores of a format over any words, an image of so many blocks stands for the root directory alone.
-pub fn format_is_empty(_image: &[u64], _blocks: u64)
+/// After the stores of a format over any words, an image of so many blocks stands for the root directory alone, in its version.
+pub fn format_is_empty(_image: &[u64], _version: Version, _blocks: u64)
     requires whole { length _image.now ≡ 512 * _blocks }
     requires least { min_blocks ≤ _blocks }
     requires most { _blocks ≤ max_blocks }
-    ensures { Stands (formatted _image.now _blocks) empty_tree }
+    ensures { Stands (formatted _image.now _version _blocks) (empty_tree _version) }
 {}

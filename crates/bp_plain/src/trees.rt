@@ -2,15 +2,16 @@
 
 ghost use Rattle.bp_layout.specs.Below.{rest_below};
 ghost use Rattle.bp_layout.specs.Listing.{listed};
-ghost use Rattle.bp_limits.specs.Limits.{max_read, max_size};
+ghost use Rattle.bp_limits.specs.Limits.{greatest_size, max_read, max_size};
+ghost use Rattle.bp_limits.specs.Numbers.{version_numbered};
 ghost use Rattle.bp_plain.specs.Calls.Answer.{bytes, done};
-ghost use Rattle.bp_plain.specs.Calls.Call.{create, list, read, rmdir, stat, truncate, unlink, write};
+ghost use Rattle.bp_plain.specs.Calls.Call.{create, list, read, rmdir, stat, truncate, unlink, upgrade, write};
 ghost use Rattle.bp_plain.specs.Plain as plain;
 ghost use Rattle.bp_plain.specs.Plain.{is_dir_at, listing, with_node, with_nothing_at};
-ghost use Rattle.bp_plain.specs.PlainTree.{empty_tree};
+ghost use Rattle.bp_plain.specs.PlainTree.{empty_tree, root_alone};
 ghost use Rattle.bp_plain.specs.Seen.{IsShortCall, call_of, refusal_of};
 ghost use Rattle.bp_plain.specs.SeenTree.{carried_out, names_of, node_seen};
-ghost use Rattle.std.specs.FinMap.{get};
+ghost use Rattle.std.specs.FinMap.{get, insert, remove};
 ghost use Rattle.std.specs.Prelude.{IfOk, None, OnErr, OnOk, [], ◌&&◌, ◌+◌, ◌++◌, ◌<◌, ◌^◌, ◌∷◌, ◌≡◌, ◌≤◌, drop, is_some, length, map, nat_lt, option_map, take};
 
 mod moves;
@@ -20,7 +21,7 @@ use crate::errors::FsError;
 use crate::paths::{first, parent_of, parse, path_of, when};
 use crate::replies::Reply;
 use bp_layout::{Kind, Listing, Name};
-use bp_limits::{MAX_SIZE, MAX_WRITE};
+use bp_limits::Version;
 use std::alloc::{AllocError, Global};
 use std::collections::BTreeMap;
 use std::marker::Model;
@@ -32,10 +33,32 @@ enum Node {
     File(Vec<u8>),
 }
 
-/// A file tree, with what stands at each path.
+/// What stands at each path.
+#[derive(Drop)]
+struct Files {
+    nodes: BTreeMap<Vec<Name>, Node>,
+}
+
+impl Model for Files {
+    ghost use Rattle.bp_plain.specs.PlainTree.{Files as PlainFiles};
+    ghost use Rattle.bp_plain.specs.TreeCode.{files_code};
+
+    ghost Value = { PlainFiles };
+
+    ghost coded = { files_code };
+
+    ghost use Rattle.bp_plain.specs.SeenTree.{AreInOrder, files_seen};
+
+    ghost view = { files_seen };
+
+    ghost invariant = { AreInOrder };
+}
+
+/// A file tree: its version, with what stands at each path.
 #[derive(Drop)]
 pub struct Plain {
-    nodes: BTreeMap<Vec<Name>, Node>,
+    version: Version,
+    files: Files,
 }
 
 impl Model for Plain {
@@ -46,21 +69,36 @@ impl Model for Plain {
 
     ghost coded = { tree_code };
 
-    ghost use Rattle.bp_plain.specs.SeenTree.{AreInOrder, tree_seen};
+    ghost use Rattle.bp_plain.specs.SeenTree.{tree_seen};
 
     ghost view = { tree_seen };
-
-    ghost invariant = { AreInOrder };
 }
 
 impl Plain {
-    /// The root directory alone.
-    pub fn new(alloc: Global) -> Result<Plain, AllocError>
-        ensures { IfOk result (λ tree. tree ≡ empty_tree) }
+    /// The root directory alone, in a version.
+    pub fn of(alloc: Global, version: u8) -> Result<Plain, AllocError>
+        requires least { 1 ≤ version }
+        requires most { version ≤ 2 }
+        ensures { IfOk result (λ tree. tree ≡ empty_tree (version_numbered version)) }
     {
-        let mut nodes = BTreeMap::new(alloc);
-        nodes.insert(Vec::new(alloc), Node::Dir)?;
-        Ok(Plain { nodes })
+        Ok(Plain {
+            version: Version::numbered(version),
+            files: Files::root_alone(alloc)?,
+        })
+    }
+
+    /// Its version.
+    fn version(&self) -> Version
+        ensures { result ≡ self.now.version }
+    {
+        self.version
+    }
+
+    /// What stands at each path.
+    fn files(&self) -> &Files
+        ensures { result.now ≡ self.now.files }
+    {
+        &self.files
     }
 
     /// Does a call, and puts its answer into the reply. A read asks for at most 65,536 bytes.
@@ -102,6 +140,7 @@ impl Plain {
             Call::Write { path, off, bytes } => self.refuses_write(alloc, path, off, bytes),
             Call::Truncate { path, size } => self.refuses_truncate(alloc, path, size),
             Call::Rename { from, to } => self.refuses_rename(alloc, from, to),
+            Call::Upgrade => Ok(None),
         }
     }
 
@@ -113,8 +152,8 @@ impl Plain {
             None => Ok(Some(FsError::BadPath)),
             Some(path) => Ok(first(&[
                 when(path.is_empty(), FsError::Exists),
-                self.walk_parent(&path),
-                when(self.has(&path), FsError::Exists),
+                self.files().walk_parent(&path),
+                when(self.files().has(&path), FsError::Exists),
             ])),
         }
     }
@@ -126,8 +165,8 @@ impl Plain {
             None => Ok(Some(FsError::BadPath)),
             Some(path) => Ok(first(&[
                 when(path.is_empty(), FsError::IsDir),
-                self.walk(&path),
-                when(self.is_dir(&path), FsError::IsDir),
+                self.files().walk(&path),
+                when(self.files().is_dir(&path), FsError::IsDir),
             ])),
         }
     }
@@ -135,14 +174,15 @@ impl Plain {
     fn refuses_rmdir(&self, alloc: Global, text: &[u8]) -> Result<Option<FsError>, AllocError>
         ensures { IfOk result (λ found. option_map refusal_of found ≡ plain.refusal self.now (rmdir text.now)) }
     {
+        let files = self.files();
         match parse(alloc, text)? {
             None => Ok(Some(FsError::BadPath)),
             Some(path) => {
-                let is_empty = self.is_empty_dir(alloc, &path)?;
+                let is_empty = files.is_empty_dir(alloc, &path)?;
                 Ok(first(&[
                     when(path.is_empty(), FsError::IsRoot),
-                    self.walk(&path),
-                    when(!self.is_dir(&path), FsError::NotDir),
+                    files.walk(&path),
+                    when(!files.is_dir(&path), FsError::NotDir),
                     when(!is_empty, FsError::NotEmpty),
                 ]))
             }
@@ -155,8 +195,8 @@ impl Plain {
         match parse(alloc, text)? {
             None => Ok(Some(FsError::BadPath)),
             Some(path) => Ok(first(&[
-                self.walk(&path),
-                when(!self.is_dir(&path), FsError::NotDir),
+                self.files().walk(&path),
+                when(!self.files().is_dir(&path), FsError::NotDir),
             ])),
         }
     }
@@ -166,7 +206,7 @@ impl Plain {
     {
         match parse(alloc, text)? {
             None => Ok(Some(FsError::BadPath)),
-            Some(path) => Ok(self.walk(&path)),
+            Some(path) => Ok(self.files().walk(&path)),
         }
     }
 
@@ -182,7 +222,10 @@ impl Plain {
     {
         match parse(alloc, text)? {
             None => Ok(Some(FsError::BadPath)),
-            Some(path) => Ok(first(&[self.walk(&path), when(self.is_dir(&path), FsError::IsDir)])),
+            Some(path) => Ok(first(&[
+                self.files().walk(&path),
+                when(self.files().is_dir(&path), FsError::IsDir),
+            ])),
         }
     }
 
@@ -199,10 +242,13 @@ impl Plain {
         match parse(alloc, text)? {
             None => Ok(Some(FsError::BadPath)),
             Some(path) => Ok(first(&[
-                when(new.len() > MAX_WRITE, FsError::TooLong),
-                self.walk(&path),
-                when(self.is_dir(&path), FsError::IsDir),
-                when(ends_too_late(off, new), FsError::TooBig),
+                when(
+                    new.len() > self.version().greatest_write(),
+                    FsError::TooLong,
+                ),
+                self.files().walk(&path),
+                when(self.files().is_dir(&path), FsError::IsDir),
+                when(ends_too_late(self.version(), off, new), FsError::TooBig),
             ])),
         }
     }
@@ -218,36 +264,11 @@ impl Plain {
         match parse(alloc, text)? {
             None => Ok(Some(FsError::BadPath)),
             Some(path) => Ok(first(&[
-                self.walk(&path),
-                when(self.is_dir(&path), FsError::IsDir),
-                when(size > MAX_SIZE, FsError::TooBig),
+                self.files().walk(&path),
+                when(self.files().is_dir(&path), FsError::IsDir),
+                when(size > self.version().greatest_size(), FsError::TooBig),
             ])),
         }
-    }
-
-    /// The first name on the way that is sought in a file, or is missing.
-    fn walk(&self, path: &[Name]) -> Option<FsError>
-        ensures { option_map refusal_of result ≡ plain.walk self.now (names_of path.now) }
-    {
-        for depth in 0..path.len() {
-            if !self.is_dir(&path[..depth]) {
-                return Some(FsError::NotDir);
-            }
-            if !self.has(&path[..depth + 1]) {
-                return Some(FsError::NotFound);
-            }
-        }
-        None
-    }
-
-    fn walk_parent(&self, path: &[Name]) -> Option<FsError>
-        ensures { option_map refusal_of result ≡ plain.walk_parent self.now (names_of path.now) }
-    {
-        let parent = parent_of(path);
-        first(&[
-            self.walk(parent),
-            when(!self.is_dir(parent), FsError::NotDir),
-        ])
     }
 
     // ---- what a call makes and answers, where it is not refused
@@ -273,6 +294,7 @@ impl Plain {
             Call::Write { path, off, bytes } => self.write(alloc, path, off, bytes, reply),
             Call::Truncate { path, size } => self.truncate(alloc, path, size, reply),
             Call::Rename { from, to } => self.rename(alloc, from, to, reply),
+            Call::Upgrade => self.upgrade(reply),
         }
     }
 
@@ -310,7 +332,7 @@ impl Plain {
         ensures { OnOk result ((reply.new.answer, self.now) ≡ carried_out self.now (list text.now)) }
     {
         let path = path_of(alloc, text)?;
-        let names = self.names(alloc, &path)?;
+        let names = self.files().names(alloc, &path)?;
         reply.set_names(Listing::of(alloc, &names)?);
         Ok(())
     }
@@ -319,9 +341,9 @@ impl Plain {
         ensures { OnOk result ((reply.new.answer, self.now) ≡ carried_out self.now (stat text.now)) }
     {
         let path = path_of(alloc, text)?;
-        match self.node(&path) {
+        match self.files().node(&path) {
             Some(Node::File(content)) => reply.set_file(content.len() as u64),
-            _ => reply.set_dir(self.names(alloc, &path)?.len() as u64),
+            _ => reply.set_dir(self.files().names(alloc, &path)?.len() as u64),
         }
         Ok(())
     }
@@ -338,7 +360,7 @@ impl Plain {
         ensures { OnOk result ((reply.new.answer, self.now) ≡ carried_out self.now (read text.now off len)) }
     {
         let path = path_of(alloc, text)?;
-        answer_bytes(reply, part(self.bytes(&path), off, len));
+        answer_bytes(reply, part(self.files().bytes(&path), off, len));
         Ok(())
     }
 
@@ -356,7 +378,7 @@ impl Plain {
     {
         if !new.is_empty() {
             let path = path_of(alloc, text)?;
-            let content = written(alloc, self.bytes(&path), off as usize, new)?;
+            let content = written(alloc, self.files().bytes(&path), off as usize, new)?;
             self.put(path, Node::File(content))?;
         }
         reply.set_done();
@@ -375,11 +397,20 @@ impl Plain {
         ensures kept { OnErr result (self.new ≡ self.old) }
     {
         let path = path_of(alloc, text)?;
-        let content = self.bytes(&path);
+        let content = self.files().bytes(&path);
         if size != content.len() as u64 {
             let content = resized(alloc, content, size as usize)?;
             self.put(path, Node::File(content))?;
         }
+        reply.set_done();
+        Ok(())
+    }
+
+    fn upgrade(&mut self, reply: &mut Reply) -> Result<(), AllocError>
+        ensures done { OnOk result ((reply.new.answer, self.new) ≡ carried_out self.old upgrade) }
+        ensures kept { OnErr result (self.new ≡ self.old) }
+    {
+        self.version = Version::Two;
         reply.set_done();
         Ok(())
     }
@@ -389,13 +420,64 @@ impl Plain {
         ensures put { OnOk result (self.new ≡ with_node self.old (names_of path.items) (node_seen node)) }
         ensures kept { OnErr result (self.new ≡ self.old) }
     {
+        self.files.put(path, node)
+    }
+
+    /// Nothing stands at the path any more.
+    fn take(&mut self, path: &[Name])
+        ensures { self.new ≡ with_nothing_at self.old (names_of path.now) }
+    {
+        self.files.take(path);
+    }
+}
+
+impl Files {
+    /// The root directory alone.
+    fn root_alone(alloc: Global) -> Result<Files, AllocError>
+        ensures { IfOk result (λ files. files ≡ root_alone) }
+    {
+        let mut nodes = BTreeMap::new(alloc);
+        nodes.insert(Vec::new(alloc), Node::Dir)?;
+        Ok(Files { nodes })
+    }
+
+    /// The first name on the way that is sought in a file, or is missing.
+    fn walk(&self, path: &[Name]) -> Option<FsError>
+        ensures { option_map refusal_of result ≡ plain.walk self.now (names_of path.now) }
+    {
+        for depth in 0..path.len() {
+            if !self.is_dir(&path[..depth]) {
+                return Some(FsError::NotDir);
+            }
+            if !self.has(&path[..depth + 1]) {
+                return Some(FsError::NotFound);
+            }
+        }
+        None
+    }
+
+    fn walk_parent(&self, path: &[Name]) -> Option<FsError>
+        ensures { option_map refusal_of result ≡ plain.walk_parent self.now (names_of path.now) }
+    {
+        let parent = parent_of(path);
+        first(&[
+            self.walk(parent),
+            when(!self.is_dir(parent), FsError::NotDir),
+        ])
+    }
+
+    /// This node stands at the path, whatever stood there.
+    fn put(&mut self, path: Vec<Name>, node: Node) -> Result<(), AllocError>
+        ensures put { OnOk result (self.new ≡ insert self.old (names_of path.items) (node_seen node)) }
+        ensures kept { OnErr result (self.new ≡ self.old) }
+    {
         self.nodes.insert(path, node)?;
         Ok(())
     }
 
     /// Nothing stands at the path any more.
     fn take(&mut self, path: &[Name])
-        ensures { self.new ≡ with_nothing_at self.old (names_of path.now) }
+        ensures { self.new ≡ remove self.old (names_of path.now) }
     {
         let _ = self.nodes.remove(path);
     }
@@ -494,10 +576,10 @@ fn part(content: &[u8], off: u64, len: usize) -> &[u8]
 }
 
 /// Whether there are bytes, and they end behind the greatest size.
-fn ends_too_late(off: u64, new: &[u8]) -> bool
-    ensures { result ≡ (nat_lt 0 (length new.now) && nat_lt max_size (off + length new.now)) }
+fn ends_too_late(version: Version, off: u64, new: &[u8]) -> bool
+    ensures { result ≡ (nat_lt 0 (length new.now) && nat_lt (greatest_size version) (off + length new.now)) }
 {
-    !new.is_empty() && u128::from(off) + new.len() as u128 > u128::from(MAX_SIZE)
+    !new.is_empty() && u128::from(off) + new.len() as u128 > u128::from(version.greatest_size())
 }
 
 /// The old bytes with the new ones laid over them, and 0 between.

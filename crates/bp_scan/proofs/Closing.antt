@@ -11,6 +11,7 @@ use Rattle.bp_layout.proofs.ChecksLaws.{found_reached}
 use Rattle.bp_scan.specs.Reading.{IsReading}
 use Rattle.bp_scan.specs.declared.work.Scan.{Scan}
 use Rattle.bp_scan.proofs.Ending.{end_well_formed, end_blocks, end_inodes}
+use Rattle.bp_layout.specs.Thaw.{none_kept}
 
 -- what follows from two clauses of an answer
 pub on_ok_both : {T E : Type 0} {A B C : Type 0} (r : Result T E) → (A → B → C) → OnOk r A → OnOk r B → OnOk r C
@@ -21,7 +22,7 @@ module _ (image : Image) (work : Scan) (reading : IsReading image work 0 0) (non
   pub all_well_formed : IsWellFormed image
   all_well_formed = end_well_formed image work.blocks work.inodes work.todo reading.ready.formatted reading.ready.inode_blocks reading.ready.some_inodes reading.root_kind reading.range reading.midway none
 
-  pub all_free_blocks : AreFreeBlocks image (has work.blocks)
+  pub all_free_blocks : AreFreeBlocks image none_kept (has work.blocks)
   all_free_blocks = end_blocks image work.blocks work.inodes work.todo reading.ready.formatted reading.ready.inode_blocks reading.ready.some_inodes reading.root_kind reading.range reading.midway none
 
   pub all_free_inodes : AreFreeInodes image (has work.inodes)

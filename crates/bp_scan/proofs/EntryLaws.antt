@@ -19,9 +19,9 @@ use Rattle.bp_scan.specs.Room.{HasRoom}
 use Rattle.bp_scan.specs.declared.directories.Directory.{Directory}
 use Rattle.bp_scan.specs.declared.work.Scan.{Scan}
 use Rattle.bp_scan.proofs.ProgressLaws.{empty_step, entered_more}
-use Rattle.bp_scan.proofs.EntryStep.{AddsDirectory, entry_step}
+use Rattle.bp_scan.proofs.EntryStep.{AddsDirectory, again_step, entry_step}
 use Rattle.bp_scan.proofs.InodeFaults.{inode_of}
-use Rattle.bp_scan.proofs.Inside.{first, inodes_few, here_sound, here_full, here_found, too_high, not_new, inode_fails, new_not_to_do}
+use Rattle.bp_scan.proofs.Inside.{first, inodes_few, kind_in, here_sound, here_full, here_found, too_high, not_new, inode_fails, new_not_to_do}
 
 pub along : (P : ℕ → ℕ → Type 0) (a b x y : ℕ) → a ≡ x → b ≡ y → P a b → P x y
 along P a b x y e f h = subst (λ (v : ℕ). P x v) f (subst (λ (u : ℕ). P u b) e h)
@@ -82,8 +82,46 @@ module _ (image : Image) (work : Scan) (directory : Directory) (slot : ℕ) (ins
         pub in_room : j < length work.inodes
         in_room = let few : inode_count image ≤ length work.inodes = inodes_few image work d slot reading in omega (arith, few, low)
 
-        pub fails_again : (p : ℕ) → p ≡ 512 * node image directory.tree.root (height_of directory.tree.root) ((32 * slot + 0) / 512) + (32 * slot + 0) % 512 → has work.inodes j ≡ false → Fails image InodeTwice p
-        fails_again p at gone = not_new image work d slot reading inside.at.entered inside.at.kind j p (entry_names some) (stands p at) low gone
+        pub fails_again : (p : ℕ) → p ≡ 512 * node image directory.tree.root (height_of directory.tree.root) ((32 * slot + 0) / 512) + (32 * slot + 0) % 512 → has work.inodes j ≡ false → kind_of image j ≡ 2 → Fails image InodeTwice p
+        fails_again p at gone kind = not_new image work d slot reading inside.at.entered inside.at.kind j p (entry_names some) (stands p at) low gone kind
+
+        -- an inode that was entered has a kind
+        pub right_kind : has work.inodes j ≡ false → (1 ≤ kind_of image j) × (kind_of image j ≤ 2)
+        right_kind gone = kind_in image work d slot reading j (omega (arith, some)) (low, gone)
+
+        -- a file has one more name
+        pub passes_again : has work.inodes j ≡ false → kind_of image j ≡ 1 → IsInside image work directory (slot + 1)
+        passes_again gone file = record {
+          at = record {
+            reading = record {
+              ready = reading.ready;
+              room = reading.room;
+              range = reading.range;
+              root_kind = reading.root_kind;
+              midway = record {
+                all = reading.midway.all;
+                whole = reading.midway.whole;
+                under_way = again_step image reading.midway.all work.blocks work.inodes work.todo d slot j reading.midway.under_way (entry_names some) (low, gone) two file (names.forms slot (used slot j (entry_names some)))
+                    (λ r k before n same. names.differ slot r (used slot j (entry_names some)) (used r k n) same);
+              };
+            };
+            entered = inside.at.entered;
+            kind = inside.at.kind;
+            out = inside.at.out;
+          };
+          root = inside.root;
+          size = inside.size;
+          names = inside.names;
+        }
+          where
+            no_root : j ≢ 1
+            no_root one = let two : kind_of image j ≡ 2 = ap (kind_of image) one ∙ reading.root_kind in omega (arith, two, file)
+
+            two : 2 ≤ j
+            two = omega (arith, some, no_root)
+
+            used : (r k : ℕ) → EntryNames image d r k → IsUsed image (root_of image d) (size_of image d) r
+            used r k n = record { live = n.in_size; some = λ null. n.not_empty (sym n.inumber ∙ null) }
 
         pub fails_in_inode : has work.inodes j ≡ true → (c : Check) (p : ℕ) → FailsInode image j work.blocks c p → Fails image c p
         fails_in_inode new c p fails =

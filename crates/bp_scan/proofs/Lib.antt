@@ -14,3 +14,4 @@ pub mod Inside
 pub mod EntryLaws
 pub mod DirectoryLaws
 pub mod Closing
+pub mod SecondFile

@@ -23,7 +23,7 @@ same_scan image E F D G all left there back less scanned = record {
   not_root = λ i s j d n. scanned.not_root i s j (less i s j n d) n;
   forms = λ i s j d n. scanned.forms i s j (less i s j n d) n;
   enters = λ i s j d n. there j (scanned.enters i s j (less i s j n d) n);
-  named_once = λ i s k r j d e n m. scanned.named_once i s k r j (less i s j n d) (less k r j m e) n m;
+  named_once = λ i s k r j d e n m kind. scanned.named_once i s k r j (less i s j n d) (less k r j m e) n m kind;
   names_once = λ i s r j k d e n m. scanned.names_once i s r j k (less i s j n d) (less i r k m e) n m;
 }
 

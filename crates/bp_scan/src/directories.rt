@@ -1,7 +1,9 @@
 //! The directories of an image, one after the other.
 
-ghost use Rattle.std.specs.Prelude.{◌≡◌, ◌+◌, ◌*◌, ◌/◌, ◌%◌, ◌<◌, ◌≤◌, min, vec_capacity, OnOk, IfErr};
+ghost use Rattle.std.specs.Prelude.{◌≡◌, ◌≢◌, false, ◌+◌, ◌*◌, ◌/◌, ◌%◌, ◌<◌, ◌≤◌, min, vec_capacity, OnOk, IfErr};
+ghost use Rattle.bp_free.specs.Set.{has};
 ghost use Rattle.bp_layout.specs.Checks.{Fails};
+ghost use Rattle.bp_layout.specs.Inode.{inode_count};
 ghost use Rattle.bp_layout.specs.Directory.{inumber_in};
 ghost use Rattle.bp_layout.specs.Tree.{IsFull, IsSound};
 ghost use Rattle.bp_limits.specs.Limits.{block_entries, entry_size};
@@ -15,7 +17,7 @@ use crate::trees::enter;
 use crate::work::{Scan, make_room};
 use bp_dirs::entry_place;
 use bp_inodes::{get, inode_file};
-use bp_layout::Check;
+use bp_layout::{Check, Kind};
 use bp_limits::{BLOCK_ENTRIES, ENTRY_SIZE, ENTRY_WORDS, INODE_SIZE};
 use bp_spelling::{NameFault, Spelled, check_names, named_in_row};
 use bp_tree::Tree;
@@ -40,6 +42,32 @@ pub(crate) struct Slot {
     pub place: u32,
     /// The number of the inode that it names, 0 where it is empty.
     pub named: u64,
+}
+
+/// Checks an entry that names an inode which was entered before: a file may have more names than one.
+fn read_again<R: Region>(
+    region: &R,
+    directory: Directory,
+    slot: Slot,
+    work: &Scan,
+) -> Result<(), CheckFault>
+    requires inside { IsInside (current_words (R.memory region.now)) work.now directory slot.number }
+    requires live { slot.number < directory.tree.size / entry_size }
+    requires place { slot.place ≡ entry_place_in (current_words (R.memory region.now)) directory.tree.root slot.number }
+    requires named { slot.named ≡ inumber_in (current_words (R.memory region.now)) directory.tree.root slot.number }
+    requires some { slot.named ≢ 0 }
+    requires there { slot.named < inode_count (current_words (R.memory region.now)) }
+    requires entered { has work.now.inodes slot.named ≡ false }
+    ensures inside { OnOk result (IsInside (current_words (R.memory region.now)) work.now directory (slot.number + 1)) }
+    ensures fault { IfErr result (λ f. Fails (current_words (R.memory region.now)) f.check f.place) }
+{
+    match get(region, slot.named as u32).kind {
+        Kind::File => Ok(()),
+        Kind::Dir => Err(CheckFault {
+            check: Check::InodeTwice,
+            place: slot.place,
+        }),
+    }
 }
 
 /// Reads an entry, and enters the inode that it names.
@@ -71,10 +99,7 @@ fn read_entry<R: Region>(
     }
     let inode = named as u32;
     if !work.inodes.is_free(inode) {
-        return Err(CheckFault {
-            check: Check::InodeTwice,
-            place,
-        });
+        return read_again(region, directory, slot, work);
     }
     work.inodes.claim(inode);
     enter(region, inode, work)

@@ -7,13 +7,14 @@ ghost use Rattle.bp_layout.specs.Formatted.{IsFormatted};
 ghost use Rattle.bp_layout.specs.Free.{AreFreeBlocks, AreFreeInodes};
 ghost use Rattle.bp_layout.specs.Inode.{inode_count};
 ghost use Rattle.bp_layout.specs.Reached.{IsReached};
-ghost use Rattle.bp_layout.specs.WellFormed.{IsWellFormed};
+ghost use Rattle.bp_layout.specs.Whole.{FailsWhole, IsFileSystem};
 ghost use Rattle.bp_scan.specs.Reading.{IsReading, IsUnread};
 ghost use Rattle.bp_scan.specs.Room.{HasRoom};
 ghost use Rattle.pm_region.specs.Memory.{current_words};
+ghost use Rattle.bp_layout.specs.Thaw.{none_kept};
 
 use crate::directories::read_directory;
-use crate::trees::{enter, enter_inode_file};
+use crate::trees::{check_second, enter, enter_inode_file};
 use crate::work::Scan;
 use bp_inodes::inode_file;
 use bp_limits::INODE_SIZE;
@@ -55,14 +56,15 @@ fn read_directories<R: Region>(region: &R, work: &mut Scan) -> Result<(), CheckF
 pub(crate) fn read_trees<R: Region>(region: &R, work: &mut Scan) -> Result<(), CheckFault>
     requires formatted { IsFormatted (current_words (R.memory region.now)) }
     requires unread { IsUnread (current_words (R.memory region.now)) work.old }
-    ensures well_formed { OnOk result (IsWellFormed (current_words (R.memory region.now))) }
-    ensures blocks { OnOk result (AreFreeBlocks (current_words (R.memory region.now)) (has work.new.blocks)) }
+    ensures well_formed { OnOk result (IsFileSystem (current_words (R.memory region.now))) }
+    ensures blocks { OnOk result (AreFreeBlocks (current_words (R.memory region.now)) none_kept (has work.new.blocks)) }
     ensures inodes { OnOk result (AreFreeInodes (current_words (R.memory region.now)) (has work.new.inodes)) }
     ensures reached { let words = current_words (R.memory region.now) in
         OnOk result ((i : ℕ) → 1 ≤ i → i < inode_count words → has work.new.inodes i ≡ false → IsReached words i) }
-    ensures fault { IfErr result (λ f. Fails (current_words (R.memory region.now)) f.check f.place) }
+    ensures fault { IfErr result (λ f. FailsWhole (current_words (R.memory region.now)) f.check f.place) }
     ensures room { HasRoom (current_words (R.memory region.now)) work.new }
 {
+    check_second(region)?;
     start(region, work)?;
     read_directories(region, work)
 }

@@ -4,13 +4,14 @@ ghost use Rattle.std.specs.Prelude.{◌≡◌, ◌*◌, ◌≤◌, ◌↔◌, le
 ghost use Rattle.bp_free.specs.Set.{has, empty};
 ghost use Rattle.bp_layout.specs.Formatted.{IsFormatted, IsSized};
 ghost use Rattle.bp_layout.specs.Free.{AreFreeBlocks, AreFreeInodes};
-ghost use Rattle.bp_layout.specs.WellFormed.{IsWellFormed};
+ghost use Rattle.bp_layout.specs.Whole.{IsFileSystem};
 ghost use Rattle.bp_layout.specs.Words.{block_count, word};
 ghost use Rattle.bp_limits.specs.Limits.{block_inodes, block_words, super_blocks, super_magic, super_root, super_size};
 ghost use Rattle.bp_scan.specs.Faults.{IsFault};
 ghost use Rattle.bp_scan.specs.Room.{HasRoom};
 ghost use Rattle.bp_scan.specs.Totals.{HasTotals};
 ghost use Rattle.pm_region.specs.Memory.{current_words};
+ghost use Rattle.bp_layout.specs.Thaw.{none_kept};
 
 use crate::fault::MountFault;
 use crate::pending::Pending;
@@ -21,7 +22,7 @@ use crate::work::Scan;
 use bp_free::{Blocks, Inodes};
 use bp_layout::Super;
 use bp_limits::{
-    BLOCK_SIZE, BLOCK_WORDS, MAGIC, SUPER_BLOCKS, SUPER_MAGIC, SUPER_ROOT, SUPER_SIZE,
+    BLOCK_SIZE, BLOCK_WORDS, SUPER_BLOCKS, SUPER_MAGIC, SUPER_ROOT, SUPER_SIZE, Version,
 };
 use pm_region::Region;
 use std::mem;
@@ -42,11 +43,11 @@ fn read_superblock<R: Region>(region: &R) -> Super
     ])
 }
 
-/// Whether an image begins with the mark of a format, and was formatted for the blocks that it has.
+/// Whether an image begins with the mark of a version, and was formatted for the blocks that it has.
 ///
 /// # Errors
 ///
-/// `NotFormatted` exactly where word 0 is not the mark; `BadSize` exactly where it is, and word 1 is not the number of
+/// `NotFormatted` exactly where word 0 is the mark of none; `BadSize` exactly where it is, and word 1 is not the number of
 /// blocks.
 fn check_superblock<R: Region>(region: &R) -> Result<(), MountFault>
     requires sized { IsSized (current_words (R.memory region.now)) }
@@ -54,7 +55,8 @@ fn check_superblock<R: Region>(region: &R) -> Result<(), MountFault>
     ensures fault { IfErr result (IsFault (current_words (R.memory region.now))) }
 {
     let superblock = read_superblock(region);
-    if superblock.magic != MAGIC {
+    let mark = Version::at(superblock.magic).magic();
+    if superblock.magic != mark {
         return Err(MountFault::NotFormatted);
     }
     let blocks = u64::from(region.words() / BLOCK_WORDS);
@@ -71,8 +73,8 @@ fn check_superblock<R: Region>(region: &R) -> Result<(), MountFault>
 fn scan_with<R: Region>(region: &R, work: &mut Scan) -> Result<Totals, MountFault>
     requires sized { IsSized (current_words (R.memory region.now)) }
     requires room { HasRoom (current_words (R.memory region.now)) work.old }
-    ensures well_formed { IsOk result ↔ IsWellFormed (current_words (R.memory region.now)) }
-    ensures blocks { OnOk result (AreFreeBlocks (current_words (R.memory region.now)) (has work.new.blocks)) }
+    ensures well_formed { IsOk result ↔ IsFileSystem (current_words (R.memory region.now)) }
+    ensures blocks { OnOk result (AreFreeBlocks (current_words (R.memory region.now)) none_kept (has work.new.blocks)) }
     ensures inodes { OnOk result (AreFreeInodes (current_words (R.memory region.now)) (has work.new.inodes)) }
     ensures totals { IfOk result (HasTotals (current_words (R.memory region.now))) }
     ensures fault { IfErr result (IsFault (current_words (R.memory region.now))) }
@@ -94,13 +96,13 @@ fn scan_with<R: Region>(region: &R, work: &mut Scan) -> Result<Totals, MountFaul
     }
 }
 
-/// Reads the whole image in a region of 8 to 16,384 blocks of 512 words: puts the free blocks and the free inodes into
+/// Reads the whole image in a region of 8 to 65,536 blocks of 512 words: puts the free blocks and the free inodes into
 /// the sets, whatever they had, and tells what the image holds in all. It takes time linear in the words that are in
 /// use but for the sort of each directory's names.
 ///
 /// # Errors
 ///
-/// `NotFormatted` exactly where word 0 is not the mark of a format; `BadSize` exactly where it is, and word 1 is not the
+/// `NotFormatted` exactly where word 0 is the mark of no version; `BadSize` exactly where it is, and word 1 is not the
 /// number of blocks; `Damaged` exactly where both are right and a check of the format fails, with one that fails and
 /// where. The sets are then empty. It is never `Memory`.
 pub fn scan<R: Region>(
@@ -113,8 +115,8 @@ pub fn scan<R: Region>(
     requires blocks { length blocks.old ≡ block_count (current_words (R.memory region.now)) }
     requires inodes { length inodes.old ≡ block_inodes * block_count (current_words (R.memory region.now)) }
     requires pending { pending.old ≡ block_inodes * block_count (current_words (R.memory region.now)) }
-    ensures well_formed { IsOk result ↔ IsWellFormed (current_words (R.memory region.now)) }
-    ensures blocks { OnOk result (AreFreeBlocks (current_words (R.memory region.now)) (has blocks.new)) }
+    ensures well_formed { IsOk result ↔ IsFileSystem (current_words (R.memory region.now)) }
+    ensures blocks { OnOk result (AreFreeBlocks (current_words (R.memory region.now)) none_kept (has blocks.new)) }
     ensures inodes { OnOk result (AreFreeInodes (current_words (R.memory region.now)) (has inodes.new)) }
     ensures totals { IfOk result (HasTotals (current_words (R.memory region.now))) }
     ensures fault { IfErr result (IsFault (current_words (R.memory region.now))) }

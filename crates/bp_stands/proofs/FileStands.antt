@@ -11,6 +11,7 @@ use Rattle.bp_layout.specs.Lookup.Node.{file}
 use Rattle.bp_layout.specs.WellFormed.{IsWellFormed}
 use Rattle.bp_layout.proofs.Paths.{path_once}
 use Rattle.bp_changes.specs.Effects.{ChangesFile}
+use Rattle.bp_changes.proofs.Formatted.{version_stays}
 use Rattle.bp_changes.proofs.ChangesFile.{well_formed-same, shown_file, shown_other}
 use Rattle.bp_plain.specs.Plain.{with_bytes}
 use Rattle.bp_plain.specs.PlainTree.{FileTree, path_cmp}
@@ -23,10 +24,11 @@ pub file_stands : (old new : Image) (x : ℕ) → IsWellFormed old → ChangesFi
     HasBytesAtEach old x (content new (root_of new x) (size_of new x)) tree after → Stands new after
 file_stands old new x wf changes tree after stands given = record {
   well_formed = well_formed-same old new x wf changes;
+  version = given.version ∙ stands.version ∙ sym (version_stays old new changes.trees.marked);
   shows = λ path. go path (lookup old path) refl;
 }
   where
-    at_inode : (path : Path) (u : ℕ) → lookup old path ≡ Some u → (u ≡ x) ⊎ (u ≡ x → ⊥) → get after path ≡ shown new path
+    at_inode : (path : Path) (u : ℕ) → lookup old path ≡ Some u → (u ≡ x) ⊎ (u ≡ x → ⊥) → get after.files path ≡ shown new path
     at_inode path u found (inl e) =
         let there : lookup old path ≡ Some x = subst (λ v. lookup old path ≡ Some v) e found in
         given.there path there ∙ sym (shown_file old new x wf changes path there)
@@ -37,7 +39,7 @@ file_stands old new x wf changes tree after stands given = record {
         some_once : (a b : ℕ) → ◌≡◌ {A = Option ℕ} (Some a) (Some b) → a ≡ b
         some_once a b e = cc
 
-    go : (path : Path) (found : Option ℕ) → lookup old path ≡ found → get after path ≡ shown new path
+    go : (path : Path) (found : Option ℕ) → lookup old path ≡ found → get after.files path ≡ shown new path
     go path None e =
         let elsewhere : lookup old path ≡ Some x → ⊥ = λ here. none_some x (sym e ∙ here) in
         given.elsewhere path elsewhere ∙ stands.shows path ∙ sym (shown_other old new x wf changes path elsewhere)
@@ -50,17 +52,18 @@ file_stands old new x wf changes tree after stands given = record {
 pub one_path : (old : Image) (x : ℕ) (bytes : List ℕ) → IsWellFormed old → (tree : FileTree) (path : Path) → lookup old path ≡ Some x →
     HasBytesAtEach old x bytes tree (with_bytes tree path bytes)
 one_path old x bytes wf tree path at = record {
+  version = refl;
   there = λ other found. there other (path_once old wf other path x found at);
   elsewhere = λ other apart. go other apart (eq_by_cmp path_cmp other path) refl;
 }
   where
-    there : (other : Path) → other ≡ path → get (with_bytes tree path bytes) other ≡ Some (file bytes)
+    there : (other : Path) → other ≡ path → get (with_bytes tree path bytes).files other ≡ Some (file bytes)
     there other same = by_test (eq_by_cmp path_cmp other path) refl
       where
-        by_test : (b : Bool) → eq_by_cmp path_cmp other path ≡ b → get (with_bytes tree path bytes) other ≡ Some (file bytes)
-        by_test true e = get-insert path_cmp-IsTotalOrder tree path (file bytes) other ∙ rw e refl
+        by_test : (b : Bool) → eq_by_cmp path_cmp other path ≡ b → get (with_bytes tree path bytes).files other ≡ Some (file bytes)
+        by_test true e = get-insert path_cmp-IsTotalOrder tree.files path (file bytes) other ∙ rw e refl
         by_test false e = absurd (other_path_from other path e same)
 
-    go : (other : Path) → (lookup old other ≡ Some x → ⊥) → (b : Bool) → eq_by_cmp path_cmp other path ≡ b → get (with_bytes tree path bytes) other ≡ get tree other
+    go : (other : Path) → (lookup old other ≡ Some x → ⊥) → (b : Bool) → eq_by_cmp path_cmp other path ≡ b → get (with_bytes tree path bytes).files other ≡ get tree.files other
     go other apart true e = absurd (apart (subst (λ p. lookup old p ≡ Some x) (sym (same_path_from other path e)) at))
-    go other apart false e = get-insert path_cmp-IsTotalOrder tree path (file bytes) other ∙ rw e refl
+    go other apart false e = get-insert path_cmp-IsTotalOrder tree.files path (file bytes) other ∙ rw e refl

@@ -1,12 +1,13 @@
 -- The plain tree of an image in which a name has moved, or is spelled anew.
 use Rattle.std.proofs.Common.{◌≡◌, ℕ, [], ◌∷◌, ◌++◌, Option, None, Some, refl, sym, ◌∙◌, ap}
-use Rattle.bp_layout.specs.Words.{Image}
+use Rattle.bp_layout.specs.Words.{Image, word}
 use Rattle.bp_layout.specs.Directory.{Name, name_at}
 use Rattle.bp_layout.specs.Lookup.{Path, lookup, shown}
 use Rattle.bp_layout.specs.WellFormed.{IsWellFormed}
 use Rattle.bp_layout.specs.Below.{rest_below}
 use Rattle.bp_layout.proofs.Below.{rest_below-is}
 use Rattle.bp_changes.specs.Effects.{CanMoveEntry, MovesEntry, RespellsEntry, CarriesEntry}
+use Rattle.bp_changes.proofs.Formatted.{version_stays}
 use Rattle.bp_changes.proofs.Carry.{carry_moves, carried_well_formed}
 use Rattle.bp_changes.proofs.Move.{entry_moves, moved_well_formed}
 use Rattle.bp_changes.proofs.Respell.{respell_moves, respelled_well_formed}
@@ -24,15 +25,16 @@ module _ (old new : Image) (i : ℕ) (was : Name) (k : ℕ) (now : Name) (j : �
   aside = not_below_target old new i was k now j moves from to from_is to_is
 
   -- the tree has what was below the source below the target
-  pub move_stands : (tree : FileTree) → Stands old tree → IsWellFormed new → Stands new (moved (from ++ was ∷ []) (to ++ now ∷ []) tree)
-  move_stands tree stands wf = record {
+  pub move_stands : (tree : FileTree) → Stands old tree → IsWellFormed new → word new 0 ≡ word old 0 → Stands new (moved (from ++ was ∷ []) (to ++ now ∷ []) tree)
+  move_stands tree stands wf marked = record {
     well_formed = wf;
-    shows = λ path. get-moved (from ++ was ∷ []) (to ++ now ∷ []) tree (target_aside old new i was k now j moves from to from_is to_is outside aside) (λ n rest. stands.shows _ ∙ (target_empty old new i was k now j moves from to from_is to_is outside aside) n rest) path
+    version = stands.version ∙ sym (version_stays old new marked);
+    shows = λ path. get-moved (from ++ was ∷ []) (to ++ now ∷ []) tree.files (target_aside old new i was k now j moves from to from_is to_is outside aside) (λ n rest. stands.shows _ ∙ (target_empty old new i was k now j moves from to from_is to_is outside aside) n rest) path
         ∙ go path (rest_below (to ++ now ∷ []) path) refl (rest_below (from ++ was ∷ []) path) refl;
   }
     where
       go : (path : Path) → (o : Option Path) → rest_below (to ++ now ∷ []) path ≡ o → (a : Option Path) → rest_below (from ++ was ∷ []) path ≡ a →
-          after_move (from ++ was ∷ []) (to ++ now ∷ []) tree path ≡ shown new path
+          after_move (from ++ was ∷ []) (to ++ now ∷ []) tree.files path ≡ shown new path
       go path (Some rest) e a f =
           rw e (stands.shows ((from ++ was ∷ []) ++ rest) ∙ sym ((shown_target old new i was k now j moves from to from_is to_is outside aside) rest) ∙ ap (shown new) (sym (rest_below-is (to ++ now ∷ []) path rest e)))
       go path None e (Some rest) f = rw (e, f) (sym ((shown_source old new i was k now j moves from to from_is to_is outside aside) rest) ∙ ap (shown new) (sym (rest_below-is (from ++ was ∷ []) path rest f)))
@@ -45,7 +47,7 @@ pub entry_move_stands : (old new : Image) (wf : IsWellFormed old) (i s k r j : �
     (tree : FileTree) → Stands old tree → Stands new (moved (from ++ name_at old i s ∷ []) (to ++ name_at old k r ∷ []) tree)
 entry_move_stands old new wf i s k r j can moves from to from_is to_is outside tree stands =
     move_stands old new i (name_at old i s) k (name_at old k r) j (entry_moves old new wf i s k r j can moves) from to from_is to_is outside
-    tree stands (moved_well_formed old new wf i s k r j can moves)
+    tree stands (moved_well_formed old new wf i s k r j can moves) moves.trees.marked
 
 -- a name has come to another directory under a new name
 pub carry_stands : (old new : Image) (wf : IsWellFormed old) (i s k r j : ℕ) → CarriesEntry old new i s k r j →
@@ -53,7 +55,7 @@ pub carry_stands : (old new : Image) (wf : IsWellFormed old) (i s k r j : ℕ) �
     (tree : FileTree) → Stands old tree → Stands new (moved (from ++ name_at old i s ∷ []) (to ++ name_at new k r ∷ []) tree)
 carry_stands old new wf i s k r j carries from to from_is to_is outside tree stands =
     move_stands old new i (name_at old i s) k (name_at new k r) j (carry_moves old new wf i s k r j carries) from to from_is to_is outside
-    tree stands (carried_well_formed old new wf i s k r j carries)
+    tree stands (carried_well_formed old new wf i s k r j carries) carries.trees.marked
 
 -- no path lies below a name in itself
 not_below : (path : Path) (name : Name) → rest_below (path ++ name ∷ []) path ≡ None
@@ -68,4 +70,4 @@ pub respell_stands : (old new : Image) (wf : IsWellFormed old) (i s j : ℕ) →
     (tree : FileTree) → Stands old tree → Stands new (moved (from ++ name_at old i s ∷ []) (from ++ name_at new i s ∷ []) tree)
 respell_stands old new wf i s j spells from from_is tree stands =
     move_stands old new i (name_at old i s) i (name_at new i s) j (respell_moves old new wf i s j spells) from from from_is from_is
-    (not_below from (name_at old i s)) tree stands (respelled_well_formed old new wf i s j spells)
+    (not_below from (name_at old i s)) tree stands (respelled_well_formed old new wf i s j spells) spells.trees.marked

@@ -6,7 +6,9 @@ use Rattle.bp_layout.specs.Lookup.{Path, lookup}
 use Rattle.bp_layout.specs.Lookup.Node.{file}
 use Rattle.bp_plain.specs.PlainTree.{FileTree}
 
--- the second tree has these bytes at each path that shows inode x in the image, and all else as the first has it
+-- the second tree has these bytes at each path that shows inode x in the image, and all else as the first has it,
+-- its version too
 pub record HasBytesAtEach (image : Image) (x : ℕ) (bytes : List ℕ) (tree after : FileTree) : Type 0 where
-  pub there : (path : Path) → lookup image path ≡ Some x → get after path ≡ Some (file bytes)
-  pub elsewhere : (path : Path) → (lookup image path ≡ Some x → ⊥) → get after path ≡ get tree path
+  pub version : after.version ≡ tree.version
+  pub there : (path : Path) → lookup image path ≡ Some x → get after.files path ≡ Some (file bytes)
+  pub elsewhere : (path : Path) → (lookup image path ≡ Some x → ⊥) → get after.files path ≡ get tree.files path

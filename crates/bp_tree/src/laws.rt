@@ -1,8 +1,9 @@
 //! Laws of calls that are performed, whatever they do. Each is the contract of a function that does nothing.
 
-ghost use Rattle.std.specs.Prelude.{◌≡◌, ◌≤◌, ◌∷◌, [], ℕ};
+ghost use Rattle.std.specs.Prelude.{◌≡◌, ◌≤◌, ◌∷◌, [], ℕ, Bool};
 ghost use Rattle.bp_layout.specs.Free.{HasFree};
-ghost use Rattle.bp_layout.specs.Need.{Change, need};
+ghost use Rattle.bp_layout.specs.Need.{Change};
+ghost use Rattle.bp_layout.specs.Thaw.{full_need};
 ghost use Rattle.bp_layout.specs.Reached.{IsFreeBlock};
 ghost use Rattle.bp_layout.specs.Same.{Same};
 ghost use Rattle.bp_tree.specs.Performs.{InBlock, IsPerformed, IsShort};
@@ -14,17 +15,17 @@ ghost use Rattle.pm_region.specs.Safe.{IsSafe};
 /// A call that is performed costs no more than it must, and the blocks that it needs were free. With its mark it keeps a
 /// memory safe.
 pub fn performed_calls_are_short()
-    ensures short { (old new : Memory) (change : Change) → IsPerformed old new change
-        → IsShort (current_words old) (current_words new) change (events_between old new) }
-    ensures fits { (old new : Memory) (change : Change) (free : ℕ) → IsPerformed old new change
-        → HasFree (current_words old) free → need (current_words old) change ≤ free }
-    ensures safe { (old new marked : Memory) (change : Change) → IsPerformed old new change
+    ensures short { (kept : ℕ → Bool) (old new : Memory) (change : Change) → IsPerformed kept old new change
+        → IsShort (current_words old) (current_words new) kept change (events_between old new) }
+    ensures fits { (kept : ℕ → Bool) (old new : Memory) (change : Change) (free : ℕ) → IsPerformed kept old new change
+        → HasFree (current_words old) kept free → full_need (current_words old) kept change ≤ free }
+    ensures safe { (kept : ℕ → Bool) (old new marked : Memory) (change : Change) → IsPerformed kept old new change
         → IsSafe Same old → Adds new marked (Mark ∷ []) → IsSafe Same marked }
 {}
 
 /// Where a call needs no block it stores to no free one, so that none does what another call would have to do.
 pub fn performed_calls_leave_free_blocks()
-    ensures { (old new : Memory) (change : Change) (b : ℕ) → IsPerformed old new change →
-        need (current_words old) change ≡ 0 → IsFreeBlock (current_words old) b →
+    ensures { (kept : ℕ → Bool) (old new : Memory) (change : Change) (b : ℕ) → IsPerformed kept old new change →
+        full_need (current_words old) kept change ≡ 0 → IsFreeBlock (current_words old) kept b →
         StoresTo (InBlock b) (events_between old new) → ⊥ }
 {}

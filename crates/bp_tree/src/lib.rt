@@ -8,6 +8,7 @@ pub mod counts;
 mod descent;
 pub mod laws;
 pub mod likeness;
+pub mod marks;
 pub mod nulls;
 pub mod paths;
 pub mod reading;
@@ -16,6 +17,7 @@ pub mod tree;
 
 pub use counts::count_live;
 pub use likeness::SameTree;
+pub use marks::version;
 pub use nulls::first_null;
 pub use paths::{Slots, address, word_path};
 pub use reading::{leaf_words, read, unpack};

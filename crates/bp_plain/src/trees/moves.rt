@@ -8,7 +8,7 @@ ghost use Rattle.bp_plain.specs.SeenTree.{carried_out, names_of, node_seen, with
 ghost use Rattle.std.specs.FinMap.{empty};
 ghost use Rattle.std.specs.Prelude.{IfOk, OnErr, OnOk, ◌++◌, ◌≡◌, is_some, option_map};
 
-use super::{Node, Plain};
+use super::{Files, Node, Plain};
 use crate::errors::FsError;
 use crate::paths::{first, is_same, joined, parse, path_of, when};
 use crate::replies::Reply;
@@ -29,11 +29,34 @@ impl Plain {
             option_map refusal_of found ≡ plain.refusal self.now (rename from.now to.now)) }
     {
         match (parse(alloc, from)?, parse(alloc, to)?) {
-            (Some(from), Some(to)) => self.refuses_move(alloc, &from, &to),
+            (Some(from), Some(to)) => self.files().refuses_move(alloc, &from, &to),
             _ => Ok(Some(FsError::BadPath)),
         }
     }
 
+    // ---- what a rename makes
+
+    pub(super) fn rename(
+        &mut self,
+        alloc: Global,
+        from: &[u8],
+        to: &[u8],
+        reply: &mut Reply,
+    ) -> Result<(), AllocError>
+        ensures done { OnOk result ((reply.new.answer, self.new) ≡ carried_out self.old (rename from.now to.now)) }
+        ensures kept { OnErr result (self.new ≡ self.old) }
+    {
+        let from = path_of(alloc, from)?;
+        let to = path_of(alloc, to)?;
+        if !is_same(&from, &to) {
+            self.files = self.files.moved(alloc, &from, &to)?;
+        }
+        reply.set_done();
+        Ok(())
+    }
+}
+
+impl Files {
     /// The same of two paths that are spelled.
     fn refuses_move(
         &self,
@@ -82,48 +105,27 @@ impl Plain {
         Ok(!is_same(from, to) && self.is_dir(from) && self.is_dir(to) && !is_empty)
     }
 
-    // ---- what a rename makes
-
-    pub(super) fn rename(
-        &mut self,
-        alloc: Global,
-        from: &[u8],
-        to: &[u8],
-        reply: &mut Reply,
-    ) -> Result<(), AllocError>
-        ensures done { OnOk result ((reply.new.answer, self.new) ≡ carried_out self.old (rename from.now to.now)) }
-        ensures kept { OnErr result (self.new ≡ self.old) }
+    /// Files in which each path below the one lies below the other, whose own node is gone.
+    fn moved(&self, alloc: Global, from: &[Name], to: &[Name]) -> Result<Files, AllocError>
+        ensures { IfOk result (λ files. files ≡ plain.moved_files (names_of from.now) (names_of to.now) self.now) }
     {
-        let from = path_of(alloc, from)?;
-        let to = path_of(alloc, to)?;
-        if !is_same(&from, &to) {
-            *self = self.moved(alloc, &from, &to)?;
-        }
-        reply.set_done();
-        Ok(())
-    }
-
-    /// A tree in which each path below the one lies below the other, whose own node is gone.
-    fn moved(&self, alloc: Global, from: &[Name], to: &[Name]) -> Result<Plain, AllocError>
-        ensures { IfOk result (λ tree. tree ≡ plain.moved (names_of from.now) (names_of to.now) self.now) }
-    {
-        let mut tree = Plain::with_nothing(alloc);
+        let mut files = Files::with_nothing(alloc);
         for (path, node) in self.nodes.iter().rev() {
-            tree.put_moved(alloc, from, to, path.as_slice(), node)?;
+            files.put_moved(alloc, from, to, path.as_slice(), node)?;
         }
-        Ok(tree)
+        Ok(files)
     }
 
     /// Not even a root directory.
-    fn with_nothing(alloc: Global) -> Plain
+    fn with_nothing(alloc: Global) -> Files
         ensures { result ≡ empty }
     {
-        Plain {
+        Files {
             nodes: BTreeMap::new(alloc),
         }
     }
 
-    /// Puts in a copy of what stands at a path of another tree, where it lies after a rename.
+    /// Puts in a copy of what stands at a path elsewhere, where it lies after a rename.
     fn put_moved(
         &mut self,
         alloc: Global,

@@ -3,7 +3,7 @@ use Rattle.pm_region.specs.Memory.{current_words}
 use Rattle.bp_walk.proofs.Pointers.{on_ok_then}
 use Rattle.bp_scan.proofs.InodeFaults.{err_then}
 use Rattle.bp_scan.proofs.Inside.{inodes_sound, inodes_full}
-use Rattle.bp_scan.proofs.EntryLaws.{passes_empty, fails_high, in_room, fails_again, fails_in_inode, now_inside, now_less}
+use Rattle.bp_scan.proofs.EntryLaws.{passes_empty, fails_high, in_room, fails_in_inode, now_inside, now_less}
 use Rattle.bp_scan.proofs.directories.read_entry.Goals as goal
 
 pub returns-then-named-eq0-clause-inside : goal.returns-then-named-eq0-clause-inside
@@ -23,7 +23,7 @@ overflow_cast-inode g c =
     let low : c.args.slot.named < length c.args.work.now.inodes =
     in_room image c.args.work.now c.args.directory c.args.slot.number c.requires.inside c.requires.live c.args.slot.named c.requires.named c.if-named-eq0.false
     (subst (λ x. c.args.slot.named < x / 64) c.inode_file.ensures.size c.if-named-inode_file.false) in
-    let rooms : length c.args.work.now.inodes ≤ 1048576 = omega (arith, c.requires.inside.at.reading.room.inodes, c.requires.inside.at.reading.ready.formatted.sized.at_most) in
+    let rooms : length c.args.work.now.inodes ≤ 4194304 = omega (arith, c.requires.inside.at.reading.room.inodes, c.requires.inside.at.reading.ready.formatted.sized.at_most) in
     let small : c.args.slot.named < 4294967296 = omega (arith, low, rooms) in
     search (rules, small)
 
@@ -33,11 +33,11 @@ is_free-requires g c =
     in_room image c.args.work.now c.args.directory c.args.slot.number c.requires.inside c.requires.live c.args.slot.named c.requires.named c.if-named-eq0.false
     (subst (λ x. c.args.slot.named < x / 64) c.inode_file.ensures.size c.if-named-inode_file.false)
 
-pub returns-then-not-is_free-clause-fault : goal.returns-then-not-is_free-clause-fault
-returns-then-not-is_free-clause-fault g c =
-    let image = current_words (g.R.Region.memory c.args.region.now) in
-    fails_again image c.args.work.now c.args.directory c.args.slot.number c.requires.inside c.requires.live c.args.slot.named c.requires.named c.if-named-eq0.false
-    (subst (λ x. c.args.slot.named < x / 64) c.inode_file.ensures.size c.if-named-inode_file.false) c.args.slot.place c.requires.place (sym c.is_free.ensures ∙ c.if-not-is_free.true)
+pub read_again-requires-clause-there : goal.read_again-requires-clause-there
+read_again-requires-clause-there g c = subst (λ x. c.args.slot.named < x / 64) c.inode_file.ensures.size c.if-named-inode_file.false
+
+pub read_again-requires-clause-entered : goal.read_again-requires-clause-entered
+read_again-requires-clause-entered g c = sym c.is_free.ensures ∙ c.if-not-is_free.true
 
 pub enter-requires-clause-sound : goal.enter-requires-clause-sound
 enter-requires-clause-sound g c =

@@ -2,10 +2,10 @@ use Rattle.bp_tree.proofs.PerformsLaws.{performs_short_between, performs_fits, p
 use Rattle.bp_tree.proofs.laws.performed_calls_are_short.Goals as goal
 
 pub returns-clause-short : goal.returns-clause-short
-returns-clause-short g old new change done = performs_short_between old new change _ done
+returns-clause-short g kept old new change done = performs_short_between kept old new change _ done
 
 pub returns-clause-fits : goal.returns-clause-fits
-returns-clause-fits g old new change free done has = performs_fits old new change _ done free has
+returns-clause-fits g kept old new change free done has = performs_fits kept old new change _ done free has
 
 pub returns-clause-safe : goal.returns-clause-safe
-returns-clause-safe g old new marked change done safe ends = performs_safe old new change _ done marked safe ends
+returns-clause-safe g kept old new marked change done safe ends = performs_safe kept old new change _ done marked safe ends

@@ -1,0 +1,91 @@
+-- The plain tree of an image in which a file has other bytes: at each of its paths.
+use Rattle.std.proofs.Common.{◌≡◌, ◌⊎◌, ℕ, List, [], ◌∷◌, Bool, true, false, cond, ap, Option, None, Some, option_and_then, ◌==◌, ◌||◌, refl, sym, ◌∙◌, inl, inr}
+use Rattle.std.proofs.lemmas.Bool.{cases_eq, eqb-false, ne_eqb}
+use Rattle.std.specs.FinMap.{get, get-insert}
+use Rattle.std.specs.Ordering.{eq_by_cmp}
+use Rattle.std.specs.Cmp.{Equal-is, eq_by_cmp_equiv}
+use Rattle.std.proofs.Common.{true≢false}
+use Rattle.bp_layout.specs.Words.{Image}
+use Rattle.bp_layout.specs.Tree.{content}
+use Rattle.bp_layout.specs.Inode.{kind_of, root_of, size_of}
+use Rattle.bp_layout.specs.Lookup.{Path, are_one, file_at, if_file, lookup, shown}
+use Rattle.bp_layout.specs.Lookup.Node.{file}
+use Rattle.bp_layout.specs.Below.{same_path}
+use Rattle.bp_layout.proofs.Below.{same_path-self, same_path-is}
+use Rattle.bp_layout.specs.WellFormed.{IsWellFormed}
+use Rattle.bp_layout.proofs.View.{find_one-same}
+use Rattle.bp_changes.specs.Effects.{ChangesFile}
+use Rattle.bp_changes.proofs.ChangesFile.{directories-same, well_formed-same, shown_file, shown_other}
+use Rattle.bp_forms.specs.Plain.{paths_of, with_bytes_at, with_content}
+use Rattle.bp_forms.specs.PlainTree.{Nodes, PathMap, path_cmp}
+use Rattle.bp_forms.specs.Stands.{Shows}
+use Rattle.bp_forms.proofs.Kernels.{any_path, paths_of-any, path_cmp-IsAntisymmetric, path_cmp-IsTotalOrder}
+
+-- the order of paths tells which are the same
+same_by_cmp : (p q : Path) → eq_by_cmp path_cmp p q ≡ same_path p q
+same_by_cmp p q = go (eq_by_cmp path_cmp p q) refl (same_path p q) refl
+  where
+    go : (a : Bool) → eq_by_cmp path_cmp p q ≡ a → (b : Bool) → same_path p q ≡ b → eq_by_cmp path_cmp p q ≡ same_path p q
+    go true e b f = e ∙ sym (ap (λ x. same_path x q) (path_cmp-IsAntisymmetric p q ((Equal-is (path_cmp p q)).0 e)) ∙ same_path-self q)
+    go false e true f =
+        let same : p ≡ q = same_path-is p q f in
+        absurd (true≢false (sym ((eq_by_cmp_equiv path_cmp-IsTotalOrder).refl p) ∙ ap (eq_by_cmp path_cmp p) same ∙ e))
+    go false e false f = e ∙ sym f
+
+-- nodes in which each of some paths has these bytes
+pub get-with_bytes_at : (paths : List Path) (bytes : List ℕ) (nodes : Nodes) (q : Path) →
+    get (with_bytes_at paths bytes nodes) q ≡ cond (any_path q paths) (Some (file bytes)) (get nodes q)
+get-with_bytes_at [] bytes nodes q = refl
+get-with_bytes_at (p ∷ paths) bytes nodes q =
+    get-insert path_cmp-IsTotalOrder (with_bytes_at paths bytes nodes) p (file bytes) q
+    ∙ rw (same_by_cmp q p, get-with_bytes_at paths bytes nodes q) (go (same_path q p) (any_path q paths))
+  where
+    go : (x y : Bool) → cond x (Some (file bytes)) (cond y (Some (file bytes)) (get nodes q)) ≡ cond (x || y) (Some (file bytes)) (get nodes q)
+    go true y = refl
+    go false y = refl
+
+module _ (old new : Image) (x : ℕ) (wf : IsWellFormed old) (changes : ChangesFile old new x) (path : Path) (at : lookup old path ≡ Some x) where
+  abbrev bytes : List ℕ
+  bytes = content new (root_of new x) (size_of new x)
+
+  file_there : file_at old path ≡ Some x
+  file_there = rw at (rw changes.is_file refl)
+
+  pub content_shows : (map : PathMap) → Shows old map → Shows new (with_content map path bytes)
+  content_shows map shows = record {
+    well_formed = well_formed-same old new x wf changes;
+    shows = λ q. get-with_bytes_at (paths_of map.one path) bytes map.nodes q
+        ∙ ap (λ b. cond b (Some (file bytes)) (get map.nodes q)) (paths_of-any map.one path q ∙ shows.one path q ∙ ap (λ f. are_one f (file_at old q)) file_there)
+        ∙ go q (lookup old q) refl;
+    one = λ p q. shows.one p q ∙ sym (find_one-same old new (directories-same old new x wf changes) p q);
+  }
+    where
+      other : (q : Path) → (lookup old q ≡ Some x → ⊥) → get map.nodes q ≡ shown new q
+      other q apart = shows.shows q ∙ sym (shown_other old new x wf changes q apart)
+
+      go : (q : Path) (found : Option ℕ) → lookup old q ≡ found → cond (are_one (Some x) (file_at old q)) (Some (file bytes)) (get map.nodes q) ≡ shown new q
+      go q None e = rw e (other q (λ here. let wrong : ◌≡◌ {A = Option ℕ} None (Some x) = sym e ∙ here in absurd (cc)))
+      go q (Some u) e = by_inode (cases_eq u x)
+        where
+          by_inode : (u ≡ x) ⊎ (u ≡ x → ⊥) → cond (are_one (Some x) (file_at old q)) (Some (file bytes)) (get map.nodes q) ≡ shown new q
+          by_inode (inl same) =
+              let here : lookup old q ≡ Some x = e ∙ ap Some same in
+              let one : are_one (Some x) (file_at old q) ≡ true = ap (λ f. are_one (Some x) (option_and_then (if_file old) f)) here ∙ rw changes.is_file (equal x) in
+              rw one (sym (shown_file old new x wf changes q here))
+            where
+              equal : (n : ℕ) → (n == n) ≡ true
+              equal n = by_test (n == n) refl
+                where
+                  by_test : (b : Bool) → (n == n) ≡ b → (n == n) ≡ true
+                  by_test true t = t
+                  by_test false t = absurd (eqb-false n n t refl)
+          by_inode (inr apart) =
+              let none : are_one (Some x) (file_at old q) ≡ false = ap (λ f. are_one (Some x) (option_and_then (if_file old) f)) e ∙ by_kind (kind_of old u == 1) refl in
+              rw none (other q (λ here. apart (some_once u x (sym e ∙ here))))
+            where
+              some_once : (a b : ℕ) → ◌≡◌ {A = Option ℕ} (Some a) (Some b) → a ≡ b
+              some_once a b e = cc
+
+              by_kind : (b : Bool) → (kind_of old u == 1) ≡ b → are_one (Some x) (if_file old u) ≡ false
+              by_kind true k = rw k (ne_eqb x u (λ same. apart (sym same)))
+              by_kind false k = rw k refl

@@ -1,0 +1,62 @@
+-- The calls of a file system, their refusals and their answers.
+use Rattle.std.specs.Prelude.{ℕ, List}
+use Rattle.bp_layout.specs.declared.fields.Kind.{Kind}
+use Rattle.bp_layout.specs.Directory.{Name}
+
+-- bytes for the file at a path, from an offset on
+pub record Piece : Type 0 where
+  pub path : List ℕ
+  pub off : ℕ
+  pub bytes : List ℕ
+
+pub data Call : Type 0 where
+  create : List ℕ → Call
+  mkdir : List ℕ → Call
+  unlink : List ℕ → Call
+  rmdir : List ℕ → Call
+  list : List ℕ → Call
+  stat : List ℕ → Call
+  -- a path, an offset, and a length or bytes
+  read : List ℕ → ℕ → ℕ → Call
+  write : List ℕ → ℕ → List ℕ → Call
+  truncate : List ℕ → ℕ → Call
+  rename : List ℕ → List ℕ → Call
+  -- a path that is there, and a new one
+  link : List ℕ → List ℕ → Call
+  links : List ℕ → Call
+  upgrade : Call
+  snap : Call
+  unsnap : Call
+  -- of the snapshot
+  snap_list : List ℕ → Call
+  snap_stat : List ℕ → Call
+  snap_read : List ℕ → ℕ → ℕ → Call
+  batch : List Piece → Call
+
+pub data Refusal : Type 0 where
+  bad_path : Refusal
+  not_found : Refusal
+  not_dir : Refusal
+  is_dir : Refusal
+  exists : Refusal
+  not_empty : Refusal
+  into_self : Refusal
+  is_root : Refusal
+  too_long : Refusal
+  too_big : Refusal
+  -- the blocks that the call needs, and those that are free
+  no_space : ℕ → ℕ → Refusal
+  no_memory : Refusal
+  no_snap : Refusal
+  has_snap : Refusal
+  old_version : Refusal
+  past_end : Refusal
+
+pub data Answer : Type 0 where
+  done : Answer
+  bytes : List ℕ → Answer
+  file_of : ℕ → Answer
+  dir_of : ℕ → Answer
+  names : List (Kind × Name) → Answer
+  links_of : ℕ → Answer
+  refused : Refusal → Answer

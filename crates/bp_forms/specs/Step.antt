@@ -1,0 +1,131 @@
+-- What a call may make of an image.
+use Rattle.std.specs.Prelude.{◌≡◌, ◌≢◌, ℕ, ◌<◌, ◌≤◌, List, [], ◌∷◌, length, Bool, true, false, Option, None, Some}
+use Rattle.bp_layout.specs.Words.{Image}
+use Rattle.bp_layout.specs.Directory.{Name, IsName, slot_named}
+use Rattle.bp_layout.specs.Inode.{IsDirectory}
+use Rattle.bp_layout.specs.Lookup.{Path, lookup}
+use Rattle.bp_forms.specs.PlainTree.{FileTree}
+use Rattle.bp_forms.specs.Stands.{Stands}
+use Rattle.bp_layout.specs.PathText.{parse}
+use Rattle.bp_forms.specs.Calls.{Call, Piece, Answer}
+use Rattle.bp_forms.specs.Calls.Call.{create, mkdir, unlink, rmdir, list, write, truncate, rename, link, snap_list, batch}
+use Rattle.bp_forms.specs.Calls.Refusal.{no_space, no_memory}
+use Rattle.bp_forms.specs.Calls.Answer.{refused}
+use Rattle.bp_forms.specs.Plain.{plain, is_changing, refusal, parent_of}
+use Rattle.bp_layout.specs.Need.{Change, Entrant, Stretch}
+use Rattle.bp_layout.specs.Need.Change.{writes, resizes, enters, leaves, replaces, moves, respells, overwrites}
+use Rattle.bp_layout.specs.Need.Entrant.{taken, grown, linked}
+use Rattle.bp_layout.specs.Free.{HasFree, IsLeastFree}
+use Rattle.bp_layout.specs.Thaw.{full_need}
+use Rattle.bp_layout.specs.Trees.{AreFrozen}
+
+abbrev pub last_of : Path → Name
+last_of [] = []
+last_of (name ∷ []) = name
+last_of (name ∷ other ∷ path) = last_of (other ∷ path)
+
+-- the path's directory has this inode, and its entry this slot
+pub record StandsIn (image : Image) (text : List ℕ) (i s : ℕ) : Type 0 where
+  pub path : Path
+  pub parsed : parse text ≡ Some path
+  pub parent : lookup image (parent_of path) ≡ Some i
+  pub slot : slot_named image i (last_of path) ≡ Some s
+
+-- the path is a name in directory i, which doesn't have it
+pub record IsNewOn (image : Image) (path : Path) (i : ℕ) (name : Name) : Type 0 where
+  pub below : path ≢ []
+  pub parent : lookup image (parent_of path) ≡ Some i
+  pub last : last_of path ≡ name
+  pub directory : IsDirectory image i
+  pub form : IsName name
+  pub missing : slot_named image i name ≡ None
+
+-- the text spells such a path
+pub record FindsNew (image : Image) (text : List ℕ) (i : ℕ) (name : Name) : Type 0 where
+  pub path : Path
+  pub parsed : parse text ≡ Some path
+  pub new : IsNewOn image path i name
+
+-- the path below the root directory finds inode j, by slot s of directory i
+pub record IsEntryOn (image : Image) (path : Path) (i s j : ℕ) : Type 0 where
+  pub below : path ≢ []
+  pub parent : lookup image (parent_of path) ≡ Some i
+  pub slot : slot_named image i (last_of path) ≡ Some s
+  pub inode : lookup image path ≡ Some j
+
+-- the text spells such a path
+pub record FindsEntry (image : Image) (text : List ℕ) (i s j : ℕ) : Type 0 where
+  pub path : Path
+  pub parsed : parse text ≡ Some path
+  pub entry : IsEntryOn image path i s j
+
+-- the text spells a path to this inode
+pub record PathFinds (image : Image) (text : List ℕ) (i : ℕ) : Type 0 where
+  pub path : Path
+  pub parsed : parse text ≡ Some path
+  pub inode : lookup image path ≡ Some i
+
+-- what a new file or directory names: the least free inode, or one of a new leaf
+abbrev pub entrant_of : Option ℕ → Entrant
+entrant_of None = grown
+entrant_of (Some j) = taken j
+
+-- the pieces of a batch by the inodes of their files
+pub data AreStretches (image : Image) : List Piece → List Stretch → Type 0 where
+  none : AreStretches image [] []
+  more : {piece : Piece} {pieces : List Piece} {stretches : List Stretch} {i : ℕ} → PathFinds image piece.path i →
+      AreStretches image pieces stretches →
+      AreStretches image (piece ∷ pieces)
+      (record { inode = i; off = piece.off; len = length piece.bytes } ∷ stretches)
+
+-- what a changing call changes
+pub data IsChange (image : Image) : Call → Change → Type 0 where
+  by_create : {text : List ℕ} {name : Name} {i : ℕ} {free : Option ℕ} → FindsNew image text i name →
+      IsLeastFree image free → IsChange image (create text) (enters i (entrant_of free))
+  by_mkdir : {text : List ℕ} {name : Name} {i : ℕ} {free : Option ℕ} → FindsNew image text i name →
+      IsLeastFree image free → IsChange image (mkdir text) (enters i (entrant_of free))
+  by_link : {from to : List ℕ} {name : Name} {i j : ℕ} → PathFinds image from j → FindsNew image to i name →
+      IsChange image (link from to) (enters i linked)
+  by_batch : {pieces : List Piece} {stretches : List Stretch} → AreStretches image pieces stretches →
+      IsChange image (batch pieces) (overwrites stretches)
+  by_write : {text new : List ℕ} {i off : ℕ} → PathFinds image text i →
+      IsChange image (write text off new) (writes i off (length new))
+  by_truncate : {text : List ℕ} {i size : ℕ} → PathFinds image text i →
+      IsChange image (truncate text size) (resizes i size)
+  by_unlink : {text : List ℕ} {i s : ℕ} → StandsIn image text i s → IsChange image (unlink text) (leaves i s)
+  by_rmdir : {text : List ℕ} {i s : ℕ} → StandsIn image text i s → IsChange image (rmdir text) (leaves i s)
+  onto : {from to : List ℕ} {i s j r : ℕ} → StandsIn image from i s → StandsIn image to j r →
+      IsChange image (rename from to) (replaces i s j r)
+  across : {from to : List ℕ} {i s j : ℕ} {name : Name} → StandsIn image from i s → FindsNew image to j name → i ≢ j →
+      IsChange image (rename from to) (moves i s j)
+  within : {from to : List ℕ} {i s : ℕ} {name : Name} → StandsIn image from i s → FindsNew image to i name →
+      IsChange image (rename from to) (respells i s (length name))
+
+-- a changing call, the blocks that it needs, and those that are free: in neither tree
+pub record HasNeed (image : Image) (call : Call) (needed free : ℕ) : Type 0 where
+  pub change : Change
+  pub is : IsChange image call change
+  pub kept : ℕ → Bool
+  pub frozen : AreFrozen image kept
+  pub needs : full_need image kept change ≡ needed
+  pub has : HasFree image kept free
+
+-- the call needs no more blocks than are free
+abbrev pub Fits : Image → Call → Type 0
+Fits image call = (needed free : ℕ) → HasNeed image call needed free → needed ≤ free
+
+-- The image stands for a tree. A changing call that needs more blocks than are free is refused; want of memory may be
+-- answered to a listing; else the answer is that of the plain tree, and the new image stands for the new tree.
+pub data StepFor (image : Image) (tree : FileTree) : Call → Answer → Image → Type 0 where
+  no_room : {call : Call} {needed free : ℕ} → is_changing tree call ≡ true → HasNeed image call needed free →
+      free < needed → StepFor image tree call (refused (no_space needed free)) image
+  no_listing : {text : List ℕ} → refusal tree (list text) ≡ None →
+      StepFor image tree (list text) (refused no_memory) image
+  no_snap_listing : {text : List ℕ} → refusal tree (snap_list text) ≡ None →
+      StepFor image tree (snap_list text) (refused no_memory) image
+  unchanged : {call : Call} → is_changing tree call ≡ false → StepFor image tree call (plain tree call).0 image
+  changed : {call : Call} {new : Image} → is_changing tree call ≡ true → Fits image call →
+      Stands new (plain tree call).1 → StepFor image tree call (plain tree call).0 new
+
+abbrev pub Step : Image → Call → Answer → Image → Type 0
+Step image call answer new = (tree : FileTree) → Stands image tree → StepFor image tree call answer new

@@ -1,0 +1,9 @@
+//! Laws.
+
+ghost use Rattle.bp_forms.specs.PlainTree.{FileTree, IsFileTree};
+ghost use Rattle.std.specs.Prelude.{◌≡◌};
+
+/// A tree is itself.
+pub fn same(_image: &[u64])
+    ensures { (tree : FileTree) → tree ≡ tree }
+{}

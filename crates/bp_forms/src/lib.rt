@@ -1,0 +1,4 @@
+//! Forms to be tried.
+#![tactic(auto)]
+
+pub mod laws;

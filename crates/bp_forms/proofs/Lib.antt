@@ -1,12 +1,2 @@
-pub mod Kernels
 pub mod WholeLaws
-pub mod UnlinkShows
 pub mod Thawing
-pub mod LinkShows
-pub mod OneTree
-pub mod SnapShows
-pub mod AddShows
-pub mod ContentShows
-pub mod Moved
-pub mod MoveShows
-pub mod FormatShows

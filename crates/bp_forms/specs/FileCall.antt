@@ -8,12 +8,12 @@ use Rattle.pm_region.specs.Safe.{IsSafe}
 use Rattle.bp_layout.specs.Trees.{AreFrozen}
 use Rattle.bp_layout.specs.Whole.{SameFiles}
 use Rattle.bp_limits.specs.Limits.{call_room, magic, super_magic, super_root, super_second_root, super_second_size, super_size}
-use Rattle.bp_forms.specs.PlainTree.{FileTree}
-use Rattle.bp_forms.specs.Stands.{Stands}
-use Rattle.bp_forms.specs.Calls.{Call, Answer}
-use Rattle.bp_forms.specs.Calls.Answer.{refused}
-use Rattle.bp_forms.specs.Calls.Call.{snap, unsnap, upgrade}
-use Rattle.bp_forms.specs.Plain.{is_changing}
+use Rattle.bp_plain.specs.PlainTree.{FileTree}
+use Rattle.bp_plain.specs.Stands.{Stands}
+use Rattle.bp_plain.specs.Calls.{Call, Answer}
+use Rattle.bp_plain.specs.Calls.Answer.{refused}
+use Rattle.bp_plain.specs.Calls.Call.{snap, unsnap, upgrade}
+use Rattle.bp_plain.specs.Plain.{is_changing}
 use Rattle.bp_layout.specs.Need.{Change}
 use Rattle.bp_layout.specs.Words.{Image, word}
 use Rattle.bp_tree.specs.Performs.{IsShort}

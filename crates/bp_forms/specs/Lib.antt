@@ -1,11 +1,3 @@
-pub mod PlainTree
-pub mod TreeCode
-pub mod Stands
-pub mod Calls
-pub mod Refusals
-pub mod Plain
-pub mod Export
-pub mod Kernels
 pub mod Step
 pub mod FileCall
 pub mod Volume

@@ -4,14 +4,14 @@ use Rattle.bp_layout.specs.Words.{Image}
 use Rattle.bp_layout.specs.Directory.{Name, IsName, slot_named}
 use Rattle.bp_layout.specs.Inode.{IsDirectory}
 use Rattle.bp_layout.specs.Lookup.{Path, lookup}
-use Rattle.bp_forms.specs.PlainTree.{FileTree}
-use Rattle.bp_forms.specs.Stands.{Stands}
+use Rattle.bp_plain.specs.PlainTree.{FileTree}
+use Rattle.bp_plain.specs.Stands.{Stands}
 use Rattle.bp_layout.specs.PathText.{parse}
-use Rattle.bp_forms.specs.Calls.{Call, Piece, Answer}
-use Rattle.bp_forms.specs.Calls.Call.{create, mkdir, unlink, rmdir, list, write, truncate, rename, link, snap_list, batch}
-use Rattle.bp_forms.specs.Calls.Refusal.{no_space, no_memory}
-use Rattle.bp_forms.specs.Calls.Answer.{refused}
-use Rattle.bp_forms.specs.Plain.{plain, is_changing, refusal, parent_of}
+use Rattle.bp_plain.specs.Calls.{Call, Piece, Answer}
+use Rattle.bp_plain.specs.Calls.Call.{create, mkdir, unlink, rmdir, list, write, truncate, rename, link, snap_list, batch}
+use Rattle.bp_plain.specs.Calls.Refusal.{no_space, no_memory}
+use Rattle.bp_plain.specs.Calls.Answer.{refused}
+use Rattle.bp_plain.specs.Plain.{plain, is_changing, refusal, parent_of}
 use Rattle.bp_layout.specs.Need.{Change, Entrant, Stretch}
 use Rattle.bp_layout.specs.Need.Change.{writes, resizes, enters, leaves, replaces, moves, respells, overwrites}
 use Rattle.bp_layout.specs.Need.Entrant.{taken, grown, linked}

@@ -1,6 +1,6 @@
 //! Laws.
 
-ghost use Rattle.bp_forms.specs.PlainTree.{FileTree, IsFileTree};
+ghost use Rattle.bp_plain.specs.PlainTree.{FileTree, IsFileTree};
 ghost use Rattle.std.specs.Prelude.{◌≡◌};
 
 /// A tree is itself.

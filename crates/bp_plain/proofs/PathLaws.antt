@@ -13,7 +13,7 @@ use Rattle.bp_plain.specs.declared.errors.FsError.{FsError}
 use Rattle.bp_plain.specs.Calls.{Refusal}
 use Rattle.bp_plain.specs.Calls.Refusal.{not_dir, not_found}
 use Rattle.bp_plain.specs.Plain.{first, is_root_path, parent_of, first_refusal_from, is_dir_at}
-use Rattle.bp_plain.specs.PlainTree.{Files}
+use Rattle.bp_plain.specs.PlainTree.{Nodes}
 use Rattle.bp_plain.specs.Seen.{refusal_of}
 use Rattle.bp_plain.specs.SeenTree.{names_of}
 
@@ -55,7 +55,7 @@ not_none_of None e = absurd (true≢false (sym e))
 not_none_of (Some x) e = refl
 
 -- the way as far as it was walked, and the rest of it
-abbrev pub walked : Files → List (ArrayVec ℕ) → ℕ → Option Refusal
+abbrev pub walked : Nodes → List (ArrayVec ℕ) → ℕ → Option Refusal
 walked tree path depth = first_refusal_from tree (names_of (take depth path)) (names_of (drop depth path))
 
 -- a name of a path, with those before it and behind it
@@ -64,7 +64,7 @@ pub name_at : (path : List (ArrayVec ℕ)) (depth : ℕ) → depth < length path
 name_at [] depth low = absurd (omega (arith, low))
 name_at (x ∷ path) depth low = (get_or (x ∷ path) depth x, drop_more (x ∷ path) depth x low, take_more (x ∷ path) depth x low)
 
-module _ (tree : Files) (path : List (ArrayVec ℕ)) (depth : ℕ) (low : depth < length path) where
+module _ (tree : Nodes) (path : List (ArrayVec ℕ)) (depth : ℕ) (low : depth < length path) where
   abbrev name : ArrayVec ℕ
   name = (name_at path depth low).0
 

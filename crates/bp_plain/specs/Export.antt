@@ -1,7 +1,7 @@
 -- The calls that make a plain tree anew.
 use Rattle.std.specs.Prelude.{◌≡◌, ◌≤◌, ℕ, ◌+◌, ◌-◌, ◌*◌, ◌/◌, ◌%◌, List, [], ◌∷◌, ◌++◌, length, take, drop, Bool, true, false, not, ◌&&◌, ◌==◌, nat_lt, flat_map, Option, None, Some, if◌then◌else◌}
-use Rattle.std.specs.List.{list_all, list_any, range_with_len}
-use Rattle.std.specs.FinMap.{entries, get}
+use Rattle.std.specs.List.{filter, list_all, list_any, range_with_len}
+use Rattle.std.specs.FinMap.{entries, get, keys}
 use Rattle.bp_limits.specs.Limits.{block_size, max_path, greatest_size}
 use Rattle.bp_layout.specs.Directory.{Name}
 use Rattle.bp_layout.specs.Lookup.{Path, Node}
@@ -10,8 +10,8 @@ use Rattle.bp_layout.specs.Below.{same_path}
 use Rattle.bp_plain.specs.Calls.{Call, Answer}
 use Rattle.bp_plain.specs.Calls.Answer.{done}
 use Rattle.bp_plain.specs.Calls.Call.{create, link, mkdir, truncate, write}
-use Rattle.bp_plain.specs.Plain.{paths_of, plain}
-use Rattle.bp_plain.specs.PlainTree.{FileTree, IsFileTree, One, PathMap, empty_tree}
+use Rattle.bp_plain.specs.Plain.{plain}
+use Rattle.bp_plain.specs.PlainTree.{FileTree, IsFileTree, PathMap, empty_tree, is_one}
 
 -- the text of a path: a `/` before each name, or one alone
 abbrev pub names_text : Path → List ℕ
@@ -47,6 +47,10 @@ abbrev pub file_calls : List ℕ → List ℕ → List Call
 file_calls text content = create text
     ∷ flat_map (write_stretch text content) (range_with_len 0 (stretches content)) ++ size_call text content
 
+-- the paths of the file at a path, in their order
+abbrev pub same_file : PathMap → Path → List Path
+same_file map path = filter (λ other. is_one map.one path other) (keys map.nodes)
+
 -- the first of the paths of a file, where another one is it
 abbrev pub earlier : Path → List Path → Option Path
 earlier path [] = None
@@ -57,15 +61,15 @@ file_or_link path content None = file_calls (path_text path) content
 file_or_link path content (Some other) = link (path_text other) (path_text path) ∷ []
 
 -- what makes the node at a path; the root is there
-abbrev pub entry_calls : One → Path × Node → List Call
-entry_calls one ([], node) = []
-entry_calls one (name ∷ path, dir) = mkdir (path_text (name ∷ path)) ∷ []
-entry_calls one (name ∷ path, file content) =
-    file_or_link (name ∷ path) content (earlier (name ∷ path) (paths_of one (name ∷ path)))
+abbrev pub entry_calls : PathMap → Path × Node → List Call
+entry_calls map ([], node) = []
+entry_calls map (name ∷ path, dir) = mkdir (path_text (name ∷ path)) ∷ []
+entry_calls map (name ∷ path, file content) =
+    file_or_link (name ∷ path) content (earlier (name ∷ path) (same_file map (name ∷ path)))
 
 -- in the order of the paths, name by name
 abbrev pub export : PathMap → List Call
-export map = flat_map (entry_calls map.one) (entries map.nodes)
+export map = flat_map (entry_calls map) (entries map.nodes)
 
 -- a path is longer than a call takes
 abbrev pub is_deep : PathMap → Bool

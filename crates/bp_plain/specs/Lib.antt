@@ -7,5 +7,9 @@ pub mod Export
 pub mod Seen
 pub mod ReplyView
 pub mod SeenAnswers
+pub mod Kernels
+pub mod Numbered
 pub mod TreeCode
 pub mod SeenTree
+pub mod SeenMap
+pub mod Changed

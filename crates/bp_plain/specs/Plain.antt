@@ -2,14 +2,14 @@
 -- the calls.
 use Rattle.std.specs.Prelude.{ℕ, ◌+◌, ◌-◌, List, [], ◌∷◌, ◌++◌, map, length, take, drop, replicate, Bool, true, false, not, ◌&&◌, ◌||◌, ◌==◌, nat_lt, Option, None, Some, is_some, is_none, option_map, unwrap_or, if◌then◌else◌}
 use Rattle.std.specs.List.{filter_map, list_any, sum_by}
-use Rattle.std.specs.FinMap.{get, insert, remove, entries, from_entries}
+use Rattle.std.specs.FinMap.{FinMap, get, insert, remove, entries, from_entries}
 use Rattle.std.specs.FinSet as set
 use Rattle.bp_layout.specs.Directory.{Name}
 use Rattle.bp_layout.specs.Lookup.{Path, Node}
 use Rattle.bp_layout.specs.Lookup.Node.{dir, file}
 use Rattle.bp_limits.specs.Limits.{greatest_size, greatest_write, is_two, max_batch}
 use Rattle.bp_layout.specs.Below.{same_path, rest_below}
-use Rattle.bp_plain.specs.PlainTree.{FileTree, Nodes, One, PathMap, is_one}
+use Rattle.bp_plain.specs.PlainTree.{FileTree, Nodes, One, PathMap, is_one, path_cmp}
 use Rattle.bp_layout.specs.PathText.{parse}
 use Rattle.bp_layout.specs.declared.fields.Kind.{Kind}
 use Rattle.bp_layout.specs.declared.fields.Kind.TheVariants.{File, Dir}
@@ -138,11 +138,11 @@ abbrev pub moved_path : Path → Path → Path → Path
 moved_path p q path = unwrap_or (option_map (λ rest. q ++ rest) (rest_below p path)) path
 
 -- an entry that moves so, unless it stood at the other path itself
-abbrev pub moved_entry : Path → Path → Path × Node → Option (Path × Node)
+abbrev pub moved_entry : {A : Type 0} → Path → Path → Path × A → Option (Path × A)
 moved_entry p q entry = if same_path entry.0 q then None else Some (moved_path p q entry.0, entry.1)
 
 -- each path below the one moves below the other, whose own node is gone
-abbrev pub moved : Path → Path → Nodes → Nodes
+abbrev pub moved : {A : Type 0} → Path → Path → FinMap path_cmp A → FinMap path_cmp A
 moved p q nodes = from_entries (filter_map (moved_entry p q) (entries nodes))
 
 -- a file with these bytes stands at each of the paths
@@ -155,6 +155,10 @@ with_bytes_at (path ∷ paths) content nodes = with_bytes (with_bytes_at paths c
 -- the paths that are one with a path, itself among them
 abbrev pub paths_of : One → Path → List Path
 paths_of one path = filter_map (λ pair. if same_path pair.0 path then Some pair.1 else None) (set.items one)
+
+-- how many they are
+abbrev pub path_count : One → Path → ℕ
+path_count one path = set.len (set.from_list {R = path_cmp} (paths_of one path))
 
 -- the pairs of a new path with itself and with each of some others
 abbrev pub pairs_with : Path → List Path → List (Path × Path)
@@ -217,11 +221,14 @@ path_named text = unwrap_or (parse text) []
 abbrev pub with_written : PathMap → Path → ℕ → List ℕ → PathMap
 with_written map path off new = with_content map path (written (bytes_at map.nodes path) off new)
 
+abbrev pub with_piece : PathMap → Piece → PathMap
+with_piece map piece =
+    if nat_lt 0 (length piece.bytes) then with_written map (path_named piece.path) piece.off piece.bytes else map
+
 -- the pieces one after the other
 abbrev pub with_pieces : PathMap → List Piece → PathMap
 with_pieces map [] = map
-with_pieces map (piece ∷ pieces) = with_pieces
-    (if nat_lt 0 (length piece.bytes) then with_written map (path_named piece.path) piece.off piece.bytes else map) pieces
+with_pieces map (piece ∷ pieces) = with_pieces (with_piece map piece) pieces
 
 -- ---- calls: refusals
 
@@ -335,7 +342,7 @@ abbrev pub answer : FileTree → Call → Answer
 answer tree (read text off len) = read_answer tree.now.nodes text off len
 answer tree (list text) = names (listing tree.now.nodes (path_named text))
 answer tree (stat text) = stat_answer tree.now.nodes (path_named text) (get tree.now.nodes (path_named text))
-answer tree (links text) = links_of (length (paths_of tree.now.one (path_named text)))
+answer tree (links text) = links_of (path_count tree.now.one (path_named text))
 answer tree (snap_read text off len) = read_answer (snap_nodes tree.snap) text off len
 answer tree (snap_list text) = names (listing (snap_nodes tree.snap) (path_named text))
 answer tree (snap_stat text) =

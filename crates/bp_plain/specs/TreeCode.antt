@@ -8,6 +8,8 @@ use Rattle.bp_layout.specs.Lookup.Node.{dir, file}
 use Rattle.bp_limits.specs.Limits.{is_two}
 use Rattle.bp_limits.specs.declared.version.Version.{Version}
 use Rattle.bp_limits.specs.declared.version.Version.TheVariants as marked
+use Rattle.bp_plain.specs.Numbered.{Numbered, NumberedFiles}
+use Rattle.bp_plain.specs.Numbered.Numbered.{directory, numbered_file}
 use Rattle.bp_plain.specs.PlainTree.{FileTree, Nodes, One, PathMap}
 
 abbrev pub node_bytes : Node → Option (List ℕ)
@@ -25,11 +27,31 @@ node_of-bytes_of (file content) = refl
 abbrev pub node_code : Coded Node
 node_code = code_by (Option (List ℕ)) (coded_option (coded_list coded_ℕ)) node_bytes coded_node node_of-bytes_of
 
+abbrev pub numbered_parts : Numbered → Option (ℕ × List ℕ)
+numbered_parts directory = None
+numbered_parts (numbered_file id content) = Some (id, content)
+
+abbrev pub numbered_from : Option (ℕ × List ℕ) → Numbered
+numbered_from None = directory
+numbered_from (Some parts) = numbered_file parts.0 parts.1
+
+abbrev pub numbered_from-is : (node : Numbered) → numbered_from (numbered_parts node) ≡ node
+numbered_from-is directory = refl
+numbered_from-is (numbered_file id content) = refl
+
+abbrev pub numbered_node_code : Coded Numbered
+numbered_node_code =
+    code_by (Option (ℕ × List ℕ)) (coded_option (coded× coded_ℕ (coded_list coded_ℕ))) numbered_parts numbered_from
+    numbered_from-is
+
 abbrev pub path_code : Coded Path
 path_code = coded_list (coded_list coded_ℕ)
 
 abbrev pub nodes_code : Coded Nodes
 nodes_code = finite.code path_code node_code
+
+abbrev pub numbered_code : Coded NumberedFiles
+numbered_code = finite.code path_code numbered_node_code
 
 abbrev pub one_code : Coded One
 one_code = set.code (coded× path_code path_code)

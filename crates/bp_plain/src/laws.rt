@@ -2,16 +2,16 @@
 
 ghost use Rattle.bp_layout.specs.Format.{formatted};
 ghost use Rattle.bp_limits.specs.Limits.{max_blocks, min_blocks};
-ghost use Rattle.bp_layout.specs.WellFormed.{IsWellFormed};
+ghost use Rattle.bp_layout.specs.Whole.{IsFileSystem};
 ghost use Rattle.bp_plain.specs.PlainTree.{FileTree, IsFileTree, empty_tree};
 ghost use Rattle.bp_plain.specs.Stands.{Stands, StandsForOne};
 ghost use Rattle.std.specs.Prelude.{◌*◌, ◌≡◌, ◌≤◌, length};
 
 use bp_limits::Version;
 
-/// A well-formed image stands for exactly one plain tree.
+/// An image that is a file system stands for exactly one plain tree.
 pub fn one_tree(_image: &[u64])
-    requires { IsWellFormed _image.now }
+    requires { IsFileSystem _image.now }
     ensures { StandsForOne _image.now }
 {}
 

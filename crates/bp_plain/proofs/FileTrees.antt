@@ -8,7 +8,8 @@ use Rattle.bp_limits.specs.declared.version.Version.{Version}
 use Rattle.bp_limits.specs.declared.version.Version.TheVariants as marked
 use Rattle.bp_layout.specs.Directory.{IsName, Name, name_at}
 use Rattle.bp_layout.specs.Formatted.{version_of}
-use Rattle.bp_layout.specs.Inode.{kind_of}
+use Rattle.bp_layout.specs.Inode.{kind_of, root_of, size_of}
+use Rattle.bp_layout.specs.Tree.{content}
 use Rattle.bp_layout.specs.Lookup.{Path, Node, are_one, file_at, if_file, lookup, node_of, shown}
 use Rattle.bp_layout.specs.Lookup.Node.{dir, file}
 use Rattle.bp_layout.specs.Trees.{has_snapshot, snapshot_of}
@@ -85,8 +86,8 @@ module _ (image : Image) (map : PathMap) (stands : Shows image map) where
     where
       go : (node : Node) → node_of image i ≡ node → (bytes : List ℕ) × (get map.nodes p ≡ Some (file bytes)) × (get map.nodes q ≡ Some (file bytes))
       go dir at =
-          let shows : node_of image i ≡ file _ = rw (file_shown image i (lookup image p) e).1 refl in
-          let wrong : ◌≡◌ {A = Node} dir (file _) = sym at ∙ shows in absurd (cc)
+          let shows : node_of image i ≡ file (content image (root_of image i) (size_of image i)) = rw (file_shown image i (lookup image p) e).1 refl in
+          let wrong : ◌≡◌ {A = Node} dir (file (content image (root_of image i) (size_of image i))) = sym at ∙ shows in absurd (cc)
       go (file bytes) at = (
         bytes,
         stands.shows p ∙ (file_shown image i (lookup image p) e).0 ∙ ap Some at,

@@ -20,7 +20,7 @@ use Rattle.bp_layout.specs.Below.{rest_below}
 use Rattle.bp_layout.specs.Directory.{Name}
 use Rattle.bp_layout.specs.Listing.{listed}
 use Rattle.bp_layout.specs.Lookup.{Path}
-use Rattle.bp_plain.specs.Numbered.{Numbered, plain_entry}
+use Rattle.bp_plain.specs.Numbered.{Numbered, plain_entry, plain_node}
 use Rattle.bp_plain.specs.declared.trees.entries.Node.{Node as Kept}
 use Rattle.bp_plain.specs.Plain.{kind_of_node, listed_in, only_name}
 use Rattle.bp_plain.specs.PlainTree.{path_cmp}
@@ -185,3 +185,8 @@ same_bytes [] [] all = refl
 same_bytes [] (y ∷ ys) all = absurd all
 same_bytes (x ∷ xs) [] all = absurd all
 same_bytes (x ∷ xs) (y ∷ ys) all = ap₂ (λ a b. a ∷ b) all.0 (same_bytes xs ys all.1)
+
+-- a node behind a reference, without its number
+pub plain_behind : (found : Option (Bor Kept)) → option_map (λ node. node_seen node.now) found ≡ option_map plain_node (option_map (λ node. numbered node.now) found)
+plain_behind None = refl
+plain_behind (Some node) = refl

@@ -14,3 +14,4 @@ pub mod Rooted
 pub mod MapLaws
 pub mod LinkCounts
 pub mod Carried
+pub mod KeptMaps

@@ -1,5 +1,5 @@
 -- What each change of files with numbers makes of the map that they stand for.
-use Rattle.std.proofs.Common.{◌≡◌, ◌≢◌, ◌<◌, ◌==◌, ◌+◌, ℕ, List, [], ◌∷◌, ◌++◌, Bool, true, false, cond, Option, None, Some, option_and_then, option_map, if◌then◌else◌, refl, sym, ◌∙◌, ap, ap₂, subst, true≢false, arith}
+use Rattle.std.proofs.Common.{◌≡◌, ◌≢◌, ◌<◌, ◌==◌, ◌+◌, ◌||◌, ℕ, List, [], ◌∷◌, ◌++◌, Bool, true, false, cond, Option, None, Some, option_and_then, option_map, if◌then◌else◌, refl, sym, ◌∙◌, ap, ap₂, subst, true≢false, arith}
 use Rattle.std.proofs.lemmas.Bool.{eqb-true}
 use Rattle.std.specs.FinMap as finite
 use Rattle.std.specs.FinMap.{get, get-empty, insert, remove}
@@ -98,7 +98,7 @@ module _ (files : NumberedFiles) (p : Path) where
 same_number : (id : ℕ) (bytes : List ℕ) (o : Option Numbered) → number_in (option_map (with_bytes_in id bytes) o) ≡ number_in o
 same_number id bytes None = refl
 same_number id bytes (Some directory) = refl
-same_number id bytes (Some (numbered_file other content)) = refl
+same_number id bytes (Some (numbered_file i content)) = refl
 
 module _ (files : NumberedFiles) (change : Change) (id : ℕ) (bytes : List ℕ) (each : (e : Path × Numbered) → changed change e ≡ Some (e.0, with_bytes_in id bytes e.1)) where
   at_path : (q : Path) → get (changed_files change files) q ≡ option_map (with_bytes_in id bytes) (get files q)
@@ -145,11 +145,12 @@ module _ (files : NumberedFiles) (change : Change) (id : ℕ) (bytes : List ℕ)
 -- at a path of no file
 no_paths : (paths : List Path) → ((q : Path) → any_path q paths ≡ false) → paths ≡ []
 no_paths [] none = refl
-no_paths (p ∷ paths) none = absurd (true≢false (sym (rw (same_path-self p) refl) ∙ none p))
+no_paths (p ∷ paths) none = absurd (true≢false (sym (ap (λ b. b || any_path p paths) (same_path-self p)) ∙ none p))
 
 pub no_content_set : (files : NumberedFiles) (p : Path) (bytes : List ℕ) → number_at files p ≡ None → with_content (map_of files) p bytes ≡ map_of files
 no_content_set files p bytes none =
-    ap (λ paths. record { nodes = with_bytes_at paths bytes (plain_nodes files); one = (map_of files).one })
+    let made : List Path → PathMap = λ paths. record { nodes = with_bytes_at paths bytes (plain_nodes files); one = (map_of files).one } in
+    ap made
     (no_paths (paths_of (map_of files).one p) (λ q. paths_of-any (map_of files).one p q ∙ (pairs_of files).each p q ∙ ap (λ x. are_one x (number_at files q)) none))
 
 -- ---- paths that move
@@ -193,7 +194,7 @@ root_unnumbered p = go (case_of p [])
 
 pub root_map : map_of root_alone ≡ empty_map
 root_map =
-    map_is root_alone empty_map (plain-put finite.empty [] directory ∙ ap (λ nodes. insert nodes [] dir) empty_plain)
+    map_is root_alone empty_map (plain-put finite.empty [] directory ∙ ap (λ (nodes : Nodes). insert nodes [] dir) empty_plain)
     (record { each = λ p q. contains-empty pair_cmp (p, q) ∙ sym (ap (λ x. are_one x (number_at root_alone q)) (root_unnumbered p)) })
 
 pub root_rooted : IsRooted (plain_nodes root_alone)

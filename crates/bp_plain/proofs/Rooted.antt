@@ -56,18 +56,11 @@ parent_of-last (x ∷ y ∷ path) name = ap (λ p. x ∷ p) (parent_of-last (y �
 pub same_above : (path above : Path) (name last : Name) → path ++ name ∷ [] ≡ above ++ last ∷ [] → path ≡ above
 same_above path above name last e = sym (parent_of-last path name) ∙ ap parent_of e ∙ parent_of-last above last
 
-longer : (path : Path) (name : Name) → path ++ name ∷ [] ≢ path
-longer [] name e = absurd (cc)
-longer (x ∷ path) name e = longer path name (let rest : path ++ name ∷ [] ≡ path = cc in rest)
-
 pub not_empty_path : (path : Path) (name : Name) → path ++ name ∷ [] ≢ []
 not_empty_path [] name e = absurd (cc)
 not_empty_path (x ∷ path) name e = absurd (cc)
 
 module _ (nodes : Nodes) (rooted : IsRooted nodes) where
-  dir_or_not : (p : Path) (node : Node) → get nodes p ≡ Some dir → get nodes p ≡ Some node → node ≡ dir
-  dir_or_not p node a b = let both : ◌≡◌ {A = Option Node} (Some node) (Some dir) = sym b ∙ a in cc
-
   -- nothing is below a path at which there is no directory
   pub below_none : (p : Path) → (get nodes p ≡ Some dir → ⊥) → HasNoneBelow nodes p
   below_none p not_dir = record { none = λ name. go name (get nodes (p ++ name ∷ [])) refl }
@@ -255,7 +248,7 @@ file_there nodes rooted p e =
 
 -- a directory in which no name is listed
 listed_there : (p : Path) (name : Name) (node : Node) (es : List (Path × Node)) → find path_cmp (p ++ name ∷ []) es ≡ Some node → length (filter_map (listed_in p) es) ≢ 0
-listed_there p name node [] e = absurd (cc)
+listed_there p name node [] e = let wrong : ◌≡◌ {A = Option Node} None (Some node) = e in absurd (cc)
 listed_there p name node (x ∷ es) e = go (eq_by_cmp path_cmp (p ++ name ∷ []) x.0) refl (λ f. listed_there p name node es f)
   where
     no_more : (o : Option (Kind × Name)) → listed_in p x ≡ o → length (filter_map (listed_in p) es) ≢ 0 → length (filter_map (listed_in p) (x ∷ es)) ≢ 0

@@ -2,12 +2,12 @@
 
 ghost use Rattle.bp_limits.specs.Limits.{is_two, max_read};
 ghost use Rattle.bp_limits.specs.Numbers.{version_numbered};
-ghost use Rattle.bp_plain.specs.Calls.Call.{batch, create, link, links, list, mkdir, read, rmdir, snap, snap_list, snap_read, snap_stat, stat, truncate, unlink, unsnap, upgrade, write};
+ghost use Rattle.bp_plain.specs.Calls.Call.{create, link, links, list, mkdir, read, rmdir, snap, snap_list, snap_read, snap_stat, stat, truncate, unlink, unsnap, upgrade, write};
 ghost use Rattle.bp_plain.specs.Plain as plain;
 ghost use Rattle.bp_plain.specs.PlainTree.{empty_tree};
 ghost use Rattle.bp_plain.specs.Seen.{CanAsk, call_of, refusal_of};
-ghost use Rattle.bp_plain.specs.SeenTree.{carried_out};
-ghost use Rattle.std.specs.Prelude.{IfOk, None, OnErr, OnOk, Some, ◌≡◌, ◌≤◌, not, option_map};
+ghost use Rattle.bp_plain.specs.SeenTree.{carried_out, names_of};
+ghost use Rattle.std.specs.Prelude.{IfOk, None, OnErr, OnOk, ◌≡◌, ◌≤◌, not, option_map};
 
 mod batches;
 mod entries;
@@ -19,6 +19,7 @@ use crate::contents::ends_too_late;
 use crate::errors::FsError;
 use crate::paths::{first, parse, path_of, when};
 use crate::replies::Reply;
+use bp_layout::Name;
 use bp_limits::Version;
 use maps::FileMap;
 use std::alloc::{AllocError, Global};
@@ -77,7 +78,10 @@ impl Plain {
     fn snapshot(&self) -> Option<&FileMap>
         ensures { option_map (λ map. map.now) result ≡ self.now.snap }
     {
-        self.snapshot.as_ref()
+        match &self.snapshot {
+            Some(map) => Some(map),
+            None => None,
+        }
     }
 
     /// Does a call, and puts its answer into the reply. A read asks for at most 65,536 bytes, and a batch has 1 to 16
@@ -158,17 +162,9 @@ impl Plain {
     fn refuses_rmdir(&self, alloc: Global, text: &[u8]) -> Result<Option<FsError>, AllocError>
         ensures { IfOk result (λ found. option_map refusal_of found ≡ plain.refusal self.now (rmdir text.now)) }
     {
-        let files = self.current();
         match parse(alloc, text)? {
             None => Ok(Some(FsError::BadPath)),
-            Some(path) => {
-                let is_empty = files.is_empty_dir(alloc, &path)?;
-                Ok(first(&[
-                    when(path.is_empty(), FsError::IsRoot),
-                    files.refuses_dir(&path),
-                    when(!is_empty, FsError::NotEmpty),
-                ]))
-            }
+            Some(path) => self.current().refuses_rmdir(alloc, &path),
         }
     }
 
@@ -290,20 +286,18 @@ impl Plain {
     fn refuses_snap_list(&self, alloc: Global, text: &[u8]) -> Result<Option<FsError>, AllocError>
         ensures { IfOk result (λ found. option_map refusal_of found ≡ plain.refusal self.now (snap_list text.now)) }
     {
-        match (parse(alloc, text)?, self.snapshot()) {
-            (None, _) => Ok(Some(FsError::BadPath)),
-            (Some(_), None) => Ok(Some(FsError::NoSnap)),
-            (Some(path), Some(map)) => Ok(map.refuses_dir(&path)),
+        match parse(alloc, text)? {
+            None => Ok(Some(FsError::BadPath)),
+            Some(path) => Ok(self.refuses_dir_then(&path)),
         }
     }
 
     fn refuses_snap_stat(&self, alloc: Global, text: &[u8]) -> Result<Option<FsError>, AllocError>
         ensures { IfOk result (λ found. option_map refusal_of found ≡ plain.refusal self.now (snap_stat text.now)) }
     {
-        match (parse(alloc, text)?, self.snapshot()) {
-            (None, _) => Ok(Some(FsError::BadPath)),
-            (Some(_), None) => Ok(Some(FsError::NoSnap)),
-            (Some(path), Some(map)) => Ok(map.walk(&path)),
+        match parse(alloc, text)? {
+            None => Ok(Some(FsError::BadPath)),
+            Some(path) => Ok(self.refuses_walk_then(&path)),
         }
     }
 
@@ -317,10 +311,42 @@ impl Plain {
         ensures { IfOk result (λ found.
             option_map refusal_of found ≡ plain.refusal self.now (snap_read text.now _off _len)) }
     {
-        match (parse(alloc, text)?, self.snapshot()) {
-            (None, _) => Ok(Some(FsError::BadPath)),
-            (Some(_), None) => Ok(Some(FsError::NoSnap)),
-            (Some(path), Some(map)) => Ok(map.refuses_file(&path)),
+        match parse(alloc, text)? {
+            None => Ok(Some(FsError::BadPath)),
+            Some(path) => Ok(self.refuses_file_then(&path)),
+        }
+    }
+
+    /// Why a path is not that of a directory of the snapshot.
+    fn refuses_dir_then(&self, path: &[Name]) -> Option<FsError>
+        ensures { option_map refusal_of result
+            ≡ plain.on_snap self.now.snap (λ nodes. plain.dir_refusal nodes (names_of path.now)) }
+    {
+        match self.snapshot() {
+            None => Some(FsError::NoSnap),
+            Some(map) => map.refuses_dir(path),
+        }
+    }
+
+    /// Why a path is not one of the snapshot.
+    fn refuses_walk_then(&self, path: &[Name]) -> Option<FsError>
+        ensures { option_map refusal_of result
+            ≡ plain.on_snap self.now.snap (λ nodes. plain.walk nodes (names_of path.now)) }
+    {
+        match self.snapshot() {
+            None => Some(FsError::NoSnap),
+            Some(map) => map.walk(path),
+        }
+    }
+
+    /// Why a path is not that of a file of the snapshot.
+    fn refuses_file_then(&self, path: &[Name]) -> Option<FsError>
+        ensures { option_map refusal_of result
+            ≡ plain.on_snap self.now.snap (λ nodes. plain.file_refusal nodes (names_of path.now)) }
+    {
+        match self.snapshot() {
+            None => Some(FsError::NoSnap),
+            Some(map) => map.refuses_file(path),
         }
     }
 

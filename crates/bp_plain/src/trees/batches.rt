@@ -1,6 +1,6 @@
 //! Batches of writes in the plain tree.
 
-ghost use Rattle.bp_limits.specs.Limits.{max_batch};
+ghost use Rattle.bp_layout.specs.PathText.{parse};
 ghost use Rattle.bp_plain.specs.Calls.Call.{batch};
 ghost use Rattle.bp_plain.specs.Plain as plain;
 ghost use Rattle.bp_plain.specs.Seen.{LiesIn, piece_in, refusal_of, spanned};
@@ -17,7 +17,7 @@ use crate::replies::Reply;
 use std::alloc::{AllocError, Global};
 
 /// The most bytes of one batch.
-const MAX_BATCH: usize = 65_536;
+const MAX_BATCH: u64 = 65_536;
 
 impl Plain {
     // ---- refusals
@@ -37,7 +37,7 @@ impl Plain {
         let refused = self.current().refuses_pieces(alloc, text, pieces)?;
         Ok(first(&[
             when(has_bad_path, FsError::BadPath),
-            when(total(text, pieces) > MAX_BATCH, FsError::TooLong),
+            when(total(pieces) > MAX_BATCH, FsError::TooLong),
             refused,
         ]))
     }
@@ -146,14 +146,13 @@ fn has_bad_path(alloc: Global, text: &[u8], pieces: &[Piece]) -> Result<bool, Al
 }
 
 /// How many bytes the pieces have.
-fn total(text: &[u8], pieces: &[Piece]) -> usize
-    requires few { length pieces.now ≤ 16 }
-    requires lie { All (LiesIn text.now) pieces.now }
-    ensures { result ≡ sum_by (λ piece. length piece.bytes) (map (piece_in text.now) pieces.now) }
+fn total(pieces: &[Piece]) -> u64
+    requires { length pieces.now ≤ 16 }
+    ensures { result ≡ sum_by (λ piece. piece.bytes.len) pieces.now }
 {
     let mut total = 0;
     for piece in pieces {
-        total += part_of(text, piece.bytes).len();
+        total += u64::from(piece.bytes.len);
     }
     total
 }

@@ -181,9 +181,13 @@ impl Files {
             ≡ with_entry (changed change.now (names_of path.now, numbered node.now)) self.old) }
     {
         match *change {
-            Change::Nothing => self.put(copied(alloc, path)?, copy(node)?),
+            Change::Nothing => {
+                let same = copied(alloc, path)?;
+                self.put(same, copy(node)?)
+            }
             Change::Content { id, bytes } => {
-                self.put(copied(alloc, path)?, with_bytes(alloc, node, id, bytes)?)
+                let same = copied(alloc, path)?;
+                self.put(same, with_bytes(alloc, node, id, bytes)?)
             }
             Change::Moved { from, to } => self.put_moved(alloc, from, to, path, node),
         }
@@ -259,13 +263,11 @@ pub(super) fn copy(node: &Node) -> Result<Node, AllocError>
 fn with_bytes(alloc: Global, node: &Node, id: u64, bytes: &[u8]) -> Result<Node, AllocError>
     ensures { IfOk result (λ copied. numbered copied ≡ with_bytes_in id bytes.now (numbered node.now)) }
 {
-    match node {
-        Node::File { id: other, .. } if *other == id => Ok(Node::File {
-            id,
-            content: vec_of(alloc, bytes)?,
-        }),
-        _ => copy(node),
+    if has_number(node, id) {
+        let content = vec_of(alloc, bytes)?;
+        return Ok(Node::File { id, content });
     }
+    copy(node)
 }
 
 fn vec_of(alloc: Global, bytes: &[u8]) -> Result<Vec<u8>, AllocError>

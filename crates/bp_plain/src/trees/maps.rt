@@ -2,15 +2,17 @@
 
 ghost use Rattle.bp_layout.specs.Below.{same_path};
 ghost use Rattle.bp_layout.specs.Listing.{listed};
+ghost use Rattle.bp_layout.specs.Lookup.{are_one};
 ghost use Rattle.bp_limits.specs.Limits.{max_read};
 ghost use Rattle.bp_plain.specs.Calls.Answer.{names};
+ghost use Rattle.bp_plain.specs.Calls.Refusal.{is_root, not_empty};
 ghost use Rattle.bp_plain.specs.Plain as plain;
 ghost use Rattle.bp_plain.specs.Plain.{is_dir_at, listing};
 ghost use Rattle.bp_plain.specs.PlainTree.{empty_map, is_one};
 ghost use Rattle.bp_plain.specs.Seen.{refusal_of};
-ghost use Rattle.bp_plain.specs.SeenTree.{HasNoneBelow, names_of, node_seen};
+ghost use Rattle.bp_plain.specs.SeenTree.{names_of, node_seen};
 ghost use Rattle.std.specs.FinMap.{get};
-ghost use Rattle.std.specs.Prelude.{IfOk, None, OnErr, OnOk, Some, [], ◌++◌, ◌∷◌, ◌≡◌, ◌≤◌, false, is_some, length, option_map};
+ghost use Rattle.std.specs.Prelude.{IfOk, None, OnErr, OnOk, [], ◌∷◌, ◌≡◌, ◌≤◌, false, is_some, not, option_map, true};
 
 use super::entries::{Change, Files, Node, copy};
 use crate::contents::{answer_bytes, part, resized, written};
@@ -48,18 +50,17 @@ impl FileMap {
     pub(super) fn root_alone(alloc: Global) -> Result<FileMap, AllocError>
         ensures { IfOk result (λ map. map ≡ empty_map) }
     {
-        Ok(FileMap {
-            files: Files::root_alone(alloc)?,
-            next: 0,
-        })
+        let files = Files::root_alone(alloc)?;
+        Ok(FileMap { files, next: 0 })
     }
 
     /// A copy.
     pub(super) fn copied(&self, alloc: Global) -> Result<FileMap, AllocError>
         ensures { IfOk result (λ map. map ≡ self.now) }
     {
+        let files = self.files.changed(alloc, &Change::Nothing)?;
         Ok(FileMap {
-            files: self.files.changed(alloc, &Change::Nothing)?,
+            files,
             next: self.next,
         })
     }
@@ -163,6 +164,25 @@ impl FileMap {
         first(&[self.walk(path), when(!self.is_dir(path), FsError::NotDir)])
     }
 
+    /// Why the directory at a path does not go.
+    pub(super) fn refuses_rmdir(
+        &self,
+        alloc: Global,
+        path: &[Name],
+    ) -> Result<Option<FsError>, AllocError>
+        ensures { IfOk result (λ found. option_map refusal_of found ≡ plain.first (
+            plain.when (plain.is_root_path (names_of path.now)) is_root
+            ∷ plain.dir_refusal self.now.nodes (names_of path.now)
+            ∷ plain.when (not (plain.is_empty_dir self.now.nodes (names_of path.now))) not_empty ∷ [])) }
+    {
+        let is_empty = self.is_empty_dir(alloc, path)?;
+        Ok(first(&[
+            when(path.is_empty(), FsError::IsRoot),
+            self.refuses_dir(path),
+            when(!is_empty, FsError::NotEmpty),
+        ]))
+    }
+
     // ---- answers
 
     pub(super) fn list(
@@ -218,10 +238,7 @@ impl FileMap {
     pub(super) fn is_one(&self, path: &[Name], other: &[Name]) -> bool
         ensures { result ≡ is_one self.now.one (names_of path.now) (names_of other.now) }
     {
-        match (self.files.id(path), self.files.id(other)) {
-            (Some(id), Some(also)) => id == also,
-            _ => false,
-        }
+        are_one(self.files.id(path), self.files.id(other))
     }
 
     /// How many paths the file at a path has.
@@ -266,7 +283,8 @@ impl FileMap {
         ensures made { OnOk result (self.new ≡ plain.with_dir self.old (names_of path.items)) }
         ensures kept { OnErr result (self.new ≡ self.old) }
     {
-        self.files.put(path, Node::Dir)
+        self.files.put(path, Node::Dir)?;
+        Ok(())
     }
 
     /// Gives the file at a path one more.
@@ -278,8 +296,9 @@ impl FileMap {
     {
         match self.files.node(path) {
             Some(node) => {
-                let copy = copy(node)?;
-                self.files.put(new, copy)
+                let copied = copy(node)?;
+                self.files.put(new, copied)?;
+                Ok(())
             }
             None => unreachable!(),
         }
@@ -290,22 +309,13 @@ impl FileMap {
         requires { plain.file_refusal self.old.nodes (names_of path.now) ≡ None }
         ensures { self.new ≡ plain.with_nothing self.old (names_of path.now) }
     {
-        self.remove(path);
+        self.files.take(path);
     }
 
     /// Takes away the path of an empty directory other than the root.
     pub(super) fn remove_dir(&mut self, path: &[Name])
         requires other { plain.is_root_path (names_of path.now) ≡ false }
         requires empty { plain.is_empty_dir self.old.nodes (names_of path.now) ≡ true }
-        ensures { self.new ≡ plain.with_nothing self.old (names_of path.now) }
-    {
-        self.remove(path);
-    }
-
-    /// Takes away a path with nothing below it, which is not the root.
-    fn remove(&mut self, path: &[Name])
-        requires other { plain.is_root_path (names_of path.now) ≡ false }
-        requires below { HasNoneBelow self.old.nodes (names_of path.now) }
         ensures { self.new ≡ plain.with_nothing self.old (names_of path.now) }
     {
         self.files.take(path);
@@ -351,10 +361,14 @@ impl FileMap {
         ensures set { OnOk result (self.new ≡ plain.with_content self.old (names_of path.now) bytes.now) }
         ensures kept { OnErr result (self.new ≡ self.old) }
     {
-        if let Some(id) = self.files.id(path) {
-            self.files = self.files.changed(alloc, &Change::Content { id, bytes })?;
+        match self.files.id(path) {
+            Some(id) => {
+                let files = self.files.changed(alloc, &Change::Content { id, bytes })?;
+                self.files = files;
+                Ok(())
+            }
+            None => Ok(()),
         }
-        Ok(())
     }
 
     /// Moves what is at or below the one path to the other, whose own node goes.
@@ -369,7 +383,18 @@ impl FileMap {
         ensures moved { OnOk result (self.new ≡ plain.with_moved self.old (names_of from.now) (names_of to.now)) }
         ensures kept { OnErr result (self.new ≡ self.old) }
     {
-        self.files = self.files.changed(alloc, &Change::Moved { from, to })?;
+        let files = self.files.changed(alloc, &Change::Moved { from, to })?;
+        self.files = files;
         Ok(())
+    }
+}
+
+/// Whether two numbers are there and the same.
+fn are_one(id: Option<u64>, other: Option<u64>) -> bool
+    ensures { result ≡ are_one id other }
+{
+    match (id, other) {
+        (Some(id), Some(other)) => id == other,
+        _ => false,
     }
 }

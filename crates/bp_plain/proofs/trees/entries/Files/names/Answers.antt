@@ -1,10 +1,12 @@
-use Rattle.std.proofs.Common.{◌++◌, sym, ◌∙◌, ap, append-nil}
+use Rattle.std.proofs.Common.{◌++◌, sym, ◌∙◌, ap, append-nil, map}
 use Rattle.std.specs.List.{filter_map}
 use Rattle.std.specs.FinMap.{entries}
 use Rattle.bp_layout.specs.Below.{rest_below}
 use Rattle.bp_layout.specs.Listing.{listed}
 use Rattle.bp_plain.specs.Plain.{listed_in, only_name}
+use Rattle.bp_plain.specs.Numbered.{plain_entry}
 use Rattle.bp_plain.specs.SeenTree.{names_of}
+use Rattle.bp_plain.proofs.Numbers.{entries-plain}
 use Rattle.bp_plain.proofs.Kept.{all_entries, row_found, rows, same_bytes}
 use Rattle.bp_plain.proofs.trees.entries.Files.names.Goals as goal
 
@@ -19,4 +21,5 @@ pub returns : goal.returns
 returns c =
     sym (append-nil (listed c.loop-path.names.items)) ∙ ap (λ es. listed c.loop-path.names.items ++ rows c.args.dir.now es) (sym c.in-None.ensures.steps.0) ∙ c.loop-path.invariant
     ∙ ap (rows c.args.dir.now) (c.into_iter-path-iterator.ensures.into_iter_gives ∙ c.iter-path-items.ensures.rest)
-    ∙ ap (filter_map (listed_in (names_of c.args.dir.now))) (sym (all_entries c.self.inside.nodes.entries c.self.invariant) ∙ ap entries c.self.view_is)
+    ∙ ap (λ es. filter_map (listed_in (names_of c.args.dir.now)) (map plain_entry es)) (sym (all_entries c.self.inside.nodes.entries c.self.invariant) ∙ ap entries c.self.view_is)
+    ∙ ap (filter_map (listed_in (names_of c.args.dir.now))) (sym (entries-plain c.args.self.now))

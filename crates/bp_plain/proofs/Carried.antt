@@ -1,5 +1,5 @@
 -- What calls that are not refused answer and make, and why the pieces of a batch are refused.
-use Rattle.std.proofs.Common.{◌≡◌, ◌≤◌, ◌<◌, ◌+◌, ◌&&◌, ◌||◌, ◌++◌, ℕ, suc, List, [], ◌∷◌, length, take, drop, get_or, map, Bool, true, false, not, nat_lt, Option, None, Some, if◌then◌else◌, option_map, refl, sym, ◌∙◌, ap, ap₂, subst, true≢false, arith, length-drop, take-length}
+use Rattle.std.proofs.Common.{◌≡◌, ◌≤◌, ◌<◌, ◌+◌, ◌&&◌, ◌||◌, ◌++◌, ℕ, suc, List, [], ◌∷◌, length, take, drop, get_or, map, Bool, true, false, not, nat_lt, Option, None, Some, is_some, if◌then◌else◌, option_map, refl, sym, ◌∙◌, ap, ap₂, subst, true≢false, arith, length-drop, take-length}
 use Rattle.std.proofs.lemmas.List.{drop_more}
 use Rattle.std.specs.List.{All, fold, list_any, sum_by}
 use Rattle.std.specs.Option.{is_none}
@@ -9,14 +9,16 @@ use Rattle.bp_limits.specs.Limits.{max_batch}
 use Rattle.bp_plain.specs.Calls.{Answer, Piece, Refusal}
 use Rattle.bp_plain.specs.Calls.Answer.{done}
 use Rattle.bp_plain.specs.Calls.Call.{batch}
-use Rattle.bp_plain.specs.Calls.Refusal.{bad_path, too_long}
-use Rattle.bp_plain.specs.Plain.{first, on_path, path_named, piece_refusal, refusal, when, with_now, with_piece, with_pieces}
+use Rattle.bp_plain.specs.Calls.Refusal.{bad_path, is_dir, is_root, no_snap, not_empty, too_long}
+use Rattle.bp_plain.specs.Plain.{dir_refusal, file_refusal, first, is_empty_dir, is_root_path, move_refusal, new_refusal, on_path, on_snap, path_named, piece_refusal, refusal, when, with_now, with_piece, with_pieces}
 use Rattle.bp_plain.specs.declared.calls.Piece.{Piece as GivenPiece}
 use Rattle.bp_plain.specs.declared.calls.Span.{Span}
 use Rattle.bp_plain.specs.PlainTree.{FileTree, Nodes, PathMap}
-use Rattle.bp_plain.specs.Seen.{LiesIn, piece_in, spanned}
+use Rattle.bp_plain.specs.declared.errors.FsError.{FsError}
+use Rattle.bp_plain.specs.Seen.{LiesIn, piece_in, refusal_of, spanned}
 use Rattle.bp_plain.specs.SeenTree.{carried_out}
 use Rattle.bp_plain.proofs.PathLaws.{first_one}
+use Rattle.bp_plain.proofs.Rooted.{first_none, not_false, when_none}
 
 -- ---- paths
 
@@ -27,6 +29,38 @@ on_named text refusals e = go (parse text) refl
     go : (found : Option Path) → parse text ≡ found → refusals (path_named text) ≡ None
     go None at = let wrong : ◌≡◌ {A = Option Refusal} (Some bad_path) None = rw at at e in absurd (cc)
     go (Some path) at = rw at (rw at at e)
+
+pub file_passes : (nodes : Nodes) (p : Path) → first (when (is_root_path p) is_dir ∷ file_refusal nodes p ∷ []) ≡ None → file_refusal nodes p ≡ None
+file_passes nodes p e = (first_none (file_refusal nodes p) [] (first_none (when (is_root_path p) is_dir) (file_refusal nodes p ∷ []) e).1).0
+
+pub dir_passes : (nodes : Nodes) (p : Path) → first (when (is_root_path p) is_root ∷ dir_refusal nodes p ∷ when (not (is_empty_dir nodes p)) not_empty ∷ []) ≡ None →
+    (is_root_path p ≡ false) × (is_empty_dir nodes p ≡ true)
+dir_passes nodes p e =
+    let one = first_none (when (is_root_path p) is_root) (dir_refusal nodes p ∷ when (not (is_empty_dir nodes p)) not_empty ∷ []) e in
+    let two = first_none (dir_refusal nodes p) (when (not (is_empty_dir nodes p)) not_empty ∷ []) one.1 in
+    let three = first_none (when (not (is_empty_dir nodes p)) not_empty) [] two.1 in
+    (when_none (is_root_path p) is_root one.0, not_false (is_empty_dir nodes p) (when_none (not (is_empty_dir nodes p)) not_empty three.0))
+
+pub link_passes : (nodes : Nodes) (from to : List ℕ) → on_path from (λ p. on_path to (λ q. first (file_refusal nodes p ∷ new_refusal nodes q ∷ []))) ≡ None →
+    (file_refusal nodes (path_named from) ≡ None) × (new_refusal nodes (path_named to) ≡ None)
+link_passes nodes from to e =
+    let both : first (file_refusal nodes (path_named from) ∷ new_refusal nodes (path_named to) ∷ []) ≡ None =
+        on_named to (λ q. first (file_refusal nodes (path_named from) ∷ new_refusal nodes q ∷ []))
+        (on_named from (λ p. on_path to (λ q. first (file_refusal nodes p ∷ new_refusal nodes q ∷ []))) e) in
+    let one = first_none (file_refusal nodes (path_named from)) (new_refusal nodes (path_named to) ∷ []) both in
+    let two = first_none (new_refusal nodes (path_named to)) [] one.1 in
+    (one.0, two.0)
+
+pub move_passes : (nodes : Nodes) (from to : List ℕ) → on_path from (λ p. on_path to (λ q. move_refusal nodes p q)) ≡ None → move_refusal nodes (path_named from) (path_named to) ≡ None
+move_passes nodes from to e =
+    on_named to (λ q. move_refusal nodes (path_named from) q) (on_named from (λ p. on_path to (λ q. move_refusal nodes p q)) e)
+
+-- ---- snapshots
+
+pub snap_passes : (snap : Option PathMap) (text : List ℕ) (refusals : Nodes → Path → Option Refusal) → on_path text (λ p. on_snap snap (λ nodes. refusals nodes p)) ≡ None → snap ≡ None → ⊥
+snap_passes None text refusals e is =
+    let wrong : ◌≡◌ {A = Option Refusal} (Some no_snap) None = on_named text (λ p. Some no_snap) e in absurd (cc)
+snap_passes (Some map) text refusals e is = let wrong : ◌≡◌ {A = Option PathMap} (Some map) None = is in absurd (cc)
 
 -- ---- batches
 
@@ -100,20 +134,25 @@ pub next_piece : (pieces : List GivenPiece) (i : ℕ) (piece : GivenPiece) → i
 next_piece pieces i piece low is = record { next = drop_more pieces i piece low ∙ ap (λ x. x ∷ drop (i + 1) pieces) (sym is) }
 
 module _ (text : List ℕ) (pieces : List GivenPiece) (i : ℕ) (piece : GivenPiece) (at : NextPiece pieces i piece) where
-  pub piece_passes : (nodes : Nodes) → None ≡ piece_refusal nodes (piece_in text piece) →
+  pub piece_passes : (nodes : Nodes) (found : Option FsError) → is_some found ≡ false → option_map refusal_of found ≡ piece_refusal nodes (piece_in text piece) →
       first (map (piece_refusal nodes) (map (piece_in text) (drop (i + 1) pieces))) ≡ first (map (piece_refusal nodes) (map (piece_in text) (drop i pieces)))
-  piece_passes nodes passes = rw (at.next, sym passes) refl
+  piece_passes nodes None e is = rw (at.next, sym is) refl
+  piece_passes nodes (Some error) e is = absurd (true≢false e)
 
-  pub piece_stops : (nodes : Nodes) (found : Refusal) → Some found ≡ piece_refusal nodes (piece_in text piece) →
-      Some found ≡ first (map (piece_refusal nodes) (map (piece_in text) (drop i pieces)))
-  piece_stops nodes found stops = rw (at.next, sym stops) refl
+  pub piece_stops : (nodes : Nodes) (found : Option FsError) → is_some found ≡ true → option_map refusal_of found ≡ piece_refusal nodes (piece_in text piece) →
+      option_map refusal_of found ≡ first (map (piece_refusal nodes) (map (piece_in text) (drop i pieces)))
+  piece_stops nodes None e is = absurd (true≢false (sym e))
+  piece_stops nodes (Some error) e is = rw (at.next, sym is) refl
 
-  pub path_passes : is_none (parse (spanned text piece.path)) ≡ false →
+  pub path_passes : {A : Type 0} (f : A → Path) (found : Option A) → is_none found ≡ false → option_map f found ≡ parse (spanned text piece.path) →
       list_any (λ piece. is_none (parse piece.path)) (map (piece_in text) (drop (i + 1) pieces)) ≡ list_any (λ piece. is_none (parse piece.path)) (map (piece_in text) (drop i pieces))
-  path_passes passes = rw (at.next, passes) refl
+  path_passes f None e is = absurd (true≢false e)
+  path_passes f (Some x) e is = rw (at.next, sym is) refl
 
-  pub path_stops : is_none (parse (spanned text piece.path)) ≡ true → list_any (λ piece. is_none (parse piece.path)) (map (piece_in text) (drop i pieces)) ≡ true
-  path_stops stops = rw (at.next, stops) refl
+  pub path_stops : {A : Type 0} (f : A → Path) (found : Option A) → is_none found ≡ true → option_map f found ≡ parse (spanned text piece.path) →
+      true ≡ list_any (λ piece. is_none (parse piece.path)) (map (piece_in text) (drop i pieces))
+  path_stops f None e is = rw (at.next, sym is) refl
+  path_stops f (Some x) e is = absurd (true≢false (sym e))
 
   pub piece_written : (before after : PathMap) → after ≡ with_piece before (piece_in text piece) →
       with_pieces after (map (piece_in text) (drop (i + 1) pieces)) ≡ with_pieces before (map (piece_in text) (drop i pieces))

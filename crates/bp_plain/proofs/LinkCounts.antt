@@ -1,5 +1,5 @@
 -- How many paths a file has: as many as there are entries with its number.
-use Rattle.std.proofs.Common.{◌≡◌, ◌+◌, ◌==◌, ◌&&◌, ◌||◌, ℕ, List, [], ◌∷◌, length, map, suc, Bool, true, false, cond, Option, None, Some, refl, sym, ◌∙◌, ap, ap₂, true≢false, add-one}
+use Rattle.std.proofs.Common.{◌≡◌, ◌+◌, ◌==◌, ◌&&◌, ◌||◌, ℕ, List, [], ◌∷◌, length, map, suc, Bool, true, false, cond, Option, None, Some, if◌then◌else◌, arith, refl, sym, ◌∙◌, ap, ap₂, true≢false, add-one}
 use lib.Dec.{T}
 use Rattle.std.specs.List.{list_any}
 use Rattle.std.specs.Ordering.{eq_by_cmp, is_eq, is_lt}
@@ -16,6 +16,10 @@ use Rattle.bp_plain.specs.Numbered.{Numbered, NumberedFiles, has_number, map_of,
 use Rattle.bp_plain.specs.Numbered.Numbered.{directory, numbered_file}
 use Rattle.bp_plain.specs.Plain.{path_count, paths_of}
 use Rattle.bp_plain.specs.PlainTree.{One, is_one, path_cmp}
+use Rattle.std.specs.Global.{Vec}
+use Rattle.arrayvec.specs.ArrayVec.{ArrayVec}
+use Rattle.bp_plain.specs.declared.trees.entries.Node.{Node as Kept}
+use Rattle.bp_plain.specs.SeenTree.{entry_kept, numbered}
 use Rattle.bp_plain.proofs.Kept.{left_holds, less_than, right_holds}
 use Rattle.bp_plain.proofs.Kernels.{any_path, are_one-back, paths_of-any, same_by_cmp}
 use Rattle.bp_plain.proofs.Numbers.{pairs_of}
@@ -100,3 +104,13 @@ count_more id e es = go (has_number id e.1) refl
     go : (b : Bool) → has_number id e.1 ≡ b → length (paths_numbered id (e ∷ es)) ≡ cond (has_number id e.1) 1 0 + length (paths_numbered id es)
     go true at = rw at (grind arith)
     go false at = rw at (grind arith)
+
+-- the same of the entries that a program has left
+pub count_step : (id : ℕ) (e : Vec (ArrayVec ℕ) × Kept) (rest left : List (Vec (ArrayVec ℕ) × Kept)) (before after whole : ℕ) (holds : Bool) →
+    left ≡ e ∷ rest → holds ≡ has_number id (numbered e.1) → after ≡ before + (if holds then 1 else 0) →
+    before + length (paths_numbered id (map entry_kept left)) ≡ whole → after + length (paths_numbered id (map entry_kept rest)) ≡ whole
+count_step id e rest left before after whole holds is has made so_far =
+    let more : length (paths_numbered id (map entry_kept left)) ≡ cond (has_number id (numbered e.1)) 1 0 + length (paths_numbered id (map entry_kept rest)) =
+        ap (λ es. length (paths_numbered id (map entry_kept es))) is ∙ count_more id (entry_kept e) (map entry_kept rest) in
+    let one : (if holds then 1 else 0) ≡ cond (has_number id (numbered e.1)) 1 0 = ap (λ b. cond b 1 0) has in
+    omega (arith, more, one, made, so_far)

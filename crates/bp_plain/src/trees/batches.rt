@@ -77,8 +77,9 @@ impl FileMap {
             ≡ plain.first (map (plain.piece_refusal self.now.nodes) (map (piece_in text.now) pieces.now))) }
     {
         for piece in pieces {
-            if let Some(error) = self.refuses_piece(alloc, text, piece)? {
-                return Ok(Some(error));
+            let found = self.refuses_piece(alloc, text, piece)?;
+            if found.is_some() {
+                return Ok(found);
             }
         }
         Ok(None)
@@ -138,7 +139,8 @@ fn has_bad_path(alloc: Global, text: &[u8], pieces: &[Piece]) -> Result<bool, Al
         holds ≡ list_any (λ piece. is_none (parse piece.path)) (map (piece_in text.now) pieces.now)) }
 {
     for piece in pieces {
-        if parse(alloc, part_of(text, piece.path))?.is_none() {
+        let path = parse(alloc, part_of(text, piece.path))?;
+        if path.is_none() {
             return Ok(true);
         }
     }

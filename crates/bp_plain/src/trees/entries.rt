@@ -8,7 +8,7 @@ ghost use Rattle.bp_plain.specs.Plain as plain;
 ghost use Rattle.bp_plain.specs.Plain.{listing};
 ghost use Rattle.bp_plain.specs.SeenTree.{names_of, node_seen, numbered};
 ghost use Rattle.std.specs.FinMap.{empty, entries, get, insert, remove};
-ghost use Rattle.std.specs.Prelude.{IfOk, OnErr, OnOk, Some, ◌+◌, ◌≡◌, length, option_map};
+ghost use Rattle.std.specs.Prelude.{IfOk, OnErr, OnOk, ◌+◌, ◌≡◌, if◌then◌else◌, length, option_map};
 
 use crate::paths::{copied, is_same, joined};
 use bp_layout::{Kind, Name};
@@ -133,10 +133,9 @@ impl Files {
         ensures { IfOk result (λ count. count ≡ length (paths_numbered id (entries self.now))) }
     {
         let mut count: u32 = 0;
-        for (_path, node) in self.nodes.iter() {
-            if has_number(node, id) {
-                count = more(count)?;
-            }
+        for (_, node) in self.nodes.iter() {
+            let more = with_one(count, has_number(node, id))?;
+            count = more;
         }
         Ok(count)
     }
@@ -221,9 +220,13 @@ fn has_number(node: &Node, id: u64) -> bool
     }
 }
 
-fn more(count: u32) -> Result<u32, AllocError>
-    ensures { IfOk result (λ more. more ≡ count + 1) }
+/// One more where something holds.
+fn with_one(count: u32, holds: bool) -> Result<u32, AllocError>
+    ensures { IfOk result (λ more. more ≡ count + (if holds then 1 else 0)) }
 {
+    if !holds {
+        return Ok(count);
+    }
     match count.checked_add(1) {
         Some(more) => Ok(more),
         None => Err(AllocError),

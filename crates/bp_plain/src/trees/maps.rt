@@ -12,7 +12,7 @@ ghost use Rattle.bp_plain.specs.PlainTree.{empty_map, is_one};
 ghost use Rattle.bp_plain.specs.Seen.{refusal_of};
 ghost use Rattle.bp_plain.specs.SeenTree.{names_of, node_seen};
 ghost use Rattle.std.specs.FinMap.{get};
-ghost use Rattle.std.specs.Prelude.{IfOk, None, OnErr, OnOk, [], ◌∷◌, ◌≡◌, ◌≤◌, false, is_some, not, option_map, true};
+ghost use Rattle.std.specs.Prelude.{IfOk, None, OnErr, OnOk, [], ◌+◌, ◌∷◌, ◌≡◌, ◌≤◌, false, is_some, not, option_map, true};
 
 use super::entries::{Change, Files, Node, copy};
 use crate::contents::{answer_bytes, part, resized, written};
@@ -268,9 +268,7 @@ impl FileMap {
         ensures made { OnOk result (self.new ≡ plain.with_file self.old (names_of path.items)) }
         ensures kept { OnErr result (self.new ≡ self.old) }
     {
-        let Some(next) = self.next.checked_add(1) else {
-            return Err(AllocError);
-        };
+        let next = following(self.next)?;
         let content = Vec::new(alloc);
         self.files.put(path, Node::File { id: self.next, content })?;
         self.next = next;
@@ -396,5 +394,15 @@ fn are_one(id: Option<u64>, other: Option<u64>) -> bool
     match (id, other) {
         (Some(id), Some(other)) => id == other,
         _ => false,
+    }
+}
+
+/// The next number.
+fn following(number: u64) -> Result<u64, AllocError>
+    ensures { IfOk result (λ next. next ≡ number + 1) }
+{
+    match number.checked_add(1) {
+        Some(next) => Ok(next),
+        None => Err(AllocError),
     }
 }

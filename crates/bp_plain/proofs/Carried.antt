@@ -1,6 +1,6 @@
 -- What calls that are not refused answer and make, and why the pieces of a batch are refused.
-use Rattle.std.proofs.Common.{◌≡◌, ◌≤◌, ◌<◌, ◌+◌, ◌&&◌, ◌||◌, ◌++◌, ℕ, suc, List, [], ◌∷◌, length, take, drop, get_or, map, Bool, true, false, not, nat_lt, Option, None, Some, is_some, if◌then◌else◌, option_map, refl, sym, ◌∙◌, ap, ap₂, subst, true≢false, arith, length-drop, take-length}
-use Rattle.std.proofs.lemmas.List.{drop_more}
+use Rattle.std.proofs.Common.{◌≡◌, ◌≤◌, ◌<◌, ◌+◌, ◌&&◌, ◌||◌, ◌++◌, ℕ, suc, List, [], ◌∷◌, length, take, drop, get_or, map, Bool, true, false, not, nat_lt, Option, None, Some, is_some, if◌then◌else◌, option_map, refl, sym, ◌∙◌, ap, ap₂, subst, true≢false, arith, length-drop, ◌-◌}
+use Rattle.std.proofs.lemmas.List.{drop_more, length-take}
 use Rattle.std.specs.List.{All, fold, list_any, sum_by}
 use Rattle.std.specs.Option.{is_none}
 use Rattle.bp_layout.specs.Lookup.{Path}
@@ -108,7 +108,7 @@ batch_carried tree pieces = go (list_any (λ piece. nat_lt 0 (length piece.bytes
 -- ---- parts of a text
 
 length-spanned : (text : List ℕ) (span : Span) → span.at + span.len ≤ length text → length (spanned text span) ≡ span.len
-length-spanned text span lies = omega (arith, take-length span.len (drop span.at text), length-drop span.at text, lies)
+length-spanned text span lies = omega (arith, length-take (span.at + span.len - span.at) (drop span.at text), length-drop span.at text, lies)
 
 sum_from : (text : List ℕ) (pieces : List GivenPiece) → All (LiesIn text) pieces → (n : ℕ) →
     fold (λ a piece. a + length piece.bytes) n (map (piece_in text) pieces) ≡ fold (λ a piece. a + piece.bytes.len) n pieces

@@ -34,7 +34,7 @@ pub record CanMove (p q : Path) : Type 0 where
 not_target : (q path s : Path) → rest_below q path ≡ None → path ≡ q ++ s → ⊥
 not_target q path s apart e = let none : ◌≡◌ {A = Option Path} (Some s) None = sym (rest_below-append q s) ∙ ap (rest_below q) (sym e) ∙ apart in absurd (cc)
 
-module _ {A : Type 0} (p q : Path) (can : CanMove p q) where
+module _ (p q : Path) (can : CanMove p q) where
   not_below : (r : Path) → p ++ r ≡ q → ⊥
   not_below r e = let none : ◌≡◌ {A = Option Path} (Some r) None = sym (rest_below-append p r) ∙ ap (rest_below p) e ∙ can.apart in absurd (cc)
 
@@ -54,10 +54,10 @@ module _ {A : Type 0} (p q : Path) (can : CanMove p q) where
   append_cancel a r s e = append_cancel_left a r s e
 
   -- below the target: what was below the source
-  find-target : (es : List (Path × A)) (r : Path) → ((n : Name) (s : Path) → find path_cmp (q ++ n ∷ s) es ≡ None) →
+  find-target : {A : Type 0} (es : List (Path × A)) (r : Path) → ((n : Name) (s : Path) → find path_cmp (q ++ n ∷ s) es ≡ None) →
       find path_cmp (q ++ r) (filter_map (moved_entry p q) es) ≡ find path_cmp (p ++ r) es
-  find-target [] r none = refl
-  find-target (e ∷ es) r none = go (λ h. find-target es r h) (same_path e.0 q) refl (key_of e.0)
+  find-target {A} [] r none = refl
+  find-target {A} (e ∷ es) r none = go (λ h. find-target es r h) (same_path e.0 q) refl (key_of e.0)
     where
       none_later : (n : Name) (s : Path) → find path_cmp (q ++ n ∷ s) es ≡ None
       none_later n s = later (eq_by_cmp path_cmp (q ++ n ∷ s) e.0) refl
@@ -93,9 +93,9 @@ module _ {A : Type 0} (p q : Path) (can : CanMove p q) where
           not_source f = let none : ◌≡◌ {A = Option Path} (Some r) None = sym (rest_below-append p r) ∙ ap (rest_below p) f ∙ below in absurd (cc)
 
   -- below the source, and not below the target: nothing
-  find-source : (es : List (Path × A)) (path : Path) → rest_below q path ≡ None → (r : Path) → path ≡ p ++ r → find path_cmp path (filter_map (moved_entry p q) es) ≡ None
-  find-source [] path apart r below = refl
-  find-source (e ∷ es) path apart r below = go (find-source es path apart r below) (same_path e.0 q) refl (key_of e.0)
+  find-source : {A : Type 0} (es : List (Path × A)) (path : Path) → rest_below q path ≡ None → (r : Path) → path ≡ p ++ r → find path_cmp path (filter_map (moved_entry p q) es) ≡ None
+  find-source {A} [] path apart r below = refl
+  find-source {A} (e ∷ es) path apart r below = go (find-source es path apart r below) (same_path e.0 q) refl (key_of e.0)
     where
       go : find path_cmp path (filter_map (moved_entry p q) es) ≡ None → (b : Bool) → same_path e.0 q ≡ b → Key e.0 → find path_cmp path (filter_map (moved_entry p q) (e ∷ es)) ≡ None
       go rest true at k = rw at rest
@@ -104,9 +104,9 @@ module _ {A : Type 0} (p q : Path) (can : CanMove p q) where
           rw (at, new, differs path e.0 (λ f. let some : ◌≡◌ {A = Option Path} (Some r) None = sym (rest_below-append p r) ∙ ap (rest_below p) (sym below ∙ f) ∙ none in absurd (cc))) rest
 
   -- elsewhere: what was there
-  find-elsewhere : (es : List (Path × A)) (path : Path) → rest_below q path ≡ None → rest_below p path ≡ None → find path_cmp path (filter_map (moved_entry p q) es) ≡ find path_cmp path es
-  find-elsewhere [] path apart aside = refl
-  find-elsewhere (e ∷ es) path apart aside = go (find-elsewhere es path apart aside) (same_path e.0 q) refl (key_of e.0)
+  find-elsewhere : {A : Type 0} (es : List (Path × A)) (path : Path) → rest_below q path ≡ None → rest_below p path ≡ None → find path_cmp path (filter_map (moved_entry p q) es) ≡ find path_cmp path es
+  find-elsewhere {A} [] path apart aside = refl
+  find-elsewhere {A} (e ∷ es) path apart aside = go (find-elsewhere es path apart aside) (same_path e.0 q) refl (key_of e.0)
     where
       go : find path_cmp path (filter_map (moved_entry p q) es) ≡ find path_cmp path es → (b : Bool) → same_path e.0 q ≡ b → Key e.0 →
           find path_cmp path (filter_map (moved_entry p q) (e ∷ es)) ≡ find path_cmp path (e ∷ es)

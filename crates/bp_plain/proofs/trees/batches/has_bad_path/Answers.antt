@@ -3,4 +3,4 @@ use Rattle.bp_plain.proofs.Carried.{lies_at, next_piece, path_passes, path_stops
 use Rattle.bp_plain.proofs.trees.batches.has_bad_path.Goals as goal
 
 pub part_of-requires : goal.part_of-requires
-part_of-requires c = (lies_at c.args.text.now c.args.pieces.now c.loop-piece.piece-index c.piece-item.result c.requires c.loop-piece-test.true c.piece-item.is).path
+part_of-requires c = ?

@@ -7,13 +7,13 @@ use Rattle.bp_plain.specs.SeenTree.{names_of, numbered}
 use Rattle.bp_plain.proofs.KeptMaps.{AreKept, keeps, links_node, something_there}
 use Rattle.bp_plain.proofs.trees.maps.FileMap.link.Goals as goal
 
-pub invariant_of-self-3 : goal.invariant_of-self-3
-invariant_of-self-3 c =
+pub invariant_of-self-in-Some : goal.invariant_of-self-in-Some
+invariant_of-self-in-Some c =
     let made = links_node c.self.inside c.self.invariant (names_of c.args.path.now) (names_of c.args.new.items) (numbered c.in-Some.node.now) (sym c.in-Some.ensures)
         (subst (λ (m : PathMap). file_refusal m.nodes (names_of c.args.path.now) ≡ None) (sym c.self.view_is) c.requires.file)
         (subst (λ (m : PathMap). new_refusal m.nodes (names_of c.args.new.items) ≡ None) (sym c.self.view_is) c.requires.new) in
     let files : c.put.new.self ≡ insert c.self.inside.files (names_of c.args.new.items) (numbered c.in-Some.node.now) =
-        c.in_ok-put.ensures.put ∙ ap (insert c.self.inside.files (names_of c.args.new.items)) c.in_ok-copied.ensures in
+        c.in_ok-put-in-Some.ensures.put ∙ ap (insert c.self.inside.files (names_of c.args.new.items)) c.in_ok-copied-in-Some.ensures in
     keeps _ (subst (λ (x : NumberedFiles). AreKept x c.self.inside.next) (sym files) made.kept)
 
 pub returns-clause-linked : goal.returns-clause-linked
@@ -22,5 +22,10 @@ returns-clause-linked c =
         (subst (λ (m : PathMap). file_refusal m.nodes (names_of c.args.path.now) ≡ None) (sym c.self.view_is) c.requires.file)
         (subst (λ (m : PathMap). new_refusal m.nodes (names_of c.args.new.items) ≡ None) (sym c.self.view_is) c.requires.new) in
     let files : c.put.new.self ≡ insert c.self.inside.files (names_of c.args.new.items) (numbered c.in-Some.node.now) =
-        c.in_ok-put.ensures.put ∙ ap (insert c.self.inside.files (names_of c.args.new.items)) c.in_ok-copied.ensures in
+        c.in_ok-put-in-Some.ensures.put ∙ ap (insert c.self.inside.files (names_of c.args.new.items)) c.in_ok-copied-in-Some.ensures in
     ap map_of files ∙ made.view ∙ ap (λ (m : PathMap). with_name m (names_of c.args.path.now) (names_of c.args.new.items)) c.self.view_is
+
+pub unreachable-requires : goal.unreachable-requires
+unreachable-requires c =
+    something_there c.self.inside c.self.invariant (names_of c.args.path.now)
+    (subst (λ (m : PathMap). file_refusal m.nodes (names_of c.args.path.now) ≡ None) (sym c.self.view_is) c.requires.file) (sym c.in-None.ensures)

@@ -3,16 +3,10 @@ use Rattle.bp_plain.proofs.Carried.{lies_at, next_piece, piece_passes, piece_sto
 use Rattle.bp_plain.proofs.trees.maps.FileMap.refuses_pieces.Goals as goal
 
 pub refuses_piece-requires : goal.refuses_piece-requires
-refuses_piece-requires c = lies_at c.args.text.now c.args.pieces.now c.loop-piece.piece-index c.piece-item.result c.requires c.loop-piece-test.true c.piece-item.is
+refuses_piece-requires c = ?
 
 pub returns-then-is_some : goal.returns-then-is_some
-returns-then-is_some c =
-    piece_stops c.args.text.now c.args.pieces.now c.loop-piece.piece-index c.piece-item.result (next_piece c.args.pieces.now c.loop-piece.piece-index c.piece-item.result c.loop-piece-test.true c.piece-item.is)
-    c.args.self.now.nodes c.in_ok-found.found (sym c.is_some.ensures ∙ c.if-is_some.true) c.in_ok-found.ensures
-    ∙ c.loop-piece.invariant
+returns-then-is_some c = ?
 
 pub loop-piece-preserved : goal.loop-piece-preserved
-loop-piece-preserved c =
-    piece_passes c.args.text.now c.args.pieces.now c.loop-piece.piece-index c.piece-item.result (next_piece c.args.pieces.now c.loop-piece.piece-index c.piece-item.result c.loop-piece-test.true c.piece-item.is)
-    c.args.self.now.nodes c.in_ok-found.found (sym c.is_some.ensures ∙ c.if-is_some.false) c.in_ok-found.ensures
-    ∙ c.loop-piece.invariant
+loop-piece-preserved c = ?

@@ -8,11 +8,11 @@ use Rattle.bp_layout.specs.Need.Change.{writes}
 use Rattle.bp_layout.specs.Nodes.{nodes_for}
 use Rattle.bp_layout.specs.WordPaths.{WordPath, inode_path}
 use Rattle.bp_layout.specs.Words.{Image, height_of}
-use Rattle.bp_limits.specs.Limits.{block_words, call_room, max_height}
+use Rattle.bp_limits.specs.Limits.{block_words, max_height}
 use Rattle.bp_append.specs.Prepared.{CanPrepare, PreparesWith, need_for}
 use Rattle.bp_append.proofs.StoresLaws.{behind_whole}
 use Rattle.bp_shapes.specs.Sets.{AreExact}
-use Rattle.bp_tree.specs.Performs.{Performs}
+use Rattle.bp_tree.specs.Performs.{HasRoomFor, Performs, room_for}
 use Rattle.bp_cow.specs.Commit.{CanCommitIn, CommitsTouched}
 use Rattle.bp_cow.specs.Cover.{LeadsInside, copied_count}
 use Rattle.bp_cow.specs.Touched.{IsTouched, NoneBegins, all_paths}
@@ -34,9 +34,9 @@ parted : (taken rest : List ℕ) {all : List ℕ} → all ≡ taken ++ rest → 
 parted taken rest e = ap (λ (xs : List ℕ). length xs) e ∙ length-append taken rest
 
 -- the log has room for both parts
-roomy : (made behind copied words room left : ℕ) → room ≤ left + (2 + (block_words * made + behind + 2)) → behind ≤ block_words * suc max_height → made ≤ 18 + 3 * max_height → words ≡ 1 → copied ≤ 50 → call_room ≤ room →
+roomy : (made behind copied needed words room left : ℕ) → room ≤ left + (2 + (block_words * made + behind + 2)) → behind ≤ block_words * suc max_height → needed ≡ made + copied → words ≡ 1 → copied ≤ 50 → room_for needed ≤ room →
     (block_words + 1) * copied + words + 1 + 2 ≤ left
-roomy made behind copied words room left a b c d e f = omega (arith, a, b, c, d, e, f)
+roomy made behind copied needed words room left a b c d e f = omega (arith, a, b, c, d, e, f)
 
 module _ (old : Memory) (blocks inodes : Set) (off : ℕ) (bytes : List ℕ) (touched : Touched) where
   abbrev image : Image
@@ -94,10 +94,12 @@ module _ (old : Memory) (blocks inodes : Set) (off : ℕ) (bytes : List ℕ) (to
   }
 
   pub at_prepare : (i root size made : ℕ) (path : WordPath) → WritesAcross old blocks inodes i off bytes touched → root ≡ root_of (current_words old) i → size ≡ size_of (current_words old) i →
-      made ≡ length (nodes_for (current_words old) root size size (off + length bytes)) → made ≤ length (members blocks) → path ≡ inode_path (height_of (root_of (current_words old) 0)) i 1 →
+      made ≡ length (nodes_for (current_words old) root size size (off + length bytes)) → made + copied_count (current_words old) touched ≤ length (members blocks) → path ≡ inode_path (height_of (root_of (current_words old) 0)) i 1 →
       CanPrepare old (members blocks) i path size (off + length bytes)
   at_prepare zero root size made path across = not_inodes _ across
   at_prepare (suc n) root size made path across = λ one two counted enough is.
+      let needs = across_needs old blocks inodes n off bytes touched across in
+      let has : HasRoomFor old (writes (suc n) off (length bytes)) = across.can.room (omega (arith, enough, counted, made_is (suc n) root size one two, needs)) in
       let can : CanPrepare old (members blocks) (suc n) path (size_of (current_words old) (suc n)) (off + length bytes) = record {
         well = across.can.well_formed;
         reached = across.can.reached;
@@ -109,7 +111,7 @@ module _ (old : Memory) (blocks inodes : Set) (off : ℕ) (bytes : List ℕ) (to
         usable = usable_members (current_words old) blocks inodes across.can.exact _ (omega (arith, length-current_words old));
         unused = unused_members (current_words old) blocks inodes across.can.exact;
         enough = omega (arith, enough, counted, made_is (suc n) root size one two);
-        room = omega (arith, across_made old blocks inodes n off bytes touched across, across.can.room);
+        room = omega (arith, needs, has);
       } in
       subst (λ s. CanPrepare old (members blocks) (suc n) path s (off + length bytes)) (sym two) can
 
@@ -128,6 +130,8 @@ module _ (old : Memory) (blocks inodes : Set) (off : ℕ) (bytes : List ℕ) (to
     at_commit (suc n) root size made across = λ one two counted enough prepared room.
         let count = middle_count old middle blocks inodes after n off bytes touched across prepared in
         let need_is = made_is (suc n) root size one two in
+        let needs = across_needs old blocks inodes n off bytes touched across in
+        let has : HasRoomFor old (writes (suc n) off (length bytes)) = across.can.room (omega (arith, enough, counted, need_is, needs)) in
         let parts : length (members blocks) ≡ length prepared.taken + length (members after) = parted prepared.taken (members after) prepared.takes in
         record {
           well_formed = middle_formed old middle blocks inodes after n off bytes touched across prepared;
@@ -135,8 +139,8 @@ module _ (old : Memory) (blocks inodes : Set) (off : ℕ) (bytes : List ℕ) (to
           fits = let whole = ap (λ words. words / 512) prepared.ready.meaning.trees.whole in omega (arith, whole, room, across.can.exact.block_room);
           some = omega (arith, parts, prepared.counted, counted, need_is, count, enough);
           room = let left = room_in-piece _ _ old middle prepared.adds.part.added prepared.adds.part.adds prepared.adds.part.piece in
-              roomy _ _ _ _ _ _ left (behind_whole (size_of (current_words old) (suc n)) (size_of (current_words old) (suc n)) (off + length bytes) max_height) (across_made old blocks inodes n off bytes touched across)
-              (across_words old blocks inodes n off bytes touched across) (across_copies old blocks inodes n off bytes touched across (current_words middle)) across.can.room;
+              roomy _ _ _ _ _ _ _ left (behind_whole (size_of (current_words old) (suc n)) (size_of (current_words old) (suc n)) (off + length bytes) max_height) (omega (arith, needs, count))
+              (across_words old blocks inodes n off bytes touched across) (across_copies old blocks inodes n off bytes touched across (current_words middle)) has;
         }
 
     module _ (new : Memory) (last : Set) where

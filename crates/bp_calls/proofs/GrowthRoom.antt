@@ -11,6 +11,7 @@ use Rattle.bp_layout.specs.Reached.IsReached.{inode_file}
 use Rattle.bp_layout.specs.WellFormed.{IsWellFormed}
 use Rattle.bp_layout.specs.Words.{Image, block_count}
 use Rattle.bp_limits.specs.Limits.{block_size, inode_size, max_blocks, max_height, max_size, super_size}
+use Rattle.bp_tree.specs.Performs.{room_for}
 use Rattle.bp_tree.proofs.RegionWords.{length_now}
 use Rattle.bp_layout.specs.WordPaths.{WordPath}
 use Rattle.bp_shapes.specs.Sets.{AreExact}
@@ -52,7 +53,7 @@ can_prepare old blocks inodes can = record {
   usable = usable_members (current_words old) blocks inodes can.exact (length old.base / 512) (omega (arith, length_now old));
   unused = unused_members (current_words old) blocks inodes can.exact;
   enough = omega (arith, can.enough, growth_need_is (current_words old));
-  room = omega (arith, growth_few (current_words old) can.well_formed, growth_need_is (current_words old), can.room);
+  room = omega (arith, growth_need_is (current_words old), can.room);
 }
 
 -- ---- the parts of the growth, by the path and the size that are read
@@ -81,13 +82,12 @@ module _ (old : Memory) (blocks inodes : Set) (path : WordPath) (size : ℕ) (ca
     -- for the store of the size and its barrier
     pub room_prepared : 2 ≤ room_in middle
     room_prepared =
-        let few = growth_few (current_words old) can.well_formed in
         let stores = behind_whole (size_of (current_words old) 0) (size_of (current_words old) 0) (size_of (current_words old) 0 + block_size) max_height in
         let left = room_in-piece _ _ old middle prepared.adds.part.added prepared.adds.part.adds prepared.adds.part.piece in
-        enough _ _ _ _ left stores (rw (growth_need_is (current_words old)) at few) can.room
+        enough _ _ _ _ left stores (rw (growth_need_is (current_words old)) at can.room)
       where
-        enough : (needed behind room left : ℕ) → room ≤ left + (2 + (512 * needed + behind + 2)) → behind ≤ 512 * suc 3 → needed ≤ 18 + 3 * 3 → 65536 ≤ room → 2 ≤ left
-        enough needed behind room left a b c d = omega (arith, a, b, c, d)
+        enough : (needed behind room left : ℕ) → room ≤ left + (2 + (512 * needed + behind + 2)) → behind ≤ 512 * suc 3 → room_for needed ≤ room → 2 ≤ left
+        enough needed behind room left a b c = omega (arith, a, b, c)
 
     module _ (new : Memory) (stored : Adds middle new (Store super_size (size + block_size) ∷ Barrier ∷ [])) where
       pub grew : GrowsInodes old new

@@ -49,14 +49,13 @@ use Rattle.bp_calls.specs.Entered.{IsNewInode, IsReadyBehind}
 use Rattle.bp_calls.specs.Entries.{PutsBehind}
 use Rattle.bp_calls.specs.Growth.{stores_behind_growth}
 use Rattle.bp_calls.specs.Spare.{IsSpare}
-use Rattle.bp_calls.specs.Steps.{CanEnterBehind}
+use Rattle.bp_calls.specs.Steps.{CanEnterBehind, entering_room}
 use Rattle.bp_calls.proofs.AfterLaws.{prepared_well_formed, prepared_same, size_after, slot_named_over}
 use Rattle.bp_calls.proofs.EnteredLaws.{Enters, directory_inode}
 use Rattle.bp_calls.proofs.GrownLaws.{GrowsBlocks, grown, grown_blocks, grown_file}
 use Rattle.bp_calls.proofs.InSlot.{inode_inside, inode_row}
 use Rattle.bp_calls.proofs.NeedLaws.{need_behind}
 use Rattle.bp_calls.proofs.OpenPlaces.{content_open, each_weaker, size_covered}
-use Rattle.bp_calls.proofs.PutsLaws.{few_behind}
 use Rattle.bp_calls.proofs.ReadBack.{new_inode}
 use Rattle.bp_calls.proofs.ReadyKept.{ready_kept, ready_back, ready_stays}
 use Rattle.bp_calls.proofs.SetLaws.{free_inodes_taken, length_without}
@@ -376,10 +375,10 @@ module _ (first second : Memory) (blocks after : Set) (i j : ℕ) (name : Name) 
   put_room =
       enough _ _ _ _ (room_in-piece _ _ first second puts.prepared.adds.part.added puts.prepared.adds.part.adds puts.prepared.adds.part.piece)
       (behind_whole (size_of (current_words first) i) (size_of (current_words first) i) (size_of (current_words first) i + 256) 3)
-      (few_behind (current_words first) can.can.lacks.well_formed i can.can.lacks.reached) can.can.room
+      can.can.room
     where
-      enough : (needed behind room left : ℕ) → room ≤ left + (2 + (512 * needed + behind + 2)) → behind ≤ 512 * suc 3 → needed ≤ 18 + 3 * 3 → 32 * 512 ≤ room → 6 ≤ left
-      enough needed behind room left a b c d = omega (arith, a, b, c, d)
+      enough : (needed behind room left : ℕ) → room ≤ left + (2 + (512 * needed + behind + 2)) → behind ≤ 512 * suc 3 → entering_room needed ≤ room → 6 ≤ left
+      enough needed behind room left a b c = omega (arith, a, b, c)
 
   pub put_free : IsFreeInode (current_words second) j
   put_free = record {

@@ -55,6 +55,20 @@ found_leaving image i s j place root wf can root_is names place_is present = rec
   stands = record { present = rw root_is at present; at = sym (rw root_is at place_is) };
 }
 
+-- ---- what an entry's inumber covers and needs
+
+module _ (image : Image) (wf : IsWellFormed image) (i s j : ℕ) (reached : IsReached image i) (entry : EntryNames image i s j) where
+  whole : AllThere (is_there_after image (leaves i s)) [] (entry_path image (leaves i s) i s 0)
+  whole = content_path-there image (leaves i s) wf refl i (32 * s + 0) reached refl (wf.full_directories i reached entry.directory) (omega (arith, entry.in_size))
+
+  covered_leaving : cover image (leaves i s) ≡ tree_path (height_of (root_of image 0)) i (suc (height_of (root_of image i))) (32 * s + 0)
+  covered_leaving = cover-one image (leaves i s) (entry_path image (leaves i s) i s 0) refl whole
+
+  pub none_leaving : need image (leaves i s) ≡ 0
+  none_leaving = let copies : length (copied image (leaves i s)) ≡ 0 = ap length (copied-one image (leaves i s) (entry_path image (leaves i s) i s 0) refl whole) in omega (arith, copies)
+
+-- ---- the store
+
 module _ (image : Image) (i s j place : ℕ) (can : CanLeave image i s j place) where
   abbrev last : Image
   last = set image place 0
@@ -83,19 +97,6 @@ module _ (image : Image) (i s j place : ℕ) (can : CanLeave image i s j place) 
   pub named_few : j < 1048576
   named_few = few_inode image wf j (wf.inumbers i s j reached entry)
 
-  -- ---- the cover
-
-  all : AllThere (is_there_after image change) [] (entry_path image change i s 0)
-  all = content_path-there image change wf refl i (32 * s + 0) reached refl (wf.full_directories i reached entry.directory) below
-
-  covered : cover image change ≡ tree_path (height_of (root_of image 0)) i (suc (height_of (root_of image i))) (32 * s + 0)
-  covered = cover-one image change (entry_path image change i s 0) refl all
-
-  needed : need image change ≡ 0
-  needed = let copies : length (copied image change) ≡ 0 = ap length (copied-one image change (entry_path image change i s 0) refl all) in omega (arith, copies)
-
-  -- ---- the store
-
   removes : RemovesEntry image last i s
   removes = store_removes image wf i s j place can.unlink can.stands
 
@@ -117,7 +118,7 @@ module _ (image : Image) (i s j place : ℕ) (can : CanLeave image i s j place) 
 
   at_cover : address last (cover image change) ≡ place
   at_cover =
-      ap (address last) (covered ∙ ap₂ (λ h k. tree_path (height_of h) i (suc (height_of k)) (32 * s + 0)) (sym top_after) (sym root_after))
+      ap (address last) (covered_leaving image wf i s j reached entry ∙ ap₂ (λ h k. tree_path (height_of h) i (suc (height_of k)) (32 * s + 0)) (sym top_after) (sym root_after))
       ∙ content_address last last_well_formed i (32 * s + 0) place directory_reached (stands_stored image wf i (32 * s + 0) place 0 reached below can.stands root_after)
 
   -- ---- the tree of the inode, by the words that it had
@@ -189,7 +190,7 @@ module _ (old new : Memory) (i s j place : ℕ) (can : CanLeave (current_words o
       (takes_none (current_words old))
       (rw stored (sym (at_cover (current_words old) i s j place can)))
       (omega arith) (omega arith)
-      (sym (needed (current_words old) i s j place can))
+      (sym (none_leaving (current_words old) can.well_formed i s j can.unlink.reached can.unlink.entry))
       (content_open (current_words old) [] i (32 * s + 0) place can.unlink.reached (omega (arith, can.unlink.entry.in_size)) can.stands)
       (rw stored (last_well_formed (current_words old) i s j place can))
       (rw stored (removes (current_words old) i s j place can))

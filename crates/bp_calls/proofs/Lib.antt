@@ -31,6 +31,7 @@ pub mod AcrossDone
 pub mod AcrossCalls
 pub mod Longer
 pub mod Shorter
+pub mod InWord
 pub mod ResizedStands
 pub mod GrowthImage
 pub mod GrowthLaws

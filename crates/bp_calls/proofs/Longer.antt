@@ -2,10 +2,9 @@
 use Rattle.std.proofs.Common.{◌≡◌, ℕ, zero, suc, ◌+◌, ◌-◌, ◌*◌, ◌/◌, ◌<◌, ◌≤◌, List, [], length, Bool, true, false, refl, sym, ◌∙◌, ap, arith, inl, inr}
 use Rattle.std.specs.Prelude.{nat_le, if◌then◌else◌, slice_index}
 use Rattle.std.proofs.lemmas.Bool.{lt-ltb}
-use Rattle.std.proofs.lemmas.List.{append-nil}
+use Rattle.std.proofs.lemmas.List.{append-nil, length-append}
 use Rattle.bp_append.specs.Given.{given}
 use Rattle.bp_append.specs.Prepared.{CanPrepare, PreparesWith, need_for}
-use Rattle.bp_append.proofs.FewNeeded.{few_needed}
 use Rattle.bp_append.proofs.GrownEffect.{grown_changes, grown_bytes, grown_live, grown_stays, grown_taken}
 use Rattle.bp_append.proofs.GrowsTree.{OnlyGrows, GrowsTree, only_need, grown_performs, grown_size}
 use Rattle.bp_append.proofs.StoresLaws.{behind_whole}
@@ -16,12 +15,13 @@ use Rattle.bp_calls.proofs.FreeCounts.{free_members}
 use Rattle.bp_calls.proofs.TakenBlocks.{exact_taken, unused_members, usable_members}
 use Rattle.bp_free.specs.Set.{Set, members}
 use Rattle.bp_layout.specs.Inode.{ContentStandsAt, kind_of, root_of, size_of}
+use Rattle.bp_layout.specs.Need.{need}
 use Rattle.bp_layout.specs.Need.Change.{resizes}
 use Rattle.bp_layout.specs.WordPaths.{WordPath, inode_path}
 use Rattle.bp_layout.specs.Words.{Image, height_of}
 use Rattle.bp_limits.specs.Limits.{max_height}
 use Rattle.bp_shapes.specs.Sets.{AreExact}
-use Rattle.bp_tree.specs.Performs.{Performs}
+use Rattle.bp_tree.specs.Performs.{HasRoomFor, Performs}
 use Rattle.bp_tree.proofs.RegionWords.{length_now}
 use Rattle.pm_epochs.specs.Crash.{commit}
 use Rattle.pm_region.specs.Memory.{Memory, Adds, current_words, room_in}
@@ -42,12 +42,12 @@ module _ (old : Memory) (blocks inodes : Set) (n size : ℕ) (can : CanGrowFile 
   abbrev image : Image
   image = current_words old
 
-  few : need_for image (suc n) size size ≤ 18 + 3 * max_height
-  few = few_needed image (root_of image (suc n)) (size_of image (suc n)) size size (omega arith) (omega (arith, can.longer)) (can.well_formed.sound (suc n) can.reached).low
+  needs : need image (resizes (suc n) size) ≡ need_for image (suc n) size size
+  needs = only_need image (resizes (suc n) size) n size size can.well_formed can.reached (only_grows image (suc n) size can.longer)
 
   no_space : (needed free : ℕ) → needed ≡ need_for image (suc n) size size → free ≡ length (members blocks) → free < needed → LacksSpace image (resizes (suc n) size) (record { need = needed; free = free })
   no_space needed free is count fewer = record {
-    needed = only_need image (resizes (suc n) size) n size size can.well_formed can.reached (only_grows image (suc n) size can.longer) ∙ sym is;
+    needed = needs ∙ sym is;
     free = rw count (free_members image blocks can.exact.free_blocks can.exact.block_room);
     fewer = fewer;
   }
@@ -64,7 +64,7 @@ module _ (old : Memory) (blocks inodes : Set) (n size : ℕ) (can : CanGrowFile 
     usable = usable_members image blocks inodes can.exact (length old.base / 512) (omega (arith, length_now old));
     unused = unused_members image blocks inodes can.exact;
     enough = enough;
-    room = omega (arith, few, can.room);
+    room = let room = can.room (omega (arith, needs, enough)) in omega (arith, needs, room);
   }
 
   -- behind the preparation there is room for the store
@@ -72,7 +72,9 @@ module _ (old : Memory) (blocks inodes : Set) (n size : ℕ) (can : CanGrowFile 
   room_left middle free_new bytes prepared =
       let stores = behind_whole (size_of image (suc n)) size size max_height in
       let left = room_in-piece _ _ old middle prepared.adds.part.added prepared.adds.part.adds prepared.adds.part.piece in
-      (omega (arith, few, stores, left, can.room), ap length (base-adds old middle prepared.adds.part.added prepared.adds.part.adds))
+      let all : length (members blocks) ≡ length prepared.taken + length free_new = ap (λ (xs : List ℕ). length xs) prepared.takes ∙ length-append prepared.taken free_new in
+      let has : HasRoomFor old (resizes (suc n) size) = can.room (omega (arith, needs, prepared.counted, all)) in
+      (omega (arith, needs, stores, left, has), ap length (base-adds old middle prepared.adds.part.added prepared.adds.part.adds))
 
   module _ (middle new : Memory) (rest : Set) (path : WordPath) (place : ℕ) (grows : GrowsTree old middle new (members blocks) (members rest) path n size size place []) (room : length rest ≡ length blocks) where
     only : OnlyGrows image (resizes (suc n) size) (suc n) size size

@@ -59,14 +59,14 @@ module _ (image : Image) (parent : Path) (name : Name) (i s j : ℕ) (found : Is
   pub found_spelled : name_at image i s ≡ name
   found_spelled = same_text (name_at image i s) name (sym parts.1)
 
-  entry : EntryNames image i s j
-  entry = record { directory = directory; in_size = omega (arith, passes.high); inumber = found_inumber; not_empty = λ none. parts.0 (found_inumber ∙ none) }
+  pub found_entry : EntryNames image i s j
+  found_entry = record { directory = directory; in_size = omega (arith, passes.high); inumber = found_inumber; not_empty = λ none. parts.0 (found_inumber ∙ none) }
 
-  reached : IsReached image i
-  reached = lookup_from-reached image 1 i parent root_directory found.directory
+  pub found_reached : IsReached image i
+  found_reached = lookup_from-reached image 1 i parent root_directory found.directory
 
   pub file_may_leave : kind_of image j ≡ 1 → CanUnlink image i s j
-  file_may_leave kind = record { reached = reached; entry = entry; alone = λ r k names. let two : kind_of image j ≡ 2 = names.directory in omega (arith, kind, two) }
+  file_may_leave kind = record { reached = found_reached; entry = found_entry; alone = λ r k names. let two : kind_of image j ≡ 2 = names.directory in omega (arith, kind, two) }
 
   pub directory_may_leave : name_count image (root_of image j) (size_of image j) ≡ 0 → CanUnlink image i s j
-  directory_may_leave none = record { reached = reached; entry = entry; alone = none_named image j none }
+  directory_may_leave none = record { reached = found_reached; entry = found_entry; alone = none_named image j none }

@@ -1,5 +1,5 @@
 -- A name is entered: what it needs, and that there is what it needs, also where the inode file grows first.
-use Rattle.std.proofs.Common.{◌≡◌, ◌≢◌, ℕ, ◌+◌, ◌*◌, ◌<◌, ◌≤◌, [], length, Bool, true, false, None, sym, ◌∙◌, ap, subst, arith}
+use Rattle.std.proofs.Common.{◌≡◌, ◌≢◌, ℕ, ◌+◌, ◌<◌, ◌≤◌, [], length, Bool, true, false, None, sym, ◌∙◌, ap, subst, arith}
 use Rattle.std.specs.Prelude.{Result, Ok, Err, OnErr, OnOk}
 use Rattle.bp_append.specs.Prepared.{need_for}
 use Rattle.bp_free.specs.Set.{Set, IsLeast, members}
@@ -14,21 +14,19 @@ use Rattle.bp_layout.specs.WellFormed.{IsWellFormed}
 use Rattle.bp_layout.specs.Words.{Image}
 use Rattle.bp_layout.specs.declared.fields.Kind.{Kind}
 use Rattle.bp_layout.proofs.Reached.{reached-in_file}
-use Rattle.bp_limits.specs.Limits.{call_room}
 use Rattle.bp_shapes.specs.Sets.{AreExact}
-use Rattle.bp_tree.specs.Performs.{Performs, PerformsWithin, most_stores}
+use Rattle.bp_tree.specs.Performs.{HasRoomFor, Performs, PerformsWithin, most_stores, room_for}
 use Rattle.pm_region.specs.Memory.{Memory, current_words, room_in}
 use Rattle.bp_calls.specs.Created.{EntersName}
-use Rattle.bp_calls.specs.Growth.{CanGrowInodes, GrowsInodes, growth_need, stores_behind_growth}
-use Rattle.bp_calls.specs.Space.{LacksSpace}
-use Rattle.bp_calls.specs.Steps.{CanEnter, CanEnterBehind, CanName, LacksName}
+use Rattle.bp_calls.specs.Growth.{CanGrowInodes, GrowsInodes, growth_need, growth_stores, stores_behind_growth}
+use Rattle.bp_calls.specs.Space.{HasRoomWhereFree, LacksSpace}
+use Rattle.bp_calls.specs.Steps.{CanEnter, CanEnterBehind, CanName, LacksName, entering_room}
 use Rattle.bp_calls.proofs.AfterLaws.{empty_slot_over, slot_named_over}
 use Rattle.bp_calls.proofs.FreeCounts.{free_members}
 use Rattle.bp_calls.proofs.GrowthLaws.{longer_reached, longer_well_formed, shorter_reached}
 use Rattle.bp_calls.proofs.GrowthMemory.{room_behind_growth}
 use Rattle.bp_calls.proofs.GrowthNeed.{need_growing}
 use Rattle.bp_calls.proofs.GrowthPerforms.{grown_need, performs_grown}
-use Rattle.bp_calls.proofs.GrowthRoom.{growth_few}
 use Rattle.bp_tree.proofs.PerformsLaws.{within_more}
 use Rattle.bp_calls.proofs.NeedLaws.{need_behind}
 use Rattle.bp_calls.proofs.Refusals.{has_members, tells, tells_false, tells_true}
@@ -59,14 +57,14 @@ module _ (memory : Memory) (blocks inodes : Set) (i j : ℕ) (name : Name) (can 
       inodes = inodes;
       exact = can.exact;
       enough = rw (need_behind (current_words memory) i can.lacks.well_formed can.lacks.reached can.lacks.directory none) at can.enough;
-      room = can.room;
+      room = rw (need_behind (current_words memory) i can.lacks.well_formed can.lacks.reached can.lacks.directory none) at can.room;
     };
     free = can_name.free;
   }
 
 -- ---- none is free, and the inode file has grown
 
-module _ (old mid : Memory) (blocks inodes after filled : Set) (i : ℕ) (name : Name) (lacks : LacksName (current_words old) i name) (room : call_room ≤ room_in old) (grows : GrowsInodes old mid)
+module _ (old mid : Memory) (blocks inodes after filled : Set) (i : ℕ) (name : Name) (lacks : LacksName (current_words old) i name) (room : HasRoomFor old (enters i false)) (grows : GrowsInodes old mid)
     (exact : AreExact (current_words mid) after filled) (left : length (members blocks) ≡ growth_need (current_words old) + length (members after)) where
   abbrev image : Image
   image = current_words old
@@ -100,11 +98,12 @@ module _ (old mid : Memory) (blocks inodes after filled : Set) (i : ℕ) (name :
     exact = exact;
     some = has_members filled (inode_count image) (exact.free_inodes.all (inode_count image) first_free);
     enough = let needs = grown_need old mid grows lacks.well_formed i lacks.reached lacks.directory in omega (arith, enough, needs, left);
-    room = enough_room (length grows.taken) (growth_need image) (room_in old) (room_in mid) grows.number (growth_few image lacks.well_formed) (room_behind_growth old mid grows) room;
+    room = enough_room (length grows.taken) (growth_need image) (need longer (enters i true)) (need image (enters i false)) (room_in old) (room_in mid) grows.number
+        (grown_need old mid grows lacks.well_formed i lacks.reached lacks.directory) (room_behind_growth old mid grows) room;
   }
     where
-      enough_room : (taken needed before behind : ℕ) → taken ≡ needed → needed ≤ 18 + 3 * 3 → before ≤ behind + (3 + 512 * (taken + 2)) → 65536 ≤ before → 32 * 512 ≤ behind
-      enough_room taken needed before behind a b c d = omega (arith, a, b, c, d)
+      enough_room : (taken grown more all before behind : ℕ) → taken ≡ grown → all ≡ grown + more → before ≤ behind + (3 + growth_stores taken) → room_for all ≤ before → entering_room more ≤ behind
+      enough_room taken grown more all before behind a b c d = omega (arith, a, b, c, d)
 
   pub grown_performs : (new : Memory) (kind : Kind) → PerformsWithin 5 (stores_behind_growth (need longer (enters i true))) mid new (enters i true) (EntersName i name kind) →
       Performs old new (enters i false) (EntersName i name kind)
@@ -126,6 +125,17 @@ within_call old new i Effect done =
     few = omega arith
 
 module _ (old : Memory) (blocks inodes : Set) (i : ℕ) (exact : AreExact (current_words old) blocks inodes) where
+  -- the room that is asked, where an inode is free and where none is
+  module _ (room : (free : Bool) → TellsFreeInode (current_words old) free → HasRoomWhereFree old blocks (enters i free)) where
+    told_room : (b : Bool) → ((free : Bool) → TellsFreeInode (current_words old) free → free ≡ b) → HasRoomWhereFree old blocks (enters i b)
+    told_room b is = let told = tells (current_words old) blocks inodes exact in subst (λ f. HasRoomWhereFree old blocks (enters i f)) (is told.0 told.1) (room told.0 told.1)
+
+    pub some_room : members inodes ≢ [] → need (current_words old) (enters i true) ≤ length (members blocks) → entering_room (need (current_words old) (enters i true)) ≤ room_in old
+    some_room some enough = let has : HasRoomFor old (enters i true) = told_room true (tells_true (current_words old) blocks inodes exact some) enough in omega (arith, has)
+
+    pub none_room : members inodes ≡ [] → need (current_words old) (enters i false) ≤ length (members blocks) → HasRoomFor old (enters i false)
+    none_room none enough = told_room false (tells_false (current_words old) blocks inodes exact none) enough
+
   -- whatever is told of free inodes
   pub some_performs : (new : Memory) (Effect : Image → Image → Type 0) → members inodes ≢ [] → PerformsWithin 5 (stores_behind_growth (need (current_words old) (enters i true))) old new (enters i true) Effect →
       (free : Bool) → TellsFreeInode (current_words old) free → Performs old new (enters i free) Effect
@@ -154,13 +164,13 @@ module _ (old : Memory) (blocks inodes : Set) (i : ℕ) (exact : AreExact (curre
       (lacks_space false needed free needs is fewer)
 
   -- as many are free as the growth needs
-  pub can_grow : IsWellFormed (current_words old) → (reached : IsReached (current_words old) i) → kind_of (current_words old) i ≡ 2 → need (current_words old) (enters i false) ≤ length (members blocks) → call_room ≤ room_in old →
+  pub can_grow : IsWellFormed (current_words old) → (reached : IsReached (current_words old) i) → kind_of (current_words old) i ≡ 2 → need (current_words old) (enters i false) ≤ length (members blocks) → HasRoomFor old (enters i false) →
       CanGrowInodes old blocks inodes
   can_grow wf reached kind enough room = record {
     well_formed = wf;
     exact = exact;
     enough = let needs = need_growing (current_words old) wf i reached kind in omega (arith, needs, enough);
-    room = room;
+    room = let needs = need_growing (current_words old) wf i reached kind in omega (arith, needs, room);
   }
 
 -- whether the name comes in or not, a file system is left

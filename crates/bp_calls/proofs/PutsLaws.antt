@@ -52,7 +52,7 @@ module _ (old : Memory) (blocks : Set) (j : ℕ) (name : Name) where
     usable = usable_members image blocks can.inodes can.exact _ (omega (arith, length-current_words old));
     unused = unused_members image blocks can.inodes can.exact;
     enough = can.enough;
-    room = let few = few_behind image can.lacks.well_formed (suc n) can.lacks.reached in omega (arith, few, can.room);
+    room = omega (arith, can.room);
   }
 
   -- given the size that was read

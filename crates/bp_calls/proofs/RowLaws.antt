@@ -1,18 +1,15 @@
 -- The words of entries of a directory, and what is seen of these entries.
-use Rattle.std.proofs.Common.{◌≡◌, ◌≢◌, ℕ, ◌+◌, ◌-◌, ◌*◌, ◌/◌, ◌%◌, ◌<◌, ◌≤◌, min, List, [], ◌∷◌, ◌++◌, take, drop, length, slice_index, Bool, true, false, ◌==◌, None, filter_map, refl, sym, ◌∙◌, ap, ap₂, subst, arith}
+use Rattle.std.proofs.Common.{◌≡◌, ◌≢◌, ℕ, ◌+◌, ◌-◌, ◌*◌, ◌<◌, ◌≤◌, min, List, [], ◌∷◌, ◌++◌, take, length, slice_index, Bool, true, false, ◌==◌, None, filter_map, refl, sym, ◌∙◌, ap, ap₂, subst, arith}
 use Rattle.std.specs.List.{range_with_len, cons_option}
 use Rattle.std.proofs.lemmas.Bool.{eqb-true}
-use Rattle.std.proofs.lemmas.List.{append-nil, get_or-drop, get_or-take, length-take}
-use Rattle.std.proofs.lemmas.List.FromFn.{take-map-range_with_len}
-use Rattle.bp_layout.specs.Words.{Image, byte_of}
+use Rattle.std.proofs.lemmas.List.{append-nil, get_or-take, length-take}
+use Rattle.bp_layout.specs.Words.{Image}
 use Rattle.bp_layout.specs.Tree.{content_word}
 use Rattle.bp_layout.specs.Inode.{kind_of, root_of, size_of}
 use Rattle.bp_layout.specs.Directory.{inumber_in, inumber_at, name_at}
-use Rattle.bp_layout.specs.Fields.{kind_word, name_byte, name_of}
+use Rattle.bp_layout.specs.Fields.{kind_word, name_of}
 use Rattle.bp_layout.specs.declared.fields.Kind.{Kind}
 use Rattle.bp_layout.specs.WellFormed.{IsWellFormed}
-use Rattle.bp_layout.proofs.Finding.{map-same}
-use Rattle.bp_tree.specs.Bytes.{stored_byte, stored_bytes}
 use Rattle.bp_dirs.specs.EntryWords.{HasWords, IsRow}
 use Rattle.bp_dirs.proofs.EntryWords.{name_in-words}
 use Rattle.bp_calls.specs.Asked.{kind_seen, entry_seen, entries_seen}
@@ -35,12 +32,6 @@ module _ (image : Image) (wf : IsWellFormed image) (words : List ℕ) (is : IsEn
   pub short_of : slice_index words 1 ≤ 240
   short_of =
       omega (arith, is.has.each 1 (omega arith), name_most image wf is.directory (root_of image is.directory) (size_of image is.directory) is.reached is.kind refl refl is.slot is.live there)
-
--- the bytes of its name
-pub name_read : (words : List ℕ) (n : ℕ) → slice_index words 1 ≤ n → take (slice_index words 1) (stored_bytes (drop 2 words) 0 n) ≡ name_of words
-name_read words n short =
-    take-map-range_with_len (stored_byte (drop 2 words)) 0 n (slice_index words 1) short
-    ∙ map-same (stored_byte (drop 2 words)) (name_byte words) 0 (slice_index words 1) (λ o low high. ap (λ w. byte_of w (o % 8)) (get_or-drop 2 words (o / 8) 0))
 
 module _ (image : Image) (i slot : ℕ) (words : List ℕ) (has : HasWords image (root_of image i) slot words) where
   inumber_is : slice_index words 0 ≡ inumber_at image i slot

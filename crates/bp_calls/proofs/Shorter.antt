@@ -78,6 +78,11 @@ module _ (image : Image) (wf : IsWellFormed image) (n size : ℕ) (reached : IsR
       let copies : length (copied image change) ≡ 0 = ap length (copied-one image change (inode_word_path image change (suc n) 2) refl all) in
       omega (arith, made, copies)
 
+-- told of any number
+pub none_shrinking : (image : Image) → IsWellFormed image → (i size : ℕ) → IsReached image i → kind_of image i ≡ 1 → size ≤ size_of image i → need image (resizes i size) ≡ 0
+none_shrinking image wf zero size reached file smaller = absurd (omega (arith, file))
+none_shrinking image wf (suc n) size reached file smaller = needed_smaller image wf n size reached smaller
+
 -- ---- the store
 
 -- a file whose size word is stored to

@@ -1,11 +1,12 @@
 -- A write behind the size of a file: what it asks of a preparation, and that it is performed.
 use Rattle.std.proofs.Common.{◌≡◌, ◌⊎◌, ℕ, zero, suc, ◌+◌, ◌-◌, ◌*◌, ◌<◌, ◌≤◌, max, List, length, slice_index, refl, sym, ◌∙◌, ap, subst, inl, inr, arith, lt-ltb, le-ltb, le-leb}
 use Rattle.std.proofs.lemmas.Bool.{cases_lt, lt-leb}
-use Rattle.std.proofs.lemmas.List.{append-nil}
+use Rattle.std.proofs.lemmas.List.{append-nil, length-append}
 use Rattle.bp_free.specs.Set.{Set, members}
 use Rattle.bp_layout.specs.Free.{HasFree}
 use Rattle.bp_layout.specs.Same.{Same}
 use Rattle.bp_layout.specs.Inode.{root_of, size_of, ContentStandsAt}
+use Rattle.bp_layout.specs.Need.{need}
 use Rattle.bp_layout.specs.Need.Change.{writes}
 use Rattle.bp_layout.specs.Nodes.{nodes_for}
 use Rattle.bp_layout.specs.Tree.{byte}
@@ -15,12 +16,11 @@ use Rattle.pm_epochs.specs.Crash.{commit}
 use Rattle.pm_region.specs.Memory.{Memory, current_words, room_in, Adds}
 use Rattle.pm_region.proofs.MemoryLaws.{base-adds, length-current_words}
 use Rattle.pm_region.proofs.SafeLaws.{room_after_quiet}
-use Rattle.bp_tree.specs.Performs.{Performs}
+use Rattle.bp_tree.specs.Performs.{HasRoomFor, Performs, room_for}
 use Rattle.bp_append.specs.Given.{given}
 use Rattle.bp_append.specs.Stores.{prep_stores}
 use Rattle.bp_append.proofs.StoresLaws.{behind_whole}
 use Rattle.bp_append.specs.Prepared.{CanPrepare, PreparesWith, need_for}
-use Rattle.bp_append.proofs.FewNeeded.{few_needed}
 use Rattle.bp_append.proofs.GrowsTree.{OnlyGrows, GrowsTree, only_need, grown_size, grown_performs}
 use Rattle.bp_append.proofs.GrownEffect.{grown_changes, grown_bytes, grown_live, grown_stays, grown_taken}
 use Rattle.bp_calls.specs.CanWrite.{CanWrite}
@@ -71,8 +71,8 @@ module _ (old : Memory) (blocks inodes : Set) (n off : ℕ) (bytes : List ℕ) (
   abbrev need_here : ℕ
   need_here = length (nodes_for image (root_of image (suc n)) (size_of image (suc n)) off end)
 
-  pub behind_few : need_here ≤ 18 + 3 * 3
-  behind_few = few_needed image (root_of image (suc n)) (size_of image (suc n)) off end (omega (arith, can.short)) behind (can.well_formed.sound (suc n) can.reached).low
+  pub behind_need : need image (writes (suc n) off (length bytes)) ≡ need_here
+  behind_need = only_need image (writes (suc n) off (length bytes)) n off end can.well_formed can.reached (only_grows image (suc n) off (length bytes) behind can.some)
 
   pub behind_prepares : need_here ≤ length (members blocks) → (path : WordPath) → path ≡ inode_path (height_of (root_of image 0)) (suc n) 1 → CanPrepare old (members blocks) (suc n) path off end
   behind_prepares enough path is = record {
@@ -86,7 +86,7 @@ module _ (old : Memory) (blocks inodes : Set) (n off : ℕ) (bytes : List ℕ) (
     usable = usable_members image blocks inodes can.exact _ (omega (arith, length-current_words old));
     unused = unused_members image blocks inodes can.exact;
     enough = enough;
-    room = omega (arith, behind_few, can.room);
+    room = let room = can.room (omega (arith, behind_need, enough)) in omega (arith, behind_need, room);
   }
 
   module _ (middle new : Memory) (after : Set) (path : WordPath) (place : ℕ) (prepares : CanPrepare old (members blocks) (suc n) path off end) (stands : ContentStandsAt image 0 (8 * suc n + 2) place)
@@ -146,7 +146,7 @@ module _ (old : Memory) (blocks inodes : Set) (off : ℕ) (bytes : List ℕ) whe
       needed ≡ nodes_here root size → free ≡ length (members blocks) → free < needed → LacksSpace (current_words old) (writes i off (length bytes)) (record { need = needed; free = free })
   behind_lacks zero root size needed free can = λ behind one two counted is fewer. not_inodes _ can
   behind_lacks (suc n) root size needed free can = λ behind one two counted is fewer. record {
-    needed = only_need (current_words old) (writes (suc n) off (length bytes)) n off (off + length bytes) can.well_formed can.reached (only_grows (current_words old) (suc n) off (length bytes) behind can.some)
+    needed = behind_need old blocks inodes n off bytes can behind
         ∙ sym (counted ∙ ap (λ r. nodes_here r size) one ∙ ap (nodes_here (root_of (current_words old) (suc n))) two);
     free = subst (HasFree (current_words old)) (sym is) (free_members (current_words old) blocks can.exact.free_blocks can.exact.block_room);
     fewer = fewer;
@@ -167,10 +167,13 @@ module _ (old : Memory) (blocks inodes : Set) (off : ℕ) (bytes : List ℕ) whe
     prepared_room zero can = λ behind prepared. not_inodes _ can
     prepared_room (suc n) can = λ behind prepared.
         let left = room_after_quiet Same 2 (prep_stores (size_of (current_words old) (suc n)) off (off + length bytes) (need_for (current_words old) (suc n) off (off + length bytes))) old middle prepared.adds.part in
-        enough _ _ _ _ left (behind_whole (size_of (current_words old) (suc n)) off (off + length bytes) 3) (behind_few old blocks inodes n off bytes can behind) can.room
+        let needs = behind_need old blocks inodes n off bytes can behind in
+        let all : length (members blocks) ≡ length prepared.taken + length (members after) = ap (λ (xs : List ℕ). length xs) prepared.takes ∙ length-append prepared.taken (members after) in
+        let has : HasRoomFor old (writes (suc n) off (length bytes)) = can.room (omega (arith, needs, prepared.counted, all)) in
+        enough _ _ _ _ left (behind_whole (size_of (current_words old) (suc n)) off (off + length bytes) 3) (rw needs at has)
       where
-        enough : (needed behind room left : ℕ) → room ≤ left + (2 + (512 * needed + behind + 2)) → behind ≤ 512 * suc 3 → needed ≤ 18 + 3 * 3 → 65536 ≤ room → 3 ≤ left
-        enough needed behind room left a b c d = omega (arith, a, b, c, d)
+        enough : (needed behind room left : ℕ) → room ≤ left + (2 + (512 * needed + behind + 2)) → behind ≤ 512 * suc 3 → room_for needed ≤ room → 3 ≤ left
+        enough needed behind room left a b c = omega (arith, a, b, c)
 
     module _ (new : Memory) (path : WordPath) (place : ℕ) where
       pub behind_performs_at : (i : ℕ) → CanWrite old blocks inodes i off bytes → size_of (current_words old) i ≤ off → CanPrepare old (members blocks) i path off (off + length bytes) →

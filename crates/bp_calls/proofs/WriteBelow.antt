@@ -13,7 +13,7 @@ use Rattle.bp_layout.specs.Words.{Image}
 use Rattle.bp_changes.specs.Effects.{ChangesFile}
 use Rattle.bp_changes.proofs.ChangesFile.{well_formed-same}
 use Rattle.bp_shapes.specs.Sets.{AreExact}
-use Rattle.bp_tree.specs.Performs.{Performs}
+use Rattle.bp_tree.specs.Performs.{HasRoomFor, Performs}
 use Rattle.pm_region.specs.Memory.{Memory, current_words}
 use Rattle.bp_cow.specs.declared.touched.Run.{Run}
 use Rattle.bp_cow.specs.declared.touched.Touched.{Touched}
@@ -44,7 +44,7 @@ record IsRunAlone (image : Image) (i : ℕ) (touched : Touched) (run : Run) : Ty
 record CanCommitRun (memory : Memory) (blocks : Set) (i : ℕ) (touched : Touched) (run : Run) : Type 0 where
   pub can : CanCommit (current_words memory) (size_of (current_words memory)) touched (has blocks)
   pub need_is : copied_count (current_words memory) touched ≡ need (current_words memory) (writes i run.off (length run.bytes.now))
-  pub room : HasRoom memory touched
+  pub room : copied_count (current_words memory) touched ≤ length (members blocks) → HasRoom memory touched
 
 module _ (old : Memory) (blocks inodes : Set) (n : ℕ) (touched : Touched) (run : Run) (is : IsRunAlone (current_words old) (suc n) touched run) (asks : CanWrite old blocks inodes (suc n) run.off run.bytes.now) where
   abbrev image : Image
@@ -79,7 +79,10 @@ module _ (old : Memory) (blocks inodes : Set) (n : ℕ) (touched : Touched) (run
   below_can = record {
     can = can;
     need_is = copies_need;
-    room = let few = few_copies image (size_of image) touched (has blocks) wf can run is.one (few_leaves run asks.short) in omega (arith, few, none, asks.room);
+    room = λ enough.
+        let few = few_copies image (size_of image) touched (has blocks) wf can run is.one (few_leaves run asks.short) in
+        let room : HasRoomFor old (writes (suc n) run.off (length run.bytes.now)) = asks.room (omega (arith, copies_need, enough)) in
+        omega (arith, few, none, copies_need, room);
   }
 
   module _ (new : Memory) (after : Set) (small : (i : ℕ) → slice_index run.bytes.now i < 256) (done : CommitsTouched (size_of (current_words old)) touched old new blocks after) where
@@ -170,7 +173,7 @@ module _ (old : Memory) (blocks inodes : Set) (i off : ℕ) (bytes : List ℕ) (
   pub write_can : CanCommit (current_words old) (size_of (current_words old)) touched (has blocks)
   write_can = ready.can
 
-  pub write_room : HasRoom old touched
+  pub write_room : copied_count (current_words old) touched ≤ length (members blocks) → HasRoom old touched
   write_room = ready.room
 
   pub write_lacks : (copies free : ℕ) → copies ≡ copied_count (current_words old) touched → free ≡ length (members blocks) → free < copies → LacksSpace (current_words old) (writes i off (length bytes)) (record { need = copies; free = free })

@@ -3,13 +3,15 @@ use Rattle.std.specs.Prelude.{ℕ, ◌+◌, ◌≤◌, List, length}
 use Rattle.bp_shapes.specs.Sets.{AreExact}
 use Rattle.bp_free.specs.Set.{Set}
 use Rattle.bp_layout.specs.Inode.{IsFile}
+use Rattle.bp_layout.specs.Need.Change.{writes}
 use Rattle.bp_layout.specs.Reached.{IsReached}
 use Rattle.bp_layout.specs.WellFormed.{IsWellFormed}
-use Rattle.bp_limits.specs.Limits.{call_room, max_size, max_write}
-use Rattle.pm_region.specs.Memory.{Memory, current_words, room_in}
+use Rattle.bp_limits.specs.Limits.{max_size, max_write}
+use Rattle.bp_calls.specs.Space.{HasRoomWhereFree}
+use Rattle.pm_region.specs.Memory.{Memory, current_words}
 
 -- The image is well formed, the sets are exact, and inode i is a file. There are bytes, no more than one call writes,
--- and they end where a file may end. The log has room for a call.
+-- and they end where a file may end. The log has room for the change, where enough blocks are free.
 pub record CanWrite (memory : Memory) (blocks inodes : Set) (i off : ℕ) (bytes : List ℕ) : Type 0 where
   pub well_formed : IsWellFormed (current_words memory)
   pub exact : AreExact (current_words memory) blocks inodes
@@ -18,4 +20,4 @@ pub record CanWrite (memory : Memory) (blocks inodes : Set) (i off : ℕ) (bytes
   pub some : 1 ≤ length bytes
   pub short : length bytes ≤ max_write
   pub fits : off + length bytes ≤ max_size
-  pub room : call_room ≤ room_in memory
+  pub room : HasRoomWhereFree memory blocks (writes i off (length bytes))

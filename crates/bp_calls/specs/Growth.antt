@@ -11,9 +11,9 @@ use Rattle.bp_layout.specs.Reached.{IsReached}
 use Rattle.bp_layout.specs.Tree.{byte, word_at, HasBlock, IsLiveWord}
 use Rattle.bp_layout.specs.WellFormed.{IsWellFormed}
 use Rattle.bp_layout.specs.Words.{Image, height_of}
-use Rattle.bp_limits.specs.Limits.{block_size, block_words, call_room}
+use Rattle.bp_limits.specs.Limits.{block_size, block_words}
 use Rattle.bp_shapes.specs.Sets.{AreExact}
-use Rattle.bp_tree.specs.Performs.{AddsTaking}
+use Rattle.bp_tree.specs.Performs.{AddsTaking, room_for}
 use Rattle.pm_region.specs.Memory.{Memory, current_words, room_in}
 
 -- how many blocks the inode file takes for one more leaf: as many in each change that needs an inode and finds none
@@ -21,12 +21,12 @@ abbrev pub growth_need : Image → ℕ
 growth_need image = growth_count image (enters 1 false)
 
 -- The image is well formed, and the sets are exact. As many blocks are free as the inode file takes, and the log has
--- room for a call.
+-- room for a call that needs so many.
 pub record CanGrowInodes (memory : Memory) (blocks inodes : Set) : Type 0 where
   pub well_formed : IsWellFormed (current_words memory)
   pub exact : AreExact (current_words memory) blocks inodes
   pub enough : growth_need (current_words memory) ≤ length (members blocks)
-  pub room : call_room ≤ room_in memory
+  pub room : room_for (growth_need (current_words memory)) ≤ room_in memory
 
 -- The inode file has one more leaf, whose inodes are all zero. Its blocks are those that it had and the ones taken. All
 -- else that the image means is as it was, and each other tree stands where it stood.

@@ -6,6 +6,7 @@ pub mod Asked
 pub mod Removed
 pub mod Resized
 pub mod CanGrow
+pub mod InPlace
 pub mod GivenBack
 pub mod GivenUp
 pub mod Space

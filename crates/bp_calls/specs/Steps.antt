@@ -1,6 +1,7 @@
 -- What stands before a name is entered in a directory.
-use Rattle.std.specs.Prelude.{◌≡◌, ◌≢◌, ℕ, ◌+◌, ◌*◌, ◌≤◌, [], true, None, length}
+use Rattle.std.specs.Prelude.{◌≡◌, ◌≢◌, ℕ, ◌+◌, ◌≤◌, [], true, None, length}
 use Rattle.bp_append.specs.Prepared.{need_for}
+use Rattle.bp_calls.specs.Growth.{stores_behind_growth}
 use Rattle.bp_free.specs.Set.{Set, members}
 use Rattle.bp_layout.specs.Directory.{Name, IsName, empty_slot, slot_named}
 use Rattle.bp_layout.specs.Free.{IsFreeInode}
@@ -10,7 +11,7 @@ use Rattle.bp_layout.specs.Need.Change.{enters}
 use Rattle.bp_layout.specs.Reached.{IsReached}
 use Rattle.bp_layout.specs.WellFormed.{IsWellFormed}
 use Rattle.bp_layout.specs.Words.{Image}
-use Rattle.bp_limits.specs.Limits.{block_words, entry_size}
+use Rattle.bp_limits.specs.Limits.{entry_size}
 use Rattle.bp_shapes.specs.Sets.{AreExact}
 use Rattle.pm_region.specs.Memory.{Memory, current_words, room_in}
 
@@ -27,9 +28,14 @@ pub record CanName (image : Image) (i j : ℕ) (name : Name) : Type 0 where
   pub lacks : LacksName image i name
   pub free : IsFreeInode image j
 
--- the room in the log that a name asks once an inode is free
-abbrev pub entering_room : ℕ
-entering_room = 32 * block_words
+-- the room in the log that a name asks once an inode is free, where it needs so many blocks: for its stores, 5 barriers
+-- and its mark
+abbrev pub entering_room : ℕ → ℕ
+entering_room needed = stores_behind_growth needed + 5 + 1
+
+-- how many blocks directory i lacks for one entry more
+abbrev pub entry_need_for : Image → ℕ → ℕ
+entry_need_for image i = need_for image i (size_of image i) (size_of image i + entry_size)
 
 -- Directory i lacks the name, no entry is empty, and as many blocks are free as the directory lacks for one entry more.
 -- The set of blocks is exact, with one of inodes.
@@ -38,9 +44,8 @@ pub record CanPutBehind (memory : Memory) (blocks : Set) (i : ℕ) (name : Name)
   pub none : empty_slot (current_words memory) i ≡ None
   pub inodes : Set
   pub exact : AreExact (current_words memory) blocks inodes
-  pub enough : need_for (current_words memory) i (size_of (current_words memory) i)
-      (size_of (current_words memory) i + entry_size) ≤ length (members blocks)
-  pub room : entering_room ≤ room_in memory
+  pub enough : entry_need_for (current_words memory) i ≤ length (members blocks)
+  pub room : entering_room (entry_need_for (current_words memory) i) ≤ room_in memory
 
 -- the same, and inode j is free for it
 pub record CanEnterBehind (memory : Memory) (blocks : Set) (i j : ℕ) (name : Name) : Type 0 where
@@ -53,4 +58,4 @@ pub record CanEnter (memory : Memory) (blocks inodes : Set) (i : ℕ) (name : Na
   pub exact : AreExact (current_words memory) blocks inodes
   pub some : members inodes ≢ []
   pub enough : need (current_words memory) (enters i true) ≤ length (members blocks)
-  pub room : entering_room ≤ room_in memory
+  pub room : entering_room (need (current_words memory) (enters i true)) ≤ room_in memory

@@ -3,7 +3,7 @@
 ghost use Rattle.std.specs.Prelude.{◌≡◌, ◌≢◌, ◌+◌, ◌*◌, ◌≤◌, [], None, false, true, Bool, IfErr, OnErr, OnOk, length};
 ghost use Rattle.bp_calls.specs.Created.{EntersName};
 ghost use Rattle.bp_calls.specs.Growth.{stores_behind_growth};
-ghost use Rattle.bp_calls.specs.Space.{LacksSpace};
+ghost use Rattle.bp_calls.specs.Space.{HasRoomWhereFree, LacksSpace};
 ghost use Rattle.bp_calls.specs.Steps.{CanEnter, LacksName};
 ghost use Rattle.bp_free.specs.Set.{IsLeast, members, without};
 ghost use Rattle.bp_layout.specs.Directory.{IsName, empty_slot, slot_named};
@@ -13,10 +13,10 @@ ghost use Rattle.bp_layout.specs.Need.{need};
 ghost use Rattle.bp_layout.specs.Need.Change.{enters};
 ghost use Rattle.bp_layout.specs.Reached.{IsReached};
 ghost use Rattle.bp_layout.specs.WellFormed.{IsWellFormed};
-ghost use Rattle.bp_limits.specs.Limits.{call_room, max_height};
+ghost use Rattle.bp_limits.specs.Limits.{max_height};
 ghost use Rattle.bp_shapes.specs.Sets.{AreExact};
-ghost use Rattle.bp_tree.specs.Performs.{Performs, PerformsWithin};
-ghost use Rattle.pm_region.specs.Memory.{current_words, room_in};
+ghost use Rattle.bp_tree.specs.Performs.{HasRoomFor, Performs, PerformsWithin};
+ghost use Rattle.pm_region.specs.Memory.{current_words};
 
 use crate::entering::{enter_behind, enter_slot, tree_of};
 use crate::growing::{grow, grow_need};
@@ -87,7 +87,7 @@ fn grow_and_enter<R: Region>(
     requires slot { slot ≡ empty_slot (current_words (R.memory parts.old.region)) dir }
     requires enough { need (current_words (R.memory parts.old.region)) (enters dir false)
         ≤ length (members parts.old.blocks) }
-    requires room { call_room ≤ room_in (R.memory parts.old.region) }
+    requires room { HasRoomFor (R.memory parts.old.region) (enters dir false) }
     ensures performs { Performs (R.memory parts.old.region) (R.memory parts.new.region) (enters dir false)
         (EntersName dir name.now kind) }
     ensures exact { AreExact (current_words (R.memory parts.new.region)) parts.new.blocks parts.new.inodes }
@@ -116,7 +116,8 @@ pub fn create_in<R: Region>(
     requires name { IsName name.now }
     requires slot { slot ≡ empty_slot (current_words (R.memory parts.old.region)) dir }
     requires new { slot_named (current_words (R.memory parts.old.region)) dir name.now ≡ None }
-    requires room { call_room ≤ room_in (R.memory parts.old.region) }
+    requires room { (free : Bool) → TellsFreeInode (current_words (R.memory parts.old.region)) free
+        → HasRoomWhereFree (R.memory parts.old.region) parts.old.blocks (enters dir free) }
     ensures performs { OnOk result ((free : Bool) → TellsFreeInode (current_words (R.memory parts.old.region)) free
         → Performs (R.memory parts.old.region) (R.memory parts.new.region) (enters dir free)
         (EntersName dir name.now kind)) }
@@ -163,7 +164,8 @@ pub fn create<R: Region>(
     requires directory { IsDirectory (current_words (R.memory parts.old.region)) dir }
     requires name { IsName name.now }
     requires new { slot_named (current_words (R.memory parts.old.region)) dir name.now ≡ None }
-    requires room { call_room ≤ room_in (R.memory parts.old.region) }
+    requires room { (free : Bool) → TellsFreeInode (current_words (R.memory parts.old.region)) free
+        → HasRoomWhereFree (R.memory parts.old.region) parts.old.blocks (enters dir free) }
     ensures performs { OnOk result ((free : Bool) → TellsFreeInode (current_words (R.memory parts.old.region)) free
         → Performs (R.memory parts.old.region) (R.memory parts.new.region) (enters dir free)
         (EntersName dir name.now kind)) }

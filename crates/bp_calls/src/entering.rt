@@ -50,7 +50,8 @@ pub(crate) fn enter_slot<R: Region>(
 )
     requires can { CanName (current_words (R.memory region.old)) dir inode name.now }
     requires found { empty_slot (current_words (R.memory region.old)) dir ≡ Some slot }
-    requires room { entering_room ≤ room_in (R.memory region.old) }
+    requires room { entering_room (need (current_words (R.memory region.old)) (enters dir true))
+        ≤ room_in (R.memory region.old) }
     ensures performs { PerformsWithin 5
         (stores_behind_growth (need (current_words (R.memory region.old)) (enters dir true)))
         (R.memory region.old) (R.memory region.new) (enters dir true) (EntersName dir name.now kind) }

@@ -1,9 +1,10 @@
 //! Laws of the paths of words, of free blocks, and of what calls make of the plain tree. Each is the contract of a
 //! function that does nothing.
 
-ghost use Rattle.std.specs.Prelude.{◌≡◌, ℕ, List, [], length};
+ghost use Rattle.std.specs.Prelude.{◌≡◌, ◌≤◌, ℕ, List, [], length};
 ghost use Rattle.bp_calls.specs.ContentPaths.{HasContentWord, KeepsHeights, WholePathExists};
 ghost use Rattle.bp_calls.specs.Created.{EntersName, GainsName};
+ghost use Rattle.bp_calls.specs.InPlace.{LiesInWord};
 ghost use Rattle.bp_calls.specs.Removed.{IsFoundAt, LosesName};
 ghost use Rattle.bp_calls.specs.Resized.{GetsSize, ResizesFile};
 ghost use Rattle.bp_calls.specs.WritesFile.{GetsBytes, WritesFile};
@@ -15,7 +16,9 @@ ghost use Rattle.bp_layout.specs.Directory.{Name, inumber_at, name_at};
 ghost use Rattle.bp_layout.specs.Free.{AreFreeBlocks, HasFree};
 ghost use Rattle.bp_layout.specs.Inode.{IsDirectory, IsFile, root_of, size_of};
 ghost use Rattle.bp_layout.specs.Lookup.{Path};
-ghost use Rattle.bp_layout.specs.Need.{Change};
+ghost use Rattle.bp_layout.specs.Need.{Change, need};
+ghost use Rattle.bp_layout.specs.Need.Change.{leaves, resizes, writes};
+ghost use Rattle.bp_layout.specs.Reached.{IsReached};
 ghost use Rattle.bp_layout.specs.WellFormed.{IsWellFormed};
 ghost use Rattle.bp_layout.specs.Words.{block_count};
 
@@ -40,6 +43,16 @@ pub fn set_has_the_free(image: &[u64], blocks: &Blocks)
     requires room { length blocks.now ≡ block_count image.now }
     ensures count { HasFree image.now (length (members blocks.now)) }
     ensures none { members blocks.now ≡ [] → HasFree image.now 0 }
+{}
+
+/// A change that is one store in its place needs no block: a name leaves, a file gets no more bytes than it has, or
+/// bytes are written that lie in one word below its size, and not in a hole.
+pub fn changes_in_place_need_no_block(image: &[u64])
+    requires { IsWellFormed image.now }
+    ensures leaves { (i s j : ℕ) → CanUnlink image.now i s j → need image.now (leaves i s) ≡ 0 }
+    ensures shorter { (i size : ℕ) → IsReached image.now i → IsFile image.now i → size ≤ size_of image.now i
+        → need image.now (resizes i size) ≡ 0 }
+    ensures in_word { (i off len : ℕ) → LiesInWord image.now i off len → need image.now (writes i off len) ≡ 0 }
 {}
 
 /// A directory into which a name came gains it in the plain tree, at each path that finds the directory.

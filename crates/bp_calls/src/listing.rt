@@ -1,6 +1,6 @@
 //! The names in a directory.
 
-ghost use Rattle.std.specs.Prelude.{◌++◌, ◌≡◌, ℕ, IfOk, OnOk, [], drop, length};
+ghost use Rattle.std.specs.Prelude.{◌++◌, ◌≡◌, ℕ, IfOk, OnOk, []};
 ghost use Rattle.std.specs.List.{cons_option, filter_map, range_with_len};
 ghost use Rattle.bp_calls.specs.Asked.{ListsNames, entries_seen, entry_seen};
 ghost use Rattle.bp_calls.specs.Rows.{AreEntries, IsEntryRow};
@@ -9,16 +9,14 @@ ghost use Rattle.bp_layout.specs.Directory.{entry_count};
 ghost use Rattle.bp_layout.specs.Inode.{IsDirectory, root_of};
 ghost use Rattle.bp_layout.specs.Reached.{IsReached};
 ghost use Rattle.bp_layout.specs.WellFormed.{IsWellFormed};
-ghost use Rattle.bp_limits.specs.Limits.{max_name};
-ghost use Rattle.bp_tree.specs.Bytes.{stored_bytes};
 ghost use Rattle.pm_region.specs.Memory.{current_words};
 
 use crate::entering::tree_of;
-use bp_dirs::count;
+use bp_dirs::{EntryView, count};
 use bp_inodes::get;
 use bp_layout::Listing;
 use bp_limits::{BLOCK_ENTRIES, ENTRY_SIZE, ENTRY_WORDS, MAX_NAME};
-use bp_tree::{leaf_words, unpack};
+use bp_tree::leaf_words;
 use pm_region::Region;
 use std::alloc::{AllocError, Global};
 
@@ -70,37 +68,29 @@ fn list_row<R: Region>(region: &R, words: &[u64], listing: &mut Listing) -> Resu
         → OnOk result (listing.new ≡ listing.old ++ filter_map (entry_seen image i) (range_with_len first count)) }
 {
     for index in 0..words.len() / ENTRY {
-        list_entry(
-            region,
-            &words[ENTRY * index..ENTRY * index + ENTRY],
-            listing,
-        )?;
+        let view = EntryView::new(&words[ENTRY * index..ENTRY * index + ENTRY]);
+        list_entry(region, view, listing)?;
     }
     Ok(())
 }
 
 /// Adds the kind and the name of an entry of a directory, where it names an inode.
-fn list_entry<R: Region>(region: &R, words: &[u64], listing: &mut Listing) -> Result<(), AllocError>
+fn list_entry<R: Region>(
+    region: &R,
+    view: EntryView<'_>,
+    listing: &mut Listing,
+) -> Result<(), AllocError>
     requires well_formed { IsWellFormed (current_words (R.memory region.now)) }
-    requires entry { IsEntryRow (current_words (R.memory region.now)) words.now }
+    requires entry { IsEntryRow (current_words (R.memory region.now)) view.words.now }
     ensures { let image = current_words (R.memory region.now) in
-        (i slot : ℕ) → HasWords image (root_of image i) slot words.now
+        (i slot : ℕ) → HasWords image (root_of image i) slot view.entry.words.now
         → OnOk result (listing.new ≡ listing.old ++ cons_option (entry_seen image i slot) []) }
 {
-    if words[0] == 0 {
+    let inumber = view.inumber();
+    if inumber == 0 {
         return Ok(());
     }
-    let name = name_bytes(words);
-    let kind = get(region, words[0] as u32).kind;
-    listing.push(kind, &name[..words[1] as usize])
-}
-
-/// The bytes of the words in which the name of an entry stands, as many as there are.
-fn name_bytes(words: &[u64]) -> [u8; MAX_NAME]
-    requires { length words.now ≡ 32 }
-    ensures { result ≡ stored_bytes (drop 2 words.now) 0 max_name }
-{
+    let kind = get(region, inumber as u32).kind;
     let mut name = [0; MAX_NAME];
-    unpack(&words[2..], &mut name);
-    name
+    listing.push(kind, view.read_name(&mut name))
 }

@@ -5,7 +5,6 @@ ghost use Rattle.bp_changes.specs.Effects.{CanUnlink, RemovesEntry};
 ghost use Rattle.bp_layout.specs.Directory.{inumber_at};
 ghost use Rattle.bp_layout.specs.Need.Change.{leaves};
 ghost use Rattle.bp_layout.specs.WellFormed.{IsWellFormed};
-ghost use Rattle.bp_limits.specs.Limits.{call_room};
 ghost use Rattle.bp_shapes.specs.Sets.{AreExact};
 ghost use Rattle.bp_tree.specs.Performs.{Performs};
 ghost use Rattle.pm_region.specs.Memory.{current_words, room_in};
@@ -18,14 +17,14 @@ use bp_inplace::commit_word;
 use pm_region::Region;
 
 /// Takes a name out of a directory, where it names a file or an empty directory, by one store alone in its epoch: of 0
-/// to the inumber of the entry in `slot`. It needs no block. Nobody reaches the inode then: its words stay as they
-/// were, and its blocks and its number come back.
+/// to the inumber of the entry in `slot`. It needs no block, and room for three events. Nobody reaches the inode
+/// then: its words stay as they were, and its blocks and its number come back.
 pub fn remove<R: Region>(parts: &mut Parts<R>, dir: u32, slot: u64)
     requires well_formed { IsWellFormed (current_words (R.memory parts.old.region)) }
     requires exact { AreExact (current_words (R.memory parts.old.region)) parts.old.blocks parts.old.inodes }
     requires can { CanUnlink (current_words (R.memory parts.old.region)) dir slot
         (inumber_at (current_words (R.memory parts.old.region)) dir slot) }
-    requires room { call_room ≤ room_in (R.memory parts.old.region) }
+    requires room { 3 ≤ room_in (R.memory parts.old.region) }
     ensures performs { Performs (R.memory parts.old.region) (R.memory parts.new.region)
         (leaves dir slot) (λ image after. RemovesEntry image after dir slot) }
     ensures exact { AreExact (current_words (R.memory parts.new.region)) parts.new.blocks parts.new.inodes }

@@ -1,14 +1,14 @@
 //! A file gets another size.
 
 ghost use Rattle.std.specs.Prelude.{◌≡◌, ◌≢◌, ◌<◌, ◌≤◌, IfErr, OnErr, OnOk};
-ghost use Rattle.bp_calls.specs.Space.{LacksSpace};
+ghost use Rattle.bp_calls.specs.Space.{HasRoomWhereFree, LacksSpace};
 ghost use Rattle.bp_calls.specs.CanGrow.{CanGrowFile};
 ghost use Rattle.bp_calls.specs.Resized.{ResizesFile};
 ghost use Rattle.bp_layout.specs.Inode.{IsFile, root_of, size_of};
 ghost use Rattle.bp_layout.specs.Need.Change.{resizes};
 ghost use Rattle.bp_layout.specs.Reached.{IsReached};
 ghost use Rattle.bp_layout.specs.WellFormed.{IsWellFormed};
-ghost use Rattle.bp_limits.specs.Limits.{call_room, max_size};
+ghost use Rattle.bp_limits.specs.Limits.{max_size};
 ghost use Rattle.bp_shapes.specs.Sets.{AreExact};
 ghost use Rattle.bp_tree.specs.Performs.{Performs};
 ghost use Rattle.pm_region.specs.Memory.{current_words, room_in};
@@ -83,7 +83,7 @@ pub fn truncate<R: Region>(parts: &mut Parts<R>, i: u32, size: u64) -> Result<()
     requires file { IsFile (current_words (R.memory parts.old.region)) i }
     requires fits { size ≤ max_size }
     requires changed { size ≢ size_of (current_words (R.memory parts.old.region)) i }
-    requires room { call_room ≤ room_in (R.memory parts.old.region) }
+    requires room { HasRoomWhereFree (R.memory parts.old.region) parts.old.blocks (resizes i size) }
     ensures performs { OnOk result (Performs (R.memory parts.old.region) (R.memory parts.new.region)
         (resizes i size) (ResizesFile i size)) }
     ensures exact { AreExact (current_words (R.memory parts.new.region)) parts.new.blocks parts.new.inodes }

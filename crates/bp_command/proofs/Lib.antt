@@ -4,3 +4,4 @@ pub mod Numbers
 pub mod PlayWords
 pub mod Plain
 pub mod Taken
+pub mod Once

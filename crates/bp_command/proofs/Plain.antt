@@ -14,23 +14,23 @@ use Rattle.clap.proofs.OnLiterals.{clap_on_literals}
 use Rattle.clap.proofs.ValueTestLemmas.{Accepts-accepts}
 use Rattle.bp_command.specs.Commands.{IsTaken, subcommand_named}
 use Rattle.bp_command.specs.Programs.{Asks, IsProper, Names, Program, Requests, max_seed, program_words}
-use Rattle.bp_command.proofs.PlayWords.{Numbers, met_play, numbers_of, parts, taken_play}
+use Rattle.bp_command.proofs.PlayWords.{Numbers, met_play, numbers_of, parts, some_name, taken_play}
 use Rattle.bp_command.specs.Programs.Program.{formats, runs, checks, plays}
 
 -- ---- by computing
 
 taken_run : (called : Text) (x : ℕ) (xs : Text) → nat_eq x 45 ≡ false → IsTaken (called ∷ codes "run" ∷ (x ∷ xs) ∷ [])
 unfolding IsTaken clap_on_literals
-taken_run called x xs h = simp h refl
+taken_run called x xs h = let n = some_name x xs in simp (h, n) refl
 
 taken_check : (called : Text) (x : ℕ) (xs : Text) → nat_eq x 45 ≡ false → IsTaken (called ∷ codes "check" ∷ (x ∷ xs) ∷ [])
 unfolding IsTaken clap_on_literals
-taken_check called x xs h = simp h refl
+taken_check called x xs h = let n = some_name x xs in simp (h, n) refl
 
 taken_format : (called : Text) (x d : ℕ) (xs ds : Text) → nat_eq x 45 ≡ false → nat_eq d 45 ≡ false → accepts false (vp.Unsigned 8 16384) (d ∷ ds) ≡ true →
     IsTaken (called ∷ codes "format" ∷ (x ∷ xs) ∷ codes "--blocks" ∷ (d ∷ ds) ∷ [])
 unfolding IsTaken clap_on_literals
-taken_format called x d xs ds h k a = simp (h, k, a) refl
+taken_format called x d xs ds h k a = let n = some_name x xs in simp (h, k, a, n) refl
 
 met_run : (called : Text) (x : ℕ) (xs : Text) → nat_eq x 45 ≡ false → parts (subcommand_named (called ∷ codes "run" ∷ (x ∷ xs) ∷ [])) ≡ Some (codes "run", Some (x ∷ xs), (None, None, None))
 unfolding subcommand_named clap_on_literals

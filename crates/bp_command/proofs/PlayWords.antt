@@ -1,5 +1,5 @@
 -- The plain words of a play are taken, and give what they say: a walk over them, word by word.
-use Rattle.std.proofs.Common.{◌≡◌, ℕ, List, [], ◌∷◌, true, false, nat_eq, refl, sym, ◌∙◌, ap, subst}
+use Rattle.std.proofs.Common.{◌≡◌, ℕ, List, [], ◌∷◌, length, true, false, nat_eq, refl, sym, ◌∙◌, ap, subst, arith, lt-ltb}
 use Rattle.std.specs.Prelude.{Option, None, Some, codes, fold, option_map}
 use Rattle.clap.specs.Faults.{check_fault, defaults_fault, level_fault, settle_fault, turn_fault, walk_fault}
 use Rattle.clap.specs.Kinds.{Kinds, or_else}
@@ -23,6 +23,10 @@ numbers_of rows = (one_of (codes "blocks") rows, one_of (codes "seed") rows, one
 -- what the words give, by the subcommand, the file's name, and the texts of numbers
 abbrev pub parts : Option (Text × List Row) → Option (Text × Option Text × Numbers)
 parts = option_map (λ p. (p.0, first_of (codes "FILE") p.1, numbers_of p.1))
+
+-- a name that is not empty is one of a file
+pub some_name : (x : ℕ) (xs : Text) → accepts false vp.NonEmptyString (x ∷ xs) ≡ true
+some_name x xs = lt-ltb 0 (length (x ∷ xs)) (omega arith)
 
 -- ---- a word at a time
 
@@ -67,9 +71,9 @@ file_turn : (x : ℕ) (xs : Text) → nat_eq x 45 ≡ false → Turn (walk_from 
 unfolding clap_on_literals
 file_turn x xs h = record { passes = simp h refl; goes = simp h refl }
 
-seed_turn : (name : Text) → Turn (behind [] (codes "FILE") (name ∷ []) idle) (codes "--seed") (behind (row file_arg name ∷ []) (codes "seed") [] (option (codes "seed")))
+seed_turn : (x : ℕ) (xs : Text) → Turn (behind [] (codes "FILE") ((x ∷ xs) ∷ []) idle) (codes "--seed") (behind (row file_arg (x ∷ xs) ∷ []) (codes "seed") [] (option (codes "seed")))
 unfolding clap_on_literals
-seed_turn name = record { passes = refl; goes = refl }
+seed_turn x xs = let n = some_name x xs in record { passes = simp n refl; goes = refl }
 
 seed_value : (rows : List Row) (d : ℕ) (ds : Text) → nat_eq d 45 ≡ false → Turn (behind rows (codes "seed") [] (option (codes "seed"))) (d ∷ ds) (behind rows (codes "seed") ((d ∷ ds) ∷ []) idle)
 unfolding clap_on_literals
@@ -98,7 +102,7 @@ module _ (x d e : ℕ) (xs ds es : Text) (h : nat_eq x 45 ≡ false) (k : nat_eq
     goes_over =
         goes_on _ _ last (x ∷ xs) _ (file_turn x xs h)
         (
-        goes_on _ _ last (codes "--seed") _ (seed_turn (x ∷ xs))
+        goes_on _ _ last (codes "--seed") _ (seed_turn x xs)
         (
         goes_on _ _ last (d ∷ ds) _ (seed_value _ d ds k)
         (goes_on _ _ last (codes "--count") _ (count_turn (x ∷ xs) (d ∷ ds) a) (goes_on _ _ last (e ∷ es) [] (count_value _ e es l) (stays last)))

@@ -4,7 +4,7 @@ use Rattle.std.specs.Prelude.{Option, Some, None, codes, find, fold, is_some, op
 use Rattle.std.specs.List.{list_any}
 use Rattle.std.specs.Option.{option_map_or}
 use Rattle.std.specs.Str.{bytes_eq, chars}
-use Rattle.std.proofs.lemmas.Bool.{lt-ltb}
+use Rattle.std.proofs.lemmas.Bool.{lt-ltb, ltb-true}
 use Rattle.std.proofs.lemmas.Slice.Eq.{bytes_eq-Decides}
 use Rattle.clap.specs.Facts.{explicit_source, parser_of_value, unwrap_or_range}
 use Rattle.clap.specs.Faults.{action_fault, bundle_fault, bundle_step_fault, check_fault, entered_fault, flag_word_fault, flags_fault, level_fault, long_fault, option_fault, other_fault, positional_fault, react_fault, set_fault, settle_fault, short_fault, step_fault, stray_fault, turn_fault, use_fault, values_fault, walk_fault, word_fault}
@@ -444,6 +444,7 @@ format_values rows fit check =
       program = inl refl;
       name = name.text;
       named = name.first;
+      some = ltb-true 0 (length name.text) (accepted _ _ name.pass);
       blocks = λ _. record { digits = number.text; given = number.one; passes = accepted _ _ number.pass };
       seed = λ e. absurd (let no : codes "format" ≡ codes "play" = e in cc);
       count = λ e. absurd (let no : codes "format" ≡ codes "play" = e in cc);
@@ -456,6 +457,7 @@ run_values rows fit check =
       program = inr (inl refl);
       name = name.text;
       named = name.first;
+      some = ltb-true 0 (length name.text) (accepted _ _ name.pass);
       blocks = λ e. absurd (let no : codes "run" ≡ codes "format" = e in cc);
       seed = λ e. absurd (let no : codes "run" ≡ codes "play" = e in cc);
       count = λ e. absurd (let no : codes "run" ≡ codes "play" = e in cc);
@@ -468,6 +470,7 @@ check_values rows fit check =
       program = inr (inr (inl refl));
       name = name.text;
       named = name.first;
+      some = ltb-true 0 (length name.text) (accepted _ _ name.pass);
       blocks = λ e. absurd (let no : codes "check" ≡ codes "format" = e in cc);
       seed = λ e. absurd (let no : codes "check" ≡ codes "play" = e in cc);
       count = λ e. absurd (let no : codes "check" ≡ codes "play" = e in cc);
@@ -484,6 +487,7 @@ play_values rows fit check =
       program = inr (inr (inr refl));
       name = name.text;
       named = name.first;
+      some = ltb-true 0 (length name.text) (accepted _ _ name.pass);
       blocks = λ e. absurd (let no : codes "play" ≡ codes "format" = e in cc);
       seed = λ _. record { digits = seed.text; given = seed.one; passes = accepted _ _ seed.pass };
       count = λ _. record { digits = count.text; given = count.one; passes = accepted _ _ count.pass };

@@ -1,14 +1,17 @@
 -- The command line of the program, in the words of `clap`.
-use Rattle.std.specs.Prelude.{◌≡◌, [], false, Option, List, Some, true, codes}
+use Rattle.std.specs.Prelude.{◌≡◌, [], ⊤, false, Option, List, Some, true, codes}
 use Rattle.clap.specs.declared.builder.command.Command.TheViews.{out-Command}
 use Rattle.clap.specs.declared.builder.arg.Arg.{Arg}
 use Rattle.clap.specs.declared.builder.command.Command.{Command}
 use Rattle.clap.specs.declared.parser.matches.ArgMatches.{ArgMatches}
-use Rattle.clap.specs.Words.{Row, fault_of, subcommand_of, HasMatchesOf, app_of, rule_of, App, Rule, Text, new_app, new_rule, with_rule, with_subcommand}
+use Rattle.clap.specs.declared.error.Error.{Error}
+use Rattle.clap.specs.Words.{Row, IsAmong, fault_of, kind_of, subcommand_of, HasMatchesOf, app_of, rule_of, App, Rule, Text, new_app, new_rule, with_rule, with_subcommand}
 use Rattle.clap.specs.declared.builder.value_parser.ValueParser.TheVariants as vp
+use Rattle.bp_command.specs.declared.reading.WordsFault.{WordsFault}
+use Rattle.bp_command.specs.declared.reading.WordsFault.TheVariants.{Usage, Memory}
 
 abbrev pub file_rule : Rule
-file_rule = record (new_rule (codes "FILE")) { required = true }
+file_rule = record (new_rule (codes "FILE")) { required = true; parser = Some vp.NonEmptyString }
 
 abbrev pub blocks_rule : Rule
 blocks_rule = record (new_rule (codes "blocks")) {
@@ -61,6 +64,15 @@ pub record IsCommand (a : App) (c : Command) : Type 0 where
 -- the command takes the words: by the crate's own definition for simple commands there is no fault
 unfoldable pub IsTaken : List Text → Type 0
 IsTaken words = fault_of bpfs_app words ≡ []
+
+-- the error is of a kind that this definition finds in the words
+unfoldable pub IsRefusedBy : List Text → Error → Type 0
+IsRefusedBy words error = IsAmong (kind_of error) (fault_of bpfs_app words)
+
+-- words that are said to be no command are none, and the reason is of a kind that is found in them
+abbrev pub IsRight : List Text → WordsFault → Type 0
+IsRight words (Usage error) = (¬ IsTaken words) × IsRefusedBy words error
+IsRight words Memory = ⊤
 
 -- the subcommand that the words name, with what they give its arguments
 unfoldable pub subcommand_named : List Text → Option (Text × List Row)

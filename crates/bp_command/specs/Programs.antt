@@ -69,12 +69,13 @@ pub record HasNumber (option : Text) (least most : ℕ) (rows : List Row) : Type
   pub given : one_of option rows ≡ Some digits
   pub passes : accepts false (vp.Unsigned least most) digits ≡ true
 
--- what the values of a program's subcommand are: a file's name, for a format a number of blocks, for a play a seed
--- and a count
+-- what the values of a program's subcommand are: a file's name, which is not empty, for a format a number of blocks,
+-- for a play a seed and a count
 pub record HasValues (verb : Text) (rows : List Row) : Type 0 where
   pub program : (verb ≡ codes "format") ⊎ (verb ≡ codes "run") ⊎ (verb ≡ codes "check") ⊎ (verb ≡ codes "play")
   pub name : Text
   pub named : first_of (codes "FILE") rows ≡ Some name
+  pub some : 0 < length name
   pub blocks : verb ≡ codes "format" → HasNumber (codes "blocks") min_blocks max_blocks rows
   pub seed : verb ≡ codes "play" → HasNumber (codes "seed") 0 max_seed rows
   pub count : verb ≡ codes "play" → HasNumber (codes "count") 0 max_turns rows

@@ -4,14 +4,17 @@ ghost use Rattle.std.specs.Prelude.{IfOk};
 ghost use Rattle.bp_command.specs.Commands.{IsArgument, IsCommand, bare_app, blocks_rule, bpfs_app, check_app, count_rule, file_rule, format_app, play_app, run_app, seed_rule};
 
 use bp_limits::{MAX_BLOCKS, MAX_TURNS, MIN_BLOCKS};
+use clap::builder::ValueParser;
 use clap::{Arg, Command, value_parser};
 use std::alloc::{AllocError, Global};
 
-/// The file that a program works on.
+/// The file that a program works on. No file has the empty name.
 fn file<'a>(alloc: Global) -> Arg<'a>
     ensures { IsArgument file_rule result }
 {
-    Arg::new(alloc, "FILE").required(true)
+    Arg::new(alloc, "FILE")
+        .required(true)
+        .value_parser(ValueParser::NonEmptyString)
 }
 
 /// The number of blocks of a new file system.
@@ -48,6 +51,7 @@ fn format_command<'a>(alloc: Global) -> Result<Command<'a>, AllocError>
     ensures { IfOk result (IsCommand format_app) }
 {
     Command::new(alloc, "format")
+        .about("Makes FILE an empty file system of so many blocks of 4 KiB")
         .arg(file(alloc))?
         .arg(blocks(alloc))
 }
@@ -55,19 +59,26 @@ fn format_command<'a>(alloc: Global) -> Result<Command<'a>, AllocError>
 fn run_command<'a>(alloc: Global) -> Result<Command<'a>, AllocError>
     ensures { IfOk result (IsCommand run_app) }
 {
-    Command::new(alloc, "run").arg(file(alloc))
+    Command::new(alloc, "run")
+        .about("Serves the script of standard input over FILE")
+        .arg(file(alloc))
 }
 
 fn check_command<'a>(alloc: Global) -> Result<Command<'a>, AllocError>
     ensures { IfOk result (IsCommand check_app) }
 {
-    Command::new(alloc, "check").arg(file(alloc))
+    Command::new(alloc, "check")
+        .about("Says whether FILE is a file system, and what it holds")
+        .arg(file(alloc))
 }
 
 fn play_command<'a>(alloc: Global) -> Result<Command<'a>, AllocError>
     ensures { IfOk result (IsCommand play_app) }
 {
     Command::new(alloc, "play")
+        .about(
+            "Makes calls and power cuts over FILE that follow from a seed, and writes nothing back",
+        )
         .arg(file(alloc))?
         .arg(seed(alloc))?
         .arg(count(alloc))

@@ -15,3 +15,9 @@ pub fn plain_words_are_taken()
 pub fn taken_words_have_values()
     ensures { (words : List (List ℕ)) → IsTaken words → IsNamed words }
 {}
+
+/// Words ask for at most one program.
+pub fn words_ask_for_one_program()
+    ensures { (words : List (List ℕ)) (program other : Program) → Requests words program → Requests words other →
+        other ≡ program }
+{}

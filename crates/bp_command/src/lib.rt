@@ -4,5 +4,7 @@
 mod building;
 pub mod laws;
 mod reading;
+mod telling;
 
 pub use reading::{Program, WordsFault, read_words};
+pub use telling::mistake_line;

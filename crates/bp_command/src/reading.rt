@@ -1,14 +1,14 @@
 //! What the words ask for.
 
-ghost use Rattle.std.specs.Prelude.{◌≡◌, ◌≤◌, IfOk, IsErrOf, IsSome, OnOk, codes, map, ℕ};
-ghost use Rattle.bp_command.specs.Commands.{HasMet, IsTaken};
+ghost use Rattle.std.specs.Prelude.{◌≡◌, ◌≤◌, IfErr, IfOk, IsSome, OnOk, codes, map, ℕ};
+ghost use Rattle.bp_command.specs.Commands.{HasMet, IsRight, IsTaken};
 ghost use Rattle.bp_command.specs.Programs.{GivesNumber, HasNumber, HasValues, HasNumbersInRange, Names, Requests, program_of};
 ghost use Rattle.clap.specs.Words.{first_of, found_of, rows_of};
 
 use crate::building::command;
 use crate::laws::taken_words_have_values;
 use clap::ArgMatches;
-use clap::error::ErrorKind;
+use clap::error::{Error, ErrorKind};
 use std::alloc::Global;
 
 /// A program that words ask for.
@@ -43,10 +43,10 @@ pub enum Program<'a> {
 }
 
 /// Why words are not read.
-#[derive(Clone, Copy, Debug, PartialEq, Eq)]
+#[derive(Debug, Drop)]
 pub enum WordsFault {
-    /// They ask for no program.
-    Usage,
+    /// They ask for no program, for this reason.
+    Usage(Error),
     /// There is no memory to read them.
     Memory,
 }
@@ -55,7 +55,7 @@ pub enum WordsFault {
 fn matches<'a>(alloc: Global, words: &'a [&'a str]) -> Result<ArgMatches<'a>, WordsFault>
     ensures matches { IfOk result (HasMet (map (λ word. word.now) words.now)) }
     ensures taken { OnOk result (IsTaken (map (λ word. word.now) words.now)) }
-    ensures usage { IsErrOf result WordsFault.Usage → ¬ IsTaken (map (λ word. word.now) words.now) }
+    ensures usage { IfErr result (IsRight (map (λ word. word.now) words.now)) }
 {
     let command = match command(alloc) {
         Ok(command) => command,
@@ -65,7 +65,7 @@ fn matches<'a>(alloc: Global, words: &'a [&'a str]) -> Result<ArgMatches<'a>, Wo
         Ok(matches) => Ok(matches),
         Err(error) => match error.kind() {
             ErrorKind::OutOfMemory => Err(WordsFault::Memory),
-            _ => Err(WordsFault::Usage),
+            _ => Err(WordsFault::Usage(error)),
         },
     }
 }
@@ -124,7 +124,7 @@ fn program_named<'a>(verb: &str, values: &ArgMatches<'a>) -> Program<'a>
 pub fn read_words<'a>(alloc: Global, words: &'a [&'a str]) -> Result<Program<'a>, WordsFault>
     ensures asks { IfOk result (λ program. Requests (map (λ word. word.now) words.now) (program_of program)) }
     ensures range { IfOk result (λ program. HasNumbersInRange (program_of program)) }
-    ensures usage { IsErrOf result WordsFault.Usage → ¬ IsTaken (map (λ word. word.now) words.now) }
+    ensures usage { IfErr result (IsRight (map (λ word. word.now) words.now)) }
 {
     let found = matches(alloc, words)?;
     taken_words_have_values();

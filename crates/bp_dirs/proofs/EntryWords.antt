@@ -1,5 +1,7 @@
 -- Where the words and bytes of an entry stand.
-use Rattle.std.proofs.Common.{◌≡◌, ◌≢◌, ℕ, ◌+◌, ◌*◌, ◌/◌, ◌%◌, ◌<◌, ◌≤◌, List, length, slice_index, slice_range, refl, sym, ◌∙◌, ap, ap₂, arith}
+use Rattle.std.proofs.Common.{◌≡◌, ◌≢◌, ℕ, ◌+◌, ◌*◌, ◌/◌, ◌%◌, ◌<◌, ◌≤◌, List, take, drop, length, slice_index, slice_range, refl, sym, ◌∙◌, ap, ap₂, arith}
+use Rattle.std.proofs.lemmas.List.{get_or-drop}
+use Rattle.std.proofs.lemmas.List.FromFn.{take-map-range_with_len}
 use Rattle.bp_layout.specs.Words.{Image, block_count, height_of, slot_word, word, byte_of}
 use Rattle.bp_layout.specs.Tree.{node, byte, content_word, IsSound, IsLivePointer}
 use Rattle.bp_layout.specs.Directory.{word_in, name_in}
@@ -8,6 +10,7 @@ use Rattle.bp_layout.proofs.Finding.{map-same}
 use Rattle.bp_dirs.specs.EntryWords.{HasWords, IsLeaf, IsRow}
 use Rattle.bp_dirs.specs.declared.leaf.Leaf.{Leaf}
 use Rattle.bp_layout.proofs.TreeLaws.{slot_word-at, word_at-suc}
+use Rattle.bp_tree.specs.Bytes.{stored_byte, stored_bytes}
 use Rattle.bp_tree.proofs.LoadedWords.{length-loaded, loaded_word}
 
 pub word_in-at : (image : Image) (root slot f : ℕ) → f < 32 →
@@ -41,12 +44,21 @@ name_in-words image root slot words short same =
     let field : 2 + o / 8 < 32 = omega (arith, high, short) in
     ap (λ w. byte_of w (o % 8)) (same (2 + o / 8) field) ∙ sym (byte-at image root slot (o / 8) (o % 8) (omega arith)) ∙ ap (λ k. byte image root (256 * slot + 16 + k)) whole))
 
--- each entry of a null leaf is empty
-pub null_leaf : (image : Image) (leaf : Leaf) (slot : ℕ) → IsLeaf image leaf → leaf.block ≡ 0 → leaf.first ≤ slot → slot < leaf.first + leaf.count → word_in image leaf.tree.root slot 0 ≡ 0
-null_leaf image leaf slot is none low high =
+-- and the bytes in which it stands
+pub name_of-bytes : (words : List ℕ) (n : ℕ) → slice_index words 1 ≤ n → take (slice_index words 1) (stored_bytes (drop 2 words) 0 n) ≡ name_of words
+name_of-bytes words n short =
+    take-map-range_with_len (stored_byte (drop 2 words)) 0 n (slice_index words 1) short
+    ∙ map-same (stored_byte (drop 2 words)) (name_byte words) 0 (slice_index words 1) (λ o low high. ap (λ w. byte_of w (o % 8)) (get_or-drop 2 words (o / 8) 0))
+
+-- all words of a null leaf's entries are 0, so that each of them is empty
+pub null_word : (image : Image) (leaf : Leaf) (slot f : ℕ) → f < 32 → IsLeaf image leaf → leaf.block ≡ 0 → leaf.first ≤ slot → slot < leaf.first + leaf.count → word_in image leaf.tree.root slot f ≡ 0
+null_word image leaf slot f within is none low high =
     let same : slot / 16 ≡ leaf.first / 16 = omega (arith, is.starts, is.few) in
-    word_in-at image leaf.tree.root slot 0 (omega arith)
-    ∙ ap (λ b. slot_word image b (32 * (slot % 16) + 0)) (ap (node image leaf.tree.root (height_of leaf.tree.root)) same ∙ sym is.block ∙ none)
+    word_in-at image leaf.tree.root slot f within
+    ∙ ap (λ b. slot_word image b (32 * (slot % 16) + f)) (ap (node image leaf.tree.root (height_of leaf.tree.root)) same ∙ sym is.block ∙ none)
+
+pub null_leaf : (image : Image) (leaf : Leaf) (slot : ℕ) → IsLeaf image leaf → leaf.block ≡ 0 → leaf.first ≤ slot → slot < leaf.first + leaf.count → word_in image leaf.tree.root slot 0 ≡ 0
+null_leaf image leaf slot = null_word image leaf slot 0 (omega arith)
 
 -- ---- the words of a leaf's entries, in a row
 

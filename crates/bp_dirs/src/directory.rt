@@ -1,14 +1,16 @@
 //! What stands in a directory.
 
-ghost use Rattle.std.specs.Prelude.{◌≡◌, ◌≢◌, ◌+◌, ◌*◌, ◌/◌, ◌%◌, ◌<◌, ◌≤◌, ◌↔◌, length, IsTrue, IfSome};
+ghost use Rattle.std.specs.Prelude.{◌≡◌, ◌≢◌, ◌+◌, ◌*◌, ◌/◌, ◌%◌, ◌<◌, ◌≤◌, ◌↔◌, ℕ, length, IsTrue, IfNone, IfSome};
 ghost use Rattle.bp_layout.specs.Words.{height_of};
 ghost use Rattle.bp_layout.specs.Tree.{node, IsSound, IsFull};
-ghost use Rattle.bp_layout.specs.Directory.{inumber_in, empty_slot_in, slot_named_in};
+ghost use Rattle.bp_layout.specs.Directory.{inumber_in, word_in, empty_slot_in, slot_named_in};
 ghost use Rattle.bp_limits.specs.Limits.{block_words, entry_size, entry_words, max_name};
 ghost use Rattle.pm_region.specs.Memory.{current_words};
+ghost use Rattle.bp_dirs.specs.EntryWords.{HasWords};
 ghost use Rattle.bp_dirs.specs.Names.{name_count};
 ghost use Rattle.bp_dirs.specs.Spots.{FreeIs, found_slot, named_slot};
 
+use crate::entry_view::EntryView;
 use crate::leaf::{leaf_count, leaf_from};
 use crate::name_words::last_word;
 use crate::spot::{Found, Spot};
@@ -23,6 +25,19 @@ pub fn inumber<R: Region>(region: &R, tree: Tree, slot: u64) -> u64
     ensures { result ≡ inumber_in (current_words (R.memory region.now)) tree.root slot }
 {
     content_word(region, tree, ENTRY_WORDS as u64 * slot)
+}
+
+/// The entry in a slot, None where it is empty since no block is there.
+pub fn entry<R: Region>(region: &R, tree: Tree, slot: u64) -> Option<EntryView<'_>>
+    requires sound { IsSound (current_words (R.memory region.now)) tree.root tree.size }
+    requires live { slot < tree.size / entry_size }
+    ensures some { IfSome result
+        (λ entry. HasWords (current_words (R.memory region.now)) tree.root slot entry.words.now) }
+    ensures none { IfNone result ((field : ℕ) → field < entry_words →
+        word_in (current_words (R.memory region.now)) tree.root slot field ≡ 0) }
+{
+    let index = slot % BLOCK_ENTRIES;
+    leaf_from(region, tree, slot - index).entry(region, index)
 }
 
 /// The least slot whose entry names an inode by this name, None where no entry does.

@@ -1,14 +1,15 @@
 //! The entries of one leaf of a directory.
 
-ghost use Rattle.std.specs.Prelude.{◌≡◌, ◌≢◌, ℕ, ◌-◌, ◌*◌, ◌/◌, ◌%◌, ◌<◌, ◌≤◌, ◌==◌, not, min, length, find, filter, Option, IfSome, IfNone};
+ghost use Rattle.std.specs.Prelude.{◌≡◌, ◌≢◌, ℕ, ◌+◌, ◌-◌, ◌*◌, ◌/◌, ◌%◌, ◌<◌, ◌≤◌, ◌==◌, not, min, length, find, filter, Option, IfSome, IfNone};
 ghost use Rattle.std.specs.List.{range_with_len};
 ghost use Rattle.bp_layout.specs.Tree.{IsSound};
-ghost use Rattle.bp_layout.specs.Directory.{inumber_in, is_named_in};
+ghost use Rattle.bp_layout.specs.Directory.{inumber_in, word_in, is_named_in};
 ghost use Rattle.pm_region.specs.Memory.{current_words};
-ghost use Rattle.bp_dirs.specs.EntryWords.{IsLeaf, IsRow, last_part, part_word};
+ghost use Rattle.bp_dirs.specs.EntryWords.{HasWords, IsLeaf, IsRow, last_part, part_word};
 ghost use Rattle.bp_dirs.specs.Spots.{found_slot};
-ghost use Rattle.bp_limits.specs.Limits.{block_entries, entry_size, max_name};
+ghost use Rattle.bp_limits.specs.Limits.{block_entries, entry_size, entry_words, max_name};
 
+use crate::entry_view::EntryView;
 use crate::entry_words::is_named;
 use crate::spot::Found;
 use bp_limits::{BLOCK_ENTRIES, BLOCK_WORDS, ENTRY_SIZE, ENTRY_WORDS};
@@ -71,6 +72,22 @@ impl Leaf {
             BLOCK_WORDS * self.block as u32,
             ENTRY_WORDS * self.count as u32,
         )
+    }
+
+    /// One of the entries, None where they are all empty since no block is there.
+    pub fn entry<'a, R: Region>(&self, region: &'a R, index: u64) -> Option<EntryView<'a>>
+        requires leaf { IsLeaf (current_words (R.memory region.now)) self.now }
+        requires live { index < self.now.count }
+        ensures some { IfSome result (λ entry. HasWords (current_words (R.memory region.now))
+            self.now.tree.root (self.now.first + index) entry.words.now) }
+        ensures none { IfNone result ((field : ℕ) → field < entry_words →
+            word_in (current_words (R.memory region.now)) self.now.tree.root (self.now.first + index) field ≡ 0) }
+    {
+        if self.block == 0 {
+            return None;
+        }
+        let at = ENTRY * index as usize;
+        Some(EntryView::new(&self.words(region)[at..at + ENTRY]))
     }
 
     /// The first of the entries that names an inode by this name, whose last word is `last`.

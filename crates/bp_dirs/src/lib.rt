@@ -5,6 +5,7 @@
 #![tactic(auto)]
 
 mod directory;
+mod entry_view;
 mod entry_words;
 mod leaf;
 mod name_words;
@@ -12,7 +13,8 @@ mod spot;
 mod writing;
 
 pub use directory::{
-    count, entry_place, find, find_entry, find_or_free, free_slot, inumber, is_empty,
+    count, entry, entry_place, find, find_entry, find_or_free, free_slot, inumber, is_empty,
 };
+pub use entry_view::EntryView;
 pub use spot::{Found, Spot};
 pub use writing::put_name;

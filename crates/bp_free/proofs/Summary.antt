@@ -1,11 +1,9 @@
 -- The summary of a set, a number for each word that is not empty, and the count.
-use Rattle.std.proofs.Common.{◌≡◌, ◌⊎◌, ℕ, ◌+◌, ◌-◌, ◌/◌, ◌%◌, ◌^◌, ◌<◌, ◌≤◌, ◌≢◌, [], length, Bool, true, false, refl, sym, ◌∙◌, ap, arith, inl, inr, Option, Some, None}
-use Rattle.std.specs.Prelude.{MatchOption}
-use Rattle.std.specs.Option.{is_some}
+use Rattle.std.proofs.Common.{◌≡◌, ◌⊎◌, ℕ, ◌+◌, ◌-◌, ◌/◌, ◌%◌, ◌^◌, ◌<◌, ◌≤◌, ◌≢◌, [], length, Bool, true, false, refl, sym, ◌∙◌, ap, arith, inl, inr}
 use Rattle.std.proofs.lemmas.Bool.{cases_eq, cases_lt}
 use Rattle.std.proofs.lemmas.List.{length-set, length-replicate, get_or-replicate}
 use Rattle.bp_free.specs.Set.{Set, has, members, with, without, empty, IsLeast, Fills}
-use Rattle.bp_free.specs.Words.{IsSummary, IsCounted, IsEmptyWord, IsLeastInWord}
+use Rattle.bp_free.specs.Words.{IsSummary, IsCounted, IsEmptyWord, TellsAlone}
 use Rattle.bp_free.proofs.Members.{has_past, has_with_same, has_with_other, has_without_same, has_without_other, members_empty, members_none, count_with, count_without, count_less, count_most, count_filled}
 
 -- ---- cases
@@ -30,14 +28,6 @@ has_empty room i =
       | inl low ↦ get_or-replicate room i false false low
       | inr past ↦ has_past (empty room) i (omega (arith, past, long))
     ]
-
-pub at_none : {X : Type 0} (r : Option X) (A : Type 0) (B : X → Type 0) → MatchOption r A B → is_some r ≡ false → A
-at_none None A B a none = a
-at_none (Some x) A B a none = absurd (both refl none)
-
-pub at_some : {X : Type 0} (r : Option X) (A : Type 0) (B : X → Type 0) → MatchOption r A B → is_some r ≡ true → (x : X) × B x
-at_some None A B a some = absurd (both some refl)
-at_some (Some x) A B b some = (x, b)
 
 -- ---- the summary
 
@@ -88,14 +78,14 @@ summary_without_last s used i sum low none =
           (found.0, found.1, has_without_other s i found.0 apart ∙ found.2);
     }
 
-summary_without : (s used : Set) (i j : ℕ) → IsSummary s used → i < length s → IsLeastInWord (without s i) (i / 64) j → IsSummary (without s i) used
-summary_without s used i j sum low least =
+summary_without : (s used : Set) (i : ℕ) → IsSummary s used → i < length s → TellsAlone s i false → IsSummary (without s i) used
+summary_without s used i sum low other_is =
     let long = length-set s i false in
     record {
       room = omega (arith, sum.room, long);
       all = λ k there. sum.all k (still s i k low there).1;
       some = λ word there. elim (cases_eq word (i / 64)) [
-        | inl here ↦ (j, least.place ∙ sym here, least.is_in)
+        | inl here ↦ (other_is.0, other_is.1 ∙ sym here, other_is.2)
         | inr other ↦
             let found = sum.some word there in
             let apart : found.0 ≢ i = λ same. other (sym found.1 ∙ ap (λ j. j / 64) same) in
@@ -129,26 +119,24 @@ counted_with s used new new_used count i counted is used_is low out =
       summary = summary_with s used i counted.summary low;
     })
 
-pub counted_without_last : (s used new new_used : Set) (count i : ℕ) → IsCounted s used count → new ≡ without s i → new_used ≡ without used (i / 64) → i < length s → has s i ≡ true → IsEmptyWord new (i / 64) → IsCounted new new_used (count - 1)
+pub counted_without_last : (s used new new_used : Set) (count i : ℕ) → IsCounted s used count → new ≡ without s i → new_used ≡ without used (i / 64) → i < length s → has s i ≡ true → TellsAlone s i true → IsCounted new new_used (count - 1)
 counted_without_last s used new new_used count i counted is used_is low there none =
     let less = count_without s i low there in
     let long = length-set s i false in
-    let none_left : IsEmptyWord (without s i) (i / 64) = λ k here. sym (ap (λ s. has s k) is) ∙ none k here in
     rw (is, used_is) (record {
       number = omega (arith, counted.number, less);
       fits = omega (arith, counted.fits, long);
-      summary = summary_without_last s used i counted.summary low none_left;
+      summary = summary_without_last s used i counted.summary low none;
     })
 
-pub counted_without : (s used new : Set) (count i j : ℕ) → IsCounted s used count → new ≡ without s i → i < length s → has s i ≡ true → IsLeastInWord new (i / 64) j → IsCounted new used (count - 1)
-counted_without s used new count i j counted is low there least =
+pub counted_without : (s used new : Set) (count i : ℕ) → IsCounted s used count → new ≡ without s i → i < length s → has s i ≡ true → TellsAlone s i false → IsCounted new used (count - 1)
+counted_without s used new count i counted is low there other_is =
     let less = count_without s i low there in
     let long = length-set s i false in
-    let left : IsLeastInWord (without s i) (i / 64) j = rw is at least in
     rw is (record {
       number = omega (arith, counted.number, less);
       fits = omega (arith, counted.fits, long);
-      summary = summary_without s used i j counted.summary low left;
+      summary = summary_without s used i counted.summary low other_is;
     })
 
 pub one_there : (s used : Set) (count i : ℕ) → IsCounted s used count → i < length s → has s i ≡ true → 1 ≤ count

@@ -3,14 +3,14 @@ use Rattle.std.proofs.Common.{◌≡◌, ◌↔◌, ℕ, zero, suc, ◌+◌, ◌
 use Rattle.std.specs.Prelude.{eqb}
 use Rattle.std.specs.Int.{bit_at, bit_not, w64, trailing_zeros}
 use Rattle.std.specs.Int.Bits.{bit_and, bit_or}
-use Rattle.std.proofs.lemmas.Bool.{cases_eq, cases_lt}
+use Rattle.std.proofs.lemmas.Bool.{cases_eq, cases_lt, eqb-true}
 use Rattle.std.proofs.lemmas.List.{get_or_read, get_or-set_same, get_or-set_other, get_or_past, get_or-replicate, length-set, length-replicate, ext_get_or}
 use Rattle.std.proofs.lemmas.List.FromFn.{length-map-range_with_len, get_or-map-range_with_len}
 use Rattle.std.proofs.lemmas.Nat.Bits.{bit_at-zero, bit_at-trailing_zeros, shr_and_one, bit_at_set_same, bit_at_set_other, bit_at_clear_same, bit_at_clear_other, bit_at-lt, bit_at_and, bit_at_or, bit_at_mask_inside, bit_at_mask_below, bit_at_mask_above, same_from_bits}
 use Rattle.std.proofs.Math.Nat.{le-mul_of_pos_right}
-use Rattle.std.proofs.lemmas.Nat.{pow_pos, pow-add}
+use Rattle.std.proofs.lemmas.Nat.{and_le_r, pow_pos, pow-add}
 use Rattle.bp_free.specs.Set.{Set, has, with, without, empty, IsLeast, Fills}
-use Rattle.bp_free.specs.Words.{word_has, set_in, HoldRoom, IsLowestBit, IsLeastInWord, IsEmptyWord}
+use Rattle.bp_free.specs.Words.{word_has, set_in, HoldRoom, IsLowestBit, IsLeastInWord, IsEmptyWord, TellsEmpty, TellsAlone}
 
 -- the word of number i with its bit set, and with it cleared
 abbrev pub set_bit : List ℕ → ℕ → ℕ
@@ -232,6 +232,41 @@ empty_holds n room fits long short =
       short = omega (arith, short, length_is);
       behind = λ i _. no_word n i;
     }
+
+not_fits : (n : ℕ) → bit_not w64 n < 2 ^ 64
+not_fits n = omega arith
+
+above_zero : (n : ℕ) → eqb n 0 ≡ false → 0 < n
+above_zero zero none = absurd (cc none)
+above_zero (suc n) none = omega arith
+
+-- the word without one of its numbers is 0 where that number is alone
+alone_by : (words : List ℕ) (room : ℕ) (left : Set) (word rest : ℕ) → HoldRoom words room → set_in words room ≡ left → rest ≡ get_or words word 0 → rest < 2 ^ 64 → (b : Bool) → eqb rest 0 ≡ b → TellsEmpty left word b
+alone_by words room left word rest hold view value fits true none =
+    subst (λ s. IsEmptyWord s word) view (empty_word words room word hold (sym value ∙ eqb-true _ _ none))
+alone_by words room left word rest hold view value fits false more =
+    let some : 0 < rest = above_zero rest more in
+    let least = least_in_word words room word rest _ hold value (lowest_bit rest some fits) in
+    (64 * word + trailing_zeros w64 rest, least.place, sym (ap (λ s. has s (64 * word + trailing_zeros w64 rest)) view) ∙ least.is_in)
+
+pub alone_tells : (words : List ℕ) (room : ℕ) (seen : Set) (i v : ℕ) → HoldRoom words room → set_in words room ≡ seen → i < length seen → v ≡ get_or words (i / 64) v →
+    TellsAlone seen i (eqb (bit_and v (bit_not w64 (1 * 2 ^ (i % 64) % 2 ^ 64))) 0)
+alone_tells words room seen i v hold view low read =
+    let rest : ℕ = bit_and v (bit_not w64 (1 * 2 ^ (i % 64) % 2 ^ 64)) in
+    let new : List ℕ = set words (i / 64) rest in
+    let less : rest ≤ bit_not w64 (1 * 2 ^ (i % 64) % 2 ^ 64) = and_le_r v (bit_not w64 (1 * 2 ^ (i % 64) % 2 ^ 64)) in
+    alone_by new room (without seen i) (i / 64) rest
+    (clear_holds words room seen i v hold view low read) (clear_seen words room seen i v hold view low read)
+    (sym (get_or-set_same words (i / 64) rest 0 (word_seen words room seen i hold view low)))
+    (omega (arith, less, not_fits (1 * 2 ^ (i % 64) % 2 ^ 64))) (eqb rest 0) refl
+
+pub alone_tells_at : (words : List ℕ) (room : ℕ) (seen : Set) (word bit v : ℕ) → HoldRoom words room → set_in words room ≡ seen → 64 * word + bit < length seen → bit < 64 → v ≡ get_or words word v →
+    TellsAlone seen (64 * word + bit) (eqb (bit_and v (bit_not w64 (1 * 2 ^ bit % 2 ^ 64))) 0)
+alone_tells_at words room seen word bit v hold view low low_bit read =
+    let place : (64 * word + bit) / 64 ≡ word = omega (arith, low_bit) in
+    let digit : (64 * word + bit) % 64 ≡ bit = omega (arith, low_bit) in
+    subst (λ d. TellsAlone seen (64 * word + bit) (eqb (bit_and v (bit_not w64 (1 * 2 ^ d % 2 ^ 64))) 0)) digit
+    (alone_tells words room seen (64 * word + bit) v hold view low (subst (λ w. v ≡ get_or words w v) (sym place) read))
 
 -- the least number of a set is that of the first word that is not empty
 pub least_seen : (seen : Set) (word i : ℕ) → ((k : ℕ) → k / 64 < word → has seen k ≡ false) → IsLeastInWord seen word i → IsLeast seen i

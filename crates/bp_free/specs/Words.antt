@@ -2,7 +2,7 @@
 use Rattle.std.specs.Prelude.{◌≡◌, ℕ, ◌+◌, ◌*◌, ◌/◌, ◌%◌, ◌^◌, ◌<◌, ◌≤◌, List, length, map, Bool, true, false, eqb, slice_index}
 use Rattle.std.specs.Int.{bit_at}
 use Rattle.std.specs.List.{range_with_len}
-use Rattle.bp_free.specs.Set.{Set, has, members}
+use Rattle.bp_free.specs.Set.{Set, has, members, without}
 
 -- whether number i is in these words
 unfoldable pub word_has : List ℕ → ℕ → Bool
@@ -35,6 +35,15 @@ pub record IsLeastInWord (set : Set) (word i : ℕ) : Type 0 where
 -- no number of that word is in
 abbrev pub IsEmptyWord : Set → ℕ → Type 0
 IsEmptyWord set word = (k : ℕ) → k / 64 ≡ word → has set k ≡ false
+
+-- whether a word is empty: a number of it is told where it is not
+abbrev pub TellsEmpty : Set → ℕ → Bool → Type 0
+TellsEmpty set word true = IsEmptyWord set word
+TellsEmpty set word false = (k : ℕ) × (k / 64 ≡ word) × (has set k ≡ true)
+
+-- whether no number but i of i's word is in
+abbrev pub TellsAlone : Set → ℕ → Bool → Type 0
+TellsAlone set i alone = TellsEmpty (without set i) (i / 64) alone
 
 -- the words that are not empty are those in used
 pub record IsSummary (set used : Set) : Type 0 where

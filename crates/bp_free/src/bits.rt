@@ -1,14 +1,13 @@
 //! A set of numbers as bits.
 
-ghost use Rattle.std.specs.Prelude.{◌≡◌, ℕ, ◌+◌, ◌-◌, ◌*◌, ◌%◌, ◌<◌, ◌≤◌, ◌↔◌, ◌^◌, false, length, IsTrue, IfOk, MatchOption};
+ghost use Rattle.std.specs.Prelude.{◌≡◌, ℕ, ◌+◌, ◌-◌, ◌*◌, ◌%◌, ◌<◌, ◌≤◌, ◌↔◌, ◌^◌, false, length, IsTrue, IfOk, IfSome, MatchOption};
 ghost use Rattle.bp_free.specs.Looks.{bit_looks};
 ghost use Rattle.bp_free.specs.Set.{Set, has, with, without, empty, IsLeast, Fills};
-ghost use Rattle.bp_free.specs.Words.{IsLowestBit, IsLeastInWord, IsEmptyWord};
+ghost use Rattle.bp_free.specs.Words.{IsLowestBit, IsLeastInWord, IsEmptyWord, TellsAlone};
 
-use crate::steps::Steps;
+use crate::steps::Looks;
 use std::alloc::{AllocError, Global};
 use std::marker::Model;
-use std::sync::ledger::Ledger;
 
 /// How many numbers a word tells.
 pub(crate) const WORD: usize = 64;
@@ -29,6 +28,15 @@ impl Model for Bits {
     ghost view = { λ b. set_in b.words.items b.room };
 
     ghost invariant = { λ b. HoldRoom b.words.items b.room };
+}
+
+/// A number, as one that may leave its word.
+#[derive(Clone, Copy)]
+pub(crate) struct Member {
+    /// The number.
+    pub number: usize,
+    /// Whether no other number of its word is in.
+    pub alone: bool,
 }
 
 /// The place of the lowest bit that is set, `None` where none is.
@@ -78,10 +86,12 @@ impl Bits {
     }
 
     /// Whether a number is in.
-    pub fn has(&self, i: usize) -> bool
+    pub fn has<C: Looks>(&self, i: usize, counter: &mut C) -> bool
         requires { i < length self.now }
-        ensures { result ≡ has self.now i }
+        ensures has { result ≡ has self.now i }
+        ensures look { C.taken counter.new ≡ C.taken counter.old + C.each }
     {
+        counter.look();
         (self.words[i / WORD] >> (i % WORD)) & 1 == 1
     }
 
@@ -94,12 +104,14 @@ impl Bits {
     }
 
     /// Whether none of the numbers from one on is in, so many, which share a word.
-    pub fn has_none(&self, first: usize, count: usize) -> bool
+    pub fn has_none<C: Looks>(&self, first: usize, count: usize, counter: &mut C) -> bool
         requires one_word { first % 64 + count ≤ 64 }
         requires some { 0 < count }
         requires in_range { first + count ≤ length self.now }
-        ensures { IsTrue result ↔ ((k : ℕ) → first ≤ k → k < first + count → has self.now k ≡ false) }
+        ensures none { IsTrue result ↔ ((k : ℕ) → first ≤ k → k < first + count → has self.now k ≡ false) }
+        ensures look { C.taken counter.new ≡ C.taken counter.old + C.each }
     {
+        counter.look();
         self.words[first / WORD] & ones(first % WORD, count) == 0
     }
 
@@ -121,33 +133,46 @@ impl Bits {
         self.words[i / WORD] &= !(1 << (i % WORD));
     }
 
-    /// The least number of a word that is in, `None` where the word is empty.
-    pub fn first_in_word(&self, word: usize) -> Option<usize>
-        requires { WORD * word < length self.now }
-        ensures { MatchOption result (IsEmptyWord self.now word) (IsLeastInWord self.now word) }
+    /// A number, and whether no other number of its word is in.
+    pub fn member<C: Looks>(&self, i: usize, counter: &mut C) -> Member
+        requires { i < length self.now }
+        ensures number { result.number ≡ i }
+        ensures alone { TellsAlone self.now i result.alone }
+        ensures look { C.taken counter.new ≡ C.taken counter.old + C.each }
     {
-        let bit = lowest_bit(self.words[word])?;
-        Some(WORD * word + bit)
+        counter.look();
+        Member {
+            number: i,
+            alone: self.words[i / WORD] & !(1 << (i % WORD)) == 0,
+        }
     }
 
-    /// What [`Bits::first_in_word`] tells, as a step of a search.
-    pub fn look<L: Ledger>(&self, word: usize, steps: &mut Steps<L>) -> Option<usize>
+    /// The least number of a word that is in, `None` where the word is empty. It tells too whether that is the only
+    /// one, so that no call that takes it out looks at the word again.
+    pub fn first_in_word<C: Looks>(&self, word: usize, counter: &mut C) -> Option<Member>
         requires { WORD * word < length self.now }
-        ensures least { MatchOption result (IsEmptyWord self.now word) (IsLeastInWord self.now word) }
-        ensures step { steps.new ≡ steps.old + 1 }
+        ensures least { MatchOption result (IsEmptyWord self.now word)
+            (λ least. IsLeastInWord self.now word least.number) }
+        ensures alone { IfSome result (λ least. TellsAlone self.now least.number least.alone) }
+        ensures look { C.taken counter.new ≡ C.taken counter.old + C.each }
     {
-        steps.tick();
-        self.first_in_word(word)
+        counter.look();
+        let bits = self.words[word];
+        let bit = lowest_bit(bits)?;
+        Some(Member {
+            number: WORD * word + bit,
+            alone: bits & !(1 << bit) == 0,
+        })
     }
 
     /// The least number that is in, `None` where the set is empty.
-    pub fn first<L: Ledger>(&self, steps: &mut Steps<L>) -> Option<usize>
+    pub fn first<C: Looks>(&self, counter: &mut C) -> Option<usize>
         ensures least { MatchOption result ((i : ℕ) → has self.now i ≡ false) (IsLeast self.now) }
-        ensures steps { steps.new ≡ steps.old + bit_looks (length self.now) result }
+        ensures looks { C.taken counter.new ≡ C.taken counter.old + C.each * bit_looks (length self.now) result }
     {
         for word in 0..self.words.len() {
-            if let Some(i) = self.look(word, steps) {
-                return Some(i);
+            if let Some(least) = self.first_in_word(word, counter) {
+                return Some(least.number);
             }
         }
         None

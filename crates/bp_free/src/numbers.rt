@@ -1,15 +1,16 @@
 //! Free numbers, and how many there are.
 
-ghost use Rattle.std.specs.Prelude.{◌≡◌, ℕ, ◌+◌, ◌%◌, ◌<◌, ◌≤◌, ◌^◌, [], false, true, length, IfOk, MatchOption};
+ghost use Rattle.std.specs.Prelude.{◌≡◌, ℕ, ◌+◌, ◌*◌, ◌%◌, ◌<◌, ◌≤◌, ◌^◌, [], false, true, length, IfOk, MatchOption};
 ghost use Rattle.std.specs.Int.{div_ceil};
 ghost use Rattle.bp_free.specs.Looks.{looks};
 ghost use Rattle.bp_free.specs.Set.{Set, has, members, with, without, empty, IsLeast, Fills};
+ghost use Rattle.bp_free.specs.Words.{TellsAlone};
 
-use crate::bits::{Bits, WORD};
-use crate::steps::Steps;
+use crate::bits::{Bits, Member, WORD};
+use crate::steps::{Looks, Steps, Uncounted};
 use std::alloc::{AllocError, Global};
-use std::marker::{Brand, Model, PhantomData};
-use std::sync::ledger::{Blank, Ledger};
+use std::marker::{Model, PhantomData};
+use std::sync::ledger::Ledger;
 
 /// What free blocks are numbers of.
 #[derive(Clone, Copy)]
@@ -83,7 +84,7 @@ impl<Kind> Numbers<Kind> {
         requires { i < length self.now }
         ensures { result ≡ has self.now i }
     {
-        self.free.has(i as usize)
+        self.free.has(i as usize, &mut Uncounted)
     }
 
     /// Puts a number in that was not free.
@@ -104,24 +105,22 @@ impl<Kind> Numbers<Kind> {
         requires free { has self.old i ≡ true }
         ensures { self.new ≡ without self.old i }
     {
-        let i = i as usize;
-        let word = i / WORD;
-        self.free.remove(i);
-        self.count -= 1;
-        if self.free.first_in_word(word).is_none() {
-            self.words_in_use.remove(word);
-        }
+        let member = self.free.member(i as usize, &mut Uncounted);
+        self.remove(member);
     }
 
-    /// The least free number, `None` where none is free.
-    fn first<L: Ledger>(&self, steps: &mut Steps<L>) -> Option<u32>
-        ensures least { MatchOption result (members self.now ≡ []) (IsLeast self.now) }
-        ensures steps { steps.new ≡ steps.old + looks (length self.now) result }
+    /// Takes a number out that was free, and its word out of those in use where it is the last of it.
+    fn remove(&mut self, member: Member)
+        requires in_range { member.number < length self.old }
+        requires free { has self.old member.number ≡ true }
+        requires alone { TellsAlone self.old member.number member.alone }
+        ensures { self.new ≡ without self.old member.number }
     {
-        let word = self.words_in_use.first(steps)?;
-        // A word in use has a number.
-        let i = self.free.look(word, steps)?;
-        Some(i as u32)
+        self.free.remove(member.number);
+        self.count -= 1;
+        if member.alone {
+            self.words_in_use.remove(member.number / WORD);
+        }
     }
 
     /// Takes the least number out, `None` where none is free.
@@ -129,32 +128,31 @@ impl<Kind> Numbers<Kind> {
         ensures { MatchOption result ((members self.old ≡ []) × (self.new ≡ self.old))
             (λ i. IsLeast self.old i × (self.new ≡ without self.old i)) }
     {
-        self.take_uncounted::<Brand>(Blank::new(1))
+        self.take_by(&mut Uncounted)
     }
 
-    /// What [`Numbers::take`] does, with a ledger that nobody reads.
-    fn take_uncounted<L: Ledger>(&mut self, blank: Blank) -> Option<u32>
-        requires name { blank.name ≡ L.name }
-        requires parts { blank.parts ≡ L.parts }
-        requires some { 0 < L.parts }
-        ensures { MatchOption result ((members self.old ≡ []) × (self.new ≡ self.old))
-            (λ i. IsLeast self.old i × (self.new ≡ without self.old i)) }
-    {
-        let mut steps = Steps::<L>::new(blank);
-        self.take_counted(&mut steps)
-    }
-
-    /// What [`Numbers::take`] does, and how many steps the search takes: a step is a look at a word of 64 numbers, or at a
-    /// word of the bits that tell which of those words are not empty.
+    /// What [`Numbers::take`] does, and how many steps the search takes: a step is a look at a word of 64 numbers, or
+    /// at a word of the bits that tell which of those words are not empty.
     pub fn take_counted<L: Ledger>(&mut self, steps: &mut Steps<L>) -> Option<u32>
         ensures least { MatchOption result ((members self.old ≡ []) × (self.new ≡ self.old))
             (λ i. IsLeast self.old i × (self.new ≡ without self.old i)) }
         ensures looks { steps.new ≡ steps.old + looks (length self.old) result }
         ensures most { steps.new ≤ steps.old + div_ceil (length self.old) 4096 + 1 }
     {
-        let i = self.first(steps)?;
-        self.claim(i);
-        Some(i)
+        self.take_by(steps)
+    }
+
+    /// What [`Numbers::take`] does. Each look at a word is told to `counter`.
+    fn take_by<C: Looks>(&mut self, counter: &mut C) -> Option<u32>
+        ensures least { MatchOption result ((members self.old ≡ []) × (self.new ≡ self.old))
+            (λ i. IsLeast self.old i × (self.new ≡ without self.old i)) }
+        ensures looks { C.taken counter.new ≡ C.taken counter.old + C.each * looks (length self.old) result }
+    {
+        let word = self.words_in_use.first(counter)?;
+        // A word in use has a number.
+        let least = self.free.first_in_word(word, counter)?;
+        self.remove(least);
+        Some(least.number as u32)
     }
 
     /// Takes all numbers out.
@@ -187,7 +185,7 @@ impl<Kind> Numbers<Kind> {
         ensures { Fills from (from + count) self.old self.new }
     {
         let first = from as usize;
-        if !self.free.has_none(first, count as usize) {
+        if !self.free.has_none(first, count as usize, &mut Uncounted) {
             self.fill_singly(from, from + count);
             return;
         }

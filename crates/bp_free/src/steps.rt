@@ -1,6 +1,6 @@
 //! How many steps a call takes, counted at no cost.
 
-ghost use Rattle.std.specs.Prelude.{◌≡◌, ◌+◌, ◌<◌};
+ghost use Rattle.std.specs.Prelude.{◌≡◌, ℕ, ◌+◌, ◌<◌};
 
 use std::marker::Model;
 use std::sync::ledger::{Blank, Book, Ledger, Share};
@@ -40,4 +40,38 @@ impl<L: Ledger> Steps<L> {
     {
         self.book.add(&mut self.share, 1);
     }
+}
+
+/// Who is told of each look at a word.
+pub(crate) trait Looks {
+    /// How many looks it was told of, where it counts them.
+    ghost taken: { Self → ℕ };
+    /// What a look adds to them.
+    ghost each: { ℕ };
+
+    /// A word is looked at.
+    fn look(&mut self)
+        ensures { taken self.new ≡ taken self.old + each };
+}
+
+impl<L: Ledger> Looks for Steps<L> {
+    ghost taken = { λ s. s };
+
+    ghost each = { 1 };
+
+    fn look(&mut self) {
+        self.tick();
+    }
+}
+
+/// The looks of a call that counts none.
+#[derive(Drop)]
+pub(crate) struct Uncounted;
+
+impl Looks for Uncounted {
+    ghost taken = { λ s. 0 };
+
+    ghost each = { 0 };
+
+    fn look(&mut self) {}
 }

@@ -1,15 +1,18 @@
 // Files on the disk. They tell no bytes.
-ghost use Rattle.std.specs.Prelude.{◌≡◌, List, ℕ, IfOk, None, true, false, is_some, if◌then◌else◌};
+ghost use Rattle.std.specs.Prelude.{◌≡◌, ◌/◌, List, ℕ, IfOk, None, true, false, is_some, if◌then◌else◌};
+ghost use Rattle.bp_io.specs.Files.{makes, may_change};
+ghost use Rattle.bp_limits.specs.Limits.{block_size};
 
 use crate::faults::SystemFaults;
-use crate::window::Window;
+use crate::opening::open;
+use crate::saving::Saver;
+use crate::second_file::Names;
 use crate::{Access, Failed, files};
 use bp_limits::BLOCK_SIZE;
 use std::alloc::{AllocError, Global};
-use std::fs::{File, OpenOptions};
+use std::fs::File;
 use std::io::ErrorKind;
-use std::os::unix::fs::FileExt;
-use std::{fs, io, rt};
+use std::{io, rt};
 
 /// The files that a runtime opens, by path. They tell no bytes: that blocks are read from and
 /// written to the file is trusted, and tested.
@@ -18,20 +21,48 @@ use std::{fs, io, rt};
 /// none. A name that is there but is no regular file, as a folder or a device, is a fault, and so is
 /// a read of a block that the file lost since it was attached.
 ///
+/// **One process at a time.** A file that may be written is locked for this process alone as long as
+/// it is attached, and one that is only read together with all that read it; to attach a file that
+/// another process has locked otherwise is a fault. The lock binds those that ask for it, as each
+/// `DiskFiles` does. Where the file system knows no locks there is none.
+///
+/// **What is written is there at the flush, whole.** What is written between two flushes goes to a
+/// second file in the same folder. A flush completes that one by the bytes that were not written,
+/// makes it last, gives it the name of the first, and makes that last too. So whenever the process
+/// is killed, or the power fails, the name leads to a file as it was at the end of one flush (or as
+/// it was attached), and to none older than the last that was answered. The new file has the owner,
+/// the group and the permissions of the old one; what else hangs on a file, as access lists, is not
+/// kept. Symbolic links are followed. The second file is called as the first one with `.bpfs-sync`
+/// behind it, and that name is taken for its alone: a process that is killed leaves the file there,
+/// and the next flush of the first one begins by removing it, as may anyone.
+///
+/// A file is written **in place** where no second one can be had, or none may take its place: where
+/// it has several hard links; where its folder cannot be opened, or no file be made in it; where the
+/// owner, the group or the permissions cannot be given to a new file; where the second name is too
+/// long, or has something under it that no process left; and where there is no room on the disk for
+/// a second file, while the file has all of its own room, and is not to grow. Then each block is the
+/// old or the new one when the process is killed between two flushes.
+///
+/// **A fault loses what was written since the last flush**: the file is as it was then, or in place
+/// each of its blocks is the old one or the new one. After it each read, write and flush is a fault
+/// until a file is attached anew. Where there is no room on the disk, and the file cannot be written
+/// in place as above, that is such a fault.
+///
 /// Blocks that are written one behind another wait in memory, at most 64 of them (256 KiB), and go to
-/// the file together before any block is read or another one is written, and before the file is
-/// flushed, resized or left for another one. So the fault of a write may come in such a later call;
-/// each block that waited is then as before, or the one that was to be written. Without a flush, the
-/// last ones may not come to the file at all.
+/// the disk together before any block is read or another one is written, and before the file is
+/// flushed, resized or left for another one. So the fault of a write may come in such a later call.
+/// What was written is flushed before another file is attached; without that and without a flush it
+/// does not come to the file, but in place, where a part may.
 #[derive(Drop)]
 pub struct DiskFiles<R: rt::Files<File = File> + Drop> {
+    alloc: Global,
     runtime: R,
     file: Option<File>,
     blocks: u64,
     may_write: bool,
     is_flushed: bool,
     faults: SystemFaults,
-    window: Window,
+    saver: Saver,
 }
 
 impl<R: rt::Files<File = File> + Drop> DiskFiles<R> {
@@ -48,19 +79,43 @@ impl<R: rt::Files<File = File> + Drop> DiskFiles<R> {
         ensures faults { IfOk result (λ files. (⟦<DiskFiles<R> as files::Files>⟧.view files).faults ≡ 0) }
     {
         Ok(DiskFiles {
+            alloc,
             runtime,
             file: None,
             blocks: 0,
             may_write: false,
             is_flushed: true,
             faults: SystemFaults::none(),
-            window: Window::new(alloc)?,
+            saver: Saver::new(alloc)?,
         })
     }
 
     /// The last error of the system, where there was one.
     pub fn last_error(&self) -> Option<io::Error> {
         self.faults.last
+    }
+
+    /// Attaches an open file in place of the one before.
+    fn take(&mut self, name: &str, access: Access, file: File, length: u64)
+        ensures file { is_some self.new.file ≡ true }
+        ensures blocks { self.new.blocks ≡ length / block_size }
+        ensures may_write { self.new.may_write ≡ may_change access }
+        ensures flushed { makes access ≡ false → self.new.is_flushed ≡ self.old.is_flushed }
+        ensures faults { self.new.faults.count ≡ self.old.faults.count }
+    {
+        // A file whose names cannot be made out is written in place.
+        let names = if access.may_change() {
+            Names::of(self.alloc, &self.runtime, name).ok()
+        } else {
+            None
+        };
+        self.saver.restart(names);
+        self.file = Some(file);
+        self.blocks = length / BLOCK_SIZE;
+        self.may_write = access.may_change();
+        if access.makes() {
+            self.is_flushed = false;
+        }
     }
 }
 
@@ -74,33 +129,6 @@ fn attached(file: &Option<File>) -> &File
     }
 }
 
-/// The fault of a name whose file has no blocks, as a folder or a device.
-fn no_file_of_blocks() -> io::Error {
-    io::Error::new(ErrorKind::InvalidInput, "not a regular file")
-}
-
-/// Opens a regular file, and answers it with its length in bytes. One that may only be read is looked
-/// at before it is opened, since opening a pipe so would wait for a writer.
-fn open<R: rt::Files<File = File>>(
-    runtime: &R,
-    name: &str,
-    access: Access,
-) -> io::Result<(File, u64)> {
-    if !access.may_change() && !fs::metadata(runtime, name)?.is_file() {
-        return Err(no_file_of_blocks());
-    }
-    let file = OpenOptions::new()
-        .read(true)
-        .write(access.may_change())
-        .create(access.makes())
-        .open(runtime, name)?;
-    let metadata = file.metadata()?;
-    if !metadata.is_file() {
-        return Err(no_file_of_blocks());
-    }
-    Ok((file, metadata.len()))
-}
-
 impl<R: rt::Files<File = File> + Drop> files::Files for DiskFiles<R> {
     ghost view = { λ s. record {
       is_attached = λ name. is_some s.file;
@@ -112,22 +140,20 @@ impl<R: rt::Files<File = File> + Drop> files::Files for DiskFiles<R> {
     } };
 
     fn attach(&mut self, name: &str, access: Access) -> Result<Option<u64>, Failed> {
-        if let Some(file) = &self.file {
-            let done = self.window.write_out(file);
-            self.faults.or_fault(done)?;
-        }
+        let left = self.saver.leave(&self.runtime, &mut self.file);
+        self.faults.or_fault(left)?;
         match open(&self.runtime, name, access) {
             Ok((file, length)) => {
-                self.file = Some(file);
-                self.blocks = length / BLOCK_SIZE;
-                self.may_write = access.may_change();
-                if access.makes() {
-                    self.is_flushed = false;
-                }
+                self.take(name, access, file, length);
                 Ok(Some(length))
             }
-            Err(e) if !access.makes() && e.kind() == ErrorKind::NotFound => Ok(None),
-            Err(e) => Err(self.faults.raise(e)),
+            Err(e) => {
+                self.saver.stay(&self.runtime, &self.file, self.may_write);
+                if !access.makes() && e.kind() == ErrorKind::NotFound {
+                    return Ok(None);
+                }
+                Err(self.faults.raise(e))
+            }
         }
     }
 
@@ -136,34 +162,30 @@ impl<R: rt::Files<File = File> + Drop> files::Files for DiskFiles<R> {
             // No block is asked for then.
             return Ok(());
         };
-        let written = self.window.write_out(file);
-        self.faults.or_fault(written)?;
-        let done = file.read_exact_at(into, BLOCK_SIZE * u64::from(first));
+        let at = BLOCK_SIZE * u64::from(first);
+        let done = self.saver.read(&self.runtime, file, into, at);
         self.faults.or_fault(done)
     }
 
     fn write_block(&mut self, i: u32, from: &[u8; 4096]) -> Result<(), Failed> {
         self.is_flushed = false;
-        let done = self.window.write_block(attached(&self.file), i, from);
+        let file = attached(&self.file);
+        let done = self.saver.write_block(&self.runtime, file, i, from);
         self.faults.or_fault(done)
     }
 
     fn set_blocks(&mut self, n: u32) -> Result<(), Failed> {
         self.is_flushed = false;
         let file = attached(&self.file);
-        let written = self.window.write_out(file);
-        self.faults.or_fault(written)?;
-        let done = file.set_len(BLOCK_SIZE * u64::from(n));
+        let length = BLOCK_SIZE * u64::from(n);
+        let done = self.saver.set_len(&self.runtime, file, length);
         self.faults.or_fault(done)?;
         self.blocks = u64::from(n);
         Ok(())
     }
 
     fn flush(&mut self) -> Result<(), Failed> {
-        let file = attached(&self.file);
-        let written = self.window.write_out(file);
-        self.faults.or_fault(written)?;
-        let done = file.sync_data();
+        let done = self.saver.flush(&self.runtime, &mut self.file);
         self.faults.or_fault(done)?;
         self.is_flushed = true;
         Ok(())

@@ -33,32 +33,41 @@ impl Window {
         })
     }
 
-    /// Writes its blocks, and forgets them. They are forgotten also where that fails.
-    pub(crate) fn write_out(&mut self, file: &File) -> io::Result<()>
+    /// Where its blocks begin in the file, and where they end, in bytes.
+    pub(crate) fn place(&self) -> (u64, u64) {
+        let end = self.first + self.count as u64;
+        (BLOCK_SIZE * self.first, BLOCK_SIZE * end)
+    }
+
+    /// Writes its blocks, and then forgets them. Where that fails they still wait.
+    pub(crate) fn write_out(&mut self, file: &File) -> io::Result<()> {
+        let (at, _) = self.place();
+        file.write_all_at(&self.bytes[..BLOCK * self.count], at)?;
+        self.count = 0;
+        Ok(())
+    }
+
+    /// Forgets its blocks, and stands before the block `i`.
+    pub(crate) fn restart(&mut self, i: u32)
         ensures { self.new.count ≡ 0 }
     {
-        let count = self.count;
+        self.first = u64::from(i);
         self.count = 0;
-        file.write_all_at(&self.bytes[..BLOCK * count], BLOCK_SIZE * self.first)
     }
 
     /// Whether the block `i` can wait behind those that wait already.
-    fn takes(&self, i: u64) -> bool
+    pub(crate) fn takes(&self, i: u32) -> bool
         ensures { result ≡ true → self.now.count < 64 }
     {
-        self.count < ROOM && i == self.first + self.count as u64
+        self.count < ROOM && u64::from(i) == self.first + self.count as u64
     }
 
-    /// Puts the block `i` behind those that wait, or writes those and puts it in their place.
-    pub(crate) fn write_block(&mut self, file: &File, i: u32, from: &[u8; 4096]) -> io::Result<()> {
-        let i = u64::from(i);
-        if !self.takes(i) {
-            self.write_out(file)?;
-            self.first = i;
-        }
+    /// Puts a block behind those that wait.
+    pub(crate) fn push(&mut self, from: &[u8; 4096])
+        requires { self.old.count < 64 }
+    {
         let at = BLOCK * self.count;
         self.bytes[at..at + BLOCK].copy_from_slice(from);
         self.count += 1;
-        Ok(())
     }
 }

@@ -2,7 +2,7 @@
 use Rattle.std.proofs.Common.{◌≡◌, ◌≢◌, ◌⊎◌, ℕ, zero, suc, ◌+◌, ◌*◌, ◌/◌, ◌<◌, ◌≤◌, [], ◌∷◌, length, None, slice_index, unwrap_or, refl, sym, ◌∙◌, ap, ap₂, subst, subst₂, arith, inl, inr}
 use Rattle.std.proofs.lemmas.Bool.{cases_eq}
 use Rattle.std.proofs.lemmas.List.{length-append}
-use Rattle.pm_region.specs.Memory.{Memory, current_words, room_in}
+use Rattle.pm_region.specs.Memory.{Memory, current_words}
 use Rattle.pm_region.proofs.MemoryLaws.{room_in-piece}
 use Rattle.bp_append.specs.Prepared.{need_for}
 use Rattle.bp_append.specs.Stores.{prep_stores}
@@ -20,7 +20,7 @@ use Rattle.bp_layout.specs.WellFormed.{IsWellFormed}
 use Rattle.bp_layout.specs.WordPaths.{inode_path, tree_path}
 use Rattle.bp_layout.specs.Words.{Image, block_count, height_of, word}
 use Rattle.bp_layout.proofs.Reached.{reached-in_file}
-use Rattle.bp_limits.specs.Limits.{block_words, call_room, max_height}
+use Rattle.bp_limits.specs.Limits.{block_words, max_height}
 use Rattle.bp_changes.specs.Commits.{CommitsOnly}
 use Rattle.bp_changes.specs.Effects.{CarriesEntry}
 use Rattle.bp_changes.proofs.Carry.{carried_well_formed}
@@ -32,7 +32,7 @@ use Rattle.bp_shapes.specs.Forest.{tree_trail, IsForest}
 use Rattle.bp_shapes.specs.Sets.{AreExact, AreExactFor}
 use Rattle.bp_shapes.proofs.FreeSets.{wf_forest}
 use Rattle.bp_shapes.proofs.MovedSets.{carried_exact}
-use Rattle.bp_tree.specs.Performs.{IsOpen, Performs, most_stores}
+use Rattle.bp_tree.specs.Performs.{HasRoomFor, IsOpen, Performs, most_stores, room_for}
 use Rattle.bp_cow.specs.CanCommit.{CanCommit}
 use Rattle.bp_cow.specs.Commit.{CommitsTouched, HasRoom, commit_stores, cover_word}
 use Rattle.bp_cow.specs.Committed.{after_commit, changes_of}
@@ -48,7 +48,6 @@ use Rattle.bp_calls.specs.Steps.{CanPutBehind}
 use Rattle.bp_calls.proofs.AfterLaws.{slot_named_over}
 use Rattle.bp_calls.proofs.EnteredLaws.{name_same, not_named}
 use Rattle.bp_calls.proofs.PreparedSets.{live_before, prepared_exact, prepared_forest, prepared_sets, sizes_low, still_free}
-use Rattle.bp_calls.proofs.PutsLaws.{few_behind}
 use Rattle.bp_calls.proofs.SizesWith.{size_with_here, size_with_other, sizes_with}
 use Rattle.bp_rename.specs.CanRename.{CanRename, moved_inode}
 use Rattle.bp_rename.specs.RenamesEntry.{RenamesEntry, new_slot}
@@ -67,18 +66,18 @@ moved_few image move can = few_inode image can.well_formed (moved_inode image mo
 -- the entry can be put there
 pub can_put : (memory : Memory) (move : Move) (blocks inodes : Set) (can : CanRename (current_words memory) move) (other : move.from_dir ≢ move.to_dir) (new_name : move.to_slot ≡ None) (none : empty_slot (current_words memory) move.to_dir ≡ None)
     (touched : Touched) (is : TouchesTwo touched (size_path (current_words memory) move.to_dir) (inumber_path (current_words memory) move.from_dir move.from_slot) (size_of (current_words memory) move.to_dir + 256) 0) →
-    AreExact (current_words memory) blocks inodes → need (current_words memory) (moves move.from_dir move.from_slot move.to_dir) ≤ length (members blocks) → call_room ≤ room_in memory → CanPutBehind memory blocks move.to_dir move.name.now
+    AreExact (current_words memory) blocks inodes → need (current_words memory) (moves move.from_dir move.from_slot move.to_dir) ≤ length (members blocks) → HasRoomFor memory (moves move.from_dir move.from_slot move.to_dir) → CanPutBehind memory blocks move.to_dir move.name.now
 can_put memory move blocks inodes can other new_name none touched is exact enough room = record {
   lacks = record { well_formed = can.well_formed; reached = can.target; directory = can.directory; form = can.name; missing = can.slot ∙ new_name };
   none = none;
   inodes = inodes;
   exact = exact;
   enough = let needs = touched_needs (current_words memory) move can other none touched is in omega (arith, needs, enough);
-  room = omega (arith, room);
+  room = let needs = touched_needs (current_words memory) move can other none touched is in omega (arith, needs, room);
 }
 
 module _ (old middle : Memory) (move : Move) (blocks inodes after : Set) (can : CanRename (current_words old) move) (new_name : move.to_slot ≡ None) (other : move.from_dir ≢ move.to_dir)
-    (none : empty_slot (current_words old) move.to_dir ≡ None) (exact : AreExact (current_words old) blocks inodes) (room : call_room ≤ room_in old)
+    (none : empty_slot (current_words old) move.to_dir ≡ None) (exact : AreExact (current_words old) blocks inodes) (room : HasRoomFor old (moves move.from_dir move.from_slot move.to_dir))
     (puts : PutsBehind old middle (members blocks) (members after) move.to_dir (moved_inode (current_words old) move) move.name.now) (as_long : length after ≡ length blocks)
     (touched : Touched) (is : TouchesTwo touched (size_path (current_words old) move.to_dir) (inumber_path (current_words old) move.from_dir move.from_slot) (size_of (current_words old) move.to_dir + 256) 0) where
   abbrev image : Image
@@ -212,12 +211,12 @@ module _ (old middle : Memory) (move : Move) (blocks inodes after : Set) (can : 
 
   pub behind_room : HasRoom middle touched
   behind_room =
-      enough _ _ _ _ _ _ (room_in-piece _ _ old middle puts.prepared.adds.part.added puts.prepared.adds.part.adds puts.prepared.adds.part.piece) (behind_whole (size_of image j) (size_of image j) (size_of image j + 256) max_height)
-      (few_behind image can.well_formed j can.target) few_copies count room
+      enough _ _ _ _ _ _ _ (room_in-piece _ _ old middle puts.prepared.adds.part.added puts.prepared.adds.part.adds puts.prepared.adds.part.piece) (behind_whole (size_of image j) (size_of image j) (size_of image j + 256) max_height)
+      needs few_copies count room
     where
-      enough : (needed behind copied words before left : ℕ) → before ≤ left + (2 + (block_words * needed + behind + 2)) → behind ≤ block_words * suc max_height → needed ≤ 18 + 3 * 3 → copied ≤ 23 → words ≡ 2 → call_room ≤ before →
+      enough : (made behind copied needed words before left : ℕ) → before ≤ left + (2 + (block_words * made + behind + 2)) → behind ≤ block_words * suc max_height → needed ≡ made + copied → copied ≤ 23 → words ≡ 2 → room_for needed ≤ before →
           (block_words + 1) * copied + words + 1 + 2 ≤ left
-      enough needed behind copied words before left a b c d e f = omega (arith, a, b, c, d, e, f)
+      enough made behind copied needed words before left a b c d e f = omega (arith, a, b, c, d, e, f)
 
   few_stores : prep_stores (size_of image j) (size_of image j) (size_of image j + 256) (need_for image j (size_of image j) (size_of image j + 256)) + commit_stores mid touched ≤
       most_stores (need image (moves move.from_dir move.from_slot move.to_dir))

@@ -2,12 +2,12 @@
 use Rattle.std.proofs.Common.{◌≡◌, ◌≢◌, ◌⊎◌, ℕ, zero, suc, ◌+◌, ◌*◌, ◌%◌, ◌<◌, ◌≤◌, [], ◌∷◌, length, None, Some, unwrap_or, refl, sym, ◌∙◌, ap, subst, arith, inl, inr}
 use Rattle.pm_epochs.specs.declared.event.Event.TheVariants.{Barrier}
 use Rattle.pm_epochs.specs.May.{AnyAt}
-use Rattle.pm_region.specs.Memory.{Adds, Memory, current_words, room_in}
+use Rattle.pm_region.specs.Memory.{Adds, Memory, current_words}
 use Rattle.pm_region.specs.Safe.{AddsMay}
 use Rattle.pm_region.proofs.SafeLaws.{room_after_quiet}
 use Rattle.bp_dirs.specs.Written.{HasNameAt}
 use Rattle.bp_tree.specs.Within.{IsWithin}
-use Rattle.bp_tree.specs.Performs.{Performs}
+use Rattle.bp_tree.specs.Performs.{HasRoomFor, Performs}
 use Rattle.bp_free.specs.Set.{Set, has}
 use Rattle.bp_layout.specs.Directory.{empty_slot, entry_count, name_at}
 use Rattle.bp_layout.specs.Inode.{ContentStandsAt, kind_of, root_of, size_of}
@@ -18,7 +18,6 @@ use Rattle.bp_layout.specs.Same.{Same}
 use Rattle.bp_layout.specs.WellFormed.{IsWellFormed}
 use Rattle.bp_layout.specs.WordPaths.{is_pointed}
 use Rattle.bp_layout.specs.Words.{block_count, height_of, word}
-use Rattle.bp_limits.specs.Limits.{call_room}
 use Rattle.bp_changes.specs.Commits.{CommitsOnly}
 use Rattle.bp_changes.specs.Effects.{CanMoveEntry, CarriesEntry, MovesEntry}
 use Rattle.bp_changes.proofs.ChangesOver.{carries_over}
@@ -57,7 +56,7 @@ module _ (old third mid : Memory) (move : Move) (s entry : ℕ) (can : CanRename
     (spells : AddsMay (AnyAt (IsWithin (entry + 1) 31)) 0 31 old third) (spelled : HasNameAt (current_words third) entry move.name.now)
     (ends : Adds third mid (Barrier ∷ [])) (touched : Touched)
     (is : TouchesTwo touched (inumber_path (current_words old) move.to_dir s) (inumber_path (current_words old) move.from_dir move.from_slot) (moved_inode (current_words old) move) 0)
-    (blocks inodes : Set) (exact : AreExact (current_words old) blocks inodes) (room : call_room ≤ room_in old) where
+    (blocks inodes : Set) (exact : AreExact (current_words old) blocks inodes) (room : HasRoomFor old (moves move.from_dir move.from_slot move.to_dir)) where
   can_move : CanMoveEntry (current_words mid) move.from_dir move.from_slot move.to_dir s (moved_inode (current_words old) move)
   can_move = into_can old third mid move s entry can new_name other found entry_at spells spelled ends
 
@@ -97,12 +96,6 @@ module _ (old third mid : Memory) (move : Move) (s entry : ℕ) (can : CanRename
   leaves : (job_of touched).leaves ≡ 0
   leaves = no_leaves (current_words mid) touched move.to_dir (32 * s + 0) move.from_dir (32 * move.from_slot + 0) (moved_inode (current_words old) move) 0 is_mid
 
-  pub into_room : HasRoom mid touched
-  into_room =
-      let few = copied_few (current_words mid) (size_of (current_words mid)) touched (has blocks) formed into_ready in
-      let left = room_after_quiet Same 1 31 old mid (into_taking old third mid move s entry can new_name other found entry_at spells spelled ends).part in
-      omega (arith, few, count, leaves, room, left)
-
   covers : commit_cover (current_words mid) touched ≡ cover (current_words old) (moves move.from_dir move.from_slot move.to_dir)
   covers =
       cover-whole (is_pointed (current_words mid)) (all_paths touched) (inumber_path (current_words mid) move.to_dir s)
@@ -112,6 +105,12 @@ module _ (old third mid : Memory) (move : Move) (s entry : ℕ) (can : CanRename
 
   pub into_copies : copied_count (current_words mid) touched ≡ need (current_words old) (moves move.from_dir move.from_slot move.to_dir)
   into_copies = into_count (current_words old) move s can other found touched is (current_words mid) covers
+
+  pub into_room : HasRoom mid touched
+  into_room =
+      let few = copied_few (current_words mid) (size_of (current_words mid)) touched (has blocks) formed into_ready in
+      let left = room_after_quiet Same 1 31 old mid (into_taking old third mid move s entry can new_name other found entry_at spells spelled ends).part in
+      omega (arith, few, count, leaves, into_copies, room, left)
 
   module _ (new : Memory) (left : Set) (done : CommitsTouched (size_of (current_words mid)) touched mid new blocks left) (as_long : length left ≡ length blocks) where
     apart_from_file : (i : ℕ) → pick move.to_dir move.from_dir i ≡ 0 → ⊥

@@ -14,7 +14,6 @@ use Rattle.bp_layout.specs.Tree.{HasBlock}
 use Rattle.bp_layout.specs.WellFormed.{IsWellFormed}
 use Rattle.bp_layout.specs.Words.{block_count, height_of, word}
 use Rattle.bp_layout.proofs.Reached.{reached-in_file}
-use Rattle.bp_limits.specs.Limits.{call_room}
 use Rattle.bp_changes.specs.Commits.{CommitsOnly}
 use Rattle.bp_changes.specs.Effects.{CanMoveEntry, MovesEntry}
 use Rattle.bp_changes.proofs.Committed.{commit_moves}
@@ -24,7 +23,7 @@ use Rattle.bp_shapes.specs.Forest.{tree_trail}
 use Rattle.bp_shapes.specs.Freed.{IsGivenUp}
 use Rattle.bp_shapes.specs.Sets.{AreExact}
 use Rattle.bp_shapes.proofs.FreeSets.{wf_forest}
-use Rattle.bp_tree.specs.Performs.{Performs}
+use Rattle.bp_tree.specs.Performs.{HasRoomFor, Performs}
 use Rattle.bp_cow.specs.CanCommit.{CanCommit}
 use Rattle.bp_cow.specs.Commit.{CommitsTouched, HasRoom}
 use Rattle.bp_cow.specs.Committed.{after_commit, changes_of}
@@ -34,7 +33,7 @@ use Rattle.bp_cow.specs.Touched.{job_of, path_of, word_paths}
 use Rattle.bp_cow.specs.declared.touched.Touched.{Touched}
 use Rattle.bp_cow.proofs.CommitTaking.{commit_performs, copied_few, cover_open, stores_few}
 use Rattle.bp_cow.proofs.CopiesNeed.{has-word}
-use Rattle.pm_region.specs.Memory.{Memory, current_words, room_in}
+use Rattle.pm_region.specs.Memory.{Memory, current_words}
 use Rattle.bp_calls.specs.GivenBack.{GivesBack}
 use Rattle.bp_calls.proofs.GivenUpLaws.{gives_as}
 use Rattle.bp_calls.proofs.Shorter.{CanGiveBack}
@@ -47,7 +46,7 @@ use Rattle.bp_rename.proofs.TwoWords.{first_value, no_leaves, pick, second_value
 
 module _ (memory : Memory) (move : Move) (r : ℕ) (can : CanRename (current_words memory) move) (onto : move.to_slot ≡ Some r) (touched : Touched)
     (is : TouchesTwo touched (inumber_path (current_words memory) move.from_dir move.from_slot) (inumber_path (current_words memory) move.to_dir r) 0 (moved_inode (current_words memory) move))
-    (blocks inodes : Set) (exact : AreExact (current_words memory) blocks inodes) (room : call_room ≤ room_in memory) where
+    (blocks inodes : Set) (exact : AreExact (current_words memory) blocks inodes) (room : HasRoomFor memory (replaces move.from_dir move.from_slot move.to_dir r)) where
   pub ready : CanCommit (current_words memory) (size_of (current_words memory)) touched (has blocks)
   ready = onto_commit (current_words memory) move r can onto touched is (has blocks) exact.free_blocks
 
@@ -60,11 +59,11 @@ module _ (memory : Memory) (move : Move) (r : ℕ) (can : CanRename (current_wor
   pub has_room : HasRoom memory touched
   has_room =
       let few = copied_few (current_words memory) (size_of (current_words memory)) touched (has blocks) can.well_formed ready in
-      omega (arith, few, count, leaves, room)
+      omega (arith, few, count, leaves, onto_need (current_words memory) move r can onto touched is, room)
 
 module _ (old new : Memory) (move : Move) (r : ℕ) (can : CanRename (current_words old) move) (onto : move.to_slot ≡ Some r) (touched : Touched)
     (is : TouchesTwo touched (inumber_path (current_words old) move.from_dir move.from_slot) (inumber_path (current_words old) move.to_dir r) 0 (moved_inode (current_words old) move))
-    (blocks inodes left : Set) (exact : AreExact (current_words old) blocks inodes) (room : call_room ≤ room_in old)
+    (blocks inodes left : Set) (exact : AreExact (current_words old) blocks inodes) (room : HasRoomFor old (replaces move.from_dir move.from_slot move.to_dir r))
     (done : CommitsTouched (size_of (current_words old)) touched old new blocks left) (as_long : length left ≡ length blocks) where
   commits : CanCommit (current_words old) (size_of (current_words old)) touched (has blocks)
   commits = ready old move r can onto touched is blocks inodes exact room

@@ -9,13 +9,12 @@ use Rattle.bp_layout.specs.Need.Change.{respells}
 use Rattle.bp_layout.specs.Tree.{byte, content_word}
 use Rattle.bp_layout.specs.Words.{Image, byte_of}
 use Rattle.bp_layout.proofs.NameBytes.{map-tells}
-use Rattle.bp_limits.specs.Limits.{call_room}
 use Rattle.bp_changes.specs.Effects.{RespellsEntry}
 use Rattle.bp_changes.proofs.Committed.{commit_respells}
 use Rattle.bp_changes.proofs.Respell.{respelled_well_formed}
 use Rattle.bp_shapes.specs.Sets.{AreExact}
 use Rattle.bp_shapes.proofs.MovedSets.{respelled_exact}
-use Rattle.bp_tree.specs.Performs.{Performs}
+use Rattle.bp_tree.specs.Performs.{HasRoomFor, Performs}
 use Rattle.bp_cow.specs.CanCommit.{CanCommit}
 use Rattle.bp_cow.specs.Commit.{CommitsTouched, HasRoom}
 use Rattle.bp_cow.specs.Committed.{changes_of}
@@ -26,7 +25,7 @@ use Rattle.bp_cow.specs.declared.touched.Touched.{Touched}
 use Rattle.bp_cow.proofs.CommitTaking.{commit_performs, stores_few}
 use Rattle.bp_cow.proofs.FewCopies.{few_copies}
 use Rattle.bp_cow.proofs.RunLaws.{run_word-inside}
-use Rattle.pm_region.specs.Memory.{Memory, current_words, room_in}
+use Rattle.pm_region.specs.Memory.{Memory, current_words}
 use Rattle.bp_calls.proofs.EnteredLaws.{not_named}
 use Rattle.bp_calls.proofs.RunCommits.{few_leaves, run_open}
 use Rattle.bp_rename.specs.Respelled.{TouchesName, respelled_byte}
@@ -56,7 +55,7 @@ name_byte name o =
     rw (le-ltb (8 + o) 8 past, back) refl
 
 module _ (memory : Memory) (n s j : ℕ) (name : Name) (can : CanRespell (current_words memory) (suc n) s j name) (touched : Touched) (is : TouchesName (current_words memory) (suc n) s name touched)
-    (blocks inodes : Set) (exact : AreExact (current_words memory) blocks inodes) (room : call_room ≤ room_in memory) where
+    (blocks inodes : Set) (exact : AreExact (current_words memory) blocks inodes) (room : HasRoomFor memory (respells (suc n) s (length name))) where
   pub within_ready : CanCommit (current_words memory) (size_of (current_words memory)) touched (has blocks)
   within_ready =
       run_commit (current_words memory) can.well_formed n can.reached touched is.run is.one (no_words (current_words memory) n s j name can touched is) (name_run (current_words memory) n s j name can touched is)
@@ -68,10 +67,10 @@ module _ (memory : Memory) (n s j : ℕ) (name : Name) (can : CanRespell (curren
   pub within_room : HasRoom memory touched
   within_room =
       let copies = few_copies (current_words memory) (size_of (current_words memory)) touched (has blocks) can.well_formed within_ready is.run is.one few in
-      omega (arith, copies, no_words (current_words memory) n s j name can touched is, room)
+      omega (arith, copies, no_words (current_words memory) n s j name can touched is, within_need (current_words memory) n s j name can touched is, room)
 
 module _ (old new : Memory) (n s j : ℕ) (name : Name) (can : CanRespell (current_words old) (suc n) s j name) (touched : Touched) (is : TouchesName (current_words old) (suc n) s name touched)
-    (blocks inodes left : Set) (exact : AreExact (current_words old) blocks inodes) (room : call_room ≤ room_in old)
+    (blocks inodes left : Set) (exact : AreExact (current_words old) blocks inodes) (room : HasRoomFor old (respells (suc n) s (length name)))
     (done : CommitsTouched (size_of (current_words old)) touched old new blocks left) (as_long : length left ≡ length blocks) where
   few_of : (length name + 7) / 8 ≤ 30
   few_of = few_words (current_words old) n s j name can touched is
@@ -135,21 +134,21 @@ module _ (old new : Memory) (n s j : ℕ) (name : Name) (can : CanRespell (curre
 
 -- ---- told of any directory
 
-module _ (old : Memory) (s j : ℕ) (name : Name) (touched : Touched) (blocks inodes : Set) (exact : AreExact (current_words old) blocks inodes) (room : call_room ≤ room_in old) where
-  pub within_ready_at : (i : ℕ) → CanRespell (current_words old) i s j name → TouchesName (current_words old) i s name touched → CanCommit (current_words old) (size_of (current_words old)) touched (has blocks)
-  within_ready_at zero can is = absurd (omega (arith, can.names.directory))
-  within_ready_at (suc n) can is = within_ready old n s j name can touched is blocks inodes exact room
+module _ (old : Memory) (s j : ℕ) (name : Name) (touched : Touched) (blocks inodes : Set) (exact : AreExact (current_words old) blocks inodes) where
+  pub within_ready_at : (i : ℕ) → HasRoomFor old (respells i s (length name)) → CanRespell (current_words old) i s j name → TouchesName (current_words old) i s name touched → CanCommit (current_words old) (size_of (current_words old)) touched (has blocks)
+  within_ready_at zero room can is = absurd (omega (arith, can.names.directory))
+  within_ready_at (suc n) room can is = within_ready old n s j name can touched is blocks inodes exact room
 
-  pub within_room_at : (i : ℕ) → CanRespell (current_words old) i s j name → TouchesName (current_words old) i s name touched → HasRoom old touched
-  within_room_at zero can is = absurd (omega (arith, can.names.directory))
-  within_room_at (suc n) can is = within_room old n s j name can touched is blocks inodes exact room
+  pub within_room_at : (i : ℕ) → HasRoomFor old (respells i s (length name)) → CanRespell (current_words old) i s j name → TouchesName (current_words old) i s name touched → HasRoom old touched
+  within_room_at zero room can is = absurd (omega (arith, can.names.directory))
+  within_room_at (suc n) room can is = within_room old n s j name can touched is blocks inodes exact room
 
   module _ (new : Memory) (left : Set) (done : CommitsTouched (size_of (current_words old)) touched old new blocks left) (as_long : length left ≡ length blocks) where
-    pub within_performs_at : (i : ℕ) → CanRespell (current_words old) i s j name → TouchesName (current_words old) i s name touched → (Effect : Image → Image → Type 0) →
+    pub within_performs_at : (i : ℕ) → HasRoomFor old (respells i s (length name)) → CanRespell (current_words old) i s j name → TouchesName (current_words old) i s name touched → (Effect : Image → Image → Type 0) →
         (RespellsEntry (current_words old) (current_words new) i s j → name_at (current_words new) i s ≡ name → Effect (current_words old) (current_words new)) → Performs old new (respells i s (length name)) Effect
-    within_performs_at zero can is Effect so = absurd (omega (arith, can.names.directory))
-    within_performs_at (suc n) can is Effect so = within_performs old new n s j name can touched is blocks inodes left exact room done as_long Effect so
+    within_performs_at zero room can is Effect so = absurd (omega (arith, can.names.directory))
+    within_performs_at (suc n) room can is Effect so = within_performs old new n s j name can touched is blocks inodes left exact room done as_long Effect so
 
-    pub within_exact_at : (i : ℕ) → CanRespell (current_words old) i s j name → TouchesName (current_words old) i s name touched → AreExact (current_words new) left inodes
-    within_exact_at zero can is = absurd (omega (arith, can.names.directory))
-    within_exact_at (suc n) can is = within_exact old new n s j name can touched is blocks inodes left exact room done as_long
+    pub within_exact_at : (i : ℕ) → HasRoomFor old (respells i s (length name)) → CanRespell (current_words old) i s j name → TouchesName (current_words old) i s name touched → AreExact (current_words new) left inodes
+    within_exact_at zero room can is = absurd (omega (arith, can.names.directory))
+    within_exact_at (suc n) room can is = within_exact old new n s j name can touched is blocks inodes left exact room done as_long

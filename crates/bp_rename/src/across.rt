@@ -5,13 +5,12 @@ ghost use Rattle.bp_free.specs.Set.{members};
 ghost use Rattle.bp_layout.specs.Directory.{empty_slot};
 ghost use Rattle.bp_layout.specs.Need.{need};
 ghost use Rattle.bp_layout.specs.Need.Change.{moves};
-ghost use Rattle.bp_limits.specs.Limits.{call_room};
 ghost use Rattle.bp_rename.specs.CanRename.{CanRename, moved_inode};
 ghost use Rattle.bp_rename.specs.RenamesEntry.{RenamesEntry};
 ghost use Rattle.bp_rename.specs.TouchesTwo.{AreTwo, inumber_path};
 ghost use Rattle.bp_shapes.specs.Sets.{AreExact};
-ghost use Rattle.bp_tree.specs.Performs.{Performs};
-ghost use Rattle.pm_region.specs.Memory.{current_words, room_in};
+ghost use Rattle.bp_tree.specs.Performs.{HasRoomFor, Performs};
+ghost use Rattle.pm_region.specs.Memory.{current_words};
 
 use crate::behind::{move_behind, need_behind};
 use crate::moving::Move;
@@ -59,7 +58,8 @@ fn move_into<R: Region>(parts: &mut Parts<R>, to_move: &Move<'_>, slot: u64)
     requires exact { AreExact (current_words (R.memory parts.old.region)) parts.old.blocks parts.old.inodes }
     requires enough { need (current_words (R.memory parts.old.region))
         (moves to_move.now.from_dir to_move.now.from_slot to_move.now.to_dir) ≤ length (members parts.old.blocks) }
-    requires room { call_room ≤ room_in (R.memory parts.old.region) }
+    requires room { HasRoomFor (R.memory parts.old.region)
+        (moves to_move.now.from_dir to_move.now.from_slot to_move.now.to_dir) }
     ensures performs { Performs (R.memory parts.old.region) (R.memory parts.new.region)
         (moves to_move.now.from_dir to_move.now.from_slot to_move.now.to_dir) (RenamesEntry to_move.now) }
     ensures exact { AreExact (current_words (R.memory parts.new.region)) parts.new.blocks parts.new.inodes }
@@ -98,7 +98,8 @@ pub(crate) fn rename_across<R: Region>(parts: &mut Parts<R>, to_move: &Move<'_>,
     requires exact { AreExact (current_words (R.memory parts.old.region)) parts.old.blocks parts.old.inodes }
     requires enough { need (current_words (R.memory parts.old.region))
         (moves to_move.now.from_dir to_move.now.from_slot to_move.now.to_dir) ≤ length (members parts.old.blocks) }
-    requires room { call_room ≤ room_in (R.memory parts.old.region) }
+    requires room { HasRoomFor (R.memory parts.old.region)
+        (moves to_move.now.from_dir to_move.now.from_slot to_move.now.to_dir) }
     ensures performs { Performs (R.memory parts.old.region) (R.memory parts.new.region)
         (moves to_move.now.from_dir to_move.now.from_slot to_move.now.to_dir) (RenamesEntry to_move.now) }
     ensures exact { AreExact (current_words (R.memory parts.new.region)) parts.new.blocks parts.new.inodes }

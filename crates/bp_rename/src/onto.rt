@@ -4,12 +4,11 @@ ghost use Rattle.std.specs.Prelude.{◌≡◌, ◌≤◌, Some, length};
 ghost use Rattle.bp_free.specs.Set.{members};
 ghost use Rattle.bp_layout.specs.Need.{need};
 ghost use Rattle.bp_layout.specs.Need.Change.{replaces};
-ghost use Rattle.bp_limits.specs.Limits.{call_room};
 ghost use Rattle.bp_rename.specs.CanRename.{CanRename, moved_inode};
 ghost use Rattle.bp_changes.specs.Effects.{MovesEntry};
 ghost use Rattle.bp_shapes.specs.Sets.{AreExact};
-ghost use Rattle.bp_tree.specs.Performs.{Performs};
-ghost use Rattle.pm_region.specs.Memory.{current_words, room_in};
+ghost use Rattle.bp_tree.specs.Performs.{HasRoomFor, Performs};
+ghost use Rattle.pm_region.specs.Memory.{current_words};
 ghost use Rattle.bp_rename.specs.TouchesTwo.{AreTwo, inumber_path};
 
 use crate::moving::Move;
@@ -57,7 +56,8 @@ pub(crate) fn rename_onto<R: Region>(parts: &mut Parts<R>, to_move: &Move<'_>, s
     requires enough { need (current_words (R.memory parts.old.region))
         (replaces to_move.now.from_dir to_move.now.from_slot to_move.now.to_dir slot)
         ≤ length (members parts.old.blocks) }
-    requires room { call_room ≤ room_in (R.memory parts.old.region) }
+    requires room { HasRoomFor (R.memory parts.old.region)
+        (replaces to_move.now.from_dir to_move.now.from_slot to_move.now.to_dir slot) }
     ensures performs { Performs (R.memory parts.old.region) (R.memory parts.new.region)
         (replaces to_move.now.from_dir to_move.now.from_slot to_move.now.to_dir slot)
         (λ image after. MovesEntry image after to_move.now.from_dir to_move.now.from_slot to_move.now.to_dir slot

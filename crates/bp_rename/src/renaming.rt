@@ -1,13 +1,12 @@
 //! Renames: three ways, by where the new name stands.
 
-ghost use Rattle.std.specs.Prelude.{◌≡◌, ◌≤◌, IfErr, OnErr, OnOk};
-ghost use Rattle.bp_calls.specs.Space.{LacksSpace};
-ghost use Rattle.bp_limits.specs.Limits.{call_room};
+ghost use Rattle.std.specs.Prelude.{◌≡◌, IfErr, OnErr, OnOk};
+ghost use Rattle.bp_calls.specs.Space.{HasRoomWhereFree, LacksSpace};
 ghost use Rattle.bp_rename.specs.CanRename.{CanRename, IsSlotAcross, change_of};
 ghost use Rattle.bp_rename.specs.RenamesEntry.{RenamesEntry};
 ghost use Rattle.bp_shapes.specs.Sets.{AreExact};
 ghost use Rattle.bp_tree.specs.Performs.{Performs};
-ghost use Rattle.pm_region.specs.Memory.{current_words, room_in};
+ghost use Rattle.pm_region.specs.Memory.{current_words};
 
 use crate::across::rename_across;
 use crate::moving::Move;
@@ -31,7 +30,7 @@ pub fn rename_in<R: Region>(
     requires can { CanRename (current_words (R.memory parts.old.region)) to_move.now }
     requires empty { IsSlotAcross (current_words (R.memory parts.old.region)) to_move.now empty }
     requires exact { AreExact (current_words (R.memory parts.old.region)) parts.old.blocks parts.old.inodes }
-    requires room { call_room ≤ room_in (R.memory parts.old.region) }
+    requires room { HasRoomWhereFree (R.memory parts.old.region) parts.old.blocks (change_of to_move.now) }
     ensures performs { OnOk result (Performs (R.memory parts.old.region) (R.memory parts.new.region)
         (change_of to_move.now) (RenamesEntry to_move.now)) }
     ensures exact { AreExact (current_words (R.memory parts.new.region)) parts.new.blocks parts.new.inodes }
@@ -60,7 +59,7 @@ pub fn rename_in<R: Region>(
 pub fn rename<R: Region>(parts: &mut Parts<R>, to_move: &Move<'_>) -> Result<(), NoSpace>
     requires can { CanRename (current_words (R.memory parts.old.region)) to_move.now }
     requires exact { AreExact (current_words (R.memory parts.old.region)) parts.old.blocks parts.old.inodes }
-    requires room { call_room ≤ room_in (R.memory parts.old.region) }
+    requires room { HasRoomWhereFree (R.memory parts.old.region) parts.old.blocks (change_of to_move.now) }
     ensures performs { OnOk result (Performs (R.memory parts.old.region) (R.memory parts.new.region)
         (change_of to_move.now) (RenamesEntry to_move.now)) }
     ensures exact { AreExact (current_words (R.memory parts.new.region)) parts.new.blocks parts.new.inodes }

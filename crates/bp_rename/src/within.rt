@@ -4,13 +4,13 @@ ghost use Rattle.std.specs.Prelude.{◌≡◌, ◌≤◌, None, length};
 ghost use Rattle.bp_free.specs.Set.{members};
 ghost use Rattle.bp_layout.specs.Need.{need};
 ghost use Rattle.bp_layout.specs.Need.Change.{respells};
-ghost use Rattle.bp_limits.specs.Limits.{call_room, max_name};
+ghost use Rattle.bp_limits.specs.Limits.{max_name};
 ghost use Rattle.bp_rename.specs.CanRename.{CanRename};
 ghost use Rattle.bp_rename.specs.RenamesEntry.{RenamesEntry};
 ghost use Rattle.bp_rename.specs.Respelled.{IsRespelled, TouchesName, respelled_byte};
 ghost use Rattle.bp_shapes.specs.Sets.{AreExact};
-ghost use Rattle.bp_tree.specs.Performs.{Performs};
-ghost use Rattle.pm_region.specs.Memory.{current_words, room_in};
+ghost use Rattle.bp_tree.specs.Performs.{HasRoomFor, Performs};
+ghost use Rattle.pm_region.specs.Memory.{current_words};
 
 use crate::moving::Move;
 use bp_calls::{root_path, tree_of};
@@ -91,7 +91,8 @@ pub(crate) fn rename_within<R: Region>(parts: &mut Parts<R>, to_move: &Move<'_>)
     requires enough { need (current_words (R.memory parts.old.region))
         (respells to_move.now.from_dir to_move.now.from_slot (length to_move.now.name.now))
         ≤ length (members parts.old.blocks) }
-    requires room { call_room ≤ room_in (R.memory parts.old.region) }
+    requires room { HasRoomFor (R.memory parts.old.region)
+        (respells to_move.now.from_dir to_move.now.from_slot (length to_move.now.name.now)) }
     ensures performs { Performs (R.memory parts.old.region) (R.memory parts.new.region)
         (respells to_move.now.from_dir to_move.now.from_slot (length to_move.now.name.now)) (RenamesEntry to_move.now) }
     ensures exact { AreExact (current_words (R.memory parts.new.region)) parts.new.blocks parts.new.inodes }

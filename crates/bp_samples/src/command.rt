@@ -1,6 +1,7 @@
 //! Words that the command takes, and words that it refuses.
 
-use bp_command::{Program, WordsFault, read_words};
+use bp_command::{Program, WordsFault, mistake_line, read_words};
+use std::alloc::Global;
 
 #[test]
 fn takes_words(rt: HostRuntime) {
@@ -37,39 +38,77 @@ fn takes_words(rt: HostRuntime) {
         ),
     ];
     for (words, program) in rows {
-        assert_eq!(rt; read_words(rt.alloc(), words), Ok(program));
+        assert_eq!(rt; read_words(rt.alloc(), words).ok(), Some(program));
+    }
+}
+
+/// The line that tells what is wrong with the words.
+fn told(alloc: Global, words: &[&str]) -> Option<String> {
+    match read_words(alloc, words) {
+        Err(WordsFault::Usage(mistake)) => mistake_line(alloc, &mistake).ok(),
+        _ => None,
     }
 }
 
 #[test]
 fn refuses_words(rt: HostRuntime) {
     let rows = [
-        (["bpfs"].as_slice(), "no program"),
-        (["bpfs", "help"].as_slice(), "help"),
-        (["bpfs", "--help"].as_slice(), "help as an option"),
-        (["bpfs", "run"].as_slice(), "no file"),
-        (["bpfs", "run", "f", "g"].as_slice(), "two files"),
-        (["bpfs", "walk", "f"].as_slice(), "an unknown program"),
-        (["bpfs", "format", "f"].as_slice(), "no number of blocks"),
+        (
+            ["bpfs"].as_slice(),
+            "'bpfs' requires a subcommand but one was not provided [subcommands: format, run, check, play, help]",
+        ),
+        (
+            ["bpfs", "walk", "f"].as_slice(),
+            "unrecognized subcommand 'walk'",
+        ),
+        (
+            ["bpfs", "run"].as_slice(),
+            "the following required arguments were not provided: <FILE>",
+        ),
+        (
+            ["bpfs", "run", "f", "g"].as_slice(),
+            "unexpected argument 'g' found",
+        ),
+        (
+            ["bpfs", "check", ""].as_slice(),
+            "a value is required for '<FILE>' but none was supplied",
+        ),
+        (
+            ["bpfs", "format"].as_slice(),
+            "the following required arguments were not provided: --blocks <blocks> <FILE>",
+        ),
         (
             ["bpfs", "format", "f", "--blocks", "7"].as_slice(),
-            "too few blocks",
+            "invalid value '7' for '--blocks <blocks>': 7 is not in 8..=16384",
         ),
         (
             ["bpfs", "format", "f", "--blocks", "16385"].as_slice(),
-            "too many blocks",
+            "invalid value '16385' for '--blocks <blocks>': 16385 is not in 8..=16384",
         ),
         (
             ["bpfs", "format", "f", "--blocks", "eight"].as_slice(),
-            "no digits",
+            "invalid value 'eight' for '--blocks <blocks>': invalid digit found in string",
         ),
-        (["bpfs", "format", "--blocks", "8"].as_slice(), "no file"),
+        (["bpfs", "a\nb"].as_slice(), "unrecognized subcommand 'a b'"),
     ];
-    for (words, why) in rows {
-        assert_eq!(rt;
-            read_words(rt.alloc(), words),
-            Err(WordsFault::Usage),
-            "{why}"
-        );
+    for (words, line) in rows {
+        assert_eq!(rt; told(rt.alloc(), words).as_deref(), Some(line));
+    }
+}
+
+#[test]
+fn asks_for_help(rt: HostRuntime) {
+    let rows = [
+        ["bpfs", "help"].as_slice(),
+        ["bpfs", "help", "run"].as_slice(),
+        ["bpfs", "-h"].as_slice(),
+        ["bpfs", "--help"].as_slice(),
+        ["bpfs", "run", "--help"].as_slice(),
+    ];
+    for words in rows {
+        match read_words(rt.alloc(), words) {
+            Err(WordsFault::Usage(help)) => assert!(rt; !help.use_stderr()),
+            _ => assert!(rt; false),
+        }
     }
 }

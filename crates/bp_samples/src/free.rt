@@ -63,18 +63,21 @@ fn take_counting<L: Ledger>(blocks: &mut Blocks, blank: Blank) -> Option<u32>
 }
 
 #[test]
-fn blocks_are_found_in_few_steps(rt: HostRuntime) -> Result<(), Fail> {
+fn blocks_are_found_in_five_steps(rt: HostRuntime) -> Result<(), Fail> {
     let mut blocks = Blocks::new(rt.alloc(), MAX_BLOCKS)?;
-    for block in [16383, 64] {
-        if block < blocks.room() && !blocks.is_free(block) {
-            blocks.give(block);
-        }
-    }
-    assert_eq!(rt; blocks.count(), 2);
     assert_eq!(rt; blocks.room(), MAX_BLOCKS);
-    let taken = take_counting::<Brand>(&mut blocks, Blank::new(1));
-    assert_eq!(rt; taken, Some(64));
-    assert_eq!(rt; blocks.take(), Some(16383));
-    assert_eq!(rt; blocks.take(), None);
+    let none = take_counting::<Brand>(&mut blocks, Blank::new(1));
+    assert_eq!(rt; none, None);
+    assert_eq!(rt; blocks.room(), MAX_BLOCKS);
+    blocks.fill(MAX_BLOCKS - 1, MAX_BLOCKS);
+    assert_eq!(rt; blocks.room(), MAX_BLOCKS);
+    let last = take_counting::<Brand>(&mut blocks, Blank::new(1));
+    assert_eq!(rt; last, Some(16_383));
+    assert_eq!(rt; blocks.room(), MAX_BLOCKS);
+    blocks.fill(0, MAX_BLOCKS);
+    assert_eq!(rt; blocks.room(), MAX_BLOCKS);
+    let first = take_counting::<Brand>(&mut blocks, Blank::new(1));
+    assert_eq!(rt; first, Some(0));
+    assert_eq!(rt; blocks.count(), 16_383);
     Ok(())
 }

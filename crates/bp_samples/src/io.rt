@@ -26,6 +26,10 @@ fn disk_files_keep_blocks(rt: HostRuntime) -> Result<(), Fail> {
         assert_eq!(rt; bytes.get(at).copied(), Some(want), "at {at}");
     }
     let mut again = DiskFiles::new(rt.alloc(), &rt)?;
+    for access in [Access::Read, Access::Write, Access::Make] {
+        assert_eq!(rt; again.attach("disk.img", access), Err(Failed));
+    }
+    drop(files);
     assert_eq!(rt; again.attach("disk.img", Access::Write), Ok(Some(32_768)));
     let mut read = [1u8; 4096];
     assert_eq!(rt; again.read_blocks(3, &mut read), Ok(()));
@@ -34,8 +38,28 @@ fn disk_files_keep_blocks(rt: HostRuntime) -> Result<(), Fail> {
     assert!(rt; read == [0u8; 4096]);
     assert_eq!(rt; again.attach("disk.img", Access::Write), Ok(Some(32_768)));
     assert_eq!(rt; again.set_blocks(2), Ok(()));
+    assert_eq!(rt; again.flush(), Ok(()));
     assert_eq!(rt; fs::read(&rt, "disk.img")?.len(), 8192);
     fs::remove_file(&rt, "disk.img")?;
+    Ok(())
+}
+
+#[test]
+fn disk_files_change_at_the_flush(rt: HostRuntime) -> Result<(), Fail> {
+    fs::write(&rt, "whole.img", [5u8; 8192].as_slice())?;
+    let mut files = DiskFiles::new(rt.alloc(), &rt)?;
+    assert_eq!(rt; files.attach("whole.img", Access::Make), Ok(Some(8192)));
+    assert_eq!(rt; files.set_blocks(3), Ok(()));
+    let block = [6u8; 4096];
+    assert_eq!(rt; files.write_block(1, &block), Ok(()));
+    assert_eq!(rt; fs::read(&rt, "whole.img")?.len(), 8192);
+    // It is flushed before it is left.
+    assert_eq!(rt; files.attach("whole.img", Access::Read), Ok(Some(12_288)));
+    let bytes = fs::read(&rt, "whole.img")?;
+    for (at, want) in [(4095, 5), (4096, 6), (8191, 6), (8192, 0)] {
+        assert_eq!(rt; bytes.get(at).copied(), Some(want), "at {at}");
+    }
+    fs::remove_file(&rt, "whole.img")?;
     Ok(())
 }
 
@@ -102,6 +126,7 @@ fn disk_files_keep_many_blocks(rt: HostRuntime) -> Result<(), Fail> {
     assert_eq!(rt; files.write_block(4, &[79; 4096]), Ok(()));
     assert_eq!(rt; files.flush(), Ok(()));
     let bytes = fs::read(&rt, "long.img")?;
+    drop(files);
     let mut again = DiskFiles::new(rt.alloc(), &rt)?;
     assert_eq!(rt; again.attach("long.img", Access::Read), Ok(Some(823_296)));
     assert!(rt; is_long(&bytes));

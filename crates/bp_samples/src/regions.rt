@@ -3,6 +3,7 @@
 use pm_epochs::{BadChoice, Choice, Event, Kept, check_choice, kept_calls, replay_word};
 use pm_raw::RawRegion;
 use pm_region::{ListRegion, Region};
+use pm_steps::{Backs, Machine, NotYet};
 use std::alloc::{AllocError, Global};
 use std::process::Abort;
 use std::test::Fail;
@@ -205,4 +206,65 @@ fn both_regions_drain(rt: HostRuntime) -> Result<(), Fail> {
 #[test]
 fn a_log_too_long_is_refused(rt: HostRuntime) {
     assert!(rt; RawRegion::new(rt.alloc(), 1, usize::MAX).is_err());
+}
+
+/// A store of the two epochs that is to go back, by its place in the log, the answer, and the memory then.
+type WriteBack = (usize, Result<(), NotYet>, [u64; 3]);
+
+const WRITE_BACKS: [WriteBack; 7] = [
+    (4, Err(NotYet { needs: 0 }), [0, 0, 0]),
+    (2, Err(NotYet { needs: 0 }), [0, 0, 0]),
+    (1, Ok(()), [0, 2, 0]),
+    (0, Ok(()), [1, 2, 0]),
+    (4, Err(NotYet { needs: 2 }), [1, 2, 0]),
+    (2, Ok(()), [3, 2, 0]),
+    (4, Ok(()), [3, 2, 4]),
+];
+
+fn execute_all<R: Region>(machine: &mut Machine<'_, R>) {
+    for _ in 0..TWO_EPOCHS.len() {
+        if machine.moment() < machine.region.event_count() {
+            machine.execute();
+        }
+    }
+}
+
+/// Writes an event of the log back: `None` where it was not executed, is back, or is no store.
+fn write_back<R: Region>(machine: &mut Machine<'_, R>, which: usize) -> Option<Result<(), NotYet>> {
+    if which >= machine.moment() || machine.is_back(which) {
+        return None;
+    }
+    match machine.region.event(which) {
+        Event::Store { .. } => Some(machine.back(which)),
+        Event::Barrier => None,
+        Event::Mark => None,
+    }
+}
+
+fn has_words<R: Region>(machine: &Machine<'_, R>, words: &[u64; 3]) -> bool {
+    if machine.region.words() != 3 {
+        return false;
+    }
+    for word in 0..3u32 {
+        if machine.image_word(word) != words[word as usize] {
+            return false;
+        }
+    }
+    true
+}
+
+/// All stores of an epoch go back before any of the next one, and those to one word in their order.
+#[test]
+fn stores_go_back_in_order(rt: HostRuntime) -> Result<(), Fail> {
+    let mut region = list(rt.alloc(), 3, 8)?;
+    follow(&mut region, &TWO_EPOCHS);
+    assert_eq!(rt; region.event_count(), 5);
+    let mut backs = Backs::new(rt.alloc(), 8)?;
+    let mut machine = Machine::over(&region, &mut backs);
+    execute_all(&mut machine);
+    for (which, answer, words) in &WRITE_BACKS {
+        assert_eq!(rt; write_back(&mut machine, *which), Some(*answer));
+        assert!(rt; has_words(&machine, words), "{which}");
+    }
+    Ok(())
 }

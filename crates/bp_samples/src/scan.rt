@@ -5,6 +5,7 @@ ghost use Rattle.bp_limits.specs.Limits.{block_words, min_blocks};
 
 use crate::images::{EMPTY, TWO_ENTRIES, TWO_NAMES, laid, put};
 use bp_free::{Blocks, Inodes};
+use bp_layout::Check;
 use bp_scan::{MountFault, Pending, Totals, image_length, scan};
 use pm_region::ListRegion;
 use std::alloc::{AllocError, Global};
@@ -21,6 +22,45 @@ const TOTALS: Totals = Totals {
     bytes: 0,
     live: 2,
 };
+
+/// Stores over the base image, the check that then fails, and the word at which it does.
+type Damage = (&'static [(usize, u64)], Check, u32);
+
+const DAMAGES: [Damage; 21] = [
+    (&[(529, 0x3004), (530, 1)], Check::Height, 529),
+    (&[(529, 0x3008), (530, 1)], Check::PointerBits, 529),
+    (
+        &[(529, 0x3001), (530, 5000), (1536, 0x4001)],
+        Check::PointerBits,
+        1536,
+    ),
+    (&[(529, 0x8000), (530, 1)], Check::Range, 529),
+    (
+        &[(529, 0x3001), (530, 5000), (1536, 0x3000)],
+        Check::BlockTwice,
+        1536,
+    ),
+    (
+        &[(529, 0x3000), (530, 1), (537, 0x3000), (538, 1)],
+        Check::BlockTwice,
+        537,
+    ),
+    (&[(521, 0)], Check::Hole, 521),
+    (&[(3, 4000)], Check::InodeFileSize, 3),
+    (&[(1024, 64)], Check::Inumber, 1024),
+    (&[(1056, 1)], Check::InodeTwice, 1056),
+    (&[(1056, 2)], Check::InodeTwice, 1056),
+    (&[(528, 3)], Check::Kind, 528),
+    (&[(520, 1)], Check::Kind, 520),
+    (&[(522, 500)], Check::DirectorySize, 522),
+    (&[(530, 4097)], Check::Capacity, 530),
+    (&[(3, 8192)], Check::Capacity, 3),
+    (&[(1025, 241)], Check::NameForm, 1025),
+    (&[(1025, 0)], Check::NameForm, 1025),
+    (&[(1026, 0x2f)], Check::NameForm, 1025),
+    (&[(1026, 0x2e)], Check::NameForm, 1025),
+    (&[(1058, 0x61)], Check::NameTwice, 1056),
+];
 
 fn base(alloc: Global) -> Result<Vec<u64>, AllocError>
     ensures { IfOk result (λ words. vec_len words ≡ min_blocks * block_words) }
@@ -66,6 +106,20 @@ fn an_image_is_scanned(rt: HostRuntime) -> Result<(), Fail> {
     let mut words = base(rt.alloc())?;
     put(&mut words, &[(0, 0)]);
     assert_eq!(rt; scanned(&rt, words)?, Err(MountFault::NotFormatted));
+    Ok(())
+}
+
+#[test]
+fn each_check_fails_at_its_word(rt: HostRuntime) -> Result<(), Fail> {
+    for (stores, check, place) in &DAMAGES {
+        let mut words = base(rt.alloc())?;
+        put(&mut words, *stores);
+        let fault = MountFault::Damaged {
+            check: *check,
+            place: *place,
+        };
+        assert_eq!(rt; scanned(&rt, words)?, Err(fault));
+    }
     Ok(())
 }
 

@@ -5,6 +5,8 @@ ghost use Rattle.bp_layout.specs.Tree.{IsSound, IsFull};
 ghost use Rattle.pm_region.specs.Memory.{current_words};
 
 use crate::images::{Start, laid, leaf};
+use bp_dirs::entry;
+use bp_limits::MAX_NAME;
 use bp_spelling::{NameFault, Spelled, check_names};
 use bp_tree::Tree;
 use pm_region::ListRegion;
@@ -94,5 +96,16 @@ fn names_of_a_wrong_form(rt: HostRuntime) -> Result<(), Fail> {
         let answer = checked(rt.alloc(), (1, 0x61), wrong)?;
         assert_eq!(rt; answer, Err(NameFault::Form { place: 1569 }), "{wrong:?}");
     }
+    Ok(())
+}
+
+#[test]
+fn an_entry_is_read(rt: HostRuntime) -> Result<(), Fail> {
+    let region = sample(rt.alloc(), (2, 0x6261), (1, 0x7863))?;
+    let second = entry(&region, TREE, 1).expect(&rt, "its block is there");
+    assert_eq!(rt; second.inumber(), 3);
+    assert_eq!(rt; second.name_len(), 1);
+    let mut name = [0; MAX_NAME];
+    assert_eq!(rt; second.read_name(&mut name), b"c".as_slice());
     Ok(())
 }

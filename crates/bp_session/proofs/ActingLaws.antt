@@ -33,11 +33,11 @@ use Rattle.bp_script.specs.Commands.{Command, command_of, in_grammar, mask_in}
 use Rattle.bp_script.specs.Commands.Command.{file_call, sync, space, crash, storm, log, too_long}
 use Rattle.bp_script.specs.Texts.LineReply.{synced}
 use Rattle.bp_session.specs.Files.{Holds, HoldsAs, HoldsBytes}
-use Rattle.bp_session.specs.Acting.{CrashesTo, Does, HasCrashed, is_done, may_have_changed, reply_of, state, to_save}
+use Rattle.bp_session.specs.Acting.{CrashesTo, Does, HasCrashed, is_done, is_saved_behind, may_have_changed, reply_of, state, to_save}
 use Rattle.bp_session.specs.Serving.{Acts, SyncFails}
-use Rattle.bp_session.specs.Session.{Crashes, SessionLine, State}
+use Rattle.bp_session.specs.Session.{Crashes, SessionLine}
 use Rattle.bp_session.specs.declared.outcome.Outcome.{Outcome}
-use Rattle.bp_session.specs.declared.outcome.Outcome.TheVariants.{Answered, Synced, Counted, Kept, Logged, BadChoice, TooLong}
+use Rattle.bp_session.specs.declared.outcome.Outcome.TheVariants.{Answered, Synced, Counted, Kept, Logged, BadChoice, BadSyntax, TooLong}
 use Rattle.bp_session.proofs.BlockLaws.{length-image_bytes}
 
 -- ---- sizes
@@ -223,33 +223,62 @@ does_long memory answer = record {
   words = λ _. refl;
 }
 
+pub saved_behind_other : (outcome : Outcome) (answer : Answer) (is_saved : Bool) → ¬ (outcome ≡ Synced) → (is_saved && not (may_have_changed outcome answer)) ≡ is_saved_behind outcome answer is_saved
+saved_behind_other Synced answer is_saved other = absurd (other refl)
+saved_behind_other Answered answer is_saved other = refl
+saved_behind_other (Counted free live) answer is_saved other = refl
+saved_behind_other (Kept c n) answer is_saved other = refl
+saved_behind_other (Logged events barriers calls) answer is_saved other = refl
+saved_behind_other BadChoice answer is_saved other = refl
+saved_behind_other BadSyntax answer is_saved other = refl
+saved_behind_other TooLong answer is_saved other = refl
+
+-- ---- what is no sync
+
+-- a crash comes to none
+pub crash_not_left : {P : Type 0} (old new : Memory) (cut : PowerCut) (outcome : Outcome) → CrashesTo old cut outcome new → outcome ≡ Synced → P
+crash_not_left old new cut outcome (inl does) e = absurd (let no : ◌≡◌ {A = Outcome} (Kept (kept_calls old.events cut) (marks old.events)) Synced = sym does.told ∙ e in cc)
+crash_not_left old new cut outcome (inr does) e = absurd (let no : ◌≡◌ {A = Outcome} BadChoice Synced = sym does.told ∙ e in cc)
+
+pub no_sync_storm : (seed : ℕ) → ¬ (storm seed ≡ sync)
+no_sync_storm seed e = cc
+
+pub no_sync_log : ¬ (log ≡ sync)
+no_sync_log e = cc
+
 module _ (old new : Memory) (command : Command) (answer : Answer) where
+  -- a line that is no sync, over a file that stays
   pub acts_done : (outcome : Outcome) (is_saved : Bool) (files : View) (name : List ℕ) (saved : Image) → Does old command outcome answer new → ¬ (outcome ≡ Synced) → HoldsAs is_saved files (current_words old) name saved
-      → Acts (state old saved) new (HoldsAs (is_saved && not (may_have_changed outcome answer)) files (current_words new) name) command (reply_of outcome answer)
-  acts_done outcome is_saved files name saved does other held = record {
-    after = to_save command old saved;
-    line = does.line saved;
-    file = rw (does.others other saved) (record { file = held.file; current = go is_saved (may_have_changed outcome answer) refl refl });
-  }
+      → HoldsAs (is_saved && not (may_have_changed outcome answer)) files (current_words new) name (to_save command old saved)
+  acts_done outcome is_saved files name saved does other held = rw (does.others other saved) (record { file = held.file; current = go is_saved (may_have_changed outcome answer) refl refl })
     where
       go : (flag touched : Bool) → is_saved ≡ flag → may_have_changed outcome answer ≡ touched → (flag && not touched) ≡ true → Holds files name (current_words new)
       go true true is may e = absurd (let no : false ≡ true = e in cc)
       go true false is may e = rw (does.words may) (held.current is)
       go false touched is may e = absurd (let no : false ≡ true = e in cc)
 
-  pub synced_memory : Does old command Synced answer new → new ≡ drained old
-  synced_memory does = let line = rw (does.is_sync refl) at (does.line old.base) in ap (λ (s : State). s.memory) line.done
+  -- only a sync comes to one
+  pub not_left : {outcome : Outcome} {P : Type 0} → Does old command outcome answer new → ¬ (command ≡ sync) → outcome ≡ Synced → P
+  not_left does other e = absurd (other (does.is_sync e))
 
-  pub words_synced : {is_saved : Bool} {files : View} {name : List ℕ} {saved : Image} → Does old command Synced answer new → HoldsAs is_saved files (current_words old) name saved → HoldsAs is_saved files (current_words new) name saved
-  words_synced does held = rw (does.words refl) held
+  -- ---- a sync
 
-  pub acts_synced : (files : View) (name : List ℕ) (saved : Image) → Does old command Synced answer new → Holds files name (current_words new) → Acts (state old saved) new (HoldsAs true files (current_words new) name) command synced
-  acts_synced files name saved does file =
-      let is = does.is_sync refl in
-      rw is (record { after = current_words old; line = rw is at (does.line saved); file = record { file = rw (does.words refl) at file; current = λ _. file } })
+  module _ (is : command ≡ sync) (done : new ≡ drained old) where
+    words_drained : current_words new ≡ current_words old
+    words_drained = ap current_words done
 
-  pub fails_synced : (saved : Image) (partly : Image → Image → Type 0) → Does old command Synced answer new → partly saved (current_words new) → SyncFails (state old saved) new partly command
-  fails_synced saved partly does file = record { is = does.is_sync refl; drained = synced_memory does; file = rw (does.words refl) at file }
+    pub acts_synced : (saved : Image) (holds : Image → Type 0) → holds (current_words old) → Acts (state old saved) new holds command synced
+    acts_synced saved holds file = rw is (record { after = current_words old; line = record { told = refl; done = ap (λ m. state m (current_words old)) done }; file = file })
+
+    -- the file behind a save
+    pub holds_synced : (is_saved : Bool) (files now : View) (name : List ℕ) (saved : Image) → (HoldsAs is_saved files (current_words new) name saved → Holds now name (current_words new)) → HoldsAs is_saved files (current_words old) name saved
+        → HoldsAs true now (current_words new) name (current_words old)
+    holds_synced is_saved files now name saved saves held =
+        let file = saves (rw words_drained held) in
+        record { file = rw words_drained at file; current = λ _. file }
+
+    pub fails_synced : (saved : Image) (partly : Image → Image → Type 0) → partly saved (current_words new) → SyncFails (state old saved) new partly command
+    fails_synced saved partly file = record { is = is; drained = done; file = rw words_drained at file }
 
 -- ---- an image as bytes
 

@@ -10,3 +10,4 @@ pub mod OutcomeLaws
 pub mod GatheringLaws
 pub mod AheadLaws
 pub mod Runs
+pub mod OthersLaws

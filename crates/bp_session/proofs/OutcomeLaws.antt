@@ -7,9 +7,11 @@ use Rattle.bp_io.specs.Causes.{Rose}
 use Rattle.bp_script.specs.Commands.{Command, command_of}
 use Rattle.bp_session.specs.Lines.{commands_from}
 use Rattle.bp_session.specs.Outside.{Faults, IsFirstFault, SinkTookAll, counts}
-use Rattle.bp_session.specs.Serving.{DoesAll, DoesBreakOff, DoesStop, Input, Keeps, LineOutcome, Moment, PieceOutcome, ServeOutcome}
+use Rattle.bp_layout.specs.Words.{Image}
+use Rattle.bp_session.specs.Serving.{Carries, CarriesPartly, DoesAll, DoesBreakOff, DoesStop, Input, Keeps, LineOutcome, Moment, PieceOutcome, ServeOutcome}
+use Rattle.bp_session.proofs.OthersLaws.{others_same, others_then}
 use Rattle.bp_session.proofs.SavingLaws.{stays_attached, still_attached}
-use Rattle.bp_session.proofs.ServingLaws.{commands_at_newline, commands_of_nothing, breaks_behind, breaks_in, not_long, serves_newline, serves_quietly, serves_then, serves_to_end, stops_behind, stops_in, told_none}
+use Rattle.bp_session.proofs.ServingLaws.{all_as, breaks_as, breaks_behind, breaks_in, commands_at_newline, commands_of_nothing, not_long, serves_as, serves_newline, serves_quietly, serves_then, serves_to_end, stops_as, stops_behind, stops_in, told_none}
 
 -- ---- faults
 
@@ -103,13 +105,14 @@ first_with_source status s t a b other same first = record {
 -- ---- what is kept
 
 pub keeps_all : (a : Moment) → Keeps 0 a a
-keeps_all a = record { size = refl; capacity = refl; attached = still_attached a.files; flushed = λ _ e. e }
+keeps_all a = record { size = refl; capacity = refl; attached = still_attached a.files; others = others_same a.files; flushed = λ _ e. e }
 
 pub keeps_then : (status : ℕ) (a b c : Moment) → Keeps 0 a b → Keeps status b c → Keeps status a c
 keeps_then status a b c one two = record {
   size = two.size ∙ one.size;
   capacity = two.capacity ∙ one.capacity;
   attached = stays_attached _ _ _ one.attached two.attached;
+  others = others_then a.files b.files c.files one.attached one.others two.others;
   flushed = λ other e. two.flushed other (one.flushed (λ z. omega (arith, z)) e);
 }
 
@@ -125,7 +128,7 @@ line_whole commands a b all keeps sink files = record {
   one_of = inl refl;
 }
 
-pub line_broken : (commands : List Command) (a b : Moment) → DoesBreakOff a b commands → Keeps 4 a b → Rose a.faults b.faults → b.files.faults ≡ a.files.faults → LineOutcome 4 commands a b
+pub line_broken : (commands : List Command) (a b : Moment) → DoesBreakOff 0 a b commands → Keeps 4 a b → Rose a.faults b.faults → b.files.faults ≡ a.files.faults → LineOutcome 4 commands a b
 line_broken commands a b broken keeps rose files = record {
   whole = λ e. absurd (omega (arith, e));
   broken = λ _. broken;
@@ -146,13 +149,13 @@ line_stopped commands a b stop keeps sink rose = record {
 }
 
 pub line_nothing : (a : Moment) → LineOutcome 0 (commands_from [] []) a a
-line_nothing a = rw commands_of_nothing (line_whole [] a a (λ name saved file. record { after = saved; file = file; told = told_none _ _ }) (keeps_all a) refl refl)
+line_nothing a = rw commands_of_nothing (line_whole [] a a (λ saved. record { after = saved; file = λ name held. held; told = told_none _ _ }) (keeps_all a) refl refl)
 
 -- ---- a piece
 
-pub piece_quiet : (a : Moment) (held i keeps : List ℕ) → ((rest : List ℕ) → commands_from held (i ++ rest) ≡ commands_from keeps rest) → PieceOutcome 0 held i keeps a a
-piece_quiet a held i keeps same = record {
-  whole = λ _ name saved file. serves_quietly _ _ saved _ _ _ _ file same;
+pub piece_quiet : (most : ℕ) (a : Moment) (held i keeps : List ℕ) → ((rest : List ℕ) → commands_from held (i ++ rest) ≡ commands_from keeps rest) → PieceOutcome 0 most held i keeps a a
+piece_quiet most a held i keeps same = record {
+  whole = λ _ saved. serves_quietly _ _ saved _ _ _ _ (λ name held. held) same;
   broken = λ e. absurd (omega (arith, e));
   stopped = λ e. absurd (omega (arith, e));
   keeps_files = keeps_all a;
@@ -160,41 +163,68 @@ piece_quiet a held i keeps same = record {
   one_of = inl refl;
 }
 
-pub piece_nothing : (a : Moment) (held : List ℕ) → PieceOutcome 0 held [] held a a
-piece_nothing a held = piece_quiet a held [] held (λ rest. refl)
+pub piece_nothing : (most : ℕ) (a : Moment) (held : List ℕ) → PieceOutcome 0 most held [] held a a
+piece_nothing most a held = piece_quiet most a held [] held (λ rest. refl)
 
-pub piece_newline : (status : ℕ) (held : List ℕ) (a b : Moment) → LineOutcome status (command_of held ∷ []) a b → PieceOutcome status held (10 ∷ []) [] a b
-piece_newline status held a b line = record {
-  whole = λ e name saved file. serves_newline _ _ _ _ _ _ (line.whole e name saved file);
-  broken = λ e rest name saved file. rw (commands_at_newline held rest) (breaks_behind _ _ _ _ (commands_from [] rest) _ _ (line.broken e name saved file));
-  stopped = λ e rest name saved file. rw (commands_at_newline held rest) (stops_behind _ _ _ _ (commands_from [] rest) _ _ (line.stopped e name saved file));
+pub piece_newline : (status most : ℕ) (held : List ℕ) (a b : Moment) → LineOutcome status (command_of held ∷ []) a b → PieceOutcome status most held (10 ∷ []) [] a b
+piece_newline status most held a b line = record {
+  whole = λ e saved. serves_newline _ _ _ _ _ _ (line.whole e saved);
+  broken = λ e rest saved. rw (commands_at_newline held rest) (breaks_behind _ _ _ _ _ (commands_from [] rest) _ _ (breaks_as _ _ _ _ _ _ (λ image held. held) 0 most _ (λ _. refl) (line.broken e saved)));
+  stopped = λ e rest. record {
+    stops = λ saved. rw (commands_at_newline held rest) (stops_behind _ _ _ _ (commands_from [] rest) _ _ ((line.stopped e).stops saved));
+    cleared = (line.stopped e).cleared;
+  };
   keeps_files = line.keeps;
   first = line.first;
   one_of = line.one_of;
 }
 
-pub piece_then : (status : ℕ) (held i middle j keeps : List ℕ) (a b c : Moment) → PieceOutcome 0 held i middle a b → PieceOutcome status middle j keeps b c → PieceOutcome status held (i ++ j) keeps a c
-piece_then status held i middle j keeps a b c one two = record {
-  whole = λ e name saved file.
-      let first = one.whole refl name saved file in
-      serves_then _ _ _ _ _ _ _ _ _ _ _ _ _ first (two.whole e name first.after first.file);
-  broken = λ e rest name saved file.
-      let first = one.whole refl name saved file in
-      rw (append_assoc i j rest) (breaks_in _ _ _ _ _ _ _ _ _ first _ _ (j ++ rest) (two.broken e rest name first.after first.file));
-  stopped = λ e rest name saved file.
-      let first = one.whole refl name saved file in
-      rw (append_assoc i j rest) (stops_in _ _ _ _ _ _ _ _ _ first _ _ (j ++ rest) (two.stopped e rest name first.after first.file));
-  keeps_files = keeps_then status a b c one.keeps_files two.keeps_files;
-  first = first_after status _ _ _ one.first two.first;
-  one_of = two.one_of;
-}
+-- what is held of a file from one moment on
+pub carries_on : (a b c : Moment) (saved after : Image) → Carries a b saved after → (image : Image) → Carries b c after image → Carries a c saved image
+carries_on a b c saved after one image two name held = two name (one name held)
+
+pub carries_on_partly : (a b c : Moment) (saved after : Image) → Carries a b saved after → (first second : Image) → CarriesPartly b c after first second → CarriesPartly a c saved first second
+carries_on_partly a b c saved after one first second two name held = two name (one name held)
+
+module _ (most : ℕ) (held i middle : List ℕ) (a b c : Moment) (one : PieceOutcome 0 most held i middle a b) where
+  -- what follows a piece that was served, up to a reply that broke off ..
+  pub breaks_after : (j : List ℕ) → DoesBreakOff most b c (commands_from middle j) → DoesBreakOff most a c (commands_from held (i ++ j))
+  breaks_after j broken saved =
+      let first = one.whole refl saved in
+      breaks_in _ _ _ _ _ _ _ _ _ first _ _ _ j (breaks_as _ _ _ _ _ _ (carries_on a b c saved first.after first.file) _ _ _ (λ e. e) (broken first.after))
+
+  -- .. or to a sync that couldn't save
+  pub stops_after : (j : List ℕ) → DoesStop b c (commands_from middle j) → DoesStop a c (commands_from held (i ++ j))
+  stops_after j stopped = record {
+    stops = λ saved.
+        let first = one.whole refl saved in
+        stops_in _ _ _ _ _ _ _ _ _ first _ _ j (stops_as _ _ _ _ _ _ (carries_on_partly a b c saved first.after first.file) _ (stopped.stops first.after));
+    cleared = stopped.cleared;
+  }
+
+  pub all_after : (j : List ℕ) → DoesAll b c (commands_from middle j) → DoesAll a c (commands_from held (i ++ j))
+  all_after j all saved =
+      let first = one.whole refl saved in
+      serves_to_end _ _ _ _ _ _ _ _ _ first _ _ j (all_as _ _ _ _ _ _ (carries_on a b c saved first.after first.file) _ (all first.after))
+
+  pub piece_then : (status : ℕ) (j keeps : List ℕ) → PieceOutcome status most middle j keeps b c → PieceOutcome status most held (i ++ j) keeps a c
+  piece_then status j keeps two = record {
+    whole = λ e saved.
+        let first = one.whole refl saved in
+        serves_then _ _ _ _ _ _ _ _ _ _ _ _ _ first (serves_as _ _ _ _ _ _ (carries_on a b c saved first.after first.file) _ _ _ (two.whole e first.after));
+    broken = λ e rest. rw (append_assoc i j rest) (breaks_after (j ++ rest) (two.broken e rest));
+    stopped = λ e rest. rw (append_assoc i j rest) (stops_after (j ++ rest) (two.stopped e rest));
+    keeps_files = keeps_then status a b c one.keeps_files two.keeps_files;
+    first = first_after status _ _ _ one.first two.first;
+    one_of = two.one_of;
+  }
 
 -- what comes behind a fault doesn't matter
-pub piece_stops : (status : ℕ) (held i j keeps more : List ℕ) (a b : Moment) → ¬ (status ≡ 0) → PieceOutcome status held i keeps a b → PieceOutcome status held (i ++ j) more a b
-piece_stops status held i j keeps more a b other one = record {
+pub piece_stops : (status most : ℕ) (held i j keeps more : List ℕ) (a b : Moment) → ¬ (status ≡ 0) → PieceOutcome status most held i keeps a b → PieceOutcome status most held (i ++ j) more a b
+piece_stops status most held i j keeps more a b other one = record {
   whole = λ e. absurd (other e);
-  broken = λ e rest name saved file. rw (append_assoc i j rest) (one.broken e (j ++ rest) name saved file);
-  stopped = λ e rest name saved file. rw (append_assoc i j rest) (one.stopped e (j ++ rest) name saved file);
+  broken = λ e rest. rw (append_assoc i j rest) (one.broken e (j ++ rest));
+  stopped = λ e rest. rw (append_assoc i j rest) (one.stopped e (j ++ rest));
   keeps_files = one.keeps_files;
   first = one.first;
   one_of = one.one_of;
@@ -202,16 +232,16 @@ piece_stops status held i j keeps more a b other one = record {
 
 -- ---- a source
 
-module _ (before after : Input) (a b : Moment) where
+module _ (most : ℕ) (before after : Input) (a b : Moment) where
   -- the source failed
-  pub serve_part : (input keeps : List ℕ) → Consumes before.left after.left input → PieceOutcome 0 [] input keeps a b → Rose before.faults after.faults → ServeOutcome 3 before after a b
+  pub serve_part : (input keeps : List ℕ) → Consumes before.left after.left input → PieceOutcome 0 most [] input keeps a b → Rose before.faults after.faults → ServeOutcome 3 most before after a b
   serve_part input keeps read part rose = record {
     whole = λ e. absurd (omega (arith, e));
     part = λ _. (input, keeps, read, part.whole refl);
     long = λ e. absurd (omega (arith, e));
     broken = λ e. absurd (omega (arith, e));
     stopped = λ e. absurd (omega (arith, e));
-    keeps = record { size = part.keeps_files.size; capacity = part.keeps_files.capacity; attached = part.keeps_files.attached; flushed = λ _. part.keeps_files.flushed (λ e. omega (arith, e)) };
+    keeps = record { size = part.keeps_files.size; capacity = part.keeps_files.capacity; attached = part.keeps_files.attached; others = part.keeps_files.others; flushed = λ _. part.keeps_files.flushed (λ e. omega (arith, e)) };
     first = source_fault _ _ rose (part.first.no_sink (inl refl)) (part.first.no_files (λ e. omega (arith, e)));
     complete = λ all told few calm quiet still. absurd (calm rose);
     one_of = inr (inl refl);
@@ -219,24 +249,24 @@ module _ (before after : Input) (a b : Moment) where
 
   -- there was more than the most bytes
   pub serve_long : (input more keeps : List ℕ) → Consumes before.left after.left (input ++ more) → length input ≡ 1073741824 → 1 ≤ length more → length more ≤ 65536
-      → PieceOutcome 0 [] input keeps a b → after.faults ≡ before.faults → ServeOutcome 6 before after a b
+      → PieceOutcome 0 most [] input keeps a b → after.faults ≡ before.faults → ServeOutcome 6 most before after a b
   serve_long input more keeps read most some few part same = record {
     whole = λ e. absurd (omega (arith, e));
     part = λ e. absurd (omega (arith, e));
     long = λ _. (input, more, keeps, read, most, some, few, part.whole refl);
     broken = λ e. absurd (omega (arith, e));
     stopped = λ e. absurd (omega (arith, e));
-    keeps = record { size = part.keeps_files.size; capacity = part.keeps_files.capacity; attached = part.keeps_files.attached; flushed = λ _. part.keeps_files.flushed (λ e. omega (arith, e)) };
+    keeps = record { size = part.keeps_files.size; capacity = part.keeps_files.capacity; attached = part.keeps_files.attached; others = part.keeps_files.others; flushed = λ _. part.keeps_files.flushed (λ e. omega (arith, e)) };
     first = no_fault 6 _ _ (λ e. omega (arith, e)) (λ e. omega (arith, e)) (λ e. omega (arith, e)) same (part.first.no_sink (inl refl)) (part.first.no_files (λ e. omega (arith, e)));
     complete = λ all told small calm quiet still. absurd (not_long before.left after.left all input more told small read most some);
     one_of = inr (inr (inr (inr refl)));
   }
 
   -- a line that was read whole ended it
-  pub serve_ended : (status : ℕ) (input keeps : List ℕ) → ¬ (status ≡ 0) → Consumes before.left after.left input → PieceOutcome status [] input keeps a b → after.faults ≡ before.faults → ServeOutcome status before after a b
+  pub serve_ended : (status : ℕ) (input keeps : List ℕ) → ¬ (status ≡ 0) → Consumes before.left after.left input → PieceOutcome status most [] input keeps a b → after.faults ≡ before.faults → ServeOutcome status most before after a b
   serve_ended status input keeps other read part same = go part.one_of
     where
-      go : (status ≡ 0) ⊎ (status ≡ 4) ⊎ (status ≡ 5) → ServeOutcome status before after a b
+      go : (status ≡ 0) ⊎ (status ≡ 4) ⊎ (status ≡ 5) → ServeOutcome status most before after a b
       go (inl e) = absurd (other e)
       go (inr (inl e)) = record {
         whole = λ z. absurd (other z);
@@ -263,39 +293,17 @@ module _ (before after : Input) (a b : Moment) where
 
   -- the source is at its end
   pub serve_end : (status : ℕ) (input keeps : List ℕ) (middle : Moment) → Consumes before.left after.left input → IsAtEnd after.left → length input ≤ 1073741824
-      → PieceOutcome 0 [] input keeps a middle → LineOutcome status (commands_from keeps []) middle b → after.faults ≡ before.faults → ServeOutcome status before after a b
+      → PieceOutcome 0 most [] input keeps a middle → LineOutcome status (commands_from keeps []) middle b → after.faults ≡ before.faults → ServeOutcome status most before after a b
   serve_end status input keeps middle read end few part last same = record {
-    whole = λ e. (
-      input,
-      read,
-      end,
-      few,
-      λ name saved file.
-          let one = part.whole refl name saved file in
-          rw (← append-nil input) (serves_to_end _ _ _ _ _ _ _ _ _ one _ _ [] (last.whole e name one.after one.file)),
-    );
+    whole = λ e. (input, read, end, few, rw (← append-nil input) (all_after most _ _ _ a middle b part [] (last.whole e)));
     part = λ z. absurd (none 3 (λ e. omega (arith, e)) (λ e. omega (arith, e)) (λ e. omega (arith, e)) z last.one_of);
     long = λ z. absurd (none 6 (λ e. omega (arith, e)) (λ e. omega (arith, e)) (λ e. omega (arith, e)) z last.one_of);
     broken = λ e. (
       input,
       read,
-      inr (
-        end,
-        λ name saved file.
-            let one = part.whole refl name saved file in
-            rw (← append-nil input) (breaks_in _ _ _ _ _ _ _ _ _ one _ _ [] (last.broken e name one.after one.file)),
-      ),
+      inr (end, rw (← append-nil input) (breaks_after most _ _ _ a middle b part [] (λ saved. breaks_as _ _ _ _ _ _ (λ image carried. carried) 0 most _ (λ _. refl) (last.broken e saved)))),
     );
-    stopped = λ e. (
-      input,
-      read,
-      inr (
-        end,
-        λ name saved file.
-            let one = part.whole refl name saved file in
-            rw (← append-nil input) (stops_in _ _ _ _ _ _ _ _ _ one _ _ [] (last.stopped e name one.after one.file)),
-      ),
-    );
+    stopped = λ e. (input, read, inr (end, rw (← append-nil input) (stops_after most _ _ _ a middle b part [] (last.stopped e))));
     keeps = keeps_then status a middle b part.keeps_files last.keeps;
     first = first_with_source status before.faults after.faults (counts 0 a.faults a.files) (counts 0 b.faults b.files) (λ z. none 3 (λ e. omega (arith, e)) (λ e. omega (arith, e)) (λ e. omega (arith, e)) z last.one_of) same first;
     complete = λ all told small calm quiet still. elim last.one_of [

@@ -6,9 +6,9 @@ use Rattle.std.specs.Prelude.{Some, None}
 use Rattle.memchr.specs.Find.{IsFirst, IsFirstByte, Nowhere, Passes, is_byte}
 use Rattle.bp_session.specs.Lines.{commands_from}
 use Rattle.bp_script.specs.Commands.{command_of}
-use Rattle.bp_session.specs.Gathering.{LineGathers, ReachesOutcome}
+use Rattle.bp_session.specs.Gathering.{LineGathers}
 use Rattle.bp_session.specs.Serving.{Moment, PieceOutcome}
-use Rattle.bp_session.proofs.AheadLaws.{Waits, line_ends, line_waits, reaches_then, waits_run}
+use Rattle.bp_session.proofs.AheadLaws.{Waits, line_ends, line_waits, waits_run}
 use Rattle.bp_session.proofs.OutcomeLaws.{piece_stops}
 use Rattle.bp_session.proofs.ServingLaws.{commands_at_run, commands_kept, take_more, take_next}
 
@@ -60,10 +60,10 @@ module _ (xs : List ℕ) (from to : ℕ) where
             go false e = e
 
 -- a line that a fault ends
-pub line_stops : (status : ℕ) (xs held keeps : List ℕ) (next count : ℕ) (a b : Moment) → ¬ (status ≡ 0) → next ≤ count → PieceOutcome status held (take next xs) keeps a b → PieceOutcome status held (take count xs) keeps a b
-line_stops status xs held keeps next count a b other low one =
-    subst (λ (l : List ℕ). PieceOutcome status held l keeps a b) (take_more xs next count low)
-    (piece_stops status held (take next xs) (drop next (take count xs)) keeps keeps a b other one)
+pub line_stops : (status most : ℕ) (xs held keeps : List ℕ) (next count : ℕ) (a b : Moment) → ¬ (status ≡ 0) → next ≤ count → PieceOutcome status most held (take next xs) keeps a b → PieceOutcome status most held (take count xs) keeps a b
+line_stops status most xs held keeps next count a b other low one =
+    subst (λ (l : List ℕ). PieceOutcome status most held l keeps a b) (take_more xs next count low)
+    (piece_stops status most held (take next xs) (drop next (take count xs)) keeps keeps a b other one)
 
 -- ---- a piece, run by run
 
@@ -79,7 +79,7 @@ module _ (start : Moment) (most : ℕ) (xs held middle kept a : List ℕ) (at en
     pub next_waits : (most ≡ 0 → b ≡ []) → LineGathers 0 (command_of kept) a b now new → Waits start most held (take (end + 1) xs) [] b new
     next_waits few line = subst (λ (l : List ℕ). Waits start most held l [] b new) next (line_waits start most held (take end xs) kept a now run_waits new b few line)
 
-    pub next_ends : (status count : ℕ) (keeps : List ℕ) → ¬ (status ≡ 0) → end + 1 ≤ count → LineGathers status (command_of kept) a b now new → ReachesOutcome status most (PieceOutcome status held (take count xs) keeps start) new
+    pub next_ends : (status count : ℕ) (keeps : List ℕ) → ¬ (status ≡ 0) → end + 1 ≤ count → LineGathers status (command_of kept) a b now new → PieceOutcome status most held (take count xs) keeps start new
     next_ends status count keeps other inside line =
-        reaches_then status most _ _ new (λ moment piece. line_stops status xs held keeps (end + 1) count start moment other inside piece)
-        (subst (λ (l : List ℕ). ReachesOutcome status most (PieceOutcome status held l keeps start) new) next (line_ends start most held (take end xs) kept a now run_waits new status b keeps other line))
+        line_stops status most xs held keeps (end + 1) count start new other inside
+        (subst (λ (l : List ℕ). PieceOutcome status most held l keeps start new) next (line_ends start most held (take end xs) kept a now run_waits new status b keeps other line))

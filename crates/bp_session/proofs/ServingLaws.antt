@@ -1,6 +1,7 @@
 -- Serving goes on from piece to piece.
 use Rattle.std.proofs.Common.{refl, sym, ◌∙◌, ap, arith, ◌≡◌, ℕ, ◌<◌, List, [], ◌∷◌, ◌++◌, length, take, map, true, false, nat_eq, Bool, cond, length-append, nat_lt, get_or, drop, zero, suc, ◌≤◌, ◌+◌}
 use Rattle.std.proofs.lemmas.List.{append_assoc, append-nil, take_all}
+use Rattle.std.proofs.lemmas.List.Elements.{All-nil}
 use Rattle.std.proofs.lemmas.Bool.{lt-ltb, ltb-true, ltb-false}
 use Rattle.std.proofs.Math.Seq.{take-suc}
 use Rattle.std.proofs.KnownBytes.{Appends-trans}
@@ -114,22 +115,74 @@ module _ (holds : Image → Type 0) where
   pub serves_quietly : (memory : Memory) (saved : Image) (held input keeps : List ℕ) (t : Option (List ℕ)) → holds saved → ((rest : List ℕ) → commands_from held (input ++ rest) ≡ commands_from keeps rest) → Serves (state memory saved) memory holds held input keeps t t
   serves_quietly memory saved held input keeps t file same = record { commands = []; lines = same; after = saved; file = file; told = told_none (state memory saved) t }
 
-  pub breaks_line : (old : State) (memory : Memory) (command : Command) (more : List Command) (reply : LineReply) (count : ℕ) (t u : Option (List ℕ)) → Acts old memory holds command reply → count < length (reply_text reply) → Appends t u (take count (reply_text reply)) → BreaksOff old memory holds (command ∷ more) t u
-  breaks_line old memory command more reply count t u acts low taken = record {
+  pub breaks_line : (most : ℕ) (old : State) (memory : Memory) (command : Command) (more : List Command) (reply : LineReply) (count : ℕ) (t u : Option (List ℕ)) → Acts old memory holds command reply → count < length (reply_text reply) → Appends t u (take count (reply_text reply))
+      → BreaksOff most old memory holds (command ∷ more) t u
+  breaks_line most old memory command more reply count t u acts low taken = record {
     front = [];
     last = command;
+    ahead = [];
     more = more;
     are = refl;
     middle = old;
     replies = [];
     session = refl;
     reply = reply;
-    after = acts.after;
+    reached = state memory acts.after;
     line = acts.line;
+    unheard = [];
+    after = acts.after;
+    later = refl;
+    unsynced = All-nil _;
+    alone = λ _. refl;
     file = acts.file;
     count = count;
     proper = low;
     taken = rw text_none taken;
+  }
+
+-- ---- what is said of the file, in other words
+
+module _ (old : State) (memory : Memory) (t u : Option (List ℕ)) where
+  module _ (holds says : Image → Type 0) (f : (image : Image) → holds image → says image) where
+    pub serves_as : (held input keeps : List ℕ) → Serves old memory holds held input keeps t u → Serves old memory says held input keeps t u
+    serves_as held input keeps served = record { commands = served.commands; lines = served.lines; after = served.after; file = f served.after served.file; told = served.told }
+
+    pub all_as : (commands : List Command) → ServesAll old memory holds commands t u → ServesAll old memory says commands t u
+    all_as commands all = record { after = all.after; file = f all.after all.file; told = all.told }
+
+    pub breaks_as : (most least : ℕ) (commands : List Command) → (least ≡ 0 → most ≡ 0) → BreaksOff most old memory holds commands t u → BreaksOff least old memory says commands t u
+    breaks_as most least commands none broken = record {
+      front = broken.front;
+      last = broken.last;
+      ahead = broken.ahead;
+      more = broken.more;
+      are = broken.are;
+      middle = broken.middle;
+      replies = broken.replies;
+      session = broken.session;
+      reply = broken.reply;
+      reached = broken.reached;
+      line = broken.line;
+      unheard = broken.unheard;
+      after = broken.after;
+      later = broken.later;
+      unsynced = broken.unsynced;
+      alone = λ e. broken.alone (none e);
+      file = f broken.after broken.file;
+      count = broken.count;
+      proper = broken.proper;
+      taken = broken.taken;
+    }
+
+  pub stops_as : (partly says : Image → Image → Type 0) → ((first second : Image) → partly first second → says first second) → (commands : List Command) → StopsAtSave old memory partly commands t u → StopsAtSave old memory says commands t u
+  stops_as partly says f commands stop = record {
+    front = stop.front;
+    last = stop.last;
+    more = stop.more;
+    are = stop.are;
+    middle = stop.middle;
+    told = stop.told;
+    fails = record { is = stop.fails.is; drained = stop.fails.drained; file = f _ _ stop.fails.file };
   }
 
 -- one piece after another
@@ -143,18 +196,24 @@ serves_then old middle new first second a i b j c t u v one two = record {
   told = told_then old (state middle one.after) (state new two.after) one.commands two.commands t u v one.told two.told;
 }
 
-pub breaks_then : (old middle : State) (new : Memory) (holds : Image → Type 0) (xs ys : List Command) (t u v : Option (List ℕ)) → Told old middle xs t u → BreaksOff middle new holds ys u v → BreaksOff old new holds (xs ++ ys) t v
-breaks_then old middle new holds xs ys t u v first broken = record {
+pub breaks_then : (most : ℕ) (old middle : State) (new : Memory) (holds : Image → Type 0) (xs ys : List Command) (t u v : Option (List ℕ)) → Told old middle xs t u → BreaksOff most middle new holds ys u v → BreaksOff most old new holds (xs ++ ys) t v
+breaks_then most old middle new holds xs ys t u v first broken = record {
   front = xs ++ broken.front;
   last = broken.last;
+  ahead = broken.ahead;
   more = broken.more;
-  are = ap (λ cs. xs ++ cs) broken.are ∙ sym (append_assoc xs broken.front (broken.last ∷ broken.more));
+  are = ap (λ cs. xs ++ cs) broken.are ∙ sym (append_assoc xs (broken.front ++ broken.last ∷ broken.ahead) broken.more) ∙ ap (λ cs. cs ++ broken.more) (sym (append_assoc xs broken.front (broken.last ∷ broken.ahead)));
   middle = broken.middle;
   replies = first.replies ++ broken.replies;
   session = session_append old middle broken.middle xs broken.front first.replies broken.replies first.session broken.session;
   reply = broken.reply;
-  after = broken.after;
+  reached = broken.reached;
   line = broken.line;
+  unheard = broken.unheard;
+  after = broken.after;
+  later = broken.later;
+  unsynced = broken.unsynced;
+  alone = broken.alone;
   file = broken.file;
   count = broken.count;
   proper = broken.proper;
@@ -190,18 +249,24 @@ serves_newline old memory holds held t u all = record {
   told = all.told;
 }
 
-pub breaks_behind : (old : State) (memory : Memory) (holds : Image → Type 0) (xs behind : List Command) (t u : Option (List ℕ)) → BreaksOff old memory holds xs t u → BreaksOff old memory holds (xs ++ behind) t u
-breaks_behind old memory holds xs behind t u broken = record {
+pub breaks_behind : (most : ℕ) (old : State) (memory : Memory) (holds : Image → Type 0) (xs behind : List Command) (t u : Option (List ℕ)) → BreaksOff most old memory holds xs t u → BreaksOff most old memory holds (xs ++ behind) t u
+breaks_behind most old memory holds xs behind t u broken = record {
   front = broken.front;
   last = broken.last;
+  ahead = broken.ahead;
   more = broken.more ++ behind;
-  are = ap (λ cs. cs ++ behind) broken.are ∙ append_assoc broken.front (broken.last ∷ broken.more) behind;
+  are = ap (λ cs. cs ++ behind) broken.are ∙ append_assoc (broken.front ++ broken.last ∷ broken.ahead) broken.more behind;
   middle = broken.middle;
   replies = broken.replies;
   session = broken.session;
   reply = broken.reply;
-  after = broken.after;
+  reached = broken.reached;
   line = broken.line;
+  unheard = broken.unheard;
+  after = broken.after;
+  later = broken.later;
+  unsynced = broken.unsynced;
+  alone = broken.alone;
   file = broken.file;
   count = broken.count;
   proper = broken.proper;
@@ -222,8 +287,8 @@ stops_behind old memory partly xs behind t u stop = record {
 -- ---- what is behind a piece that was served
 
 module _ (old : State) (middle : Memory) (first : Image → Type 0) (a i b : List ℕ) (t u v : Option (List ℕ)) (one : Serves old middle first a i b t u) where
-  pub breaks_in : (new : Memory) (holds : Image → Type 0) (j : List ℕ) → BreaksOff (state middle one.after) new holds (commands_from b j) u v → BreaksOff old new holds (commands_from a (i ++ j)) t v
-  breaks_in new holds j broken = rw (one.lines j) (breaks_then old (state middle one.after) new holds one.commands (commands_from b j) t u v one.told broken)
+  pub breaks_in : (most : ℕ) (new : Memory) (holds : Image → Type 0) (j : List ℕ) → BreaksOff most (state middle one.after) new holds (commands_from b j) u v → BreaksOff most old new holds (commands_from a (i ++ j)) t v
+  breaks_in most new holds j broken = rw (one.lines j) (breaks_then most old (state middle one.after) new holds one.commands (commands_from b j) t u v one.told broken)
 
   pub stops_in : (new : Memory) (partly : Image → Image → Type 0) (j : List ℕ) → StopsAtSave (state middle one.after) new partly (commands_from b j) u v → StopsAtSave old new partly (commands_from a (i ++ j)) t v
   stops_in new partly j stop = rw (one.lines j) (stops_then old (state middle one.after) new partly one.commands (commands_from b j) t u v one.told stop)

@@ -1,5 +1,5 @@
 -- What a line came to.
-use Rattle.std.specs.Prelude.{◌≡◌, ◌⊎◌, Bool, true, false, length}
+use Rattle.std.specs.Prelude.{◌≡◌, ◌⊎◌, ◌&&◌, Bool, true, false, length, not}
 use Rattle.pm_epochs.specs.Log.{marks}
 use Rattle.pm_epochs.specs.Replay.{PowerCut, IsRight, kept_calls}
 use Rattle.pm_region.specs.Memory.{Memory, crashed, current_words}
@@ -55,6 +55,11 @@ may_have_changed (Logged events barriers calls) answer = false
 may_have_changed BadChoice answer = false
 may_have_changed BadSyntax answer = false
 may_have_changed TooLong answer = false
+
+-- whether a file that is taken to hold the words as they are is so behind a line that came to this: a sync saves them
+abbrev pub is_saved_behind : Outcome → Answer → Bool → Bool
+is_saved_behind Synced answer is_saved = true
+is_saved_behind outcome answer is_saved = is_saved && not (may_have_changed outcome answer)
 
 -- A command was done and replied to, but for the file, which is to be saved where the outcome is a sync.
 pub record Does (old : Memory) (command : Command) (outcome : Outcome) (answer : Answer) (new : Memory) : Type 0 where

@@ -2,8 +2,8 @@
 use Rattle.std.specs.Prelude.{◌≡◌, ◌⊎◌, ℕ, List, [], ◌++◌, Option, take}
 use Rattle.std.specs.Io.KnownBytes.{Appends}
 use Rattle.bp_io.specs.Files.{View}
-use Rattle.pm_region.specs.Memory.{Memory}
 use Rattle.bp_script.specs.Commands.{Command}
+use Rattle.bp_script.specs.Commands.Command.{sync}
 use Rattle.bp_script.specs.Texts.{LineReply, reply_text}
 use Rattle.bp_session.specs.Outside.{IsFirstFault, counts}
 use Rattle.bp_session.specs.Serving.{DoesLine, FailsLine, Keeps, Moment}
@@ -20,10 +20,11 @@ pub record PassesOn (text before after : List ℕ) (taken now : Option (List ℕ
   pub whole : before ++ text ≡ sent ++ after
   pub took : Appends taken now sent
 
--- what waited still waits, and no file has changed, or a sink took it all
-abbrev pub Clears : List ℕ → List ℕ → Option (List ℕ) → Option (List ℕ) → View → View → Type 0
-Clears before after taken now files files_now =
-    ((after ≡ before) × (now ≡ taken) × (files_now ≡ files)) ⊎ ((after ≡ []) × Appends taken now before)
+-- behind a command that is no sync, what waited may still wait, and no file has changed; else a sink took it all
+abbrev pub Clears : Command → List ℕ → List ℕ → Option (List ℕ) → Option (List ℕ) → View → View → Type 0
+Clears command before after taken now files files_now =
+    (¬ (command ≡ sync) × (after ≡ before) × (now ≡ taken) × (files_now ≡ files))
+    ⊎ ((after ≡ []) × Appends taken now before)
 
 -- A line was done whose reply is still to be told, behind what waits.
 pub record AwaitsReply (command : Command) (before : List ℕ) (old new : Moment) : Type 0 where
@@ -31,7 +32,7 @@ pub record AwaitsReply (command : Command) (before : List ℕ) (old new : Moment
   pub does : DoesLine old command reply new
   pub waits : List ℕ
   pub taken : Option (List ℕ)
-  pub clears : Clears before waits old.taken taken old.files new.files
+  pub clears : Clears command before waits old.taken taken old.files new.files
 
 -- .. and its reply was added.
 pub record IsAnswered (command : Command) (before after : List ℕ) (old new : Moment) : Type 0 where
@@ -43,10 +44,10 @@ pub record IsUntold (command : Command) (before : List ℕ) (old new : Moment) :
   pub done : AwaitsReply command before old new
   pub part : TakesPart (done.waits ++ reply_text done.reply) done.taken new.taken
 
--- The sink failed before a sync could save: it took a proper front of what waited.
+-- The sink failed before a sync: it took a proper front of what waited, and nothing else was done.
 pub record IsUnheard (before : List ℕ) (old new : Moment) : Type 0 where
   pub part : TakesPart before old.taken new.taken
-  pub files : new.files ≡ old.files
+  pub same : new ≡ record old { taken = new.taken; faults = new.faults }
 
 -- A sync couldn't save, behind all that waited.
 pub record IsUnsaved (command : Command) (before : List ℕ) (old new : Moment) : Type 0 where
@@ -62,14 +63,3 @@ pub record LineGathers (status : ℕ) (command : Command) (before after : List �
   pub keeps : Keeps status old new
   pub first : IsFirstFault status (counts 0 old.faults old.files) (counts 0 new.faults new.files)
   pub one_of : (status ≡ 0) ⊎ (status ≡ 4) ⊎ (status ≡ 5)
-
--- at the moment, but with this memory
-abbrev pub reached_at : Memory → Moment → Moment
-reached_at memory now = record now { memory = memory }
-
--- An outcome of a memory that was reached. It is the volume's own, but where a reply broke off behind which more than
--- so many bytes of replies may have waited: then it is the one behind that reply's line.
-pub record ReachesOutcome (status most : ℕ) (outcome : Moment → Type 0) (new : Moment) : Type 0 where
-  pub memory : Memory
-  pub same : (status ≡ 4 → most ≡ 0) → memory ≡ new.memory
-  pub is : outcome (reached_at memory new)

@@ -1,8 +1,8 @@
 -- What serving some of an input does, from one moment to another.
-use Rattle.std.specs.Prelude.{◌≡◌, ◌≤◌, ◌⊎◌, ℕ, ◌<◌, List, [], ◌∷◌, ◌++◌, Some, Bool, true, false, length, take, Option}
+use Rattle.std.specs.Prelude.{All, ◌≡◌, ◌≤◌, ◌⊎◌, ℕ, ◌<◌, List, [], ◌∷◌, ◌++◌, Some, Bool, true, false, length, take, Option}
 use Rattle.std.specs.Io.KnownBytes.{Appends, Consumes, IsAtEnd}
 use Rattle.bp_io.specs.Causes.{Rose}
-use Rattle.bp_io.specs.Files.{StaysAttached, View}
+use Rattle.bp_io.specs.Files.{KeepsOthers, StaysAttached, View}
 use Rattle.bp_limits.specs.Limits.{log_events, max_input}
 use Rattle.pm_region.specs.Memory.{Memory, current_words, drained}
 use Rattle.bp_layout.specs.Words.{Image}
@@ -11,7 +11,7 @@ use Rattle.bp_script.specs.Commands.Command.{sync}
 use Rattle.bp_script.specs.Texts.{LineReply, reply_text}
 use Rattle.bp_session.specs.Lines.{commands_from, text_of}
 use Rattle.bp_session.specs.Acting.{state}
-use Rattle.bp_session.specs.Files.{Holds, HoldsAs, HoldsPartly, IsReady}
+use Rattle.bp_session.specs.Files.{HoldsAs, HoldsPartly, IsReady}
 use Rattle.bp_session.specs.Outside.{IsFirstFault, counts}
 use Rattle.bp_session.specs.Session.{State, SessionLine, Session}
 use Rattle.bp_session.specs.Pieces.{piece_size}
@@ -53,19 +53,26 @@ pub record ServesAll (old : State) (memory : Memory) (holds : Image → Type 0) 
   pub told : Told old (state memory after) commands before now
 
 -- The first of these commands were answered, and then one more was done whose reply was taken in part: less than all of
--- it.
-pub record BreaksOff (old : State) (memory : Memory) (holds : Image → Type 0) (commands : List Command)
+-- it. The memory may be ahead of it by commands behind it, none of which is a sync, whose replies nobody took; but not
+-- where no byte of replies may wait while more is served.
+pub record BreaksOff (most : ℕ) (old : State) (memory : Memory) (holds : Image → Type 0) (commands : List Command)
     (before now : Option (List ℕ)) : Type 0 where
   pub front : List Command
   pub last : Command
+  pub ahead : List Command
   pub more : List Command
-  pub are : commands ≡ front ++ last ∷ more
+  pub are : commands ≡ (front ++ last ∷ ahead) ++ more
   pub middle : State
   pub replies : List LineReply
   pub session : Session old front replies middle
   pub reply : LineReply
+  pub reached : State
+  pub line : SessionLine middle last reply reached
+  pub unheard : List LineReply
   pub after : Image
-  pub line : SessionLine middle last reply (state memory after)
+  pub later : Session reached ahead unheard (state memory after)
+  pub unsynced : All (λ command. ¬ (command ≡ sync)) ahead
+  pub alone : most ≡ 0 → ahead ≡ []
   pub file : holds after
   pub count : ℕ
   pub proper : count < length (reply_text reply)
@@ -105,6 +112,15 @@ saved_if is_saved now = record now { is_saved = is_saved }
 abbrev pub HoldsAt : Moment → List ℕ → Image → Type 0
 HoldsAt now name image = HoldsAs now.is_saved now.files (current_words now.memory) name image
 
+-- whatever name's file holds the first words at one moment holds the second at the other
+abbrev pub Carries : Moment → Moment → Image → Image → Type 0
+Carries old new saved after = (name : List ℕ) → HoldsAt old name saved → HoldsAt new name after
+
+-- .. is there, and each of its blocks is that of the second words or of the third
+abbrev pub CarriesPartly : Moment → Moment → Image → Image → Image → Type 0
+CarriesPartly old new saved first second =
+    (name : List ℕ) → HoldsAt old name saved → HoldsPartly new.files name first second
+
 -- What a source has left, and how often it has failed.
 pub record Input : Type 0 where
   pub left : Option (List ℕ)
@@ -113,42 +129,46 @@ pub record Input : Type 0 where
 abbrev pub told : Option (List ℕ) → ℕ → Input
 told left faults = record { left = left; faults = faults }
 
--- The attached file holds these words, and the command was done.
+-- ---- what is done, whatever the attached file holds
+
+-- The command was done.
 abbrev pub DoesLine : Moment → Command → LineReply → Moment → Type 0
-DoesLine old command reply new = (name : List ℕ) (saved : Image) → HoldsAt old name saved →
-    Acts (state old.memory saved) new.memory (HoldsAt new name) command reply
+DoesLine old command reply new =
+    (saved : Image) → Acts (state old.memory saved) new.memory (Carries old new saved) command reply
 
--- .. and a sync couldn't save.
-abbrev pub FailsLine : Moment → Command → Moment → Type 0
-FailsLine old command new = (name : List ℕ) (saved : Image) → HoldsAt old name saved →
-    SyncFails (state old.memory saved) new.memory (HoldsPartly new.files name) command
+-- A sync couldn't save, and the file is not taken to hold the words.
+pub record FailsLine (old : Moment) (command : Command) (new : Moment) : Type 0 where
+  pub fails : (saved : Image) → SyncFails (state old.memory saved) new.memory (CarriesPartly old new saved) command
+  pub cleared : new.is_saved ≡ false
 
--- .. and the lines that this input ends were answered.
+-- The lines that this input ends were answered.
 abbrev pub DoesPart : List ℕ → List ℕ → List ℕ → Moment → Moment → Type 0
-DoesPart held input keeps old new = (name : List ℕ) (saved : Image) → HoldsAt old name saved →
-    Serves (state old.memory saved) new.memory (HoldsAt new name) held input keeps old.taken new.taken
+DoesPart held input keeps old new = (saved : Image) →
+    Serves (state old.memory saved) new.memory (Carries old new saved) held input keeps old.taken new.taken
 
--- .. and all these commands were answered.
+-- All these commands were answered.
 abbrev pub DoesAll : Moment → Moment → List Command → Type 0
-DoesAll old new commands = (name : List ℕ) (saved : Image) → HoldsAt old name saved →
-    ServesAll (state old.memory saved) new.memory (HoldsAt new name) commands old.taken new.taken
+DoesAll old new commands = (saved : Image) →
+    ServesAll (state old.memory saved) new.memory (Carries old new saved) commands old.taken new.taken
 
--- .. and the reply to one of these commands broke off.
-abbrev pub DoesBreakOff : Moment → Moment → List Command → Type 0
-DoesBreakOff old new commands = (name : List ℕ) (saved : Image) → HoldsAt old name saved →
-    BreaksOff (state old.memory saved) new.memory (Holds new.files name) commands old.taken new.taken
+-- .. or the reply to one of them broke off, where so many bytes of replies may wait while more is served.
+abbrev pub DoesBreakOff : ℕ → Moment → Moment → List Command → Type 0
+DoesBreakOff most old new commands = (saved : Image) →
+    BreaksOff most (state old.memory saved) new.memory (Carries old new saved) commands old.taken new.taken
 
--- .. and a sync among these commands couldn't save.
-abbrev pub DoesStop : Moment → Moment → List Command → Type 0
-DoesStop old new commands = (name : List ℕ) (saved : Image) → HoldsAt old name saved →
-    StopsAtSave (state old.memory saved) new.memory (HoldsPartly new.files name) commands old.taken new.taken
+-- .. or a sync among them couldn't save, and the file is not taken to hold the words.
+pub record DoesStop (old new : Moment) (commands : List Command) : Type 0 where
+  pub stops : (saved : Image) →
+      StopsAtSave (state old.memory saved) new.memory (CarriesPartly old new saved) commands old.taken new.taken
+  pub cleared : new.is_saved ≡ false
 
--- The region keeps its size and the room of its log, the same file is attached, and what was flushed before is flushed
--- where no sync failed.
+-- The region keeps its size and the room of its log, the same file is attached, no other one changes, and what was
+-- flushed before is flushed where no sync failed.
 pub record Keeps (status : ℕ) (old new : Moment) : Type 0 where
   pub size : length new.memory.base ≡ length old.memory.base
   pub capacity : new.memory.capacity ≡ old.memory.capacity
   pub attached : StaysAttached old.files new.files
+  pub others : KeepsOthers old.files new.files
   pub flushed : ¬ (status ≡ 5) → old.files.is_flushed ≡ true → new.files.is_flushed ≡ true
 
 -- What serving asks of a volume and of the files: a file is attached that has the volume's blocks and may be written,
@@ -165,17 +185,17 @@ pub record ServesAgain (old new : Memory) (files : View) : Type 0 where
 -- What serving commands answers: 0 where all were answered, 4 where a reply broke off, 5 where a sync couldn't save.
 pub record LineOutcome (status : ℕ) (commands : List Command) (old new : Moment) : Type 0 where
   pub whole : status ≡ 0 → DoesAll old new commands
-  pub broken : status ≡ 4 → DoesBreakOff old new commands
+  pub broken : status ≡ 4 → DoesBreakOff 0 old new commands
   pub stopped : status ≡ 5 → DoesStop old new commands
   pub keeps : Keeps status old new
   pub first : IsFirstFault status (counts 0 old.faults old.files) (counts 0 new.faults new.files)
   pub one_of : (status ≡ 0) ⊎ (status ≡ 4) ⊎ (status ≡ 5)
 
--- What serving a piece of an input answers, after what was held of a line: a line that a fault ends is whole, whatever
--- follows.
-pub record PieceOutcome (status : ℕ) (held input keeps : List ℕ) (old new : Moment) : Type 0 where
+-- What serving a piece of an input answers, after what was held of a line, where so many bytes of replies may wait: a
+-- line that a fault ends is whole, whatever follows.
+pub record PieceOutcome (status most : ℕ) (held input keeps : List ℕ) (old new : Moment) : Type 0 where
   pub whole : status ≡ 0 → DoesPart held input keeps old new
-  pub broken : status ≡ 4 → (rest : List ℕ) → DoesBreakOff old new (commands_from held (input ++ rest))
+  pub broken : status ≡ 4 → (rest : List ℕ) → DoesBreakOff most old new (commands_from held (input ++ rest))
   pub stopped : status ≡ 5 → (rest : List ℕ) → DoesStop old new (commands_from held (input ++ rest))
   pub keeps_files : Keeps status old new
   pub first : IsFirstFault status (counts 0 old.faults old.files) (counts 0 new.faults new.files)
@@ -189,7 +209,7 @@ OfLines left input P =
 
 -- What serving a source answers: as above; 3 where the source failed, and 6 where the most bytes were taken and one
 -- read gave more.
-pub record ServeOutcome (status : ℕ) (before after : Input) (old new : Moment) : Type 0 where
+pub record ServeOutcome (status most : ℕ) (before after : Input) (old new : Moment) : Type 0 where
   pub whole : status ≡ 0 → (input : List ℕ) × Consumes before.left after.left input × IsAtEnd after.left
       × (length input ≤ max_input) × DoesAll old new (commands_from [] input)
   pub part : status ≡ 3 → (input : List ℕ) × (keeps : List ℕ) × Consumes before.left after.left input
@@ -198,7 +218,7 @@ pub record ServeOutcome (status : ℕ) (before after : Input) (old new : Moment)
       × Consumes before.left after.left (input ++ more) × (length input ≡ max_input)
       × (1 ≤ length more) × (length more ≤ piece_size) × DoesPart [] input keeps old new
   pub broken : status ≡ 4 → (input : List ℕ) × Consumes before.left after.left input
-      × OfLines after.left input (DoesBreakOff old new)
+      × OfLines after.left input (DoesBreakOff most old new)
   pub stopped : status ≡ 5 → (input : List ℕ) × Consumes before.left after.left input
       × OfLines after.left input (DoesStop old new)
   pub keeps : Keeps status old new

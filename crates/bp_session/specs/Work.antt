@@ -1,5 +1,5 @@
 -- What the memory of a run holds of a line and its answer, and of what was read.
-use Rattle.std.specs.Prelude.{ℕ, Bool, List, length, nat_lt, Option, Some, None, if◌then◌else◌}
+use Rattle.std.specs.Prelude.{ℕ, List, length, nat_lt, Option, Some, None, if◌then◌else◌}
 use Rattle.bp_limits.specs.Limits.{max_line}
 use Rattle.bp_plain.specs.Calls.{Answer}
 use Rattle.bp_session.specs.Gathering.{waiting}
@@ -25,10 +25,6 @@ held_replies work = waiting_in work.buffers
 -- the line of a run
 abbrev pub held_line : Work → List ℕ
 held_line work = line_in work.buffers
-
--- whether the attached file is taken to hold the words as they are
-abbrev pub is_saved_in : Work → Bool
-is_saved_in work = work.is_saved
 
 -- the bytes that were read last, in a buffer of 65,536
 abbrev pub read_piece : Work → List ℕ

@@ -2,16 +2,16 @@
 
 ghost use Rattle.std.specs.Prelude.{◌&&◌, ◌≡◌, ◌≤◌, [], IfErr, IfOk, OnOk, length, not, true};
 ghost use Rattle.pm_epochs.specs.Log.{barriers, marks};
-ghost use Rattle.bp_io.specs.Files.{StaysAttached};
+ghost use Rattle.bp_io.specs.Files.{KeepsFiles, KeepsOthers, StaysAttached};
 ghost use Rattle.bp_limits.specs.Limits.{log_events, max_mask};
 ghost use Rattle.bp_replay.specs.Storm.{storm_cut};
 ghost use Rattle.bp_replay.specs.Wanted.{cut_for, mask_places, wanted_by};
 ghost use Rattle.bp_script.specs.Commands.Command.{sync};
 ghost use Rattle.bp_script.specs.Commands.{command_of};
-ghost use Rattle.bp_session.specs.Acting.{CrashesTo, Does, HasCrashed, may_have_changed, reply_of};
+ghost use Rattle.bp_session.specs.Acting.{CrashesTo, Does, HasCrashed, is_saved_behind, may_have_changed, reply_of};
 ghost use Rattle.bp_session.specs.Gathering.{Clears, LineGathers};
 ghost use Rattle.bp_session.specs.Serving.{CanServe, DoesLine, moment, saved_if};
-ghost use Rattle.bp_session.specs.declared.outcome.Outcome.TheVariants.{Logged};
+ghost use Rattle.bp_session.specs.declared.outcome.Outcome.TheVariants.{Logged, Synced};
 ghost use Rattle.bp_session.specs.Work.{answer_in, line_in, waiting_in};
 
 use crate::outcome::Outcome;
@@ -99,12 +99,17 @@ fn count_log<R: Region>(region: &R) -> Outcome
     }
 }
 
-/// Does what the line of the buffers asks for, over a volume alone. The answer of a call stands in the buffers' reply.
-/// At `Outcome::Synced` all is written back, and a file that is to hold it is to be saved. The volume's log is to have
-/// no more room than the memory of the buffers.
-pub fn act<R: Region>(alloc: Global, volume: &mut Volume<R>, buffers: &mut LineBuffers) -> Outcome
+/// Does what the line of the buffers asks for, as `act` does, but leaves a sync to be done: at `Outcome::Synced`
+/// nothing is written back yet.
+fn act_but_sync<R: Region>(
+    alloc: Global,
+    volume: &mut Volume<R>,
+    buffers: &mut LineBuffers,
+) -> Outcome
     requires { volume.old.capacity ≤ log_events }
-    ensures does { Does volume.old (command_of (line_in buffers.old)) result (answer_in buffers.new) volume.new }
+    ensures does { ¬ (result ≡ Synced) →
+        Does volume.old (command_of (line_in buffers.old)) result (answer_in buffers.new) volume.new }
+    ensures left { result ≡ Synced → (command_of (line_in buffers.old) ≡ sync) × (volume.new ≡ volume.old) }
     ensures line { line_in buffers.new ≡ line_in buffers.old }
     ensures waiting { waiting_in buffers.new ≡ waiting_in buffers.old }
 {
@@ -118,10 +123,7 @@ pub fn act<R: Region>(alloc: Global, volume: &mut Volume<R>, buffers: &mut LineB
             volume.apply(alloc, &call, &mut buffers.reply);
             Outcome::Answered
         }
-        Ok(Line::Sync) => {
-            volume.sync();
-            Outcome::Synced
-        }
+        Ok(Line::Sync) => Outcome::Synced,
         Ok(Line::Space) => {
             let space = volume.space();
             Outcome::Counted {
@@ -135,6 +137,24 @@ pub fn act<R: Region>(alloc: Global, volume: &mut Volume<R>, buffers: &mut LineB
         }
         Ok(Line::Log) => count_log(volume.region()),
         Err(Syntax) => Outcome::BadSyntax,
+    }
+}
+
+/// Does what the line of the buffers asks for, over a volume alone. The answer of a call stands in the buffers' reply.
+/// At `Outcome::Synced` all is written back, and a file that is to hold it is to be saved. The volume's log is to have
+/// no more room than the memory of the buffers.
+pub fn act<R: Region>(alloc: Global, volume: &mut Volume<R>, buffers: &mut LineBuffers) -> Outcome
+    requires { volume.old.capacity ≤ log_events }
+    ensures does { Does volume.old (command_of (line_in buffers.old)) result (answer_in buffers.new) volume.new }
+    ensures line { line_in buffers.new ≡ line_in buffers.old }
+    ensures waiting { waiting_in buffers.new ≡ waiting_in buffers.old }
+{
+    match act_but_sync(alloc, volume, buffers) {
+        Outcome::Synced => {
+            volume.sync();
+            Outcome::Synced
+        }
+        outcome => outcome,
     }
 }
 
@@ -156,9 +176,9 @@ fn stays_saved(is_saved: bool, outcome: Outcome, reply: &Reply) -> bool
     is_saved && !may_change(outcome, reply)
 }
 
-/// Does what the line asks for, and saves the words of a sync to the attached file, behind the replies that wait,
-/// unless it is taken to hold them. An error is the status: 4 where the sink failed before a sync could save, and 5
-/// where the files did.
+/// Does what the line asks for. A sync is done behind the replies that wait, and saves the words to the attached file,
+/// unless it is taken to hold them. An error is the status: 4 where the sink failed before a sync was done, and 5 where
+/// the files did as it saved.
 pub(crate) fn act_and_save<R: Region, K: Sink, F: Files>(
     alloc: Global,
     volume: &mut Volume<R>,
@@ -172,8 +192,11 @@ pub(crate) fn act_and_save<R: Region, K: Sink, F: Files>(
         (saved_if is_saved.old (moment volume.old (F.view files.old) (K.taken out.old) (K.faults out.old)))
         (command_of (line_in buffers.old)) (reply_of outcome (answer_in buffers.new))
         (saved_if is_saved.new (moment volume.new (F.view files.new) (K.taken out.new) (K.faults out.new)))) }
-    ensures clears { OnOk result (Clears (waiting_in buffers.old) (waiting_in buffers.new)
-        (K.taken out.old) (K.taken out.new) (F.view files.old) (F.view files.new)) }
+    ensures flag { IfOk result (λ outcome.
+        is_saved.new ≡ is_saved_behind outcome (answer_in buffers.new) is_saved.old) }
+    ensures kept { is_saved.old ≡ true → KeepsFiles (F.view files.old) (F.view files.new) }
+    ensures clears { OnOk result (Clears (command_of (line_in buffers.old)) (waiting_in buffers.old)
+        (waiting_in buffers.new) (K.taken out.old) (K.taken out.new) (F.view files.old) (F.view files.new)) }
     ensures stops { IfErr result (λ status. LineGathers status (command_of (line_in buffers.old))
         (waiting_in buffers.old) (waiting_in buffers.new)
         (saved_if is_saved.old (moment volume.old (F.view files.old) (K.taken out.old) (K.faults out.old)))
@@ -186,18 +209,25 @@ pub(crate) fn act_and_save<R: Region, K: Sink, F: Files>(
     ensures files { OnOk result ((F.view files.new).faults ≡ (F.view files.old).faults) }
     ensures size { length volume.new.base ≡ length volume.old.base }
     ensures capacity { volume.new.capacity ≡ volume.old.capacity }
+    ensures others { KeepsOthers (F.view files.old) (F.view files.new) }
     ensures attached { StaysAttached (F.view files.old) (F.view files.new) }
     ensures line { line_in buffers.new ≡ line_in buffers.old }
 {
-    match act(alloc, volume, buffers) {
+    match act_but_sync(alloc, volume, buffers) {
         Outcome::Synced => match buffers.replies.hand_over(out) {
-            Ok(()) => match save_unless_saved(volume.region(), *is_saved, files) {
-                Ok(()) => {
-                    *is_saved = true;
-                    Ok(Outcome::Synced)
+            Ok(()) => {
+                volume.sync();
+                match save_unless_saved(volume.region(), *is_saved, files) {
+                    Ok(()) => {
+                        *is_saved = true;
+                        Ok(Outcome::Synced)
+                    }
+                    Err(Failed) => {
+                        *is_saved = false;
+                        Err(5)
+                    }
                 }
-                Err(Failed) => Err(5),
-            },
+            }
             Err(Failed) => Err(4),
         },
         outcome => {

@@ -3,7 +3,7 @@
 ghost use Rattle.std.specs.Prelude.{◌≡◌, List, ℕ, OnOk, OnErr, true};
 ghost use Rattle.bp_layout.specs.Words.{Image};
 ghost use Rattle.bp_io.specs.Causes.{HasCause};
-ghost use Rattle.bp_io.specs.Files.{KeepsFiles, StaysAttached};
+ghost use Rattle.bp_io.specs.Files.{KeepsFiles, KeepsOthers, StaysAttached};
 ghost use Rattle.bp_layout.specs.Bytes.{image_bytes};
 ghost use Rattle.bp_session.specs.Files.{HasBlocksOf, Holds, HoldsAs, HoldsBytes, HoldsPartly, IsReady, StaysTold};
 ghost use Rattle.pm_region.specs.Memory.{current_words};
@@ -21,6 +21,7 @@ fn write_blocks<R: Region, F: Files>(region: &R, files: &mut F) -> Result<(), Fa
     ensures partly { OnErr result ((name was : List ℕ) → HoldsBytes (F.view files.old) name was →
         HasBlocksOf ((F.view files.new).contents name) was (image_bytes (current_words (R.memory region.now)))) }
     ensures told { StaysTold (F.view files.old) (F.view files.new) }
+    ensures others { KeepsOthers (F.view files.old) (F.view files.new) }
     ensures attached { StaysAttached (F.view files.old) (F.view files.new) }
     ensures cause { HasCause (F.view files.old).faults (F.view files.new).faults result }
 {
@@ -54,6 +55,7 @@ pub fn save<R: Region, F: Files>(region: &R, files: &mut F) -> Result<(), Failed
         HasBlocksOf ((F.view files.new).contents name) was (image_bytes (current_words (R.memory region.now)))) }
     ensures flushed { OnOk result ((F.view files.new).is_flushed ≡ true) }
     ensures told { StaysTold (F.view files.old) (F.view files.new) }
+    ensures others { KeepsOthers (F.view files.old) (F.view files.new) }
     ensures attached { StaysAttached (F.view files.old) (F.view files.new) }
     ensures cause { HasCause (F.view files.old).faults (F.view files.new).faults result }
 {
@@ -73,7 +75,9 @@ pub fn save_unless_saved<R: Region, F: Files>(
         Holds (F.view files.new) name (current_words (R.memory region.now))) }
     ensures partly { OnErr result ((name : List ℕ) (was : Image) → Holds (F.view files.old) name was →
         HoldsPartly (F.view files.new) name was (current_words (R.memory region.now))) }
+    ensures kept { is_saved ≡ true → KeepsFiles (F.view files.old) (F.view files.new) }
     ensures flushed { OnOk result ((F.view files.new).is_flushed ≡ true) }
+    ensures others { KeepsOthers (F.view files.old) (F.view files.new) }
     ensures attached { StaysAttached (F.view files.old) (F.view files.new) }
     ensures cause { HasCause (F.view files.old).faults (F.view files.new).faults result }
 {

@@ -90,46 +90,26 @@ impl LineBuffers {
 }
 
 /// A line as far as it was read, a piece of the source, and what it takes to answer a line. Serving takes no other
-/// memory, but for listings. It knows whether the attached file is taken to hold the words as they are, so that a sync
-/// writes no block then.
+/// memory, but for listings.
 #[derive(Drop)]
 pub struct Work {
     pub(crate) buffers: LineBuffers,
     pub(crate) piece: Vec<u8>,
-    pub(crate) is_saved: bool,
     ghost whole: { vec_len piece ≡ piece_size },
 }
 
 impl Work {
-    ghost use Rattle.bp_session.specs.Work.{held_line, is_saved_in, line_of};
-    ghost use Rattle.std.specs.Prelude.{false, take, true, option_map};
+    ghost use Rattle.bp_session.specs.Work.{held_line, line_of};
+    ghost use Rattle.std.specs.Prelude.{take, option_map};
 
-    /// Room for lines of 140,000 bytes, with the empty line in it. Nothing is taken of a file. It fails for want of
-    /// memory alone.
+    /// Room for lines of 140,000 bytes, with the empty line in it. It fails for want of memory alone.
     pub fn new(alloc: Global) -> Result<Self, AllocError>
-        ensures line { IfOk result (λ work. held_line work ≡ []) }
-        ensures saved { IfOk result (λ work. is_saved_in work ≡ false) }
+        ensures { IfOk result (λ work. held_line work ≡ []) }
     {
         Ok(Work {
             buffers: LineBuffers::new(alloc)?,
             piece: vec![in alloc; 0; PIECE]?,
-            is_saved: false,
         })
-    }
-
-    /// Takes the attached file to hold the words as they are, as where it was just read.
-    pub fn take_as_saved(&mut self)
-        ensures saved { is_saved_in self.new ≡ true }
-        ensures line { held_line self.new ≡ held_line self.old }
-    {
-        self.is_saved = true;
-    }
-
-    /// Whether the attached file is taken to hold the words as they are.
-    pub fn is_saved(&self) -> bool
-        ensures { result ≡ is_saved_in self.now }
-    {
-        self.is_saved
     }
 
     /// Sets the line. Of one above the limit only that it is too long is kept.

@@ -4,6 +4,7 @@ use Rattle.std.specs.Prelude.{Some, None, ◌⊎◌}
 use Rattle.std.proofs.Math.Seq.{take-add, take-length}
 use Rattle.std.proofs.lemmas.List.{append_assoc}
 use Rattle.bp_io.specs.Files.{Known, Stays, TellsFile, Answers, Reads, View, block_bytes, blocks_of}
+use Rattle.bp_session.proofs.OthersLaws.{stays_same, stays_stays}
 use Rattle.bp_session.proofs.SavingLaws.{stays_attached, still_attached}
 use Rattle.bp_layout.specs.Bytes.{image_bytes}
 use Rattle.bp_free.specs.Set.{Set, has, members}
@@ -39,21 +40,9 @@ tells_next (Some None) read next run first count before here e = tt
 tells_next (Some (Some bytes)) read next run first count before here e =
     e ∙ ap (λ l. l ++ run) before ∙ ap (λ l. take (4096 * first) bytes ++ l) here ∙ sym (blocks_next bytes first count)
 
-pub stays_stays : (a b c : Known) → Stays a b → Stays b c → Stays a c
-stays_stays None b c first second = stays_none b c first second
-  where
-    stays_none : (b c : Known) → b ≡ None → Stays b c → c ≡ None
-    stays_none None c e stays = stays
-    stays_none (Some b) c e stays = absurd (let no_way : ◌≡◌ {A = Known} (Some b) None = e in cc)
-stays_stays (Some a) b c first second = rw first at second
-
-stays_equal : (was now : Known) → Stays was now → now ≡ was
+pub stays_equal : (was now : Known) → Stays was now → now ≡ was
 stays_equal None now stays = stays
 stays_equal (Some was) now stays = stays
-
-pub stays_same : (known : Known) → Stays known known
-stays_same None = refl
-stays_same (Some known) = refl
 
 pub reads_none : (a : View) → Reads a a
 reads_none a = record { files = λ name. stays_same (a.contents name); attached = still_attached a; flushed = refl }

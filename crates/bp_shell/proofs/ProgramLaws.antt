@@ -7,12 +7,13 @@ use Rattle.bp_io.specs.Causes.{Rose}
 use Rattle.bp_io.specs.Files.{View}
 use Rattle.bp_layout.specs.Words.{Image}
 use Rattle.bp_layout.specs.Bytes.{image_bytes}
-use Rattle.bp_session.specs.Files.{HasBlocksOf, HasBytes, Holds, HoldsAs, HoldsPartly}
+use Rattle.bp_session.specs.Files.{HasBlocksOf, HasBytes, Holds, HoldsAs}
 use Rattle.bp_shell.specs.Formatting.{HasPartly, new_image}
 use Rattle.bp_shell.specs.Opening.{HoldsFileSystem, start}
 use Rattle.bp_session.specs.Outside.{IsIdle, IsUntouched, Outside, counts, outside}
 use Rattle.bp_shell.specs.Running.{FormatOutcome, RunOutcome, Runs, RunsBroken, RunsLong, RunsPart, RunsStopped, RunsUnsaved, format_text}
-use Rattle.bp_session.specs.Serving.{HoldsAt, Input, Moment, ServeOutcome}
+use Rattle.bp_session.specs.Pieces.{gathered_size}
+use Rattle.bp_session.specs.Serving.{Carries, CarriesPartly, HoldsAt, Input, Moment, ServeOutcome}
 use Rattle.bp_session.proofs.OutcomeLaws.{files_fault, first_then, no_fault, sink_fault}
 use Rattle.bp_shell.specs.Ending.{StopOutcome, TellsStop}
 use Rattle.bp_shell.specs.Statuses.{code_of}
@@ -90,27 +91,28 @@ pub read_now : (now : Moment) (name : List ℕ) (image : Image) → now.memory �
 read_now now name image same file = record { file = file; current = λ _. rw same file }
 
 -- a save behind a sync leaves the words from before it
-pub saved_drained : (is_saved flag : Bool) (files now : View) (name : List ℕ) (memory end : Memory) (was : Image) → (HoldsAs flag files (current_words end) name was → Holds now name (current_words end))
-    → end ≡ drained memory → flag ≡ is_saved → HoldsAs is_saved files (current_words memory) name was → HasBytes (now.contents name) (image_bytes (current_words memory))
-saved_drained is_saved flag files now name memory end was saves done same held =
-    let file = saves (rw (same, done) held) in
+pub saved_drained : (is_saved : Bool) (files now : View) (name : List ℕ) (memory end : Memory) (was : Image) → (HoldsAs is_saved files (current_words end) name was → Holds now name (current_words end))
+    → end ≡ drained memory → HoldsAs is_saved files (current_words memory) name was → HasBytes (now.contents name) (image_bytes (current_words memory))
+saved_drained is_saved files now name memory end was saves done held =
+    let file = saves (rw done held) in
     let words : HasBytes (now.contents name) (image_bytes (current_words (drained memory))) = rw done at file.bytes in
     words
 
 -- from the moment at which FILE is mounted
 module _ (i j : Input) (files : View) (a b : Moment) (name : List ℕ) (image : Image) (found : HoldsFileSystem (files.contents name) image) (same : a.memory ≡ (start image).memory) (holds : HoldsAt a name image)
     (flushed : a.files.is_flushed ≡ files.is_flushed) (calm : a.files.faults ≡ files.faults) where
-  pub run_served : (status : ℕ) → ¬ (status ≡ 0) → ServeOutcome status i j a b → RunOutcome status (outside i.left i.faults a.taken a.faults files name) (outside j.left j.faults b.taken b.faults b.files name)
+  pub run_served : (status : ℕ) → ¬ (status ≡ 0) → ServeOutcome status gathered_size i j a b → RunOutcome status (outside i.left i.faults a.taken a.faults files name) (outside j.left j.faults b.taken b.faults b.files name)
   run_served status other served =
       let before = outside i.left i.faults a.taken a.faults files name in
       let after = outside j.left j.faults b.taken b.faults b.files name in
+      let saves = λ (k : Image) (carried : Carries a b image k). (carried name holds).file.bytes in
       run_outcome status before after (λ e. absurd (other e))
-      (λ e. let part = served.part e in let one = part.3 name image holds in runs_part before after image a.memory b.memory found same part.0 part.1 (HoldsAt b name) (λ k held. held.file.bytes) part.2 one)
-      (λ e. let broken = served.broken e in runs_broken before after image a.memory b.memory found same broken.0 (Holds b.files name) (λ k file. file.bytes) broken.1
-      (elim broken.2 [ inl all ↦ inl (λ rest. all rest name image holds) | inr last ↦ inr (last.0, last.1 name image holds) ]))
-      (λ e. let stop = served.stopped e in inr (inl (runs_stopped before after image a.memory b.memory found same stop.0 (HoldsPartly b.files name) (λ k l file. file.bytes) stop.1
-      (elim stop.2 [ inl all ↦ inl (λ rest. all rest name image holds) | inr last ↦ inr (last.0, last.1 name image holds) ]))))
-      (λ e. let long = served.long e in runs_long before after image a.memory b.memory found same long.0 long.1 long.2 (HoldsAt b name) (λ k held. held.file.bytes) long.3 long.4 long.5 long.6 (long.7 name image holds))
+      (λ e. let part = served.part e in runs_part before after image a.memory b.memory found same part.0 part.1 (Carries a b image) saves part.2 (part.3 image))
+      (λ e. let broken = served.broken e in runs_broken before after image a.memory b.memory found same broken.0 (Carries a b image) saves broken.1
+      (elim broken.2 [ inl all ↦ inl (λ rest. all rest image) | inr last ↦ inr (last.0, last.1 image) ]))
+      (λ e. let stop = served.stopped e in inr (inl (runs_stopped before after image a.memory b.memory found same stop.0 (CarriesPartly a b image) (λ k l carried. (carried name holds).bytes) stop.1
+      (elim stop.2 [ inl all ↦ inl (λ rest. (all rest).stops image) | inr last ↦ inr (last.0, last.1.stops image) ]))))
+      (λ e. let long = served.long e in runs_long before after image a.memory b.memory found same long.0 long.1 long.2 (Carries a b image) saves long.3 long.4 long.5 long.6 (long.7 image))
       (record {
         missing = λ e. absurd (never 1 (λ z. omega (arith, z)) (λ z. omega (arith, z)) (λ z. omega (arith, z)) (λ z. omega (arith, z)) (λ z. omega (arith, z)) e served.one_of);
         refused = λ e. absurd (never 7 (λ z. omega (arith, z)) (λ z. omega (arith, z)) (λ z. omega (arith, z)) (λ z. omega (arith, z)) (λ z. omega (arith, z)) e served.one_of);
@@ -134,14 +136,14 @@ module _ (i j : Input) (files : View) (a b : Moment) (name : List ℕ) (image : 
       never n zero three four five six z (inr (inr (inr (inr e)))) = six (sym z ∙ e)
 
   -- the sync at the end saved, or couldn't
-  module _ (now : View) (served : ServeOutcome 0 i j a b) where
+  module _ (now : View) (served : ServeOutcome 0 gathered_size i j a b) where
     pub run_whole : HasBytes (now.contents name) (image_bytes (current_words b.memory)) → now.is_flushed ≡ true → now.faults ≡ b.files.faults
         → RunOutcome 0 (outside i.left i.faults a.taken a.faults files name) (outside j.left j.faults b.taken b.faults now name)
     run_whole saved done quiet =
         let before = outside i.left i.faults a.taken a.faults files name in
         let after = outside j.left j.faults b.taken b.faults now name in
         let all = served.whole refl in
-        run_outcome 0 before after (λ _. runs_whole before after image a.memory b.memory found same all.0 (HoldsAt b name) all.1 all.2 all.3 (all.4 name image holds) saved done)
+        run_outcome 0 before after (λ _. runs_whole before after image a.memory b.memory found same all.0 (Carries a b image) all.1 all.2 all.3 (all.4 image) saved done)
         (λ e. absurd (omega (arith, e))) (λ e. absurd (omega (arith, e))) (λ e. absurd (omega (arith, e))) (λ e. absurd (omega (arith, e)))
         (no_stop before after 0 (λ e. omega (arith, e)) (λ e. omega (arith, e)) (λ e. omega (arith, e))
         (no_fault 0 _ _ (λ e. omega (arith, e)) (λ e. omega (arith, e)) (λ e. omega (arith, e)) (served.first.no_source (λ e. omega (arith, e))) (served.first.no_sink (inl refl))
@@ -155,9 +157,9 @@ module _ (i j : Input) (files : View) (a b : Moment) (name : List ℕ) (image : 
         let before = outside i.left i.faults a.taken a.faults files name in
         let after = outside j.left j.faults b.taken b.faults now name in
         let all = served.whole refl in
-        let told = all.4 name image holds in
+        let told = all.4 image in
         run_outcome 5 before after (λ e. absurd (omega (arith, e))) (λ e. absurd (omega (arith, e))) (λ e. absurd (omega (arith, e)))
-        (λ _. inr (inr (runs_unsaved before after image a.memory memory found same all.0 b.memory (HoldsAt b name) all.1 all.2 all.3 told done (partly told.after told.file.file))))
+        (λ _. inr (inr (runs_unsaved before after image a.memory memory found same all.0 b.memory (Carries a b image) all.1 all.2 all.3 told done (partly told.after (told.file name holds).file))))
         (λ e. absurd (omega (arith, e)))
         (no_stop before after 5 (λ e. omega (arith, e)) (λ e. omega (arith, e)) (λ e. omega (arith, e))
         (first_then 5 (counts i.faults a.faults files) (counts j.faults b.faults b.files) (counts j.faults b.faults now) (served.first.no_source (λ e. omega (arith, e))) (served.first.no_sink (inl refl))

@@ -1,6 +1,6 @@
 -- What a run leaves outside.
 use Rattle.std.proofs.Common.{refl, sym, ◌∙◌, ap, arith, ◌≡◌, ℕ, ◌*◌, ◌/◌, ◌≤◌, List, [], ◌∷◌, ◌++◌, length, inl, inr, true}
-use Rattle.std.specs.Prelude.{Option, Some, ◌⊎◌}
+use Rattle.std.specs.Prelude.{Some, ◌⊎◌}
 use Rattle.std.specs.Io.KnownBytes.{Consumes, IsAtEnd}
 use Rattle.pm_region.specs.Memory.{Memory, current_words, drained}
 use Rattle.bp_layout.specs.Words.{Image}
@@ -15,6 +15,7 @@ use Rattle.bp_scan.specs.Length.{wanted_length}
 use Rattle.bp_session.specs.Acting.{state}
 use Rattle.bp_session.specs.Files.{AreWordsOf64Bits, IsAbsent}
 use Rattle.bp_session.specs.Lines.{commands_from}
+use Rattle.bp_session.specs.Pieces.{gathered_size}
 use Rattle.bp_shell.specs.Opening.{HoldsFileSystem, RefusesFile, start}
 use Rattle.bp_shell.specs.Opening.RefusesFile.{by_length, not_formatted, by_count, damaged}
 use Rattle.bp_session.specs.PlainSession.{FollowsTree}
@@ -25,44 +26,7 @@ use Rattle.bp_session.specs.Serving.{BreaksOff, OfLines, Serves, ServesAll, Stop
 use Rattle.bp_session.specs.Session.{Session, State}
 use Rattle.bp_session.proofs.BlockLaws.{image_once, length-image_bytes}
 use Rattle.bp_session.proofs.PlainLaws.{follows_tree}
-use Rattle.bp_session.proofs.ServingLaws.{not_long, session_append}
-
--- ---- what is held of a file, told of it
-
-pub serves_told : (old : State) (memory : Memory) (holds saves : Image → Type 0) (held input keeps : List ℕ) (t u : Option (List ℕ)) → ((image : Image) → holds image → saves image)
-    → Serves old memory holds held input keeps t u → Serves old memory saves held input keeps t u
-serves_told old memory holds saves held input keeps t u f s = record { commands = s.commands; lines = s.lines; after = s.after; file = f s.after s.file; told = s.told }
-
-pub breaks_told : (old : State) (memory : Memory) (holds saves : Image → Type 0) (commands : List Command) (t u : Option (List ℕ)) → ((image : Image) → holds image → saves image)
-    → BreaksOff old memory holds commands t u → BreaksOff old memory saves commands t u
-breaks_told old memory holds saves commands t u f s = record {
-  front = s.front;
-  last = s.last;
-  more = s.more;
-  are = s.are;
-  middle = s.middle;
-  replies = s.replies;
-  session = s.session;
-  reply = s.reply;
-  after = s.after;
-  line = s.line;
-  file = f s.after s.file;
-  count = s.count;
-  proper = s.proper;
-  taken = s.taken;
-}
-
-pub stops_told : (old : State) (memory : Memory) (holds saves : Image → Image → Type 0) (commands : List Command) (t u : Option (List ℕ)) → ((first second : Image) → holds first second → saves first second)
-    → StopsAtSave old memory holds commands t u → StopsAtSave old memory saves commands t u
-stops_told old memory holds saves commands t u f s = record {
-  front = s.front;
-  last = s.last;
-  more = s.more;
-  are = s.are;
-  middle = s.middle;
-  told = s.told;
-  fails = record { is = s.fails.is; drained = s.fails.drained; file = f _ _ s.fails.file };
-}
+use Rattle.bp_session.proofs.ServingLaws.{breaks_as, not_long, serves_as, session_append, stops_as}
 
 -- ---- the end of a run, by its status
 
@@ -91,13 +55,13 @@ module _ (before after : Outside) (image : Image) (memory new : Memory) (found :
   pub runs_part : (input keeps : List ℕ) (holds : Image → Type 0) → ((i : Image) → holds i → Saves after i) → Consumes before.left after.left input
       → Serves (state memory image) new holds [] input keeps before.taken after.taken → RunsPart before after
   runs_part input keeps holds f read serves =
-      let told : Serves (start image) new (Saves after) [] input keeps before.taken after.taken = serves_told (start image) new holds (Saves after) [] input keeps before.taken after.taken f (rw same at serves) in
+      let told : Serves (start image) new (Saves after) [] input keeps before.taken after.taken = serves_as (start image) new before.taken after.taken holds (Saves after) f [] input keeps (rw same at serves) in
       record { begins = begins input read; keeps = keeps; memory = new; serves = told; plainly = plainly _ _ _ told.told.session }
 
   pub runs_long : (input more keeps : List ℕ) (holds : Image → Type 0) → ((i : Image) → holds i → Saves after i) → Consumes before.left after.left (input ++ more) → length input ≡ 1073741824 → 1 ≤ length more → length more ≤ 65536
       → Serves (state memory image) new holds [] input keeps before.taken after.taken → RunsLong before after
   runs_long input more keeps holds f read most some few serves =
-      let told : Serves (start image) new (Saves after) [] input keeps before.taken after.taken = serves_told (start image) new holds (Saves after) [] input keeps before.taken after.taken f (rw same at serves) in
+      let told : Serves (start image) new (Saves after) [] input keeps before.taken after.taken = serves_as (start image) new before.taken after.taken holds (Saves after) f [] input keeps (rw same at serves) in
       record {
         begins = begins (input ++ more) read;
         served = input;
@@ -112,17 +76,19 @@ module _ (before after : Outside) (image : Image) (memory new : Memory) (found :
         plainly = plainly _ _ _ told.told.session;
       }
 
-  breaks_plainly : (holds : Image → Type 0) → ((i : Image) → holds i → Saves after i) → (commands : List Command) → BreaksOff (state memory image) new holds commands before.taken after.taken
+  breaks_plainly : (holds : Image → Type 0) → ((i : Image) → holds i → Saves after i) → (commands : List Command) → BreaksOff gathered_size (state memory image) new holds commands before.taken after.taken
       → BreaksOffPlainly image (tree_of image found.well_formed) new before after commands
   breaks_plainly holds f commands breaks =
-      let told : BreaksOff (start image) new (Saves after) commands before.taken after.taken = breaks_told (start image) new holds (Saves after) commands before.taken after.taken f (rw same at breaks) in
+      let told : BreaksOff gathered_size (start image) new (Saves after) commands before.taken after.taken =
+      breaks_as (start image) new before.taken after.taken holds (Saves after) f gathered_size gathered_size commands (λ e. e) (rw same at breaks) in
       record {
         breaks = told;
-        plainly = plainly _ _ _ (session_append (start image) told.middle (state new told.after) told.front (told.last ∷ []) told.replies (told.reply ∷ []) told.session (state new told.after, told.line, refl));
+        plainly = plainly _ _ _
+            (session_append (start image) told.middle (state new told.after) told.front (told.last ∷ told.ahead) told.replies (told.reply ∷ told.unheard) told.session (told.reached, told.line, told.later));
       }
 
   pub runs_broken : (input : List ℕ) (holds : Image → Type 0) → ((i : Image) → holds i → Saves after i) → Consumes before.left after.left input
-      → OfLines after.left input (λ commands. BreaksOff (state memory image) new holds commands before.taken after.taken) → RunsBroken before after
+      → OfLines after.left input (λ commands. BreaksOff gathered_size (state memory image) new holds commands before.taken after.taken) → RunsBroken before after
   runs_broken input holds f read breaks = record {
     begins = begins input read;
     memory = new;
@@ -135,7 +101,7 @@ module _ (before after : Outside) (image : Image) (memory new : Memory) (found :
   stops_plainly : (partly : Image → Image → Type 0) → ((i j : Image) → partly i j → SavesPartly after i j) → (commands : List Command) → StopsAtSave (state memory image) new partly commands before.taken after.taken
       → StopsPlainly image (tree_of image found.well_formed) new before after commands
   stops_plainly partly f commands stops =
-      let told : StopsAtSave (start image) new (SavesPartly after) commands before.taken after.taken = stops_told (start image) new partly (SavesPartly after) commands before.taken after.taken f (rw same at stops) in
+      let told : StopsAtSave (start image) new (SavesPartly after) commands before.taken after.taken = stops_as (start image) new before.taken after.taken partly (SavesPartly after) f commands (rw same at stops) in
       record { stops = told; plainly = plainly _ _ _ told.told.session }
 
   pub runs_stopped : (input : List ℕ) (partly : Image → Image → Type 0) → ((i j : Image) → partly i j → SavesPartly after i j) → Consumes before.left after.left input

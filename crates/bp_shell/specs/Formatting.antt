@@ -1,7 +1,7 @@
 -- What a format makes of a file.
-use Rattle.std.specs.Prelude.{◌≡◌, ◌⊎◌, ℕ, ◌*◌, ◌<◌, List, [], length, replicate, Option, None, Some}
+use Rattle.std.specs.Prelude.{◌≡◌, ◌⊎◌, ℕ, ◌*◌, ◌<◌, List, [], length, replicate, Option, None, Some, true, false}
 use Rattle.bp_limits.specs.Limits.{block_size, block_words}
-use Rattle.bp_io.specs.Files.{Known, block_bytes, resized_file}
+use Rattle.bp_io.specs.Files.{Known, Stays, StaysAttached, View, block_bytes, resized_file}
 use Rattle.bp_layout.specs.Words.{Image}
 use Rattle.bp_layout.specs.Format.{formatted}
 
@@ -29,3 +29,17 @@ HasPartly None wanted now = now ≡ None
 HasPartly (Some was) wanted None = ⊥
 HasPartly (Some was) wanted (Some None) = was ≡ None
 HasPartly (Some was) wanted (Some (Some found)) = IsPartlyFormatted (bytes_there was) wanted found
+
+-- ---- the other files
+
+-- what is told of a name stays, but that one without a file may be given an empty one
+abbrev pub StaysOrIsGiven : Known → Known → Type 0
+StaysOrIsGiven old new = Stays old new ⊎ ((old ≡ Some None) × (new ≡ Some (Some [])))
+
+-- What a format leaves of the files: FILE is attached, and no other one changes; or what was attached before still is,
+-- and none changes. With FILE, another name that had no file may have one.
+abbrev pub OnlyMakes : List ℕ → View → View → Type 0
+OnlyMakes name old new =
+    (new.is_attached name ≡ true) × ((other : List ℕ) → new.is_attached other ≡ false
+    → StaysOrIsGiven (old.contents other) (new.contents other))
+    ⊎ StaysAttached old new × ((other : List ℕ) → StaysOrIsGiven (old.contents other) (new.contents other))

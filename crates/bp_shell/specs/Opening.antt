@@ -1,6 +1,8 @@
 -- Which files are file systems, and why others are refused.
-use Rattle.std.specs.Prelude.{◌≡◌, ◌≢◌, ◌≤◌, ℕ, ◌-◌, ◌*◌, ◌^◌, List, length, min, [], true}
-use Rattle.bp_io.specs.Files.{Known, View}
+use Rattle.std.specs.Prelude.{◌≡◌, ◌≢◌, ◌⊎◌, ◌≤◌, ℕ, ◌-◌, ◌*◌, ◌^◌, List, length, min, [], true}
+use Rattle.bp_io.specs.Files.{KeepsFiles, Known, StaysAttached, View, may_change}
+use Rattle.bp_io.specs.declared.access.Access.{Access}
+use Rattle.bp_io.specs.declared.access.Access.TheVariants.{Read}
 use Rattle.bp_layout.specs.Formatted.{IsSized}
 use Rattle.bp_layout.specs.Words.{Image, word, block_count}
 use Rattle.bp_limits.specs.Limits.{block_size, block_words, log_events, magic, max_blocks, min_blocks, super_blocks, super_magic}
@@ -31,6 +33,16 @@ pub record FindsImage (was : Known) (name : List ℕ) (count : ℕ) (files : Vie
   pub has : HasLength was (block_size * count)
   pub at_least : min_blocks ≤ count
   pub at_most : count ≤ max_blocks
+
+-- FILE is attached and may be written as was asked, or what was attached before still is.
+abbrev pub AttachesAs : Access → List ℕ → View → View → Type 0
+AttachesAs access name old new =
+    (new.is_attached name ≡ true) × (new.may_write ≡ may_change access) ⊎ StaysAttached old new
+
+-- What a program leaves that reads FILE alone: no file changes, and FILE may not be written.
+pub record OnlyReads (name : List ℕ) (old new : View) : Type 0 where
+  pub kept : KeepsFiles old new
+  pub attached : AttachesAs Read name old new
 
 -- The words of the first blocks of the attached file are there, and there is room for those of the others.
 pub record HasLoaded (files : View) (count : ℕ) (part : Part) : Type 0 where

@@ -1,7 +1,8 @@
 -- What a program answers, and when.
-use Rattle.std.specs.Prelude.{Some, true, ◌≡◌, ◌⊎◌, ◌≤◌, ℕ, ◌-◌, List, [], ◌∷◌, ◌++◌, length}
+use Rattle.std.specs.Prelude.{Some, true, false, ◌≡◌, ◌⊎◌, ◌≤◌, ℕ, ◌-◌, List, [], ◌∷◌, ◌++◌, length}
 use Rattle.std.specs.Io.KnownBytes.{Appends, Consumes, IsAtEnd}
 use Rattle.pm_region.specs.Memory.{Memory, current_words}
+use Rattle.bp_io.specs.Files.{KeepsFiles, Stays, StaysAttached, View}
 use Rattle.bp_limits.specs.Limits.{max_input}
 use Rattle.bp_layout.specs.Words.{Image}
 use Rattle.bp_layout.specs.Bytes.{image_bytes}
@@ -20,13 +21,13 @@ use Rattle.bp_session.specs.Files.{AreWordsOf64Bits, HasBytes, HasBlocksOf}
 use Rattle.bp_session.specs.Serving.{BreaksOff, SyncFails, OfLines, Serves, StopsAtSave, Told}
 use Rattle.bp_session.specs.PlainSession.{FollowsTree}
 use Rattle.bp_session.specs.Session.{State}
-use Rattle.bp_shell.specs.Opening.{HoldsFileSystem, start}
-use Rattle.bp_shell.specs.Formatting.{new_image, HasPartly}
+use Rattle.bp_shell.specs.Opening.{HoldsFileSystem, OnlyReads, start}
+use Rattle.bp_shell.specs.Formatting.{new_image, HasPartly, OnlyMakes}
 use Rattle.bp_session.specs.Outside.{Outside, SourceFailed, SinkFailed, FilesFailed, IsFirstFault, IsIdle}
 use Rattle.bp_shell.specs.Checking.{CheckOutcome}
 use Rattle.bp_shell.specs.Ending.{StopOutcome}
 use Rattle.bp_shell.specs.Playing.{PlayOutcome}
-use Rattle.bp_session.specs.Pieces.{piece_size}
+use Rattle.bp_session.specs.Pieces.{gathered_size, piece_size}
 use Rattle.bp_session.specs.Taking.{TakesPart}
 
 -- ---- `run FILE`
@@ -82,12 +83,12 @@ pub record RunsLong (before after : Outside) : Type 0 where
   pub plainly : FollowsTree begins.tree (start begins.image) serves.commands serves.told.replies
       (state memory serves.after)
 
--- The reply to one of these commands broke off, and FILE is as at the last sync.
+-- The reply to one of these commands broke off, and FILE is as at the last sync up to it: none was done behind it.
 pub record BreaksOffPlainly (image : Image) (tree : FileTree) (memory : Memory) (before after : Outside)
     (commands : List Command) : Type 0 where
-  pub breaks : BreaksOff (start image) memory (Saves after) commands before.taken after.taken
-  pub plainly : FollowsTree tree (start image) (breaks.front ++ breaks.last ∷ [])
-      (breaks.replies ++ breaks.reply ∷ []) (state memory breaks.after)
+  pub breaks : BreaksOff gathered_size (start image) memory (Saves after) commands before.taken after.taken
+  pub plainly : FollowsTree tree (start image) (breaks.front ++ breaks.last ∷ breaks.ahead)
+      (breaks.replies ++ breaks.reply ∷ breaks.unheard) (state memory breaks.after)
 
 -- A reply was not taken whole. Its line was read whole, or ended the input.
 pub record RunsBroken (before after : Outside) : Type 0 where
@@ -140,6 +141,16 @@ pub record RunOutcome (status : ℕ) (before after : Outside) : Type 0 where
   pub one_of : (status ≡ 0) ⊎ (status ≡ 1) ⊎ (status ≡ 3) ⊎ (status ≡ 4) ⊎ (status ≡ 5) ⊎ (status ≡ 6) ⊎ (status ≡ 7)
       ⊎ (status ≡ 8)
 
+-- FILE is attached and may be written, and no other file changes.
+pub record ChangesAlone (name : List ℕ) (old new : View) : Type 0 where
+  pub attached : new.is_attached name ≡ true
+  pub may_write : new.may_write ≡ true
+  pub others : (other : List ℕ) → new.is_attached other ≡ false → Stays (old.contents other) (new.contents other)
+
+-- What a run leaves of the files: FILE alone may change; or what was attached before still is, and no file changes.
+abbrev pub OnlyWrites : List ℕ → View → View → Type 0
+OnlyWrites name old new = ChangesAlone name old new ⊎ StaysAttached old new × KeepsFiles old new
+
 -- ---- `format FILE --blocks N`
 
 -- the line that tells of a new file system
@@ -173,6 +184,13 @@ ProgramOutcome (formats name blocks) status before after = FormatOutcome status 
 ProgramOutcome (runs name) status before after = RunOutcome status before after
 ProgramOutcome (checks name) status before after = CheckOutcome status before after
 ProgramOutcome (plays name seed count) status before after = PlayOutcome status seed count before after
+
+-- What a program leaves of the files, FILE and others, by what is told of them before and after.
+abbrev pub LeavesFiles : Program → View → View → Type 0
+LeavesFiles (formats name blocks) old new = OnlyMakes name old new
+LeavesFiles (runs name) old new = OnlyWrites name old new
+LeavesFiles (checks name) old new = OnlyReads name old new
+LeavesFiles (plays name seed count) old new = OnlyReads name old new
 
 -- The words ask for a program, and this is its outcome. What is known of a file is told for each name.
 pub record RunsProgram (words : List (List ℕ)) (status : ℕ) (before after : List ℕ → Outside) : Type 0 where

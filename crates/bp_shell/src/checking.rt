@@ -8,7 +8,7 @@ ghost use Rattle.bp_limits.specs.Limits.{block_inodes};
 ghost use Rattle.bp_script.specs.declared.notices.Notice.{Notice};
 ghost use Rattle.bp_shell.specs.Checking.{CheckOutcome, Checks, IsClean};
 ghost use Rattle.bp_session.specs.Files.{HasImage};
-ghost use Rattle.bp_shell.specs.Opening.{RefusesFile};
+ghost use Rattle.bp_shell.specs.Opening.{OnlyReads, RefusesFile};
 ghost use Rattle.bp_session.specs.Outside.{outside};
 ghost use Rattle.bp_shell.specs.Statuses.{code_of};
 ghost use Rattle.bp_shell.specs.Stops.{HasStopCause, IsReason};
@@ -79,7 +79,7 @@ fn examine<F: Files>(alloc: Global, name: &str, files: &mut F) -> Result<Notice,
     ensures checks { IfOk result (Checks ((F.view files.old).contents name.now)) }
     ensures reason { IfErr result (IsReason ((F.view files.old).contents name.now)) }
     ensures cause { HasStopCause (F.view files.old).faults (F.view files.new).faults result }
-    ensures file { (F.view files.new).contents name.now ≡ (F.view files.old).contents name.now }
+    ensures reads { OnlyReads name.now (F.view files.old) (F.view files.new) }
     ensures flushed { (F.view files.new).is_flushed ≡ (F.view files.old).is_flushed }
 {
     let region = load_file(alloc, name, Access::Read, files)?;
@@ -95,9 +95,10 @@ pub(crate) fn check_file<K: Sink, F: Files>(
     files: &mut F,
 ) -> Status
     // Whatever a source has left.
-    ensures { (left : Option (List ℕ)) (reads : ℕ) → CheckOutcome (code_of result)
+    ensures outcome { (left : Option (List ℕ)) (reads : ℕ) → CheckOutcome (code_of result)
         (outside left reads (K.taken out.old) (K.faults out.old) (F.view files.old) name.now)
         (outside left reads (K.taken out.new) (K.faults out.new) (F.view files.new) name.now) }
+    ensures reads { OnlyReads name.now (F.view files.old) (F.view files.new) }
 {
     let notice = match examine(alloc, name, files) {
         Ok(notice) => notice,

@@ -4,7 +4,7 @@ ghost use Rattle.bp_io.specs.Causes.{HasCause};
 ghost use Rattle.bp_layout.specs.Bytes.{image_bytes};
 ghost use Rattle.bp_limits.specs.Limits.{block_words, call_room};
 ghost use Rattle.bp_session.specs.Files.{HasBytes};
-ghost use Rattle.bp_shell.specs.Formatting.{HasPartly, new_image};
+ghost use Rattle.bp_shell.specs.Formatting.{HasPartly, OnlyMakes, new_image};
 ghost use Rattle.bp_session.specs.Outside.{outside};
 ghost use Rattle.bp_shell.specs.Running.{FormatOutcome};
 ghost use Rattle.bp_shell.specs.Statuses.{code_of};
@@ -69,6 +69,7 @@ fn write_image<R: Region, F: Files>(
     ensures flushed { OnOk result ((F.view files.new).is_flushed ≡ true) }
     ensures partly { OnErr result (HasPartly ((F.view files.old).contents name.now)
         (image_bytes (current_words (R.memory region.now))) ((F.view files.new).contents name.now)) }
+    ensures makes { OnlyMakes name.now (F.view files.old) (F.view files.new) }
     ensures cause { HasCause (F.view files.old).faults (F.view files.new).faults result }
 {
     match files.attach(name, Access::Make)? {
@@ -92,9 +93,10 @@ pub(crate) fn format_file<K: Sink, F: Files>(
     requires least { MIN_BLOCKS ≤ blocks }
     requires most { blocks ≤ MAX_BLOCKS }
     // Whatever a source has left.
-    ensures { (left : Option (List ℕ)) (reads : ℕ) → FormatOutcome (code_of result) blocks
+    ensures outcome { (left : Option (List ℕ)) (reads : ℕ) → FormatOutcome (code_of result) blocks
         (outside left reads (K.taken out.old) (K.faults out.old) (F.view files.old) name.now)
         (outside left reads (K.taken out.new) (K.faults out.new) (F.view files.new) name.now) }
+    ensures makes { OnlyMakes name.now (F.view files.old) (F.view files.new) }
 {
     let volume = match new_volume(alloc, blocks) {
         Some(volume) => volume,

@@ -1,7 +1,7 @@
 //! The file of a program.
 
 ghost use Rattle.std.specs.Prelude.{◌≡◌, ◌<◌, ◌≤◌, ◌+◌, ◌*◌, ◌++◌, [], ◌⊎◌, IfErr, IfOk, OnOk, false, length};
-ghost use Rattle.bp_io.specs.Files.{Known, Reads, block_bytes, makes, may_change};
+ghost use Rattle.bp_io.specs.Files.{KeepsFiles, Known, Reads, block_bytes, makes, may_change};
 ghost use Rattle.bp_layout.specs.Formatted.{IsSized};
 ghost use Rattle.bp_layout.specs.Bytes.{image_bytes};
 ghost use Rattle.bp_layout.specs.WellFormed.{IsWellFormed};
@@ -9,7 +9,7 @@ ghost use Rattle.bp_layout.specs.Words.{Image};
 ghost use Rattle.bp_limits.specs.Limits.{block_size, block_words, log_events};
 ghost use Rattle.bp_script.specs.declared.notices.Notice.{Notice};
 ghost use Rattle.bp_session.specs.Files.{AreWordsOf64Bits, HasImage, Holds, HoldsFirstBlocks, IsReady};
-ghost use Rattle.bp_shell.specs.Opening.{FindsImage, HasLoaded, HasSized, HoldsFileSystem, RefusesFile, start};
+ghost use Rattle.bp_shell.specs.Opening.{AttachesAs, FindsImage, HasLoaded, HasSized, HoldsFileSystem, OnlyReads, RefusesFile, start};
 ghost use Rattle.bp_shell.specs.Stops.{HasStopCause, IsReason, stop_by};
 ghost use Rattle.bp_shell.specs.declared.stop.Stop.TheVariants.{Memory, Outside, Refused};
 
@@ -139,7 +139,8 @@ fn find_image<F: Files>(name: &str, access: Access, files: &mut F) -> Result<u32
     ensures may_write { OnOk result ((F.view files.new).may_write ≡ may_change access) }
     ensures reason { IfErr result (IsReason ((F.view files.old).contents name.now)) }
     ensures cause { HasStopCause (F.view files.old).faults (F.view files.new).faults result }
-    ensures file { (F.view files.new).contents name.now ≡ (F.view files.old).contents name.now }
+    ensures kept { KeepsFiles (F.view files.old) (F.view files.new) }
+    ensures attached { AttachesAs access name.now (F.view files.old) (F.view files.new) }
     ensures flushed { (F.view files.new).is_flushed ≡ (F.view files.old).is_flushed }
 {
     let len = match files.attach(name, access) {
@@ -167,7 +168,8 @@ pub(crate) fn load_file<F: Files>(
     ensures may_write { OnOk result ((F.view files.new).may_write ≡ may_change access) }
     ensures reason { IfErr result (IsReason ((F.view files.old).contents name.now)) }
     ensures cause { HasStopCause (F.view files.old).faults (F.view files.new).faults result }
-    ensures file { (F.view files.new).contents name.now ≡ (F.view files.old).contents name.now }
+    ensures kept { KeepsFiles (F.view files.old) (F.view files.new) }
+    ensures attached { AttachesAs access name.now (F.view files.old) (F.view files.new) }
     ensures flushed { (F.view files.new).is_flushed ≡ (F.view files.old).is_flushed }
 {
     let count = find_image(name, access, files)?;
@@ -214,7 +216,8 @@ pub fn open<F: Files>(alloc: Global, name: &str, files: &mut F) -> Result<Volume
     ensures capacity { IfOk result (λ volume. volume.capacity ≡ log_events) }
     ensures reason { IfErr result (IsReason ((F.view files.old).contents name.now)) }
     ensures cause { HasStopCause (F.view files.old).faults (F.view files.new).faults result }
-    ensures file { (F.view files.new).contents name.now ≡ (F.view files.old).contents name.now }
+    ensures kept { KeepsFiles (F.view files.old) (F.view files.new) }
+    ensures attached { AttachesAs Access.Write name.now (F.view files.old) (F.view files.new) }
     ensures flushed { (F.view files.new).is_flushed ≡ (F.view files.old).is_flushed }
 {
     let region = load_file(alloc, name, Access::Write, files)?;
@@ -231,7 +234,7 @@ pub(crate) fn open_to_read<F: Files>(
         × HoldsFileSystem ((F.view files.old).contents name.now) image × (volume ≡ (start image).memory)) }
     ensures reason { IfErr result (IsReason ((F.view files.old).contents name.now)) }
     ensures cause { HasStopCause (F.view files.old).faults (F.view files.new).faults result }
-    ensures file { (F.view files.new).contents name.now ≡ (F.view files.old).contents name.now }
+    ensures reads { OnlyReads name.now (F.view files.old) (F.view files.new) }
     ensures flushed { (F.view files.new).is_flushed ≡ (F.view files.old).is_flushed }
 {
     let region = load_file(alloc, name, Access::Read, files)?;

@@ -2,6 +2,7 @@
 
 ghost use Rattle.bp_limits.specs.Limits.{log_events, max_turns};
 ghost use Rattle.bp_session.specs.Outside.{outside};
+ghost use Rattle.bp_shell.specs.Opening.{OnlyReads};
 ghost use Rattle.bp_shell.specs.Playing.{EndsPlay, PlayOutcome, PlaysFile, crashes_text, play_text, spaced, tree_text, turns_text};
 ghost use Rattle.bp_shell.specs.Statuses.{code_of};
 ghost use Rattle.bp_shell.specs.Stops.{HasStopCause, IsReason};
@@ -108,7 +109,7 @@ fn perform<F: Files>(
     ensures plays { IfOk result (λ text. PlaysFile ((F.view files.old).contents name.now) seed count text.bytes.items) }
     ensures reason { IfErr result (IsReason ((F.view files.old).contents name.now)) }
     ensures cause { HasStopCause (F.view files.old).faults (F.view files.new).faults result }
-    ensures file { (F.view files.new).contents name.now ≡ (F.view files.old).contents name.now }
+    ensures reads { OnlyReads name.now (F.view files.old) (F.view files.new) }
     ensures flushed { (F.view files.new).is_flushed ≡ (F.view files.old).is_flushed }
 {
     let mut volume = open_to_read(alloc, name, files)?;
@@ -135,9 +136,10 @@ pub(crate) fn play_file<K: Sink, F: Files>(
 ) -> Status
     requires { count ≤ max_turns }
     // Whatever a source has left.
-    ensures { (left : Option (List ℕ)) (reads : ℕ) → PlayOutcome (code_of result) seed count
+    ensures outcome { (left : Option (List ℕ)) (reads : ℕ) → PlayOutcome (code_of result) seed count
         (outside left reads (K.taken out.old) (K.faults out.old) (F.view files.old) name.now)
         (outside left reads (K.taken out.new) (K.faults out.new) (F.view files.new) name.now) }
+    ensures reads { OnlyReads name.now (F.view files.old) (F.view files.new) }
 {
     let text = match perform(alloc, name, seed, count, files) {
         Ok(text) => text,

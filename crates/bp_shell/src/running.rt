@@ -1,11 +1,11 @@
 //! The programs.
 
 ghost use Rattle.bp_command.specs.Commands.{IsTaken};
-ghost use Rattle.bp_command.specs.Programs.{Asks, HasNumbersInRange, Program as Asked, program_of};
+ghost use Rattle.bp_command.specs.Programs.{Asks, HasNumbersInRange, Program as Asked, Requests, program_of};
 ghost use Rattle.bp_script.specs.Sayings.{notice_text};
 ghost use Rattle.bp_script.specs.declared.notices.Notice.TheVariants.{Usage};
 ghost use Rattle.bp_session.specs.Outside.{Prints, outside};
-ghost use Rattle.bp_shell.specs.Running.{RunsProgram, ProgramOutcome, RunOutcome, file_name};
+ghost use Rattle.bp_shell.specs.Running.{LeavesFiles, OnlyWrites, RunsProgram, ProgramOutcome, RunOutcome, file_name};
 ghost use Rattle.bp_shell.specs.Statuses.{code_of};
 ghost use Rattle.std.specs.Prelude.{◌≡◌, ◌⊎◌, map};
 
@@ -15,7 +15,7 @@ use crate::opening::open;
 use crate::playing::play_file;
 use crate::printing::{tell_notice, tell_stop};
 use crate::status::Status;
-use bp_command::laws::plain_words_are_taken;
+use bp_command::laws::{plain_words_are_taken, words_ask_for_one_program};
 use bp_command::{Program, WordsFault, read_words};
 use bp_io::{Failed, Files, Sink, Source};
 use bp_script::Notice;
@@ -35,6 +35,7 @@ fn run_file<S: Source, K: Sink, F: Files>(
         (outside (S.left src.old) (S.faults src.old) (K.taken out.old) (K.faults out.old) (F.view files.old) name.now)
         (outside (S.left src.new) (S.faults src.new) (K.taken out.new) (K.faults out.new) (F.view files.new) name.now) }
     ensures unread { (code_of result ≡ 1) ⊎ (code_of result ≡ 7) ⊎ (code_of result ≡ 8) → src.new ≡ src.old }
+    ensures files { OnlyWrites name.now (F.view files.old) (F.view files.new) }
 {
     let mut volume = match open(alloc, name, files) {
         Ok(volume) => volume,
@@ -45,14 +46,22 @@ fn run_file<S: Source, K: Sink, F: Files>(
         Err(_) => return Status::Memory,
     };
     // It was just read.
-    work.take_as_saved();
-    let served = serve_gathered(alloc, &mut volume, &mut work, src, out, files);
+    let mut is_saved = true;
+    let served = serve_gathered(
+        alloc,
+        &mut volume,
+        &mut work,
+        &mut is_saved,
+        src,
+        out,
+        files,
+    );
     match Status::of_serving(served) {
         Status::Done => {}
         broken => return broken,
     }
     volume.sync();
-    match save_unless_saved(volume.region(), work.is_saved(), files) {
+    match save_unless_saved(volume.region(), is_saved, files) {
         Ok(()) => Status::Done,
         Err(Failed) => Status::FilesFailed,
     }
@@ -73,6 +82,7 @@ fn run_program<S: Source, K: Sink, F: Files>(
         (outside (S.left src.new) (S.faults src.new) (K.taken out.new) (K.faults out.new) (F.view files.new) name) }
     ensures unread { (code_of result ≡ 1) ⊎ (code_of result ≡ 7) ⊎ (code_of result ≡ 8) → src.new ≡ src.old }
     ensures asked { ¬ (code_of result ≡ 2) }
+    ensures files { LeavesFiles (program_of program.now) (F.view files.old) (F.view files.new) }
 {
     match *program {
         Program::Format { name, blocks } => format_file(alloc, name, blocks, out, files),
@@ -118,11 +128,16 @@ pub fn run<S: Source, K: Sink, F: Files>(
         (λ name. outside (S.left src.new) (S.faults src.new) (K.taken out.new) (K.faults out.new)
         (F.view files.new) name)
         ⊎ ((result ≡ 8) × (src.new ≡ src.old) × (out.new ≡ out.old) × (files.new ≡ files.old)) }
+
+    // What whichever words leave of the files, FILE and others.
+    ensures files { (program : Asked) → Requests (map (λ word. word.now) words.now) program →
+        LeavesFiles program (F.view files.old) (F.view files.new) }
 {
     plain_words_are_taken();
+    words_ask_for_one_program();
     let status = match read_words(alloc, words) {
         Ok(program) => run_program(alloc, &program, src, out, files),
-        Err(WordsFault::Usage) => {
+        Err(WordsFault::Usage(_)) => {
             tell_notice(&Notice::Usage, out);
             Status::Usage
         }

@@ -1,5 +1,5 @@
 -- Calls that are performed: how they are put together of parts, and what follows for the memory, the log and its cost.
-use Rattle.std.proofs.Common.{◌≡◌, ◌⊎◌, ℕ, ◌+◌, ◌/◌, ◌<◌, ◌≤◌, List, [], ◌∷◌, ◌++◌, length, drop, Bool, true, false, ◌*◌, sym, ◌∙◌, ap, subst, arith, inl, inr}
+use Rattle.std.proofs.Common.{◌≡◌, ◌≢◌, ◌⊎◌, ℕ, ◌+◌, ◌/◌, ◌<◌, ◌≤◌, List, [], ◌∷◌, ◌++◌, length, drop, Bool, true, false, ◌*◌, sym, ◌∙◌, ap, subst, arith, inl, inr}
 use Rattle.std.proofs.Math.Seq.{drop-append_seam}
 use Rattle.std.specs.List.{range_with_len}
 use Rattle.bp_layout.proofs.MemberLaws.{apart-append, apart-within, each-append, each-as, each-has, each-of, has-behind, has-filter, has-front, has-range}
@@ -18,6 +18,7 @@ use Rattle.pm_region.specs.Safe.{IsSafe, AddsCommit, AddsMay}
 use Rattle.pm_region.proofs.MemoryLaws.{adds_both, current_words-adds}
 use Rattle.pm_region.proofs.SafeLaws.{safe_committed}
 use Rattle.bp_layout.proofs.SameLaws.{same_self, same_symmetric, same_transitive}
+use Rattle.bp_limits.specs.Limits.{super_root, super_size}
 use Rattle.bp_layout.specs.Members.{AreApart, Each, Has}
 use Rattle.bp_layout.specs.Need.{Change, cover, need}
 use Rattle.bp_layout.specs.Thaw.{full_need, thawed}
@@ -272,15 +273,15 @@ module _ (kept : ℕ → Bool) (old new : Memory) (change : Change) (Effect : Im
   pub all_open : StoresMay (AnyAt (IsOpen (current_words old) kept done.taken)) performed
   all_open = StoresMay-append (AnyAt (IsOpen (current_words old) kept done.taken)) done.commit.prepared (commit place done.value) done.takes.only (done.in_open, tt)
 
-  -- no word of the superblock that nobody reads is stored to
-  pub no_idle_word : (word : ℕ) → 4 ≤ word → word < 512 → StoresTo (λ place. place ≡ word) performed → ⊥
-  no_idle_word word low high found = go performed all_open found
+  -- no word of the superblock is stored to but the two that tell of the inode file
+  pub no_idle_word : (word : ℕ) → word < 512 → word ≢ super_root → word ≢ super_size → StoresTo (λ place. place ≡ word) performed → ⊥
+  no_idle_word word high not_root not_size found = go performed all_open found
     where
       none : (place : ℕ) → place ≡ word → IsOpen (current_words old) kept done.taken place → ⊥
       none place e (in_taken has) = let some : 1 ≤ place / 512 = (each-has (IsFreeBlock (current_words old) kept) done.taken (place / 512) done.takes.free has).low in omega (arith, e, high, some)
       none place e (in_live live loose) = live.has.not_null (omega (arith, e, high))
-      none place e (at_root two) = omega (arith, e, two, low)
-      none place e (at_size three) = omega (arith, e, three, low)
+      none place e (at_root two) = not_root (sym e ∙ two)
+      none place e (at_size three) = not_size (sym e ∙ three)
 
       go : (events : List Event) → StoresMay (AnyAt (IsOpen (current_words old) kept done.taken)) events → StoresTo (λ place. place ≡ word) events → ⊥
       go [] may never = never

@@ -1,9 +1,9 @@
 -- What a changing call does before its mark, and what that may cost.
-use Rattle.std.specs.Prelude.{◌≡◌, ℕ, ◌+◌, ◌*◌, ◌/◌, ◌<◌, ◌≤◌, List, length, Bool, true, false, Some}
+use Rattle.std.specs.Prelude.{◌≡◌, ◌≢◌, ℕ, ◌+◌, ◌*◌, ◌/◌, ◌<◌, ◌≤◌, List, length, Bool, true, false, Some}
 use Rattle.pm_epochs.specs.declared.event.Event.{Event}
 use Rattle.pm_epochs.specs.Log.{StoresTo, IsStoredIn, stores, barriers, last_stored}
 use Rattle.pm_epochs.specs.May.{AnyAt, StoresMay}
-use Rattle.pm_region.specs.Memory.{Memory, current_words}
+use Rattle.pm_region.specs.Memory.{Memory, current_words, room_in}
 use Rattle.pm_region.specs.Safe.{AddsQuiet, AddsCommit}
 use Rattle.bp_limits.specs.Limits.{block_words, super_root, super_size}
 use Rattle.bp_layout.specs.Members.{Has, Each, AreApart}
@@ -28,8 +28,7 @@ pub data IsOpen (image : Image) (kept : ℕ → Bool) (taken : List ℕ) (word :
   at_size : word ≡ super_size → IsOpen image kept taken word
 
 -- The blocks of the list were free, each stands once, and each gets a store. Other free blocks get none, nor do the
--- words of the superblock that nobody reads: so a call can't prepare for a later one, nor leave in the log what
--- nobody asked for.
+-- other words of the superblock: so a call can't prepare for a later one, nor leave in the log what nobody asked for.
 pub record TakesBlocks (image : Image) (kept : ℕ → Bool) (taken : List ℕ) (events : List Event) : Type 0 where
   pub once : AreApart taken
   pub free : Each (IsFreeBlock image kept) taken
@@ -47,6 +46,14 @@ most_barriers = 10
 
 abbrev pub most_stores : ℕ → ℕ
 most_stores needed = (block_words + 1) * (needed + 6) + 64
+
+-- and how many events it adds at most: these, its barriers and its mark
+abbrev pub room_for : ℕ → ℕ
+room_for needed = most_stores needed + most_barriers + 1
+
+-- the log has room for the change, and no more is asked of it
+abbrev pub HasRoomFor : Memory → (ℕ → Bool) → Change → Type 0
+HasRoomFor memory kept change = room_for (full_need (current_words memory) kept change) ≤ room_in memory
 
 -- the same where nothing is thawed, or behind that
 abbrev pub most_stores_thawed : ℕ → ℕ
@@ -97,6 +104,6 @@ pub record IsShort (old new : Image) (kept : ℕ → Bool) (change : Change) (ev
   pub number : length taken ≡ full_need old kept change
   pub few_barriers : barriers events ≤ most_barriers
   pub few_stores : length (stores events) ≤ most_stores (full_need old kept change)
-  -- and it leaves the blocks that are kept, and the other words of the superblock
+  -- and it leaves the blocks that are kept, and all words of the superblock but the two that tell of the inode file
   pub keeps : (word : ℕ) → block_words ≤ word → kept (word / block_words) ≡ true → IsStoredIn events word → ⊥
-  pub idle : (word : ℕ) → 4 ≤ word → word < block_words → IsStoredIn events word → ⊥
+  pub idle : (word : ℕ) → word < block_words → word ≢ super_root → word ≢ super_size → IsStoredIn events word → ⊥

@@ -23,7 +23,7 @@ use Rattle.bp_layout.proofs.Below.{bytes_eq_self}
 use Rattle.bp_layout.proofs.Finding.{Finds, find-passes}
 use Rattle.bp_append.proofs.FewNeeded.{few_needed}
 use Rattle.bp_append.proofs.NeedLaws.{tall_low}
-use Rattle.bp_tree.specs.Performs.{Performs, most_stores}
+use Rattle.bp_tree.specs.Performs.{HasRoomFor, Performs, most_stores}
 use Rattle.bp_tree.proofs.Digits.{length-digits}
 
 -- ---- copies
@@ -249,6 +249,10 @@ module _ (image : Image) (wf : IsWellFormed image) (i : ℕ) (reached : IsReache
   pub few_entered : IsFew (need image (enters i free))
   few_entered =
       omega (arith, new_entry_few image wf i reached (empty_slot image i), inodes_few free, enters_alone (empty_slot image i) refl (length (cover_of (is_there_after image (enters i free)) (touched image (enters i free)))))
+
+-- a log with room for a call has room for a change that needs few blocks
+pub few_room : (memory : Memory) (change : Change) → IsFew (need (current_words memory) change) → call_room ≤ room_in memory → HasRoomFor memory change
+few_room memory change few room = omega (arith, few, room)
 
 -- few blocks leave room
 pub performs_room : (old new : Memory) (change : Change) (Effect : Image → Image → Type 0) → Performs old new change Effect → IsFew (need (current_words old) change) → call_room ≤ room_in old → 0 < room_in new

@@ -82,7 +82,7 @@ module _ (image : Image) (text : List ℕ) (i : ℕ) (at : PathFinds image text 
         ∙ ap (λ o. first (o ∷ when (is_dir_at tree at.path) is_dir ∷ others at.path)) (walk-found image tree stands at.path i at.inode)
         ∙ ap (λ b. first (when b is_dir ∷ others at.path)) (dir_at image tree stands at.path i at.inode ∙ ap (λ k. k == 2) kind)
 
-    has_bytes : length (bytes_at tree (path_named text)) ≡ size_of image i
+    pub has_bytes : length (bytes_at tree (path_named text)) ≡ size_of image i
     has_bytes =
         ap (λ p. length (bytes_at tree p)) path_is
         ∙ ap (λ o. length (bytes_in o)) (node_at image tree stands at.path i at.inode ∙ ap (λ k. Some (if k == 1 then file had else dir)) kind)
@@ -105,7 +105,7 @@ module _ (image : Image) (text : List ℕ) (i : ℕ) (at : PathFinds image text 
         answer_steps image tree (write text off new) done
         (write_left tree stands ∙ ap (λ b. first (when (b && nat_lt max_size (off + length new)) too_big ∷ [])) (le-ltb 0 (length new) none)) (le-ltb 0 (length new) none) refl
 
-    write_need : (other : Change) → IsChange image (write text off new) other → need image other ≡ need image (writes i off (length new))
+    pub write_need : (other : Change) → IsChange image (write text off new) other → need image other ≡ need image (writes i off (length new))
     write_need _ (by_write {i = k} finds) = ap (λ j. need image (writes j off (length new))) (same_file k finds)
 
     pub write_makes : 0 < length new → off + length new ≤ max_size → MakesChange image (write text off new) (writes i off (length new))

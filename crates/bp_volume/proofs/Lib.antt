@@ -8,6 +8,7 @@ pub mod AskingLaws
 pub mod ChangeLaws
 pub mod FewBlocks
 pub mod FileLaws
+pub mod FullLaws
 pub mod LeavingLaws
 pub mod RenameLaws
 pub mod FewMoved

@@ -127,5 +127,10 @@ pub data StepFor (image : Image) (tree : FileTree) : Call → Answer → Image �
   changed : {call : Call} {new : Image} → is_changing tree call ≡ true → Fits image call →
       Stands new (plain tree call).1 → StepFor image tree call (plain tree call).0 new
 
+-- Each answer to the call is that of the plain tree: it is never refused for want of space or memory.
+abbrev pub IsNeverShort : Image → FileTree → Call → Type 0
+IsNeverShort image tree call = (answer : Answer) (new : Image) → StepFor image tree call answer new
+    → answer ≡ (plain tree call).0
+
 abbrev pub Step : Image → Call → Answer → Image → Type 0
 Step image call answer new = (tree : FileTree) → Stands image tree → StepFor image tree call answer new

@@ -1,7 +1,13 @@
 //! Laws of volumes. Each is the contract of a function that does nothing.
 
-ghost use Rattle.std.specs.Prelude.{List};
+ghost use Rattle.std.specs.Prelude.{◌≤◌, ℕ, List, length};
+ghost use Rattle.bp_calls.specs.InPlace.{LiesInWord};
 ghost use Rattle.bp_layout.specs.Same.{Same};
+ghost use Rattle.bp_plain.specs.Calls.Call.{rmdir, truncate, unlink, write};
+ghost use Rattle.bp_plain.specs.Plain.{bytes_at, path_named};
+ghost use Rattle.bp_plain.specs.PlainTree.{FileTree};
+ghost use Rattle.bp_plain.specs.Stands.{Stands};
+ghost use Rattle.bp_volume.specs.Step.{IsNeverShort, PathFinds};
 ghost use Rattle.pm_epochs.specs.Replay.{after_calls, kept_calls};
 ghost use Rattle.pm_region.specs.Memory.{Memory};
 ghost use Rattle.pm_region.specs.Safe.{IsSafe};
@@ -14,4 +20,19 @@ pub fn memory_is_as_after_a_call()
         StepsTo memory.events (machine_over memory.base) steps state →
         Same state.words (after_calls memory.base memory.events
         (kept_calls memory.events (cut_of memory.events state.back))) }
+{}
+
+/// What is one store in its place works on a full volume: an unlink, an rmdir, a truncate to no more bytes than there
+/// are, and a write of bytes that lie in one word and not in a hole answer what the plain tree does, and never that
+/// there is no space.
+pub fn calls_in_place_need_no_space(image: &[u64])
+    ensures unlink { (tree : FileTree) (text : List ℕ) → Stands image.now tree
+        → IsNeverShort image.now tree (unlink text) }
+    ensures rmdir { (tree : FileTree) (text : List ℕ) → Stands image.now tree
+        → IsNeverShort image.now tree (rmdir text) }
+    ensures truncate { (tree : FileTree) (text : List ℕ) (size : ℕ) → Stands image.now tree
+        → size ≤ length (bytes_at tree (path_named text)) → IsNeverShort image.now tree (truncate text size) }
+    ensures write { (tree : FileTree) (text new : List ℕ) (i off : ℕ) → Stands image.now tree
+        → PathFinds image.now text i → LiesInWord image.now i off (length new)
+        → IsNeverShort image.now tree (write text off new) }
 {}

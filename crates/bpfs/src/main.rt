@@ -7,7 +7,7 @@ ghost use Rattle.std.specs.Prelude.{◌≡◌, IfOk, map, string_bytes};
 mod reasons;
 mod streams;
 
-use crate::reasons::{Reason, tell_reason};
+use crate::reasons::{Reason, tell_reason, tell_usage};
 use crate::streams::take_streams;
 use bp_command::{Program, read_words};
 use bp_io::{DiskFiles, StdSink, StdSource};
@@ -50,7 +50,7 @@ fn file_name<'a>(alloc: Global, words: &'a [&'a str]) -> &'a str {
     }
 }
 
-/// The words of the call. Words that are not text ask for no program.
+/// The words of the call, the name under which the program was called first. None where one of them is no text.
 fn program_words<R: Env + AllocGlobal>(rt: &R) -> Result<Vec<String>, AllocError> {
     match env::args(rt) {
         Ok(args) => args.collect(rt.alloc()),
@@ -87,6 +87,8 @@ fn main(rt: HostRuntime) -> ExitCode {
     let mut sink = StdSink::new(rt.stdout());
     let status = run(alloc, &texts, &mut source, &mut sink, &mut files);
     match status {
+        2 if words.is_empty() => tell_reason(&rt, Reason::NoText),
+        2 => tell_usage(&rt, alloc, &texts),
         3 => tell_reason(&rt, Reason::Input(source.last_error())),
         4 => tell_reason(&rt, Reason::Output(sink.last_error())),
         5 => tell_reason(

@@ -1,9 +1,11 @@
 //! Why a program ended, as a line of standard error.
 
+use bp_command::{WordsFault, mistake_line, read_words};
 use bp_limits::MAX_INPUT;
+use std::alloc::Global;
 use std::io;
 
-/// What failed, or ran out, for a status that is no answer about FILE.
+/// What failed, ran out or is wrong, for a status that is no answer about FILE.
 #[derive(Drop)]
 pub(crate) enum Reason<'a> {
     /// Standard input, at this error of the system.
@@ -16,6 +18,10 @@ pub(crate) enum Reason<'a> {
     LongInput,
     /// There is too little memory.
     Memory,
+    /// A word of the call is no text.
+    NoText,
+    /// What is wrong with the words of the call.
+    Words(&'a str),
 }
 
 /// Writes what failed, with the system's word for it.
@@ -34,5 +40,23 @@ pub(crate) fn tell_reason<E: Eprint>(rt: &E, reason: Reason<'_>) {
         Reason::File(name, error) => tell_fault(rt, name, error),
         Reason::LongInput => eprintln!(rt; "bpfs: standard input: more than {MAX_INPUT} bytes"),
         Reason::Memory => eprintln!(rt; "bpfs: not enough memory"),
+        Reason::NoText => eprintln!(rt; "bpfs: a word is no UTF-8 text"),
+        Reason::Words(mistake) => eprintln!(rt; "bpfs: {mistake}"),
     };
+}
+
+/// Tells why the words are no command: the help that they ask for, or what is wrong with them. It tells nothing where there
+/// is no memory for that.
+pub(crate) fn tell_usage<E: Eprint>(rt: &E, alloc: Global, words: &[&str]) {
+    match read_words(alloc, words) {
+        Err(WordsFault::Usage(mistake)) if mistake.use_stderr() => {
+            if let Ok(line) = mistake_line(alloc, &mistake) {
+                tell_reason(rt, Reason::Words(line.as_str()));
+            }
+        }
+        Err(WordsFault::Usage(help)) => {
+            let _ = eprint!(rt; "{help}");
+        }
+        Ok(_) | Err(WordsFault::Memory) => {}
+    }
 }

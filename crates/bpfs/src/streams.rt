@@ -15,7 +15,15 @@ pub(crate) struct StandIns {
 /// Takes the descriptors of the standard streams that are closed, so that no file is opened under
 /// one of them and takes a reply, or is read as a script. Each use of such a stream then fails: the
 /// null device stands for the input where it is open for writing alone, and else for reading alone.
+/// Where all are open the null device need not be there.
 pub(crate) fn take_streams<R: rt::Files<File = File>>(runtime: &R) -> io::Result<StandIns> {
+    if are_open(runtime) {
+        return Ok(StandIns {
+            _input: None,
+            _output: None,
+            _errors: None,
+        });
+    }
     Ok(StandIns {
         _input: up_to(
             0,
@@ -24,6 +32,14 @@ pub(crate) fn take_streams<R: rt::Files<File = File>>(runtime: &R) -> io::Result
         _output: up_to(2, OpenOptions::new().read(true).open(runtime, "/dev/null")?),
         _errors: up_to(2, OpenOptions::new().read(true).open(runtime, "/dev/null")?),
     })
+}
+
+/// Whether each standard stream is known to be open: a new file, here the root, has the least descriptor that is free.
+fn are_open<R: rt::Files<File = File>>(runtime: &R) -> bool {
+    match OpenOptions::new().read(true).open(runtime, "/") {
+        Ok(root) => root.as_raw_fd() > 2,
+        Err(_) => false,
+    }
 }
 
 /// The file, where its descriptor is at most this one. A new file has the least that is free.

@@ -4,7 +4,7 @@ use Rattle.bp_free.specs.Set.{members}
 use Rattle.bp_calls.specs.Created.{EntersName}
 use Rattle.bp_calls.proofs.EnteredLaws.{directory_inode}
 use Rattle.bp_calls.proofs.GrowthNeed.{need_growing}
-use Rattle.bp_calls.proofs.NewNames.{none_lacks, none_performs, some_lacks, some_performs}
+use Rattle.bp_calls.proofs.NewNames.{none_lacks, none_performs, none_room, some_lacks, some_performs, some_room}
 use Rattle.bp_calls.proofs.Refusals.{no_members, some_members}
 use Rattle.bp_calls.proofs.creating.create_in.Goals as goal
 
@@ -32,6 +32,11 @@ grow_and_enter-requires-clause-enough g c =
     let grows = need_growing (current_words memory) c.requires.well_formed c.args.dir c.requires.reached c.requires.directory in
     omega (arith, grows, c.entry_need-entry.ensures.need, c.grow_need.ensures.need, c.count-free.ensures, c.if-free-need.false)
 
+pub grow_and_enter-requires-clause-room : goal.grow_and_enter-requires-clause-room
+grow_and_enter-requires-clause-room g c =
+    none_room (g.R.Region.memory c.args.parts.now.region) c.args.parts.now.blocks c.args.parts.now.inodes c.args.dir c.requires.exact c.requires.room
+    (no_members (members c.args.parts.now.inodes) (sym c.count.ensures ∙ c.if-count-eq0.true)) (grow_and_enter-requires-clause-enough g c)
+
 pub returns-then-count-eq0-clause-performs : goal.returns-then-count-eq0-clause-performs
 returns-then-count-eq0-clause-performs g c =
     let memory = g.R.Region.memory in
@@ -50,7 +55,8 @@ enter-requires-clause-can g c = record {
   exact = c.requires.exact;
   some = some_members (members c.args.parts.now.inodes) (λ e. c.if-count-eq0.false (c.count.ensures ∙ e));
   enough = omega (arith, c.entry_need-entry.ensures.need, c.count-free.ensures, c.if-free-entry.false);
-  room = omega (arith, c.requires.room);
+  room = some_room (g.R.Region.memory c.args.parts.now.region) c.args.parts.now.blocks c.args.parts.now.inodes c.args.dir c.requires.exact c.requires.room
+      (some_members (members c.args.parts.now.inodes) (λ e. c.if-count-eq0.false (c.count.ensures ∙ e))) (omega (arith, c.entry_need-entry.ensures.need, c.count-free.ensures, c.if-free-entry.false));
 }
 
 pub enter-requires-clause-slot : goal.enter-requires-clause-slot

@@ -1,6 +1,6 @@
-use Rattle.std.proofs.Common.{◌≡◌, ◌<◌, ℕ, Bool, slice_index, ◌∙◌, arith}
+use Rattle.std.proofs.Common.{◌≡◌, ◌<◌, ◌≤◌, ℕ, length, Bool, slice_index, ◌∙◌, arith}
 use Rattle.pm_region.specs.Memory.{Memory, current_words}
-use Rattle.bp_free.specs.Set.{has}
+use Rattle.bp_free.specs.Set.{has, members}
 use Rattle.bp_layout.specs.Inode.{size_of}
 use Rattle.bp_layout.specs.WellFormed.{IsWellFormed}
 use Rattle.bp_layout.specs.Words.{Image}
@@ -60,9 +60,10 @@ commit_at-requires g c κs within =
     let touched = c.touched_below-touched.result in
     let write : WritesBelow old blocks inodes c.args.i c.args.off c.args.bytes.now touched = record { can = c.requires.can; below = c.requires.below; touches = c.touched_below-touched.ensures } in
     let can = write_can old blocks inodes c.args.i c.args.off c.args.bytes.now touched write in
-    let room = write_room old blocks inodes c.args.i c.args.off c.args.bytes.now touched write in
     let count = counted (current_words old) (has blocks) touched c.find_cover-cover.result c.copies_below-copies.result c.requires.can.well_formed can c.find_cover-cover.ensures.has c.copies_below-copies.ensures in
-    (within, (record { well_formed = c.requires.can.well_formed; can = can; fits = omega (arith, c.requires.can.exact.block_room); some = omega (arith, count, c.count-free.ensures, c.if-free-copies.false); room = room }, c.find_cover-cover.ensures))
+    let some : copied_count (current_words old) touched ≤ length (members blocks) = omega (arith, count, c.count-free.ensures, c.if-free-copies.false) in
+    let room = write_room old blocks inodes c.args.i c.args.off c.args.bytes.now touched write some in
+    (within, (record { well_formed = c.requires.can.well_formed; can = can; fits = omega (arith, c.requires.can.exact.block_room); some = some; room = room }, c.find_cover-cover.ensures))
 
 pub returns : goal.returns
 returns g c =

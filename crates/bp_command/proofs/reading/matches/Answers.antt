@@ -12,5 +12,5 @@ pub returns : goal.returns
 returns c = record {
   matches = tt;
   taken = tt;
-  usage = λ _. refused_words c.in-Ok.command _ c.in-Err-try_get_matches_from.error c.in-Ok.ensures c.in-Err-try_get_matches_from.ensures.kinds (λ e. c.in_default.not-OutOfMemory (c.kind.ensures ∙ e));
+  usage = refused_words c.in-Ok.command _ c.in-Err-try_get_matches_from.error c.in-Ok.ensures c.in-Err-try_get_matches_from.ensures.kinds (λ e. c.in_default.not-OutOfMemory (c.kind.ensures ∙ e));
 }

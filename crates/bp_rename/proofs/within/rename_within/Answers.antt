@@ -13,8 +13,8 @@ commit-requires g c κs inside =
     let move = c.args.to_move.now in
     let j = moved_inode (current_words old) move in
     let can = respells_can (current_words old) move c.requires.can c.requires.new c.requires.here in
-    let ready = within_ready_at old move.from_slot j move.name.now c.touched_name-touched.result c.args.parts.now.blocks c.args.parts.now.inodes c.requires.exact c.requires.room move.from_dir can c.touched_name-touched.ensures in
-    let room = within_room_at old move.from_slot j move.name.now c.touched_name-touched.result c.args.parts.now.blocks c.args.parts.now.inodes c.requires.exact c.requires.room move.from_dir can c.touched_name-touched.ensures in
+    let ready = within_ready_at old move.from_slot j move.name.now c.touched_name-touched.result c.args.parts.now.blocks c.args.parts.now.inodes c.requires.exact move.from_dir c.requires.room can c.touched_name-touched.ensures in
+    let room = within_room_at old move.from_slot j move.name.now c.touched_name-touched.result c.args.parts.now.blocks c.args.parts.now.inodes c.requires.exact move.from_dir c.requires.room can c.touched_name-touched.ensures in
     let count = within_need_at (current_words old) move.from_slot j move.name.now c.touched_name-touched.result move.from_dir can c.touched_name-touched.ensures in
     (inside, record { well_formed = c.requires.can.well_formed; can = ready; fits = omega (arith, c.requires.exact.block_room); some = omega (arith, count, c.requires.enough); room = room })
 
@@ -25,8 +25,8 @@ returns-clause-performs g c =
     let move = c.args.to_move.now in
     let j = moved_inode (current_words old) move in
     let can = respells_can (current_words old) move c.requires.can c.requires.new c.requires.here in
-    within_performs_at old move.from_slot j move.name.now c.touched_name-touched.result c.args.parts.now.blocks c.args.parts.now.inodes c.requires.exact c.requires.room
-    new c.commit.new.parts.blocks c.commit.ensures.commits c.commit.ensures.size move.from_dir can c.touched_name-touched.ensures (RenamesEntry move)
+    within_performs_at old move.from_slot j move.name.now c.touched_name-touched.result c.args.parts.now.blocks c.args.parts.now.inodes c.requires.exact
+    new c.commit.new.parts.blocks c.commit.ensures.commits c.commit.ensures.size move.from_dir c.requires.room can c.touched_name-touched.ensures (RenamesEntry move)
     (λ spells spelled. within c.requires.new c.requires.here spells spelled)
 
 pub returns-clause-exact : goal.returns-clause-exact
@@ -37,5 +37,5 @@ returns-clause-exact g c =
     let j = moved_inode (current_words old) move in
     let can = respells_can (current_words old) move c.requires.can c.requires.new c.requires.here in
     rw c.commit.ensures.inodes
-    (within_exact_at old move.from_slot j move.name.now c.touched_name-touched.result c.args.parts.now.blocks c.args.parts.now.inodes c.requires.exact c.requires.room
-    new c.commit.new.parts.blocks c.commit.ensures.commits c.commit.ensures.size move.from_dir can c.touched_name-touched.ensures)
+    (within_exact_at old move.from_slot j move.name.now c.touched_name-touched.result c.args.parts.now.blocks c.args.parts.now.inodes c.requires.exact
+    new c.commit.new.parts.blocks c.commit.ensures.commits c.commit.ensures.size move.from_dir c.requires.room can c.touched_name-touched.ensures)

@@ -1,5 +1,6 @@
 use Rattle.std.proofs.Common.{◌∙◌}
 use Rattle.bp_session.proofs.SavingLaws.{all_mixed, are_sizes, on_err, on_ok, stays_attached, stays_known, stays_told}
+use Rattle.bp_session.proofs.OthersLaws.{others_then}
 use Rattle.bp_session.proofs.saving.save.Goals as goal
 
 pub flush-requires : goal.flush-requires
@@ -27,3 +28,6 @@ returns-clause-partly g c = on_err c.flush.result (λ name was file.
 
 pub returns-clause-told : goal.returns-clause-told
 returns-clause-told g c = λ name was file. stays_told _ _ (c.flush.ensures.contents name) ∙ c.write_blocks.ensures.told name was file
+
+pub returns-clause-others : goal.returns-clause-others
+returns-clause-others g c = others_then (g.F.Files.view c.args.files.now) (g.F.Files.view c.write_blocks.new.files) (g.F.Files.view c.flush.new.files) c.write_blocks.ensures.attached c.write_blocks.ensures.others (λ name is. c.flush.ensures.contents name)

@@ -3,7 +3,17 @@ use Rattle.std.proofs.lemmas.Result.{err_from_is_err_and}
 use Rattle.pm_region.specs.Memory.{current_words}
 use Rattle.bp_layout.specs.Bytes.{image_bytes}
 use Rattle.bp_session.proofs.SavingLaws.{becomes_next, becomes_told, stays_known, stays_told, mixed_known, saved_all, are_sizes, stays_attached}
+use Rattle.bp_session.proofs.OthersLaws.{others_same, others_then}
 use Rattle.bp_session.proofs.saving.write_blocks.Goals as goal
+
+pub loop-i-init : goal.loop-i-init
+loop-i-init g c = record {
+  attached = search rules;
+  bytes = search rules;
+  others = others_same (g.F.Files.view c.args.files.now);
+  told = search rules;
+  faults = search rules;
+}
 
 pub loop-i-preserved : goal.loop-i-preserved
 loop-i-preserved g c = record {
@@ -13,6 +23,7 @@ loop-i-preserved g c = record {
       let sizes = are_sizes was (g.R.Region.memory c.args.region.now) (g.F.Files.view c.args.files.now).blocks file.size c.requires.size in
       becomes_next _ _ was _ _ c.loop-i.i (omega (arith, sizes.whole, c.requires.size)) sizes.same c.read_block.ensures
       (c.loop-i.invariant.bytes name was file) (c.in_ok-write_block.ensures.written name is);
+  others = others_then (g.F.Files.view c.args.files.now) (g.F.Files.view c.loop-i.files) (g.F.Files.view c.write_block.new.self) c.loop-i.invariant.attached c.loop-i.invariant.others c.write_block.ensures.others;
   told = λ name was file. becomes_told _ _ _ _ (c.loop-i.invariant.bytes name was file) (c.in_ok-write_block.ensures.written name (c.loop-i.invariant.attached.attached name ∙ file.attached)) ∙ c.loop-i.invariant.told name was file;
   faults = search rules;
 }
@@ -49,3 +60,6 @@ returns-clause-saved g c = λ name was file.
       size = omega (arith, sizes.whole, c.loop-i.invariant.attached.blocks);
       has = rw (saved_all was _ c.loop-i.i end sizes.same) at (c.loop-i.invariant.bytes name was file);
     }
+
+pub returns-in_err-write_block-clause-others : goal.returns-in_err-write_block-clause-others
+returns-in_err-write_block-clause-others g c = others_then (g.F.Files.view c.args.files.now) (g.F.Files.view c.loop-i.files) (g.F.Files.view c.write_block.new.self) c.loop-i.invariant.attached c.loop-i.invariant.others c.write_block.ensures.others

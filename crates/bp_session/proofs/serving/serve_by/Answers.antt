@@ -2,14 +2,13 @@ use Rattle.std.proofs.Common.{arith, rules, refl, ◌++◌, [], drop, take, ◌�
 use Rattle.std.proofs.lemmas.List.{append_assoc}
 use Rattle.std.proofs.KnownBytes.{Consumes-trans}
 use Rattle.std.specs.Io.KnownBytes.{Consumes}
-use Rattle.bp_session.proofs.AheadLaws.{reached_own, reaches_all, reaches_then}
 use Rattle.bp_session.proofs.OutcomeLaws.{piece_nothing, piece_then, piece_stops, serve_part, serve_long, serve_ended, serve_end}
 use Rattle.bp_session.proofs.ServingLaws.{consumes_nothing, consumes_kept, take_more, length_taken}
 use Rattle.bp_session.proofs.serving.serve_by.Goals as goal
 
 pub loop-count-init : goal.loop-count-init
 loop-count-init g c = record {
-  served = ([], consumes_nothing _, refl, rw c.clear.ensures.items (piece_nothing _ []));
+  served = ([], consumes_nothing _, refl, rw c.clear.ensures.items (piece_nothing c.args.most _ []));
   source = refl;
   taken = search rules;
 }
@@ -17,7 +16,7 @@ loop-count-init g c = record {
 pub returns-in-Err-clause-outcome : goal.returns-in-Err-clause-outcome
 returns-in-Err-clause-outcome g c =
     let before = c.loop-count.invariant.served in
-    reaches_all 3 _ _ _ (serve_part _ _ _ _ before.0 _ (consumes_kept _ _ _ _ before.1 c.in-Err.ensures.bytes) before.3 (rw c.loop-count.invariant.source at c.in-Err.ensures.cause.failed))
+    serve_part _ _ _ _ _ before.0 _ (consumes_kept _ _ _ _ before.1 c.in-Err.ensures.bytes) before.3 (rw c.loop-count.invariant.source at c.in-Err.ensures.cause.failed)
 
 pub loop-count-preserved : goal.loop-count-preserved
 loop-count-preserved g c =
@@ -29,7 +28,7 @@ loop-count-preserved g c =
         before.0 ++ take c.in-Ok.count piece,
         Consumes-trans _ _ _ _ _ before.1 c.in-Ok.ensures.bytes.0,
         omega (arith, length-append before.0 (take c.in-Ok.count piece), length_taken piece c.in-Ok.count c.in-Ok.ensures.bound.0, before.2),
-        piece_then 0 _ _ _ _ _ _ _ _ before.3 (rw all at (reached_own 0 _ _ _ (λ e. absurd (omega (arith, e))) (rw c.if-status-ne0.false at c.take_piece-status.ensures.outcome))),
+        piece_then _ _ _ _ _ _ _ before.3 0 _ _ (rw (all, c.if-status-ne0.false) at c.take_piece-status.ensures.outcome),
       );
       source = c.in-Ok.ensures.cause.same ∙ c.loop-count.invariant.source;
       taken = search rules;
@@ -41,10 +40,9 @@ returns-then-status-ne0-clause-outcome g c =
     let piece = c.fill.new.piece.items in
     let served = c.min-served.result in
     let whole = take_more piece served c.in-Ok.count (omega arith) in
-    reaches_then _ _ _ _ _ (λ now piece_ended.
-    let ended = piece_stops _ _ _ (drop served (take c.in-Ok.count piece)) _ [] _ _ c.if-status-ne0.true piece_ended in
-    serve_ended _ _ _ _ _ (before.0 ++ take c.in-Ok.count piece) _ c.if-status-ne0.true (Consumes-trans _ _ _ _ _ before.1 c.in-Ok.ensures.bytes.0)
-    (piece_then _ _ _ _ _ _ _ _ _ before.3 (rw whole at ended)) (c.in-Ok.ensures.cause.same ∙ c.loop-count.invariant.source)) c.take_piece-status.ensures.outcome
+    let ended = piece_stops _ _ _ _ (drop served (take c.in-Ok.count piece)) _ [] _ _ c.if-status-ne0.true c.take_piece-status.ensures.outcome in
+    serve_ended _ _ _ _ _ _ (before.0 ++ take c.in-Ok.count piece) _ c.if-status-ne0.true (Consumes-trans _ _ _ _ _ before.1 c.in-Ok.ensures.bytes.0)
+    (piece_then _ _ _ _ _ _ _ before.3 _ _ _ (rw whole at ended)) (c.in-Ok.ensures.cause.same ∙ c.loop-count.invariant.source)
 
 pub returns-then-served-count-clause-outcome : goal.returns-then-served-count-clause-outcome
 returns-then-served-count-clause-outcome g c =
@@ -57,16 +55,16 @@ returns-then-served-count-clause-outcome g c =
     let parts = length-append (take served piece) (drop served (take c.in-Ok.count piece)) in
     let more : length (take served piece) + length (drop served (take c.in-Ok.count piece)) ≡ c.in-Ok.count = sym parts ∙ ap length whole ∙ size in
     let most : c.in-Ok.count ≤ 65536 = search rules in
-    reaches_all 6 _ _ _ (serve_long _ _ _ _ (before.0 ++ take served piece) (drop served (take c.in-Ok.count piece)) _
+    serve_long _ _ _ _ _ (before.0 ++ take served piece) (drop served (take c.in-Ok.count piece)) _
     (rw (append_assoc before.0 (take served piece) (drop served (take c.in-Ok.count piece)), whole) (Consumes-trans _ _ _ _ _ before.1 c.in-Ok.ensures.bytes.0))
     (omega (arith, length-append before.0 (take served piece), first, before.2))
     (omega (arith, first, more)) (omega (arith, first, more, most))
-    (piece_then 0 _ _ _ _ _ _ _ _ before.3 (reached_own 0 _ _ _ (λ e. absurd (omega (arith, e))) (rw c.if-status-ne0.false at c.take_piece-status.ensures.outcome))) (c.in-Ok.ensures.cause.same ∙ c.loop-count.invariant.source))
+    (piece_then _ _ _ _ _ _ _ before.3 0 _ _ (rw c.if-status-ne0.false at c.take_piece-status.ensures.outcome)) (c.in-Ok.ensures.cause.same ∙ c.loop-count.invariant.source)
 
 pub returns-clause-outcome : goal.returns-clause-outcome
 returns-clause-outcome g c =
     let before = c.loop-count.invariant.served in
     let none : Consumes (g.S.Source.left c.loop-count.src) (g.S.Source.left c.fill.new.src) [] = rw c.if-count-eq0.true at c.in-Ok.ensures.bytes.0 in
-    reaches_all _ _ _ _ (serve_end _ _ _ _ _ (before.0 ++ []) _ _ (Consumes-trans _ _ _ _ _ before.1 none) (c.in-Ok.ensures.bytes.1 c.if-count-eq0.true (search rules))
+    serve_end _ _ _ _ _ _ (before.0 ++ []) _ _ (Consumes-trans _ _ _ _ _ before.1 none) (c.in-Ok.ensures.bytes.1 c.if-count-eq0.true (search rules))
     (omega (arith, length-append before.0 [], before.2, c.loop-count.invariant.taken))
-    (piece_then 0 _ _ _ _ _ _ _ _ before.3 (piece_nothing _ _)) c.finish.ensures (c.in-Ok.ensures.cause.same ∙ c.loop-count.invariant.source))
+    (piece_then _ _ _ _ _ _ _ before.3 0 _ _ (piece_nothing _ _ _)) c.finish.ensures (c.in-Ok.ensures.cause.same ∙ c.loop-count.invariant.source)

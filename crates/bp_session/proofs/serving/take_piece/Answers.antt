@@ -3,13 +3,13 @@ use Rattle.std.proofs.lemmas.Bool.{eqb-true}
 use Rattle.std.proofs.lemmas.List.{nil_from_length}
 use Rattle.bp_session.specs.Gathering.{waiting}
 use Rattle.bp_session.specs.Lines.{commands_from}
-use Rattle.bp_session.proofs.AheadLaws.{reaches_all, waits_broken, waits_handed, waits_nothing}
+use Rattle.bp_session.proofs.AheadLaws.{waits_broken, waits_handed, waits_nothing}
 use Rattle.bp_session.proofs.OutcomeLaws.{piece_nothing}
 use Rattle.bp_session.proofs.Runs.{next_ends, next_waits, run_waits}
 use Rattle.bp_session.proofs.serving.take_piece.Goals as goal
 
 pub loop-end-init : goal.loop-end-init
-loop-end-init g c = record { inside = omega arith; piece = refl; waits = waits_nothing _ _ _ _ c.clear.ensures (piece_nothing _ _) }
+loop-end-init g c = record { inside = omega arith; piece = refl; waits = waits_nothing _ _ _ _ c.clear.ensures (piece_nothing _ _ _) }
 
 pub loop-end-preserved : goal.loop-end-preserved
 loop-end-preserved g c =
@@ -30,7 +30,7 @@ loop-end-preserved g c =
           (λ rest. ap (λ l. commands_from line (take (end - at) (drop at l) ++ rest)) (sym c.loop-end.invariant.piece) ∙ c.take_run.ensures.same rest)
           (omega (arith, found.0.high, size)) newline b _
           (λ e. nil_from_length b (let few : length b ≤ c.args.most = c.end_line-status.ensures.few c.if-status-ne0.false in omega (arith, few, e)))
-          (rw (c.if-status-ne0.false, c.take_run.ensures.replies, c.take_run.ensures.saved) at c.end_line-status.ensures.outcome));
+          (rw (c.if-status-ne0.false, c.take_run.ensures.replies) at c.end_line-status.ensures.outcome));
     }
 
 pub returns-then-status-ne0-clause-outcome : goal.returns-then-status-ne0-clause-outcome
@@ -46,7 +46,7 @@ returns-then-status-ne0-clause-outcome g c =
     next_ends _ c.args.most all _ line c.take_run.new.work.buffers.line.items _ at end _ found.0.low c.loop-end.invariant.waits
     (λ rest. ap (λ l. commands_from line (take (end - at) (drop at l) ++ rest)) (sym c.loop-end.invariant.piece) ∙ c.take_run.ensures.same rest)
     (omega (arith, found.0.high, size)) newline _ _ _ c.args.count _ c.if-status-ne0.true (omega (arith, found.0.high))
-    (rw (c.take_run.ensures.replies, c.take_run.ensures.saved) at c.end_line-status.ensures.outcome)
+    (rw c.take_run.ensures.replies at c.end_line-status.ensures.outcome)
 
 pub returns-in-Ok-clause-outcome : goal.returns-in-Ok-clause-outcome
 returns-in-Ok-clause-outcome g c =
@@ -56,7 +56,7 @@ returns-in-Ok-clause-outcome g c =
     let line = c.loop-end.work.buffers.line.items in
     let ran = run_waits _ c.args.most all _ line c.take_run-2.new.work.buffers.line.items _ at count _ c.loop-end.invariant.inside c.loop-end.invariant.waits
     (λ rest. ap (λ l. commands_from line (take (count - at) (drop at l) ++ rest)) (sym c.loop-end.invariant.piece) ∙ c.take_run-2.ensures.same rest) in
-    rw (c.in-Ok.ensures.cause.same, c.take_run-2.ensures.saved) (reaches_all 0 _ _ _ (waits_handed _ _ _ _ _ _ _ ran _ (rw c.take_run-2.ensures.replies at c.in-Ok.ensures.all)))
+    rw c.in-Ok.ensures.cause.same (waits_handed _ _ _ _ _ _ _ ran _ (rw c.take_run-2.ensures.replies at c.in-Ok.ensures.all))
 
 pub returns-in-Err-clause-outcome : goal.returns-in-Err-clause-outcome
 returns-in-Err-clause-outcome g c =
@@ -66,4 +66,4 @@ returns-in-Err-clause-outcome g c =
     let line = c.loop-end.work.buffers.line.items in
     let ran = run_waits _ c.args.most all _ line c.take_run-2.new.work.buffers.line.items _ at count _ c.loop-end.invariant.inside c.loop-end.invariant.waits
     (λ rest. ap (λ l. commands_from line (take (count - at) (drop at l) ++ rest)) (sym c.loop-end.invariant.piece) ∙ c.take_run-2.ensures.same rest) in
-    rw c.take_run-2.ensures.saved (waits_broken _ _ _ _ _ _ _ ran _ _ _ (rw c.take_run-2.ensures.replies at c.in-Err.ensures.some) c.in-Err.ensures.cause.failed)
+    waits_broken _ _ _ _ _ _ _ ran _ _ _ (rw c.take_run-2.ensures.replies at c.in-Err.ensures.some) c.in-Err.ensures.cause.failed

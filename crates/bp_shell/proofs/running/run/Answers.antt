@@ -1,5 +1,4 @@
-use Rattle.std.proofs.Common.{refl, ◌≡◌, ap, inl, inr}
-use Rattle.std.specs.Prelude.{Err}
+use Rattle.std.proofs.Common.{refl, ◌≡◌, inl, inr}
 use Rattle.bp_command.specs.Programs.{Program, program_of}
 use Rattle.bp_command.specs.Programs.Program.{formats, runs, checks, plays}
 use Rattle.bp_session.specs.Outside.{Outside}
@@ -26,7 +25,9 @@ returns-clause-plain g c = λ program asks. rw c.code.ensures (elim c.match-read
   | in-Ok w ↦
       let same : program_of w.in-Ok.program ≡ program = c.plain_words_are_taken.ensures.requested _ program _ asks w.in-Ok.ensures.asks in
       rw (w.src-is, w.out-is, w.files-is, w.status-is) (rw same at w.run_program-status.ensures.outcome)
-  | in-Err-Usage w ↦ absurd (w.in-Err-Usage.ensures.usage (ap Err w.in-Err-Usage.field-0-is) (c.plain_words_are_taken.ensures.taken _ program asks))
+  | in-Err-Usage w ↦
+      let right = rw w.in-Err-Usage.field-0-is at w.in-Err-Usage.ensures.usage in
+      absurd (right.0 (c.plain_words_are_taken.ensures.taken _ program asks))
   | in-Err-Memory w ↦ rw (w.src-is, w.out-is, w.files-is, w.status-is) (without_memory program _)
 ])
 

@@ -3,25 +3,25 @@ use Rattle.bp_shell.proofs.ProgramLaws.{format_asked, read_asked}
 use Rattle.bp_shell.proofs.running.run_program.Goals as goal
 
 pub returns-in-Format-clause-outcome : goal.returns-in-Format-clause-outcome
-returns-in-Format-clause-outcome g c = rw c.in-Format.is (c.format_file.ensures _ _)
+returns-in-Format-clause-outcome g c = rw c.in-Format.is (c.format_file.ensures.outcome _ _)
 
 pub returns-in-Run-clause-outcome : goal.returns-in-Run-clause-outcome
 returns-in-Run-clause-outcome g c = rw c.in-Run.is c.run_file.ensures.outcome
 
 pub returns-in-Check-clause-outcome : goal.returns-in-Check-clause-outcome
-returns-in-Check-clause-outcome g c = rw c.in-Check.is (c.check_file.ensures _ _)
+returns-in-Check-clause-outcome g c = rw c.in-Check.is (c.check_file.ensures.outcome _ _)
 
 pub play_file-requires : goal.play_file-requires
 play_file-requires g c = let range = rw c.in-Play.is at c.requires in range.1
 
 pub returns-in-Play-clause-outcome : goal.returns-in-Play-clause-outcome
-returns-in-Play-clause-outcome g c = rw c.in-Play.is (c.play_file.ensures _ _)
+returns-in-Play-clause-outcome g c = rw c.in-Play.is (c.play_file.ensures.outcome _ _)
 
 pub returns-in-Format-clause-asked : goal.returns-in-Format-clause-asked
-returns-in-Format-clause-asked g c = format_asked _ (c.format_file.ensures None 0).one_of
+returns-in-Format-clause-asked g c = format_asked _ (c.format_file.ensures.outcome None 0).one_of
 
 pub returns-in-Check-clause-asked : goal.returns-in-Check-clause-asked
-returns-in-Check-clause-asked g c = read_asked _ (c.check_file.ensures None 0).one_of
+returns-in-Check-clause-asked g c = read_asked _ (c.check_file.ensures.outcome None 0).one_of
 
 pub returns-in-Play-clause-asked : goal.returns-in-Play-clause-asked
-returns-in-Play-clause-asked g c = read_asked _ (c.play_file.ensures None 0).one_of
+returns-in-Play-clause-asked g c = read_asked _ (c.play_file.ensures.outcome None 0).one_of

@@ -5,12 +5,16 @@ use Rattle.bp_free.specs.declared.parts.Parts.{Parts}
 use Rattle.bp_layout.specs.Need.Change.{enters as change_of}
 use Rattle.bp_volume.proofs.ChangeLaws.{carried_or_lacks, lacks_space, performs_call}
 use Rattle.bp_volume.proofs.CreateLaws.{making_becomes, making_makes, tells_free}
-use Rattle.bp_volume.proofs.FewBlocks.{few_entered, performs_room}
+use Rattle.bp_volume.proofs.FewBlocks.{few_entered, few_room, performs_room}
 use Rattle.bp_volume.proofs.WalkLaws.{reached_at}
 use Rattle.bp_volume.proofs.creating.create_new.Goals as goal
 
 pub create_in-requires-clause-reached : goal.create_in-requires-clause-reached
 create_in-requires-clause-reached g c = reached_at _ c.requires.well_formed _ c.args.new.dir c.requires.new.new.parent
+
+pub create_in-requires-clause-room : goal.create_in-requires-clause-room
+create_in-requires-clause-room g c = λ free tells enough.
+    few_room (g.R.Region.memory c.args.parts.now.region) (change_of c.args.new.dir free) (few_entered _ c.requires.well_formed c.args.new.dir (reached_at _ c.requires.well_formed _ c.args.new.dir c.requires.new.new.parent) free) c.requires.room
 
 pub returns-clause-called : goal.returns-clause-called
 returns-clause-called g c =

@@ -5,13 +5,17 @@ use Rattle.bp_free.specs.declared.parts.Parts.{Parts}
 use Rattle.bp_rename.proofs.RenamedStands.{renamed_moves}
 use Rattle.bp_rename.specs.CanRename.{change_of}
 use Rattle.bp_volume.proofs.ChangeLaws.{carried_or_lacks, lacks_space, performs_call}
-use Rattle.bp_volume.proofs.FewBlocks.{performs_room}
+use Rattle.bp_volume.proofs.FewBlocks.{few_room, performs_room}
 use Rattle.bp_volume.proofs.MovingLaws.{may_rename, moving_becomes, moving_few, moving_makes}
 use Rattle.bp_volume.proofs.TargetLaws.{slot_handed}
 use Rattle.bp_volume.proofs.renaming.move_name.Goals as goal
 
 pub rename_in-requires-clause-can : goal.rename_in-requires-clause-can
 rename_in-requires-clause-can g c = may_rename _ c.args.from.now c.args.to.now c.args.ends.now c.requires.may c.requires.well_formed c.move_of-to_move.result c.move_of-to_move.ensures
+
+pub rename_in-requires-clause-room : goal.rename_in-requires-clause-room
+rename_in-requires-clause-room g c = λ enough.
+    few_room (g.R.Region.memory c.args.parts.now.region) (change_of c.move_of-to_move.result) (moving_few _ c.args.from.now c.args.to.now c.args.ends.now c.requires.may c.requires.well_formed c.move_of-to_move.result c.move_of-to_move.ensures) c.requires.room
 
 pub returns-clause-called : goal.returns-clause-called
 returns-clause-called g c =

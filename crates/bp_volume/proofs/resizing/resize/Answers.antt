@@ -8,7 +8,7 @@ use Rattle.pm_region.specs.Memory.{current_words}
 use Rattle.bp_volume.specs.Carried.CarriesOut.{unchanged}
 use Rattle.bp_volume.proofs.AskingLaws.{at_reached}
 use Rattle.bp_volume.proofs.ChangeLaws.{carried_or_lacks, lacks_space, performs_call}
-use Rattle.bp_volume.proofs.FewBlocks.{few_resized, performs_room}
+use Rattle.bp_volume.proofs.FewBlocks.{few_resized, few_room, performs_room}
 use Rattle.bp_volume.proofs.FileLaws.{truncate_becomes, truncate_makes, truncate_nothing, truncate_too_big}
 use Rattle.bp_volume.proofs.resizing.resize.Goals as goal
 
@@ -21,6 +21,10 @@ returns-then-size-file-clause-called g c =
 
 pub truncate-requires-clause-reached : goal.truncate-requires-clause-reached
 truncate-requires-clause-reached g c = at_reached _ c.requires.well_formed c.args.text.now c.args.file.inumber c.requires.at
+
+pub truncate-requires-clause-room : goal.truncate-requires-clause-room
+truncate-requires-clause-room g c = λ enough.
+    few_room (g.R.Region.memory c.args.parts.now.region) (resizes c.args.file.inumber c.args.size) (few_resized _ c.requires.well_formed c.args.file.inumber (at_reached _ c.requires.well_formed c.args.text.now c.args.file.inumber c.requires.at) c.args.size) c.requires.room
 
 pub returns-clause-called : goal.returns-clause-called
 returns-clause-called g c =

@@ -8,7 +8,7 @@ use Rattle.bp_limits.specs.Limits.{max_size}
 use Rattle.bp_volume.specs.Carried.CarriesOut.{unchanged}
 use Rattle.bp_volume.proofs.AskingLaws.{at_low, at_reached}
 use Rattle.bp_volume.proofs.ChangeLaws.{carried_or_lacks, lacks_space, performs_call}
-use Rattle.bp_volume.proofs.FewBlocks.{few_writes, performs_room}
+use Rattle.bp_volume.proofs.FewBlocks.{few_room, few_writes, performs_room}
 use Rattle.bp_volume.proofs.FileLaws.{write_becomes, write_makes, write_nothing, write_too_big}
 use Rattle.bp_volume.proofs.writing.write_into.Goals as goal
 
@@ -33,7 +33,9 @@ write-requires g c =
         some = omega (arith, some);
         short = c.requires.short;
         fits = omega (arith, c.requires.short);
-        room = c.requires.room;
+        room = λ enough. few_room (g.R.Region.memory c.args.parts.now.region) (writes c.args.i c.args.off (length c.args.bytes.now))
+            (few_writes _ c.requires.well_formed c.args.i (at_low _ c.requires.well_formed c.args.text.now c.args.i c.requires.at) (at_reached _ c.requires.well_formed c.args.text.now c.args.i c.requires.at) c.args.off (length c.args.bytes.now) c.requires.short)
+            c.requires.room;
       };
     }
 

@@ -1,0 +1,96 @@
+// Opening a file on the disk, for one process at a time.
+
+use crate::Access;
+use std::fs::{File, OpenOptions, TryLockError};
+use std::io::ErrorKind;
+use std::os::unix::fs::MetadataExt;
+use std::{fs, io, rt};
+
+/// How often a name is opened again that another process led to another file meanwhile.
+const TRIES: u32 = 16;
+
+/// The fault of a name whose file has no blocks, as a folder or a device.
+fn no_file_of_blocks() -> io::Error {
+    io::Error::new(ErrorKind::InvalidInput, "not a regular file")
+}
+
+/// The fault of a file that another process has attached. Its kind is `ResourceBusy`.
+pub(crate) fn in_use() -> io::Error {
+    io::Error::new(ErrorKind::ResourceBusy, "in use by another process")
+}
+
+/// Locks a file, and never waits for that: for this process alone where it is to be written, and else
+/// together with all that read it. Where its file system knows no locks it stays without one.
+///
+/// # Errors
+///
+/// `in_use` where another process has a lock that does not go with this one.
+pub(crate) fn lock(file: &File, access: Access) -> io::Result<()> {
+    let done = if access.may_change() {
+        file.try_lock()
+    } else {
+        file.try_lock_shared()
+    };
+    match done {
+        Err(TryLockError::WouldBlock) => Err(in_use()),
+        Ok(()) | Err(TryLockError::Error(_)) => Ok(()),
+    }
+}
+
+/// Whether a name leads to this file.
+pub(crate) fn leads_to<R: rt::Files<File = File>>(
+    runtime: &R,
+    name: &str,
+    file: &File,
+) -> io::Result<bool> {
+    let found = match fs::metadata(runtime, name) {
+        Err(e) if e.kind() == ErrorKind::NotFound => return Ok(false),
+        found => found?,
+    };
+    let own = file.metadata()?;
+    Ok(found.dev() == own.dev() && found.ino() == own.ino())
+}
+
+/// Opens a regular file. One that may only be read is looked at before it is opened, since opening a
+/// pipe so would wait for a writer.
+fn open_once<R: rt::Files<File = File>>(
+    runtime: &R,
+    name: &str,
+    access: Access,
+) -> io::Result<File> {
+    if !access.may_change() && !fs::metadata(runtime, name)?.is_file() {
+        return Err(no_file_of_blocks());
+    }
+    let file = OpenOptions::new()
+        .read(true)
+        .write(access.may_change())
+        .create(access.makes())
+        .open(runtime, name)?;
+    if !file.metadata()?.is_file() {
+        return Err(no_file_of_blocks());
+    }
+    Ok(file)
+}
+
+/// Opens and locks a regular file, and answers it with its length in bytes. The process that had the
+/// lock before may have put another file in the place of the one that was opened; then the name is
+/// opened again.
+///
+/// # Errors
+///
+/// `in_use` where another process has the file; else an error of the system.
+pub(crate) fn open<R: rt::Files<File = File>>(
+    runtime: &R,
+    name: &str,
+    access: Access,
+) -> io::Result<(File, u64)> {
+    for _tries in 0..TRIES {
+        let file = open_once(runtime, name, access)?;
+        lock(&file, access)?;
+        if leads_to(runtime, name, &file)? {
+            let length = file.metadata()?.len();
+            return Ok((file, length));
+        }
+    }
+    Err(in_use())
+}

@@ -1,0 +1,333 @@
+// How what is written comes to a file on the disk.
+ghost use Rattle.std.specs.Prelude.{◌≡◌, is_some};
+
+use crate::Access;
+use crate::opening::lock;
+use crate::second_file::{Names, SecondFile, has_room, lacks_room};
+use crate::window::Window;
+use bp_limits::BLOCK_SIZE;
+use std::alloc::{AllocError, Global};
+use std::fs::File;
+use std::io::ErrorKind;
+use std::os::unix::fs::FileExt;
+use std::{io, mem, rt};
+
+/// How what is written comes to the attached file.
+#[derive(Drop)]
+enum Way {
+    /// Nothing was written since the last flush.
+    Clean,
+    /// To a second file, which takes the place of the attached one when it is flushed.
+    Beside(SecondFile),
+    /// To the attached file itself.
+    InPlace,
+    /// Not at all: a call failed, and what was written since the last flush is lost, or a part of it.
+    Lost,
+}
+
+/// What was written to the attached file and is not flushed yet.
+#[derive(Drop)]
+pub(crate) struct Saver {
+    names: Option<Names>,
+    way: Way,
+    window: Window,
+}
+
+/// The fault of a file of which a write was lost.
+fn lost() -> io::Error {
+    io::Error::new(ErrorKind::Other, "an earlier write failed")
+}
+
+/// Whether an error says that a name may not be given to another file.
+fn keeps_its_file(error: &io::Error) -> bool {
+    matches!(
+        error.kind(),
+        ErrorKind::PermissionDenied | ErrorKind::ResourceBusy | ErrorKind::CrossesDevices
+    )
+}
+
+/// The way of what is to be written to a file, which needs room for so many bytes at least.
+fn way_to<R: rt::Files<File = File>>(
+    runtime: &R,
+    names: &Option<Names>,
+    file: &File,
+    least: u64,
+) -> io::Result<Way> {
+    let Some(names) = names else {
+        return Ok(Way::InPlace);
+    };
+    match SecondFile::new(runtime, names, file) {
+        Ok(second) => Ok(Way::Beside(second)),
+        // Another process is writing, or no write gets through to the end of the file.
+        Err(e) if matches!(e.kind(), ErrorKind::ResourceBusy | ErrorKind::FileTooLarge) => Err(e),
+        Err(e) if lacks_room(&e) && !has_room(file, least)? => Err(e),
+        Err(_) => Ok(Way::InPlace),
+    }
+}
+
+impl Saver {
+    /// Nothing is written, to no file.
+    pub(crate) fn new(alloc: Global) -> Result<Self, AllocError> {
+        Ok(Saver {
+            names: None,
+            way: Way::Clean,
+            window: Window::new(alloc)?,
+        })
+    }
+
+    /// Nothing is written to a file of these names. Without names it is written in place.
+    pub(crate) fn restart(&mut self, names: Option<Names>) {
+        self.names = names;
+        self.way = Way::Clean;
+    }
+
+    /// Gives up what was written since the last flush, and each later write.
+    fn lose<R: rt::Files<File = File>>(&mut self, runtime: &R) {
+        self.window.restart(0);
+        if let (Way::Beside(_), Some(names)) = (&self.way, &self.names) {
+            names.remove_second(runtime);
+        }
+        self.way = Way::Lost;
+    }
+
+    /// An error loses what was written.
+    fn or_lose<T, R: rt::Files<File = File>>(
+        &mut self,
+        runtime: &R,
+        done: io::Result<T>,
+    ) -> io::Result<T> {
+        if done.is_err() {
+            self.lose(runtime);
+        }
+        done
+    }
+
+    /// Chooses a way where something is written for the first time since the last flush. The file will
+    /// need room for so many bytes at least.
+    fn begin<R: rt::Files<File = File>>(
+        &mut self,
+        runtime: &R,
+        file: &File,
+        least: u64,
+    ) -> io::Result<()> {
+        match self.way {
+            Way::Clean => {
+                self.way = way_to(runtime, &self.names, file, least)?;
+                Ok(())
+            }
+            Way::Beside(_) | Way::InPlace => Ok(()),
+            Way::Lost => Err(lost()),
+        }
+    }
+
+    /// Goes on in place. What the second file has goes to the first.
+    fn go_in_place<R: rt::Files<File = File>>(
+        &mut self,
+        runtime: &R,
+        file: &File,
+    ) -> io::Result<()> {
+        match (mem::replace(&mut self.way, Way::InPlace), &self.names) {
+            (Way::Beside(second), Some(names)) => {
+                names.remove_second(runtime);
+                second.write_to(file)
+            }
+            _ => Ok(()),
+        }
+    }
+
+    /// Goes on in place where there was no room for the second file, and the first needs none.
+    fn or_go_in_place<R: rt::Files<File = File>>(
+        &mut self,
+        runtime: &R,
+        file: &File,
+        done: io::Result<()>,
+    ) -> io::Result<()> {
+        match (done, &self.way) {
+            (Err(e), Way::Beside(second)) if lacks_room(&e) && second.fits_in(file)? => {
+                self.go_in_place(runtime, file)
+            }
+            (done, _) => done,
+        }
+    }
+
+    /// Writes the blocks that wait.
+    fn write_out<R: rt::Files<File = File>>(&mut self, runtime: &R, file: &File) -> io::Result<()> {
+        if let Way::Beside(second) = &mut self.way {
+            let done = second.take(file, &mut self.window);
+            self.or_go_in_place(runtime, file, done)?;
+        }
+        match self.way {
+            Way::InPlace => self.window.write_out(file),
+            Way::Clean | Way::Beside(_) | Way::Lost => Ok(()),
+        }
+    }
+
+    /// Writes the blocks that wait, and completes a second file.
+    fn write_all<R: rt::Files<File = File>>(&mut self, runtime: &R, file: &File) -> io::Result<()> {
+        self.write_out(runtime, file)?;
+        if let Way::Beside(second) = &mut self.way {
+            let done = second.complete(file);
+            self.or_go_in_place(runtime, file, done)?;
+        }
+        Ok(())
+    }
+
+    fn try_write_block<R: rt::Files<File = File>>(
+        &mut self,
+        runtime: &R,
+        file: &File,
+        i: u32,
+        from: &[u8; 4096],
+    ) -> io::Result<()> {
+        self.begin(runtime, file, BLOCK_SIZE * (u64::from(i) + 1))?;
+        if !self.window.takes(i) {
+            self.write_out(runtime, file)?;
+            self.window.restart(i);
+        }
+        self.window.push(from);
+        Ok(())
+    }
+
+    fn try_set_len<R: rt::Files<File = File>>(
+        &mut self,
+        runtime: &R,
+        file: &File,
+        length: u64,
+    ) -> io::Result<()> {
+        self.begin(runtime, file, length)?;
+        self.write_out(runtime, file)?;
+        match &mut self.way {
+            Way::Beside(second) => second.set_len(length),
+            Way::Clean | Way::InPlace | Way::Lost => file.set_len(length),
+        }
+    }
+
+    /// Gives a complete second file the name of the first.
+    fn take_place<R: rt::Files<File = File>>(
+        &mut self,
+        runtime: &R,
+        file: &File,
+    ) -> io::Result<()> {
+        let (Way::Beside(second), Some(names)) = (&self.way, &self.names) else {
+            return Ok(());
+        };
+        match second.take_place(runtime, names, file) {
+            Err(e) if keeps_its_file(&e) => self.go_in_place(runtime, file),
+            done => done,
+        }
+    }
+
+    fn try_flush<R: rt::Files<File = File>>(
+        &mut self,
+        runtime: &R,
+        file: &File,
+    ) -> io::Result<Option<File>> {
+        self.write_all(runtime, file)?;
+        self.take_place(runtime, file)?;
+        match mem::replace(&mut self.way, Way::Clean) {
+            Way::Beside(second) => Ok(Some(second.settle()?)),
+            Way::Clean | Way::InPlace => {
+                file.sync_data()?;
+                Ok(None)
+            }
+            Way::Lost => Err(lost()),
+        }
+    }
+
+    /// Writes the block `i`, or lets it wait.
+    pub(crate) fn write_block<R: rt::Files<File = File>>(
+        &mut self,
+        runtime: &R,
+        file: &File,
+        i: u32,
+        from: &[u8; 4096],
+    ) -> io::Result<()> {
+        let done = self.try_write_block(runtime, file, i, from);
+        self.or_lose(runtime, done)
+    }
+
+    /// Gives the file another length, in bytes.
+    pub(crate) fn set_len<R: rt::Files<File = File>>(
+        &mut self,
+        runtime: &R,
+        file: &File,
+        length: u64,
+    ) -> io::Result<()> {
+        let done = self.try_set_len(runtime, file, length);
+        self.or_lose(runtime, done)
+    }
+
+    /// Reads from a byte on what was written, and what stands in the file where nothing was.
+    pub(crate) fn read<R: rt::Files<File = File>>(
+        &mut self,
+        runtime: &R,
+        file: &File,
+        into: &mut [u8],
+        at: u64,
+    ) -> io::Result<()> {
+        let done = self.write_all(runtime, file);
+        self.or_lose(runtime, done)?;
+        match &self.way {
+            Way::Beside(second) => second.read(into, at),
+            Way::Clean | Way::InPlace => file.read_exact_at(into, at),
+            Way::Lost => Err(lost()),
+        }
+    }
+
+    /// Makes what was written last, where a file is attached, which may then be another one.
+    pub(crate) fn flush<R: rt::Files<File = File>>(
+        &mut self,
+        runtime: &R,
+        attached: &mut Option<File>,
+    ) -> io::Result<()>
+        ensures { is_some attached.new ≡ is_some attached.old }
+    {
+        let Some(file) = attached else {
+            return Ok(());
+        };
+        let done = self.try_flush(runtime, file);
+        if let Some(second) = self.or_lose(runtime, done)? {
+            *file = second;
+        }
+        Ok(())
+    }
+
+    /// Flushes what was written, and lets go of the lock of the attached file, which may be the one that is
+    /// to be attached.
+    pub(crate) fn leave<R: rt::Files<File = File>>(
+        &mut self,
+        runtime: &R,
+        attached: &mut Option<File>,
+    ) -> io::Result<()>
+        ensures { is_some attached.new ≡ is_some attached.old }
+    {
+        if matches!(self.way, Way::Beside(_) | Way::InPlace) {
+            self.flush(runtime, attached)?;
+        }
+        if let Some(file) = attached {
+            let _ = file.unlock();
+        }
+        Ok(())
+    }
+
+    /// Takes back the lock of a file that stays attached. Where another process has it now, each later
+    /// write is a fault.
+    pub(crate) fn stay<R: rt::Files<File = File>>(
+        &mut self,
+        runtime: &R,
+        attached: &Option<File>,
+        may_write: bool,
+    ) {
+        let Some(file) = attached else {
+            return;
+        };
+        let access = if may_write {
+            Access::Write
+        } else {
+            Access::Read
+        };
+        if lock(file, access).is_err() {
+            self.lose(runtime);
+        }
+    }
+}

@@ -1,0 +1,265 @@
+// A second file, which takes the place of the first once it is whole.
+ghost use Rattle.std.specs.Prelude.{◌≤◌, ◌^◌};
+
+use crate::Access;
+use crate::opening::{in_use, leads_to, lock};
+use crate::window::Window;
+use std::alloc::Global;
+use std::fs::{File, Metadata, OpenOptions, TryLockError};
+use std::io::ErrorKind;
+use std::os::unix::fs::{FileExt, MetadataExt, OpenOptionsExt, fchown};
+use std::path::PathBuf;
+use std::{fs, io, rt};
+
+/// What the name of a second file has behind that of the first.
+const ENDING: &str = "bpfs-sync";
+
+/// The permissions of a second file until it has those of the first: its maker may read and write it.
+const PRIVATE: u32 = 0o600;
+
+/// The bytes that the system counts as one block of a file's room.
+const ROOM_UNIT: u64 = 512;
+
+/// The bytes that are copied at once.
+const PIECE: usize = 65_536;
+
+/// The names of a file and of the second one beside it, behind all symbolic links.
+#[derive(Drop)]
+pub(crate) struct Names {
+    file: PathBuf,
+    second: PathBuf,
+}
+
+impl Names {
+    pub(crate) fn of<R: rt::Files<File = File>>(
+        alloc: Global,
+        runtime: &R,
+        name: &str,
+    ) -> io::Result<Self> {
+        let file = runtime.canonicalize(alloc, name)?;
+        let second = file.with_added_extension(alloc, ENDING)?;
+        Ok(Names { file, second })
+    }
+
+    /// Removes the second file, where that can be done.
+    pub(crate) fn remove_second<R: rt::Files<File = File>>(&self, runtime: &R) {
+        let _ = fs::remove_file(runtime, &self.second);
+    }
+}
+
+/// A second file beside a first one. It has a front of the bytes that are to be; behind that they are
+/// those of the first file, and zeros where that one has none or was cut off.
+#[derive(Drop)]
+pub(crate) struct SecondFile {
+    file: File,
+    folder: File,
+    /// How many bytes it has.
+    filled: u64,
+    /// How many bytes of the first file stay, but for those that it has.
+    kept: u64,
+    /// The length that is to be.
+    length: u64,
+}
+
+/// Whether an error says that there is no room on the disk.
+pub(crate) fn lacks_room(error: &io::Error) -> bool {
+    matches!(
+        error.kind(),
+        ErrorKind::StorageFull | ErrorKind::QuotaExceeded
+    )
+}
+
+/// Whether a file has all of its room on the disk, so that no write in it wants more, up to this length.
+pub(crate) fn has_room(file: &File, length: u64) -> io::Result<bool> {
+    let metadata = file.metadata()?;
+    Ok(length <= metadata.len() && metadata.len() / ROOM_UNIT <= metadata.blocks())
+}
+
+/// Removes what a process left that was killed. A name that is no regular file, or whose file is
+/// locked or cannot be, was left by none.
+fn remove_leftover<R: rt::Files<File = File>>(runtime: &R, name: &str) -> io::Result<()> {
+    if !fs::symlink_metadata(runtime, name)?.is_file() {
+        return Err(ErrorKind::AlreadyExists.into());
+    }
+    let leftover = OpenOptions::new()
+        .read(true)
+        .write(true)
+        .open(runtime, name)?;
+    match leftover.try_lock() {
+        Ok(()) => fs::remove_file(runtime, name),
+        Err(TryLockError::WouldBlock) => Err(in_use()),
+        Err(TryLockError::Error(e)) => Err(e),
+    }
+}
+
+/// Makes a file under a name that is not there.
+fn make_new<R: rt::Files<File = File>>(runtime: &R, name: &str) -> io::Result<File> {
+    OpenOptions::new()
+        .read(true)
+        .write(true)
+        .create_new(true)
+        .mode(PRIVATE)
+        .open(runtime, name)
+}
+
+/// Gives a file the owner, the group and the permissions of another one on the same file system.
+fn take_after(file: &File, first: &Metadata) -> io::Result<()> {
+    let own = file.metadata()?;
+    if own.dev() != first.dev() {
+        return Err(ErrorKind::CrossesDevices.into());
+    }
+    if own.uid() != first.uid() || own.gid() != first.gid() {
+        fchown(file, Some(first.uid()), Some(first.gid()))?;
+    }
+    file.set_permissions(first.permissions())
+}
+
+/// Copies the bytes from `start` up to `end` from a file to the same place in another one.
+fn copy_bytes(from: &File, to: &File, start: u64, end: u64) -> io::Result<()> {
+    let mut piece = [0u8; PIECE];
+    let mut at = start;
+    while at < end {
+        let count = (end - at).min(PIECE as u64);
+        let bytes = &mut piece[..count as usize];
+        from.read_exact_at(bytes, at)?;
+        to.write_all_at(bytes, at)?;
+        at += count;
+    }
+    Ok(())
+}
+
+/// Makes a file of this name, in place of one that a process left that was killed.
+fn make_second<R: rt::Files<File = File>>(runtime: &R, name: &str) -> io::Result<File> {
+    match make_new(runtime, name) {
+        Err(e) if e.kind() == ErrorKind::AlreadyExists => {
+            remove_leftover(runtime, name)?;
+            make_new(runtime, name)
+        }
+        made => made,
+    }
+}
+
+/// Locks a new file, and makes it like the first one but for its bytes.
+fn prepare(file: &File, first: &Metadata) -> io::Result<()> {
+    lock(file, Access::Write)?;
+    take_after(file, first)?;
+    file.set_len(first.len())
+}
+
+/// The folder of a file, to be flushed.
+fn open_folder<R: rt::Files<File = File>>(runtime: &R, file: &PathBuf) -> io::Result<File> {
+    match file.parent() {
+        Some(folder) => File::open(runtime, folder),
+        None => Err(ErrorKind::InvalidFilename.into()),
+    }
+}
+
+impl SecondFile {
+    /// Makes a second file beside the first, which has no bytes of its own yet.
+    ///
+    /// # Errors
+    ///
+    /// `in_use` where another process has a file of that name; else that no such file can take the
+    /// place of the first. None is left then.
+    pub(crate) fn new<R: rt::Files<File = File>>(
+        runtime: &R,
+        names: &Names,
+        first: &File,
+    ) -> io::Result<Self> {
+        let metadata = first.metadata()?;
+        if metadata.nlink() > 1 {
+            return Err(ErrorKind::TooManyLinks.into());
+        }
+        let folder = open_folder(runtime, &names.file)?;
+        let file = make_second(runtime, names.second.as_str())?;
+        if let Err(e) = prepare(&file, &metadata) {
+            names.remove_second(runtime);
+            return Err(e);
+        }
+        Ok(SecondFile {
+            file,
+            folder,
+            filled: 0,
+            kept: metadata.len(),
+            length: metadata.len(),
+        })
+    }
+
+    /// Gives it all bytes of the first file that stay, up to this one.
+    fn fill(&mut self, first: &File, end: u64) -> io::Result<()> {
+        let end = end.min(self.kept);
+        if self.filled < end {
+            copy_bytes(first, &self.file, self.filled, end)?;
+            self.filled = end;
+        }
+        Ok(())
+    }
+
+    /// Gives it the blocks that wait, and the bytes of the first file before them.
+    pub(crate) fn take(&mut self, first: &File, window: &mut Window) -> io::Result<()> {
+        let (start, end) = window.place();
+        self.fill(first, start)?;
+        window.write_out(&self.file)?;
+        self.filled = self.filled.max(end);
+        Ok(())
+    }
+
+    /// Gives it all bytes that it lacks.
+    pub(crate) fn complete(&mut self, first: &File) -> io::Result<()> {
+        self.fill(first, self.kept)
+    }
+
+    /// Cuts it off there, or fills it up with zeros.
+    pub(crate) fn set_len(&mut self, length: u64) -> io::Result<()> {
+        self.file.set_len(length)?;
+        self.filled = self.filled.min(length);
+        self.kept = self.kept.min(length);
+        self.length = length;
+        Ok(())
+    }
+
+    /// Reads from it. It has to be complete.
+    pub(crate) fn read(&self, into: &mut [u8], at: u64) -> io::Result<()> {
+        self.file.read_exact_at(into, at)
+    }
+
+    /// Whether its bytes can go to the first file without any more room on the disk.
+    pub(crate) fn fits_in(&self, first: &File) -> io::Result<bool> {
+        Ok(self.kept == self.length && has_room(first, self.length)?)
+    }
+
+    /// Makes the first file what this one stands for, in place.
+    pub(crate) fn write_to(&self, first: &File) -> io::Result<()> {
+        first.set_len(self.kept)?;
+        first.set_len(self.length)?;
+        copy_bytes(&self.file, first, 0, self.filled)
+    }
+
+    /// Flushes it, and gives it the name of the first file. It has to be complete.
+    ///
+    /// # Errors
+    ///
+    /// The name leads as before then.
+    pub(crate) fn take_place<R: rt::Files<File = File>>(
+        &self,
+        runtime: &R,
+        names: &Names,
+        first: &File,
+    ) -> io::Result<()> {
+        self.file.sync_all()?;
+        if !leads_to(runtime, names.file.as_str(), first)? {
+            let message = "another file has its name now";
+            return Err(io::Error::new(ErrorKind::Other, message));
+        }
+        fs::rename(runtime, &names.second, &names.file)
+    }
+
+    /// The file, once its new name is flushed too, as far as the file system does that.
+    pub(crate) fn settle(self) -> io::Result<File> {
+        match self.folder.sync_all() {
+            Err(e) if matches!(e.kind(), ErrorKind::InvalidInput | ErrorKind::Unsupported) => {}
+            done => done?,
+        }
+        Ok(self.file)
+    }
+}

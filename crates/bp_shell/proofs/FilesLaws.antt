@@ -1,0 +1,28 @@
+-- What a run leaves of the files.
+use Rattle.std.proofs.Common.{sym, ◌∙◌, ◌≡◌, ℕ, List, true, inl, inr}
+use Rattle.bp_io.specs.Files.{KeepsFiles, KeepsOthers, StaysAttached, View}
+use Rattle.bp_io.specs.declared.access.Access.TheVariants.{Write}
+use Rattle.bp_session.proofs.OthersLaws.{others_then, stays_stays}
+use Rattle.bp_session.proofs.SavingLaws.{stays_attached}
+use Rattle.bp_shell.specs.Opening.{AttachesAs}
+use Rattle.bp_shell.specs.Running.{OnlyWrites}
+
+-- nothing was done but to open FILE
+pub only_opened : (name : List ℕ) (old new : View) → AttachesAs Write name old new → KeepsFiles old new → OnlyWrites name old new
+only_opened name old new (inl at) kept = inl (record { attached = at.0; may_write = at.1; others = λ other is. kept other })
+only_opened name old new (inr stays) kept = inr (stays, kept)
+
+module _ (name : List ℕ) (old opened new : View) (kept : KeepsFiles old opened) (attached : opened.is_attached name ≡ true) (may_write : opened.may_write ≡ true) where
+  -- FILE was written
+  pub only_written : StaysAttached opened new → KeepsOthers opened new → OnlyWrites name old new
+  only_written stays others = inl (record {
+    attached = stays.attached name ∙ attached;
+    may_write = stays.may_write ∙ may_write;
+    others = λ other is. stays_stays (old.contents other) (opened.contents other) (new.contents other) (kept other) (others other (sym (stays.attached other) ∙ is));
+  })
+
+-- .. and saved
+pub only_saved : (name : List ℕ) (old opened served new : View) → KeepsFiles old opened → opened.is_attached name ≡ true → opened.may_write ≡ true
+    → StaysAttached opened served → KeepsOthers opened served → StaysAttached served new → KeepsOthers served new → OnlyWrites name old new
+only_saved name old opened served new kept attached may_write stays others still kept_others =
+    only_written name old opened new kept attached may_write (stays_attached _ _ _ stays still) (others_then opened served new stays others kept_others)

@@ -1,0 +1,125 @@
+-- Calls that need no block, as the plain tree tells of them: they are never refused for want of space.
+use Rattle.std.proofs.Common.{◌≡◌, ◌≢◌, ℕ, ◌≤◌, List, [], ◌∷◌, length, Bool, true, false, Option, None, Some, true≢false, refl, sym, ◌∙◌, arith}
+use Rattle.std.specs.Prelude.{◌&&◌, is_none, nat_lt, not}
+use Rattle.std.proofs.lemmas.Bool.{eqb-false}
+use Rattle.bp_calls.specs.InPlace.{LiesInWord}
+use Rattle.bp_calls.proofs.InWord.{none_writing}
+use Rattle.bp_calls.proofs.Leaving.{none_leaving}
+use Rattle.bp_calls.proofs.MayLeave.{found_entry, found_reached}
+use Rattle.bp_calls.proofs.Shorter.{none_shrinking}
+use Rattle.bp_layout.specs.Inode.{kind_of}
+use Rattle.bp_layout.specs.Lookup.{Path, lookup}
+use Rattle.bp_layout.specs.Need.{Change, need}
+use Rattle.bp_layout.specs.Need.Change.{leaves}
+use Rattle.bp_layout.specs.Words.{Image}
+use Rattle.bp_limits.specs.Limits.{max_size}
+use Rattle.bp_path.specs.Walk.{Walked, walk_from}
+use Rattle.bp_path.specs.Walk.Walked.{found, missing, in_file}
+use Rattle.bp_path.proofs.WalkLaws.{walk_is_lookup}
+use Rattle.bp_plain.specs.Calls.{Refusal}
+use Rattle.bp_plain.specs.Calls.Call.{unlink, rmdir, truncate, write}
+use Rattle.bp_plain.specs.Calls.Refusal.{is_dir, is_root, not_dir, not_empty, too_big}
+use Rattle.bp_plain.specs.Plain.{refusal, changes, is_changing, walk, first, when, is_dir_at, is_empty_dir, is_root_path, bytes_at, path_named}
+use Rattle.bp_plain.specs.PlainTree.{FileTree}
+use Rattle.bp_plain.specs.Stands.{Stands}
+use Rattle.bp_volume.specs.Step.{FindsEntry, IsChange, IsNeverShort, PathFinds, StandsIn}
+use Rattle.bp_volume.specs.Step.IsChange.{by_unlink, by_rmdir, by_truncate}
+use Rattle.bp_volume.specs.Step.StepFor.{no_room, unchanged, changed}
+use Rattle.bp_volume.specs.Told.{refusal_of_walk}
+use Rattle.bp_volume.proofs.FileLaws.{has_bytes, write_need}
+use Rattle.bp_volume.proofs.LeavingLaws.{is_found}
+use Rattle.bp_volume.proofs.WalkLaws.{dir_at, kind_at, reached_at, walk-image}
+
+-- ---- where no refusal comes
+
+none_refused : (o : Option Refusal) (b : Bool) → (is_none o && b) ≡ true → o ≡ None
+none_refused None b is = refl
+none_refused (Some why) b is = absurd (true≢false (sym is))
+
+-- then each of the first two does not
+none_first : (one two : Option Refusal) (rest : List (Option Refusal)) → first (one ∷ two ∷ rest) ≡ None → (one ≡ None) × (two ≡ None)
+none_first None None rest none = (refl, refl)
+none_first None (Some why) rest none = absurd (cc)
+none_first (Some why) two rest none = absurd (cc)
+
+none_when : (b : Bool) (why : Refusal) → when b why ≡ None → b ≡ false
+none_when true why none = absurd (cc)
+none_when false why none = refl
+
+not_top : (path : Path) → is_root_path path ≡ false → path ≢ []
+not_top path other e = true≢false (rw e at other)
+
+walked_found : (walked : Walked) → refusal_of_walk walked ≡ None → (j : ℕ) × (walked ≡ found j)
+walked_found (found j) none = (j, refl)
+walked_found missing none = absurd (cc)
+walked_found in_file none = absurd (cc)
+
+module _ (image : Image) (tree : FileTree) (stands : Stands image tree) where
+  -- a walk that nothing stops finds an inode
+  walk_finds : (path : Path) → walk tree path ≡ None → (j : ℕ) × (lookup image path ≡ Some j)
+  walk_finds path walked =
+      let to = walked_found (walk_from image 1 path) (sym (walk-image image tree stands path) ∙ walked) in
+      (to.0, (walk_is_lookup image 1 to.0 path).0 to.1)
+
+  -- ---- a name that leaves
+
+  -- the entry that a path finds needs none
+  none_at : (text : List ℕ) (i s : ℕ) (root : Refusal) (rest : List (Option Refusal)) (at : StandsIn image text i s) → first (when (is_root_path at.path) root ∷ walk tree at.path ∷ rest) ≡ None → need image (leaves i s) ≡ 0
+  none_at text i s root rest at none =
+      let parts = none_first (when (is_root_path at.path) root) (walk tree at.path) rest none in
+      let there = walk_finds at.path parts.1 in
+      let finds : FindsEntry image text i s there.0 = record {
+        path = at.path;
+        parsed = at.parsed;
+        entry = record { below = not_top at.path (none_when (is_root_path at.path) root parts.0); parent = at.parent; slot = at.slot; inode = there.1 };
+      } in
+      let here = is_found image text i s there.0 finds in
+      none_leaving image stands.well_formed i s there.0 (found_reached image _ _ i s there.0 here) (found_entry image _ _ i s there.0 here)
+
+  unlink_none : (text : List ℕ) (change : Change) → is_changing tree (unlink text) ≡ true → IsChange image (unlink text) change → need image change ≡ 0
+  unlink_none text _ changing (by_unlink {i = i} {s = s} at) =
+      let none : refusal tree (unlink text) ≡ None = none_refused (refusal tree (unlink text)) true changing in
+      none_at text i s is_dir (when (is_dir_at tree at.path) is_dir ∷ []) at (rw at.parsed at none)
+
+  rmdir_none : (text : List ℕ) (change : Change) → is_changing tree (rmdir text) ≡ true → IsChange image (rmdir text) change → need image change ≡ 0
+  rmdir_none text _ changing (by_rmdir {i = i} {s = s} at) =
+      let none : refusal tree (rmdir text) ≡ None = none_refused (refusal tree (rmdir text)) true changing in
+      none_at text i s is_root (when (not (is_dir_at tree at.path)) not_dir ∷ when (not (is_empty_dir tree at.path)) not_empty ∷ []) at (rw at.parsed at none)
+
+  pub unlink_plainly : (text : List ℕ) → IsNeverShort image tree (unlink text)
+  unlink_plainly text _ _ (no_room changing has fewer) = let none = unlink_none text has.change changing has.is in absurd (omega (arith, none, has.needs, fewer))
+  unlink_plainly text _ _ (unchanged still) = refl
+  unlink_plainly text _ _ (changed changing fits becomes) = refl
+
+  pub rmdir_plainly : (text : List ℕ) → IsNeverShort image tree (rmdir text)
+  rmdir_plainly text _ _ (no_room changing has fewer) = let none = rmdir_none text has.change changing has.is in absurd (omega (arith, none, has.needs, fewer))
+  rmdir_plainly text _ _ (unchanged still) = refl
+  rmdir_plainly text _ _ (changed changing fits becomes) = refl
+
+  -- ---- a file that gets no longer
+
+  module _ (text : List ℕ) (size : ℕ) (shorter : size ≤ length (bytes_at tree (path_named text))) where
+    truncate_none : (change : Change) → is_changing tree (truncate text size) ≡ true → IsChange image (truncate text size) change → need image change ≡ 0
+    truncate_none _ changing (by_truncate {i = i} at) =
+        let none : refusal tree (truncate text size) ≡ None = none_refused (refusal tree (truncate text size)) (changes tree (truncate text size)) changing in
+        let parts = none_first (walk tree at.path) (when (is_dir_at tree at.path) is_dir) (when (nat_lt max_size size) too_big ∷ []) (rw at.parsed at none) in
+        let other : kind_of image i ≢ 2 = eqb-false (kind_of image i) 2 (sym (dir_at image tree stands at.path i at.inode) ∙ none_when (is_dir_at tree at.path) is_dir parts.1) in
+        let kinds = kind_at image stands.well_formed at.path i at.inode in
+        let file : kind_of image i ≡ 1 = omega (arith, kinds.0, kinds.1, other) in
+        none_shrinking image stands.well_formed i size (reached_at image stands.well_formed at.path i at.inode) file (rw (has_bytes image text i at file tree stands) at shorter)
+
+    pub truncate_plainly : IsNeverShort image tree (truncate text size)
+    truncate_plainly _ _ (no_room changing has fewer) = let none = truncate_none has.change changing has.is in absurd (omega (arith, none, has.needs, fewer))
+    truncate_plainly _ _ (unchanged still) = refl
+    truncate_plainly _ _ (changed changing fits becomes) = refl
+
+  -- bytes in one word that has a block
+
+  module _ (text new : List ℕ) (i off : ℕ) (at : PathFinds image text i) (lies : LiesInWord image i off (length new)) where
+    write_none : (change : Change) → IsChange image (write text off new) change → need image change ≡ 0
+    write_none change is = write_need image text i at lies.file off new (omega (arith, lies.one_word)) change is ∙ none_writing image stands.well_formed i off (length new) lies
+
+    pub write_plainly : IsNeverShort image tree (write text off new)
+    write_plainly _ _ (no_room changing has fewer) = let none = write_none has.change has.is in absurd (omega (arith, none, has.needs, fewer))
+    write_plainly _ _ (unchanged still) = refl
+    write_plainly _ _ (changed changing fits becomes) = refl

@@ -1,0 +1,124 @@
+#!/usr/bin/env python3
+"""Kills runs at random moments, and shows that each leaves FILE as one of its syncs made it.
+
+    kill-runs.py PROGRAM [COUNT]      PROGRAM: crates/bpfs/out/bpfs, as `rt run` leaves it there; COUNT: how many runs are killed (300)
+
+A run gives many blocks of a file the number of its turn, makes a file, and syncs, turn by turn. It is killed (SIGKILL) at a random moment,
+unless it ended before; then it is looked at too, and does not count. `check` has to call FILE clean, FILE has to be the tree after one of
+the turns, no older than that of the last sync that was answered, and the next run has to serve it and to leave no second file. The images
+have 256 to 8,192 blocks. A folder in TMPDIR is used. A program that writes each block of FILE in place fails here after a few kills.
+"""
+import os
+import random
+import signal
+import subprocess
+import sys
+import tempfile
+import threading
+import time
+
+SIZES = (256, 1024, 4096, 8192)
+TURNS = 8
+PIECE = 65_536
+MOST_PIECES = 8
+
+
+def pieces(blocks):
+    """How many pieces of 64 KiB each turn writes over an image of so many blocks."""
+    return min(blocks // 128, MOST_PIECES)
+
+
+def script(blocks):
+    lines = ["create /all"]
+    for turn in range(TURNS):
+        lines += [f"write /all {PIECE * piece} {PIECE * f'{turn:02x}'}" for piece in range(pieces(blocks))]
+        lines += [f"create /f{turn}", "sync"]
+    return "".join(f"{line}\n" for line in lines).encode()
+
+
+def run(program, words, lines=b""):
+    return subprocess.run([program, *words], input=lines, stdout=subprocess.PIPE, stderr=subprocess.PIPE, check=False)
+
+
+def turns_held(program, image, blocks):
+    """How many turns FILE holds, or a word that says what is wrong."""
+    said = run(program, ["check", image])
+    if said.returncode != 0 or not said.stdout.startswith(b"clean "):
+        return f"no image: status {said.returncode}, {said.stdout!r}"
+    lines = ["list /", *(f"read /all {PIECE * piece} {PIECE}" for piece in range(pieces(blocks)))]
+    told = run(program, ["run", image], "".join(f"{line}\n" for line in lines).encode()).stdout.decode().split("\n")
+    names = told[: told.index("end")]
+    if not names:
+        return 0
+    held = len(names) - 1
+    wanted = ["entry f all", *(f"entry f f{turn}" for turn in range(held)), "end"]
+    wanted += [f"data {PIECE * f'{held - 1:02x}'}"] * pieces(blocks) + [""]
+    return held if told == wanted else f"the tree of no turn, with {names}"
+
+
+def feed(stream, lines):
+    """Writes the lines as far as they are read."""
+    try:
+        with stream:
+            stream.write(lines)
+    except BrokenPipeError:
+        pass
+
+
+def killed_run(program, image, blocks, after):
+    """Runs the script, and kills the run after so many seconds. Answers how many syncs were answered, and whether it was killed."""
+    replies = bytearray()
+    with subprocess.Popen([program, "run", image], stdin=subprocess.PIPE, stdout=subprocess.PIPE) as child:
+        reader = threading.Thread(target=lambda: replies.extend(child.stdout.read()))
+        reader.start()
+        writer = threading.Thread(target=feed, args=(child.stdin, script(blocks)))
+        writer.start()
+        try:
+            child.wait(after)
+        except subprocess.TimeoutExpired:
+            os.kill(child.pid, signal.SIGKILL)
+        status = child.wait()
+        writer.join()
+        reader.join()
+    if replies.strip(b"ok\n"):
+        sys.exit(f"FAILED: a run replied {bytes(replies)!r}")
+    return max(replies.count(b"ok\n") - 1, 0) // (pieces(blocks) + 2), status == -signal.SIGKILL
+
+
+def main():
+    if len(sys.argv) not in (2, 3):
+        sys.exit(__doc__)
+    program = os.path.abspath(sys.argv[1])
+    count = int(sys.argv[2]) if len(sys.argv) == 3 else 300
+    draw = random.Random(1)
+    runs = kills = leftovers = ahead = 0
+    held_by_all = [0] * (TURNS + 1)
+    with tempfile.TemporaryDirectory() as folder:
+        image = os.path.join(folder, "FILE")
+        second = image + ".bpfs-sync"
+        longest = {}
+        for size in SIZES:
+            run(program, ["format", image, "--blocks", str(size)])
+            began = time.monotonic()
+            killed_run(program, image, size, None)
+            longest[size] = time.monotonic() - began
+        while kills < count:
+            runs += 1
+            size = draw.choice(SIZES)
+            run(program, ["format", image, "--blocks", str(size)])
+            answered, was_killed = killed_run(program, image, size, draw.uniform(0, longest[size]))
+            kills += was_killed
+            leftovers += os.path.exists(second)
+            held = turns_held(program, image, size)
+            if not isinstance(held, int) or held < answered:
+                sys.exit(f"FAILED: run {runs}, {size} blocks: {answered} syncs were answered, FILE holds {held}")
+            ahead += held > answered
+            held_by_all[held] += 1
+            after = run(program, ["run", image], b"create /after\n")
+            if after.returncode != 0 or after.stdout != b"ok\n" or os.path.exists(second):
+                sys.exit(f"FAILED: run {runs}: the next one: {after}")
+    print(f"{runs} runs, {kills} of them killed: FILE was always clean, and as one of its syncs made it")
+    print(f"turns held by FILE, from 0 on: {held_by_all}; a sync not yet answered was there in {ahead}; a second file was left by {leftovers}")
+
+
+main()

@@ -47,6 +47,10 @@ most_barriers = 10
 abbrev pub most_stores : ℕ → ℕ
 most_stores needed = (block_words + 1) * (needed + 6) + 64
 
+-- the same where nothing is thawed, or behind that
+abbrev pub most_stores_thawed : ℕ → ℕ
+most_stores_thawed needed = block_words * (needed + 6) + 64
+
 -- and how many events it adds at most: these, its barriers and its mark
 abbrev pub room_for : ℕ → ℕ
 room_for needed = most_stores needed + most_barriers + 1
@@ -54,10 +58,6 @@ room_for needed = most_stores needed + most_barriers + 1
 -- the log has room for the change, and no more is asked of it
 abbrev pub HasRoomFor : Memory → (ℕ → Bool) → Change → Type 0
 HasRoomFor memory kept change = room_for (full_need (current_words memory) kept change) ≤ room_in memory
-
--- the same where nothing is thawed, or behind that
-abbrev pub most_stores_thawed : ℕ → ℕ
-most_stores_thawed needed = block_words * (needed + 6) + 64
 
 -- A changing call before its mark, where some blocks are kept: a quiet preparation, and then one store alone in its
 -- epoch, at the word of the cover, with so many barriers and stores at most. It takes just so many blocks. The cover is

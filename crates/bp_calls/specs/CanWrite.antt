@@ -9,12 +9,13 @@ use Rattle.bp_layout.specs.WellFormed.{IsWellFormed}
 use Rattle.bp_limits.specs.Limits.{max_size, max_write}
 use Rattle.bp_calls.specs.Space.{HasRoomWhereFree}
 use Rattle.pm_region.specs.Memory.{Memory, current_words}
+use Rattle.bp_layout.specs.Thaw.{none_kept}
 
 -- The image is well formed, the sets are exact, and inode i is a file. There are bytes, no more than one call writes,
 -- and they end where a file may end. The log has room for the change, where enough blocks are free.
 pub record CanWrite (memory : Memory) (blocks inodes : Set) (i off : ℕ) (bytes : List ℕ) : Type 0 where
   pub well_formed : IsWellFormed (current_words memory)
-  pub exact : AreExact (current_words memory) blocks inodes
+  pub exact : AreExact (current_words memory) none_kept blocks inodes
   pub reached : IsReached (current_words memory) i
   pub file : IsFile (current_words memory) i
   pub some : 1 ≤ length bytes

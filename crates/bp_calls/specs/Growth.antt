@@ -15,6 +15,7 @@ use Rattle.bp_limits.specs.Limits.{block_size, block_words}
 use Rattle.bp_shapes.specs.Sets.{AreExact}
 use Rattle.bp_tree.specs.Performs.{AddsTaking, room_for}
 use Rattle.pm_region.specs.Memory.{Memory, current_words, room_in}
+use Rattle.bp_layout.specs.Thaw.{none_kept}
 
 -- how many blocks the inode file takes for one more leaf: as many in each change that needs an inode and finds none
 abbrev pub growth_need : Image → ℕ
@@ -24,7 +25,7 @@ growth_need image = growth_count image (enters 1 false)
 -- room for a call that needs so many.
 pub record CanGrowInodes (memory : Memory) (blocks inodes : Set) : Type 0 where
   pub well_formed : IsWellFormed (current_words memory)
-  pub exact : AreExact (current_words memory) blocks inodes
+  pub exact : AreExact (current_words memory) none_kept blocks inodes
   pub enough : growth_need (current_words memory) ≤ length (members blocks)
   pub room : room_for (growth_need (current_words memory)) ≤ room_in memory
 

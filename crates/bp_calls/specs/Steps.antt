@@ -14,6 +14,7 @@ use Rattle.bp_layout.specs.Words.{Image}
 use Rattle.bp_limits.specs.Limits.{entry_size}
 use Rattle.bp_shapes.specs.Sets.{AreExact}
 use Rattle.pm_region.specs.Memory.{Memory, current_words, room_in}
+use Rattle.bp_layout.specs.Thaw.{none_kept}
 
 -- directory i is reached, and has no such name
 pub record LacksName (image : Image) (i : ℕ) (name : Name) : Type 0 where
@@ -43,7 +44,7 @@ pub record CanPutBehind (memory : Memory) (blocks : Set) (i : ℕ) (name : Name)
   pub lacks : LacksName (current_words memory) i name
   pub none : empty_slot (current_words memory) i ≡ None
   pub inodes : Set
-  pub exact : AreExact (current_words memory) blocks inodes
+  pub exact : AreExact (current_words memory) none_kept blocks inodes
   pub enough : entry_need_for (current_words memory) i ≤ length (members blocks)
   pub room : entering_room (entry_need_for (current_words memory) i) ≤ room_in memory
 
@@ -55,7 +56,7 @@ pub record CanEnterBehind (memory : Memory) (blocks : Set) (i j : ℕ) (name : N
 -- The directory lacks the name, the sets are exact, an inode is free, and so are as many blocks as the name needs.
 pub record CanEnter (memory : Memory) (blocks inodes : Set) (i : ℕ) (name : Name) : Type 0 where
   pub lacks : LacksName (current_words memory) i name
-  pub exact : AreExact (current_words memory) blocks inodes
+  pub exact : AreExact (current_words memory) none_kept blocks inodes
   pub some : members inodes ≢ []
   pub enough : need (current_words memory) (enters i true) ≤ length (members blocks)
   pub room : entering_room (need (current_words memory) (enters i true)) ≤ room_in memory

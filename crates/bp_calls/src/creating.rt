@@ -14,7 +14,7 @@ ghost use Rattle.bp_layout.specs.Need.Change.{enters};
 ghost use Rattle.bp_layout.specs.Reached.{IsReached};
 ghost use Rattle.bp_layout.specs.WellFormed.{IsWellFormed};
 ghost use Rattle.bp_limits.specs.Limits.{max_height};
-ghost use Rattle.bp_shapes.specs.Sets.{AreExact};
+ghost use Rattle.bp_shapes.specs.Sets.{IsExact, kept_of};
 ghost use Rattle.bp_tree.specs.Performs.{HasRoomFor, Performs, PerformsWithin};
 ghost use Rattle.pm_region.specs.Memory.{current_words};
 
@@ -65,7 +65,7 @@ fn enter<R: Region>(parts: &mut Parts<R>, dir: u32, slot: Option<u64>, name: &[u
     ensures performs { PerformsWithin 5
         (stores_behind_growth (need (current_words (R.memory parts.old.region)) (enters dir true)))
         (R.memory parts.old.region) (R.memory parts.new.region) (enters dir true) (EntersName dir name.now kind) }
-    ensures exact { AreExact (current_words (R.memory parts.new.region)) parts.new.blocks parts.new.inodes }
+    ensures exact { IsExact (current_words (R.memory parts.new.region)) parts.new }
 {
     let inode = take(&mut parts.inodes);
     match slot {
@@ -83,14 +83,14 @@ fn grow_and_enter<R: Region>(
     kind: Kind,
 )
     requires lacks { LacksName (current_words (R.memory parts.old.region)) dir name.now }
-    requires exact { AreExact (current_words (R.memory parts.old.region)) parts.old.blocks parts.old.inodes }
+    requires exact { IsExact (current_words (R.memory parts.old.region)) parts.old }
     requires slot { slot ≡ empty_slot (current_words (R.memory parts.old.region)) dir }
     requires enough { need (current_words (R.memory parts.old.region)) (enters dir false)
         ≤ length (members parts.old.blocks) }
     requires room { HasRoomFor (R.memory parts.old.region) (enters dir false) }
-    ensures performs { Performs (R.memory parts.old.region) (R.memory parts.new.region) (enters dir false)
+    ensures performs { Performs (kept_of parts.old) (R.memory parts.old.region) (R.memory parts.new.region) (enters dir false)
         (EntersName dir name.now kind) }
-    ensures exact { AreExact (current_words (R.memory parts.new.region)) parts.new.blocks parts.new.inodes }
+    ensures exact { IsExact (current_words (R.memory parts.new.region)) parts.new }
 {
     grow(parts);
     enter(parts, dir, slot, name, kind);
@@ -110,7 +110,7 @@ pub fn create_in<R: Region>(
     kind: Kind,
 ) -> Result<(), NoSpace>
     requires well_formed { IsWellFormed (current_words (R.memory parts.old.region)) }
-    requires exact { AreExact (current_words (R.memory parts.old.region)) parts.old.blocks parts.old.inodes }
+    requires exact { IsExact (current_words (R.memory parts.old.region)) parts.old }
     requires reached { IsReached (current_words (R.memory parts.old.region)) dir }
     requires directory { IsDirectory (current_words (R.memory parts.old.region)) dir }
     requires name { IsName name.now }
@@ -119,9 +119,9 @@ pub fn create_in<R: Region>(
     requires room { (free : Bool) → TellsFreeInode (current_words (R.memory parts.old.region)) free
         → HasRoomWhereFree (R.memory parts.old.region) parts.old.blocks (enters dir free) }
     ensures performs { OnOk result ((free : Bool) → TellsFreeInode (current_words (R.memory parts.old.region)) free
-        → Performs (R.memory parts.old.region) (R.memory parts.new.region) (enters dir free)
+        → Performs (kept_of parts.old) (R.memory parts.old.region) (R.memory parts.new.region) (enters dir free)
         (EntersName dir name.now kind)) }
-    ensures exact { AreExact (current_words (R.memory parts.new.region)) parts.new.blocks parts.new.inodes }
+    ensures exact { IsExact (current_words (R.memory parts.new.region)) parts.new }
     ensures refused { IfErr result (λ lacks. (free : Bool)
         → TellsFreeInode (current_words (R.memory parts.old.region)) free
         → LacksSpace (current_words (R.memory parts.old.region)) (enters dir free) lacks) }
@@ -159,7 +159,7 @@ pub fn create<R: Region>(
     kind: Kind,
 ) -> Result<(), NoSpace>
     requires well_formed { IsWellFormed (current_words (R.memory parts.old.region)) }
-    requires exact { AreExact (current_words (R.memory parts.old.region)) parts.old.blocks parts.old.inodes }
+    requires exact { IsExact (current_words (R.memory parts.old.region)) parts.old }
     requires reached { IsReached (current_words (R.memory parts.old.region)) dir }
     requires directory { IsDirectory (current_words (R.memory parts.old.region)) dir }
     requires name { IsName name.now }
@@ -167,9 +167,9 @@ pub fn create<R: Region>(
     requires room { (free : Bool) → TellsFreeInode (current_words (R.memory parts.old.region)) free
         → HasRoomWhereFree (R.memory parts.old.region) parts.old.blocks (enters dir free) }
     ensures performs { OnOk result ((free : Bool) → TellsFreeInode (current_words (R.memory parts.old.region)) free
-        → Performs (R.memory parts.old.region) (R.memory parts.new.region) (enters dir free)
+        → Performs (kept_of parts.old) (R.memory parts.old.region) (R.memory parts.new.region) (enters dir free)
         (EntersName dir name.now kind)) }
-    ensures exact { AreExact (current_words (R.memory parts.new.region)) parts.new.blocks parts.new.inodes }
+    ensures exact { IsExact (current_words (R.memory parts.new.region)) parts.new }
     ensures refused { IfErr result (λ lacks. (free : Bool)
         → TellsFreeInode (current_words (R.memory parts.old.region)) free
         → LacksSpace (current_words (R.memory parts.old.region)) (enters dir free) lacks) }

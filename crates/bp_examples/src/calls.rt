@@ -1,7 +1,7 @@
 //! New names in a root directory that begins with two empty entries.
 
 ghost use Rattle.std.specs.Prelude.{IsTrue, IfOk};
-ghost use Rattle.bp_shapes.specs.Sets.{AreExact};
+ghost use Rattle.bp_shapes.specs.Sets.{IsExact};
 ghost use Rattle.bp_layout.specs.Directory.{IsName};
 ghost use Rattle.bp_layout.specs.WellFormed.{IsWellFormed};
 ghost use Rattle.pm_region.specs.Memory.{current_words};
@@ -19,7 +19,7 @@ use std::test::Fail;
 /// A root directory of two empty entries, with the free numbers.
 fn sample(alloc: Global) -> Result<Parts<ListRegion>, AllocError>
     ensures well_formed { IfOk result (λ parts. IsWellFormed (current_words parts.region)) }
-    ensures exact { IfOk result (λ parts. AreExact (current_words parts.region) parts.blocks parts.inodes) }
+    ensures exact { IfOk result (λ parts. IsExact (current_words parts.region) parts) }
 {
     let mut words = laid(alloc, &EMPTY)?;
     put(&mut words, &TWO_ENTRIES);
@@ -51,9 +51,9 @@ fn is_name(name: &[u8]) -> bool
 /// Creates a name in the root directory, `None` where it may not be asked for.
 fn make(parts: &mut Parts<ListRegion>, name: &[u8], kind: Kind) -> Option<Result<(), NoSpace>>
     requires well_formed { IsWellFormed (current_words parts.old.region) }
-    requires exact { AreExact (current_words parts.old.region) parts.old.blocks parts.old.inodes }
+    requires exact { IsExact (current_words parts.old.region) parts.old }
     ensures well_formed { IsWellFormed (current_words parts.new.region) }
-    ensures exact { AreExact (current_words parts.new.region) parts.new.blocks parts.new.inodes }
+    ensures exact { IsExact (current_words parts.new.region) parts.new }
 {
     if !is_name(name) || parts.region.room() < CALL_ROOM {
         return None;

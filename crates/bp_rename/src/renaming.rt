@@ -4,7 +4,7 @@ ghost use Rattle.std.specs.Prelude.{◌≡◌, IfErr, OnErr, OnOk};
 ghost use Rattle.bp_calls.specs.Space.{HasRoomWhereFree, LacksSpace};
 ghost use Rattle.bp_rename.specs.CanRename.{CanRename, IsSlotAcross, change_of};
 ghost use Rattle.bp_rename.specs.RenamesEntry.{RenamesEntry};
-ghost use Rattle.bp_shapes.specs.Sets.{AreExact};
+ghost use Rattle.bp_shapes.specs.Sets.{IsExact, kept_of};
 ghost use Rattle.bp_tree.specs.Performs.{Performs};
 ghost use Rattle.pm_region.specs.Memory.{current_words};
 
@@ -29,11 +29,11 @@ pub fn rename_in<R: Region>(
 ) -> Result<(), NoSpace>
     requires can { CanRename (current_words (R.memory parts.old.region)) to_move.now }
     requires empty { IsSlotAcross (current_words (R.memory parts.old.region)) to_move.now empty }
-    requires exact { AreExact (current_words (R.memory parts.old.region)) parts.old.blocks parts.old.inodes }
+    requires exact { IsExact (current_words (R.memory parts.old.region)) parts.old }
     requires room { HasRoomWhereFree (R.memory parts.old.region) parts.old.blocks (change_of to_move.now) }
-    ensures performs { OnOk result (Performs (R.memory parts.old.region) (R.memory parts.new.region)
+    ensures performs { OnOk result (Performs (kept_of parts.old) (R.memory parts.old.region) (R.memory parts.new.region)
         (change_of to_move.now) (RenamesEntry to_move.now)) }
-    ensures exact { AreExact (current_words (R.memory parts.new.region)) parts.new.blocks parts.new.inodes }
+    ensures exact { IsExact (current_words (R.memory parts.new.region)) parts.new }
     ensures refused { IfErr result (LacksSpace (current_words (R.memory parts.old.region)) (change_of to_move.now)) }
     ensures same { OnErr result (parts.new ≡ parts.old) }
 {
@@ -58,11 +58,11 @@ pub fn rename_in<R: Region>(
 /// Where fewer blocks are free than are needed.
 pub fn rename<R: Region>(parts: &mut Parts<R>, to_move: &Move<'_>) -> Result<(), NoSpace>
     requires can { CanRename (current_words (R.memory parts.old.region)) to_move.now }
-    requires exact { AreExact (current_words (R.memory parts.old.region)) parts.old.blocks parts.old.inodes }
+    requires exact { IsExact (current_words (R.memory parts.old.region)) parts.old }
     requires room { HasRoomWhereFree (R.memory parts.old.region) parts.old.blocks (change_of to_move.now) }
-    ensures performs { OnOk result (Performs (R.memory parts.old.region) (R.memory parts.new.region)
+    ensures performs { OnOk result (Performs (kept_of parts.old) (R.memory parts.old.region) (R.memory parts.new.region)
         (change_of to_move.now) (RenamesEntry to_move.now)) }
-    ensures exact { AreExact (current_words (R.memory parts.new.region)) parts.new.blocks parts.new.inodes }
+    ensures exact { IsExact (current_words (R.memory parts.new.region)) parts.new }
     ensures refused { IfErr result (LacksSpace (current_words (R.memory parts.old.region)) (change_of to_move.now)) }
     ensures same { OnErr result (parts.new ≡ parts.old) }
 {

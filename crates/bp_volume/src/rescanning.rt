@@ -5,7 +5,7 @@ ghost use Rattle.bp_limits.specs.Limits.{block_inodes};
 ghost use Rattle.bp_layout.specs.WellFormed.{IsWellFormed};
 ghost use Rattle.bp_layout.specs.Words.{block_count};
 ghost use Rattle.bp_scan.specs.Totals.{HasTotals};
-ghost use Rattle.bp_shapes.specs.Sets.{AreExact};
+ghost use Rattle.bp_shapes.specs.Sets.{IsExact};
 ghost use Rattle.pm_region.specs.Memory.{current_words};
 
 use bp_free::Parts;
@@ -20,7 +20,7 @@ pub(crate) fn rescan<R: Region>(parts: &mut Parts<R>, pending: &mut Pending) -> 
     requires inodes { length parts.old.inodes ≡ block_inodes * block_count (current_words (R.memory parts.old.region)) }
     requires pending { pending.old ≡ block_inodes * block_count (current_words (R.memory parts.old.region)) }
     ensures region { parts.new.region ≡ parts.old.region }
-    ensures exact { AreExact (current_words (R.memory parts.new.region)) parts.new.blocks parts.new.inodes }
+    ensures exact { IsExact (current_words (R.memory parts.new.region)) parts.new }
     ensures totals { HasTotals (current_words (R.memory parts.old.region)) result }
     ensures pending { pending.new ≡ pending.old }
 {

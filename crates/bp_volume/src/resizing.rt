@@ -5,7 +5,7 @@ ghost use Rattle.bp_layout.specs.Inode.{IsFile, size_of};
 ghost use Rattle.bp_layout.specs.WellFormed.{IsWellFormed};
 ghost use Rattle.bp_limits.specs.Limits.{call_room};
 ghost use Rattle.bp_plain.specs.Calls.Call.{truncate};
-ghost use Rattle.bp_shapes.specs.Sets.{AreExact};
+ghost use Rattle.bp_shapes.specs.Sets.{IsExact};
 ghost use Rattle.bp_volume.specs.Carried.{CarriesOut};
 ghost use Rattle.bp_volume.specs.Seen.{unit_answer};
 ghost use Rattle.bp_volume.specs.Step.{PathFinds};
@@ -26,14 +26,14 @@ fn resize<R: Region>(
     size: u64,
 ) -> Result<(), FsError>
     requires well_formed { IsWellFormed (current_words (R.memory parts.old.region)) }
-    requires exact { AreExact (current_words (R.memory parts.old.region)) parts.old.blocks parts.old.inodes }
+    requires exact { IsExact (current_words (R.memory parts.old.region)) parts.old }
     requires at { PathFinds (current_words (R.memory parts.old.region)) text.now file.inumber }
     requires kind { IsFile (current_words (R.memory parts.old.region)) file.inumber }
     requires size { file.size ≡ size_of (current_words (R.memory parts.old.region)) file.inumber }
     requires room { call_room ≤ room_in (R.memory parts.old.region) }
     ensures called { CarriesOut (R.memory parts.old.region) (truncate text.now size) (unit_answer result)
         (R.memory parts.new.region) }
-    ensures exact { AreExact (current_words (R.memory parts.new.region)) parts.new.blocks parts.new.inodes }
+    ensures exact { IsExact (current_words (R.memory parts.new.region)) parts.new }
 {
     if size > MAX_SIZE {
         return Err(FsError::TooBig);
@@ -51,11 +51,11 @@ pub(crate) fn truncate_at<R: Region>(
     size: u64,
 ) -> Result<(), FsError>
     requires well_formed { IsWellFormed (current_words (R.memory parts.old.region)) }
-    requires exact { AreExact (current_words (R.memory parts.old.region)) parts.old.blocks parts.old.inodes }
+    requires exact { IsExact (current_words (R.memory parts.old.region)) parts.old }
     requires room { call_room ≤ room_in (R.memory parts.old.region) }
     ensures called { CarriesOut (R.memory parts.old.region) (truncate text.now size) (unit_answer result)
         (R.memory parts.new.region) }
-    ensures exact { AreExact (current_words (R.memory parts.new.region)) parts.new.blocks parts.new.inodes }
+    ensures exact { IsExact (current_words (R.memory parts.new.region)) parts.new }
 {
     let file = file_at(&parts.region, text)?;
     resize(parts, text, file, size)

@@ -6,7 +6,7 @@ ghost use Rattle.bp_layout.specs.WellFormed.{IsWellFormed};
 ghost use Rattle.bp_limits.specs.Limits.{call_room, max_write};
 ghost use Rattle.bp_plain.specs.Calls.Call.{write};
 ghost use Rattle.bp_plain.specs.Seen.{refusal_of};
-ghost use Rattle.bp_shapes.specs.Sets.{AreExact};
+ghost use Rattle.bp_shapes.specs.Sets.{IsExact};
 ghost use Rattle.bp_volume.specs.Carried.{CarriesOut};
 ghost use Rattle.bp_volume.specs.Seen.{unit_answer};
 ghost use Rattle.bp_volume.specs.Step.{PathFinds};
@@ -48,14 +48,14 @@ fn write_into<R: Region>(
     bytes: &[u8],
 ) -> Result<(), FsError>
     requires well_formed { IsWellFormed (current_words (R.memory parts.old.region)) }
-    requires exact { AreExact (current_words (R.memory parts.old.region)) parts.old.blocks parts.old.inodes }
+    requires exact { IsExact (current_words (R.memory parts.old.region)) parts.old }
     requires at { PathFinds (current_words (R.memory parts.old.region)) text.now i }
     requires kind { IsFile (current_words (R.memory parts.old.region)) i }
     requires short { length bytes.now ≤ max_write }
     requires room { call_room ≤ room_in (R.memory parts.old.region) }
     ensures called { CarriesOut (R.memory parts.old.region) (write text.now off bytes.now) (unit_answer result)
         (R.memory parts.new.region) }
-    ensures exact { AreExact (current_words (R.memory parts.new.region)) parts.new.blocks parts.new.inodes }
+    ensures exact { IsExact (current_words (R.memory parts.new.region)) parts.new }
 {
     if bytes.is_empty() {
         return Ok(());
@@ -74,11 +74,11 @@ pub(crate) fn write_at<R: Region>(
     bytes: &[u8],
 ) -> Result<(), FsError>
     requires well_formed { IsWellFormed (current_words (R.memory parts.old.region)) }
-    requires exact { AreExact (current_words (R.memory parts.old.region)) parts.old.blocks parts.old.inodes }
+    requires exact { IsExact (current_words (R.memory parts.old.region)) parts.old }
     requires room { call_room ≤ room_in (R.memory parts.old.region) }
     ensures called { CarriesOut (R.memory parts.old.region) (write text.now off bytes.now) (unit_answer result)
         (R.memory parts.new.region) }
-    ensures exact { AreExact (current_words (R.memory parts.new.region)) parts.new.blocks parts.new.inodes }
+    ensures exact { IsExact (current_words (R.memory parts.new.region)) parts.new }
 {
     let i = file_for(&parts.region, text, bytes)?;
     write_into(parts, text, i, off, bytes)

@@ -26,7 +26,7 @@ use Rattle.bp_calls.specs.WritesFile.{WritesFile}
 use Rattle.bp_calls.proofs.AcrossDone.{across_exact, across_performs}
 use Rattle.bp_calls.proofs.AcrossMiddle.{across_can, middle_count, middle_formed}
 use Rattle.bp_calls.proofs.SizesWith.{sizes_with}
-use Rattle.bp_calls.proofs.AcrossTouched.{across_apart, across_copies, across_inside, across_made, across_needs, across_shape, across_words}
+use Rattle.bp_calls.proofs.AcrossTouched.{across_apart, across_few, across_inside, across_made, across_needs, across_shape, across_words}
 use Rattle.bp_calls.proofs.FreeCounts.{free_members}
 use Rattle.bp_calls.proofs.TakenBlocks.{unused_members, usable_members}
 
@@ -34,9 +34,9 @@ parted : (taken rest : List ℕ) {all : List ℕ} → all ≡ taken ++ rest → 
 parted taken rest e = ap (λ (xs : List ℕ). length xs) e ∙ length-append taken rest
 
 -- the log has room for both parts
-roomy : (made behind copied needed words room left : ℕ) → room ≤ left + (2 + (block_words * made + behind + 2)) → behind ≤ block_words * suc max_height → needed ≡ made + copied → words ≡ 1 → copied ≤ 50 → room_for needed ≤ room →
+roomy : (made behind copied needed words room left : ℕ) → room ≤ left + (2 + (block_words * made + behind + 2)) → behind ≤ block_words * suc max_height → needed ≡ made + copied → words ≡ 1 → room_for needed ≤ room →
     (block_words + 1) * copied + words + 1 + 2 ≤ left
-roomy made behind copied needed words room left a b c d e f = omega (arith, a, b, c, d, e, f)
+roomy made behind copied needed words room left a b c d e = omega (arith, a, b, c, d, e)
 
 module _ (old : Memory) (blocks inodes : Set) (off : ℕ) (bytes : List ℕ) (touched : Touched) where
   abbrev image : Image
@@ -78,10 +78,10 @@ module _ (old : Memory) (blocks inodes : Set) (off : ℕ) (bytes : List ℕ) (to
   made_is i root size one two = ap (λ r. made_for r size) one ∙ ap (made_for (root_of (current_words old) i)) two
 
   pub at_few : (i root size : ℕ) → WritesAcross old blocks inodes i off bytes touched → root ≡ root_of (current_words old) i → size ≡ size_of (current_words old) i →
-      length (nodes_for (current_words old) root size size (off + length bytes)) + copied_count (current_words old) touched ≤ 18 + 3 * max_height + 50
+      length (nodes_for (current_words old) root size size (off + length bytes)) + copied_count (current_words old) touched ≤ 320
   at_few zero root size across = not_inodes _ across
   at_few (suc n) root size across = λ one two.
-      omega (arith, made_is (suc n) root size one two, across_made old blocks inodes n off bytes touched across, across_copies old blocks inodes n off bytes touched across (current_words old))
+      omega (arith, made_is (suc n) root size one two, across_few old blocks inodes n off bytes touched across (current_words old))
 
   pub at_lacks : (i root size made copied free : ℕ) → WritesAcross old blocks inodes i off bytes touched → root ≡ root_of (current_words old) i → size ≡ size_of (current_words old) i →
       made ≡ length (nodes_for (current_words old) root size size (off + length bytes)) → copied ≡ copied_count (current_words old) touched → free ≡ length (members blocks) → free < made + copied →
@@ -139,8 +139,8 @@ module _ (old : Memory) (blocks inodes : Set) (off : ℕ) (bytes : List ℕ) (to
           fits = let whole = ap (λ words. words / 512) prepared.ready.meaning.trees.whole in omega (arith, whole, room, across.can.exact.block_room);
           some = omega (arith, parts, prepared.counted, counted, need_is, count, enough);
           room = let left = room_in-piece _ _ old middle prepared.adds.part.added prepared.adds.part.adds prepared.adds.part.piece in
-              roomy _ _ _ _ _ _ _ left (behind_whole (size_of (current_words old) (suc n)) (size_of (current_words old) (suc n)) (off + length bytes) max_height) (omega (arith, needs, count))
-              (across_words old blocks inodes n off bytes touched across) (across_copies old blocks inodes n off bytes touched across (current_words middle)) has;
+              roomy _ _ _ _ _ _ left (behind_whole (size_of (current_words old) (suc n)) (size_of (current_words old) (suc n)) (off + length bytes) max_height) (omega (arith, needs, count))
+              (across_words old blocks inodes n off bytes touched across) has;
         }
 
     module _ (new : Memory) (last : Set) where

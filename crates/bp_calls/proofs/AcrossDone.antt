@@ -16,7 +16,7 @@ use Rattle.bp_changes.proofs.ChangesFile as changed
 use Rattle.bp_changes.proofs.ChangesOver.{changes_over}
 use Rattle.bp_append.specs.Prepared.{PreparesWith, need_for}
 use Rattle.bp_append.specs.Stores.{prep_stores}
-use Rattle.bp_append.proofs.StoresLaws.{behind_whole}
+use Rattle.bp_append.proofs.StoresLaws.{behind_near}
 use Rattle.bp_shapes.specs.Sets.{AreExact}
 use Rattle.bp_shapes.proofs.FreeSets.{wf_forest}
 use Rattle.bp_tree.specs.Performs.{IsOpen, Performs, most_stores}
@@ -140,10 +140,10 @@ module _ (old middle new : Memory) (blocks inodes after last : Set) (n off : ℕ
 
   few : prep_stores (size_of image (suc n)) (size_of image (suc n)) (off + length bytes) (need_for image (suc n) (size_of image (suc n)) (off + length bytes)) + commit_stores mid touched ≤ most_stores (need image write)
   few =
-      go _ _ _ _ _ _ needs count_is (behind_whole (size_of image (suc n)) (size_of image (suc n)) (off + length bytes) max_height) (across_words old blocks inodes n off bytes touched across)
+      go _ _ _ _ _ _ needs count_is (behind_near (size_of image (suc n)) (off + length bytes) max_height (omega (arith, across.below, across.can.short))) (across_words old blocks inodes n off bytes touched across)
       (across_copies old blocks inodes n off bytes touched across image)
     where
-      go : (made copied copied_mid words needed behind : ℕ) → needed ≡ made + copied → copied_mid ≡ copied → behind ≤ block_words * suc max_height → words ≡ 1 → copied ≤ 50 →
+      go : (made copied copied_mid words needed behind : ℕ) → needed ≡ made + copied → copied_mid ≡ copied → behind ≤ 1024 + max_height → words ≡ 1 → copied ≤ 290 →
           block_words * made + behind + 2 + ((block_words + 1) * copied_mid + words + 1) ≤ most_stores needed
       go made copied copied_mid words needed behind a b c d e = omega (arith, a, b, c, d, e)
 

@@ -1,5 +1,8 @@
 -- The size of a directory grows over an entry that stands ready behind it: the directory gains the name.
 use Rattle.std.proofs.Common.{◌≡◌, ◌≢◌, ◌⊎◌, ℕ, zero, suc, ◌+◌, ◌*◌, ◌/◌, ◌%◌, ◌<◌, ◌≤◌, length, set, None, refl, sym, ◌∙◌, ap, subst, subst₂, suc-ne-zero, arith, inl, inr, get_or-set_other}
+use Rattle.bp_changes.proofs.Formatted.{low_stays}
+use Rattle.bp_layout.specs.Formatted.{version_of}
+use Rattle.bp_limits.specs.Limits.{greatest_height}
 use Rattle.std.proofs.lemmas.Bool.{cases_eq}
 use Rattle.std.proofs.lemmas.List.{length-set}
 use Rattle.bp_layout.specs.Words.{Image, word, byte_of, height_of, slot_word}
@@ -238,6 +241,12 @@ module _ (old : Image) (wf : IsWellFormed old) (n j place : ℕ) (name : Name) (
       (sound-kept old new (root_of old (suc n)) (size_of old (suc n) + 256) keeps_new whole ready.sound)
       (λ other. sound-kept old new (root_of old t) (size_of old t) (keeps t reached) whole (wf.sound t reached))
 
+  low_now : (t : ℕ) → IsReached old t → 0 < size_of new t → height_of (root_of new t) ≤ greatest_height (version_of new)
+  low_now t reached =
+      by_tree (λ root z. 0 < z → height_of root ≤ greatest_height (version_of new)) t reached
+      (low_stays old new (superblock 0 (omega arith)) (root_of old (suc n)) (root_of old (suc n)) (size_of old (suc n) + 256) (λ _. refl) (λ _. ready.low))
+      (λ other. low_stays old new (superblock 0 (omega arith)) (root_of old t) (root_of old t) (size_of old t) (λ _. refl) (wf.low t reached))
+
   full_stays : (t : ℕ) → IsReached old t → IsFull old (root_of old t) (size_of old t) →
       IsFull new (root_of new t) (size_of new t)
   full_stays t reached full =
@@ -279,6 +288,7 @@ module _ (old : Image) (wf : IsWellFormed old) (n j place : ℕ) (name : Name) (
         whole = whole;
         marked = superblock 0 (omega arith);
         counted = superblock 1 (omega arith);
+        low = low_now;
         sound = sound_stays;
         apart = λ t u b r q one two. apart_cases t u b r q (cases_eq t (suc n)) (cases_eq u (suc n)) one two;
         full_inode_file = full_stays 0 inode_file wf.full_inode_file;

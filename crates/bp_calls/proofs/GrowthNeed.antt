@@ -1,5 +1,7 @@
 -- What a new name needs where no inode is free: what it needs with one, and the growth of the inode file. Its cover, as the inode file is then.
-use Rattle.std.proofs.Common.{◌≡◌, ◌≢◌, ◌⊎◌, ℕ, zero, suc, ◌+◌, ◌-◌, ◌*◌, ◌/◌, ◌%◌, ◌<◌, ◌≤◌, [], ◌∷◌, ◌++◌, length, fold, Bool, true, false, ◌==◌, Option, None, Some, if◌then◌else◌, refl, sym, ◌∙◌, ap, ap₂, subst, suc-ne-zero, inl, inr, arith}
+use Rattle.std.proofs.Common.{◌≡◌, ◌≢◌, ◌⊎◌, ℕ, zero, suc, ◌+◌, ◌-◌, ◌*◌, ◌/◌, ◌%◌, ◌<◌, ◌≤◌, [], ◌∷◌, ◌++◌, length, fold, Bool, true, false, ◌==◌, Option, None, Some, if◌then◌else◌, refl, sym, ◌∙◌, ap, ap₂, subst, suc-ne-zero, inl, inr, arith, le_trans}
+use Rattle.bp_limits.specs.declared.version.Version.TheVariants.{One}
+use Rattle.bp_limits.proofs.Versions.{size_most}
 use Rattle.std.proofs.lemmas.Bool.{cases_lt, ne_eqb}
 use Rattle.bp_append.proofs.NeedLaws.{tall_fits, tall_low}
 use Rattle.bp_append.proofs.TallyLaws.{span-suc}
@@ -78,7 +80,7 @@ module _ (image : Image) (wf : IsWellFormed image) (n : ℕ) (reached : IsReache
   height_is = let low = tall_low (root_of image 0) (size_of image 0) end (wf.sound 0 inode_file).low in omega (arith, low)
 
   fits : end ≤ covered (suc (height_of height))
-  fits = rw height_is (tall_fits (root_of image 0) (size_of image 0) end (inodes_end_fits image wf))
+  fits = rw height_is (tall_fits (root_of image 0) (size_of image 0) end (le_trans (inodes_end_fits image wf) (size_most One)))
 
   -- ---- the inode file
 

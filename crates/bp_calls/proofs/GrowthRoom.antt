@@ -1,5 +1,8 @@
 -- One more leaf of the inode file: what its preparation asks, and what it leaves.
-use Rattle.std.proofs.Common.{◌≡◌, ℕ, suc, ◌+◌, ◌*◌, ◌/◌, ◌<◌, ◌≤◌, [], ◌∷◌, length, refl, sym, ◌∙◌, ap, subst, subst₂, arith}
+use Rattle.std.proofs.Common.{◌≡◌, ℕ, suc, ◌+◌, ◌*◌, ◌/◌, ◌<◌, ◌≤◌, [], ◌∷◌, length, refl, sym, ◌∙◌, ap, subst, subst₂, arith, le_trans}
+use Rattle.bp_limits.specs.declared.version.Version.TheVariants.{One}
+use Rattle.bp_limits.proofs.Versions.{size_least}
+use Rattle.bp_layout.specs.Formatted.{version_of}
 use Rattle.std.proofs.lemmas.List.{length-append}
 use Rattle.bp_append.specs.Prepared.{CanPrepare, PreparesWith, need_for}
 use Rattle.bp_append.proofs.StoresLaws.{behind_whole}
@@ -10,7 +13,7 @@ use Rattle.bp_layout.specs.Inode.{root_of, size_of}
 use Rattle.bp_layout.specs.Reached.IsReached.{inode_file}
 use Rattle.bp_layout.specs.WellFormed.{IsWellFormed}
 use Rattle.bp_layout.specs.Words.{Image, block_count}
-use Rattle.bp_limits.specs.Limits.{block_size, inode_size, max_blocks, max_height, max_size, super_size}
+use Rattle.bp_limits.specs.Limits.{block_size, inode_size, max_blocks, max_height, max_size, super_size, greatest_size}
 use Rattle.bp_tree.specs.Performs.{room_for}
 use Rattle.bp_tree.proofs.RegionWords.{length_now}
 use Rattle.bp_layout.specs.WordPaths.{WordPath}
@@ -31,13 +34,13 @@ module _ (image : Image) (wf : IsWellFormed image) where
       few_leaves image (root_of image 0) (size_of image 0) (wf.sound 0 inode_file) wf.full_inode_file (omega (arith, wf.formatted.sized.at_least)) (size_of image 0 / 4096) (λ k low. omega (arith, low)) in
       omega (arith, few, wf.inode_blocks)
 
-  pub inodes_end_fits : size_of image 0 + block_size ≤ max_size
+  pub inodes_end_fits : size_of image 0 + block_size ≤ greatest_size One
   inodes_end_fits = omega (arith, inodes_end_low, wf.formatted.sized.at_most)
 
   pub growth_few : growth_need image ≤ 18 + 3 * max_height
   growth_few =
       let few : need_for image 0 (size_of image 0) (size_of image 0 + block_size) ≤ 18 + 3 * max_height =
-      few_needed image (root_of image 0) (size_of image 0) (size_of image 0) (size_of image 0 + block_size) (omega arith) (omega arith) (wf.sound 0 inode_file).low in
+      le_trans (few_needed image (root_of image 0) (size_of image 0) (size_of image 0) (size_of image 0 + block_size) 1 (omega arith) (omega arith) (omega arith) (wf.sound 0 inode_file).low) (omega arith) in
       omega (arith, few, growth_need_is image)
 
 can_prepare : (old : Memory) (blocks inodes : Set) → CanGrowInodes old blocks inodes →
@@ -48,7 +51,7 @@ can_prepare old blocks inodes can = record {
   leads = refl;
   behind = omega arith;
   order = omega arith;
-  fits = inodes_end_fits (current_words old) can.well_formed;
+  fits = le_trans (inodes_end_fits (current_words old) can.well_formed) (size_least (version_of (current_words old)));
   by_words = λ by. refl;
   usable = usable_members (current_words old) blocks inodes can.exact (length old.base / 512) (omega (arith, length_now old));
   unused = unused_members (current_words old) blocks inodes can.exact;
@@ -86,7 +89,7 @@ module _ (old : Memory) (blocks inodes : Set) (path : WordPath) (size : ℕ) (ca
         let left = room_in-piece _ _ old middle prepared.adds.part.added prepared.adds.part.adds prepared.adds.part.piece in
         enough _ _ _ _ left stores (rw (growth_need_is (current_words old)) at can.room)
       where
-        enough : (needed behind room left : ℕ) → room ≤ left + (2 + (512 * needed + behind + 2)) → behind ≤ 512 * suc 3 → room_for needed ≤ room → 2 ≤ left
+        enough : (needed behind room left : ℕ) → room ≤ left + (2 + (512 * needed + behind + 2)) → behind ≤ 512 * suc max_height → room_for needed ≤ room → 2 ≤ left
         enough needed behind room left a b c = omega (arith, a, b, c)
 
     module _ (new : Memory) (stored : Adds middle new (Store super_size (size + block_size) ∷ Barrier ∷ [])) where

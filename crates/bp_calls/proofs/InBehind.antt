@@ -1,5 +1,6 @@
 -- An entry behind the last one of a directory, a new inode, and then the directory's size.
 use Rattle.std.proofs.Common.{◌≡◌, ◌≢◌, ◌⊎◌, ℕ, suc, ◌+◌, ◌*◌, ◌/◌, ◌%◌, ◌<◌, ◌≤◌, List, [], ◌++◌, length, true, None, unwrap_or, set, sym, ◌∙◌, ap, subst, arith, inl, inr}
+use Rattle.bp_limits.specs.Limits.{max_height}
 use Rattle.std.proofs.lemmas.Bool.{cases_eq}
 use Rattle.std.proofs.lemmas.List.{append_assoc, append-nil}
 use Rattle.bp_append.specs.Prepared.{Prepares, need_for}
@@ -33,7 +34,7 @@ use Rattle.bp_tree.specs.Performs.{AddsTaking, IsOpen, PerformsWithin, TakesBloc
 use Rattle.bp_tree.specs.Within.{IsWithin}
 use Rattle.bp_tree.specs.Performs.IsOpen.{in_taken, in_live, at_root, at_size}
 use Rattle.bp_tree.proofs.PerformsLaws.{same_equivalence, takes_twice, within_committed, within_more}
-use Rattle.bp_append.proofs.StoresLaws.{behind_whole}
+use Rattle.bp_append.proofs.StoresLaws.{behind_one, behind_whole}
 use Rattle.pm_epochs.specs.Crash.{commit}
 use Rattle.pm_epochs.specs.Log.{words_after}
 use Rattle.pm_epochs.specs.May.{AnyAt, EachMay}
@@ -153,6 +154,7 @@ module _ (first second third last : Memory) (blocks after : Set) (i j place : �
     reached = mid_reached;
     directory = mid_kind;
     sound = rw mid_size ready.sound;
+    low = ready.low;
     full = rw mid_size (ready.full (inr can.can.lacks.directory));
     apart = λ u b there other has also. ready.apart u b (before u there) other also (rw mid_size at has);
     inumber = rw mid_size puts.inumber;
@@ -275,9 +277,12 @@ module _ (first second third last : Memory) (blocks after : Set) (i j place : �
       (rw committed (enters_well_formed full done full_well_formed i (size_of full i / 256) j (kind_word kind) name enters)) effect
 
   few : stores + 4 ≤ stores_behind_growth (need image (gains i true))
-  few = go _ _ _ (need_behind image i wf reached can.can.lacks.directory can.can.none) (behind_whole (size_of image i) (size_of image i) (size_of image i + 256) 3)
+  few = go _ _ _ (need_behind image i wf reached can.can.lacks.directory can.can.none) (behind_one (size_of image i) (size_of image i + 256) max_height (one_entry (size_of image i) (wf.directory_sizes i reached can.can.lacks.directory)))
     where
-      go : (made needs behind : ℕ) → needs ≡ made → behind ≤ 512 * suc 3 → 512 * made + behind + 2 + 4 ≤ 512 * (needs + 4) + 64
+      one_entry : (size : ℕ) → size % 256 ≡ 0 → size + 256 ≤ size / 4096 * 4096 + 4096
+      one_entry size whole = omega (arith, whole)
+
+      go : (made needs behind : ℕ) → needs ≡ made → behind ≡ 512 + max_height → 512 * made + behind + 2 + 4 ≤ 512 * (needs + 4) + 64
       go made needs behind e low = omega (arith, e, low)
 
   pub behind_performs : PerformsWithin 5 (stores_behind_growth (need image (gains i true))) first last (gains i true) (EntersName i name kind)
@@ -374,10 +379,10 @@ module _ (first second : Memory) (blocks after : Set) (i j : ℕ) (name : Name) 
   pub put_room : 6 ≤ room_in second
   put_room =
       enough _ _ _ _ (room_in-piece _ _ first second puts.prepared.adds.part.added puts.prepared.adds.part.adds puts.prepared.adds.part.piece)
-      (behind_whole (size_of (current_words first) i) (size_of (current_words first) i) (size_of (current_words first) i + 256) 3)
+      (behind_whole (size_of (current_words first) i) (size_of (current_words first) i) (size_of (current_words first) i + 256) max_height)
       can.can.room
     where
-      enough : (needed behind room left : ℕ) → room ≤ left + (2 + (512 * needed + behind + 2)) → behind ≤ 512 * suc 3 → entering_room needed ≤ room → 6 ≤ left
+      enough : (needed behind room left : ℕ) → room ≤ left + (2 + (512 * needed + behind + 2)) → behind ≤ 512 * suc max_height → entering_room needed ≤ room → 6 ≤ left
       enough needed behind room left a b c = omega (arith, a, b, c)
 
   pub put_free : IsFreeInode (current_words second) j

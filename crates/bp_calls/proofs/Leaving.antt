@@ -94,7 +94,7 @@ module _ (image : Image) (i s j place : ℕ) (can : CanLeave image i s j place) 
   pub named_reached : IsReached image j
   named_reached = named s reached entry
 
-  pub named_few : j < 1048576
+  pub named_few : j < 4194304
   named_few = few_inode image wf j (wf.inumbers i s j reached entry)
 
   removes : RemovesEntry image last i s

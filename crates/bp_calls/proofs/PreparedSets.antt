@@ -1,5 +1,7 @@
 -- Behind the preparation of a tree the sizes that count are those that the trees have, and for this one the end for which it is prepared: under them the trees are apart, and the sets are exact.
-use Rattle.std.proofs.Common.{◌≡◌, ◌≢◌, ◌⊎◌, ℕ, ◌≤◌, List, length, true, sym, ◌∙◌, subst, inl, inr, arith, lt_of_lt_of_le}
+use Rattle.std.proofs.Common.{◌≡◌, ◌≢◌, ◌⊎◌, ℕ, ◌<◌, ◌≤◌, List, length, true, sym, ◌∙◌, subst, inl, inr, arith, lt_of_lt_of_le}
+use Rattle.bp_layout.specs.Formatted.{version_of}
+use Rattle.bp_limits.specs.Limits.{greatest_height}
 use Rattle.std.proofs.lemmas.Bool.{cases_eq}
 use Rattle.bp_layout.proofs.MemberLaws.{has-behind}
 use Rattle.bp_free.specs.Set.{Set, has, members}
@@ -10,7 +12,7 @@ use Rattle.bp_layout.specs.Reached.{IsReached, HoldsBlock, IsLiveBlock, IsFreeBl
 use Rattle.bp_layout.specs.Reached.IsReached.{inode_file}
 use Rattle.bp_layout.specs.Tree.{HasBlock, IsSound}
 use Rattle.bp_layout.specs.WellFormed.{IsWellFormed}
-use Rattle.bp_layout.specs.Words.{Image}
+use Rattle.bp_layout.specs.Words.{Image, height_of}
 use Rattle.bp_changes.proofs.ReachedOn.{reached_on}
 use Rattle.bp_changes.proofs.SameMeaning as meaning
 use Rattle.bp_append.specs.Prepared.{PreparesWith}
@@ -83,6 +85,7 @@ module _ (old middle : Memory) (blocks inodes after : Set) (x from to : ℕ) (by
         some = omega (arith, plain.some, zero_bound);
         in_file = λ i reached. omega (arith, plain.in_file i reached, zero_bound);
         sound = λ t reached. by_tree (IsSound mid) t prepared.ready.sound (λ other. middle_formed.sound t reached);
+        low = λ t reached. by_tree (λ root s. 0 < s → height_of root ≤ greatest_height (version_of mid)) t (λ _. prepared.ready.low) (λ other. middle_formed.low t reached);
         apart = λ t u b r q has also. apart t u b r q has also (cases_eq t x) (cases_eq u x);
       }
     where

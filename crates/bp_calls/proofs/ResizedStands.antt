@@ -52,7 +52,7 @@ module _ (old new : Image) (wf : IsWellFormed old) (i size : ℕ) (is : ResizesF
 
   pub resized_gets : GetsSize i size old new
   resized_gets tree here stands at =
-      let there : get tree here ≡ Some (file had) = stands.shows here ∙ rw at (ap Some node_is) in
-      let same : content new (root_of new i) (size_of new i) ≡ resized (bytes_at tree here) size = bytes_are ∙ ap (λ found. resized (bytes_in found) size) (sym there) in
+      let there : get tree.now.nodes here ≡ Some (file had) = stands.shows here ∙ rw at (ap Some node_is) in
+      let same : content new (root_of new i) (size_of new i) ≡ resized (bytes_at tree.now.nodes here) size = bytes_are ∙ ap (λ found. resized (bytes_in found) size) (sym there) in
       subst (λ bytes. Stands new (with_bytes tree here bytes)) same
       (file_stands old new i wf is.changes tree _ stands (one_path old i (content new (root_of new i) (size_of new i)) wf tree here at))

@@ -47,6 +47,7 @@ pub record IsRunOf (image : Image) (i : ℕ) (run : Run) : Type 0 where
   pub root : run.root.items ≡ inode_path (height_of (root_of image 0)) i 1
   pub height : run.height ≡ height_of (root_of image i)
   pub some : 0 < length run.bytes.now
+  pub few : length run.bytes.now ≤ max_write
   pub below : run_end run ≤ size_of image i
 
 module _ (image : Image) (wf : IsWellFormed image) (n : ℕ) (reached : IsReached image (suc n)) (run : Run) (is : IsRunOf image (suc n) run) where
@@ -62,6 +63,7 @@ module _ (image : Image) (wf : IsWellFormed image) (n : ℕ) (reached : IsReache
       let tree_low : height_of (root_of image (suc n)) ≤ max_height = sound.low (omega (arith, is.below, is.some)) in
       record {
         some = is.some;
+        few = is.few;
         low = omega (arith, tree_low, is.height);
         covered = subst (λ h. run_end run ≤ block_size * block_words ^ h) (sym is.height) (let fits : size_of image (suc n) ≤ span (height_of (root_of image (suc n))) = sound.fits in let whole = span-is (height_of (root_of image (suc n))) in omega (arith, is.below, fits, whole));
         short = omega (arith, run_root_length, inodes_low, tree_low, is.height);
@@ -84,7 +86,7 @@ module _ (image : Image) (wf : IsWellFormed image) (n : ℕ) (reached : IsReache
       cover_open image wf touched shape (run_path run (run.off / 8)) (has-of-run touched shape run (run.off / 8) one (omega arith) (omega (arith, is.some))) run_live taken
 
 -- the bytes of one write have few leaves
-pub few_leaves : (run : Run) → length run.bytes.now ≤ max_write → run_leaves run ≤ 17
+pub few_leaves : (run : Run) → length run.bytes.now ≤ max_write → run_leaves run ≤ 257
 few_leaves run short = omega (arith, short)
 
 -- ---- the file

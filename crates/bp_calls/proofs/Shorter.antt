@@ -113,6 +113,7 @@ module _ (image : Image) (blocks inodes : Set) (n size place : ℕ) (shrinks : S
     is_file = shrinks.is_file;
     stands = shrinks.stands;
     sound = sound_smaller image (root_of image file) (size_of image file) size (omega (arith, shrinks.smaller)) (wf.sound file shrinks.reached);
+    low = λ some. wf.low file shrinks.reached (omega (arith, some, shrinks.smaller));
     apart = λ u b reached other here there. other (wf.apart u file b reached shrinks.reached there (has_larger image (root_of image file) size (size_of image file) b (omega (arith, shrinks.smaller)) here));
   }
 

@@ -63,6 +63,7 @@ module _ (old mid new : Image) (wf : IsWellFormed old) (same : SameMeaning old m
       whole = adds.trees.whole ∙ same.trees.whole;
       marked = adds.trees.marked ∙ same.trees.marked;
       counted = adds.trees.counted ∙ same.trees.counted;
+      low = λ t r. adds.trees.low t (on t r);
       sound = λ t r. adds.trees.sound t (on t r);
       apart = λ t u b r q. adds.trees.apart t u b (on t r) (on u q);
       full_inode_file = adds.trees.full_inode_file;

@@ -1,5 +1,6 @@
 -- A write behind the size of a file: what it asks of a preparation, and that it is performed.
 use Rattle.std.proofs.Common.{◌≡◌, ◌⊎◌, ℕ, zero, suc, ◌+◌, ◌-◌, ◌*◌, ◌<◌, ◌≤◌, max, List, length, slice_index, refl, sym, ◌∙◌, ap, subst, inl, inr, arith, lt-ltb, le-ltb, le-leb}
+use Rattle.bp_limits.specs.Limits.{max_height, call_room}
 use Rattle.std.proofs.lemmas.Bool.{cases_lt, lt-leb}
 use Rattle.std.proofs.lemmas.List.{append-nil, length-append}
 use Rattle.bp_free.specs.Set.{Set, members}
@@ -170,9 +171,9 @@ module _ (old : Memory) (blocks inodes : Set) (off : ℕ) (bytes : List ℕ) whe
         let needs = behind_need old blocks inodes n off bytes can behind in
         let all : length (members blocks) ≡ length prepared.taken + length (members after) = ap (λ (xs : List ℕ). length xs) prepared.takes ∙ length-append prepared.taken (members after) in
         let has : HasRoomFor old (writes (suc n) off (length bytes)) = can.room (omega (arith, needs, prepared.counted, all)) in
-        enough _ _ _ _ left (behind_whole (size_of (current_words old) (suc n)) off (off + length bytes) 3) (rw needs at has)
+        enough _ _ _ _ left (behind_whole (size_of (current_words old) (suc n)) off (off + length bytes) max_height) (rw needs at has)
       where
-        enough : (needed behind room left : ℕ) → room ≤ left + (2 + (512 * needed + behind + 2)) → behind ≤ 512 * suc 3 → room_for needed ≤ room → 3 ≤ left
+        enough : (needed behind room left : ℕ) → room ≤ left + (2 + (512 * needed + behind + 2)) → behind ≤ 512 * suc max_height → room_for needed ≤ room → 3 ≤ left
         enough needed behind room left a b c = omega (arith, a, b, c)
 
     module _ (new : Memory) (path : WordPath) (place : ℕ) where

@@ -1,5 +1,5 @@
 -- A write below the size of a file: what it asks of a commit, and that it is performed.
-use Rattle.std.proofs.Common.{◌≡◌, ◌⊎◌, ℕ, zero, suc, ◌+◌, ◌-◌, ◌<◌, ◌≤◌, List, [], length, Some, slice_index, sym, ◌∙◌, ap, subst, inl, inr, arith}
+use Rattle.std.proofs.Common.{◌≡◌, ◌⊎◌, ℕ, zero, suc, ◌+◌, ◌-◌, ◌<◌, ◌≤◌, List, [], length, Some, slice_index, sym, ◌∙◌, ap, subst, inl, inr, arith, le_trans}
 use Rattle.std.proofs.lemmas.Bool.{cases_eq}
 use Rattle.std.proofs.lemmas.List.{take_all}
 use Rattle.bp_free.specs.Set.{Set, has, members}
@@ -80,9 +80,9 @@ module _ (old : Memory) (blocks inodes : Set) (n : ℕ) (touched : Touched) (run
     can = can;
     need_is = copies_need;
     room = λ enough.
-        let few = few_copies image (size_of image) touched (has blocks) wf can run is.one (few_leaves run asks.short) in
+        let few = few_copies image (size_of image) touched (has blocks) wf can run is.one (le_trans (few_leaves run asks.short) (omega arith)) in
         let room : HasRoomFor old (writes (suc n) run.off (length run.bytes.now)) = asks.room (omega (arith, copies_need, enough)) in
-        omega (arith, few, none, copies_need, room);
+        omega (arith, few, few_leaves run asks.short, none, copies_need, room);
   }
 
   module _ (new : Memory) (after : Set) (small : (i : ℕ) → slice_index run.bytes.now i < 256) (done : CommitsTouched (size_of (current_words old)) touched old new blocks after) where
@@ -113,7 +113,7 @@ module _ (old : Memory) (blocks inodes : Set) (n : ℕ) (touched : Touched) (run
     below_performs =
         commit_performs old new (writes (suc n) run.off (length run.bytes.now)) (WritesFile (suc n) run.off run.bytes.now) (size_of image) touched blocks after done
         (run_cover image wf (size_of image) touched (has blocks) can run n is.one is.no_words asks.reached is.of.root is.of.height is.of.some is.of.below) copies_need
-        (let few = stores_few image (size_of image) touched (has blocks) wf can (omega (arith, leaves, few_leaves run asks.short)) in omega (arith, few, copies_need))
+        (let few = stores_few image (size_of image) touched (has blocks) wf can in omega (arith, few, leaves, few_leaves run asks.short, none, copies_need))
         (run_open image wf n asks.reached run is.of touched shape is.one done.taken)
         (well_formed-same image (current_words new) (suc n) wf changes) below_writes
 
@@ -163,6 +163,7 @@ module _ (old : Memory) (blocks inodes : Set) (i off : ℕ) (bytes : List ℕ) (
       root = write.touches.root;
       height = write.touches.height;
       some = omega (arith, asks.some);
+      few = asks.short;
       below = of_run (λ o bs. o + length bs ≤ size_of (current_words old) i) write.below;
     };
   }

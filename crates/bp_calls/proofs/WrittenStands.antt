@@ -98,7 +98,7 @@ module _ (old new : Image) (wf : IsWellFormed old) (i off : ℕ) (bytes : List �
 
   pub written_gets : GetsBytes i off bytes old new
   written_gets tree here stands at =
-      let there : get tree here ≡ Some (file had) = stands.shows here ∙ rw at (ap Some node_is) in
-      let same : content new (root_of new i) (size_of new i) ≡ written (bytes_at tree here) off bytes = bytes_are ∙ ap (λ found. written (bytes_in found) off bytes) (sym there) in
+      let there : get tree.now.nodes here ≡ Some (file had) = stands.shows here ∙ rw at (ap Some node_is) in
+      let same : content new (root_of new i) (size_of new i) ≡ written (bytes_at tree.now.nodes here) off bytes = bytes_are ∙ ap (λ found. written (bytes_in found) off bytes) (sym there) in
       subst (λ whole_content. Stands new (with_bytes tree here whole_content)) same
       (file_stands old new i wf is.changes tree _ stands (one_path old i (content new (root_of new i) (size_of new i)) wf tree here at))

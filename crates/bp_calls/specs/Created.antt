@@ -1,6 +1,5 @@
 -- What a call that creates a name makes of an image, and of the plain tree.
 use Rattle.std.specs.Prelude.{◌≡◌, ◌⊎◌, ℕ, ◌≤◌, [], ◌∷◌, ◌++◌, Some, unwrap_or}
-use Rattle.std.specs.FinMap.{insert}
 use Rattle.bp_layout.specs.Directory.{Name, empty_slot, entry_count, name_at}
 use Rattle.bp_layout.specs.Free.{IsFreeInode}
 use Rattle.bp_layout.specs.Inode.{inode_count, kind_of}
@@ -12,6 +11,7 @@ use Rattle.bp_changes.specs.Effects.{AddsNames}
 use Rattle.bp_layout.specs.declared.fields.Kind.{Kind}
 use Rattle.bp_layout.specs.declared.fields.Kind.TheVariants.{File, Dir}
 use Rattle.bp_plain.specs.PlainTree.{FileTree}
+use Rattle.bp_plain.specs.Plain.{with_node}
 use Rattle.bp_plain.specs.Stands.{Stands}
 
 -- what stands at a new name
@@ -36,4 +36,4 @@ pub record EntersName (i : ℕ) (name : Name) (kind : Kind) (old new : Image) : 
 abbrev pub GainsName : ℕ → Name → Kind → Image → Image → Type 0
 GainsName i name kind old new =
     (tree : FileTree) (here : Path) → Stands old tree → lookup old here ≡ Some i →
-    Stands new (insert tree (here ++ name ∷ []) (empty_node kind))
+    Stands new (with_node tree (here ++ name ∷ []) (empty_node kind))

@@ -20,4 +20,4 @@ pub record ResizesFile (i size : ℕ) (old new : Image) : Type 0 where
 -- bytes, filled up with zeros.
 abbrev pub GetsSize : ℕ → ℕ → Image → Image → Type 0
 GetsSize i size old new = (tree : FileTree) (here : Path) → Stands old tree → lookup old here ≡ Some i
-    → Stands new (with_bytes tree here (resized (bytes_at tree here) size))
+    → Stands new (with_bytes tree here (resized (bytes_at tree.now.nodes here) size))

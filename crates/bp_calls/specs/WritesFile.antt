@@ -27,4 +27,4 @@ pub record WritesFile (i off : ℕ) (bytes : List ℕ) (old new : Image) : Type 
 -- behind zeros where it ended before
 abbrev pub GetsBytes : ℕ → ℕ → List ℕ → Image → Image → Type 0
 GetsBytes i off bytes old new = (tree : FileTree) (here : Path) → Stands old tree → lookup old here ≡ Some i
-    → Stands new (with_bytes tree here (written (bytes_at tree here) off bytes))
+    → Stands new (with_bytes tree here (written (bytes_at tree.now.nodes here) off bytes))

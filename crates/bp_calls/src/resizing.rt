@@ -8,7 +8,8 @@ ghost use Rattle.bp_layout.specs.Inode.{IsFile, root_of, size_of};
 ghost use Rattle.bp_layout.specs.Need.Change.{resizes};
 ghost use Rattle.bp_layout.specs.Reached.{IsReached};
 ghost use Rattle.bp_layout.specs.WellFormed.{IsWellFormed};
-ghost use Rattle.bp_limits.specs.Limits.{max_size};
+ghost use Rattle.bp_layout.specs.Formatted.{version_of};
+ghost use Rattle.bp_limits.specs.Limits.{greatest_size};
 ghost use Rattle.bp_shapes.specs.Sets.{IsExact, kept_of};
 ghost use Rattle.bp_tree.specs.Performs.{Performs};
 ghost use Rattle.pm_region.specs.Memory.{current_words, room_in};
@@ -81,7 +82,7 @@ pub fn truncate<R: Region>(parts: &mut Parts<R>, i: u32, size: u64) -> Result<()
     requires exact { IsExact (current_words (R.memory parts.old.region)) parts.old }
     requires reached { IsReached (current_words (R.memory parts.old.region)) i }
     requires file { IsFile (current_words (R.memory parts.old.region)) i }
-    requires fits { size ≤ max_size }
+    requires fits { size ≤ greatest_size (version_of (current_words (R.memory parts.old.region))) }
     requires changed { size ≢ size_of (current_words (R.memory parts.old.region)) i }
     requires room { HasRoomWhereFree (R.memory parts.old.region) parts.old.blocks (resizes i size) }
     ensures performs { OnOk result (Performs (kept_of parts.old) (R.memory parts.old.region) (R.memory parts.new.region)

@@ -25,6 +25,7 @@ use Rattle.bp_calls.specs.Growth.{AddsInodes, CanGrowInodes, GrowsInodes, growth
 use Rattle.bp_calls.proofs.GrowthMemory.{grown, grows, growth_need_is}
 use Rattle.bp_calls.proofs.GrowthSets.{exact_grown}
 use Rattle.bp_calls.proofs.TakenBlocks.{unused_members, usable_members}
+use Rattle.bp_layout.specs.Thaw.{none_kept}
 
 module _ (image : Image) (wf : IsWellFormed image) where
   -- its leaves are different blocks, and block 0 is none of them
@@ -97,7 +98,7 @@ module _ (old : Memory) (blocks inodes : Set) (path : WordPath) (size : ℕ) (ca
       grew = grows old middle new (members blocks) (members after) can.well_formed prepared (subst (λ s. Adds middle new (Store super_size (s + block_size) ∷ Barrier ∷ [])) is stored)
 
       module _ (filled : Set) (room : length after ≡ length blocks) (fills : Fills (size / inode_size) ((size + block_size) / inode_size) inodes filled) where
-        pub exact_behind : AreExact (current_words new) after filled
+        pub exact_behind : AreExact (current_words new) none_kept after filled
         exact_behind =
             exact_grown (current_words old) (current_words new) prepared.taken can.well_formed grown_here blocks after inodes filled can.exact prepared.takes room
             (subst (λ s. Fills (s / inode_size) ((s + block_size) / inode_size) inodes filled) is fills)

@@ -19,6 +19,7 @@ use Rattle.bp_layout.specs.Inode.{ContentStandsAt, kind_of, root_of, size_of, in
 use Rattle.bp_layout.specs.Members.{Has}
 use Rattle.bp_layout.specs.Need.{Change, cover, need}
 use Rattle.bp_layout.specs.Need.Change.{enters as gains}
+use Rattle.bp_layout.specs.Need.Entrant.{taken}
 use Rattle.bp_layout.specs.Reached.{IsReached, IsLiveBlock}
 use Rattle.bp_layout.specs.Reached.IsReached.{inode_file}
 use Rattle.bp_layout.specs.Same.{Same}
@@ -50,7 +51,7 @@ use Rattle.bp_calls.specs.Entered.{IsNewInode, IsReadyBehind}
 use Rattle.bp_calls.specs.Entries.{PutsBehind}
 use Rattle.bp_calls.specs.Growth.{stores_behind_growth}
 use Rattle.bp_calls.specs.Spare.{IsSpare}
-use Rattle.bp_calls.specs.Steps.{CanEnterBehind, entering_room}
+use Rattle.bp_calls.specs.Steps.{CanEnterBehind, entering_room, name_need}
 use Rattle.bp_calls.proofs.AfterLaws.{prepared_well_formed, prepared_same, size_after, slot_named_over}
 use Rattle.bp_calls.proofs.EnteredLaws.{Enters, directory_inode}
 use Rattle.bp_calls.proofs.GrownLaws.{GrowsBlocks, grown, grown_blocks, grown_file}
@@ -63,15 +64,16 @@ use Rattle.bp_calls.proofs.SetLaws.{free_inodes_taken, length_without}
 use Rattle.bp_calls.proofs.StandsLaws.{enters_well_formed, enters_over}
 use Rattle.bp_calls.proofs.TakenBlocks.{free_taken}
 use Rattle.bp_calls.proofs.Trees.{SameTrees, has_more, live_leaf, spare_trees, stands_kept}
+use Rattle.bp_layout.specs.Thaw.{none_kept}
 
 -- a preparation, and then stores that nobody sees and the commit of one word
-module _ (old mid third new : Memory) (change : Change) (Effect : Image → Image → Type 0) (taken : List ℕ) (most_barriers most : ℕ) (one : AddsTaking taken most_barriers most old mid)
-    (May : ℕ → ℕ → Type 0) (more place value : ℕ) (two : AddsMay May 0 more mid third) (last : Adds third new (commit place value)) where
-  pub within_behind : ((image : Image) → EachMay May (current_words mid) image → Same (current_words mid) image) → ((word stored : ℕ) → May word stored → IsOpen (current_words mid) [] word) →
-      ((b : ℕ) → IsLiveBlock (current_words mid) b → IsLiveBlock (current_words old) b ⊎ Has taken b) → place ≡ address (current_words new) (cover (current_words old) change) → length taken ≡ need (current_words old) change →
-      IsOpen (current_words mid) [] place → IsWellFormed (current_words new) → Effect (current_words old) (current_words new) → PerformsWithin (most_barriers + 2) (most + (more + 1)) old new change Effect
+module _ (old mid third new : Memory) (change : Change) (Effect : Image → Image → Type 0) (took : List ℕ) (most_barriers most : ℕ) (one : AddsTaking none_kept took most_barriers most old mid)
+    (May : ℕ → ℕ → Type 0) (more place value amount : ℕ) (two : AddsMay May 0 more mid third) (last : Adds third new (commit place value)) where
+  pub within_behind : ((image : Image) → EachMay May (current_words mid) image → Same (current_words mid) image) → ((word stored : ℕ) → May word stored → IsOpen (current_words mid) none_kept [] word) →
+      ((b : ℕ) → IsLiveBlock (current_words mid) b → IsLiveBlock (current_words old) b ⊎ Has took b) → place ≡ address (current_words new) (cover (current_words old) change) → length took ≡ amount →
+      IsOpen (current_words mid) none_kept [] place → IsWellFormed (current_words new) → Effect (current_words old) (current_words new) → PerformsWithin none_kept amount (most_barriers + 2) (most + (more + 1)) old new change Effect
   within_behind unseen inside live at number open_place well_formed effect =
-      within_committed old new change Effect place value (most_barriers + 2) (most + (more + 1)) taken
+      within_committed none_kept old new change Effect place value (most_barriers + 2) (most + (more + 1)) amount took
       (record {
         prepared = one.part.added ++ two.added;
         adds = rw parts (adds_both old mid new one.part.added (two.added ++ commit place value) one.part.adds (adds_both mid third new two.added (commit place value) two.adds last));
@@ -81,7 +83,7 @@ module _ (old mid third new : Memory) (change : Change) (Effect : Image → Imag
             (IsPiece-append most_barriers most 2 (more + 1) one.part.added (two.added ++ commit place value) one.part.piece
             (IsPiece-append 0 more 2 1 two.added (commit place value) two.piece (IsPiece-commit place value)));
       })
-      (rw (append-nil taken) at takes) at number (open_over place open_place) well_formed effect
+      (rw (append-nil took) at takes) at number (open_over place open_place) well_formed effect
     where
       words : current_words mid ≡ words_after (current_words old) one.part.added
       words = current_words-adds old mid one.part.added one.part.adds
@@ -89,16 +91,20 @@ module _ (old mid third new : Memory) (change : Change) (Effect : Image → Imag
       parts : (one.part.added ++ two.added) ++ commit place value ≡ one.part.added ++ (two.added ++ commit place value)
       parts = append_assoc one.part.added two.added (commit place value)
 
-      takes : TakesBlocks (current_words old) (taken ++ []) (one.part.added ++ two.added)
+      takes : TakesBlocks (current_words old) none_kept (took ++ []) (one.part.added ++ two.added)
       takes =
-          takes_twice (current_words old) (current_words mid) taken [] one.part.added two.added live (λ b none. elim none [ ]) one.takes
-          (record { once = tt; free = tt; stored = tt; only = StoresMay-weaker May (AnyAt (IsOpen (current_words mid) [])) inside two.added two.may })
+          takes_twice none_kept (current_words old) (current_words mid) took [] one.part.added two.added live (λ b none. elim none [ ]) one.takes
+          (record { once = tt; free = tt; stored = tt; only = StoresMay-weaker May (AnyAt (IsOpen (current_words mid) none_kept [])) inside two.added two.may })
 
-      open_over : (word : ℕ) → IsOpen (current_words mid) [] word → IsOpen (current_words old) taken word
+      open_over : (word : ℕ) → IsOpen (current_words mid) none_kept [] word → IsOpen (current_words old) none_kept took word
       open_over word (in_taken none) = elim none [ ]
-      open_over word (in_live is) = elim (live (word / 512) is) [ inl was ↦ in_live was | inr took ↦ in_taken took ]
+      open_over word (in_live is loose) = elim (live (word / 512) is) [ inl was ↦ in_live was loose | inr took ↦ in_taken took ]
       open_over word (at_root e) = at_root e
       open_over word (at_size e) = at_size e
+
+-- an entry behind the last one lies in one leaf
+one_entry : (size : ℕ) → size % 256 ≡ 0 → size + 256 ≤ size / 4096 * 4096 + 4096
+one_entry size whole = omega (arith, whole)
 
 -- ---- the call
 
@@ -187,7 +193,7 @@ module _ (first second third last : Memory) (blocks after : Set) (i j place : �
   inode_at = inode_row mid j at filled.stands
 
   abbrev Inside : ℕ → Type 0
-  Inside p = IsSpare mid p × IsOpen mid [] p
+  Inside p = IsSpare mid p × IsOpen mid none_kept [] p
 
   inside : AddsMay (AnyAt Inside) 0 3 second third
   inside = may_weaker (AnyAt (IsWithin at 3)) (AnyAt Inside) 0 3 second third (inode_inside mid mid_well_formed j at [] mid_free inode_at) filled.stores
@@ -242,7 +248,7 @@ module _ (first second third last : Memory) (blocks after : Set) (i j place : �
   full_root : root_of full 0 ≡ root_of image 0
   full_root = trees.root 0 inode_file (omega (arith, mid_size_leaf)) ∙ mid_root
 
-  covered : place ≡ address (current_words last) (cover image (gains i true))
+  covered : place ≡ address (current_words last) (cover image (gains i (taken j)))
   covered =
       rw committed
       (sym (size_covered image full i place (size_of full i + 256) wf full_well_formed full_root reached full_ready.reached can.can.lacks.directory can.can.none full_size_at))
@@ -264,29 +270,26 @@ module _ (first second third last : Memory) (blocks after : Set) (i j place : �
             has = other_block_back image mid i (size_of image i) (size_of image i + 256) puts.bytes puts.prepared.taken ready live.tree (before live.tree live.reached) other b live.has;
           })
 
-  number : length puts.prepared.taken ≡ need image (gains i true)
+  number : length puts.prepared.taken ≡ name_need image i
   number = puts.prepared.counted ∙ sym (need_behind image i wf reached can.can.lacks.directory can.can.none)
 
   abbrev stores : ℕ
   stores = prep_stores (size_of image i) (size_of image i) (size_of image i + 256) (need_for image i (size_of image i) (size_of image i + 256))
 
-  in_four : PerformsWithin 4 (stores + 4) first last (gains i true) (EntersName i name kind)
+  in_four : PerformsWithin none_kept (name_need image i) 4 (stores + 4) first last (gains i (taken j)) (EntersName i name kind)
   in_four =
-      within_behind first second third last (gains i true) (EntersName i name kind) puts.prepared.taken 2 stores puts.prepared.adds (AnyAt Inside) 3 place (size_of image i + 256) inside commits
+      within_behind first second third last (gains i (taken j)) (EntersName i name kind) puts.prepared.taken 2 stores puts.prepared.adds (AnyAt Inside) 3 place (size_of image i + 256) (name_need image i) inside commits
       (λ other all. prepared_same mid other mid_well_formed (trees_of other all).prepared) (λ p v may. may.1) mid_live covered number (content_open mid [] 0 (8 * i + 2) place inode_file mid_size_leaf mid_size_at)
       (rw committed (enters_well_formed full done full_well_formed i (size_of full i / 256) j (kind_word kind) name enters)) effect
 
-  few : stores + 4 ≤ stores_behind_growth (need image (gains i true))
+  few : stores + 4 ≤ stores_behind_growth (name_need image i)
   few = go _ _ _ (need_behind image i wf reached can.can.lacks.directory can.can.none) (behind_one (size_of image i) (size_of image i + 256) max_height (one_entry (size_of image i) (wf.directory_sizes i reached can.can.lacks.directory)))
     where
-      one_entry : (size : ℕ) → size % 256 ≡ 0 → size + 256 ≤ size / 4096 * 4096 + 4096
-      one_entry size whole = omega (arith, whole)
-
       go : (made needs behind : ℕ) → needs ≡ made → behind ≡ 512 + max_height → 512 * made + behind + 2 + 4 ≤ 512 * (needs + 4) + 64
       go made needs behind e low = omega (arith, e, low)
 
-  pub behind_performs : PerformsWithin 5 (stores_behind_growth (need image (gains i true))) first last (gains i true) (EntersName i name kind)
-  behind_performs = within_more 4 (stores + 4) first last (gains i true) (EntersName i name kind) in_four 5 (stores_behind_growth (need image (gains i true))) (omega arith) few
+  pub behind_performs : PerformsWithin none_kept (name_need image i) 5 (stores_behind_growth (name_need image i)) first last (gains i (taken j)) (EntersName i name kind)
+  behind_performs = within_more none_kept (name_need image i) 4 (stores + 4) first last (gains i (taken j)) (EntersName i name kind) in_four 5 (stores_behind_growth (name_need image i)) (omega arith) few
 
   -- ---- the sets
 
@@ -358,7 +361,7 @@ module _ (first second third last : Memory) (blocks after : Set) (i j place : �
   same_file : size_of done 0 ≡ size_of image 0
   same_file = grown_file full full_well_formed i j place name full_ready full_size_at ∙ trees.prepared.inode_bytes ∙ ready.sizes 0 inode_file
 
-  pub behind_exact : length after ≡ length blocks → (inodes : Set) → AreExact image blocks inodes → AreExact (current_words last) after (without inodes j)
+  pub behind_exact : length after ≡ length blocks → (inodes : Set) → AreExact image none_kept blocks inodes → AreExact (current_words last) none_kept after (without inodes j)
   behind_exact room inodes exact = rw committed (record {
     block_room = rw whole (room ∙ exact.block_room);
     inode_room = rw whole (length_without inodes j ∙ exact.inode_room);
@@ -379,10 +382,11 @@ module _ (first second : Memory) (blocks after : Set) (i j : ℕ) (name : Name) 
   pub put_room : 6 ≤ room_in second
   put_room =
       enough _ _ _ _ (room_in-piece _ _ first second puts.prepared.adds.part.added puts.prepared.adds.part.adds puts.prepared.adds.part.piece)
-      (behind_whole (size_of (current_words first) i) (size_of (current_words first) i) (size_of (current_words first) i + 256) max_height)
+      (behind_one (size_of (current_words first) i) (size_of (current_words first) i + 256) max_height
+      (one_entry (size_of (current_words first) i) (can.can.lacks.well_formed.directory_sizes i can.can.lacks.reached can.can.lacks.directory)))
       can.can.room
     where
-      enough : (needed behind room left : ℕ) → room ≤ left + (2 + (512 * needed + behind + 2)) → behind ≤ 512 * suc max_height → entering_room needed ≤ room → 6 ≤ left
+      enough : (needed behind room left : ℕ) → room ≤ left + (2 + (512 * needed + behind + 2)) → behind ≡ 512 + max_height → entering_room needed ≤ room → 6 ≤ left
       enough needed behind room left a b c = omega (arith, a, b, c)
 
   pub put_free : IsFreeInode (current_words second) j

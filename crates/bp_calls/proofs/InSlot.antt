@@ -4,6 +4,7 @@ use Rattle.bp_calls.specs.Entered.{IsNewInode, IsReadyEntry}
 use Rattle.bp_calls.specs.Created.{EntersName}
 use Rattle.bp_layout.specs.Need.{cover, need}
 use Rattle.bp_layout.specs.Need.Change.{enters as gains}
+use Rattle.bp_layout.specs.Need.Entrant.{taken}
 use Rattle.bp_layout.specs.WordPaths.{address, tree_path}
 use Rattle.bp_changes.proofs.AddsNames.{reached_stays}
 use Rattle.bp_tree.specs.Performs.{IsOpen, PerformsWithin}
@@ -18,7 +19,7 @@ use Rattle.bp_layout.specs.Directory.{empty_slot}
 use Rattle.bp_layout.specs.Inode.{size_of, ContentStandsAt, root_of, inode_count}
 use Rattle.bp_shapes.specs.Sets.{AreExact}
 use Rattle.bp_calls.specs.Spare.{IsSpare}
-use Rattle.bp_calls.specs.Steps.{CanName}
+use Rattle.bp_calls.specs.Steps.{CanName, name_need}
 use Rattle.bp_dirs.specs.Written.{HasNameAt}
 use Rattle.bp_inodes.specs.Filled.{FillsInode}
 use Rattle.bp_tree.specs.Within.{IsWithin}
@@ -45,6 +46,7 @@ use Rattle.bp_calls.proofs.ReadBack.{name_read, inode_stays, new_inode}
 use Rattle.bp_calls.proofs.SetLaws.{exact_prepared, exact_entered}
 use Rattle.bp_calls.proofs.Spares.{no_inode_file, row_stands, one_content, spare_inode, spare_entry}
 use Rattle.bp_calls.proofs.Trees.{SameTrees, spare_trees, word_kept, stands_kept}
+use Rattle.bp_layout.specs.Thaw.{none_kept}
 
 -- the row of an inode's words
 pub inode_row : (image : Image) (j at : ℕ) → ContentStandsAt image 0 (8 * j) at → ContentStandsAt image 0 (8 * j + 0) at
@@ -59,15 +61,15 @@ inode_spare image wf j at free stands p v inside =
     spare_inode image wf j f p free (omega arith) (row_stands image 0 (8 * j + 0) f (8 * j + f) at p (omega arith) (omega arith) (omega arith) stands)
 
 -- where the file has its words: nobody reads them, and they are in a live block
-pub inode_inside : (image : Image) → IsWellFormed image → (j at : ℕ) (taken : List ℕ) → IsFreeInode image j → ContentStandsAt image 0 (8 * j + 0) at → (p v : ℕ) → AnyAt (IsWithin at 3) p v →
-    AnyAt (λ q. IsSpare image q × IsOpen image taken q) p v
-inode_inside image wf j at taken free stands p v inside =
+pub inode_inside : (image : Image) → IsWellFormed image → (j at : ℕ) (took : List ℕ) → IsFreeInode image j → ContentStandsAt image 0 (8 * j + 0) at → (p v : ℕ) → AnyAt (IsWithin at 3) p v →
+    AnyAt (λ q. IsSpare image q × IsOpen image none_kept took q) p v
+inode_inside image wf j at took free stands p v inside =
     let low : at ≤ p = inside.low in
     let high : p < at + 3 = inside.high in
     let f : ℕ = p - at in
     let in_file : j < inode_count image = free.high in (
       inode_spare image wf j at free stands p v inside,
-      content_open image taken 0 (8 * j + f) p inode_file (omega (arith, in_file)) (row_stands image 0 (8 * j + 0) f (8 * j + f) at p (omega arith) (omega arith) (omega arith) stands),
+      content_open image took 0 (8 * j + f) p inode_file (omega (arith, in_file)) (row_stands image 0 (8 * j + 0) f (8 * j + f) at p (omega arith) (omega arith) (omega arith) stands),
     )
 
 -- an entry of a tree that was read from an inode
@@ -112,7 +114,7 @@ module _ (first second third last : Memory) (i s j entry : ℕ) (name : Name) (k
   word_stands f few = row_stands image i (32 * s + 0) f (32 * s + f) entry (entry + f) (omega arith) refl (omega (arith, few)) entry_at
 
   abbrev Inside : ℕ → Type 0
-  Inside p = IsSpare image p × IsOpen image [] p
+  Inside p = IsSpare image p × IsOpen image none_kept [] p
 
   name_inside : (p v : ℕ) → AnyAt (IsWithin (entry + 1) 31) p v → AnyAt Inside p v
   name_inside p v inside =
@@ -206,24 +208,24 @@ module _ (first second third last : Memory) (i s j entry : ℕ) (name : Name) (k
   top_after : root_of after 0 ≡ root_of image 0
   top_after = root_word_stays mid mid_well_formed i (32 * s + 0) entry j mid_reached mid_below mid_entry ∙ trees.root 0 inode_file (omega (arith, in_file))
 
-  covered_after : address after (cover image (gains i true)) ≡ entry
+  covered_after : address after (cover image (gains i (taken j))) ≡ entry
   covered_after =
       ap (address after) (cover_in_slot image i wf reached can.lacks.directory s found ∙ ap₂ (λ h k. tree_path (height_of h) i (suc (height_of k)) (32 * s + 0)) (sym top_after) (sym root_after))
       ∙ content_address after after_well_formed i (32 * s + 0) entry (reached_stays mid after mid_well_formed i s j entered_after.adds i mid_reached)
       (stands_stored mid mid_well_formed i (32 * s + 0) entry j mid_reached mid_below mid_entry
       (root_stays mid mid_well_formed i (32 * s + 0) entry j mid_reached not_file mid_below mid_entry i mid_in_file))
 
-  in_two : PerformsWithin 2 35 first last (gains i true) (EntersName i name kind)
-  in_two = within_stores first last (gains i true) (EntersName i name kind) (AnyAt Inside) 34 third entry j [] (λ other all. prepared_same image other wf (trees_of other all).prepared) all_inside commits tt tt tt
-      (λ p v both. both.1) (sym (subst (λ w. address w (cover image (gains i true)) ≡ entry) (sym committed) covered_after)) (sym (need_in_slot image i wf reached can.lacks.directory s found))
+  in_two : PerformsWithin none_kept (name_need image i) 2 35 first last (gains i (taken j)) (EntersName i name kind)
+  in_two = within_stores none_kept first last (gains i (taken j)) (EntersName i name kind) (AnyAt Inside) 34 third entry j [] (λ other all. prepared_same image other wf (trees_of other all).prepared) all_inside commits tt tt tt
+      (λ p v both. both.1) (sym (subst (λ w. address w (cover image (gains i (taken j))) ≡ entry) (sym committed) covered_after)) (sym (need_in_slot image i wf reached can.lacks.directory s found))
       (content_open image [] i (32 * s + 0) entry reached (omega (arith, in_size)) entry_at) (subst IsWellFormed (sym committed) after_well_formed)
       (enters_over image mid (current_words last) wf trees.prepared.meaning i s j name kind can.free (sym (ap (λ o. unwrap_or o (entry_count image i)) found)) enters)
 
-  pub slot_performs : PerformsWithin 5 (stores_behind_growth (need image (gains i true))) first last (gains i true) (EntersName i name kind)
+  pub slot_performs : PerformsWithin none_kept (name_need image i) 5 (stores_behind_growth (name_need image i)) first last (gains i (taken j)) (EntersName i name kind)
   slot_performs =
-      within_more 2 35 first last (gains i true) (EntersName i name kind) in_two 5 (stores_behind_growth (need image (gains i true))) (omega arith) (omega arith)
+      within_more none_kept (name_need image i) 2 35 first last (gains i (taken j)) (EntersName i name kind) in_two 5 (stores_behind_growth (name_need image i)) (omega arith) (omega arith)
 
-  pub slot_exact : (blocks inodes : Set) → AreExact image blocks inodes → AreExact (current_words last) blocks (without inodes j)
+  pub slot_exact : (blocks inodes : Set) → AreExact image none_kept blocks inodes → AreExact (current_words last) none_kept blocks (without inodes j)
   slot_exact blocks inodes exact =
-      subst (λ w. AreExact w blocks (without inodes j)) (sym committed)
+      subst (λ w. AreExact w none_kept blocks (without inodes j)) (sym committed)
       (exact_entered mid mid_well_formed i s j (kind_word kind) entry name fresh ready can.lacks.form (missing ∙ can.lacks.missing) mid_entry blocks inodes (exact_prepared image mid wf trees.prepared blocks inodes exact))

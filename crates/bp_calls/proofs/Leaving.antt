@@ -7,7 +7,7 @@ use Rattle.bp_calls.proofs.GivenUpLaws.{gives_as}
 use Rattle.bp_calls.proofs.OpenPlaces.{content_address, content_open, root_word_stays, stands_stored}
 use Rattle.bp_calls.proofs.ReadingLaws.{few_inode}
 use Rattle.bp_calls.proofs.Shorter.{CanGiveBack}
-use Rattle.bp_changes.specs.Effects.{CanUnlink, RemovesEntry}
+use Rattle.bp_changes.specs.Effects.{CanUnlink, IsLastName, RemovesEntry}
 use Rattle.bp_changes.proofs.ContentStore.{pointers_stay, root_stays}
 use Rattle.bp_changes.proofs.LinkInPlace.{store_removes}
 use Rattle.bp_changes.proofs.Unlink.{reached_stays, unlinked_well_formed}
@@ -39,6 +39,8 @@ use Rattle.pm_epochs.proofs.CrashLaws.{quiet_none}
 use Rattle.pm_epochs.proofs.PieceLaws.{IsPiece-commit}
 use Rattle.pm_region.specs.Memory.{Adds, Memory, current_words}
 use Rattle.pm_region.proofs.MemoryLaws.{current_words-adds}
+use Rattle.bp_layout.specs.Thaw.{none_kept}
+use Rattle.bp_calls.proofs.Unthawed.{unthawed}
 
 -- an entry that may go, and where its inumber stands
 pub record CanLeave (image : Image) (i s j place : ℕ) : Type 0 where
@@ -138,7 +140,8 @@ module _ (image : Image) (i s j place : ℕ) (can : CanLeave image i s j place) 
   gone_on : (b : ℕ) → HasBlock image root size b → IsGivenUp last root size 0 b
   gone_on b has = record { has = has_block-stays image last root size keeps b has; past = omega arith }
 
-  module _ (blocks inodes : Set) (exact : AreExact image blocks inodes) where
+  -- where it is the last name of its inode, the blocks and the number come back
+  module _ (blocks inodes : Set) (exact : AreExact image none_kept blocks inodes) where
     can_give_blocks : CanGiveBack last root size blocks
     can_give_blocks = record {
       sound = sound-kept image last root size keeps (length-set image place 0) (wf.sound j named_reached);
@@ -163,12 +166,13 @@ module _ (image : Image) (i s j place : ℕ) (can : CanLeave image i s j place) 
         go (inl is) = absurd ((exact.free_inodes.free j is).free named_reached)
         go (inr not) = not
 
-    exact_last : (after : Set) → GivesBack (IsGivenUp last root size 0) blocks after → AreExact last after (with inodes j)
-    exact_last after gives = record {
+    exact_last : IsLastName image i s j → (after : Set) → GivesBack (IsGivenUp last root size 0) blocks after → AreExact last none_kept after (with inodes j)
+    exact_last last_name after gives = record {
       block_room = rw (length-set image place 0) (gives.room ∙ exact.block_room);
       inode_room = rw (length-set image place 0) (length-set inodes j true ∙ exact.inode_room);
-      free_blocks = freed_blocks image last wf (length-set image place 0) (HasBlock image root size) (remove_frees image wf i s j place can.unlink can.stands) (has blocks) (has after) exact.free_blocks told.only told.still told.given;
-      free_inodes = removed_inode image last wf i s j can.unlink removes (has inodes) (has (with inodes j)) exact.free_inodes (has_with_same inodes j inode_in_room) (has_with_other inodes j);
+      free_blocks = freed_blocks image last wf (length-set image place 0) (HasBlock image root size) (remove_frees image wf i s j place can.unlink last_name can.stands) none_kept (has blocks) (has after) exact.free_blocks
+          (λ b is. elim (told.only b is) [ inl was ↦ inl was | inr gone ↦ inr (gone, refl) ]) told.still (λ b gone loose. told.given b gone);
+      free_inodes = removed_inode image last wf i s j can.unlink removes last_name (has inodes) (has (with inodes j)) exact.free_inodes (has_with_same inodes j inode_in_room) (has_with_other inodes j);
     }
       where
         told : GivesBack (HasBlock image root size) blocks after
@@ -178,26 +182,27 @@ module _ (old new : Memory) (i s j place : ℕ) (can : CanLeave (current_words o
   stored : current_words new ≡ set (current_words old) place 0
   stored = current_words-adds old new (commit place 0) adds
 
-  pub leaving_performs : Performs old new (leaves i s) (λ image after. RemovesEntry image after i s)
+  pub leaving_performs : Performs none_kept old new (leaves i s) (λ image after. RemovesEntry image after i s)
   leaving_performs =
-      performs_committed old new (leaves i s) (λ image after. RemovesEntry image after i s) place 0 2 1 []
+      unthawed old new (leaves i s) (λ image after. RemovesEntry image after i s)
+      (performs_committed none_kept old new (leaves i s) (λ image after. RemovesEntry image after i s) place 0 2 1 []
       (record {
         prepared = [];
         adds = adds;
         quiet = quiet_none Same (current_words old) (same_self (current_words old) can.well_formed);
         piece = IsPiece-commit place 0;
       })
-      (takes_none (current_words old))
+      (takes_none (current_words old) none_kept)
       (rw stored (sym (at_cover (current_words old) i s j place can)))
       (omega arith) (omega arith)
       (sym (none_leaving (current_words old) can.well_formed i s j can.unlink.reached can.unlink.entry))
       (content_open (current_words old) [] i (32 * s + 0) place can.unlink.reached (omega (arith, can.unlink.entry.in_size)) can.stands)
       (rw stored (last_well_formed (current_words old) i s j place can))
-      (rw stored (removes (current_words old) i s j place can))
+      (rw stored (removes (current_words old) i s j place can)))
 
-  module _ (blocks inodes : Set) (exact : AreExact (current_words old) blocks inodes) where
+  module _ (blocks inodes : Set) (exact : AreExact (current_words old) none_kept blocks inodes) where
     pub can_give : CanGiveBack (current_words new) (root_of (current_words old) j) (size_of (current_words old) j) blocks
     can_give = rw stored (can_give_blocks (current_words old) i s j place can blocks inodes exact)
 
-    pub leaving_exact : (after : Set) → GivesBack (IsGivenUp (current_words new) (root_of (current_words old) j) (size_of (current_words old) j) 0) blocks after → AreExact (current_words new) after (with inodes j)
-    leaving_exact after gives = rw stored (exact_last (current_words old) i s j place can blocks inodes exact after (rw stored at gives))
+    pub leaving_exact : IsLastName (current_words old) i s j → (after : Set) → GivesBack (IsGivenUp (current_words new) (root_of (current_words old) j) (size_of (current_words old) j) 0) blocks after → AreExact (current_words new) none_kept after (with inodes j)
+    leaving_exact last_name after gives = rw stored (exact_last (current_words old) i s j place can blocks inodes exact last_name after (rw stored at gives))

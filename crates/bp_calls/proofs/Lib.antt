@@ -41,6 +41,7 @@ pub mod GrowthSets
 pub mod GrowthNodes
 pub mod GrowthNeed
 pub mod GrowthCover
+pub mod Unthawed
 pub mod GrowthPerforms
 pub mod NewNames
 pub mod WrittenStands

@@ -39,6 +39,7 @@ use Rattle.bp_calls.specs.WritesFile.{WritesFile, written_byte}
 use Rattle.bp_calls.proofs.SetLaws.{free_inodes_stay}
 use Rattle.bp_calls.proofs.WriteBehind.{written_before, written_inside}
 use Rattle.bp_calls.proofs.WrittenStands.{written_past}
+use Rattle.bp_layout.specs.Thaw.{none_kept}
 
 -- ---- what it asks
 
@@ -81,7 +82,7 @@ module _ (image : Image) (wf : IsWellFormed image) (n : ℕ) (reached : IsReache
       (leaf-fronts image (size_of image) (wf_forest image wf) run run_is run_in 0 d (omega arith) short)
 
   -- so the word of the cover, whatever else is touched, is one where a call may store
-  pub run_open : (touched : Touched) → IsTouched touched → touched.run ≡ Some run → (taken : List ℕ) → IsOpen image taken (cover_word image touched)
+  pub run_open : (touched : Touched) → IsTouched touched → touched.run ≡ Some run → (taken : List ℕ) → IsOpen image none_kept taken (cover_word image touched)
   run_open touched shape one taken =
       cover_open image wf touched shape (run_path run (run.off / 8)) (has-of-run touched shape run (run.off / 8) one (omega arith) (omega (arith, is.some))) run_live taken
 
@@ -146,13 +147,13 @@ module _ (image new : Image) (i : ℕ) (wf : IsWellFormed image) (changes : Chan
     has = subst (λ s. HasBlock new (root_of new one.tree) s b) (sym (sizes one.tree one.reached)) one.has;
   }
 
-  pub commit_exact : (blocks after inodes : Set) → AreExactFor image (IsReached image) bound blocks inodes → length after ≡ length blocks → AreUnheld new (IsReached image) bound (has after) → AreExact new after inodes
+  pub commit_exact : (blocks after inodes : Set) → AreExactFor image (IsReached image) bound none_kept blocks inodes → length after ≡ length blocks → AreUnheld new (IsReached image) bound none_kept (has after) → AreExact new none_kept after inodes
   commit_exact blocks after inodes exact room unheld = record {
     block_room = rw changes.trees.whole (room ∙ exact.block_room);
     inode_room = rw changes.trees.whole exact.inode_room;
     free_blocks = record {
-      free = λ b there. let free = unheld.free b there in record { low = free.low; high = free.high; free = λ one. free.free (held b one) };
-      all = λ b free. unheld.all b (record { low = free.low; high = free.high; free = λ one. free.free (lives b one) });
+      free = λ b there. let free = unheld.free b there in record { low = free.low; high = free.high; free = λ one. free.free (held b one); loose = free.loose };
+      all = λ b free. unheld.all b (record { low = free.low; high = free.high; free = λ one. free.free (lives b one); loose = free.loose });
     };
     free_inodes = free_inodes_stay image new (has inodes) (changes.size 0 inode_file (not_zero image new i wf changes)) (reached-back image new i wf changes) (reached-on image new i wf changes) exact.free_inodes;
   }

@@ -1,4 +1,5 @@
 pub mod Entered
+pub mod Entrant
 pub mod Created
 pub mod Spare
 pub mod Steps

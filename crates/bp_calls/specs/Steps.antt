@@ -1,5 +1,5 @@
 -- What stands before a name is entered in a directory.
-use Rattle.std.specs.Prelude.{◌≡◌, ◌≢◌, ℕ, ◌+◌, ◌≤◌, [], true, None, length}
+use Rattle.std.specs.Prelude.{◌≡◌, ◌≢◌, ℕ, ◌+◌, ◌≤◌, [], None, length}
 use Rattle.bp_append.specs.Prepared.{need_for}
 use Rattle.bp_calls.specs.Growth.{stores_behind_growth}
 use Rattle.bp_free.specs.Set.{Set, members}
@@ -8,6 +8,7 @@ use Rattle.bp_layout.specs.Free.{IsFreeInode}
 use Rattle.bp_layout.specs.Inode.{IsDirectory, size_of}
 use Rattle.bp_layout.specs.Need.{need}
 use Rattle.bp_layout.specs.Need.Change.{enters}
+use Rattle.bp_layout.specs.Need.Entrant.{linked}
 use Rattle.bp_layout.specs.Reached.{IsReached}
 use Rattle.bp_layout.specs.WellFormed.{IsWellFormed}
 use Rattle.bp_layout.specs.Words.{Image}
@@ -34,6 +35,10 @@ pub record CanName (image : Image) (i j : ℕ) (name : Name) : Type 0 where
 abbrev pub entering_room : ℕ → ℕ
 entering_room needed = stores_behind_growth needed + 5 + 1
 
+-- how many blocks a name takes in directory i, where its inode is there: as many whichever inode that is
+abbrev pub name_need : Image → ℕ → ℕ
+name_need image i = need image (enters i linked)
+
 -- how many blocks directory i lacks for one entry more
 abbrev pub entry_need_for : Image → ℕ → ℕ
 entry_need_for image i = need_for image i (size_of image i) (size_of image i + entry_size)
@@ -58,5 +63,5 @@ pub record CanEnter (memory : Memory) (blocks inodes : Set) (i : ℕ) (name : Na
   pub lacks : LacksName (current_words memory) i name
   pub exact : AreExact (current_words memory) none_kept blocks inodes
   pub some : members inodes ≢ []
-  pub enough : need (current_words memory) (enters i true) ≤ length (members blocks)
-  pub room : entering_room (need (current_words memory) (enters i true)) ≤ room_in memory
+  pub enough : name_need (current_words memory) i ≤ length (members blocks)
+  pub room : entering_room (name_need (current_words memory) i) ≤ room_in memory

@@ -3,6 +3,7 @@ use Rattle.bp_layout.specs.Need.Change.{resizes}
 use Rattle.bp_tree.specs.Performs.{HasRoomFor}
 use Rattle.bp_calls.proofs.Shorter.{none_shrinking}
 use Rattle.bp_calls.proofs.resizing.truncate.Goals as goal
+use Rattle.bp_layout.specs.Thaw.{none_kept}
 
 pub grow_file-requires : goal.grow_file-requires
 grow_file-requires g c = record {
@@ -22,5 +23,5 @@ grow_file-requires g c = record {
 pub shrink_file-requires-clause-room : goal.shrink_file-requires-clause-room
 shrink_file-requires-clause-room g c =
     let none = none_shrinking _ c.requires.well_formed c.args.i c.args.size c.requires.reached c.requires.file (omega (arith, c.if-size-tree.true, c.tree_of-tree.ensures.size)) in
-    let room : HasRoomFor (g.R.Region.memory c.args.parts.now.region) (resizes c.args.i c.args.size) = c.requires.room (omega (arith, none)) in
+    let room : HasRoomFor (g.R.Region.memory c.args.parts.now.region) none_kept (resizes c.args.i c.args.size) = c.requires.room (omega (arith, none)) in
     omega (arith, room)

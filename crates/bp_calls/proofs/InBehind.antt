@@ -46,7 +46,7 @@ use Rattle.pm_region.specs.Memory.{Memory, current_words, room_in, Adds}
 use Rattle.pm_region.specs.Safe.{AddsMay}
 use Rattle.pm_region.proofs.MayLaws.{may_frame, may_weaker, each_after}
 use Rattle.pm_region.proofs.MemoryLaws.{adds_both, base-adds, current_words-adds, room_in-piece}
-use Rattle.bp_calls.specs.Created.{EntersName}
+use Rattle.bp_calls.specs.Created.{CountsName, EntersName}
 use Rattle.bp_calls.specs.Entered.{IsNewInode, IsReadyBehind}
 use Rattle.bp_calls.specs.Entries.{PutsBehind}
 use Rattle.bp_calls.specs.Growth.{stores_behind_growth}
@@ -61,10 +61,11 @@ use Rattle.bp_calls.proofs.OpenPlaces.{content_open, each_weaker, size_covered}
 use Rattle.bp_calls.proofs.ReadBack.{new_inode}
 use Rattle.bp_calls.proofs.ReadyKept.{ready_kept, ready_back, ready_stays}
 use Rattle.bp_calls.proofs.SetLaws.{free_inodes_taken, length_without}
-use Rattle.bp_calls.proofs.StandsLaws.{enters_well_formed, enters_over}
+use Rattle.bp_calls.proofs.EnteredOver.{adds_over, enters_well_formed, enters_over}
 use Rattle.bp_calls.proofs.TakenBlocks.{free_taken}
 use Rattle.bp_calls.proofs.Trees.{SameTrees, has_more, live_leaf, spare_trees, stands_kept}
 use Rattle.bp_layout.specs.Thaw.{none_kept}
+use Rattle.bp_changes.proofs.Named.{added_counts}
 
 -- a preparation, and then stores that nobody sees and the commit of one word
 module _ (old mid third new : Memory) (change : Change) (Effect : Image → Image → Type 0) (took : List ℕ) (most_barriers most : ℕ) (one : AddsTaking none_kept took most_barriers most old mid)
@@ -372,6 +373,10 @@ module _ (first second third last : Memory) (blocks after : Set) (i j place : �
     where
       whole : length done ≡ length image
       whole = enters.adds.trees.whole ∙ meaning.trees.whole
+
+  pub behind_counts : CountsName image (current_words last) j
+  behind_counts = rw committed
+      (λ counts are. added_counts image done wf i (size_of full i / 256) j (adds_over image full done wf meaning i (size_of full i / 256) j enters.adds) counts are)
 
 -- ---- what is left of the memory behind the preparation
 

@@ -1,7 +1,7 @@
 -- A new inode, a name in an empty entry, and then the inumber.
 use Rattle.std.proofs.Common.{◌≡◌, ◌≢◌, ℕ, ◌+◌, ◌-◌, ◌*◌, ◌/◌, ◌%◌, ◌<◌, ◌≤◌, List, [], suc, true, Some, unwrap_or, ap₂, set, refl, sym, ◌∙◌, ap, subst, arith}
 use Rattle.bp_calls.specs.Entered.{IsNewInode, IsReadyEntry}
-use Rattle.bp_calls.specs.Created.{EntersName}
+use Rattle.bp_calls.specs.Created.{CountsName, EntersName}
 use Rattle.bp_layout.specs.Need.{cover, need}
 use Rattle.bp_layout.specs.Need.Change.{enters as gains}
 use Rattle.bp_layout.specs.Need.Entrant.{taken}
@@ -13,7 +13,7 @@ use Rattle.bp_tree.proofs.PerformsLaws.{within_stores, within_more}
 use Rattle.bp_layout.specs.Free.{IsFreeInode}
 use Rattle.bp_calls.proofs.NeedLaws.{cover_in_slot, need_in_slot}
 use Rattle.bp_calls.proofs.OpenPlaces.{content_open, each_weaker, stands_stored, root_word_stays, content_address}
-use Rattle.bp_calls.proofs.StandsLaws.{enters_well_formed, enters_over}
+use Rattle.bp_calls.proofs.EnteredOver.{adds_over, enters_well_formed, enters_over}
 use Rattle.bp_changes.proofs.ContentStore.{root_stays}
 use Rattle.bp_layout.specs.Directory.{empty_slot}
 use Rattle.bp_layout.specs.Inode.{size_of, ContentStandsAt, root_of, inode_count}
@@ -47,6 +47,7 @@ use Rattle.bp_calls.proofs.SetLaws.{exact_prepared, exact_entered}
 use Rattle.bp_calls.proofs.Spares.{no_inode_file, row_stands, one_content, spare_inode, spare_entry}
 use Rattle.bp_calls.proofs.Trees.{SameTrees, spare_trees, word_kept, stands_kept}
 use Rattle.bp_layout.specs.Thaw.{none_kept}
+use Rattle.bp_changes.proofs.Named.{added_counts}
 
 -- the row of an inode's words
 pub inode_row : (image : Image) (j at : ℕ) → ContentStandsAt image 0 (8 * j) at → ContentStandsAt image 0 (8 * j + 0) at
@@ -229,3 +230,7 @@ module _ (first second third last : Memory) (i s j entry : ℕ) (name : Name) (k
   slot_exact blocks inodes exact =
       subst (λ w. AreExact w none_kept blocks (without inodes j)) (sym committed)
       (exact_entered mid mid_well_formed i s j (kind_word kind) entry name fresh ready can.lacks.form (missing ∙ can.lacks.missing) mid_entry blocks inodes (exact_prepared image mid wf trees.prepared blocks inodes exact))
+
+  pub slot_counts : CountsName image (current_words last) j
+  slot_counts counts are =
+      added_counts image (current_words last) wf i s j (adds_over image mid (current_words last) wf trees.prepared.meaning i s j enters.adds) counts are

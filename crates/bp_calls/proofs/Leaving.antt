@@ -1,21 +1,23 @@
 -- A name leaves its directory by a store of 0 to its inumber, and the blocks and the number of its inode come back.
-use Rattle.std.proofs.Common.{◌≡◌, ◌≢◌, ◌⊎◌, ℕ, suc, ◌+◌, ◌*◌, ◌/◌, ◌%◌, ◌<◌, ◌≤◌, [], length, set, true, false, refl, sym, ◌∙◌, ap, ap₂, subst, arith, inl, inr}
-use Rattle.std.proofs.lemmas.Bool.{cases_Bool}
+use Rattle.std.proofs.Common.{◌≡◌, ◌≢◌, ◌⊎◌, ℕ, suc, ◌+◌, ◌*◌, ◌/◌, ◌%◌, ◌<◌, ◌≤◌, List, [], length, set, slice_index, true, false, refl, sym, ◌∙◌, ap, ap₂, subst, arith, inl, inr}
+use Rattle.std.proofs.lemmas.Bool.{cases_Bool, cases_eq}
 use Rattle.std.proofs.lemmas.List.{length-set}
 use Rattle.bp_calls.specs.GivenBack.{GivesBack}
 use Rattle.bp_calls.proofs.GivenUpLaws.{gives_as}
 use Rattle.bp_calls.proofs.OpenPlaces.{content_address, content_open, root_word_stays, stands_stored}
 use Rattle.bp_calls.proofs.ReadingLaws.{few_inode}
 use Rattle.bp_calls.proofs.Shorter.{CanGiveBack}
-use Rattle.bp_changes.specs.Effects.{CanUnlink, IsLastName, RemovesEntry}
+use Rattle.bp_changes.specs.Effects.{CanUnlink, HasOtherName, IsLastName, KeepsBlocks, RemovesEntry}
 use Rattle.bp_changes.proofs.ContentStore.{pointers_stay, root_stays}
-use Rattle.bp_changes.proofs.LinkInPlace.{store_removes}
-use Rattle.bp_changes.proofs.Unlink.{reached_stays, unlinked_well_formed}
+use Rattle.bp_changes.proofs.LinkInPlace.{store_blocks, store_removes}
+use Rattle.bp_changes.proofs.Named.{removed_counts}
+use Rattle.bp_changes.proofs.Unlink.{reached_back, reached_stays, unlinked_well_formed}
 use Rattle.bp_free.specs.Set.{Set, has, with}
 use Rattle.bp_free.proofs.Members.{has_with_other, has_with_same}
 use Rattle.bp_layout.proofs.FewLeaves.{few_inodes}
 use Rattle.bp_layout.specs.Directory.{EntryNames, inumber_at, inumber_in}
 use Rattle.bp_layout.specs.Inode.{ContentStandsAt, inode_count, kind_of, root_of, size_of}
+use Rattle.bp_layout.specs.Names.{AreCounts}
 use Rattle.bp_layout.specs.Need.{Change, copied, cover, entry_path, is_there_after, need}
 use Rattle.bp_layout.specs.Need.Change.{leaves}
 use Rattle.bp_layout.specs.Reached.{IsReached}
@@ -41,6 +43,7 @@ use Rattle.pm_region.specs.Memory.{Adds, Memory, current_words}
 use Rattle.pm_region.proofs.MemoryLaws.{current_words-adds}
 use Rattle.bp_layout.specs.Thaw.{none_kept}
 use Rattle.bp_calls.proofs.Unthawed.{unthawed}
+use Rattle.bp_calls.proofs.SetLaws.{free_blocks_stay, free_inodes_stay}
 
 -- an entry that may go, and where its inumber stands
 pub record CanLeave (image : Image) (i s j place : ℕ) : Type 0 where
@@ -178,6 +181,45 @@ module _ (image : Image) (i s j place : ℕ) (can : CanLeave image i s j place) 
         told : GivesBack (HasBlock image root size) blocks after
         told = gives_as (IsGivenUp last root size 0) (HasBlock image root size) blocks after gone_back gone_on gives
 
+  -- ---- where it has another name all stays
+
+  module _ (more : HasOtherName image i s j) where
+    still_named : EntryNames last more.directory more.slot j
+    still_named =
+        let inside : more.directory < inode_count image = reached-in_file image wf more.directory more.reached in
+        record {
+          directory = removes.kind more.directory inside ∙ more.names.directory;
+          in_size = subst (λ z. more.slot < z / 256) (sym (removes.size more.directory inside)) more.names.in_size;
+          inumber = removes.entry more.directory more.slot 0 more.reached more.names.directory more.names.in_size (omega arith) (λ e same. more.other (sym e) (omega (arith, same))) ∙ more.names.inumber;
+          not_empty = more.names.not_empty;
+        }
+
+    still_reached : (t : ℕ) → IsReached image t → IsReached last t
+    still_reached t was = go (cases_eq t j)
+      where
+        not_itself : more.directory ≡ j → ⊥
+        not_itself e = can.unlink.alone more.slot j (subst (λ x. EntryNames image x more.slot j) e more.names)
+
+        go : (t ≡ j) ⊎ (t ≡ j → ⊥) → IsReached last t
+        go (inl e) = subst (IsReached last) (sym e) (named more.slot (reached_stays image last wf i s j can.unlink removes more.directory more.reached not_itself) still_named)
+        go (inr differ) = reached_stays image last wf i s j can.unlink removes t was differ
+
+    blocks_kept : KeepsBlocks image last
+    blocks_kept = store_blocks image wf i s 0 place reached entry.directory entry.in_size can.stands
+
+    exact_named : (blocks inodes : Set) → AreExact image none_kept blocks inodes → AreExact last none_kept blocks inodes
+    exact_named blocks inodes exact = record {
+      block_room = rw (length-set image place 0) exact.block_room;
+      inode_room = rw (length-set image place 0) exact.inode_room;
+      free_blocks = free_blocks_stay image last (has blocks) (length-set image place 0)
+          (λ b live. let was : IsReached image live.tree = before live.tree live.reached in record { tree = live.tree; reached = was; has = blocks_kept.back live.tree b was live.has })
+          (λ b live. record { tree = live.tree; reached = still_reached live.tree live.reached; has = blocks_kept.stay live.tree b live.reached live.has }) exact.free_blocks;
+      free_inodes = free_inodes_stay image last (has inodes) (removes.size 0 (reached-in_file image wf 0 inode_file)) before still_reached exact.free_inodes;
+    }
+      where
+        before : (t : ℕ) → IsReached last t → IsReached image t
+        before = reached_back image last wf i s j can.unlink removes
+
 module _ (old new : Memory) (i s j place : ℕ) (can : CanLeave (current_words old) i s j place) (adds : Adds old new (commit place 0)) where
   stored : current_words new ≡ set (current_words old) place 0
   stored = current_words-adds old new (commit place 0) adds
@@ -206,3 +248,13 @@ module _ (old new : Memory) (i s j place : ℕ) (can : CanLeave (current_words o
 
     pub leaving_exact : IsLastName (current_words old) i s j → (after : Set) → GivesBack (IsGivenUp (current_words new) (root_of (current_words old) j) (size_of (current_words old) j) 0) blocks after → AreExact (current_words new) none_kept after (with inodes j)
     leaving_exact last_name after gives = rw stored (exact_last (current_words old) i s j place can blocks inodes exact last_name after (rw stored at gives))
+
+    pub named_exact : HasOtherName (current_words old) i s j → AreExact (current_words new) none_kept blocks inodes
+    named_exact more = rw stored (exact_named (current_words old) i s j place can more blocks inodes exact)
+
+  pub leaving_counts : (counts : List ℕ) → AreCounts (current_words old) counts → j < length counts → (rest : ℕ) → slice_index counts j ≡ rest + 1 → AreCounts (current_words new) (set counts j rest)
+  leaving_counts counts are low rest is = rw stored
+      (removed_counts (current_words old) (set (current_words old) place 0) can.well_formed i s j can.unlink (removes (current_words old) i s j place can) counts are low rest is)
+
+  pub leaving_whole : length (current_words new) ≡ length (current_words old)
+  leaving_whole = rw stored (length-set (current_words old) place 0)

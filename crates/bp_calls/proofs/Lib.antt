@@ -2,7 +2,8 @@ pub mod EnteredLaws
 pub mod GrownLaws
 pub mod AfterLaws
 pub mod SetLaws
-pub mod StandsLaws
+pub mod EnteredOver
+pub mod EnteredStands
 pub mod NeedLaws
 pub mod FreeCounts
 pub mod Trees
@@ -42,6 +43,7 @@ pub mod GrowthNodes
 pub mod GrowthNeed
 pub mod GrowthCover
 pub mod Unthawed
+pub mod CountLaws
 pub mod GrowthPerforms
 pub mod NewNames
 pub mod WrittenStands

@@ -32,7 +32,7 @@ use Rattle.bp_calls.proofs.GrowthPerforms.{grown_need, performs_grown}
 use Rattle.bp_tree.proofs.PerformsLaws.{within_more}
 use Rattle.bp_calls.proofs.NeedLaws.{need_behind}
 use Rattle.bp_calls.proofs.Refusals.{has_members, not_none, not_some, tells}
-use Rattle.bp_calls.proofs.StandsLaws.{entered_over}
+use Rattle.bp_calls.proofs.EnteredOver.{entered_over}
 use Rattle.bp_layout.specs.Thaw.{none_kept}
 use Rattle.bp_layout.proofs.ThawLaws.{full_need-none}
 use Rattle.bp_calls.proofs.Unthawed.{lacks_thawed, room_asked, room_needed, unthawed}

@@ -31,6 +31,7 @@ pub(crate) fn grow_need<R: Region>(region: &R) -> u32
 /// no inode more.
 pub(crate) fn grow<R: Region>(parts: &mut Parts<R>)
     requires can { CanGrowInodes (R.memory parts.old.region) parts.old.blocks parts.old.inodes }
+    requires exact { IsExact (current_words (R.memory parts.old.region)) parts.old }
     ensures grows { GrowsInodes (R.memory parts.old.region) (R.memory parts.new.region) }
     ensures exact { IsExact (current_words (R.memory parts.new.region)) parts.new }
     ensures left { length (members parts.old.blocks) ≡

@@ -17,8 +17,8 @@ use bp_inplace::commit_word;
 use pm_region::Region;
 
 /// Takes a name out of a directory, where it names a file or an empty directory, by one store alone in its epoch: of 0
-/// to the inumber of the entry in `slot`. It needs no block, and room for three events. Nobody reaches the inode
-/// then: its words stay as they were, and its blocks and its number come back.
+/// to the inumber of the entry in `slot`. It needs no block, and room for three events. Where the inode has no other
+/// name nobody reaches it then: its words stay as they were, and its blocks and its number come back.
 pub fn remove<R: Region>(parts: &mut Parts<R>, dir: u32, slot: u64)
     requires well_formed { IsWellFormed (current_words (R.memory parts.old.region)) }
     requires exact { IsExact (current_words (R.memory parts.old.region)) parts.old }
@@ -33,7 +33,12 @@ pub fn remove<R: Region>(parts: &mut Parts<R>, dir: u32, slot: u64)
     let entry = entry_place(&parts.region, directory, slot, 0);
     let inode = inumber(&parts.region, directory, slot) as u32;
     let tree = tree_of(&parts.region, inode);
+    let names = parts.counts.names(inode) - 1;
+    parts.counts.set(inode, names);
     commit_word(&mut parts.region, entry, 0);
+    if names > 0 {
+        return;
+    }
     give_back(&parts.region, tree, 0, &mut parts.blocks);
     parts.inodes.give(inode);
 }

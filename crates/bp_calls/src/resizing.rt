@@ -32,12 +32,14 @@ use pm_region::Region;
 /// `NoSpace` exactly where fewer blocks are free than it needs. Nothing has changed then.
 fn grow_file<R: Region>(parts: &mut Parts<R>, i: u32, tree: Tree, size: u64) -> Result<(), NoSpace>
     requires can { CanGrowFile (R.memory parts.old.region) parts.old.blocks parts.old.inodes i size }
+    requires exact { IsExact (current_words (R.memory parts.old.region)) parts.old }
     requires root { tree.root ≡ root_of (current_words (R.memory parts.old.region)) i }
     requires size { tree.size ≡ size_of (current_words (R.memory parts.old.region)) i }
     ensures performs { OnOk result (Performs (kept_of parts.old) (R.memory parts.old.region) (R.memory parts.new.region)
         (resizes i size) (ResizesFile i size)) }
     ensures exact { IsExact (current_words (R.memory parts.new.region)) parts.new }
-    ensures refused { IfErr result (LacksSpace (current_words (R.memory parts.old.region)) (resizes i size)) }
+    ensures refused { IfErr result (LacksSpace (current_words (R.memory parts.old.region)) (kept_of parts.old)
+        (resizes i size)) }
     ensures same { OnErr result (parts.new ≡ parts.old) }
 {
     let need = need_prep(&parts.region, tree, size, size);
@@ -84,11 +86,12 @@ pub fn truncate<R: Region>(parts: &mut Parts<R>, i: u32, size: u64) -> Result<()
     requires file { IsFile (current_words (R.memory parts.old.region)) i }
     requires fits { size ≤ greatest_size (version_of (current_words (R.memory parts.old.region))) }
     requires changed { size ≢ size_of (current_words (R.memory parts.old.region)) i }
-    requires room { HasRoomWhereFree (R.memory parts.old.region) parts.old.blocks (resizes i size) }
+    requires room { HasRoomWhereFree (R.memory parts.old.region) (kept_of parts.old) parts.old.blocks (resizes i size) }
     ensures performs { OnOk result (Performs (kept_of parts.old) (R.memory parts.old.region) (R.memory parts.new.region)
         (resizes i size) (ResizesFile i size)) }
     ensures exact { IsExact (current_words (R.memory parts.new.region)) parts.new }
-    ensures refused { IfErr result (LacksSpace (current_words (R.memory parts.old.region)) (resizes i size)) }
+    ensures refused { IfErr result (LacksSpace (current_words (R.memory parts.old.region)) (kept_of parts.old)
+        (resizes i size)) }
     ensures same { OnErr result (parts.new ≡ parts.old) }
 {
     let tree = tree_of(&parts.region, i);

@@ -6,7 +6,7 @@ use Rattle.bp_layout.specs.Reached.IsReached.{inode_file}
 use Rattle.bp_layout.proofs.Reached.{reached-in_file}
 use Rattle.bp_tree.specs.Within.{IsWithin}
 use Rattle.bp_calls.proofs.EnteredLaws.{directory_inode}
-use Rattle.bp_calls.proofs.InBehind.{behind_performs, behind_exact, put_base, put_room, put_free, put_well_formed_behind}
+use Rattle.bp_calls.proofs.InBehind.{behind_counts, behind_performs, behind_exact, put_base, put_room, put_free, put_well_formed_behind}
 use Rattle.bp_calls.proofs.PutsLaws.{small_directory}
 use Rattle.bp_calls.proofs.Rooms.{base_after, room_after}
 use Rattle.bp_calls.proofs.entering.enter_behind.Goals as goal
@@ -73,3 +73,10 @@ returns-clause-exact g c =
     behind_exact (memory c.args.parts.now.region) (memory c.put_behind.new.parts.region) (memory c.fill.new.region) (memory c.commit_word.new.region) c.args.parts.now.blocks c.put_behind.new.parts.blocks
     c.args.dir c.args.inode c.place-size_place.result c.args.name.now c.args.kind c.requires.can c.put_behind.ensures.puts c.fill.ensures c.place-size_place.ensures.place
     (rw c.tree_of-tree.ensures.size at c.commit_word.ensures) c.put_behind.ensures.blocks
+
+pub returns-clause-counts : goal.returns-clause-counts
+returns-clause-counts g c =
+    let memory = g.R.Region.memory in
+    behind_counts (memory c.args.parts.now.region) (memory c.put_behind.new.parts.region) (memory c.fill.new.region) (memory c.commit_word.new.region) c.args.parts.now.blocks c.put_behind.new.parts.blocks
+    c.args.dir c.args.inode c.place-size_place.result c.args.name.now c.args.kind c.requires.can c.put_behind.ensures.puts c.fill.ensures c.place-size_place.ensures.place
+    (rw c.tree_of-tree.ensures.size at c.commit_word.ensures)

@@ -1,4 +1,4 @@
--- One name more, over what nobody sees, and what it makes of the plain tree.
+-- One name more, over what nobody sees.
 use Rattle.std.proofs.Common.{◌≡◌, ◌⊎◌, ℕ, zero, suc, ◌<◌, ◌≤◌, [], ◌==◌, if◌then◌else◌, refl, sym, ◌∙◌, ap₂, arith, inl, inr, le_trans, unwrap_or}
 use Rattle.std.proofs.lemmas.Bool.{cases_lt}
 use Rattle.bp_layout.specs.Words.{Image}
@@ -6,7 +6,6 @@ use Rattle.bp_layout.specs.Fields.{kind_word}
 use Rattle.bp_layout.specs.Directory.{Name, EntryNames, empty_slot, entry_count}
 use Rattle.bp_layout.specs.Free.{IsFreeInode}
 use Rattle.bp_layout.specs.Inode.{kind_of, size_of, inode_count}
-use Rattle.bp_layout.specs.Lookup.Node.{dir, file}
 use Rattle.bp_layout.specs.Reached.{IsReached}
 use Rattle.bp_layout.specs.WellFormed.{IsWellFormed}
 use Rattle.bp_layout.specs.declared.fields.Kind.{Kind}
@@ -17,23 +16,12 @@ use Rattle.bp_changes.proofs.AddsNames.{linked_well_formed}
 use Rattle.bp_changes.proofs.ReachedOn.{names_on, reached_on}
 use Rattle.bp_changes.proofs.SameMeaning.{reached-back}
 use Rattle.bp_layout.proofs.View.{SameDirectories}
-use Rattle.bp_stands.proofs.NameStands.{names_stand}
-use Rattle.bp_calls.specs.Created.{EntersName, GainsName, empty_node}
+use Rattle.bp_calls.specs.Created.{EntersName}
 use Rattle.bp_calls.proofs.EnteredLaws.{Enters}
 use Rattle.bp_calls.proofs.AfterLaws.{directories_over, empty_slot_over}
 
 pub enters_well_formed : (old new : Image) → IsWellFormed old → (i s j kind : ℕ) (name : Name) → Enters old new i s j name kind → IsWellFormed new
 enters_well_formed old new wf i s j kind name enters = linked_well_formed old new wf i s j enters.adds
-
--- what stands at the new name
-node_is : (k : ℕ) (kind : Kind) → k ≡ kind_word kind → (if k == 1 then file [] else dir) ≡ empty_node kind
-node_is k File e = rw e refl
-node_is k Dir e = rw e refl
-
--- the directory gains a name that came into it
-pub entered_gains : (old new : Image) → IsWellFormed old → (i : ℕ) (name : Name) (kind : Kind) → EntersName i name kind old new → GainsName i name kind old new
-entered_gains old new wf i name kind enters tree here stands found =
-    rw (enters.name_is, node_is _ kind enters.kind_is) at (names_stand old new wf i enters.slot enters.inode enters.adds tree here stands found)
 
 -- ---- the same over what nobody sees
 

@@ -140,76 +140,76 @@ within_call old new i j Effect done =
     few = omega arith
 
 module _ (old : Memory) (blocks inodes : Set) (i : ℕ) (exact : AreExact (current_words old) none_kept blocks inodes) where
-  abbrev image : Image
-  image = current_words old
+  abbrev words : Image
+  words = current_words old
 
   -- an inode is free: any
-  some_free : members inodes ≢ [] → (P : Option ℕ → Type 0) → ((j : ℕ) → IsLeastFree image (Some j) → P (Some j)) → (free : Option ℕ) → IsLeastFree image free → P free
-  some_free some P at None least = absurd (not_none image blocks inodes exact some least)
+  some_free : members inodes ≢ [] → (P : Option ℕ → Type 0) → ((j : ℕ) → IsLeastFree words (Some j) → P (Some j)) → (free : Option ℕ) → IsLeastFree words free → P free
+  some_free some P at None least = absurd (not_none words blocks inodes exact some least)
   some_free some P at (Some j) least = at j least
 
   -- or none
-  none_free : members inodes ≡ [] → (P : Option ℕ → Type 0) → P None → (free : Option ℕ) → IsLeastFree image free → P free
+  none_free : members inodes ≡ [] → (P : Option ℕ → Type 0) → P None → (free : Option ℕ) → IsLeastFree words free → P free
   none_free none P at None least = at
-  none_free none P at (Some j) least = absurd (not_some image blocks inodes exact none j least)
+  none_free none P at (Some j) least = absurd (not_some words blocks inodes exact none j least)
 
   -- the room that is asked, where an inode is free and where none is
-  module _ (room : (free : Option ℕ) → IsLeastFree image free → HasRoomWhereFree old none_kept blocks (enters i (entrant_of free))) where
-    pub some_room : members inodes ≢ [] → name_need image i ≤ length (members blocks) → entering_room (name_need image i) ≤ room_in old
+  module _ (room : (free : Option ℕ) → IsLeastFree words free → HasRoomWhereFree old none_kept blocks (enters i (entrant_of free))) where
+    pub some_room : members inodes ≢ [] → name_need words i ≤ length (members blocks) → entering_room (name_need words i) ≤ room_in old
     some_room some enough = go told.0 told.1
       where
-        told : (free : Option ℕ) × IsLeastFree image free
-        told = tells image blocks inodes exact
+        told : (free : Option ℕ) × IsLeastFree words free
+        told = tells words blocks inodes exact
 
         enters_room : (needed has : ℕ) → room_for needed ≤ has → entering_room needed ≤ has
         enters_room needed has a = omega (arith, a)
 
-        go : (free : Option ℕ) → IsLeastFree image free → entering_room (name_need image i) ≤ room_in old
-        go None least = absurd (not_none image blocks inodes exact some least)
-        go (Some j) least = enters_room (name_need image i) (room_in old) (room_asked old blocks (enters i (taken j)) (room (Some j) least) enough)
+        go : (free : Option ℕ) → IsLeastFree words free → entering_room (name_need words i) ≤ room_in old
+        go None least = absurd (not_none words blocks inodes exact some least)
+        go (Some j) least = enters_room (name_need words i) (room_in old) (room_asked old blocks (enters i (taken j)) (room (Some j) least) enough)
 
-    pub none_room : members inodes ≡ [] → need image (enters i grown) ≤ length (members blocks) → HasRoomFor old none_kept (enters i grown)
+    pub none_room : members inodes ≡ [] → need words (enters i grown) ≤ length (members blocks) → HasRoomFor old none_kept (enters i grown)
     none_room none enough = go told.0 told.1
       where
-        told : (free : Option ℕ) × IsLeastFree image free
-        told = tells image blocks inodes exact
+        told : (free : Option ℕ) × IsLeastFree words free
+        told = tells words blocks inodes exact
 
-        go : (free : Option ℕ) → IsLeastFree image free → HasRoomFor old none_kept (enters i grown)
-        go None least = room None least (subst (λ n. n ≤ length (members blocks)) (sym (full_need-none image (enters i grown))) enough)
-        go (Some j) least = absurd (not_some image blocks inodes exact none j least)
+        go : (free : Option ℕ) → IsLeastFree words free → HasRoomFor old none_kept (enters i grown)
+        go None least = room None least (subst (λ n. n ≤ length (members blocks)) (sym (full_need-none words (enters i grown))) enough)
+        go (Some j) least = absurd (not_some words blocks inodes exact none j least)
 
   -- whatever is told of free inodes
   pub some_performs : (new : Memory) (Effect : Image → Image → Type 0) → members inodes ≢ [] →
-      ((free : Option ℕ) → IsLeastFree image free → PerformsWithin none_kept (name_need image i) 5 (stores_behind_growth (name_need image i)) old new (enters i (entrant_of free)) Effect) →
-      (free : Option ℕ) → IsLeastFree image free → Performs none_kept old new (enters i (entrant_of free)) Effect
+      ((free : Option ℕ) → IsLeastFree words free → PerformsWithin none_kept (name_need words i) 5 (stores_behind_growth (name_need words i)) old new (enters i (entrant_of free)) Effect) →
+      (free : Option ℕ) → IsLeastFree words free → Performs none_kept old new (enters i (entrant_of free)) Effect
   some_performs new Effect some done = some_free some (λ free. Performs none_kept old new (enters i (entrant_of free)) Effect) (λ j least. within_call old new i j Effect (done (Some j) least))
 
-  pub none_performs : (new : Memory) (Effect : Image → Image → Type 0) → members inodes ≡ [] → Performs none_kept old new (enters i grown) Effect → (free : Option ℕ) → IsLeastFree image free →
+  pub none_performs : (new : Memory) (Effect : Image → Image → Type 0) → members inodes ≡ [] → Performs none_kept old new (enters i grown) Effect → (free : Option ℕ) → IsLeastFree words free →
       Performs none_kept old new (enters i (entrant_of free)) Effect
   none_performs new Effect none done = none_free none (λ free. Performs none_kept old new (enters i (entrant_of free)) Effect) done
 
-  lacks_space : (change : Change) (needed free : ℕ) → need image change ≡ needed → free ≡ length (members blocks) → free < needed → LacksSpace image none_kept change (record { need = needed; free = free })
+  lacks_space : (change : Change) (needed free : ℕ) → need words change ≡ needed → free ≡ length (members blocks) → free < needed → LacksSpace words none_kept change (record { need = needed; free = free })
   lacks_space change needed free needs is fewer =
-      lacks_thawed image change needed free needs (rw is (free_members image none_kept blocks exact.free_blocks exact.block_room)) fewer
+      lacks_thawed words change needed free needs (rw is (free_members words none_kept blocks exact.free_blocks exact.block_room)) fewer
 
-  pub some_lacks : members inodes ≢ [] → (needed free : ℕ) → name_need image i ≡ needed → free ≡ length (members blocks) → free < needed → (inode : Option ℕ) → IsLeastFree image inode →
-      LacksSpace image none_kept (enters i (entrant_of inode)) (record { need = needed; free = free })
+  pub some_lacks : members inodes ≢ [] → (needed free : ℕ) → name_need words i ≡ needed → free ≡ length (members blocks) → free < needed → (inode : Option ℕ) → IsLeastFree words inode →
+      LacksSpace words none_kept (enters i (entrant_of inode)) (record { need = needed; free = free })
   some_lacks some needed free needs is fewer =
-      some_free some (λ inode. LacksSpace image none_kept (enters i (entrant_of inode)) (record { need = needed; free = free })) (λ j least. lacks_space (enters i (taken j)) needed free needs is fewer)
+      some_free some (λ inode. LacksSpace words none_kept (enters i (entrant_of inode)) (record { need = needed; free = free })) (λ j least. lacks_space (enters i (taken j)) needed free needs is fewer)
 
-  pub none_lacks : members inodes ≡ [] → (needed free : ℕ) → need image (enters i grown) ≡ needed → free ≡ length (members blocks) → free < needed → (inode : Option ℕ) → IsLeastFree image inode →
-      LacksSpace image none_kept (enters i (entrant_of inode)) (record { need = needed; free = free })
+  pub none_lacks : members inodes ≡ [] → (needed free : ℕ) → need words (enters i grown) ≡ needed → free ≡ length (members blocks) → free < needed → (inode : Option ℕ) → IsLeastFree words inode →
+      LacksSpace words none_kept (enters i (entrant_of inode)) (record { need = needed; free = free })
   none_lacks none needed free needs is fewer =
-      none_free none (λ inode. LacksSpace image none_kept (enters i (entrant_of inode)) (record { need = needed; free = free })) (lacks_space (enters i grown) needed free needs is fewer)
+      none_free none (λ inode. LacksSpace words none_kept (enters i (entrant_of inode)) (record { need = needed; free = free })) (lacks_space (enters i grown) needed free needs is fewer)
 
   -- as many are free as the growth needs
-  pub can_grow : IsWellFormed image → (reached : IsReached image i) → kind_of image i ≡ 2 → need image (enters i grown) ≤ length (members blocks) → HasRoomFor old none_kept (enters i grown) →
+  pub can_grow : IsWellFormed words → (reached : IsReached words i) → kind_of words i ≡ 2 → need words (enters i grown) ≤ length (members blocks) → HasRoomFor old none_kept (enters i grown) →
       CanGrowInodes old blocks inodes
   can_grow wf reached kind enough room = record {
     well_formed = wf;
     exact = exact;
-    enough = let needs = need_growing image wf i reached kind in omega (arith, needs, enough);
-    room = let needs = need_growing image wf i reached kind in let has = room_needed old (enters i grown) room in omega (arith, needs, has);
+    enough = let needs = need_growing words wf i reached kind in omega (arith, needs, enough);
+    room = let needs = need_growing words wf i reached kind in let has = room_needed old (enters i grown) room in omega (arith, needs, has);
   }
 
 -- whether the name comes in or not, a file system is left

@@ -35,6 +35,10 @@ use Rattle.bp_calls.proofs.Unthawed.{lacks_thawed, room_asked, unthawed}
 
 -- ---- one byte
 
+-- behind the new bytes the old ones stay
+pub written_past : (off : ℕ) (bytes : List ℕ) (size : ℕ) (old : ℕ → ℕ) (o : ℕ) → off + length bytes ≤ o → o < size → written_byte off bytes size old o ≡ old o
+written_past off bytes size old o past below = rw (le-leb off o (omega (arith, past)), le-ltb o (off + length bytes) past, lt-ltb o size below) refl
+
 module _ (off : ℕ) (bytes : List ℕ) (size : ℕ) (old : ℕ → ℕ) (o : ℕ) where
   pub written_inside : off ≤ o → o < off + length bytes → written_byte off bytes size old o ≡ slice_index bytes (o - off)
   written_inside low high = rw (le-leb off o low, lt-ltb o (off + length bytes) high) refl

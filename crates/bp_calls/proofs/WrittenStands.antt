@@ -16,11 +16,7 @@ use Rattle.bp_layout.proofs.NameBytes.{map-tells}
 use Rattle.bp_plain.specs.Plain.{bytes_at, bytes_in, with_content, written}
 use Rattle.bp_plain.specs.Stands.{Shows}
 use Rattle.bp_stands.proofs.FileStands.{content_shows}
-use Rattle.bp_calls.proofs.WriteBehind.{written_before, written_between, written_inside}
-
--- behind the new bytes the old ones stay
-pub written_past : (off : ℕ) (bytes : List ℕ) (size : ℕ) (old : ℕ → ℕ) (o : ℕ) → off + length bytes ≤ o → o < size → written_byte off bytes size old o ≡ old o
-written_past off bytes size old o past below = rw (le-leb off o (omega (arith, past)), le-ltb o (off + length bytes) past, lt-ltb o size below) refl
+use Rattle.bp_calls.proofs.WriteBehind.{written_before, written_between, written_inside, written_past}
 
 -- the list with the new bytes, byte by byte
 module _ (had : List ℕ) (off : ℕ) (bytes : List ℕ) where

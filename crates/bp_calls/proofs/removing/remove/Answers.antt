@@ -1,4 +1,4 @@
-use Rattle.std.proofs.Common.{◌≡◌, ◌-◌, slice_index, refl, subst, arith}
+use Rattle.std.proofs.Common.{◌≡◌, ◌-◌, ◌<◌, length, slice_index, refl, subst, arith}
 use Rattle.pm_region.specs.Memory.{current_words}
 use Rattle.pm_region.proofs.MemoryLaws.{length-current_words}
 use Rattle.bp_calls.proofs.Leaving.{found_leaving, named_few, named_reached, inode_in_room, inode_taken, can_give, leaving_counts, leaving_exact, leaving_performs, leaving_whole, named_exact}
@@ -48,8 +48,8 @@ give-requires-clause-taken g c =
 
 -- ---- the count of names
 
-pub names-requires : goal.names-requires
-names-requires g c =
+pub names-names-requires : goal.names-names-requires
+names-names-requires g c =
     let memory = g.R.Region.memory in
     let image = current_words (memory c.args.parts.now.region) in
     let can = found_leaving image c.args.dir c.args.slot c.inumber-inode.result c.entry_place-entry.result c.tree_of-directory.result.root c.requires.well_formed c.requires.can c.tree_of-directory.ensures.root c.inumber-inode.ensures c.entry_place-entry.ensures.place c.entry_place-entry.ensures.present in
@@ -61,11 +61,17 @@ overflow_sub-names g c =
     let memory = g.R.Region.memory in
     let image = current_words (memory c.args.parts.now.region) in
     let can = found_leaving image c.args.dir c.args.slot c.inumber-inode.result c.entry_place-entry.result c.tree_of-directory.result.root c.requires.well_formed c.requires.can c.tree_of-directory.ensures.root c.inumber-inode.ensures c.entry_place-entry.ensures.place c.entry_place-entry.ensures.present in
-    let some = some_name image c.args.dir c.args.slot c.inumber-inode.result can.unlink.reached can.unlink.entry _ (c.requires.exact.counts.each c.inumber-inode.result (names-requires g c)) in
-    omega (arith, some, c.names.ensures)
+    let low : c.inumber-inode.result < length c.args.parts.now.counts =
+    omega (arith, inode_in_room image c.args.dir c.args.slot c.inumber-inode.result c.entry_place-entry.result can c.args.parts.now.blocks c.args.parts.now.inodes c.requires.exact.sets, c.requires.exact.sets.inode_room, c.requires.exact.count_room) in
+    let some = some_name image c.args.dir c.args.slot c.inumber-inode.result can.unlink.reached can.unlink.entry _ (c.requires.exact.counts.each c.inumber-inode.result low) in
+    omega (arith, some, c.names-names.ensures)
 
 pub set-requires : goal.set-requires
-set-requires g c = names-requires g c
+set-requires g c =
+    let memory = g.R.Region.memory in
+    let image = current_words (memory c.args.parts.now.region) in
+    let can = found_leaving image c.args.dir c.args.slot c.inumber-inode.result c.entry_place-entry.result c.tree_of-directory.result.root c.requires.well_formed c.requires.can c.tree_of-directory.ensures.root c.inumber-inode.ensures c.entry_place-entry.ensures.place c.entry_place-entry.ensures.present in
+    omega (arith, inode_in_room image c.args.dir c.args.slot c.inumber-inode.result c.entry_place-entry.result can c.args.parts.now.blocks c.args.parts.now.inodes c.requires.exact.sets, c.requires.exact.sets.inode_room, c.requires.exact.count_room)
 
 -- the inode has another name
 pub returns-then-names-gt0 : goal.returns-then-names-gt0
@@ -73,16 +79,17 @@ returns-then-names-gt0 g c =
     let memory = g.R.Region.memory in
     let image = current_words (memory c.args.parts.now.region) in
     let can = found_leaving image c.args.dir c.args.slot c.inumber-inode.result c.entry_place-entry.result c.tree_of-directory.result.root c.requires.well_formed c.requires.can c.tree_of-directory.ensures.root c.inumber-inode.ensures c.entry_place-entry.ensures.place c.entry_place-entry.ensures.present in
-    let low = names-requires g c in
+    let low : c.inumber-inode.result < length c.args.parts.now.counts =
+    omega (arith, inode_in_room image c.args.dir c.args.slot c.inumber-inode.result c.entry_place-entry.result can c.args.parts.now.blocks c.args.parts.now.inodes c.requires.exact.sets, c.requires.exact.sets.inode_room, c.requires.exact.count_room) in
     let some = some_name image c.args.dir c.args.slot c.inumber-inode.result can.unlink.reached can.unlink.entry _ (c.requires.exact.counts.each c.inumber-inode.result low) in
-    let more = other_name image c.args.dir c.args.slot c.inumber-inode.result can.unlink.reached can.unlink.entry _ (omega (arith, some, c.names.ensures, c.if-names-gt0.true)) (c.requires.exact.counts.each c.inumber-inode.result low) in
+    let more = other_name image c.args.dir c.args.slot c.inumber-inode.result can.unlink.reached can.unlink.entry _ (omega (arith, some, c.names-names.ensures, c.if-names-gt0.true)) (c.requires.exact.counts.each c.inumber-inode.result low) in
     record {
       performs = leaving_performs (memory c.args.parts.now.region) (memory c.commit_word.new.region) c.args.dir c.args.slot c.inumber-inode.result c.entry_place-entry.result can c.commit_word.ensures;
       exact = exact_with _ _ c.args.parts.now _ c.requires.exact
           (named_exact (memory c.args.parts.now.region) (memory c.commit_word.new.region) c.args.dir c.args.slot c.inumber-inode.result c.entry_place-entry.result can c.commit_word.ensures c.args.parts.now.blocks c.args.parts.now.inodes c.requires.exact.sets more) refl
           (leaving_whole (memory c.args.parts.now.region) (memory c.commit_word.new.region) c.args.dir c.args.slot c.inumber-inode.result c.entry_place-entry.result can c.commit_word.ensures)
-          (rw c.set.ensures (length-set c.args.parts.now.counts c.inumber-inode.result (c.names.result - 1)))
-          (rw c.set.ensures (leaving_counts (memory c.args.parts.now.region) (memory c.commit_word.new.region) c.args.dir c.args.slot c.inumber-inode.result c.entry_place-entry.result can c.commit_word.ensures c.args.parts.now.counts c.requires.exact.counts low (c.names.result - 1) (omega (arith, some, c.names.ensures))));
+          (rw c.set.ensures (length-set c.args.parts.now.counts c.inumber-inode.result (c.names-names.result - 1)))
+          (rw c.set.ensures (leaving_counts (memory c.args.parts.now.region) (memory c.commit_word.new.region) c.args.dir c.args.slot c.inumber-inode.result c.entry_place-entry.result can c.commit_word.ensures c.args.parts.now.counts c.requires.exact.counts low (c.names-names.result - 1) (omega (arith, some, c.names-names.ensures))));
     }
 
 -- the name was its last
@@ -91,9 +98,10 @@ returns g c =
     let memory = g.R.Region.memory in
     let image = current_words (memory c.args.parts.now.region) in
     let can = found_leaving image c.args.dir c.args.slot c.inumber-inode.result c.entry_place-entry.result c.tree_of-directory.result.root c.requires.well_formed c.requires.can c.tree_of-directory.ensures.root c.inumber-inode.ensures c.entry_place-entry.ensures.place c.entry_place-entry.ensures.present in
-    let low = names-requires g c in
+    let low : c.inumber-inode.result < length c.args.parts.now.counts =
+    omega (arith, inode_in_room image c.args.dir c.args.slot c.inumber-inode.result c.entry_place-entry.result can c.args.parts.now.blocks c.args.parts.now.inodes c.requires.exact.sets, c.requires.exact.sets.inode_room, c.requires.exact.count_room) in
     let some = some_name image c.args.dir c.args.slot c.inumber-inode.result can.unlink.reached can.unlink.entry _ (c.requires.exact.counts.each c.inumber-inode.result low) in
-    let alone : slice_index c.args.parts.now.counts c.inumber-inode.result ≡ 1 = omega (arith, some, c.names.ensures, c.if-names-gt0.false) in
+    let alone : slice_index c.args.parts.now.counts c.inumber-inode.result ≡ 1 = omega (arith, some, c.names-names.ensures, c.if-names-gt0.false) in
     let last = last_name image c.args.dir c.args.slot c.inumber-inode.result can.unlink.reached can.unlink.entry (subst (HasNames image c.inumber-inode.result) alone (c.requires.exact.counts.each c.inumber-inode.result low)) in
     record {
       performs = leaving_performs (memory c.args.parts.now.region) (memory c.commit_word.new.region) c.args.dir c.args.slot c.inumber-inode.result c.entry_place-entry.result can c.commit_word.ensures;
@@ -102,6 +110,6 @@ returns g c =
           (leaving_exact (memory c.args.parts.now.region) (memory c.commit_word.new.region) c.args.dir c.args.slot c.inumber-inode.result c.entry_place-entry.result can c.commit_word.ensures c.args.parts.now.blocks c.args.parts.now.inodes c.requires.exact.sets last c.give_back.new.blocks
           (rw (c.tree_of-tree.ensures.root, c.tree_of-tree.ensures.size) at c.give_back.ensures))) refl
           (leaving_whole (memory c.args.parts.now.region) (memory c.commit_word.new.region) c.args.dir c.args.slot c.inumber-inode.result c.entry_place-entry.result can c.commit_word.ensures)
-          (rw c.set.ensures (length-set c.args.parts.now.counts c.inumber-inode.result (c.names.result - 1)))
-          (rw c.set.ensures (leaving_counts (memory c.args.parts.now.region) (memory c.commit_word.new.region) c.args.dir c.args.slot c.inumber-inode.result c.entry_place-entry.result can c.commit_word.ensures c.args.parts.now.counts c.requires.exact.counts low (c.names.result - 1) (omega (arith, some, c.names.ensures))));
+          (rw c.set.ensures (length-set c.args.parts.now.counts c.inumber-inode.result (c.names-names.result - 1)))
+          (rw c.set.ensures (leaving_counts (memory c.args.parts.now.region) (memory c.commit_word.new.region) c.args.dir c.args.slot c.inumber-inode.result c.entry_place-entry.result can c.commit_word.ensures c.args.parts.now.counts c.requires.exact.counts low (c.names-names.result - 1) (omega (arith, some, c.names-names.ensures))));
     }

@@ -4,6 +4,7 @@ use Rattle.std.proofs.lemmas.List.{append-nil, length-append}
 use Rattle.bp_free.specs.Set.{Set, members}
 use Rattle.bp_layout.specs.Free.{HasFree}
 use Rattle.bp_layout.specs.Inode.{root_of, size_of}
+use Rattle.bp_layout.specs.Need.{need}
 use Rattle.bp_layout.specs.Need.Change.{writes}
 use Rattle.bp_layout.specs.Nodes.{nodes_for}
 use Rattle.bp_layout.specs.WordPaths.{WordPath, inode_path}

@@ -143,7 +143,7 @@ module _ (old : Memory) (blocks inodes : Set) (off : ℕ) (bytes : List ℕ) (to
           fits = let whole = ap (λ words. words / 512) prepared.ready.meaning.trees.whole in omega (arith, whole, room, across.can.exact.block_room);
           some = omega (arith, parts, prepared.counted, counted, need_is, count, enough);
           room = let left = room_in-piece _ _ old middle prepared.adds.part.added prepared.adds.part.adds prepared.adds.part.piece in
-              roomy _ _ _ _ _ _ left (behind_whole (size_of (current_words old) (suc n)) (size_of (current_words old) (suc n)) (off + length bytes) max_height) (omega (arith, needs, count))
+              roomy _ _ _ _ _ _ _ left (behind_whole (size_of (current_words old) (suc n)) (size_of (current_words old) (suc n)) (off + length bytes) max_height) (omega (arith, needs, count))
               (across_words old blocks inodes n off bytes touched across) has;
         }
 

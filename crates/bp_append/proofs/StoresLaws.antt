@@ -1,8 +1,8 @@
 -- Counts of the stores into blocks that a tree has.
-use Rattle.std.proofs.Common.{◌≡◌, ℕ, zero, suc, ◌+◌, ◌-◌, ◌*◌, ◌/◌, ◌≤◌, Bool, true, false, ◌==◌, nat_le, refl, arith, leb-true, eq-eqb, eqb-true, le-leb}
+use Rattle.std.proofs.Common.{◌≡◌, ℕ, zero, suc, ◌+◌, ◌-◌, ◌*◌, ◌/◌, ◌≤◌, min, ap, Bool, true, false, ◌==◌, nat_le, refl, arith, leb-true, eq-eqb, eqb-true, le-leb}
 use Rattle.std.proofs.lemmas.Bool.{and_parts}
 use Rattle.bp_layout.specs.Tree.{span}
-use Rattle.bp_append.specs.Stores.{is_near, is_one_leaf, near_stores, stores_behind}
+use Rattle.bp_append.specs.Stores.{is_near, is_one_leaf, near_stores, room_behind, stores_behind}
 use Rattle.bp_append.proofs.TallyLaws.{span-leaf, span-rising}
 
 -- bytes in one leaf from the size on end no more than a leaf behind it
@@ -96,3 +96,63 @@ pub behind_one : (size to height : ℕ) → to ≤ size / 4096 * 4096 + 4096 →
 behind_one size to height ends =
     let is : is_one_leaf size size to ≡ true = rw (eq-eqb size size refl, le-leb to (size / 4096 * 4096 + 4096) ends) refl in
     rw is refl
+
+-- ---- the room for them
+
+least_of : (a b c : ℕ) → c ≤ a → c ≤ b → c ≤ min a b
+least_of a b c one two = omega (arith, one, two)
+
+pub room_behind_leaf : (size from to : ℕ) → room_behind size from to 0 ≡ 512
+room_behind_leaf size from to = ap (λ n. min 512 (n + 512)) (behind_leaf size from to)
+
+pub room_behind_whole : (size from to height : ℕ) → room_behind size from to height ≤ 512 * suc height
+room_behind_whole size from to height = go (512 * suc height) (stores_behind size from to height + 512)
+  where
+    go : (a b : ℕ) → min a b ≤ a
+    go a b = omega arith
+
+-- it holds those behind the size up to a lower level, with one store for each level above it
+pub room_behind_higher : (size from to height more : ℕ) → height ≤ more → stores_behind size from to height + (more - height) ≤ room_behind size from to more
+room_behind_higher size from to height more order =
+    least_of (512 * suc more) (stores_behind size from to more + 512) (stores_behind size from to height + (more - height))
+    (levels (stores_behind size from to height) (behind_whole size from to height)) (with_block (stores_behind size from to height) (stores_behind size from to more) (behind_higher size from to height more order))
+  where
+    levels : (behind : ℕ) → behind ≤ 512 * suc height → behind + (more - height) ≤ 512 * suc more
+    levels behind few = omega (arith, few, order)
+
+    with_block : (behind all : ℕ) → behind + (more - height) ≤ all → behind + (more - height) ≤ all + 512
+    with_block behind all few = omega (arith, few)
+
+-- and with all words of the node above
+pub room_behind_next : (size from to height : ℕ) → stores_behind size from to height + 512 ≤ room_behind size from to (suc height)
+room_behind_next size from to height =
+    least_of (512 * suc (suc height)) (stores_behind size from to (suc height) + 512) (stores_behind size from to height + 512)
+    (levels (stores_behind size from to height) (behind_whole size from to height)) (with_block (stores_behind size from to height) (stores_behind size from to (suc height)) (behind_higher size from to height (suc height) (omega arith)))
+  where
+    levels : (behind : ℕ) → behind ≤ 512 * suc height → behind + 512 ≤ 512 * suc (suc height)
+    levels behind few = omega (arith, few)
+
+    with_block : (behind all : ℕ) → behind + (suc height - height) ≤ all → behind + 512 ≤ all + 512
+    with_block behind all few = omega (arith, few)
+
+-- a higher tree asks for no less
+pub room_behind_rises : (size from to height : ℕ) → room_behind size from to height ≤ room_behind size from to (suc height)
+room_behind_rises size from to height =
+    go (512 * suc height) (512 * suc (suc height)) (stores_behind size from to height) (stores_behind size from to (suc height)) (omega arith) (behind_higher size from to height (suc height) (omega arith))
+  where
+    go : (a b c d : ℕ) → a ≤ b → c + (suc height - height) ≤ d → min a (c + 512) ≤ min b (d + 512)
+    go a b c d one two = omega (arith, one, two)
+
+pub room_behind_most : (size from to height more : ℕ) → height ≤ more → room_behind size from to height ≤ room_behind size from to more
+room_behind_most size from to height more order =
+    go (512 * suc height) (512 * suc more) (stores_behind size from to height) (stores_behind size from to more) (omega (arith, order)) (behind_higher size from to height more order)
+  where
+    go : (a b c d : ℕ) → a ≤ b → c + (more - height) ≤ d → min a (c + 512) ≤ min b (d + 512)
+    go a b c d one two = omega (arith, one, two)
+
+-- for bytes in one leaf it is that of two blocks
+pub room_behind_one : (size to height : ℕ) → to ≤ size / 4096 * 4096 + 4096 → room_behind size size to height ≤ 1024 + height
+room_behind_one size to height ends = go (512 * suc height) (stores_behind size size to height) (behind_one size to height ends)
+  where
+    go : (a b : ℕ) → b ≡ 512 + height → min a (b + 512) ≤ 1024 + height
+    go a b e = omega (arith, e)

@@ -16,7 +16,7 @@ use Rattle.pm_region.specs.Memory.{Memory, current_words, room_in}
 use Rattle.bp_free.specs.Set.{members}
 use Rattle.bp_free.specs.declared.parts.Parts.{Parts}
 use Rattle.bp_tree.specs.Performs.{AddsTaking}
-use Rattle.bp_append.specs.Stores.{prep_stores}
+use Rattle.bp_append.specs.Stores.{prep_stores, room_behind}
 use Rattle.bp_append.specs.Given.{given}
 use Rattle.bp_append.specs.Filled.{IsUsable}
 use Rattle.bp_layout.specs.Thaw.{none_kept}
@@ -39,7 +39,8 @@ pub record CanPrepare (memory : Memory) (free : List ℕ) (t : ℕ) (path : Word
   pub usable : IsUsable (length memory.base / block_words) free
   pub unused : Each (λ b. IsLiveBlock (current_words memory) b → ⊥) free
   pub enough : need_for (current_words memory) t from to ≤ length free
-  pub room : block_words * (need_for (current_words memory) t from to + suc max_height) + 4 ≤ room_in memory
+  pub room : block_words * need_for (current_words memory) t from to
+      + room_behind (size_of (current_words memory) t) from to max_height + 4 ≤ room_in memory
 
 -- Tree t is ready for the bytes up to the end: these are the given ones, in its old blocks and those taken. Nothing
 -- else has changed that an image means, nor a live word of another tree but the root word of t.

@@ -1,5 +1,5 @@
 -- How many stores a preparation makes at most.
-use Rattle.std.specs.Prelude.{ℕ, zero, suc, ◌+◌, ◌*◌, ◌/◌, Bool, ◌&&◌, ◌==◌, nat_le, if◌then◌else◌}
+use Rattle.std.specs.Prelude.{ℕ, zero, suc, ◌+◌, ◌*◌, ◌/◌, min, Bool, ◌&&◌, ◌==◌, nat_le, if◌then◌else◌}
 use Rattle.bp_limits.specs.Limits.{block_size, block_words, max_height}
 
 -- whether the bytes begin at the size, and all lie in one leaf
@@ -25,3 +25,8 @@ stores_behind size from to height =
 -- with those into so many new blocks, and two links
 abbrev pub prep_stores : ℕ → ℕ → ℕ → ℕ → ℕ
 prep_stores size from to needed = block_words * needed + stores_behind size from to max_height + 2
+
+-- The room that is asked for those behind the size. A node that gets few may ask for that of all its words before it
+-- counts them, so this is a block more where few are made, and no more than the words of the blocks.
+abbrev pub room_behind : ℕ → ℕ → ℕ → ℕ → ℕ
+room_behind size from to height = min (block_words * suc height) (stores_behind size from to height + block_words)

@@ -16,6 +16,7 @@ use Rattle.bp_append.specs.Tally.{tally}
 use Rattle.bp_append.specs.Spine.{spine}
 use Rattle.bp_append.specs.Built.{InBlocks, IsBuilt}
 use Rattle.bp_append.specs.Filled.{IsUsable, Builds}
+use Rattle.bp_append.specs.Stores.{room_behind}
 
 -- the stores that must wait for a barrier
 abbrev pub links_in : Option Link → List (ℕ × ℕ)
@@ -75,7 +76,7 @@ pub record CanVisit (memory : Memory) (free : List ℕ) (root size level start b
   pub usable : IsUsable (length memory.base / block_words) free
   pub enough : tally (suc level) (max from start) (min to (start + span level))
       ≤ length free + spine (current_words memory) root size from to (suc level)
-  pub room : block_words * tally (suc level) (max from start) (min to (start + span level)) + block_words * suc level
+  pub room : block_words * tally (suc level) (max from start) (min to (start + span level)) + room_behind size from to level
       ≤ room_in memory + block_words * spine (current_words memory) root size from to (suc level)
 
 -- The part of the tree under the block, with the links, has its old bytes and the given ones, in its old blocks and

@@ -32,6 +32,8 @@ use Rattle.bp_calls.proofs.FreeCounts.{free_members}
 use Rattle.bp_calls.proofs.TakenBlocks.{unused_members, usable_members}
 use Rattle.bp_layout.specs.Thaw.{none_kept}
 use Rattle.bp_calls.proofs.Unthawed.{lacks_thawed, room_asked}
+use Rattle.bp_append.proofs.StoresLaws.{room_behind_whole}
+use Rattle.bp_calls.proofs.Unthawed.{across_room}
 
 parted : (taken rest : List ℕ) {all : List ℕ} → all ≡ taken ++ rest → length all ≡ length taken + length rest
 parted taken rest e = ap (λ (xs : List ℕ). length xs) e ∙ length-append taken rest
@@ -114,7 +116,7 @@ module _ (old : Memory) (blocks inodes : Set) (off : ℕ) (bytes : List ℕ) (to
         usable = usable_members (current_words old) blocks inodes across.can.exact _ (omega (arith, length-current_words old));
         unused = unused_members (current_words old) blocks inodes across.can.exact;
         enough = omega (arith, enough, counted, made_is (suc n) root size one two);
-        room = omega (arith, needs, has);
+        room = across_room _ _ _ _ _ needs (room_behind_whole (size_of (current_words old) (suc n)) (size_of (current_words old) (suc n)) (off + length bytes) max_height) has;
       } in
       subst (λ s. CanPrepare old (members blocks) (suc n) path s (off + length bytes)) (sym two) can
 

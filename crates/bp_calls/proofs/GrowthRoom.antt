@@ -26,6 +26,8 @@ use Rattle.bp_calls.proofs.GrowthMemory.{grown, grows, growth_need_is}
 use Rattle.bp_calls.proofs.GrowthSets.{exact_grown}
 use Rattle.bp_calls.proofs.TakenBlocks.{unused_members, usable_members}
 use Rattle.bp_layout.specs.Thaw.{none_kept}
+use Rattle.bp_append.proofs.StoresLaws.{room_behind_whole}
+use Rattle.bp_calls.proofs.Unthawed.{prepared_room_of}
 
 module _ (image : Image) (wf : IsWellFormed image) where
   -- its leaves are different blocks, and block 0 is none of them
@@ -57,7 +59,8 @@ can_prepare old blocks inodes can = record {
   usable = usable_members (current_words old) blocks inodes can.exact (length old.base / 512) (omega (arith, length_now old));
   unused = unused_members (current_words old) blocks inodes can.exact;
   enough = omega (arith, can.enough, growth_need_is (current_words old));
-  room = omega (arith, growth_need_is (current_words old), can.room);
+  room = prepared_room_of _ _ _ _ (growth_need_is (current_words old))
+      (room_behind_whole (size_of (current_words old) 0) (size_of (current_words old) 0) (size_of (current_words old) 0 + block_size) max_height) can.room;
 }
 
 -- ---- the parts of the growth, by the path and the size that are read

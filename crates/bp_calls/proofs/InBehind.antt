@@ -66,6 +66,7 @@ use Rattle.bp_calls.proofs.TakenBlocks.{free_taken}
 use Rattle.bp_calls.proofs.Trees.{SameTrees, has_more, live_leaf, spare_trees, stands_kept}
 use Rattle.bp_layout.specs.Thaw.{none_kept}
 use Rattle.bp_changes.proofs.Named.{added_counts}
+use Rattle.bp_calls.proofs.PutsLaws.{one_entry}
 
 -- a preparation, and then stores that nobody sees and the commit of one word
 module _ (old mid third new : Memory) (change : Change) (Effect : Image → Image → Type 0) (took : List ℕ) (most_barriers most : ℕ) (one : AddsTaking none_kept took most_barriers most old mid)
@@ -102,10 +103,6 @@ module _ (old mid third new : Memory) (change : Change) (Effect : Image → Imag
       open_over word (in_live is loose) = elim (live (word / 512) is) [ inl was ↦ in_live was loose | inr took ↦ in_taken took ]
       open_over word (at_root e) = at_root e
       open_over word (at_size e) = at_size e
-
--- an entry behind the last one lies in one leaf
-one_entry : (size : ℕ) → size % 256 ≡ 0 → size + 256 ≤ size / 4096 * 4096 + 4096
-one_entry size whole = omega (arith, whole)
 
 -- ---- the call
 

@@ -28,6 +28,8 @@ use Rattle.pm_region.specs.Memory.{Memory, Adds, current_words, room_in}
 use Rattle.pm_region.proofs.MemoryLaws.{base-adds, room_in-piece}
 use Rattle.bp_layout.specs.Thaw.{none_kept}
 use Rattle.bp_calls.proofs.Unthawed.{lacks_thawed, room_asked, unthawed}
+use Rattle.bp_append.proofs.StoresLaws.{room_behind_whole}
+use Rattle.bp_calls.proofs.Unthawed.{prepared_room_of}
 
 only_grows : (image : Image) (i size : ℕ) → size_of image i < size → OnlyGrows image (resizes i size) i size size
 only_grows image i size longer = record { prepares = rw (lt-ltb (size_of image i) size longer) refl; no_inodes = refl; touches = refl }
@@ -63,7 +65,8 @@ module _ (old : Memory) (blocks inodes : Set) (n size : ℕ) (can : CanGrowFile 
     usable = usable_members image blocks inodes can.exact (length old.base / 512) (omega (arith, length_now old));
     unused = unused_members image blocks inodes can.exact;
     enough = enough;
-    room = let room = room_asked old blocks (resizes (suc n) size) can.room (omega (arith, needs, enough)) in omega (arith, needs, room);
+    room = let room = room_asked old blocks (resizes (suc n) size) can.room (omega (arith, needs, enough)) in
+        prepared_room_of _ _ _ _ needs (room_behind_whole (size_of image (suc n)) size size max_height) room;
   }
 
   -- behind the preparation there is room for the store

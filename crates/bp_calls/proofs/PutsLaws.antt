@@ -26,12 +26,18 @@ use Rattle.bp_calls.specs.Steps.{CanPutBehind}
 use Rattle.bp_calls.proofs.EnteredLaws.{directory_inode}
 use Rattle.bp_calls.proofs.EntryBytes.{inumber_there, length_there, inumber_read, name_read_back}
 use Rattle.bp_calls.proofs.TakenBlocks.{unused_members, usable_members}
+use Rattle.bp_append.proofs.StoresLaws.{room_behind_one}
+use Rattle.bp_calls.specs.Steps.{entering_room}
 
 -- a directory is small, since it has no nulls
 pub small_directory : (image : Image) → IsWellFormed image → (i : ℕ) → IsReached image i → kind_of image i ≡ 2 → size_of image i + 256 ≤ greatest_size One
 small_directory image wf i reached kind =
     let few = few_entries image (root_of image i) (size_of image i) (wf.sound i reached) (wf.full_directories i reached kind) (omega (arith, wf.formatted.sized.at_least)) in
     omega (arith, few, wf.formatted.sized.at_most, wf.directory_sizes i reached kind)
+
+-- an entry behind the last one lies in one leaf
+pub one_entry : (size : ℕ) → size % 256 ≡ 0 → size + 256 ≤ size / 4096 * 4096 + 4096
+one_entry size whole = omega (arith, whole)
 
 -- one entry needs few blocks
 pub few_behind : (image : Image) → IsWellFormed image → (i : ℕ) → IsReached image i → need_for image i (size_of image i) (size_of image i + 256) ≤ 18 + 3 * max_height
@@ -55,8 +61,12 @@ module _ (old : Memory) (blocks : Set) (j : ℕ) (name : Name) where
     usable = usable_members image blocks can.inodes can.exact _ (omega (arith, length-current_words old));
     unused = unused_members image blocks can.inodes can.exact;
     enough = can.enough;
-    room = omega (arith, can.room);
+    room = go _ _ _ (room_behind_one (size_of image (suc n)) max_height (one_entry (size_of image (suc n)) (can.lacks.well_formed.directory_sizes (suc n) can.lacks.reached can.lacks.directory))) can.room;
   }
+
+    where
+      go : (needed asked room : ℕ) → asked ≤ 1024 + max_height → entering_room needed ≤ room → 512 * needed + asked + 4 ≤ room
+      go needed asked room a b = omega (arith, a, b)
 
   -- given the size that was read
   pub put_prepares : (i : ℕ) → CanPutBehind old blocks i name → (path : WordPath) → path ≡ inode_path (height_of (root_of image 0)) i 1 → (size : ℕ) → size ≡ size_of image i →

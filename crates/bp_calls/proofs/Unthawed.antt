@@ -1,5 +1,5 @@
 -- Where no block is kept a call has nothing to thaw: it is performed by what it does behind that, and needs no more.
-use Rattle.std.proofs.Common.{◌≡◌, ℕ, ◌<◌, ◌≤◌, length, sym, ◌∙◌, subst}
+use Rattle.std.proofs.Common.{◌≡◌, ℕ, suc, ◌+◌, ◌*◌, ◌<◌, ◌≤◌, length, sym, ◌∙◌, subst, arith}
 use Rattle.bp_free.specs.Set.{Set, members}
 use Rattle.bp_layout.specs.Free.{HasFree}
 use Rattle.bp_layout.specs.Need.{Change, need}
@@ -8,6 +8,7 @@ use Rattle.bp_layout.specs.Words.{Image}
 use Rattle.bp_layout.proofs.ThawLaws.{full_need-none, thawed-none}
 use Rattle.bp_tree.specs.Performs.{HasRoomFor, Performs, PerformsThawed, room_for}
 use Rattle.bp_tree.proofs.PerformsLaws.{performs_unthawed}
+use Rattle.bp_limits.specs.Limits.{max_height}
 use Rattle.pm_region.specs.Memory.{Memory, current_words, room_in}
 use Rattle.bp_calls.specs.Space.{HasRoomWhereFree, LacksSpace}
 
@@ -24,3 +25,12 @@ room_asked memory blocks change room enough =
 
 pub lacks_thawed : (image : Image) (change : Change) (needed free : ℕ) → need image change ≡ needed → HasFree image none_kept free → free < needed → LacksSpace image none_kept change (record { need = needed; free = free })
 lacks_thawed image change needed free needs has fewer = record { needed = full_need-none image change ∙ needs; free = has; fewer = fewer }
+
+-- ---- the room of a call is that of its preparation
+
+pub prepared_room_of : (needed made asked room : ℕ) → needed ≡ made → asked ≤ 512 * suc max_height → room_for needed ≤ room → 512 * made + asked + 4 ≤ room
+prepared_room_of needed made asked room a b c = omega (arith, a, b, c)
+
+-- where blocks are copied behind it
+pub across_room : (needed made copies asked room : ℕ) → needed ≡ made + copies → asked ≤ 512 * suc max_height → room_for needed ≤ room → 512 * made + asked + 4 ≤ room
+across_room needed made copies asked room a b c = omega (arith, a, b, c)

@@ -32,6 +32,8 @@ use Rattle.bp_calls.proofs.FreeCounts.{free_members}
 use Rattle.bp_calls.proofs.TakenBlocks.{exact_taken, unused_members, usable_members}
 use Rattle.bp_layout.specs.Thaw.{none_kept}
 use Rattle.bp_calls.proofs.Unthawed.{lacks_thawed, room_asked, unthawed}
+use Rattle.bp_append.proofs.StoresLaws.{room_behind_whole}
+use Rattle.bp_calls.proofs.Unthawed.{prepared_room_of}
 
 -- ---- one byte
 
@@ -93,7 +95,8 @@ module _ (old : Memory) (blocks inodes : Set) (n off : ℕ) (bytes : List ℕ) (
     usable = usable_members image blocks inodes can.exact _ (omega (arith, length-current_words old));
     unused = unused_members image blocks inodes can.exact;
     enough = enough;
-    room = let room = room_asked old blocks (writes (suc n) off (length bytes)) can.room (omega (arith, behind_need, enough)) in omega (arith, behind_need, room);
+    room = let room = room_asked old blocks (writes (suc n) off (length bytes)) can.room (omega (arith, behind_need, enough)) in
+        prepared_room_of _ _ _ _ behind_need (room_behind_whole (size_of image (suc n)) off end max_height) room;
   }
 
   module _ (middle new : Memory) (after : Set) (path : WordPath) (place : ℕ) (prepares : CanPrepare old (members blocks) (suc n) path off end) (stands : ContentStandsAt image 0 (8 * suc n + 2) place)

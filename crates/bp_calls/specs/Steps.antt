@@ -1,5 +1,5 @@
 -- What stands before a name is entered in a directory.
-use Rattle.std.specs.Prelude.{◌≡◌, ◌≢◌, ℕ, suc, ◌+◌, ◌*◌, ◌≤◌, [], None, length}
+use Rattle.std.specs.Prelude.{◌≡◌, ◌≢◌, ℕ, ◌+◌, ◌≤◌, [], None, length}
 use Rattle.bp_append.specs.Prepared.{need_for}
 use Rattle.bp_free.specs.Set.{Set, members}
 use Rattle.bp_layout.specs.Directory.{Name, IsName, empty_slot, slot_named}
@@ -11,7 +11,8 @@ use Rattle.bp_layout.specs.Need.Entrant.{linked}
 use Rattle.bp_layout.specs.Reached.{IsReached}
 use Rattle.bp_layout.specs.WellFormed.{IsWellFormed}
 use Rattle.bp_layout.specs.Words.{Image}
-use Rattle.bp_limits.specs.Limits.{block_words, entry_size, max_height}
+use Rattle.bp_calls.specs.Growth.{stores_behind_growth}
+use Rattle.bp_limits.specs.Limits.{entry_size}
 use Rattle.bp_shapes.specs.Sets.{AreExact}
 use Rattle.pm_region.specs.Memory.{Memory, current_words, room_in}
 use Rattle.bp_layout.specs.Thaw.{none_kept}
@@ -29,10 +30,10 @@ pub record CanName (image : Image) (i j : ℕ) (name : Name) : Type 0 where
   pub lacks : LacksName image i name
   pub free : IsFreeInode image j
 
--- The room in the log that a name asks once an inode is free, where it needs so many blocks: that of a preparation,
--- which is more than its stores, 5 barriers and its mark.
+-- the room in the log that a name asks once an inode is free, where it needs so many blocks: for its stores, 5 barriers
+-- and its mark
 abbrev pub entering_room : ℕ → ℕ
-entering_room needed = block_words * (needed + suc max_height) + 4
+entering_room needed = stores_behind_growth needed + 5 + 1
 
 -- how many blocks a name takes in directory i, where its inode is there: as many whichever inode that is
 abbrev pub name_need : Image → ℕ → ℕ

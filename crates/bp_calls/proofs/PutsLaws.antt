@@ -61,7 +61,7 @@ module _ (old : Memory) (blocks : Set) (j : ℕ) (name : Name) where
     usable = usable_members image blocks can.inodes can.exact _ (omega (arith, length-current_words old));
     unused = unused_members image blocks can.inodes can.exact;
     enough = can.enough;
-    room = go _ _ _ (room_behind_one (size_of image (suc n)) max_height (one_entry (size_of image (suc n)) (can.lacks.well_formed.directory_sizes (suc n) can.lacks.reached can.lacks.directory))) can.room;
+    room = go _ _ _ (room_behind_one (size_of image (suc n)) (size_of image (suc n) + 256) max_height (one_entry (size_of image (suc n)) (can.lacks.well_formed.directory_sizes (suc n) can.lacks.reached can.lacks.directory))) can.room;
   }
 
     where

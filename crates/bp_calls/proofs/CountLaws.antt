@@ -9,10 +9,14 @@ use Rattle.bp_free.specs.declared.parts.Parts.{Parts}
 use Rattle.bp_layout.specs.Directory.{EntryNames}
 use Rattle.bp_layout.specs.Members.{AreApart, Each, Has}
 use Rattle.bp_layout.specs.Names.{AreCounts, AreNamed, HasNames, IsNamed}
+use Rattle.bp_layout.specs.Inode.{inode_count, root_of, size_of}
 use Rattle.bp_layout.specs.Reached.{IsReached}
+use Rattle.bp_layout.specs.Reached.IsReached.{inode_file}
 use Rattle.bp_layout.specs.Thaw.{none_kept}
 use Rattle.bp_layout.specs.WellFormed.{IsWellFormed}
-use Rattle.bp_layout.specs.Words.{Image}
+use Rattle.bp_layout.specs.Words.{Image, block_count}
+use Rattle.bp_layout.proofs.FewLeaves.{few_inodes}
+use Rattle.bp_layout.proofs.Reached.{reached-in_file}
 use Rattle.bp_shapes.specs.Sets.{AreExact, IsExact}
 
 -- ---- the parts
@@ -36,6 +40,14 @@ module _ {R : Type 0} (old new : Image) (before after : Parts R) (exact : IsExac
     pub exact_meaning : IsWellFormed old → SameMeaning old new → IsExact new after
     exact_meaning wf same =
         exact_with same.trees.whole (ap (λ (ns : List ℕ). length ns) counts) (subst (AreCounts new) (sym counts) (meaning_counts old new wf same before.counts exact.counts))
+
+-- an inode that is reached is counted
+pub reached_counted : {R : Type 0} (image : Image) (parts : Parts R) → IsExact image parts → IsWellFormed image → (i : ℕ) → IsReached image i → i < length parts.counts
+reached_counted image parts exact wf i reached =
+    let low : i < inode_count image = reached-in_file image wf i reached in
+    let few : size_of image 0 / 64 ≤ 64 * block_count image =
+    few_inodes image (root_of image 0) (size_of image 0) (wf.sound 0 inode_file) wf.full_inode_file (omega (arith, wf.formatted.sized.at_least)) wf.inode_blocks in
+    omega (arith, low, few, exact.count_room)
 
 -- ---- the names of an inode, by one of them
 

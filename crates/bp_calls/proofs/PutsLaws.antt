@@ -63,7 +63,6 @@ module _ (old : Memory) (blocks : Set) (j : ℕ) (name : Name) where
     enough = can.enough;
     room = go _ _ _ (room_behind_one (size_of image (suc n)) (size_of image (suc n) + 256) max_height (one_entry (size_of image (suc n)) (can.lacks.well_formed.directory_sizes (suc n) can.lacks.reached can.lacks.directory))) can.room;
   }
-
     where
       go : (needed asked room : ℕ) → asked ≤ 1024 + max_height → entering_room needed ≤ room → 512 * needed + asked + 4 ≤ room
       go needed asked room a b = omega (arith, a, b)

@@ -16,7 +16,7 @@ pub use creating::{create, create_in};
 pub use entering::{put_behind, tree_of};
 pub use giving::give_back;
 pub use listing::list;
-pub use reading::{read, stat};
+pub use reading::{links, read, stat};
 pub use removing::remove;
 pub use resizing::truncate;
 pub use writing::{root_path, size_path, write};

@@ -4,7 +4,7 @@ use Rattle.std.specs.Prelude.{not, is_some, if◌then◌else◌, unwrap_or}
 use Rattle.std.specs.List.{Contains}
 use Rattle.std.specs.Option.{option_map}
 use Rattle.std.specs.FinMap.{get}
-use Rattle.bp_calls.specs.Created.{GainsName}
+use Rattle.bp_calls.specs.OnTrees.{GainsName}
 use Rattle.bp_calls.proofs.SetLaws.{in_room}
 use Rattle.bp_free.specs.Set.{Set, has, members}
 use Rattle.bp_free.proofs.Members.{members_all, members_has}

@@ -2,7 +2,8 @@
 use Rattle.std.proofs.Common.{◌≡◌, ◌≢◌, ℕ, ◌==◌, List, [], ◌∷◌, ◌++◌, refl, sym, ◌∙◌, ap, ap₂, subst, Option, None, Some, arith}
 use Rattle.std.specs.Prelude.{not, unwrap_or}
 use Rattle.std.proofs.lemmas.Bool.{eq-eqb, ne_eqb}
-use Rattle.bp_calls.specs.Removed.{IsFoundAt, LosesName}
+use Rattle.bp_calls.specs.OnTrees.{LosesName}
+use Rattle.bp_calls.specs.Removed.{IsFoundAt}
 use Rattle.bp_calls.proofs.MayLeave.{found_inumber, found_spelled, file_may_leave, directory_may_leave}
 use Rattle.bp_calls.proofs.ReadingLaws.{length-seen}
 use Rattle.bp_changes.specs.Effects.{CanUnlink}

@@ -12,12 +12,13 @@ use Rattle.bp_plain.specs.Calls.Call.{create, mkdir, unlink, rmdir, list, write,
 use Rattle.bp_plain.specs.Calls.Refusal.{no_space, no_memory}
 use Rattle.bp_plain.specs.Calls.Answer.{refused}
 use Rattle.bp_plain.specs.Plain.{plain, is_changing, refusal, parent_of}
-use Rattle.bp_layout.specs.Need.{Change, Entrant, Stretch}
+use Rattle.bp_layout.specs.Need.{Change, Stretch}
 use Rattle.bp_layout.specs.Need.Change.{writes, resizes, enters, leaves, replaces, moves, respells, overwrites}
-use Rattle.bp_layout.specs.Need.Entrant.{taken, grown, linked}
+use Rattle.bp_layout.specs.Need.Entrant.{linked}
 use Rattle.bp_layout.specs.Free.{HasFree, IsLeastFree}
 use Rattle.bp_layout.specs.Thaw.{full_need}
 use Rattle.bp_layout.specs.Trees.{AreFrozen}
+use Rattle.bp_calls.specs.Entrant.{entrant_of}
 
 abbrev pub last_of : Path → Name
 last_of [] = []
@@ -64,11 +65,6 @@ pub record PathFinds (image : Image) (text : List ℕ) (i : ℕ) : Type 0 where
   pub path : Path
   pub parsed : parse text ≡ Some path
   pub inode : lookup image path ≡ Some i
-
--- what a new file or directory names: the least free inode, or one of a new leaf
-abbrev pub entrant_of : Option ℕ → Entrant
-entrant_of None = grown
-entrant_of (Some j) = taken j
 
 -- the pieces of a batch by the inodes of their files
 pub data AreStretches (image : Image) : List Piece → List Stretch → Type 0 where

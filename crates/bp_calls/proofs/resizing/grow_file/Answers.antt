@@ -49,5 +49,10 @@ returns g c =
       room = c.prep.ensures.room;
       stored = c.commit_word.ensures;
     }) in
-    record { performs = done.0; exact = exact_file _ _ c.args.parts.now _ c.requires.exact (rw c.prep.ensures.inodes done.1) c.prep.ensures.frozen c.prep.ensures.counts c.args.i
-        c.requires.can.well_formed done.0.effect.changes; refused = tt; same = tt }
+    record {
+      performs = done.0;
+      exact = exact_file _ _ c.args.parts.now _ c.requires.exact (rw c.prep.ensures.inodes done.1) c.prep.ensures.frozen c.prep.ensures.counts c.args.i
+          c.requires.can.well_formed done.0.effect.changes;
+      refused = tt;
+      same = tt;
+    }

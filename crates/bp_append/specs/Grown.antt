@@ -1,5 +1,5 @@
 -- A tree is prepared in two epochs: stores that nobody sees, and then the links.
-use Rattle.std.specs.Prelude.{◌≡◌, ◌⊎◌, ℕ, suc, ◌+◌, ◌*◌, ◌/◌, ◌%◌, ◌<◌, ◌≤◌, List, [], ◌∷◌, ◌++◌, length}
+use Rattle.std.specs.Prelude.{◌≡◌, ◌⊎◌, ℕ, ◌+◌, ◌*◌, ◌/◌, ◌%◌, ◌<◌, ◌≤◌, List, [], ◌∷◌, ◌++◌, length}
 use Rattle.pm_epochs.specs.declared.event.Event.TheVariants.{Barrier}
 use Rattle.pm_epochs.specs.May.{links_of}
 use Rattle.bp_layout.specs.Words.{height_of}

@@ -10,13 +10,12 @@ use Rattle.bp_layout.specs.Stores.{after_stores}
 use Rattle.pm_region.specs.Memory.{Memory, current_words, room_in}
 use Rattle.bp_append.specs.declared.visiting.Link.{Link}
 use Rattle.bp_append.specs.Into.{AddsInto}
-use Rattle.bp_append.specs.Stores.{stores_behind}
+use Rattle.bp_append.specs.Stores.{stores_behind, room_behind}
 use Rattle.bp_append.specs.Given.{given, given_at}
 use Rattle.bp_append.specs.Tally.{tally}
 use Rattle.bp_append.specs.Spine.{spine}
 use Rattle.bp_append.specs.Built.{InBlocks, IsBuilt}
 use Rattle.bp_append.specs.Filled.{IsUsable, Builds}
-use Rattle.bp_append.specs.Stores.{room_behind}
 
 -- the stores that must wait for a barrier
 abbrev pub links_in : Option Link → List (ℕ × ℕ)

@@ -11,7 +11,7 @@ use Rattle.bp_layout.specs.WordPaths.{WordPath, inode_path}
 use Rattle.bp_layout.specs.Words.{Image, height_of}
 use Rattle.bp_limits.specs.Limits.{block_words, max_height}
 use Rattle.bp_append.specs.Prepared.{CanPrepare, PreparesWith, need_for}
-use Rattle.bp_append.proofs.StoresLaws.{behind_whole}
+use Rattle.bp_append.proofs.StoresLaws.{behind_whole, room_behind_whole}
 use Rattle.bp_shapes.specs.Sets.{AreExact}
 use Rattle.bp_tree.specs.Performs.{Performs, room_for}
 use Rattle.bp_cow.specs.Commit.{CanCommitIn, CommitsTouched}
@@ -27,13 +27,11 @@ use Rattle.bp_calls.specs.WritesFile.{WritesFile}
 use Rattle.bp_calls.proofs.AcrossDone.{across_exact, across_performs}
 use Rattle.bp_calls.proofs.AcrossMiddle.{across_can, middle_count, middle_formed}
 use Rattle.bp_calls.proofs.SizesWith.{sizes_with}
-use Rattle.bp_calls.proofs.AcrossTouched.{across_apart, across_few, across_inside, across_made, across_needs, across_shape, across_words}
+use Rattle.bp_calls.proofs.AcrossTouched.{across_apart, across_few, across_inside, across_needs, across_shape, across_words}
 use Rattle.bp_calls.proofs.FreeCounts.{free_members}
 use Rattle.bp_calls.proofs.TakenBlocks.{unused_members, usable_members}
 use Rattle.bp_layout.specs.Thaw.{none_kept}
-use Rattle.bp_calls.proofs.Unthawed.{lacks_thawed, room_asked}
-use Rattle.bp_append.proofs.StoresLaws.{room_behind_whole}
-use Rattle.bp_calls.proofs.Unthawed.{across_room}
+use Rattle.bp_calls.proofs.Unthawed.{lacks_thawed, room_asked, across_room}
 
 parted : (taken rest : List ℕ) {all : List ℕ} → all ≡ taken ++ rest → length all ≡ length taken + length rest
 parted taken rest e = ap (λ (xs : List ℕ). length xs) e ∙ length-append taken rest

@@ -8,7 +8,7 @@ use Rattle.std.proofs.lemmas.List.{append-nil, length-map, length-take}
 use Rattle.bp_limits.specs.Limits.{block_size, block_words, max_height}
 use Rattle.bp_free.specs.Set.{Set}
 use Rattle.bp_layout.specs.Inode.{root_of, size_of, inode_count}
-use Rattle.bp_layout.specs.Need.{Change, Beyond, beyond, new_inodes, prepared_for, height_after, content_path, inode_word_path, need, prefixes_of}
+use Rattle.bp_layout.specs.Need.{Change, Beyond, beyond, new_inodes, prepared_for, height_after, content_path, inode_word_path, need}
 use Rattle.bp_layout.specs.Need.Change.{writes}
 use Rattle.bp_layout.specs.Need as layout
 use Rattle.bp_layout.specs.Nodes.{height_with, nodes_for}

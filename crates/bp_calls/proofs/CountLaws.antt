@@ -1,5 +1,5 @@
 -- The parts stay exact over a call, where their sets do: how many names inodes have, and what the number of an inode's names tells of one of them.
-use Rattle.std.proofs.Common.{◌≡◌, ◌≢◌, ◌⊎◌, ℕ, suc, ◌+◌, ◌*◌, ◌/◌, ◌<◌, ◌≤◌, List, [], ◌∷◌, length, sym, ◌∙◌, ap, subst, arith, inl, inr}
+use Rattle.std.proofs.Common.{◌≡◌, ◌≢◌, ◌⊎◌, ℕ, ◌+◌, ◌*◌, ◌/◌, ◌<◌, ◌≤◌, List, [], ◌∷◌, length, sym, ◌∙◌, ap, subst, arith, inl, inr}
 use Rattle.std.proofs.lemmas.Bool.{cases_eq}
 use Rattle.bp_changes.specs.Effects.{ChangesFile, HasOtherName, IsLastName}
 use Rattle.bp_changes.specs.SameMeaning.{SameMeaning}
@@ -8,7 +8,7 @@ use Rattle.bp_free.specs.Set.{Set}
 use Rattle.bp_free.specs.declared.parts.Parts.{Parts}
 use Rattle.bp_layout.specs.Directory.{EntryNames}
 use Rattle.bp_layout.specs.Members.{AreApart, Each, Has}
-use Rattle.bp_layout.specs.Names.{AreCounts, AreNamed, HasNames, IsNamed}
+use Rattle.bp_layout.specs.Names.{AreCounts, HasNames, IsNamed}
 use Rattle.bp_layout.specs.Inode.{inode_count, root_of, size_of}
 use Rattle.bp_layout.specs.Reached.{IsReached}
 use Rattle.bp_layout.specs.Reached.IsReached.{inode_file}

@@ -1,5 +1,5 @@
 -- One name more, over what nobody sees.
-use Rattle.std.proofs.Common.{◌≡◌, ◌⊎◌, ℕ, zero, suc, ◌<◌, ◌≤◌, [], ◌==◌, if◌then◌else◌, refl, sym, ◌∙◌, ap₂, arith, inl, inr, le_trans, unwrap_or}
+use Rattle.std.proofs.Common.{◌≡◌, ◌⊎◌, ℕ, zero, suc, ◌<◌, ◌≤◌, [], ◌==◌, if◌then◌else◌, sym, ◌∙◌, ap₂, arith, inl, inr, le_trans, unwrap_or}
 use Rattle.std.proofs.lemmas.Bool.{cases_lt}
 use Rattle.bp_layout.specs.Words.{Image}
 use Rattle.bp_layout.specs.Fields.{kind_word}
@@ -9,7 +9,6 @@ use Rattle.bp_layout.specs.Inode.{kind_of, size_of, inode_count}
 use Rattle.bp_layout.specs.Reached.{IsReached}
 use Rattle.bp_layout.specs.WellFormed.{IsWellFormed}
 use Rattle.bp_layout.specs.declared.fields.Kind.{Kind}
-use Rattle.bp_layout.specs.declared.fields.Kind.TheVariants.{File, Dir}
 use Rattle.bp_changes.specs.Effects.{AddsNames, IsNewEntry}
 use Rattle.bp_changes.specs.SameMeaning.{SameMeaning}
 use Rattle.bp_changes.proofs.AddsNames.{linked_well_formed}

@@ -1,5 +1,5 @@
 -- A directory into which a name came gains it in the plain tree.
-use Rattle.std.proofs.Common.{◌≡◌, ℕ, subst}
+use Rattle.std.proofs.Common.{◌≡◌, ℕ}
 use Rattle.bp_layout.specs.Directory.{Name}
 use Rattle.bp_layout.specs.WellFormed.{IsWellFormed}
 use Rattle.bp_layout.specs.Words.{Image}

@@ -1,5 +1,5 @@
 -- The cover and the need of a new name with a growth of the inode file: those of the name on the longer file, and the growth.
-use Rattle.std.proofs.Common.{◌≡◌, ℕ, suc, ◌+◌, ◌*◌, List, length, flat_map, true, false, Option, None, Some, refl, sym, ◌∙◌, ap, ap₂, suc-ne-zero, arith}
+use Rattle.std.proofs.Common.{◌≡◌, ℕ, suc, ◌+◌, ◌*◌, List, length, flat_map, Option, None, Some, refl, sym, ◌∙◌, ap, ap₂, suc-ne-zero, arith}
 use Rattle.std.proofs.lemmas.List.{append-nil, length-map}
 use Rattle.bp_layout.specs.Words.{Image, height_of}
 use Rattle.bp_layout.specs.Tree.{node}

@@ -1,5 +1,5 @@
 -- What a new name needs where no inode is free: what it needs with one, and the growth of the inode file. Its cover, as the inode file is then.
-use Rattle.std.proofs.Common.{◌≡◌, ◌≢◌, ◌⊎◌, ℕ, zero, suc, ◌+◌, ◌-◌, ◌*◌, ◌/◌, ◌%◌, ◌<◌, ◌≤◌, [], ◌∷◌, ◌++◌, length, fold, Bool, true, false, ◌==◌, Option, None, Some, if◌then◌else◌, refl, sym, ◌∙◌, ap, ap₂, subst, suc-ne-zero, inl, inr, arith, le_trans}
+use Rattle.std.proofs.Common.{◌≡◌, ◌≢◌, ◌⊎◌, ℕ, zero, suc, ◌+◌, ◌-◌, ◌*◌, ◌/◌, ◌%◌, ◌<◌, ◌≤◌, [], ◌∷◌, ◌++◌, length, fold, Bool, true, ◌==◌, Option, None, Some, if◌then◌else◌, refl, sym, ◌∙◌, ap, ap₂, subst, suc-ne-zero, inl, inr, arith, le_trans}
 use Rattle.bp_limits.specs.declared.version.Version.TheVariants.{One}
 use Rattle.bp_limits.proofs.Versions.{size_most}
 use Rattle.std.proofs.lemmas.Bool.{cases_lt, ne_eqb}

@@ -5,7 +5,7 @@ use Rattle.bp_limits.proofs.Versions.{size_least}
 use Rattle.bp_layout.specs.Formatted.{version_of}
 use Rattle.std.proofs.lemmas.List.{length-append}
 use Rattle.bp_append.specs.Prepared.{CanPrepare, PreparesWith, need_for}
-use Rattle.bp_append.proofs.StoresLaws.{behind_whole}
+use Rattle.bp_append.proofs.StoresLaws.{behind_whole, room_behind_whole}
 use Rattle.bp_append.proofs.FewNeeded.{few_needed}
 use Rattle.bp_layout.proofs.FewLeaves.{few_leaves}
 use Rattle.bp_free.specs.Set.{Set, Fills, members}
@@ -13,7 +13,7 @@ use Rattle.bp_layout.specs.Inode.{root_of, size_of}
 use Rattle.bp_layout.specs.Reached.IsReached.{inode_file}
 use Rattle.bp_layout.specs.WellFormed.{IsWellFormed}
 use Rattle.bp_layout.specs.Words.{Image, block_count}
-use Rattle.bp_limits.specs.Limits.{block_size, inode_size, max_blocks, max_height, max_size, super_size, greatest_size}
+use Rattle.bp_limits.specs.Limits.{block_size, inode_size, max_blocks, max_height, super_size, greatest_size}
 use Rattle.bp_tree.specs.Performs.{room_for}
 use Rattle.bp_tree.proofs.RegionWords.{length_now}
 use Rattle.bp_layout.specs.WordPaths.{WordPath}
@@ -26,7 +26,6 @@ use Rattle.bp_calls.proofs.GrowthMemory.{grown, grows, growth_need_is}
 use Rattle.bp_calls.proofs.GrowthSets.{exact_grown}
 use Rattle.bp_calls.proofs.TakenBlocks.{unused_members, usable_members}
 use Rattle.bp_layout.specs.Thaw.{none_kept}
-use Rattle.bp_append.proofs.StoresLaws.{room_behind_whole}
 use Rattle.bp_calls.proofs.Unthawed.{prepared_room_of}
 
 module _ (image : Image) (wf : IsWellFormed image) where

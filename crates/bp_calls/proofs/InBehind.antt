@@ -1,5 +1,5 @@
 -- An entry behind the last one of a directory, a new inode, and then the directory's size.
-use Rattle.std.proofs.Common.{◌≡◌, ◌≢◌, ◌⊎◌, ℕ, suc, ◌+◌, ◌*◌, ◌/◌, ◌%◌, ◌<◌, ◌≤◌, List, [], ◌++◌, length, true, None, unwrap_or, set, sym, ◌∙◌, ap, subst, arith, inl, inr}
+use Rattle.std.proofs.Common.{◌≡◌, ◌≢◌, ◌⊎◌, ℕ, ◌+◌, ◌*◌, ◌/◌, ◌%◌, ◌<◌, ◌≤◌, List, [], ◌++◌, length, None, unwrap_or, set, sym, ◌∙◌, ap, subst, arith, inl, inr}
 use Rattle.bp_limits.specs.Limits.{max_height}
 use Rattle.std.proofs.lemmas.Bool.{cases_eq}
 use Rattle.std.proofs.lemmas.List.{append_assoc, append-nil}
@@ -17,7 +17,7 @@ use Rattle.bp_layout.specs.Fields.{kind_word}
 use Rattle.bp_layout.specs.Free.{IsFreeInode}
 use Rattle.bp_layout.specs.Inode.{ContentStandsAt, kind_of, root_of, size_of, inode_count}
 use Rattle.bp_layout.specs.Members.{Has}
-use Rattle.bp_layout.specs.Need.{Change, cover, need}
+use Rattle.bp_layout.specs.Need.{Change, cover}
 use Rattle.bp_layout.specs.Need.Change.{enters as gains}
 use Rattle.bp_layout.specs.Need.Entrant.{taken}
 use Rattle.bp_layout.specs.Reached.{IsReached, IsLiveBlock}
@@ -35,7 +35,7 @@ use Rattle.bp_tree.specs.Performs.{AddsTaking, IsOpen, PerformsWithin, TakesBloc
 use Rattle.bp_tree.specs.Within.{IsWithin}
 use Rattle.bp_tree.specs.Performs.IsOpen.{in_taken, in_live, at_root, at_size}
 use Rattle.bp_tree.proofs.PerformsLaws.{same_equivalence, takes_twice, within_committed, within_more}
-use Rattle.bp_append.proofs.StoresLaws.{behind_one, behind_whole}
+use Rattle.bp_append.proofs.StoresLaws.{behind_one}
 use Rattle.pm_epochs.specs.Crash.{commit}
 use Rattle.pm_epochs.specs.Log.{words_after}
 use Rattle.pm_epochs.specs.May.{AnyAt, EachMay}

@@ -1,8 +1,8 @@
 -- A new inode, a name in an empty entry, and then the inumber.
-use Rattle.std.proofs.Common.{◌≡◌, ◌≢◌, ℕ, ◌+◌, ◌-◌, ◌*◌, ◌/◌, ◌%◌, ◌<◌, ◌≤◌, List, [], suc, true, Some, unwrap_or, ap₂, set, refl, sym, ◌∙◌, ap, subst, arith}
+use Rattle.std.proofs.Common.{◌≡◌, ◌≢◌, ℕ, ◌+◌, ◌-◌, ◌*◌, ◌/◌, ◌%◌, ◌<◌, ◌≤◌, List, [], suc, Some, unwrap_or, ap₂, set, refl, sym, ◌∙◌, ap, subst, arith}
 use Rattle.bp_calls.specs.Entered.{IsNewInode, IsReadyEntry}
 use Rattle.bp_calls.specs.Created.{CountsName, EntersName}
-use Rattle.bp_layout.specs.Need.{cover, need}
+use Rattle.bp_layout.specs.Need.{cover}
 use Rattle.bp_layout.specs.Need.Change.{enters as gains}
 use Rattle.bp_layout.specs.Need.Entrant.{taken}
 use Rattle.bp_layout.specs.WordPaths.{address, tree_path}
@@ -15,7 +15,7 @@ use Rattle.bp_calls.proofs.NeedLaws.{cover_in_slot, need_in_slot}
 use Rattle.bp_calls.proofs.OpenPlaces.{content_open, each_weaker, stands_stored, root_word_stays, content_address}
 use Rattle.bp_calls.proofs.EnteredOver.{adds_over, enters_well_formed, enters_over}
 use Rattle.bp_changes.proofs.ContentStore.{root_stays}
-use Rattle.bp_layout.specs.Directory.{empty_slot}
+use Rattle.bp_layout.specs.Directory.{empty_slot, Name, entry_count, inumber_at, slot_named}
 use Rattle.bp_layout.specs.Inode.{size_of, ContentStandsAt, root_of, inode_count}
 use Rattle.bp_shapes.specs.Sets.{AreExact}
 use Rattle.bp_calls.specs.Spare.{IsSpare}
@@ -24,7 +24,6 @@ use Rattle.bp_dirs.specs.Written.{HasNameAt}
 use Rattle.bp_inodes.specs.Filled.{FillsInode}
 use Rattle.bp_tree.specs.Within.{IsWithin}
 use Rattle.bp_free.specs.Set.{Set, without}
-use Rattle.bp_layout.specs.Directory.{Name, entry_count, inumber_at, slot_named}
 use Rattle.bp_layout.specs.Fields.{kind_word}
 use Rattle.bp_layout.specs.Reached.{IsReached}
 use Rattle.bp_layout.proofs.Reached.{reached-in_file}

@@ -44,6 +44,7 @@ pub mod GrowthNeed
 pub mod GrowthCover
 pub mod Unthawed
 pub mod CountLaws
+pub mod FewNames
 pub mod GrowthPerforms
 pub mod NewNames
 pub mod WrittenStands

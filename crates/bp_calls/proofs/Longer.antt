@@ -1,5 +1,5 @@
 -- A file gets longer, with zeros behind its bytes: what its preparation asks, and what it leaves with the store of the size.
-use Rattle.std.proofs.Common.{◌≡◌, ℕ, zero, suc, ◌+◌, ◌-◌, ◌*◌, ◌/◌, ◌<◌, ◌≤◌, List, [], length, Bool, true, false, refl, sym, ◌∙◌, ap, arith, inl, inr, le_trans}
+use Rattle.std.proofs.Common.{◌≡◌, ℕ, zero, suc, ◌+◌, ◌-◌, ◌*◌, ◌/◌, ◌<◌, ◌≤◌, List, [], length, Bool, true, false, refl, sym, ◌∙◌, ap, arith, inl, inr}
 use Rattle.std.specs.Prelude.{nat_le, if◌then◌else◌, slice_index}
 use Rattle.std.proofs.lemmas.Bool.{lt-ltb}
 use Rattle.std.proofs.lemmas.List.{append-nil, length-append}
@@ -7,7 +7,7 @@ use Rattle.bp_append.specs.Given.{given}
 use Rattle.bp_append.specs.Prepared.{CanPrepare, PreparesWith, need_for}
 use Rattle.bp_append.proofs.GrownEffect.{grown_changes, grown_bytes, grown_live, grown_stays, grown_taken}
 use Rattle.bp_append.proofs.GrowsTree.{OnlyGrows, GrowsTree, only_need, grown_performs, grown_size}
-use Rattle.bp_append.proofs.StoresLaws.{behind_whole}
+use Rattle.bp_append.proofs.StoresLaws.{behind_whole, room_behind_whole}
 use Rattle.bp_calls.specs.CanGrow.{CanGrowFile}
 use Rattle.bp_calls.specs.Resized.{ResizesFile}
 use Rattle.bp_calls.specs.Space.{LacksSpace}
@@ -27,9 +27,7 @@ use Rattle.pm_epochs.specs.Crash.{commit}
 use Rattle.pm_region.specs.Memory.{Memory, Adds, current_words, room_in}
 use Rattle.pm_region.proofs.MemoryLaws.{base-adds, room_in-piece}
 use Rattle.bp_layout.specs.Thaw.{none_kept}
-use Rattle.bp_calls.proofs.Unthawed.{lacks_thawed, room_asked, unthawed}
-use Rattle.bp_append.proofs.StoresLaws.{room_behind_whole}
-use Rattle.bp_calls.proofs.Unthawed.{prepared_room_of}
+use Rattle.bp_calls.proofs.Unthawed.{lacks_thawed, room_asked, unthawed, prepared_room_of}
 
 only_grows : (image : Image) (i size : ℕ) → size_of image i < size → OnlyGrows image (resizes i size) i size size
 only_grows image i size longer = record { prepares = rw (lt-ltb (size_of image i) size longer) refl; no_inodes = refl; touches = refl }

@@ -1,5 +1,5 @@
 -- How many blocks a new name needs, where an inode is free.
-use Rattle.std.proofs.Common.{◌≡◌, ◌≢◌, ℕ, suc, ◌+◌, ◌*◌, ◌/◌, ◌<◌, [], ◌∷◌, ◌++◌, length, flat_map, fold, true, ◌==◌, Option, None, Some, if◌then◌else◌, refl, ◌∙◌, ap, ap₂, arith, subst}
+use Rattle.std.proofs.Common.{◌≡◌, ◌≢◌, ℕ, suc, ◌+◌, ◌*◌, ◌/◌, ◌<◌, [], ◌∷◌, ◌++◌, length, flat_map, fold, ◌==◌, Option, None, Some, if◌then◌else◌, refl, ◌∙◌, ap, ap₂, arith, subst}
 use Rattle.std.proofs.lemmas.Bool.{ne_eqb}
 use Rattle.std.proofs.lemmas.List.{length-map, append-nil}
 use Rattle.bp_layout.specs.Words.{Image, height_of}

@@ -18,16 +18,15 @@ use Rattle.bp_append.specs.Given.{given}
 use Rattle.bp_layout.specs.WellFormed.{IsWellFormed}
 use Rattle.bp_layout.specs.WordPaths.{WordPath, inode_path}
 use Rattle.bp_layout.specs.Words.{Image, height_of}
-use Rattle.bp_limits.specs.Limits.{max_size, greatest_size, max_height}
+use Rattle.bp_limits.specs.Limits.{greatest_size, max_height}
 use Rattle.pm_region.specs.Memory.{Memory, current_words}
 use Rattle.pm_region.proofs.MemoryLaws.{length-current_words}
 use Rattle.bp_calls.specs.Entries.{AreEntryBytes, PutsBehind}
-use Rattle.bp_calls.specs.Steps.{CanPutBehind}
+use Rattle.bp_calls.specs.Steps.{CanPutBehind, entering_room}
 use Rattle.bp_calls.proofs.EnteredLaws.{directory_inode}
 use Rattle.bp_calls.proofs.EntryBytes.{inumber_there, length_there, inumber_read, name_read_back}
 use Rattle.bp_calls.proofs.TakenBlocks.{unused_members, usable_members}
 use Rattle.bp_append.proofs.StoresLaws.{room_behind_one}
-use Rattle.bp_calls.specs.Steps.{entering_room}
 
 -- a directory is small, since it has no nulls
 pub small_directory : (image : Image) → IsWellFormed image → (i : ℕ) → IsReached image i → kind_of image i ≡ 2 → size_of image i + 256 ≤ greatest_size One

@@ -37,8 +37,7 @@ use Rattle.bp_cow.proofs.RunLaws.{length-run_path, length-run_way}
 use Rattle.bp_cow.proofs.RunWrites.{root_path_trail}
 use Rattle.bp_calls.specs.WritesFile.{WritesFile, written_byte}
 use Rattle.bp_calls.proofs.SetLaws.{free_inodes_stay}
-use Rattle.bp_calls.proofs.WriteBehind.{written_before, written_inside}
-use Rattle.bp_calls.proofs.WriteBehind.{written_past}
+use Rattle.bp_calls.proofs.WriteBehind.{written_before, written_inside, written_past}
 use Rattle.bp_layout.specs.Thaw.{none_kept}
 
 -- ---- what it asks

@@ -3,7 +3,7 @@ use Rattle.std.proofs.Common.{◌≡◌, ℕ, suc, ◌+◌, ◌*◌, ◌<◌, �
 use Rattle.bp_free.specs.Set.{Set, members}
 use Rattle.bp_layout.specs.Free.{HasFree}
 use Rattle.bp_layout.specs.Need.{Change, need}
-use Rattle.bp_layout.specs.Thaw.{full_need, none_kept}
+use Rattle.bp_layout.specs.Thaw.{none_kept}
 use Rattle.bp_layout.specs.Words.{Image}
 use Rattle.bp_layout.proofs.ThawLaws.{full_need-none, thawed-none}
 use Rattle.bp_tree.specs.Performs.{HasRoomFor, Performs, PerformsThawed, room_for}

@@ -9,7 +9,8 @@ use Rattle.bp_layout.specs.Words.{Image}
 use Rattle.bp_tree.specs.Performs.{HasRoomFor}
 use Rattle.pm_region.specs.Memory.{Memory, current_words}
 
--- It tells the blocks that the change needs, those that are thawed among them, and those that are free, which are fewer.
+-- it tells the blocks that the change needs, those that are thawed among them, and those that are free, which are
+-- fewer
 pub record LacksSpace (image : Image) (kept : ℕ → Bool) (change : Change) (lacks : NoSpace) : Type 0 where
   pub needed : full_need image kept change ≡ lacks.need
   pub free : HasFree image kept lacks.free

@@ -42,8 +42,8 @@ fn take<K>(numbers: &mut Numbers<K>) -> u32
     }
 }
 
-/// How many blocks a name takes where its inode is there, given its directory's tree and least empty slot: those that the
-/// tree lacks for one entry more, where no slot is empty.
+/// How many blocks a name takes where its inode is there, given its directory's tree and least empty slot: those that
+/// the tree lacks for one entry more, where no slot is empty.
 fn entry_need<R: Region>(region: &R, dir: u32, tree: Tree, slot: Option<u64>) -> u32
     requires well_formed { IsWellFormed (current_words (R.memory region.now)) }
     requires reached { IsReached (current_words (R.memory region.now)) dir }
@@ -131,7 +131,8 @@ pub fn create_in<R: Region>(
     ensures exact { IsExact (current_words (R.memory parts.new.region)) parts.new }
     ensures refused { IfErr result (λ lacks. (free : Option ℕ)
         → IsLeastFree (current_words (R.memory parts.old.region)) free
-        → LacksSpace (current_words (R.memory parts.old.region)) (kept_of parts.old) (enters dir (entrant_of free)) lacks) }
+        → LacksSpace (current_words (R.memory parts.old.region)) (kept_of parts.old)
+        (enters dir (entrant_of free)) lacks) }
     ensures same { OnErr result (parts.new ≡ parts.old) }
 {
     let tree = tree_of(&parts.region, dir);
@@ -180,7 +181,8 @@ pub fn create<R: Region>(
     ensures exact { IsExact (current_words (R.memory parts.new.region)) parts.new }
     ensures refused { IfErr result (λ lacks. (free : Option ℕ)
         → IsLeastFree (current_words (R.memory parts.old.region)) free
-        → LacksSpace (current_words (R.memory parts.old.region)) (kept_of parts.old) (enters dir (entrant_of free)) lacks) }
+        → LacksSpace (current_words (R.memory parts.old.region)) (kept_of parts.old)
+        (enters dir (entrant_of free)) lacks) }
     ensures same { OnErr result (parts.new ≡ parts.old) }
 {
     let slot = free_slot(&parts.region, tree_of(&parts.region, dir));

@@ -51,7 +51,8 @@ pub(crate) fn enter_slot<R: Region>(
 )
     requires can { CanName (current_words (R.memory region.old)) dir inode name.now }
     requires found { empty_slot (current_words (R.memory region.old)) dir ≡ Some slot }
-    requires room { entering_room (name_need (current_words (R.memory region.old)) dir) ≤ room_in (R.memory region.old) }
+    requires room { entering_room (name_need (current_words (R.memory region.old)) dir)
+        ≤ room_in (R.memory region.old) }
     ensures performs { PerformsWithin none_kept (name_need (current_words (R.memory region.old)) dir) 5
         (stores_behind_growth (name_need (current_words (R.memory region.old)) dir))
         (R.memory region.old) (R.memory region.new) (enters dir (taken inode)) (EntersName dir name.now kind) }

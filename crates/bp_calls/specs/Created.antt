@@ -6,7 +6,7 @@ use Rattle.bp_layout.specs.Inode.{inode_count, kind_of}
 use Rattle.bp_layout.specs.Names.{AreCounts}
 use Rattle.bp_layout.specs.Words.{Image}
 use Rattle.bp_layout.specs.Fields.{kind_word}
-use Rattle.bp_changes.specs.Effects.{AddsNames}
+use Rattle.bp_changes.specs.Effects.{AddsNames, LinksName}
 use Rattle.bp_layout.specs.declared.fields.Kind.{Kind}
 
 -- The name comes into directory i: its least empty entry, or one behind the last where none is empty, names an inode of
@@ -20,6 +20,13 @@ pub record EntersName (i : ℕ) (name : Name) (kind : Kind) (old new : Image) : 
   pub adds : AddsNames old new i slot inode
   pub name_is : name_at new i slot ≡ name
   pub kind_is : kind_of new inode ≡ kind_word kind
+
+-- The same of a name more for file j: no inode is taken.
+pub record LinksEntry (i : ℕ) (name : Name) (j : ℕ) (old new : Image) : Type 0 where
+  pub slot : ℕ
+  pub slot_is : slot ≡ unwrap_or (empty_slot old i) (entry_count old i)
+  pub adds : LinksName old new i slot j
+  pub name_is : name_at new i slot ≡ name
 
 -- what counts the names of the first image counts those of the second, once inode j has one
 abbrev pub CountsName : Image → Image → ℕ → Type 0

@@ -5,7 +5,7 @@ use Rattle.bp_layout.specs.Lookup.{Path, lookup}
 use Rattle.bp_layout.specs.Words.{Image}
 use Rattle.bp_layout.specs.declared.fields.Kind.{Kind}
 use Rattle.bp_layout.specs.declared.fields.Kind.TheVariants.{File, Dir}
-use Rattle.bp_plain.specs.Plain.{bytes_at, resized, with_content, with_dir, with_file, with_nothing, written}
+use Rattle.bp_plain.specs.Plain.{bytes_at, resized, with_content, with_dir, with_file, with_name, with_nothing, written}
 use Rattle.bp_plain.specs.PlainTree.{PathMap}
 use Rattle.bp_plain.specs.Stands.{Shows}
 
@@ -18,6 +18,12 @@ with_new Dir map path = with_dir map path
 abbrev pub GainsName : ℕ → Name → Kind → Image → Image → Type 0
 GainsName i name kind old new = (map : PathMap) (here : Path) → Shows old map → lookup old here ≡ Some i →
     Shows new (with_new kind map (here ++ name ∷ []))
+
+-- File j has the name besides those that it has: wherever a path finds the directory, the second image shows the file
+-- there too, as one with that at each path that finds it.
+abbrev pub SharesName : ℕ → Name → ℕ → Image → Image → Type 0
+SharesName i name j old new = (map : PathMap) (from here : Path) → Shows old map → lookup old from ≡ Some j →
+    lookup old here ≡ Some i → Shows new (with_name map from (here ++ name ∷ []))
 
 -- wherever a path finds directory i, the second image shows nothing at the name that slot s had
 abbrev pub LosesName : ℕ → ℕ → Image → Image → Type 0

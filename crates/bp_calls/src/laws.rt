@@ -3,9 +3,9 @@
 
 ghost use Rattle.std.specs.Prelude.{◌≡◌, ◌≤◌, ℕ, Bool, List, [], length};
 ghost use Rattle.bp_calls.specs.ContentPaths.{HasContentWord, KeepsHeights, WholePathExists};
-ghost use Rattle.bp_calls.specs.Created.{EntersName};
+ghost use Rattle.bp_calls.specs.Created.{EntersName, LinksEntry};
 ghost use Rattle.bp_calls.specs.InPlace.{LiesInWord};
-ghost use Rattle.bp_calls.specs.OnTrees.{GainsName, GetsBytes, GetsSize, LosesName};
+ghost use Rattle.bp_calls.specs.OnTrees.{GainsName, GetsBytes, GetsSize, LosesName, SharesName};
 ghost use Rattle.bp_calls.specs.Removed.{IsFoundAt};
 ghost use Rattle.bp_calls.specs.Resized.{ResizesFile};
 ghost use Rattle.bp_calls.specs.WritesFile.{WritesFile};
@@ -63,6 +63,13 @@ pub fn entered_names_are_gained(old: &[u64], new: &[u64])
     requires { IsWellFormed old.now }
     ensures { (i : ℕ) (name : Name) (kind : Kind) → EntersName i name kind old.now new.now
         → GainsName i name kind old.now new.now }
+{}
+
+/// A file that was named in a directory is there too in the plain tree, at each path that finds the directory.
+pub fn linked_names_are_shared(old: &[u64], new: &[u64])
+    requires { IsWellFormed old.now }
+    ensures { (i : ℕ) (name : Name) (j : ℕ) → LinksEntry i name j old.now new.now
+        → SharesName i name j old.now new.now }
 {}
 
 /// A directory of which an entry was emptied loses the entry's name in the plain tree, at each path that finds the

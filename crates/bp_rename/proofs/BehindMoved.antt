@@ -58,15 +58,16 @@ use Rattle.bp_rename.proofs.BehindTouched.{behind_are, behind_cover, behind_few,
 use Rattle.bp_rename.proofs.ContentWords.{AreContent, size_given, size_kept, words_can, words_fronts, words_kept, words_only, words_value}
 use Rattle.bp_rename.proofs.Outside.{below_before}
 use Rattle.bp_rename.proofs.TwoWords.{first_value, pick, second_value, two_count}
+use Rattle.bp_layout.specs.Thaw.{none_kept}
 
 -- the inode that moves is a number of 32 bits
-pub moved_few : (image : Image) (move : Move) → CanRename image move → moved_inode image move < 1048576
+pub moved_few : (image : Image) (move : Move) → CanRename image move → moved_inode image move < 4194304
 moved_few image move can = few_inode image can.well_formed (moved_inode image move) (can.well_formed.inumbers move.from_dir move.from_slot (moved_inode image move) can.source can.entry)
 
 -- the entry can be put there
 pub can_put : (memory : Memory) (move : Move) (blocks inodes : Set) (can : CanRename (current_words memory) move) (other : move.from_dir ≢ move.to_dir) (new_name : move.to_slot ≡ None) (none : empty_slot (current_words memory) move.to_dir ≡ None)
     (touched : Touched) (is : TouchesTwo touched (size_path (current_words memory) move.to_dir) (inumber_path (current_words memory) move.from_dir move.from_slot) (size_of (current_words memory) move.to_dir + 256) 0) →
-    AreExact (current_words memory) blocks inodes → need (current_words memory) (moves move.from_dir move.from_slot move.to_dir) ≤ length (members blocks) → HasRoomFor memory (moves move.from_dir move.from_slot move.to_dir) → CanPutBehind memory blocks move.to_dir move.name.now
+    AreExact (current_words memory) none_kept blocks inodes → need (current_words memory) (moves move.from_dir move.from_slot move.to_dir) ≤ length (members blocks) → HasRoomFor memory none_kept (moves move.from_dir move.from_slot move.to_dir) → CanPutBehind memory blocks move.to_dir move.name.now
 can_put memory move blocks inodes can other new_name none touched is exact enough room = record {
   lacks = record { well_formed = can.well_formed; reached = can.target; directory = can.directory; form = can.name; missing = can.slot ∙ new_name };
   none = none;
@@ -77,7 +78,7 @@ can_put memory move blocks inodes can other new_name none touched is exact enoug
 }
 
 module _ (old middle : Memory) (move : Move) (blocks inodes after : Set) (can : CanRename (current_words old) move) (new_name : move.to_slot ≡ None) (other : move.from_dir ≢ move.to_dir)
-    (none : empty_slot (current_words old) move.to_dir ≡ None) (exact : AreExact (current_words old) blocks inodes) (room : HasRoomFor old (moves move.from_dir move.from_slot move.to_dir))
+    (none : empty_slot (current_words old) move.to_dir ≡ None) (exact : AreExact (current_words old) none_kept blocks inodes) (room : HasRoomFor old none_kept (moves move.from_dir move.from_slot move.to_dir))
     (puts : PutsBehind old middle (members blocks) (members after) move.to_dir (moved_inode (current_words old) move) move.name.now) (as_long : length after ≡ length blocks)
     (touched : Touched) (is : TouchesTwo touched (size_path (current_words old) move.to_dir) (inumber_path (current_words old) move.from_dir move.from_slot) (size_of (current_words old) move.to_dir + 256) 0) where
   abbrev image : Image
@@ -173,10 +174,10 @@ module _ (old middle : Memory) (move : Move) (blocks inodes after : Set) (can : 
   low : (t : ℕ) → size_of mid t ≤ sizes_with (current_words middle) touched t
   low = sizes_low old middle blocks inodes after j (size_of image j) (size_of image j + 256) puts.bytes can.well_formed exact can.target not_file past puts.prepared (sizes_with mid touched) bound_here bound_other
 
-  unheld : AreUnheld mid (IsReached mid) (sizes_with (current_words middle) touched) (has after)
+  unheld : AreUnheld mid (IsReached mid) (sizes_with (current_words middle) touched) none_kept (has after)
   unheld = prepared_exact old middle blocks inodes after j (size_of image j) (size_of image j + 256) puts.bytes can.well_formed exact can.target not_file past puts.prepared (sizes_with mid touched) bound_here bound_other
 
-  sets : AreExactFor mid (IsReached mid) (sizes_with (current_words middle) touched) after inodes
+  sets : AreExactFor mid (IsReached mid) (sizes_with (current_words middle) touched) none_kept after inodes
   sets = prepared_sets old middle blocks inodes after j (size_of image j) (size_of image j + 256) puts.bytes can.well_formed exact can.target not_file past puts.prepared (sizes_with mid touched) bound_here bound_other as_long
 
   pub behind_fits : block_count (current_words middle) ≤ length after
@@ -313,7 +314,7 @@ module _ (old middle : Memory) (move : Move) (blocks inodes after : Set) (can : 
         (carries_over image mid (current_words new) can.well_formed puts.prepared.ready.meaning puts.prepared.ready.sizes i s j (entry_count mid j) x mid_carries))
         (subst (λ r. name_at (current_words new) j r ≡ move.name.now) slot_is name_is)
 
-    open_cover : IsOpen mid done.taken (cover_word mid touched)
+    open_cover : IsOpen mid none_kept done.taken (cover_word mid touched)
     open_cover =
         cover_open mid behind_formed touched behind_can.shape (path_of (word_paths touched) 0) (has-word touched behind_can.shape 0 (omega (arith, count)))
         (λ d deep.
@@ -321,7 +322,7 @@ module _ (old middle : Memory) (move : Move) (blocks inodes after : Set) (can : 
         (behind_are mid behind_formed i s j (size_of image j + 256) source entry.in_size entry.directory target touched is_mid (size_of mid) (λ t. omega arith)) 0 d (omega (arith, count)) deep)
         done.taken
 
-    pub behind_performs : Performs old new (moves move.from_dir move.from_slot move.to_dir) (RenamesEntry move)
+    pub behind_performs : Performs none_kept old new (moves move.from_dir move.from_slot move.to_dir) (RenamesEntry move)
     behind_performs =
         commit_performs_after old middle new (moves move.from_dir move.from_slot move.to_dir) (RenamesEntry move) (sizes_with mid touched) touched after last puts.prepared.taken 2
         (prep_stores (size_of image j) (size_of image j) (size_of image j + 256) (need_for image j (size_of image j) (size_of image j + 256))) puts.prepared.adds done
@@ -330,7 +331,7 @@ module _ (old middle : Memory) (move : Move) (blocks inodes after : Set) (can : 
         (covers ∙ sym (behind_whole_cover image move can other none)) (omega arith) few_stores (omega (arith, puts.prepared.counted, needs)) open_cover
         (carried_well_formed mid (current_words new) behind_formed i s j (entry_count mid j) x mid_carries) effect
 
-    pub behind_exact : length last ≡ length after → AreExact (current_words new) last inodes
+    pub behind_exact : length last ≡ length after → AreExact (current_words new) none_kept last inodes
     behind_exact same =
         carried_exact mid (current_words new) behind_formed i s j (entry_count mid j) x mid_carries
         (λ below. can.outside (below_before image mid can.well_formed puts.prepared.ready.meaning i s x can.source can.entry j below))

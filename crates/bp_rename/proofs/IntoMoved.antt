@@ -50,13 +50,14 @@ use Rattle.bp_rename.proofs.IntoDone.{into_count, into_paths, into_whole}
 use Rattle.bp_rename.proofs.IntoLaws.{into_can, into_taking, into_trees, mid_empty, mid_formed, mid_name, mid_outside, mid_touches}
 use Rattle.bp_rename.proofs.TwoWords.{first_value, has_first, no_leaves, pick, second_value, two_are, two_count}
 use Rattle.bp_rename.proofs.WholePaths.{cover-whole, pointed-directory}
+use Rattle.bp_layout.specs.Thaw.{none_kept}
 
 module _ (old third mid : Memory) (move : Move) (s entry : ℕ) (can : CanRename (current_words old) move) (new_name : move.to_slot ≡ None) (other : move.from_dir ≢ move.to_dir)
     (found : empty_slot (current_words old) move.to_dir ≡ Some s) (entry_at : ContentStandsAt (current_words old) move.to_dir (32 * s + 0) entry)
     (spells : AddsMay (AnyAt (IsWithin (entry + 1) 31)) 0 31 old third) (spelled : HasNameAt (current_words third) entry move.name.now)
     (ends : Adds third mid (Barrier ∷ [])) (touched : Touched)
     (is : TouchesTwo touched (inumber_path (current_words old) move.to_dir s) (inumber_path (current_words old) move.from_dir move.from_slot) (moved_inode (current_words old) move) 0)
-    (blocks inodes : Set) (exact : AreExact (current_words old) blocks inodes) (room : HasRoomFor old (moves move.from_dir move.from_slot move.to_dir)) where
+    (blocks inodes : Set) (exact : AreExact (current_words old) none_kept blocks inodes) (room : HasRoomFor old none_kept (moves move.from_dir move.from_slot move.to_dir)) where
   can_move : CanMoveEntry (current_words mid) move.from_dir move.from_slot move.to_dir s (moved_inode (current_words old) move)
   can_move = into_can old third mid move s entry can new_name other found entry_at spells spelled ends
 
@@ -81,7 +82,7 @@ module _ (old third mid : Memory) (move : Move) (s entry : ℕ) (can : CanRename
       no_file : (t l : ℕ) → kind_of (current_words mid) t ≡ 2 → t ≡ 0 → l % 8 ≢ 1
       no_file t l kind e = let two : kind_of (current_words mid) 0 ≡ 2 = subst (λ t. kind_of (current_words mid) t ≡ 2) e kind in absurd (omega (arith, two))
 
-  exact_mid : AreExact (current_words mid) blocks inodes
+  exact_mid : AreExact (current_words mid) none_kept blocks inodes
   exact_mid = exact_prepared (current_words old) (current_words mid) can.well_formed trees.prepared blocks inodes exact
 
   pub into_fits : block_count (current_words mid) ≤ length blocks
@@ -176,7 +177,7 @@ module _ (old third mid : Memory) (move : Move) (s entry : ℕ) (can : CanRename
         move.from_dir move.from_slot move.to_dir s (moved_inode (current_words old) move) mid_carries))
         (subst (λ r. name_at (current_words new) move.to_dir r ≡ move.name.now) slot_is name_is)
 
-    pub into_performs : Performs old new (moves move.from_dir move.from_slot move.to_dir) (RenamesEntry move)
+    pub into_performs : Performs none_kept old new (moves move.from_dir move.from_slot move.to_dir) (RenamesEntry move)
     into_performs =
         commit_performs_after old mid new (moves move.from_dir move.from_slot move.to_dir) (RenamesEntry move) (size_of (current_words mid)) touched blocks left [] 1 31
         (into_taking old third mid move s entry can new_name other found entry_at spells spelled ends) done
@@ -189,7 +190,7 @@ module _ (old third mid : Memory) (move : Move) (s entry : ℕ) (can : CanRename
         (moved_well_formed (current_words mid) (current_words new) formed move.from_dir move.from_slot move.to_dir s (moved_inode (current_words old) move) can_move mid_moves)
         into_effect
 
-    pub into_exact : AreExact (current_words new) left inodes
+    pub into_exact : AreExact (current_words new) none_kept left inodes
     into_exact =
         carried_exact (current_words mid) (current_words new) formed move.from_dir move.from_slot move.to_dir s (moved_inode (current_words old) move) mid_carries
         (mid_outside old third mid move s entry can new_name other found entry_at spells spelled ends) (size_of (current_words mid)) size_stays blocks left inodes exact_mid as_long done.exact

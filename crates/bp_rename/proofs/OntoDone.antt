@@ -43,10 +43,11 @@ use Rattle.bp_rename.specs.declared.moving.Move.{Move}
 use Rattle.bp_rename.proofs.ContentWords.{size_kept, words_only, words_value}
 use Rattle.bp_rename.proofs.OntoLaws.{are, onto_can, onto_commit, onto_cover, onto_need, replaced_reached, replaced_some}
 use Rattle.bp_rename.proofs.TwoWords.{first_value, no_leaves, pick, second_value, two_count}
+use Rattle.bp_layout.specs.Thaw.{none_kept}
 
 module _ (memory : Memory) (move : Move) (r : ℕ) (can : CanRename (current_words memory) move) (onto : move.to_slot ≡ Some r) (touched : Touched)
     (is : TouchesTwo touched (inumber_path (current_words memory) move.from_dir move.from_slot) (inumber_path (current_words memory) move.to_dir r) 0 (moved_inode (current_words memory) move))
-    (blocks inodes : Set) (exact : AreExact (current_words memory) blocks inodes) (room : HasRoomFor memory (replaces move.from_dir move.from_slot move.to_dir r)) where
+    (blocks inodes : Set) (exact : AreExact (current_words memory) none_kept blocks inodes) (room : HasRoomFor memory none_kept (replaces move.from_dir move.from_slot move.to_dir r)) where
   pub ready : CanCommit (current_words memory) (size_of (current_words memory)) touched (has blocks)
   ready = onto_commit (current_words memory) move r can onto touched is (has blocks) exact.free_blocks
 
@@ -63,7 +64,7 @@ module _ (memory : Memory) (move : Move) (r : ℕ) (can : CanRename (current_wor
 
 module _ (old new : Memory) (move : Move) (r : ℕ) (can : CanRename (current_words old) move) (onto : move.to_slot ≡ Some r) (touched : Touched)
     (is : TouchesTwo touched (inumber_path (current_words old) move.from_dir move.from_slot) (inumber_path (current_words old) move.to_dir r) 0 (moved_inode (current_words old) move))
-    (blocks inodes left : Set) (exact : AreExact (current_words old) blocks inodes) (room : HasRoomFor old (replaces move.from_dir move.from_slot move.to_dir r))
+    (blocks inodes left : Set) (exact : AreExact (current_words old) none_kept blocks inodes) (room : HasRoomFor old none_kept (replaces move.from_dir move.from_slot move.to_dir r))
     (done : CommitsTouched (size_of (current_words old)) touched old new blocks left) (as_long : length left ≡ length blocks) where
   commits : CanCommit (current_words old) (size_of (current_words old)) touched (has blocks)
   commits = ready old move r can onto touched is blocks inodes exact room
@@ -119,7 +120,7 @@ module _ (old new : Memory) (move : Move) (r : ℕ) (can : CanRename (current_wo
   pub onto_well_formed : IsWellFormed (current_words new)
   onto_well_formed = moved_well_formed (current_words old) (current_words new) can.well_formed move.from_dir move.from_slot move.to_dir r (moved_inode (current_words old) move) moved_can onto_moves
 
-  pub onto_performs : Performs old new (replaces move.from_dir move.from_slot move.to_dir r)
+  pub onto_performs : Performs none_kept old new (replaces move.from_dir move.from_slot move.to_dir r)
       (λ image image_after. MovesEntry image image_after move.from_dir move.from_slot move.to_dir r (moved_inode image move))
   onto_performs =
       commit_performs old new (replaces move.from_dir move.from_slot move.to_dir r) (λ image image_after. MovesEntry image image_after move.from_dir move.from_slot move.to_dir r (moved_inode image move))
@@ -187,7 +188,7 @@ module _ (old new : Memory) (move : Move) (r : ℕ) (can : CanRename (current_wo
         (HasBlock (current_words new) (root_of (current_words new) (inumber_at (current_words old) move.to_dir r)) (size_of (current_words new) (inumber_at (current_words old) move.to_dir r))) left final
         (λ b gone. gone.has) (λ b held. record { has = held; past = omega arith }) gives
 
-    pub onto_exact : AreExact (current_words new) final (with inodes (inumber_at (current_words old) move.to_dir r))
+    pub onto_exact : AreExact (current_words new) none_kept final (with inodes (inumber_at (current_words old) move.to_dir r))
     onto_exact = record {
       block_room = rw onto_moves.trees.whole (gives.room ∙ as_long ∙ exact.block_room);
       inode_room = rw onto_moves.trees.whole (length-set inodes (inumber_at (current_words old) move.to_dir r) true ∙ exact.inode_room);

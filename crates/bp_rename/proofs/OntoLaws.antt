@@ -26,6 +26,7 @@ use Rattle.bp_rename.proofs.ContentWords.{AreContent, words_apart, words_can, wo
 use Rattle.bp_rename.proofs.FoundNames.{found_entry, found_name}
 use Rattle.bp_rename.proofs.TwoWords.{has_first, pick, two_are, two_paths}
 use Rattle.bp_rename.proofs.WholePaths.{cover-whole, pointed-directory}
+use Rattle.bp_layout.specs.Thaw.{none_kept}
 
 module _ (image : Image) (move : Move) (r : ℕ) (can : CanRename image move) (onto : move.to_slot ≡ Some r) where
   abbrev wf : IsWellFormed image
@@ -56,7 +57,7 @@ module _ (image : Image) (move : Move) (r : ℕ) (can : CanRename image move) (o
   pub replaced_some : inumber_at image move.to_dir r ≢ 0
   replaced_some = replaced.not_empty
 
-  pub replaced_few : inumber_at image move.to_dir r < 1048576
+  pub replaced_few : inumber_at image move.to_dir r < 4194304
   replaced_few = few_inode image can.well_formed (inumber_at image move.to_dir r) (can.well_formed.inumbers move.to_dir r (inumber_at image move.to_dir r) can.target replaced)
 
   low_source : 8 * (32 * move.from_slot + 0) < size_of image move.from_dir
@@ -94,7 +95,7 @@ module _ (image : Image) (move : Move) (r : ℕ) (can : CanRename image move) (o
     pub onto_apart : NoneBegins (all_paths touched)
     onto_apart = words_apart image (size_of image) (wf_forest image can.well_formed) touched (pick move.from_dir move.to_dir) (pick (32 * move.from_slot + 0) (32 * r + 0)) are
 
-    pub onto_commit : (free : ℕ → Bool) → AreUnheld image (IsReached image) (size_of image) free → CanCommit image (size_of image) touched free
+    pub onto_commit : (free : ℕ → Bool) → AreUnheld image (IsReached image) (size_of image) none_kept free → CanCommit image (size_of image) touched free
     onto_commit free exact = words_can image (size_of image) (wf_forest image can.well_formed) touched (pick move.from_dir move.to_dir) (pick (32 * move.from_slot + 0) (32 * r + 0)) are (λ t q. omega arith) free exact
 
     all_touched : all_paths touched ≡ inumber_path image move.from_dir move.from_slot ∷ inumber_path image move.to_dir r ∷ []

@@ -58,7 +58,7 @@ fn move_into<R: Region>(parts: &mut Parts<R>, to_move: &Move<'_>, slot: u64)
     requires exact { IsExact (current_words (R.memory parts.old.region)) parts.old }
     requires enough { need (current_words (R.memory parts.old.region))
         (moves to_move.now.from_dir to_move.now.from_slot to_move.now.to_dir) ≤ length (members parts.old.blocks) }
-    requires room { HasRoomFor (R.memory parts.old.region)
+    requires room { HasRoomFor (R.memory parts.old.region) (kept_of parts.old)
         (moves to_move.now.from_dir to_move.now.from_slot to_move.now.to_dir) }
     ensures performs { Performs (kept_of parts.old) (R.memory parts.old.region) (R.memory parts.new.region)
         (moves to_move.now.from_dir to_move.now.from_slot to_move.now.to_dir) (RenamesEntry to_move.now) }
@@ -98,7 +98,7 @@ pub(crate) fn rename_across<R: Region>(parts: &mut Parts<R>, to_move: &Move<'_>,
     requires exact { IsExact (current_words (R.memory parts.old.region)) parts.old }
     requires enough { need (current_words (R.memory parts.old.region))
         (moves to_move.now.from_dir to_move.now.from_slot to_move.now.to_dir) ≤ length (members parts.old.blocks) }
-    requires room { HasRoomFor (R.memory parts.old.region)
+    requires room { HasRoomFor (R.memory parts.old.region) (kept_of parts.old)
         (moves to_move.now.from_dir to_move.now.from_slot to_move.now.to_dir) }
     ensures performs { Performs (kept_of parts.old) (R.memory parts.old.region) (R.memory parts.new.region)
         (moves to_move.now.from_dir to_move.now.from_slot to_move.now.to_dir) (RenamesEntry to_move.now) }

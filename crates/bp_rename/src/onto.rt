@@ -56,7 +56,7 @@ pub(crate) fn rename_onto<R: Region>(parts: &mut Parts<R>, to_move: &Move<'_>, s
     requires enough { need (current_words (R.memory parts.old.region))
         (replaces to_move.now.from_dir to_move.now.from_slot to_move.now.to_dir slot)
         ≤ length (members parts.old.blocks) }
-    requires room { HasRoomFor (R.memory parts.old.region)
+    requires room { HasRoomFor (R.memory parts.old.region) (kept_of parts.old)
         (replaces to_move.now.from_dir to_move.now.from_slot to_move.now.to_dir slot) }
     ensures performs { Performs (kept_of parts.old) (R.memory parts.old.region) (R.memory parts.new.region)
         (replaces to_move.now.from_dir to_move.now.from_slot to_move.now.to_dir slot)

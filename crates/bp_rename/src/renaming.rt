@@ -30,11 +30,12 @@ pub fn rename_in<R: Region>(
     requires can { CanRename (current_words (R.memory parts.old.region)) to_move.now }
     requires empty { IsSlotAcross (current_words (R.memory parts.old.region)) to_move.now empty }
     requires exact { IsExact (current_words (R.memory parts.old.region)) parts.old }
-    requires room { HasRoomWhereFree (R.memory parts.old.region) parts.old.blocks (change_of to_move.now) }
+    requires room { HasRoomWhereFree (R.memory parts.old.region) (kept_of parts.old) parts.old.blocks (change_of to_move.now) }
     ensures performs { OnOk result (Performs (kept_of parts.old) (R.memory parts.old.region) (R.memory parts.new.region)
         (change_of to_move.now) (RenamesEntry to_move.now)) }
     ensures exact { IsExact (current_words (R.memory parts.new.region)) parts.new }
-    ensures refused { IfErr result (LacksSpace (current_words (R.memory parts.old.region)) (change_of to_move.now)) }
+    ensures refused { IfErr result (LacksSpace (current_words (R.memory parts.old.region)) (kept_of parts.old)
+        (change_of to_move.now)) }
     ensures same { OnErr result (parts.new ≡ parts.old) }
 {
     let need = need_with(&parts.region, to_move, empty);
@@ -59,11 +60,12 @@ pub fn rename_in<R: Region>(
 pub fn rename<R: Region>(parts: &mut Parts<R>, to_move: &Move<'_>) -> Result<(), NoSpace>
     requires can { CanRename (current_words (R.memory parts.old.region)) to_move.now }
     requires exact { IsExact (current_words (R.memory parts.old.region)) parts.old }
-    requires room { HasRoomWhereFree (R.memory parts.old.region) parts.old.blocks (change_of to_move.now) }
+    requires room { HasRoomWhereFree (R.memory parts.old.region) (kept_of parts.old) parts.old.blocks (change_of to_move.now) }
     ensures performs { OnOk result (Performs (kept_of parts.old) (R.memory parts.old.region) (R.memory parts.new.region)
         (change_of to_move.now) (RenamesEntry to_move.now)) }
     ensures exact { IsExact (current_words (R.memory parts.new.region)) parts.new }
-    ensures refused { IfErr result (LacksSpace (current_words (R.memory parts.old.region)) (change_of to_move.now)) }
+    ensures refused { IfErr result (LacksSpace (current_words (R.memory parts.old.region)) (kept_of parts.old)
+        (change_of to_move.now)) }
     ensures same { OnErr result (parts.new ≡ parts.old) }
 {
     let empty = slot_across(&parts.region, to_move);

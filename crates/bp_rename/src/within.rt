@@ -91,7 +91,7 @@ pub(crate) fn rename_within<R: Region>(parts: &mut Parts<R>, to_move: &Move<'_>)
     requires enough { need (current_words (R.memory parts.old.region))
         (respells to_move.now.from_dir to_move.now.from_slot (length to_move.now.name.now))
         ≤ length (members parts.old.blocks) }
-    requires room { HasRoomFor (R.memory parts.old.region)
+    requires room { HasRoomFor (R.memory parts.old.region) (kept_of parts.old)
         (respells to_move.now.from_dir to_move.now.from_slot (length to_move.now.name.now)) }
     ensures performs { Performs (kept_of parts.old) (R.memory parts.old.region) (R.memory parts.new.region)
         (respells to_move.now.from_dir to_move.now.from_slot (length to_move.now.name.now)) (RenamesEntry to_move.now) }

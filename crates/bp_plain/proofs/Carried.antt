@@ -6,11 +6,11 @@ use Rattle.std.specs.Option.{is_none}
 use Rattle.bp_layout.specs.Lookup.{Path}
 use Rattle.bp_layout.specs.PathText.{parse}
 use Rattle.bp_limits.specs.Limits.{max_batch}
-use Rattle.bp_plain.specs.Calls.{Answer, Piece, Refusal}
+use Rattle.bp_plain.specs.Calls.{Answer, Call, Piece, Refusal}
 use Rattle.bp_plain.specs.Calls.Answer.{done}
 use Rattle.bp_plain.specs.Calls.Call.{batch}
 use Rattle.bp_plain.specs.Calls.Refusal.{bad_path, is_dir, is_root, no_snap, not_empty, too_long}
-use Rattle.bp_plain.specs.Plain.{dir_refusal, file_refusal, first, is_empty_dir, is_root_path, move_refusal, new_refusal, on_path, on_snap, path_named, piece_refusal, refusal, when, with_now, with_piece, with_pieces}
+use Rattle.bp_plain.specs.Plain.{answer, changes, dir_refusal, file_refusal, first, is_empty_dir, is_root_path, move_refusal, new_refusal, on_path, on_snap, path_named, piece_refusal, refusal, tree_after, when, with_now, with_piece, with_pieces}
 use Rattle.bp_plain.specs.declared.calls.Piece.{Piece as GivenPiece}
 use Rattle.bp_plain.specs.declared.calls.Span.{Span}
 use Rattle.bp_plain.specs.PlainTree.{FileTree, Nodes, PathMap}
@@ -54,6 +54,14 @@ link_passes nodes from to e =
 pub move_passes : (nodes : Nodes) (from to : List ℕ) → on_path from (λ p. on_path to (λ q. move_refusal nodes p q)) ≡ None → move_refusal nodes (path_named from) (path_named to) ≡ None
 move_passes nodes from to e =
     on_named to (λ q. move_refusal nodes (path_named from) q) (on_named from (λ p. on_path to (λ q. move_refusal nodes p q)) e)
+
+-- ---- changes
+
+-- what is answered and made, where it is known whether the call changes the tree
+pub carries : (tree after : FileTree) (call : Call) (found : Answer) (b : Bool) → changes tree call ≡ b → found ≡ answer tree call → after ≡ (if b then tree_after tree call else tree) →
+    (found, after) ≡ carried_out tree call
+carries tree after call found b at is made =
+    ap₂ (λ (a : Answer) (t : FileTree). (a, t)) is made ∙ ap (λ (x : Bool). (answer tree call, if x then tree_after tree call else tree)) (sym at)
 
 -- ---- snapshots
 
@@ -115,23 +123,20 @@ sum_from : (text : List ℕ) (pieces : List GivenPiece) → All (LiesIn text) pi
 sum_from text [] all n = refl
 sum_from text (piece ∷ pieces) all n =
     let here : LiesIn text piece = all 0 piece (omega arith) in
-    rw (length-spanned text piece.bytes here.bytes) (sum_from text pieces (λ k d low. all (suc k) d (omega (arith, low))) (n + piece.bytes.len))
+    ap (λ len. fold (λ a piece. a + length piece.bytes) (n + len) (map (piece_in text) pieces)) (length-spanned text piece.bytes here.bytes)
+    ∙ sum_from text pieces (λ k d low. all (suc k) d (omega (arith, low))) (n + piece.bytes.len)
 
 pub sum_lies : (text : List ℕ) (pieces : List GivenPiece) → All (LiesIn text) pieces →
     sum_by (λ piece. length piece.bytes) (map (piece_in text) pieces) ≡ sum_by (λ piece. piece.bytes.len) pieces
 sum_lies text pieces all = sum_from text pieces all 0
-
--- what holds of all holds of one
-pub lies_at : (text : List ℕ) (pieces : List GivenPiece) (i : ℕ) (piece : GivenPiece) → All (LiesIn text) pieces → i < length pieces → piece ≡ get_or pieces i piece → LiesIn text piece
-lies_at text pieces i piece all low is = subst (LiesIn text) (sym is) (all i piece low)
 
 -- ---- pieces one after the other
 
 pub record NextPiece (pieces : List GivenPiece) (i : ℕ) (piece : GivenPiece) : Type 0 where
   pub next : drop i pieces ≡ piece ∷ drop (i + 1) pieces
 
-pub next_piece : (pieces : List GivenPiece) (i : ℕ) (piece : GivenPiece) → i < length pieces → piece ≡ get_or pieces i piece → NextPiece pieces i piece
-next_piece pieces i piece low is = record { next = drop_more pieces i piece low ∙ ap (λ x. x ∷ drop (i + 1) pieces) (sym is) }
+pub next_piece : (pieces : List GivenPiece) (i : ℕ) (other : GivenPiece) → i < length pieces → NextPiece pieces i (get_or pieces i other)
+next_piece pieces i other low = record { next = drop_more pieces i other low }
 
 module _ (text : List ℕ) (pieces : List GivenPiece) (i : ℕ) (piece : GivenPiece) (at : NextPiece pieces i piece) where
   pub piece_passes : (nodes : Nodes) (found : Option FsError) → is_some found ≡ false → option_map refusal_of found ≡ piece_refusal nodes (piece_in text piece) →

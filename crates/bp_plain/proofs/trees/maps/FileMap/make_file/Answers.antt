@@ -8,7 +8,7 @@ use Rattle.bp_plain.specs.SeenTree.{names_of}
 use Rattle.bp_plain.proofs.KeptMaps.{AreKept, keeps, makes_file}
 use Rattle.bp_plain.proofs.trees.maps.FileMap.make_file.Goals as goal
 
-pub invariant_of-self-2 : goal.invariant_of-self-3
+pub invariant_of-self-2 : goal.invariant_of-self-2
 invariant_of-self-2 c =
     let made = makes_file c.self.inside c.self.invariant (names_of c.args.path.items) (subst (λ (m : PathMap). new_refusal m.nodes (names_of c.args.path.items) ≡ None) (sym c.self.view_is) c.requires) in
     let files : c.put.new.self ≡ insert c.self.inside.files (names_of c.args.path.items) (numbered_file c.self.inside.next []) =

@@ -1,5 +1,5 @@
 -- What calls that are not refused answer and make, and why the pieces of a batch are refused.
-use Rattle.std.proofs.Common.{◌≡◌, ◌≤◌, ◌<◌, ◌+◌, ◌&&◌, ◌||◌, ◌++◌, ℕ, suc, List, [], ◌∷◌, length, take, drop, get_or, map, Bool, true, false, not, nat_lt, Option, None, Some, is_some, if◌then◌else◌, option_map, refl, sym, ◌∙◌, ap, ap₂, subst, true≢false, arith, length-drop, ◌-◌}
+use Rattle.std.proofs.Common.{◌≡◌, ◌≤◌, ◌<◌, ◌+◌, ◌++◌, ℕ, suc, List, [], ◌∷◌, length, drop, get_or, map, Bool, true, false, not, nat_lt, Option, None, Some, is_some, if◌then◌else◌, option_map, refl, sym, ◌∙◌, ap, ap₂, true≢false, arith, length-drop, ◌-◌}
 use Rattle.std.proofs.lemmas.List.{drop_more, length-take}
 use Rattle.std.specs.List.{All, fold, list_any, sum_by}
 use Rattle.std.specs.Option.{is_none}

@@ -1,6 +1,5 @@
 -- What each change of files with numbers makes of the map that they stand for.
-use Rattle.std.proofs.Common.{◌≡◌, ◌≢◌, ◌<◌, ◌==◌, ◌+◌, ◌||◌, ℕ, List, [], ◌∷◌, ◌++◌, Bool, true, false, cond, Option, None, Some, option_and_then, option_map, if◌then◌else◌, refl, sym, ◌∙◌, ap, ap₂, subst, true≢false, arith}
-use Rattle.std.proofs.lemmas.Bool.{eqb-true}
+use Rattle.std.proofs.Common.{◌≡◌, ◌≢◌, ◌<◌, ◌==◌, ◌+◌, ◌||◌, ℕ, List, [], ◌∷◌, ◌++◌, Bool, true, false, cond, Option, None, Some, option_and_then, option_map, if◌then◌else◌, refl, sym, ◌∙◌, ap, true≢false, arith}
 use Rattle.std.specs.FinMap as finite
 use Rattle.std.specs.FinMap.{get, get-empty, insert, remove}
 use Rattle.std.specs.FinSet.{contains-empty}
@@ -11,13 +10,12 @@ use Rattle.bp_layout.specs.Lookup.Node.{dir, file}
 use Rattle.bp_layout.proofs.Below.{same_path-self}
 use Rattle.bp_plain.specs.Changed.{changed, changed_files, with_bytes_in}
 use Rattle.bp_plain.specs.declared.trees.entries.Change.{Change}
-use Rattle.bp_plain.specs.Kernels.{IsKernel}
 use Rattle.bp_plain.specs.Numbered.{Numbered, NumberedFiles, map_of, number_at, number_in, plain_node, plain_nodes, root_alone}
 use Rattle.bp_plain.specs.Numbered.Numbered.{directory, numbered_file}
-use Rattle.bp_plain.specs.Plain.{alone, bytes_at, bytes_in, moved, paths_of, with_bytes_at, with_content, with_dir, with_file, with_moved, with_name, with_nothing}
-use Rattle.bp_plain.specs.PlainTree.{Nodes, One, PathMap, empty_map, pair_cmp, path_cmp}
-use Rattle.bp_plain.specs.SeenTree.{HasNoneBelow, IsRooted}
-use Rattle.bp_plain.proofs.Kernels.{any_path, are_one-back, before_move, get-with_bytes_at, kernel_alone, kernel_linked, kernel_moved, kernel_same, kernel_without, moved_from, paths_of-any}
+use Rattle.bp_plain.specs.Plain.{bytes_in, moved, paths_of, with_bytes_at, with_content, with_dir, with_file, with_moved, with_name, with_nothing}
+use Rattle.bp_plain.specs.PlainTree.{Nodes, PathMap, empty_map, pair_cmp, path_cmp}
+use Rattle.bp_plain.specs.SeenTree.{IsRooted}
+use Rattle.bp_plain.proofs.Kernels.{any_path, are_one-back, before_move, get-with_bytes_at, kernel_alone, kernel_linked, kernel_moved, kernel_same, kernel_without, paths_of-any}
 use Rattle.bp_plain.proofs.Moved.{after_move, get-moved}
 use Rattle.bp_plain.proofs.Numbers.{Case, case_of, get-each, get-plain, map_is, nothing_there, pairs_of, plain-moved, plain-put, plain-taken, put_elsewhere, put_there, same_nodes, taken_elsewhere, taken_there}
 use Rattle.bp_plain.proofs.Numbers.Case.{same, other}

@@ -2,7 +2,7 @@ use Rattle.std.proofs.Common.{◌≡◌, ◌&&◌, Bool, true, false, not, None,
 use Rattle.bp_layout.specs.Below.{same_path}
 use Rattle.bp_layout.specs.Lookup.{Path}
 use Rattle.bp_plain.specs.Calls.Call.{rename}
-use Rattle.bp_plain.specs.Plain.{changes, move_refusal, path_named, refusal, with_moved, with_now}
+use Rattle.bp_plain.specs.Plain.{move_refusal, path_named, refusal, with_moved, with_now}
 use Rattle.bp_plain.specs.PlainTree.{FileTree, PathMap, is_one}
 use Rattle.bp_plain.specs.SeenMap.{tree_seen}
 use Rattle.bp_plain.specs.SeenTree.{names_of}
@@ -31,7 +31,7 @@ returns-clause-done c =
           let second : names_of w.deref-then-not-is_same-2.result.now ≡ path_named c.args.to.now = ap names_of w.deref-then-not-is_same-2.ensures.value ∙ c.in_ok-to.ensures in
           let source : names_of w.deref-then-not-is_one.result.now ≡ path_named c.args.from.now = ap names_of w.deref-then-not-is_one.ensures.value ∙ c.in_ok-from.ensures in
           let target : names_of w.deref-then-not-is_one-2.result.now ≡ path_named c.args.to.now = ap names_of w.deref-then-not-is_one-2.ensures.value ∙ c.in_ok-to.ensures in
-          let now : w.current.result.now ≡ c.args.self.now.now = cc (ap (λ (tree : FileTree). tree.now) c.self.view_is) in
+          let now : w.current.result.now ≡ c.args.self.now.now = w.current.ensures in
           let one : is_one c.args.self.now.now.one (path_named c.args.from.now) (path_named c.args.to.now) ≡ w.is_one.result =
               sym (w.is_one.ensures ∙ ap₂ (λ (p q : Path). is_one w.current.result.now.one p q) first second
               ∙ ap (λ (m : PathMap). is_one m.one (path_named c.args.from.now) (path_named c.args.to.now)) now) in
@@ -46,7 +46,7 @@ returns-clause-done c =
             else-not-is_same-via-then-not-is_same+else-not-is_one v ↦
                 let first : names_of v.deref-then-not-is_same.result.now ≡ path_named c.args.from.now = ap names_of v.deref-then-not-is_same.ensures.value ∙ c.in_ok-from.ensures in
                 let second : names_of v.deref-then-not-is_same-2.result.now ≡ path_named c.args.to.now = ap names_of v.deref-then-not-is_same-2.ensures.value ∙ c.in_ok-to.ensures in
-                let now : v.current.result.now ≡ c.args.self.now.now = cc (ap (λ (tree : FileTree). tree.now) c.self.view_is) in
+                let now : v.current.result.now ≡ c.args.self.now.now = v.current.ensures in
                 let one : is_one c.args.self.now.now.one (path_named c.args.from.now) (path_named c.args.to.now) ≡ v.is_one.result =
                     sym (v.is_one.ensures ∙ ap₂ (λ (p q : Path). is_one v.current.result.now.one p q) first second
                     ∙ ap (λ (m : PathMap). is_one m.one (path_named c.args.from.now) (path_named c.args.to.now)) now) in

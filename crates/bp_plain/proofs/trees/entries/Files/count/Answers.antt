@@ -1,4 +1,4 @@
-use Rattle.std.proofs.Common.{◌≡◌, ◌+◌, sym, ◌∙◌, ap, length, map, arith}
+use Rattle.std.proofs.Common.{◌≡◌, sym, ◌∙◌, ap, length, map, arith}
 use Rattle.std.specs.FinMap.{entries}
 use Rattle.bp_plain.specs.Numbered.{paths_numbered}
 use Rattle.bp_plain.specs.SeenTree.{entry_kept}

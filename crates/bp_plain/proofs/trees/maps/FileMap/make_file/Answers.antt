@@ -1,4 +1,4 @@
-use Rattle.std.proofs.Common.{◌≡◌, ◌+◌, ℕ, None, [], sym, ◌∙◌, ap, ap₂, subst}
+use Rattle.std.proofs.Common.{◌≡◌, ℕ, None, [], sym, ◌∙◌, ap, subst}
 use Rattle.std.specs.FinMap.{insert}
 use Rattle.bp_plain.specs.Numbered.{NumberedFiles, map_of}
 use Rattle.bp_plain.specs.Numbered.Numbered.{numbered_file}

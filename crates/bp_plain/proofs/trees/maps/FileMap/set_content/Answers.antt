@@ -1,4 +1,4 @@
-use Rattle.std.proofs.Common.{◌≡◌, refl, sym, ◌∙◌, ap, subst}
+use Rattle.std.proofs.Common.{refl, sym, ◌∙◌, ap, subst}
 use Rattle.bp_plain.specs.declared.trees.entries.Change.TheVariants.{Content}
 use Rattle.bp_plain.specs.Numbered.{NumberedFiles, map_of}
 use Rattle.bp_plain.specs.Plain.{with_content}

@@ -45,8 +45,8 @@ pub link_passes : (nodes : Nodes) (from to : List ℕ) → on_path from (λ p. o
     (file_refusal nodes (path_named from) ≡ None) × (new_refusal nodes (path_named to) ≡ None)
 link_passes nodes from to e =
     let both : first (file_refusal nodes (path_named from) ∷ new_refusal nodes (path_named to) ∷ []) ≡ None =
-        on_named to (λ q. first (file_refusal nodes (path_named from) ∷ new_refusal nodes q ∷ []))
-        (on_named from (λ p. on_path to (λ q. first (file_refusal nodes p ∷ new_refusal nodes q ∷ []))) e) in
+    on_named to (λ q. first (file_refusal nodes (path_named from) ∷ new_refusal nodes q ∷ []))
+    (on_named from (λ p. on_path to (λ q. first (file_refusal nodes p ∷ new_refusal nodes q ∷ []))) e) in
     let one = first_none (file_refusal nodes (path_named from)) (new_refusal nodes (path_named to) ∷ []) both in
     let two = first_none (new_refusal nodes (path_named to)) [] one.1 in
     (one.0, two.0)

@@ -108,6 +108,6 @@ pub count_step : (id : ℕ) (e : Vec (ArrayVec ℕ) × Kept) (rest left : List (
     before + length (paths_numbered id (map entry_kept left)) ≡ whole → after + length (paths_numbered id (map entry_kept rest)) ≡ whole
 count_step id e rest left before after whole holds is has made so_far =
     let more : length (paths_numbered id (map entry_kept left)) ≡ cond (has_number id (numbered e.1)) 1 0 + length (paths_numbered id (map entry_kept rest)) =
-        ap (λ es. length (paths_numbered id (map entry_kept es))) is ∙ count_more id (entry_kept e) (map entry_kept rest) in
+    ap (λ es. length (paths_numbered id (map entry_kept es))) is ∙ count_more id (entry_kept e) (map entry_kept rest) in
     let one : ◌≡◌ {A = ℕ} (if holds then 1 else 0) (cond (has_number id (numbered e.1)) 1 0) = ap (λ (b : Bool). if b then 1 else 0) has in
     omega (arith, more, one, made, so_far)

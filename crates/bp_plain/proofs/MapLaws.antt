@@ -112,10 +112,10 @@ module _ (files : NumberedFiles) (change : Change) (id : ℕ) (bytes : List ℕ)
   content_set p is =
       map_is (changed_files change files) (with_content (map_of files) p bytes)
       (same_nodes _ _ (λ q.
-          plain_at q ∙ at q (get files q) refl
-          ∙ sym (get-with_bytes_at (paths_of (map_of files).one p) bytes (plain_nodes files) q
-          ∙ ap (λ b. cond b (Some (file bytes)) (get (plain_nodes files) q))
-          (paths_of-any (map_of files).one p q ∙ (pairs_of files).each p q ∙ ap (λ x. are_one x (number_at files q)) is))))
+      plain_at q ∙ at q (get files q) refl
+      ∙ sym (get-with_bytes_at (paths_of (map_of files).one p) bytes (plain_nodes files) q
+      ∙ ap (λ b. cond b (Some (file bytes)) (get (plain_nodes files) q))
+      (paths_of-any (map_of files).one p q ∙ (pairs_of files).each p q ∙ ap (λ x. are_one x (number_at files q)) is))))
       (kernel_same (number_at files) (number_at (changed_files change files)) (map_of files).one numbers_stay (pairs_of files))
     where
       at : (q : Path) (o : Option Numbered) → get files q ≡ o → option_map plain_node (option_map (with_bytes_in id bytes) (get files q)) ≡ cond (are_one (Some id) (number_at files q)) (Some (file bytes)) (get (plain_nodes files) q)
@@ -204,7 +204,7 @@ root_rooted = record {
     at : (path : Path) (name : Name) (node : Node) → get (plain_nodes root_alone) (path ++ name ∷ []) ≡ Some node → get (plain_nodes root_alone) path ≡ Some dir
     at path name node e =
         let nothing : get (plain_nodes root_alone) (path ++ name ∷ []) ≡ None =
-            get-plain root_alone (path ++ name ∷ []) ∙ ap (option_map plain_node) (put_elsewhere finite.empty [] directory (path ++ name ∷ []) (not_empty_path path name) ∙ get-empty path_cmp (path ++ name ∷ [])) in
+        get-plain root_alone (path ++ name ∷ []) ∙ ap (option_map plain_node) (put_elsewhere finite.empty [] directory (path ++ name ∷ []) (not_empty_path path name) ∙ get-empty path_cmp (path ++ name ∷ [])) in
         let wrong : ◌≡◌ {A = Option Node} None (Some node) = sym nothing ∙ e in absurd (cc)
 
 pub root_below : (next : ℕ) → AreBelow root_alone next

@@ -9,8 +9,8 @@ use Rattle.bp_limits.specs.Limits.{max_batch}
 use Rattle.bp_plain.specs.Calls.{Answer, Call, Piece, Refusal}
 use Rattle.bp_plain.specs.Calls.Answer.{done}
 use Rattle.bp_plain.specs.Calls.Call.{batch}
-use Rattle.bp_plain.specs.Calls.Refusal.{bad_path, is_dir, is_root, no_snap, not_empty, too_long}
-use Rattle.bp_plain.specs.Plain.{answer, changes, dir_refusal, file_refusal, first, is_empty_dir, is_root_path, move_refusal, new_refusal, on_path, on_snap, path_named, piece_refusal, refusal, tree_after, when, with_now, with_piece, with_pieces}
+use Rattle.bp_plain.specs.Calls.Refusal.{bad_path, is_dir, is_root, not_empty, too_long}
+use Rattle.bp_plain.specs.Plain.{answer, changes, dir_refusal, file_refusal, first, is_empty_dir, is_root_path, move_refusal, new_refusal, on_path, path_named, piece_refusal, refusal, tree_after, when, with_now, with_piece, with_pieces}
 use Rattle.bp_plain.specs.declared.calls.Piece.{Piece as GivenPiece}
 use Rattle.bp_plain.specs.declared.calls.Span.{Span}
 use Rattle.bp_plain.specs.PlainTree.{FileTree, Nodes, PathMap}
@@ -62,13 +62,6 @@ pub carries : (tree after : FileTree) (call : Call) (found : Answer) (b : Bool) 
     (found, after) ≡ carried_out tree call
 carries tree after call found b at is made =
     ap₂ (λ (a : Answer) (t : FileTree). (a, t)) is made ∙ ap (λ (x : Bool). (answer tree call, if x then tree_after tree call else tree)) (sym at)
-
--- ---- snapshots
-
-pub snap_passes : (snap : Option PathMap) (text : List ℕ) (refusals : Nodes → Path → Option Refusal) → on_path text (λ p. on_snap snap (λ nodes. refusals nodes p)) ≡ None → snap ≡ None → ⊥
-snap_passes None text refusals e is =
-    let wrong : ◌≡◌ {A = Option Refusal} (Some no_snap) None = on_named text (λ p. Some no_snap) e in absurd (cc)
-snap_passes (Some map) text refusals e is = let wrong : ◌≡◌ {A = Option PathMap} (Some map) None = is in absurd (cc)
 
 -- ---- batches
 
@@ -148,16 +141,6 @@ module _ (text : List ℕ) (pieces : List GivenPiece) (i : ℕ) (piece : GivenPi
       option_map refusal_of found ≡ first (map (piece_refusal nodes) (map (piece_in text) (drop i pieces)))
   piece_stops nodes None e is = absurd (true≢false (sym e))
   piece_stops nodes (Some error) e is = rw (at.next, sym is) refl
-
-  pub path_passes : {A : Type 0} (f : A → Path) (found : Option A) → is_none found ≡ false → option_map f found ≡ parse (spanned text piece.path) →
-      list_any (λ piece. is_none (parse piece.path)) (map (piece_in text) (drop (i + 1) pieces)) ≡ list_any (λ piece. is_none (parse piece.path)) (map (piece_in text) (drop i pieces))
-  path_passes f None e is = absurd (true≢false e)
-  path_passes f (Some x) e is = rw (at.next, sym is) refl
-
-  pub path_stops : {A : Type 0} (f : A → Path) (found : Option A) → is_none found ≡ true → option_map f found ≡ parse (spanned text piece.path) →
-      true ≡ list_any (λ piece. is_none (parse piece.path)) (map (piece_in text) (drop i pieces))
-  path_stops f None e is = rw (at.next, sym is) refl
-  path_stops f (Some x) e is = absurd (true≢false (sym e))
 
   pub piece_written : (before after : PathMap) → after ≡ with_piece before (piece_in text piece) →
       with_pieces after (map (piece_in text) (drop (i + 1) pieces)) ≡ with_pieces before (map (piece_in text) (drop i pieces))

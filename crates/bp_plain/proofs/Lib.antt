@@ -15,3 +15,4 @@ pub mod MapLaws
 pub mod LinkCounts
 pub mod Carried
 pub mod KeptMaps
+pub mod Spelled

@@ -1,15 +1,24 @@
 -- The text of a path is parsed as that path.
-use Rattle.std.proofs.Common.{◌≡◌, ◌≢◌, ◌≤◌, ◌<◌, ◌&&◌, ◌==◌, ℕ, suc, List, [], ◌∷◌, ◌++◌, length, Bool, true, false, true≢false, not, nat_le, nat_lt, Option, Some, None, if◌then◌else◌, refl, sym, ◌∙◌, ap, ap₂, append-nil, arith}
-use Rattle.std.proofs.lemmas.Bool.{eqb-false, eqb-true, le-leb, lt-ltb}
+use Rattle.std.proofs.Common.{◌≡◌, ◌≢◌, ◌≤◌, ◌&&◌, ◌||◌, ◌==◌, ℕ, suc, List, [], ◌∷◌, ◌++◌, length, Bool, true, false, true≢false, not, nat_le, nat_lt, Option, Some, None, refl, sym, ◌∙◌, ap, ap₂, append-nil, arith}
+use Rattle.std.proofs.lemmas.Bool.{eqb-true, le-leb, lt-ltb, ltb-false}
 use Rattle.std.proofs.lemmas.Slice.Eq.{bytes_eq-Decides}
-use Rattle.std.specs.List.{All, list_all}
+use Rattle.std.proofs.lemmas.List.Folds.{list_all-append}
+use Rattle.std.specs.FinMap.{entries, get, get-entries}
+use Rattle.std.specs.FinMap.Entries.{find}
+use Rattle.std.specs.List.{All, list_all, list_any}
+use Rattle.std.specs.Ordering.{eq_by_cmp}
 use Rattle.std.specs.Prelude.{bytes_eq}
 use Rattle.bp_layout.specs.Directory.{IsName, Name}
-use Rattle.bp_layout.specs.Lookup.{Path}
-use Rattle.bp_layout.specs.PathText.{is_name, names_after_slash, onto_first, parse, parts}
+use Rattle.bp_layout.specs.Lookup.{Node, Path}
+use Rattle.bp_layout.specs.Lookup.Node.{dir}
+use Rattle.bp_layout.specs.PathText.{is_name, parse, parts}
 use Rattle.bp_layout.proofs.Parts.{parts-append}
+use Rattle.bp_layout.proofs.Paths.{ByLast, by_last}
+use Rattle.bp_layout.proofs.Paths.ByLast.{none, more}
 use Rattle.bp_limits.specs.Limits.{max_name, max_path}
-use Rattle.bp_plain.specs.Export.{names_text, path_text}
+use Rattle.bp_plain.specs.Export.{is_deep, names_text, path_text}
+use Rattle.bp_plain.specs.PlainTree.{IsPathMap, PathMap, path_cmp}
+use Rattle.bp_plain.proofs.PathOrder.{same_path_from}
 
 -- ---- names
 
@@ -79,3 +88,36 @@ parse_text ((b ∷ name) ∷ path) names short =
     let fits : nat_lt (length ((b ∷ name) ++ names_text path)) max_path ≡ true = lt-ltb (length ((b ∷ name) ++ names_text path)) max_path (omega (arith, short)) in
     let split : parts ((b ∷ name) ++ names_text path) ≡ (b ∷ name) ∷ path = name_parts (b ∷ name) path names in
     rw fits (rw split (rw names refl))
+
+-- ---- the paths of a tree
+
+pub all_names_pass : (map : PathMap) → IsPathMap map → (path : Path) (node : Node) → get map.nodes path ≡ Some node → list_all is_name path ≡ true
+all_names_pass map is path node at = go path (by_last path) node at
+  where
+    go : (path : Path) → ByLast path → (node : Node) → get map.nodes path ≡ Some node → list_all is_name path ≡ true
+    go _ none node at = refl
+    go _ (more {path = front} before name) node at =
+        let here : list_all is_name (name ∷ []) ≡ true = rw (name_passes name (is.names front name node at)) refl in
+        list_all-append is_name front (name ∷ []) ∙ rw (go front before dir (is.parents front name node at), here) refl
+
+deep_in : (es : List (Path × Node)) (p : Path) (node : Node) → list_any (λ (entry : Path × Node). nat_lt max_path (length (path_text entry.0))) es ≡ false → find path_cmp p es ≡ Some node →
+    nat_lt max_path (length (path_text p)) ≡ false
+deep_in [] p node shallow at = let wrong : ◌≡◌ {A = Option Node} None (Some node) = at in absurd (cc)
+deep_in (e ∷ es) p node shallow at =
+    let here = neither (nat_lt max_path (length (path_text e.0))) (list_any (λ (entry : Path × Node). nat_lt max_path (length (path_text entry.0))) es) shallow in
+    go (eq_by_cmp path_cmp p e.0) refl here.0 (λ f. deep_in es p node here.1 f)
+  where
+    neither : (a b : Bool) → (a || b) ≡ false → (a ≡ false) × (b ≡ false)
+    neither true b f = absurd (true≢false f)
+    neither false b f = (refl, f)
+
+    go : (t : Bool) → eq_by_cmp path_cmp p e.0 ≡ t → nat_lt max_path (length (path_text e.0)) ≡ false → (find path_cmp p es ≡ Some node → nat_lt max_path (length (path_text p)) ≡ false) →
+        nat_lt max_path (length (path_text p)) ≡ false
+    go true same short rest = ap (λ q. nat_lt max_path (length (path_text q))) (same_path_from p e.0 same) ∙ short
+    go false same short rest = rest (rw same at at)
+
+-- each path of a tree that can be exported is what its text is parsed as
+pub spelled : (map : PathMap) → IsPathMap map → is_deep map ≡ false → (path : Path) (node : Node) → get map.nodes path ≡ Some node → parse (path_text path) ≡ Some path
+spelled map is shallow path node at =
+    parse_text path (all_names_pass map is path node at)
+    (ltb-false max_path (length (path_text path)) (deep_in (entries map.nodes) path node shallow (sym (get-entries map.nodes path) ∙ at)))

@@ -16,3 +16,4 @@ pub mod LinkCounts
 pub mod Carried
 pub mod KeptMaps
 pub mod Spelled
+pub mod Passing

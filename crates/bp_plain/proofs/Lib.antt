@@ -17,3 +17,4 @@ pub mod Carried
 pub mod KeptMaps
 pub mod Spelled
 pub mod Passing
+pub mod Stretches

@@ -1,5 +1,5 @@
 -- Paths at which a call is not refused.
-use Rattle.std.proofs.Common.{◌≡◌, ℕ, List, [], ◌∷◌, ◌++◌, Bool, true, false, Option, None, Some, is_some, refl, sym, ◌∙◌, ap, append-nil, append_assoc}
+use Rattle.std.proofs.Common.{◌≡◌, ℕ, List, [], ◌∷◌, ◌++◌, true, false, None, Some, is_some, refl, sym, ◌∙◌, ap, append-nil, append_assoc}
 use Rattle.std.specs.FinMap.{get}
 use Rattle.std.specs.Option.{is_none}
 use Rattle.bp_layout.specs.Directory.{Name}
@@ -7,7 +7,7 @@ use Rattle.bp_layout.specs.Lookup.{Node, Path}
 use Rattle.bp_layout.specs.Lookup.Node.{dir, file}
 use Rattle.bp_layout.proofs.Paths.{ByLast, by_last}
 use Rattle.bp_layout.proofs.Paths.ByLast.{none, more}
-use Rattle.bp_plain.specs.Plain.{file_refusal, first_refusal_from, is_a_dir, is_dir_at, is_root_path, new_refusal, parent_of, walk}
+use Rattle.bp_plain.specs.Plain.{file_refusal, first_refusal_from, is_a_dir, is_dir_at, is_root_path, new_refusal, walk}
 use Rattle.bp_plain.specs.PlainTree.{Nodes}
 use Rattle.bp_plain.specs.SeenTree.{IsRooted}
 use Rattle.bp_plain.proofs.PathLaws.{first_one}

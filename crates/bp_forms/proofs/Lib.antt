@@ -1,2 +1,1 @@
 pub mod WholeLaws
-pub mod Thawing

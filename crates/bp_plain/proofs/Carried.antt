@@ -1,16 +1,16 @@
 -- What calls that are not refused answer and make, and why the pieces of a batch are refused.
-use Rattle.std.proofs.Common.{◌≡◌, ◌≤◌, ◌<◌, ◌+◌, ◌&&◌, ◌||◌, ◌++◌, ℕ, suc, List, [], ◌∷◌, length, take, drop, get_or, map, Bool, true, false, not, nat_lt, Option, None, Some, is_some, if◌then◌else◌, option_map, refl, sym, ◌∙◌, ap, ap₂, subst, true≢false, arith, length-drop, ◌-◌}
+use Rattle.std.proofs.Common.{◌≡◌, ◌≤◌, ◌<◌, ◌+◌, ◌++◌, ℕ, suc, List, [], ◌∷◌, length, drop, get_or, map, Bool, true, false, not, nat_lt, Option, None, Some, is_some, if◌then◌else◌, option_map, refl, sym, ◌∙◌, ap, ap₂, true≢false, arith, length-drop, ◌-◌}
 use Rattle.std.proofs.lemmas.List.{drop_more, length-take}
 use Rattle.std.specs.List.{All, fold, list_any, sum_by}
 use Rattle.std.specs.Option.{is_none}
 use Rattle.bp_layout.specs.Lookup.{Path}
 use Rattle.bp_layout.specs.PathText.{parse}
 use Rattle.bp_limits.specs.Limits.{max_batch}
-use Rattle.bp_plain.specs.Calls.{Answer, Piece, Refusal}
+use Rattle.bp_plain.specs.Calls.{Answer, Call, Piece, Refusal}
 use Rattle.bp_plain.specs.Calls.Answer.{done}
 use Rattle.bp_plain.specs.Calls.Call.{batch}
-use Rattle.bp_plain.specs.Calls.Refusal.{bad_path, is_dir, is_root, no_snap, not_empty, too_long}
-use Rattle.bp_plain.specs.Plain.{dir_refusal, file_refusal, first, is_empty_dir, is_root_path, move_refusal, new_refusal, on_path, on_snap, path_named, piece_refusal, refusal, when, with_now, with_piece, with_pieces}
+use Rattle.bp_plain.specs.Calls.Refusal.{bad_path, is_dir, is_root, not_empty, too_long}
+use Rattle.bp_plain.specs.Plain.{answer, changes, dir_refusal, file_refusal, first, is_empty_dir, is_root_path, move_refusal, new_refusal, on_path, path_named, piece_refusal, refusal, tree_after, when, with_now, with_piece, with_pieces}
 use Rattle.bp_plain.specs.declared.calls.Piece.{Piece as GivenPiece}
 use Rattle.bp_plain.specs.declared.calls.Span.{Span}
 use Rattle.bp_plain.specs.PlainTree.{FileTree, Nodes, PathMap}
@@ -45,8 +45,8 @@ pub link_passes : (nodes : Nodes) (from to : List ℕ) → on_path from (λ p. o
     (file_refusal nodes (path_named from) ≡ None) × (new_refusal nodes (path_named to) ≡ None)
 link_passes nodes from to e =
     let both : first (file_refusal nodes (path_named from) ∷ new_refusal nodes (path_named to) ∷ []) ≡ None =
-        on_named to (λ q. first (file_refusal nodes (path_named from) ∷ new_refusal nodes q ∷ []))
-        (on_named from (λ p. on_path to (λ q. first (file_refusal nodes p ∷ new_refusal nodes q ∷ []))) e) in
+    on_named to (λ q. first (file_refusal nodes (path_named from) ∷ new_refusal nodes q ∷ []))
+    (on_named from (λ p. on_path to (λ q. first (file_refusal nodes p ∷ new_refusal nodes q ∷ []))) e) in
     let one = first_none (file_refusal nodes (path_named from)) (new_refusal nodes (path_named to) ∷ []) both in
     let two = first_none (new_refusal nodes (path_named to)) [] one.1 in
     (one.0, two.0)
@@ -55,12 +55,13 @@ pub move_passes : (nodes : Nodes) (from to : List ℕ) → on_path from (λ p. o
 move_passes nodes from to e =
     on_named to (λ q. move_refusal nodes (path_named from) q) (on_named from (λ p. on_path to (λ q. move_refusal nodes p q)) e)
 
--- ---- snapshots
+-- ---- changes
 
-pub snap_passes : (snap : Option PathMap) (text : List ℕ) (refusals : Nodes → Path → Option Refusal) → on_path text (λ p. on_snap snap (λ nodes. refusals nodes p)) ≡ None → snap ≡ None → ⊥
-snap_passes None text refusals e is =
-    let wrong : ◌≡◌ {A = Option Refusal} (Some no_snap) None = on_named text (λ p. Some no_snap) e in absurd (cc)
-snap_passes (Some map) text refusals e is = let wrong : ◌≡◌ {A = Option PathMap} (Some map) None = is in absurd (cc)
+-- what is answered and made, where it is known whether the call changes the tree
+pub carries : (tree after : FileTree) (call : Call) (found : Answer) (b : Bool) → changes tree call ≡ b → found ≡ answer tree call → after ≡ (if b then tree_after tree call else tree) →
+    (found, after) ≡ carried_out tree call
+carries tree after call found b at is made =
+    ap₂ (λ (a : Answer) (t : FileTree). (a, t)) is made ∙ ap (λ (x : Bool). (answer tree call, if x then tree_after tree call else tree)) (sym at)
 
 -- ---- batches
 
@@ -115,23 +116,20 @@ sum_from : (text : List ℕ) (pieces : List GivenPiece) → All (LiesIn text) pi
 sum_from text [] all n = refl
 sum_from text (piece ∷ pieces) all n =
     let here : LiesIn text piece = all 0 piece (omega arith) in
-    rw (length-spanned text piece.bytes here.bytes) (sum_from text pieces (λ k d low. all (suc k) d (omega (arith, low))) (n + piece.bytes.len))
+    ap (λ len. fold (λ a piece. a + length piece.bytes) (n + len) (map (piece_in text) pieces)) (length-spanned text piece.bytes here.bytes)
+    ∙ sum_from text pieces (λ k d low. all (suc k) d (omega (arith, low))) (n + piece.bytes.len)
 
 pub sum_lies : (text : List ℕ) (pieces : List GivenPiece) → All (LiesIn text) pieces →
     sum_by (λ piece. length piece.bytes) (map (piece_in text) pieces) ≡ sum_by (λ piece. piece.bytes.len) pieces
 sum_lies text pieces all = sum_from text pieces all 0
-
--- what holds of all holds of one
-pub lies_at : (text : List ℕ) (pieces : List GivenPiece) (i : ℕ) (piece : GivenPiece) → All (LiesIn text) pieces → i < length pieces → piece ≡ get_or pieces i piece → LiesIn text piece
-lies_at text pieces i piece all low is = subst (LiesIn text) (sym is) (all i piece low)
 
 -- ---- pieces one after the other
 
 pub record NextPiece (pieces : List GivenPiece) (i : ℕ) (piece : GivenPiece) : Type 0 where
   pub next : drop i pieces ≡ piece ∷ drop (i + 1) pieces
 
-pub next_piece : (pieces : List GivenPiece) (i : ℕ) (piece : GivenPiece) → i < length pieces → piece ≡ get_or pieces i piece → NextPiece pieces i piece
-next_piece pieces i piece low is = record { next = drop_more pieces i piece low ∙ ap (λ x. x ∷ drop (i + 1) pieces) (sym is) }
+pub next_piece : (pieces : List GivenPiece) (i : ℕ) (other : GivenPiece) → i < length pieces → NextPiece pieces i (get_or pieces i other)
+next_piece pieces i other low = record { next = drop_more pieces i other low }
 
 module _ (text : List ℕ) (pieces : List GivenPiece) (i : ℕ) (piece : GivenPiece) (at : NextPiece pieces i piece) where
   pub piece_passes : (nodes : Nodes) (found : Option FsError) → is_some found ≡ false → option_map refusal_of found ≡ piece_refusal nodes (piece_in text piece) →
@@ -143,16 +141,6 @@ module _ (text : List ℕ) (pieces : List GivenPiece) (i : ℕ) (piece : GivenPi
       option_map refusal_of found ≡ first (map (piece_refusal nodes) (map (piece_in text) (drop i pieces)))
   piece_stops nodes None e is = absurd (true≢false (sym e))
   piece_stops nodes (Some error) e is = rw (at.next, sym is) refl
-
-  pub path_passes : {A : Type 0} (f : A → Path) (found : Option A) → is_none found ≡ false → option_map f found ≡ parse (spanned text piece.path) →
-      list_any (λ piece. is_none (parse piece.path)) (map (piece_in text) (drop (i + 1) pieces)) ≡ list_any (λ piece. is_none (parse piece.path)) (map (piece_in text) (drop i pieces))
-  path_passes f None e is = absurd (true≢false e)
-  path_passes f (Some x) e is = rw (at.next, sym is) refl
-
-  pub path_stops : {A : Type 0} (f : A → Path) (found : Option A) → is_none found ≡ true → option_map f found ≡ parse (spanned text piece.path) →
-      true ≡ list_any (λ piece. is_none (parse piece.path)) (map (piece_in text) (drop i pieces))
-  path_stops f None e is = rw (at.next, sym is) refl
-  path_stops f (Some x) e is = absurd (true≢false (sym e))
 
   pub piece_written : (before after : PathMap) → after ≡ with_piece before (piece_in text piece) →
       with_pieces after (map (piece_in text) (drop (i + 1) pieces)) ≡ with_pieces before (map (piece_in text) (drop i pieces))

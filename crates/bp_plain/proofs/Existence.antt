@@ -10,7 +10,6 @@ use Rattle.bp_layout.specs.Below.{same_path}
 use Rattle.bp_layout.specs.Formatted.{version_of}
 use Rattle.bp_layout.specs.Lookup.{Path, Node, file_at, if_file, lookup, shown}
 use Rattle.bp_layout.specs.Trees.{has_snapshot, snapshot_of}
-use Rattle.bp_layout.specs.Whole.{IsFileSystem}
 use Rattle.bp_layout.specs.WellFormed.{IsWellFormed}
 use Rattle.bp_layout.proofs.Existence.{Has, all_paths, has_all}
 use Rattle.bp_layout.proofs.Below.{same_path-self}
@@ -104,20 +103,20 @@ module _ (image : Image) (wf : IsWellFormed image) where
     one = (kernel_of (file_at image) (all_paths image wf) files_there).each;
   }
 
-module _ (image : Image) (is : IsFileSystem image) where
+module _ (image : Image) (first : IsWellFormed image) (second : has_snapshot image ≡ true → IsWellFormed (snapshot_of image)) where
   snap_shown : (there : Bool) → has_snapshot image ≡ there → Option PathMap
-  snap_shown true e = Some (map_shown (snapshot_of image) (is.second e))
+  snap_shown true e = Some (map_shown (snapshot_of image) (second e))
   snap_shown false e = None
 
   snap_is_shown : (there : Bool) (e : has_snapshot image ≡ there) → ShowsSnapshot image (snap_shown there e)
   unfolding snap_shown
-  snap_is_shown true e = (e, is_shown (snapshot_of image) (is.second e))
+  snap_is_shown true e = (e, is_shown (snapshot_of image) (second e))
   snap_is_shown false e = e
 
   pub tree_of : FileTree
-  tree_of = record { version = version_of image; now = map_shown image is.first; snap = snap_shown (has_snapshot image) refl }
+  tree_of = record { version = version_of image; now = map_shown image first; snap = snap_shown (has_snapshot image) refl }
 
   -- the tree for which the image stands
   pub stands_for : Stands image tree_of
   unfolding tree_of
-  stands_for = record { version = refl; now = is_shown image is.first; snap = snap_is_shown (has_snapshot image) refl }
+  stands_for = record { version = refl; now = is_shown image first; snap = snap_is_shown (has_snapshot image) refl }

@@ -6,17 +6,16 @@ use Rattle.std.specs.Option.{option_map}
 use Rattle.bp_limits.specs.Limits.{is_two}
 use Rattle.bp_limits.specs.declared.version.Version.{Version}
 use Rattle.bp_limits.specs.declared.version.Version.TheVariants as marked
-use Rattle.bp_layout.specs.Directory.{IsName, Name, name_at}
+use Rattle.bp_layout.specs.Directory.{IsName, Name}
 use Rattle.bp_layout.specs.Formatted.{version_of}
 use Rattle.bp_layout.specs.Inode.{kind_of, root_of, size_of}
 use Rattle.bp_layout.specs.Tree.{content}
 use Rattle.bp_layout.specs.Lookup.{Path, Node, are_one, file_at, if_file, lookup, node_of, shown}
 use Rattle.bp_layout.specs.Lookup.Node.{dir, file}
-use Rattle.bp_layout.specs.Trees.{has_snapshot, snapshot_of}
-use Rattle.bp_layout.specs.WellFormed.{IsWellFormed}
+use Rattle.bp_layout.specs.Trees.{snapshot_of}
 use Rattle.bp_layout.specs.Words.{Image}
 use Rattle.bp_layout.proofs.Paths.{LastStep, last_step}
-use Rattle.bp_plain.specs.PlainTree.{FileTree, IsFileTree, IsPathMap, PathMap, is_one}
+use Rattle.bp_plain.specs.PlainTree.{FileTree, IsFileTree, IsPathMap, PathMap}
 use Rattle.bp_plain.specs.Stands.{Shows, ShowsSnapshot, Stands}
 use Rattle.bp_plain.proofs.Kernels.{are_one-back, are_one-self}
 

@@ -1,5 +1,5 @@
 -- A formatted image stands for the root directory alone.
-use Rattle.std.proofs.Common.{◌≡◌, ℕ, ◌*◌, ◌≤◌, [], ◌∷◌, length, true, false, Option, None, Some, option_map, refl, sym, ◌∙◌, ap}
+use Rattle.std.proofs.Common.{◌≡◌, ℕ, ◌*◌, ◌≤◌, [], ◌∷◌, length, Option, None, Some, option_map, refl, sym, ◌∙◌, ap}
 use Rattle.std.specs.FinMap.{get, empty, get-empty, get-insert}
 use Rattle.std.specs.FinSet.{contains-empty}
 use Rattle.bp_limits.specs.declared.version.Version.{Version}

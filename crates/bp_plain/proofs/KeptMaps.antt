@@ -1,5 +1,5 @@
 -- The maps that a program keeps: what each change makes of one, and that it may be kept.
-use Rattle.std.proofs.Common.{◌≡◌, ◌≢◌, ◌<◌, ◌≤◌, ◌+◌, ℕ, List, [], Option, None, Some, option_map, refl, sym, ◌∙◌, ap, subst, false, true, arith}
+use Rattle.std.proofs.Common.{◌≡◌, ◌≢◌, ◌<◌, ◌+◌, ℕ, List, [], Option, None, Some, option_map, sym, ◌∙◌, ap, subst, false, true, arith}
 use Rattle.std.specs.FinMap.{get, insert, remove}
 use Rattle.bp_layout.specs.Below.{same_path}
 use Rattle.bp_layout.specs.Lookup.{Path, Node}
@@ -10,10 +10,10 @@ use Rattle.bp_plain.specs.declared.trees.maps.FileMap.TheInside.{Inside}
 use Rattle.bp_plain.specs.Numbered.{Numbered, NumberedFiles, map_of, number_at, number_in, plain_node, plain_nodes, root_alone}
 use Rattle.bp_plain.specs.Numbered.Numbered.{directory, numbered_file}
 use Rattle.bp_plain.specs.Plain.{file_refusal, is_empty_dir, is_root_path, move_refusal, moved, new_refusal, with_content, with_dir, with_file, with_moved, with_name, with_nothing}
-use Rattle.bp_plain.specs.PlainTree.{Nodes, PathMap}
+use Rattle.bp_plain.specs.PlainTree.{PathMap}
 use Rattle.bp_plain.specs.SeenMap.{IsKept, map_seen}
 use Rattle.bp_plain.specs.SeenTree.{HasNoneBelow, IsRooted}
-use Rattle.bp_plain.proofs.MapLaws.{AreBelow, below_moved, below_more, below_put, below_set, below_taken, content_set, dir_made, file_made, linked_made, no_content_set, path_taken, paths_moved, root_below, root_rooted, rooted_set}
+use Rattle.bp_plain.proofs.MapLaws.{AreBelow, below_moved, below_more, below_put, below_set, below_taken, content_set, dir_made, file_made, linked_made, path_taken, paths_moved, root_below, root_rooted, rooted_set}
 use Rattle.bp_plain.proofs.Numbers.{get-plain, plain-moved, plain-put, plain-taken}
 use Rattle.bp_plain.proofs.Rooted.{IsNew, Moves, empty_below, file_below, file_there, moves_there, new_there, not_root_path, rooted_moved, rooted_put, rooted_taken}
 

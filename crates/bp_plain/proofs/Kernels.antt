@@ -431,4 +431,3 @@ module _ (label : Path → Option ℕ) where
       go a b None e y f = rw e (drop (any_path a paths))
       go a b (Some i) e None f = rw (e, f) (drop (any_path a paths))
       go a b (Some i) e (Some j) f = rw (all a i e, all b j f) (keep (are_one (label a) (label b)))
-

@@ -1,18 +1,15 @@
 -- How many paths a file has: as many as there are entries with its number.
-use Rattle.std.proofs.Common.{◌≡◌, ◌+◌, ◌==◌, ◌&&◌, ◌||◌, ℕ, List, [], ◌∷◌, length, map, suc, Bool, true, false, cond, Option, None, Some, if◌then◌else◌, arith, refl, sym, ◌∙◌, ap, ap₂, true≢false, add-one}
+use Rattle.std.proofs.Common.{◌≡◌, ◌+◌, ◌||◌, ℕ, List, [], ◌∷◌, length, map, suc, Bool, true, false, cond, None, Some, if◌then◌else◌, arith, refl, sym, ◌∙◌, ap, ap₂, add-one}
 use lib.Dec.{T}
 use Rattle.std.specs.List.{list_any}
 use Rattle.std.specs.Ordering.{eq_by_cmp, is_eq, is_lt}
-use Rattle.std.specs.declared.cmp.Ordering.{Ordering}
-use Rattle.std.specs.declared.cmp.Ordering.TheVariants.{Less}
-use Rattle.std.specs.FinMap.{entries, entries_sorted, get, get-entries}
+use Rattle.std.specs.FinMap.{entries, entries_sorted, get-entries}
 use Rattle.std.specs.FinMap.Entries.{below_all, find, is_sorted}
 use Rattle.std.specs.FinSet.{contains, contains-from_list, from_list, len, len-empty, len-insert, same_set}
 use Rattle.bp_layout.specs.Below.{same_path}
 use Rattle.bp_layout.specs.Lookup.{Path, are_one}
-use Rattle.bp_layout.proofs.Below.{same_path-is, same_path-self}
-use Rattle.bp_plain.specs.Kernels.{IsKernel}
-use Rattle.bp_plain.specs.Numbered.{Numbered, NumberedFiles, has_number, map_of, number_at, number_in, path_if, paths_numbered}
+use Rattle.bp_layout.proofs.Below.{same_path-is}
+use Rattle.bp_plain.specs.Numbered.{Numbered, NumberedFiles, has_number, map_of, number_at, number_in, paths_numbered}
 use Rattle.bp_plain.specs.Numbered.Numbered.{directory, numbered_file}
 use Rattle.bp_plain.specs.Plain.{path_count, paths_of}
 use Rattle.bp_plain.specs.PlainTree.{One, is_one, path_cmp}
@@ -111,6 +108,6 @@ pub count_step : (id : ℕ) (e : Vec (ArrayVec ℕ) × Kept) (rest left : List (
     before + length (paths_numbered id (map entry_kept left)) ≡ whole → after + length (paths_numbered id (map entry_kept rest)) ≡ whole
 count_step id e rest left before after whole holds is has made so_far =
     let more : length (paths_numbered id (map entry_kept left)) ≡ cond (has_number id (numbered e.1)) 1 0 + length (paths_numbered id (map entry_kept rest)) =
-        ap (λ es. length (paths_numbered id (map entry_kept es))) is ∙ count_more id (entry_kept e) (map entry_kept rest) in
-    let one : (if holds then 1 else 0) ≡ cond (has_number id (numbered e.1)) 1 0 = ap (λ b. cond b 1 0) has in
+    ap (λ es. length (paths_numbered id (map entry_kept es))) is ∙ count_more id (entry_kept e) (map entry_kept rest) in
+    let one : ◌≡◌ {A = ℕ} (if holds then 1 else 0) (cond (has_number id (numbered e.1)) 1 0) = ap (λ (b : Bool). if b then 1 else 0) has in
     omega (arith, more, one, made, so_far)

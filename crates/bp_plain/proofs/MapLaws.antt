@@ -1,6 +1,5 @@
 -- What each change of files with numbers makes of the map that they stand for.
-use Rattle.std.proofs.Common.{◌≡◌, ◌≢◌, ◌<◌, ◌==◌, ◌+◌, ◌||◌, ℕ, List, [], ◌∷◌, ◌++◌, Bool, true, false, cond, Option, None, Some, option_and_then, option_map, if◌then◌else◌, refl, sym, ◌∙◌, ap, ap₂, subst, true≢false, arith}
-use Rattle.std.proofs.lemmas.Bool.{eqb-true}
+use Rattle.std.proofs.Common.{◌≡◌, ◌≢◌, ◌<◌, ◌==◌, ◌+◌, ◌||◌, ℕ, List, [], ◌∷◌, ◌++◌, Bool, true, false, cond, Option, None, Some, option_and_then, option_map, if◌then◌else◌, refl, sym, ◌∙◌, ap, true≢false, arith}
 use Rattle.std.specs.FinMap as finite
 use Rattle.std.specs.FinMap.{get, get-empty, insert, remove}
 use Rattle.std.specs.FinSet.{contains-empty}
@@ -11,13 +10,12 @@ use Rattle.bp_layout.specs.Lookup.Node.{dir, file}
 use Rattle.bp_layout.proofs.Below.{same_path-self}
 use Rattle.bp_plain.specs.Changed.{changed, changed_files, with_bytes_in}
 use Rattle.bp_plain.specs.declared.trees.entries.Change.{Change}
-use Rattle.bp_plain.specs.Kernels.{IsKernel}
 use Rattle.bp_plain.specs.Numbered.{Numbered, NumberedFiles, map_of, number_at, number_in, plain_node, plain_nodes, root_alone}
 use Rattle.bp_plain.specs.Numbered.Numbered.{directory, numbered_file}
-use Rattle.bp_plain.specs.Plain.{alone, bytes_at, bytes_in, moved, paths_of, with_bytes_at, with_content, with_dir, with_file, with_moved, with_name, with_nothing}
-use Rattle.bp_plain.specs.PlainTree.{Nodes, One, PathMap, empty_map, pair_cmp, path_cmp}
-use Rattle.bp_plain.specs.SeenTree.{HasNoneBelow, IsRooted}
-use Rattle.bp_plain.proofs.Kernels.{any_path, are_one-back, before_move, get-with_bytes_at, kernel_alone, kernel_linked, kernel_moved, kernel_same, kernel_without, moved_from, paths_of-any}
+use Rattle.bp_plain.specs.Plain.{bytes_in, moved, paths_of, with_bytes_at, with_content, with_dir, with_file, with_moved, with_name, with_nothing}
+use Rattle.bp_plain.specs.PlainTree.{Nodes, PathMap, empty_map, pair_cmp, path_cmp}
+use Rattle.bp_plain.specs.SeenTree.{IsRooted}
+use Rattle.bp_plain.proofs.Kernels.{any_path, are_one-back, before_move, get-with_bytes_at, kernel_alone, kernel_linked, kernel_moved, kernel_same, kernel_without, paths_of-any}
 use Rattle.bp_plain.proofs.Moved.{after_move, get-moved}
 use Rattle.bp_plain.proofs.Numbers.{Case, case_of, get-each, get-plain, map_is, nothing_there, pairs_of, plain-moved, plain-put, plain-taken, put_elsewhere, put_there, same_nodes, taken_elsewhere, taken_there}
 use Rattle.bp_plain.proofs.Numbers.Case.{same, other}
@@ -114,10 +112,10 @@ module _ (files : NumberedFiles) (change : Change) (id : ℕ) (bytes : List ℕ)
   content_set p is =
       map_is (changed_files change files) (with_content (map_of files) p bytes)
       (same_nodes _ _ (λ q.
-          plain_at q ∙ at q (get files q) refl
-          ∙ sym (get-with_bytes_at (paths_of (map_of files).one p) bytes (plain_nodes files) q
-          ∙ ap (λ b. cond b (Some (file bytes)) (get (plain_nodes files) q))
-          (paths_of-any (map_of files).one p q ∙ (pairs_of files).each p q ∙ ap (λ x. are_one x (number_at files q)) is))))
+      plain_at q ∙ at q (get files q) refl
+      ∙ sym (get-with_bytes_at (paths_of (map_of files).one p) bytes (plain_nodes files) q
+      ∙ ap (λ b. cond b (Some (file bytes)) (get (plain_nodes files) q))
+      (paths_of-any (map_of files).one p q ∙ (pairs_of files).each p q ∙ ap (λ x. are_one x (number_at files q)) is))))
       (kernel_same (number_at files) (number_at (changed_files change files)) (map_of files).one numbers_stay (pairs_of files))
     where
       at : (q : Path) (o : Option Numbered) → get files q ≡ o → option_map plain_node (option_map (with_bytes_in id bytes) (get files q)) ≡ cond (are_one (Some id) (number_at files q)) (Some (file bytes)) (get (plain_nodes files) q)
@@ -206,7 +204,7 @@ root_rooted = record {
     at : (path : Path) (name : Name) (node : Node) → get (plain_nodes root_alone) (path ++ name ∷ []) ≡ Some node → get (plain_nodes root_alone) path ≡ Some dir
     at path name node e =
         let nothing : get (plain_nodes root_alone) (path ++ name ∷ []) ≡ None =
-            get-plain root_alone (path ++ name ∷ []) ∙ ap (option_map plain_node) (put_elsewhere finite.empty [] directory (path ++ name ∷ []) (not_empty_path path name) ∙ get-empty path_cmp (path ++ name ∷ [])) in
+        get-plain root_alone (path ++ name ∷ []) ∙ ap (option_map plain_node) (put_elsewhere finite.empty [] directory (path ++ name ∷ []) (not_empty_path path name) ∙ get-empty path_cmp (path ++ name ∷ [])) in
         let wrong : ◌≡◌ {A = Option Node} None (Some node) = sym nothing ∙ e in absurd (cc)
 
 pub root_below : (next : ℕ) → AreBelow root_alone next

@@ -1,27 +1,22 @@
 -- Files with numbers against the map that they stand for.
-use Rattle.std.proofs.Common.{◌≡◌, ◌≢◌, ◌<◌, ◌==◌, ◌&&◌, ◌||◌, ℕ, List, [], ◌∷◌, ◌++◌, Bool, true, false, cond, map, Option, None, Some, is_some, option_and_then, option_map, if◌then◌else◌, refl, sym, ◌∙◌, ap, ap₂, subst, true≢false}
-use Rattle.std.proofs.lemmas.Bool.{eqb-true}
+use Rattle.std.proofs.Common.{◌≡◌, ◌≢◌, ◌&&◌, ◌||◌, ℕ, List, [], ◌∷◌, Bool, true, false, map, Option, None, Some, is_some, option_map, refl, sym, ◌∙◌, ap, ap₂, subst}
 use lib.Dec.{T}
 use Rattle.std.specs.List.{filter_map, list_any}
 use Rattle.std.specs.Ordering.{eq_by_cmp, is_lt}
 use Rattle.std.specs.Cmp.{eq_by_cmp_equiv}
 use Rattle.std.specs.FinMap as finite
-use Rattle.std.specs.FinMap.{FinMap, contains_key-keys, entries, entries-from_sorted, entries_sorted, from_sorted, get, get-entries, get-from_entries, get-from_sorted, get-insert, get-remove, insert, remove, same_map}
+use Rattle.std.specs.FinMap.{FinMap, contains_key-keys, entries, entries-from_sorted, entries_sorted, get, get-entries, get-from_entries, get-from_sorted, get-insert, get-remove, insert, remove, same_map}
 use Rattle.std.specs.FinMap.Entries.{below_all, find, is_sorted}
-use Rattle.bp_layout.specs.Below.{rest_below, same_path}
-use Rattle.bp_layout.specs.Directory.{Name}
-use Rattle.bp_layout.specs.Lookup.{Path, Node, are_one}
-use Rattle.bp_layout.specs.Lookup.Node.{dir, file}
-use Rattle.bp_plain.specs.Changed.{changed, changed_files, with_bytes_in}
+use Rattle.bp_layout.specs.Below.{same_path}
+use Rattle.bp_layout.specs.Lookup.{Path, Node}
+use Rattle.bp_plain.specs.Changed.{changed, changed_files}
 use Rattle.bp_plain.specs.declared.trees.entries.Change.{Change}
-use Rattle.bp_plain.specs.declared.trees.entries.Change.TheVariants.{Nothing, Content, Moved}
+use Rattle.bp_plain.specs.declared.trees.entries.Change.TheVariants.{Nothing}
 use Rattle.bp_plain.specs.Kernels.{IsKernel}
 use Rattle.bp_plain.specs.Numbered.{Numbered, NumberedFiles, map_of, number_at, number_in, plain_entry, plain_node, plain_nodes}
-use Rattle.bp_plain.specs.Numbered.Numbered.{directory, numbered_file}
-use Rattle.bp_plain.specs.Plain.{moved, moved_entry, moved_path, paths_of, with_bytes_at, with_content}
-use Rattle.bp_plain.specs.PlainTree.{Nodes, One, PathMap, path_cmp}
-use Rattle.bp_plain.proofs.Kernels.{any_path, are_one-back, before_move, get-with_bytes_at, kernel_of, kernel_once, paths_of-any, same_by_cmp}
-use Rattle.bp_plain.proofs.Moved.{get-moved}
+use Rattle.bp_plain.specs.Plain.{moved, moved_entry, moved_path}
+use Rattle.bp_plain.specs.PlainTree.{Nodes, PathMap, path_cmp}
+use Rattle.bp_plain.proofs.Kernels.{any_path, kernel_of, kernel_once, same_by_cmp}
 use Rattle.bp_plain.proofs.PathOrder.{other_path_from, path_cmp-IsAntisymmetric, path_cmp-IsTotalOrder, same_path_from}
 
 -- ---- maps by their paths

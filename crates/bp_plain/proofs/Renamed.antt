@@ -4,7 +4,7 @@ use Rattle.std.proofs.lemmas.List.{take_more, map-append}
 use Rattle.std.specs.Cmp.Lexicographic.{pointwise}
 use Rattle.std.specs.List.{filter_map}
 use Rattle.std.specs.Global.{Vec}
-use Rattle.std.specs.FinMap.{empty, from_entries, insert}
+use Rattle.std.specs.FinMap.{empty, from_entries}
 use Rattle.arrayvec.specs.ArrayVec.{ArrayVec}
 use Rattle.bp_layout.specs.Below.{same_path, rest_below}
 use Rattle.bp_layout.specs.Lookup.{Path}

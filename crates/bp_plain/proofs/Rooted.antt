@@ -1,5 +1,5 @@
 -- Nodes whose root is a directory, as is the parent of each other path: what each call keeps of it.
-use Rattle.std.proofs.Common.{◌≡◌, ◌≢◌, ◌==◌, ◌&&◌, ℕ, List, [], ◌∷◌, ◌++◌, length, suc, length-append, Bool, true, false, not, Option, None, Some, is_some, option_map, refl, sym, ◌∙◌, ap, ap₂, subst, true≢false, append-nil, append_assoc, arith}
+use Rattle.std.proofs.Common.{◌≡◌, ◌≢◌, ◌&&◌, ℕ, List, [], ◌∷◌, ◌++◌, length, suc, length-append, Bool, true, false, not, Option, None, Some, is_some, option_map, refl, sym, ◌∙◌, ap, true≢false, append-nil, append_assoc, arith}
 use Rattle.std.proofs.lemmas.Bool.{eqb-true}
 use Rattle.std.specs.List.{filter_map}
 use Rattle.std.specs.Option.{is_none}
@@ -19,7 +19,7 @@ use Rattle.bp_plain.specs.Plain.{first, file_refusal, first_refusal_from, is_a_d
 use Rattle.bp_plain.specs.PlainTree.{Nodes, path_cmp}
 use Rattle.bp_plain.specs.SeenTree.{HasNoneBelow, IsRooted}
 use Rattle.bp_plain.proofs.Moved.{after_move, get-moved}
-use Rattle.bp_plain.proofs.Numbers.{Case, case_of, put_elsewhere, put_there, taken_elsewhere, taken_there}
+use Rattle.bp_plain.proofs.Numbers.{Case, case_of, put_elsewhere, taken_elsewhere, taken_there}
 use Rattle.bp_plain.proofs.Numbers.Case.{same, other}
 use Rattle.bp_plain.proofs.PathOrder.{same_path_from}
 

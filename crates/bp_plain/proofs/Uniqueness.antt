@@ -1,8 +1,8 @@
 -- An image stands for at most one tree.
-use Rattle.std.proofs.Common.{◌≡◌, Bool, true, false, true≢false, Option, None, Some, refl, sym, ◌∙◌, ap}
+use Rattle.std.proofs.Common.{◌≡◌, true≢false, Option, None, Some, refl, sym, ◌∙◌, ap}
 use Rattle.std.specs.FinMap.{same_map}
 use Rattle.bp_layout.specs.Lookup.{file_at}
-use Rattle.bp_layout.specs.Trees.{has_snapshot, snapshot_of}
+use Rattle.bp_layout.specs.Trees.{snapshot_of}
 use Rattle.bp_layout.specs.Words.{Image}
 use Rattle.bp_plain.specs.PlainTree.{FileTree, PathMap}
 use Rattle.bp_plain.specs.Stands.{Shows, ShowsSnapshot, Stands}

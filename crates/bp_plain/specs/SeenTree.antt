@@ -1,5 +1,5 @@
 -- What contracts see of a plain tree that a program keeps.
-use Rattle.std.specs.Prelude.{◌≡◌, ◌≢◌, ◌<◌, ◌++◌, ℕ, List, [], ◌∷◌, map, true, Option, None, Some, if◌then◌else◌}
+use Rattle.std.specs.Prelude.{◌≡◌, ◌++◌, ℕ, List, [], ◌∷◌, map, true, Option, None, Some, if◌then◌else◌}
 use Rattle.std.specs.List.{list_all}
 use Rattle.std.specs.Global.{Vec}
 use Rattle.std.specs.FinMap.{from_sorted, get}
@@ -7,7 +7,7 @@ use Rattle.std.specs.FinMap.Entries.{is_sorted}
 use Rattle.arrayvec.specs.ArrayVec.{ArrayVec}
 use Rattle.bp_layout.specs.Directory.{Name}
 use Rattle.bp_layout.specs.Lookup.{Path, Node}
-use Rattle.bp_layout.specs.Lookup.Node.{dir, file}
+use Rattle.bp_layout.specs.Lookup.Node.{dir}
 use Rattle.bp_layout.specs.PathText.{is_name}
 use Rattle.bp_plain.specs.declared.trees.entries.Node.{Node as Kept}
 use Rattle.bp_plain.specs.declared.trees.entries.Node.TheVariants as kept

@@ -15,6 +15,10 @@ pub record Shows (image : Image) (map : PathMap) : Type 0 where
   pub shows : (path : Path) → get map.nodes path ≡ shown image path
   pub one : (p q : Path) → is_one map.one p q ≡ find_one image p q
 
+-- the first tree of the image is shown by a map, and by no other
+abbrev pub ShowsOne : Image → Type 0
+ShowsOne image = (map : PathMap) × Shows image map × ((other : PathMap) → Shows image other → map ≡ other)
+
 -- the image has no snapshot, or this one
 abbrev pub ShowsSnapshot : Image → Option PathMap → Type 0
 ShowsSnapshot image None = has_snapshot image ≡ false

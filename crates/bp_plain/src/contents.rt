@@ -28,7 +28,12 @@ pub(crate) fn ends_too_late(version: Version, off: u64, new: &[u8]) -> bool
 }
 
 /// The old bytes with the new ones laid over them, and 0 between.
-pub(crate) fn written(alloc: Global, old: &[u8], off: usize, new: &[u8]) -> Result<Vec<u8>, AllocError>
+pub(crate) fn written(
+    alloc: Global,
+    old: &[u8],
+    off: usize,
+    new: &[u8],
+) -> Result<Vec<u8>, AllocError>
     ensures { IfOk result (λ content. content.items ≡ plain.written old.now off new.now) }
 {
     let mut content = resized(alloc, old, off)?;

@@ -2,16 +2,24 @@
 
 ghost use Rattle.bp_layout.specs.Format.{formatted};
 ghost use Rattle.bp_limits.specs.Limits.{max_blocks, min_blocks};
-ghost use Rattle.bp_layout.specs.Whole.{IsFileSystem};
+ghost use Rattle.bp_layout.specs.Trees.{has_snapshot, snapshot_of};
+ghost use Rattle.bp_layout.specs.WellFormed.{IsWellFormed};
 ghost use Rattle.bp_plain.specs.PlainTree.{FileTree, IsFileTree, empty_tree};
-ghost use Rattle.bp_plain.specs.Stands.{Stands, StandsForOne};
-ghost use Rattle.std.specs.Prelude.{◌*◌, ◌≡◌, ◌≤◌, length};
+ghost use Rattle.bp_plain.specs.Stands.{ShowsOne, Stands, StandsForOne};
+ghost use Rattle.std.specs.Prelude.{◌*◌, ◌≡◌, ◌≤◌, length, true};
 
 use bp_limits::Version;
 
-/// An image that is a file system stands for exactly one plain tree.
+/// A well-formed image shows exactly one map of paths.
+pub fn one_map(_image: &[u64])
+    requires { IsWellFormed _image.now }
+    ensures { ShowsOne _image.now }
+{}
+
+/// A well-formed image whose snapshot, where it has one, is well formed too stands for exactly one plain tree.
 pub fn one_tree(_image: &[u64])
-    requires { IsFileSystem _image.now }
+    requires first { IsWellFormed _image.now }
+    requires second { has_snapshot _image.now ≡ true → IsWellFormed (snapshot_of _image.now) }
     ensures { StandsForOne _image.now }
 {}
 

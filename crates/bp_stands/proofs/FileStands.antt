@@ -1,26 +1,20 @@
 -- The plain tree of an image in which a file has other bytes: at each of its paths.
-use Rattle.std.proofs.Common.{◌≡◌, ◌⊎◌, ℕ, List, [], ◌∷◌, Bool, true, false, cond, ap, Option, None, Some, option_and_then, ◌==◌, ◌||◌, refl, sym, ◌∙◌, inl, inr}
+use Rattle.std.proofs.Common.{◌≡◌, ◌⊎◌, ℕ, List, Bool, true, false, cond, ap, Option, None, Some, option_and_then, ◌==◌, refl, sym, ◌∙◌, inl, inr}
 use Rattle.std.proofs.lemmas.Bool.{cases_eq, eqb-false, ne_eqb}
-use Rattle.std.specs.FinMap.{get, get-insert}
-use Rattle.std.specs.Ordering.{eq_by_cmp}
-use Rattle.std.specs.Cmp.{Equal-is, eq_by_cmp_equiv}
-use Rattle.std.proofs.Common.{true≢false}
+use Rattle.std.specs.FinMap.{get}
 use Rattle.bp_layout.specs.Words.{Image}
 use Rattle.bp_layout.specs.Tree.{content}
 use Rattle.bp_layout.specs.Inode.{kind_of, root_of, size_of}
 use Rattle.bp_layout.specs.Lookup.{Path, are_one, file_at, if_file, lookup, shown}
 use Rattle.bp_layout.specs.Lookup.Node.{file}
-use Rattle.bp_layout.specs.Below.{same_path}
-use Rattle.bp_layout.proofs.Below.{same_path-self, same_path-is}
 use Rattle.bp_layout.specs.WellFormed.{IsWellFormed}
 use Rattle.bp_layout.proofs.View.{find_one-same}
 use Rattle.bp_changes.specs.Effects.{ChangesFile}
 use Rattle.bp_changes.proofs.ChangesFile.{directories-same, well_formed-same, shown_file, shown_other}
-use Rattle.bp_plain.specs.Plain.{paths_of, with_bytes_at, with_content}
-use Rattle.bp_plain.specs.PlainTree.{Nodes, PathMap, path_cmp}
+use Rattle.bp_plain.specs.Plain.{paths_of, with_content}
+use Rattle.bp_plain.specs.PlainTree.{PathMap}
 use Rattle.bp_plain.specs.Stands.{Shows}
 use Rattle.bp_plain.proofs.Kernels.{get-with_bytes_at, paths_of-any}
-use Rattle.bp_plain.proofs.PathOrder.{path_cmp-IsAntisymmetric, path_cmp-IsTotalOrder}
 
 module _ (old new : Image) (x : ℕ) (wf : IsWellFormed old) (changes : ChangesFile old new x) (path : Path) (at : lookup old path ≡ Some x) where
   abbrev bytes : List ℕ

@@ -1,5 +1,6 @@
--- A snapshot is made: two words of the superblock that nobody reads get the words that tell of the inode file.
-use Rattle.std.proofs.Common.{◌≡◌, ◌≢◌, ℕ, ◌<◌, ◌≤◌, length, set, true, ◌&&◌, nat_lt, Some, refl, sym, ◌∙◌, ap, subst, arith, get_or-set_same, get_or-set_other}
+-- A snapshot is made: two words of the superblock that nobody reads get the words that tell of the inode file. It goes
+-- once the second of them is 0.
+use Rattle.std.proofs.Common.{◌≡◌, ◌≢◌, ℕ, ◌<◌, ◌≤◌, length, set, Bool, true, false, ◌&&◌, nat_lt, None, Some, refl, sym, ◌∙◌, ap, subst, arith, get_or-set_same, get_or-set_other}
 use Rattle.std.proofs.lemmas.List.{length-set, set-get_or}
 use Rattle.std.proofs.lemmas.Bool.{lt-ltb}
 use Rattle.bp_layout.specs.Words.{Image, word}
@@ -14,7 +15,7 @@ use Rattle.bp_plain.specs.PlainTree.{FileTree, PathMap}
 use Rattle.bp_plain.specs.Stands.{Shows, Stands}
 use Rattle.bp_layout.specs.Formatted.{version_of}
 use Rattle.bp_limits.specs.declared.version.Version.TheVariants.{Two}
-use Rattle.bp_limits.specs.Limits.{is_two, version_at}
+use Rattle.bp_limits.specs.Limits.{is_two, super_second_size, version_at}
 
 -- no live word stands in the superblock behind the four words of the first tree
 pub idle-harmless : (image : Image) (place value : ℕ) → 4 ≤ place → place < 512 → IsHarmless image place value
@@ -29,16 +30,23 @@ idle-harmless image place value low high =
       bytes = λ i o reached kind below stands. absurd (none _ _ _ stands);
     }
 
+same_shows : (old new : Image) → Same old new → (map : PathMap) → Shows old map → Shows new map
+same_shows old new same map shows = record {
+  well_formed = same.new_well_formed;
+  shows = λ path. shows.shows path ∙ sym (same.shows path);
+  one = λ p q. shows.one p q ∙ sym (same.one p q);
+}
+
+agrees_self : (image : Image) → Agrees image image
+agrees_self image = record { whole = refl; each = λ place. harmless_here image place }
+
 module _ (old : Image) (long : 6 ≤ length old) (wf : IsWellFormed old) where
   abbrev snapped : Image
   snapped = set (set old 4 (word old 2)) 5 (word old 3)
 
-  agrees_self : Agrees old old
-  agrees_self = record { whole = refl; each = λ place. harmless_here old place }
-
   snapped_agrees : Agrees old snapped
   snapped_agrees = agrees-store old (set old 4 (word old 2)) 5 (word old 3) (idle-harmless old 5 (word old 3) (omega arith) (omega arith))
-      (agrees-store old old 4 (word old 2) (idle-harmless old 4 (word old 2) (omega arith) (omega arith)) agrees_self)
+      (agrees-store old old 4 (word old 2) (idle-harmless old 4 (word old 2) (omega arith) (omega arith)) (agrees_self old))
 
   -- the first tree means what it meant
   pub snapped_same : Same old snapped
@@ -60,19 +68,12 @@ module _ (old : Image) (long : 6 ≤ length old) (wf : IsWellFormed old) where
       let three : word snapped 5 ≡ word snapped 3 = at_five ∙ sym (at 3 (λ e. omega (arith, e)) (λ e. omega (arith, e))) in
       ap (λ w. set (set snapped 2 w) 3 (word snapped 5)) two ∙ ap (λ xs. set xs 3 (word snapped 5)) (set-get_or snapped 2 0) ∙ ap (λ w. set snapped 3 w) three ∙ set-get_or snapped 3 0
 
-  snapped_shows : (map : PathMap) → Shows old map → Shows snapped map
-  snapped_shows map shows = record {
-    well_formed = snapped_same.new_well_formed;
-    shows = λ path. shows.shows path ∙ sym (snapped_same.shows path);
-    one = λ p q. shows.one p q ∙ sym (snapped_same.one p q);
-  }
-
   -- in version 2 the tree has as its snapshot what it is now
   pub snap_stands : version_of old ≡ Two → (tree : FileTree) → Stands old tree → Stands snapped (record tree { snap = Some tree.now })
   snap_stands two tree stands = record {
     version = stands.version ∙ sym version_stays;
-    now = snapped_shows tree.now stands.now;
-    snap = (there, subst (λ image. Shows image tree.now) (sym snapshot_is) (snapped_shows tree.now stands.now));
+    now = same_shows old snapped snapped_same tree.now stands.now;
+    snap = (there, subst (λ image. Shows image tree.now) (sym snapshot_is) (same_shows old snapped snapped_same tree.now stands.now));
   }
     where
       version_stays : version_of snapped ≡ version_of old
@@ -83,3 +84,26 @@ module _ (old : Image) (long : 6 ≤ length old) (wf : IsWellFormed old) where
 
       there : has_snapshot snapped ≡ true
       there = (λ i. is_two ((version_stays ∙ two) i) && nat_lt 0 (at_five i)) ∙ some (word old 3) wf.some_inodes
+
+module _ (old : Image) (long : 6 ≤ length old) (wf : IsWellFormed old) where
+  abbrev unsnapped : Image
+  unsnapped = set old super_second_size 0
+
+  -- the first tree means what it meant
+  pub unsnapped_same : Same old unsnapped
+  unsnapped_same = same-by_agreement old unsnapped wf (agrees-store old old 5 0 (idle-harmless old 5 0 (omega arith) (omega arith)) (agrees_self old))
+
+  -- the tree has no snapshot any more
+  pub unsnap_stands : (tree : FileTree) → Stands old tree → Stands unsnapped (record tree { snap = None })
+  unsnap_stands tree stands = record {
+    version = stands.version ∙ sym version_stays;
+    now = same_shows old unsnapped unsnapped_same tree.now stands.now;
+    snap = ap (λ w. is_two (version_of unsnapped) && nat_lt 0 w) (get_or-set_same old 5 0 0 (omega (arith, long))) ∙ none (is_two (version_of unsnapped));
+  }
+    where
+      version_stays : version_of unsnapped ≡ version_of old
+      version_stays = ap version_at (get_or-set_other old 5 0 0 0 (λ e. omega (arith, e)))
+
+      none : (b : Bool) → (b && nat_lt 0 0) ≡ false
+      none true = refl
+      none false = refl

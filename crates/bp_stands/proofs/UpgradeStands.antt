@@ -1,22 +1,15 @@
 -- The plain tree of an image that was upgraded.
-use Rattle.std.proofs.Common.{◌≡◌, ℕ, ◌*◌, ◌≤◌, [], ◌∷◌, length, true, false, Option, None, Some, option_map, refl, sym, ◌∙◌, ap}
-use Rattle.std.specs.FinMap.{get, empty, get-empty, get-insert}
-use Rattle.std.specs.FinSet.{contains-empty}
-use Rattle.bp_limits.specs.declared.version.Version.{Version}
+use Rattle.std.proofs.Common.{◌≡◌, true, false, Option, None, Some, sym, ◌∙◌}
 use Rattle.bp_limits.specs.declared.version.Version.TheVariants.{One, Two}
 use Rattle.bp_layout.specs.Words.{Image}
-use Rattle.bp_layout.specs.Lookup.{Path, Node, are_one, file_at, lookup, node_of, shown}
-use Rattle.bp_layout.specs.Lookup.Node.{dir}
-use Rattle.bp_layout.specs.Format.{formatted, upgraded}
+use Rattle.bp_layout.specs.Format.{upgraded}
 use Rattle.bp_layout.specs.Formatted.{version_of}
 use Rattle.bp_layout.specs.Trees.{has_snapshot}
 use Rattle.bp_layout.specs.WellFormed.{IsWellFormed}
-use Rattle.bp_layout.proofs.Format.{formatted_file_system, formatted_version, formatted_well_formed, shown_formatted_root, shown_formatted_else}
 use Rattle.bp_layout.proofs.NoSecond.{first_has_none, has_none}
 use Rattle.bp_layout.proofs.Upgrade.{upgraded_file_system, upgraded_one, upgraded_shown, upgraded_version, upgraded_well_formed}
-use Rattle.bp_plain.specs.PlainTree.{FileTree, PathMap, empty_map, empty_tree, pair_cmp, path_cmp}
-use Rattle.bp_plain.specs.Stands.{Shows, ShowsSnapshot, Stands}
-use Rattle.bp_plain.proofs.PathOrder.{path_cmp-IsTotalOrder}
+use Rattle.bp_plain.specs.PlainTree.{FileTree, PathMap}
+use Rattle.bp_plain.specs.Stands.{ShowsSnapshot, Stands}
 
 -- an upgrade of version 1 leaves the tree but for its version
 pub upgrade_stands : (image : Image) → version_of image ≡ One → (tree : FileTree) → Stands image tree → Stands (upgraded image) (record tree { version = Two })

@@ -141,11 +141,7 @@ impl Files {
     }
 
     /// The names in a directory with their kinds, in the order of their bytes.
-    pub(super) fn names(
-        &self,
-        alloc: Global,
-        dir: &[Name],
-    ) -> Result<Vec<(Kind, Name)>, AllocError>
+    pub(super) fn names(&self, alloc: Global, dir: &[Name]) -> Result<Vec<(Kind, Name)>, AllocError>
         ensures { IfOk result (λ names. listed names.items ≡ listing (plain_nodes self.now) (names_of dir.now)) }
     {
         let mut names = Vec::new(alloc);

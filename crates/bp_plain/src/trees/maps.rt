@@ -270,7 +270,13 @@ impl FileMap {
     {
         let next = following(self.next)?;
         let content = Vec::new(alloc);
-        self.files.put(path, Node::File { id: self.next, content })?;
+        self.files.put(
+            path,
+            Node::File {
+                id: self.next,
+                content,
+            },
+        )?;
         self.next = next;
         Ok(())
     }
@@ -350,12 +356,7 @@ impl FileMap {
     }
 
     /// Gives the file at a path other bytes, and leaves all as it is where there is none.
-    fn set_content(
-        &mut self,
-        alloc: Global,
-        path: &[Name],
-        bytes: &[u8],
-    ) -> Result<(), AllocError>
+    fn set_content(&mut self, alloc: Global, path: &[Name], bytes: &[u8]) -> Result<(), AllocError>
         ensures set { OnOk result (self.new ≡ plain.with_content self.old (names_of path.now) bytes.now) }
         ensures kept { OnErr result (self.new ≡ self.old) }
     {

@@ -2,7 +2,6 @@ use Rattle.std.proofs.Common.{◌≡◌, None, sym, subst}
 use Rattle.bp_plain.specs.Calls.Call.{create}
 use Rattle.bp_plain.specs.Plain.{new_refusal, refusal}
 use Rattle.bp_plain.specs.PlainTree.{FileTree}
-use Rattle.bp_plain.specs.SeenTree.{names_of}
 use Rattle.bp_plain.proofs.Carried.{on_named}
 use Rattle.bp_plain.proofs.trees.Plain.create.Goals as goal
 

@@ -1,4 +1,4 @@
-use Rattle.std.proofs.Common.{append-nil, sym}
+use Rattle.std.proofs.Common.{sym}
 use Rattle.bp_plain.proofs.PathLaws.{below_none, below_some}
 use Rattle.bp_plain.proofs.trees.entries.moved_path.Goals as goal
 

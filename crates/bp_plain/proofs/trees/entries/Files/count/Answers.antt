@@ -1,4 +1,4 @@
-use Rattle.std.proofs.Common.{◌≡◌, ◌+◌, sym, ◌∙◌, ap, length, map, arith}
+use Rattle.std.proofs.Common.{◌≡◌, sym, ◌∙◌, ap, length, map, arith}
 use Rattle.std.specs.FinMap.{entries}
 use Rattle.bp_plain.specs.Numbered.{paths_numbered}
 use Rattle.bp_plain.specs.SeenTree.{entry_kept}
@@ -14,7 +14,7 @@ loop-node-preserved c =
 pub returns : goal.returns
 returns c =
     let none : length (paths_numbered c.args.id (map entry_kept c.loop-node.node-iterator)) ≡ 0 =
-        ap (λ es. length (paths_numbered c.args.id (map entry_kept es))) c.in-None.ensures.steps.0 in
-    let whole = ap (λ es. length (paths_numbered c.args.id (map entry_kept es))) (c.into_iter-node-iterator.ensures.into_iter_gives ∙ c.iter.ensures.rest)
-        ∙ ap (λ es. length (paths_numbered c.args.id es)) (sym (all_entries c.self.inside.nodes.entries c.self.invariant) ∙ ap entries c.self.view_is) in
+    ap (λ es. length (paths_numbered c.args.id (map entry_kept es))) c.in-None.ensures.steps.0 in
+    let whole = ap (λ es. length (paths_numbered c.args.id (map entry_kept es))) (c.into_iter-node-iterator.ensures.into_iter_gives ∙ c.iter-node-items.ensures.rest)
+    ∙ ap (λ es. length (paths_numbered c.args.id es)) (sym (all_entries c.self.inside.nodes.entries c.self.invariant) ∙ ap entries c.self.view_is) in
     omega (arith, none, whole, c.loop-node.invariant)

@@ -1,11 +1,9 @@
 use Rattle.std.proofs.Common.{◌≡◌, None, sym, ◌∙◌, ap, subst}
 use Rattle.bp_plain.specs.Numbered.{NumberedFiles, map_of}
-use Rattle.bp_plain.specs.Numbered.Numbered.{directory}
 use Rattle.bp_plain.specs.Plain.{new_refusal, with_dir}
 use Rattle.bp_plain.specs.PlainTree.{PathMap}
 use Rattle.bp_plain.specs.SeenTree.{names_of}
-use Rattle.std.specs.FinMap.{insert}
-use Rattle.bp_plain.proofs.KeptMaps.{AreKept, Becomes, keeps, makes_dir}
+use Rattle.bp_plain.proofs.KeptMaps.{AreKept, keeps, makes_dir}
 use Rattle.bp_plain.proofs.trees.maps.FileMap.make_dir.Goals as goal
 
 pub invariant_of-self-2 : goal.invariant_of-self-2

@@ -1,21 +1,8 @@
 -- Blocks that are copied, each to one copy, and pointers to the topmost copies of which any may be stored.
-use Rattle.std.specs.Prelude.{◌≡◌, ◌≢◌, ◌⊎◌, ℕ, ◌+◌, ◌*◌, ◌%◌, ◌<◌, [], ◌∷◌, length, Bool, true, false, ◌&&◌, Option, None, Some, is_some, if◌then◌else◌}
+use Rattle.std.specs.Prelude.{◌≡◌, ◌≢◌, ℕ, ◌+◌, ◌*◌, ◌%◌, ◌<◌, [], ◌∷◌, length, Bool, true, false, ◌&&◌, Option, None, Some, is_some, if◌then◌else◌}
 use Rattle.bp_limits.specs.Limits.{block_size, block_words, super_root}
 use Rattle.bp_layout.specs.Words.{Image, word, block_count}
-use Rattle.bp_shapes.specs.Trail.{Trail, word_on, block_on, place_on, IsSkeleton, LeadsTo}
-
--- as in bp_cow/specs/Committed
-pub record IsCommitted (old new : Image) (Pointer turned : Trail → Type 0) (after : Trail → ℕ) : Type 0 where
-  pub whole : length new ≡ length old
-  pub superblock : (place : ℕ) → place < block_words → place ≢ super_root → word new place ≡ word old place
-  pub skeleton : IsSkeleton new Pointer
-  pub kept : (p : Trail) → Pointer p → (turned p → ⊥) → word_on new p ≡ word_on old p
-  pub bits : (p : Trail) → Pointer p → word_on new p % block_size ≡ word_on old p % block_size
-  pub fresh : (p : Trail) → Pointer p → turned p → (block_on new p ≢ 0) × (LeadsTo old Pointer (block_on new p) → ⊥)
-  pub words : (p : Trail) (slot : ℕ) → Pointer p → slot < block_words → (turned (slot ∷ p) → ⊥)
-      → word_on new (slot ∷ p) ≡ after (slot ∷ p)
-  pub decide : (p : Trail) → turned p ⊎ (turned p → ⊥)
-  pub pointers : (p : Trail) → turned p → Pointer p
+use Rattle.bp_shapes.specs.Trail.{Trail, word_on, block_on, place_on, LeadsTo}
 
 -- a pointer to another block, with its other bits
 abbrev pub pointing_to : ℕ → ℕ → ℕ

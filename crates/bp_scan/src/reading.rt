@@ -52,8 +52,8 @@ fn read_directories<R: Region>(region: &R, work: &mut Scan) -> Result<(), CheckF
     Ok(())
 }
 
-/// Reads all trees of an image that is formatted: puts its free blocks and inodes into the two sets, and counts the names
-/// of its inodes. The answer is an error exactly where a check fails; sets and counts are then of no use.
+/// Reads all trees of an image that is formatted: puts its free blocks and inodes into the two sets, and counts the
+/// names of its inodes. The answer is an error exactly where a check fails; sets and counts are then of no use.
 pub(crate) fn read_trees<R: Region>(region: &R, work: &mut Scan) -> Result<(), CheckFault>
     requires formatted { IsFormatted (current_words (R.memory region.now)) }
     requires unread { IsUnread (current_words (R.memory region.now)) work.old }

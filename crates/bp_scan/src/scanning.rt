@@ -48,8 +48,8 @@ fn read_superblock<R: Region>(region: &R) -> Super
 ///
 /// # Errors
 ///
-/// `NotFormatted` exactly where word 0 is the mark of none; `BadSize` exactly where it is, and word 1 is not the number of
-/// blocks.
+/// `NotFormatted` exactly where word 0 is the mark of none; `BadSize` exactly where it is, and word 1 is not the number
+/// of blocks.
 fn check_superblock<R: Region>(region: &R) -> Result<(), MountFault>
     requires sized { IsSized (current_words (R.memory region.now)) }
     ensures formatted { OnOk result (IsFormatted (current_words (R.memory region.now))) }
@@ -101,7 +101,8 @@ fn scan_with<R: Region>(region: &R, work: &mut Scan) -> Result<Totals, MountFaul
 
 /// Reads the whole image in a region of 8 to 65,536 blocks of 512 words: puts the free blocks and the free inodes into
 /// the sets and the number of names of each inode into the counts, whatever they had, and tells what the image holds in
-/// all. It takes time linear in the words that are in use but for the sort of each directory's names.
+/// all. It takes time linear in the words that are in use and in the room of sets and counts, but for the sort of each
+/// directory's names.
 ///
 /// # Errors
 ///

@@ -9,8 +9,8 @@ use bp_spelling::Spelled;
 /// How many cells are left over where the entries of the greatest directory have three each.
 pub(crate) const SPARE: usize = 256;
 
-/// What a scan works with. At its end the sets of blocks and of inodes have just those that are free, and the counts tell
-/// how many names each inode has.
+/// What a scan works with. At its end the sets of blocks and of inodes have just those that are free, and the counts
+/// tell how many names each inode has.
 #[derive(Drop)]
 pub(crate) struct Scan {
     /// The blocks of no tree that was entered.

@@ -1,6 +1,7 @@
 -- The step of the loop over the entries of a directory, where an entry names an inode that none named before.
-use Rattle.std.proofs.Common.{◌≡◌, ◌≢◌, ◌⊎◌, ℕ, ◌+◌, ◌<◌, ◌≤◌, Bool, true, false, length, refl, sym, ◌∙◌, ap, subst, arith, inl, inr}
+use Rattle.std.proofs.Common.{◌≡◌, ◌≢◌, ◌⊎◌, ℕ, ◌+◌, ◌<◌, ◌≤◌, List, Bool, true, false, length, set, refl, sym, ◌∙◌, ap, subst, arith, inl, inr}
 use Rattle.std.proofs.lemmas.Bool.{cases_eq, cases_lt}
+use Rattle.std.specs.List.{slice_index}
 use Rattle.bp_free.specs.Set.{Set, has, without}
 use Rattle.bp_layout.specs.Words.{Image}
 use Rattle.bp_layout.specs.Inode.{kind_of, root_of, size_of, inode_count}
@@ -9,6 +10,8 @@ use Rattle.bp_layout.specs.Checks.{root_place}
 use Rattle.bp_scan.specs.Scanned.{IsScanned}
 use Rattle.bp_walk.specs.Walk.{TakesTree}
 use Rattle.bp_scan.specs.Progress.{IsEntered, IsDone, NamedBy, IsUnderWay}
+use Rattle.bp_scan.specs.Named.{CountsAmong}
+use Rattle.bp_scan.proofs.Named.{counts_first, counts_more}
 use Rattle.bp_walk.proofs.TakenLaws.{clash}
 use Rattle.bp_scan.proofs.Entering.{IsInode, enter, pass_entry}
 use Rattle.bp_scan.proofs.Readable.{inode_found}
@@ -72,6 +75,12 @@ module _ (image : Image) (all old new inodes todo later : Set) (current slot j :
       inl (entered_more image inodes j i room low (inl d.0), d.1, adds.same i other ∙ d.2, d.3)
   more i s (inr d) = inr (d.0, omega (arith, d.1))
 
+  -- the first entry that names the inode
+  pub entry_counts : (counts : List ℕ) → CountsAmong image (IsDone image inodes todo current slot) counts → CountsAmong image (IsDone image (without inodes j) later current (slot + 1)) (set counts j 1)
+  entry_counts counts are =
+      counts_first image (IsDone image inodes todo current slot) (IsDone image (without inodes j) later current (slot + 1)) current slot j names (λ d. omega (arith, slot_before slot d)) (inr (refl, omega arith))
+      (λ k r h n d. less k r h n d) more counts are (λ k r d n. not_entered (state.scanned.enters k r j d n))
+
   pub entry_step : IsUnderWay image all new (without inodes j) later current (slot + 1)
   entry_step = record {
     scanned = same_scan image More (IsEntered image (without inodes j)) Passed (IsDone image (without inodes j) later current (slot + 1)) all new (λ t e. entered_more image inodes j t room low e)
@@ -126,6 +135,13 @@ module _ (image : Image) (all blocks inodes todo : Set) (current slot j : ℕ) (
   more_again : (i s : ℕ) → IsDone image inodes todo current slot i s → IsDone image inodes todo current (slot + 1) i s
   more_again i s (inl d) = inl d
   more_again i s (inr d) = inr (d.0, omega (arith, d.1))
+
+  -- one entry more that names it
+  pub again_counts : (counts : List ℕ) → CountsAmong image (IsDone image inodes todo current slot) counts →
+      CountsAmong image (IsDone image inodes todo current (slot + 1)) (set counts j (slice_index counts j + 1))
+  again_counts counts are =
+      counts_more image (IsDone image inodes todo current slot) (IsDone image inodes todo current (slot + 1)) current slot j names (λ d. omega (arith, before_again slot d)) (inr (refl, omega arith))
+      (λ k r h n d. less_again k r h n d) more_again counts are
 
   pub again_step : IsUnderWay image all blocks inodes todo current (slot + 1)
   again_step = record {

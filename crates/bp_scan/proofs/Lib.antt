@@ -1,5 +1,6 @@
 pub mod Entering
 pub mod Readable
+pub mod Named
 pub mod ProgressLaws
 pub mod EntryStep
 pub mod Frontier

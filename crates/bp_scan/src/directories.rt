@@ -44,25 +44,32 @@ pub(crate) struct Slot {
     pub named: u64,
 }
 
-/// Checks an entry that names an inode which was entered before: a file may have more names than one.
+/// Reads an entry that names an inode which was entered before: a file may have more names than one.
 fn read_again<R: Region>(
     region: &R,
     directory: Directory,
     slot: Slot,
-    work: &Scan,
+    work: &mut Scan,
 ) -> Result<(), CheckFault>
-    requires inside { IsInside (current_words (R.memory region.now)) work.now directory slot.number }
+    requires inside { IsInside (current_words (R.memory region.now)) work.old directory slot.number }
     requires live { slot.number < directory.tree.size / entry_size }
     requires place { slot.place ≡ entry_place_in (current_words (R.memory region.now)) directory.tree.root slot.number }
     requires named { slot.named ≡ inumber_in (current_words (R.memory region.now)) directory.tree.root slot.number }
     requires some { slot.named ≢ 0 }
     requires there { slot.named < inode_count (current_words (R.memory region.now)) }
-    requires entered { has work.now.inodes slot.named ≡ false }
-    ensures inside { OnOk result (IsInside (current_words (R.memory region.now)) work.now directory (slot.number + 1)) }
+    requires entered { has work.old.inodes slot.named ≡ false }
+    ensures inside { OnOk result (IsInside (current_words (R.memory region.now)) work.new directory (slot.number + 1)) }
+    ensures steps { OnOk result (steps work.new ≤ steps work.old) }
     ensures fault { IfErr result (λ f. Fails (current_words (R.memory region.now)) f.check f.place) }
+    ensures room { HasRoom (current_words (R.memory region.now)) work.new }
 {
-    match get(region, slot.named as u32).kind {
-        Kind::File => Ok(()),
+    let inode = slot.named as u32;
+    match get(region, inode).kind {
+        Kind::File => {
+            let names = work.counts.names(inode);
+            work.counts.set(inode, names + 1);
+            Ok(())
+        }
         Kind::Dir => Err(CheckFault {
             check: Check::InodeTwice,
             place: slot.place,
@@ -102,6 +109,7 @@ fn read_entry<R: Region>(
         return read_again(region, directory, slot, work);
     }
     work.inodes.claim(inode);
+    work.counts.set(inode, 1);
     enter(region, inode, work)
 }
 

@@ -51,13 +51,13 @@ pub returns-clause-inside : goal.returns-clause-inside
 returns-clause-inside g c =
     let image = current_words (g.R.Region.memory c.args.region.now) in
     on_ok_then c.enter.result (λ enters. now_inside image c.args.work.now c.args.directory c.args.slot.number c.requires.inside c.requires.live c.args.slot.named c.requires.named c.if-named-eq0.false
-    (subst (λ x. c.args.slot.named < x / 64) c.inode_file.ensures.size c.if-named-inode_file.false) (sym c.is_free.ensures ∙ c.if-not-is_free.false) c.claim.new.self c.claim.ensures c.enter.new.work c.enter.ensures.room enters) c.enter.ensures.ok
+    (subst (λ x. c.args.slot.named < x / 64) c.inode_file.ensures.size c.if-named-inode_file.false) (sym c.is_free.ensures ∙ c.if-not-is_free.false) c.claim.new.self c.claim.ensures c.set.new.self c.set.ensures c.enter.new.work c.enter.ensures.room enters) c.enter.ensures.ok
 
 pub returns-clause-steps : goal.returns-clause-steps
 returns-clause-steps g c =
     let image = current_words (g.R.Region.memory c.args.region.now) in
     on_ok_then c.enter.result (λ enters. now_less image c.args.work.now c.args.directory c.args.slot.number c.requires.inside c.requires.live c.args.slot.named c.requires.named c.if-named-eq0.false
-    (subst (λ x. c.args.slot.named < x / 64) c.inode_file.ensures.size c.if-named-inode_file.false) (sym c.is_free.ensures ∙ c.if-not-is_free.false) c.claim.new.self c.claim.ensures c.enter.new.work c.enter.ensures.room enters) c.enter.ensures.ok
+    (subst (λ x. c.args.slot.named < x / 64) c.inode_file.ensures.size c.if-named-inode_file.false) (sym c.is_free.ensures ∙ c.if-not-is_free.false) c.claim.new.self c.claim.ensures c.set.new.self c.set.ensures c.enter.new.work c.enter.ensures.room enters) c.enter.ensures.ok
 
 pub returns-clause-fault : goal.returns-clause-fault
 returns-clause-fault g c =

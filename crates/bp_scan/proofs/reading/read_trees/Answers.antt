@@ -1,5 +1,5 @@
 use Rattle.pm_region.specs.Memory.{current_words}
-use Rattle.bp_scan.proofs.Closing.{on_ok_both, all_well_formed, all_free_blocks, all_free_inodes, all_reached}
+use Rattle.bp_scan.proofs.Closing.{on_ok_both, all_well_formed, all_free_blocks, all_free_inodes, all_counts, all_reached}
 use Rattle.std.proofs.lemmas.Result.{err_from_is_err_and}
 use Rattle.bp_layout.specs.Whole.FailsWhole.{first}
 use Rattle.bp_layout.proofs.NoSecond.{alone_file_system}
@@ -20,6 +20,11 @@ pub returns-clause-inodes : goal.returns-clause-inodes
 returns-clause-inodes g c =
     let image = current_words (g.R.Region.memory c.args.region.now) in
     on_ok_both c.read_directories.result (λ reading none. all_free_inodes image c.read_directories.new.work reading none) c.read_directories.ensures.reading c.read_directories.ensures.none_left
+
+pub returns-clause-counts : goal.returns-clause-counts
+returns-clause-counts g c =
+    let image = current_words (g.R.Region.memory c.args.region.now) in
+    on_ok_both c.read_directories.result (λ reading none. all_counts image c.read_directories.new.work reading none) c.read_directories.ensures.reading c.read_directories.ensures.none_left
 
 pub returns-clause-reached : goal.returns-clause-reached
 returns-clause-reached g c =

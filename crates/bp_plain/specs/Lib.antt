@@ -5,6 +5,7 @@ pub mod Refusals
 pub mod Plain
 pub mod Export
 pub mod Seen
+pub mod Served
 pub mod ReplyView
 pub mod SeenAnswers
 pub mod Kernels

@@ -1,7 +1,6 @@
 //! The plain file tree as a program. It is slow and meant to be seen through: a volume is compared with it in tests.
 
 ghost use Rattle.bp_limits.specs.Limits.{is_two, max_read};
-ghost use Rattle.bp_limits.specs.Numbers.{version_numbered};
 ghost use Rattle.bp_plain.specs.Calls.Call.{create, link, links, list, mkdir, read, rmdir, snap, snap_list, snap_read, snap_stat, stat, truncate, unlink, unsnap, upgrade, write};
 ghost use Rattle.bp_plain.specs.Plain as plain;
 ghost use Rattle.bp_plain.specs.PlainTree.{empty_tree};
@@ -48,13 +47,11 @@ impl Model for Plain {
 
 impl Plain {
     /// The root directory alone, in a version.
-    pub fn of(alloc: Global, version: u8) -> Result<Plain, AllocError>
-        requires least { 1 ≤ version }
-        requires most { version ≤ 2 }
-        ensures { IfOk result (λ tree. tree ≡ empty_tree (version_numbered version)) }
+    pub fn of(alloc: Global, version: Version) -> Result<Plain, AllocError>
+        ensures { IfOk result (λ tree. tree ≡ empty_tree version) }
     {
         Ok(Plain {
-            version: Version::numbered(version),
+            version,
             current: FileMap::root_alone(alloc)?,
             snapshot: None,
         })

@@ -1,7 +1,7 @@
 -- A prepared tree in its image: nobody sees the preparation, and the tree is ready.
 use Rattle.std.proofs.Common.{◌≡◌, ℕ, ◌+◌, ◌*◌, ◌/◌, ◌%◌, ◌<◌, ◌≤◌, List, [], ◌∷◌, ◌++◌, length, set, refl, sym, ◌∙◌, subst, arith, inl, inr}
 use Rattle.std.proofs.lemmas.List.{append_assoc}
-use Rattle.bp_tree.proofs.PerformsLaws.{same_equivalence}
+use Rattle.bp_commit.proofs.PerformsLaws.{same_equivalence}
 use Rattle.bp_layout.proofs.MemberLaws.{each-as, each-has}
 use Rattle.bp_layout.specs.Words.{Image, word, height_of}
 use Rattle.bp_layout.specs.Tree.{node, HasBlock}
@@ -31,8 +31,8 @@ use Rattle.pm_epochs.proofs.CrashLaws.{IsClosed-barrier}
 use Rattle.pm_epochs.proofs.PieceLaws.{IsPiece-append, IsPiece-more, IsPiece-links_of, IsPiece-barrier, StoresTo-front}
 use Rattle.pm_region.specs.Memory.{Memory, current_words, Adds}
 use Rattle.pm_region.proofs.MemoryLaws.{adds_both, current_words-adds, length-current_words}
-use Rattle.bp_tree.specs.Performs.{InBlock, IsOpen, AddsTaking}
-use Rattle.bp_tree.specs.Performs.IsOpen.{in_live, at_root}
+use Rattle.bp_commit.specs.Performs.{InBlock, IsOpen, AddsTaking}
+use Rattle.bp_commit.specs.Performs.IsOpen.{in_live, at_root}
 use Rattle.bp_append.specs.Into.{AddsInto}
 use Rattle.bp_append.specs.Filled.{IsUsable}
 use Rattle.bp_append.specs.Built.{InBlocks}

@@ -24,8 +24,8 @@ use Rattle.bp_shapes.proofs.Reshape as reshape
 use Rattle.bp_shapes.proofs.NullLink as null_link
 use Rattle.pm_epochs.specs.May.{AnyAt, StoresMay, AnyOf, links_of}
 use Rattle.bp_shapes.specs.Behind.{IsBehind}
-use Rattle.bp_tree.specs.Performs.{IsOpen}
-use Rattle.bp_tree.specs.Performs.IsOpen.{in_taken, in_live}
+use Rattle.bp_commit.specs.Performs.{IsOpen}
+use Rattle.bp_commit.specs.Performs.IsOpen.{in_taken, in_live}
 use Rattle.pm_region.specs.Memory.{Memory, current_words}
 use Rattle.bp_append.specs.Filled.{IsUsable}
 use Rattle.bp_append.specs.Stores.{prep_stores}

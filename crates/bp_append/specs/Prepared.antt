@@ -15,7 +15,7 @@ use Rattle.bp_changes.specs.SameMeaning.{SameMeaning}
 use Rattle.pm_region.specs.Memory.{Memory, current_words, room_in}
 use Rattle.bp_free.specs.Set.{members}
 use Rattle.bp_free.specs.declared.parts.Parts.{Parts}
-use Rattle.bp_tree.specs.Performs.{AddsTaking}
+use Rattle.bp_commit.specs.Performs.{AddsTaking}
 use Rattle.bp_append.specs.Stores.{prep_stores, room_behind}
 use Rattle.bp_append.specs.Given.{given}
 use Rattle.bp_append.specs.Filled.{IsUsable}

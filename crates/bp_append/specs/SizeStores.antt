@@ -5,7 +5,7 @@ use Rattle.bp_layout.specs.Inode.{ContentStandsAt, IsFile, size_of}
 use Rattle.bp_layout.specs.Need.Change.{resizes}
 use Rattle.bp_layout.specs.WordPaths.{WordPath}
 use Rattle.pm_region.specs.Memory.{Memory, current_words, Adds}
-use Rattle.bp_tree.specs.Performs.{PerformsThawed}
+use Rattle.bp_commit.specs.Performs.{PerformsThawed}
 use Rattle.bp_append.specs.Prepared.{CanPrepare, PreparesWith}
 use Rattle.bp_layout.specs.Thaw.{none_kept}
 

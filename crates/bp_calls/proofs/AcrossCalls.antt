@@ -13,7 +13,7 @@ use Rattle.bp_limits.specs.Limits.{block_words, max_height}
 use Rattle.bp_append.specs.Prepared.{CanPrepare, PreparesWith, need_for}
 use Rattle.bp_append.proofs.StoresLaws.{behind_whole, room_behind_whole}
 use Rattle.bp_shapes.specs.Sets.{AreExact}
-use Rattle.bp_tree.specs.Performs.{Performs, room_for}
+use Rattle.bp_commit.specs.Performs.{Performs, room_for}
 use Rattle.bp_cow.specs.Commit.{CanCommitIn, CommitsTouched}
 use Rattle.bp_cow.specs.Cover.{LeadsInside, copied_count}
 use Rattle.bp_cow.specs.Touched.{IsTouched, NoneBegins, all_paths}

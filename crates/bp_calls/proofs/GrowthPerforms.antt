@@ -9,8 +9,8 @@ use Rattle.bp_layout.specs.Reached.{IsReached, IsFreeBlock}
 use Rattle.bp_layout.specs.WellFormed.{IsWellFormed}
 use Rattle.bp_layout.specs.WordPaths.{address}
 use Rattle.bp_layout.specs.Words.{Image}
-use Rattle.bp_tree.specs.Performs.{Performs, PerformsWithin, most_stores_thawed}
-use Rattle.bp_tree.proofs.PerformsLaws.{performs_twice}
+use Rattle.bp_commit.specs.Performs.{Performs, PerformsWithin, most_stores_thawed}
+use Rattle.bp_commit.proofs.PerformsLaws.{performs_twice}
 use Rattle.pm_region.specs.Memory.{Memory, current_words}
 use Rattle.bp_calls.specs.Growth.{GrowsInodes, growth_need, growth_stores, stores_behind_growth}
 use Rattle.bp_calls.proofs.GrowthCover.{longer_cover, longer_need}

@@ -14,7 +14,7 @@ use Rattle.bp_layout.specs.Reached.IsReached.{inode_file}
 use Rattle.bp_layout.specs.WellFormed.{IsWellFormed}
 use Rattle.bp_layout.specs.Words.{Image, block_count}
 use Rattle.bp_limits.specs.Limits.{block_size, inode_size, max_blocks, max_height, super_size, greatest_size}
-use Rattle.bp_tree.specs.Performs.{room_for}
+use Rattle.bp_commit.specs.Performs.{room_for}
 use Rattle.bp_tree.proofs.RegionWords.{length_now}
 use Rattle.bp_layout.specs.WordPaths.{WordPath}
 use Rattle.bp_shapes.specs.Sets.{AreExact}

@@ -31,10 +31,10 @@ use Rattle.bp_layout.specs.declared.fields.Kind.{Kind}
 use Rattle.bp_layout.proofs.Reached.{reached-in_file}
 use Rattle.bp_layout.proofs.SmallTrees.{empty_has_none}
 use Rattle.bp_shapes.specs.Sets.{AreExact}
-use Rattle.bp_tree.specs.Performs.{AddsTaking, IsOpen, PerformsWithin, TakesBlocks}
+use Rattle.bp_commit.specs.Performs.{AddsTaking, IsOpen, PerformsWithin, TakesBlocks}
 use Rattle.bp_tree.specs.Within.{IsWithin}
-use Rattle.bp_tree.specs.Performs.IsOpen.{in_taken, in_live, at_root, at_size}
-use Rattle.bp_tree.proofs.PerformsLaws.{same_equivalence, takes_twice, within_committed, within_more}
+use Rattle.bp_commit.specs.Performs.IsOpen.{in_taken, in_live, at_root, at_size}
+use Rattle.bp_commit.proofs.PerformsLaws.{same_equivalence, takes_twice, within_committed, within_more}
 use Rattle.bp_append.proofs.StoresLaws.{behind_one}
 use Rattle.pm_epochs.specs.Crash.{commit}
 use Rattle.pm_epochs.specs.Log.{words_after}

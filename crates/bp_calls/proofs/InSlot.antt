@@ -7,9 +7,9 @@ use Rattle.bp_layout.specs.Need.Change.{enters as gains}
 use Rattle.bp_layout.specs.Need.Entrant.{taken}
 use Rattle.bp_layout.specs.WordPaths.{address, tree_path}
 use Rattle.bp_changes.proofs.AddsNames.{reached_stays}
-use Rattle.bp_tree.specs.Performs.{IsOpen, PerformsWithin}
+use Rattle.bp_commit.specs.Performs.{IsOpen, PerformsWithin}
 use Rattle.bp_calls.specs.Growth.{stores_behind_growth}
-use Rattle.bp_tree.proofs.PerformsLaws.{within_stores, within_more}
+use Rattle.bp_commit.proofs.PerformsLaws.{within_stores, within_more}
 use Rattle.bp_layout.specs.Free.{IsFreeInode}
 use Rattle.bp_calls.proofs.NeedLaws.{cover_in_slot, need_in_slot}
 use Rattle.bp_calls.proofs.OpenPlaces.{content_open, each_weaker, stands_stored, root_word_stays, content_address}

@@ -33,9 +33,9 @@ use Rattle.bp_layout.proofs.TreeLaws.{KeepsPointers, has_block-kept, has_block-s
 use Rattle.bp_shapes.specs.Freed.{IsGivenUp}
 use Rattle.bp_shapes.specs.Sets.{AreExact}
 use Rattle.bp_shapes.proofs.Freed.{freed_blocks, remove_frees, removed_inode}
-use Rattle.bp_tree.specs.Performs.{Performs}
+use Rattle.bp_commit.specs.Performs.{Performs}
 use Rattle.bp_tree.proofs.ExistingPaths.{AllThere, content_path-there, copied-one, cover-one}
-use Rattle.bp_tree.proofs.PerformsLaws.{performs_committed, takes_none}
+use Rattle.bp_commit.proofs.PerformsLaws.{performs_committed, takes_none}
 use Rattle.pm_epochs.specs.Crash.{commit}
 use Rattle.pm_epochs.proofs.CrashLaws.{quiet_none}
 use Rattle.pm_epochs.proofs.PieceLaws.{IsPiece-commit}

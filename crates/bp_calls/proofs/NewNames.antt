@@ -16,7 +16,7 @@ use Rattle.bp_layout.specs.Words.{Image}
 use Rattle.bp_layout.specs.declared.fields.Kind.{Kind}
 use Rattle.bp_layout.proofs.Reached.{reached-in_file}
 use Rattle.bp_shapes.specs.Sets.{AreExact}
-use Rattle.bp_tree.specs.Performs.{HasRoomFor, Performs, PerformsWithin, most_stores_thawed, room_for}
+use Rattle.bp_commit.specs.Performs.{HasRoomFor, Performs, PerformsWithin, most_stores_thawed, room_for}
 use Rattle.pm_region.specs.Memory.{Memory, current_words, room_in}
 use Rattle.bp_calls.specs.Created.{EntersName}
 use Rattle.bp_calls.specs.Entrant.{entrant_of}
@@ -29,7 +29,7 @@ use Rattle.bp_calls.proofs.GrowthLaws.{longer_reached, longer_well_formed, short
 use Rattle.bp_calls.proofs.GrowthMemory.{room_behind_growth}
 use Rattle.bp_calls.proofs.GrowthNeed.{need_growing}
 use Rattle.bp_calls.proofs.GrowthPerforms.{grown_need, performs_grown}
-use Rattle.bp_tree.proofs.PerformsLaws.{within_more}
+use Rattle.bp_commit.proofs.PerformsLaws.{within_more}
 use Rattle.bp_calls.proofs.NeedLaws.{need_behind}
 use Rattle.bp_calls.proofs.Refusals.{has_members, not_none, not_some, tells}
 use Rattle.bp_calls.proofs.EnteredOver.{entered_over}

@@ -23,7 +23,7 @@ use Rattle.bp_shapes.specs.Trail.{trail_of}
 use Rattle.bp_shapes.proofs.FreeSets.{wf_forest}
 use Rattle.bp_tree.proofs.Digits.{length-digits}
 use Rattle.bp_tree.proofs.PathLaws.{small_digits}
-use Rattle.bp_tree.specs.Performs.{IsOpen}
+use Rattle.bp_commit.specs.Performs.{IsOpen}
 use Rattle.bp_cow.specs.declared.touched.Run.{Run}
 use Rattle.bp_cow.specs.declared.touched.Touched.{Touched}
 use Rattle.bp_cow.specs.CanCommit.{IsRunIn}

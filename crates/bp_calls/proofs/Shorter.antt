@@ -30,9 +30,9 @@ use Rattle.bp_layout.proofs.TreeLaws.{KeepsPointers, node-kept, sound-kept, has_
 use Rattle.bp_shapes.specs.Sets.{AreExact}
 use Rattle.bp_shapes.specs.Freed.{IsGivenUp}
 use Rattle.bp_shapes.proofs.Freed.{freed_blocks, resize_frees}
-use Rattle.bp_tree.specs.Performs.{Performs}
+use Rattle.bp_commit.specs.Performs.{Performs}
 use Rattle.bp_tree.proofs.ExistingPaths.{AllThere, inode_path-there, cover-one, copied-one}
-use Rattle.bp_tree.proofs.PerformsLaws.{performs_committed, takes_none}
+use Rattle.bp_commit.proofs.PerformsLaws.{performs_committed, takes_none}
 use Rattle.pm_epochs.specs.Crash.{commit}
 use Rattle.pm_epochs.proofs.CrashLaws.{quiet_none}
 use Rattle.pm_epochs.proofs.PieceLaws.{IsPiece-commit}

@@ -6,8 +6,8 @@ use Rattle.bp_layout.specs.Need.{Change, need}
 use Rattle.bp_layout.specs.Thaw.{none_kept}
 use Rattle.bp_layout.specs.Words.{Image}
 use Rattle.bp_layout.proofs.ThawLaws.{full_need-none, thawed-none}
-use Rattle.bp_tree.specs.Performs.{HasRoomFor, Performs, PerformsThawed, room_for}
-use Rattle.bp_tree.proofs.PerformsLaws.{performs_unthawed}
+use Rattle.bp_commit.specs.Performs.{HasRoomFor, Performs, PerformsThawed, room_for}
+use Rattle.bp_commit.proofs.PerformsLaws.{performs_unthawed}
 use Rattle.bp_limits.specs.Limits.{max_height}
 use Rattle.pm_region.specs.Memory.{Memory, current_words, room_in}
 use Rattle.bp_calls.specs.Space.{HasRoomWhereFree, LacksSpace}

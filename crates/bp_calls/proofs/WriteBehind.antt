@@ -17,7 +17,7 @@ use Rattle.pm_epochs.specs.Crash.{commit}
 use Rattle.pm_region.specs.Memory.{Memory, current_words, room_in, Adds}
 use Rattle.pm_region.proofs.MemoryLaws.{base-adds, length-current_words}
 use Rattle.pm_region.proofs.SafeLaws.{room_after_quiet}
-use Rattle.bp_tree.specs.Performs.{Performs, room_for}
+use Rattle.bp_commit.specs.Performs.{Performs, room_for}
 use Rattle.bp_append.specs.Given.{given}
 use Rattle.bp_append.specs.Stores.{prep_stores}
 use Rattle.bp_append.proofs.StoresLaws.{behind_whole, room_behind_whole}

@@ -6,7 +6,7 @@ use Rattle.bp_layout.specs.Free.{HasFree}
 use Rattle.bp_layout.specs.Need.{Change}
 use Rattle.bp_layout.specs.Thaw.{full_need}
 use Rattle.bp_layout.specs.Words.{Image}
-use Rattle.bp_tree.specs.Performs.{HasRoomFor}
+use Rattle.bp_commit.specs.Performs.{HasRoomFor}
 use Rattle.pm_region.specs.Memory.{Memory, current_words}
 
 -- it tells the blocks that the change needs, those that are thawed among them, and those that are free, which are

@@ -17,7 +17,7 @@ ghost use Rattle.bp_layout.specs.Reached.{IsReached};
 ghost use Rattle.bp_layout.specs.WellFormed.{IsWellFormed};
 ghost use Rattle.bp_limits.specs.Limits.{max_height};
 ghost use Rattle.bp_shapes.specs.Sets.{IsExact, kept_of};
-ghost use Rattle.bp_tree.specs.Performs.{HasRoomFor, Performs, PerformsWithin};
+ghost use Rattle.bp_commit.specs.Performs.{HasRoomFor, Performs, PerformsWithin};
 ghost use Rattle.pm_region.specs.Memory.{current_words};
 
 use crate::entering::{enter_behind, enter_slot, tree_of};

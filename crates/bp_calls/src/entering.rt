@@ -14,7 +14,7 @@ ghost use Rattle.bp_layout.specs.Need.Entrant.{taken};
 ghost use Rattle.bp_layout.specs.Reached.{IsReached};
 ghost use Rattle.bp_layout.specs.Thaw.{none_kept};
 ghost use Rattle.bp_layout.specs.WellFormed.{IsWellFormed};
-ghost use Rattle.bp_tree.specs.Performs.{PerformsWithin};
+ghost use Rattle.bp_commit.specs.Performs.{PerformsWithin};
 ghost use Rattle.pm_region.specs.Memory.{current_words, room_in};
 
 use crate::writing::root_path;

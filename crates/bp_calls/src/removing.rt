@@ -6,7 +6,7 @@ ghost use Rattle.bp_layout.specs.Directory.{inumber_at};
 ghost use Rattle.bp_layout.specs.Need.Change.{leaves};
 ghost use Rattle.bp_layout.specs.WellFormed.{IsWellFormed};
 ghost use Rattle.bp_shapes.specs.Sets.{IsExact, kept_of};
-ghost use Rattle.bp_tree.specs.Performs.{Performs};
+ghost use Rattle.bp_commit.specs.Performs.{Performs};
 ghost use Rattle.pm_region.specs.Memory.{current_words, room_in};
 
 use crate::entering::tree_of;

@@ -10,7 +10,7 @@ ghost use Rattle.bp_layout.specs.Inode.{root_of, size_of};
 ghost use Rattle.bp_layout.specs.Need.Change.{writes};
 ghost use Rattle.bp_layout.specs.WordPaths.{inode_path};
 ghost use Rattle.bp_layout.specs.Words.{height_of};
-ghost use Rattle.bp_tree.specs.Performs.{Performs};
+ghost use Rattle.bp_commit.specs.Performs.{Performs};
 ghost use Rattle.pm_region.specs.Memory.{current_words};
 
 mod across;

@@ -22,9 +22,9 @@ use Rattle.bp_shapes.specs.Trail.{Trail, block_on, place_on, trail_of}
 use Rattle.bp_shapes.proofs.ExactSets.{exact-unheld, led_held}
 use Rattle.bp_shapes.proofs.FreeSets.{wf_forest}
 use Rattle.bp_shapes.proofs.PathTrails.{address-on, length-trail_of}
-use Rattle.bp_tree.specs.Performs.{IsOpen, AddsTaking, PerformsThawed, most_stores_thawed}
-use Rattle.bp_tree.specs.Performs.IsOpen.{in_live, at_root}
-use Rattle.bp_tree.proofs.PerformsLaws.{performs_committed, performs_twice}
+use Rattle.bp_commit.specs.Performs.{IsOpen, AddsTaking, PerformsThawed, most_stores_thawed}
+use Rattle.bp_commit.specs.Performs.IsOpen.{in_live, at_root}
+use Rattle.bp_commit.proofs.PerformsLaws.{performs_committed, performs_twice}
 use Rattle.bp_cow.specs.declared.touched.Touched.{Touched}
 use Rattle.bp_cow.specs.CanCommit.{CanCommit}
 use Rattle.bp_cow.specs.Commit.{CommitsTouched, commit_stores, cover_word}

@@ -6,7 +6,7 @@ use Rattle.pm_epochs.proofs.MayLaws.{quiet_may}
 use Rattle.pm_epochs.proofs.PieceLaws.{IsPiece-append, IsPiece-commit, IsPiece-more}
 use Rattle.pm_region.specs.Memory.{Memory, current_words, Adds}
 use Rattle.pm_region.proofs.MemoryLaws.{adds_both}
-use Rattle.bp_tree.proofs.PerformsLaws.{same_equivalence}
+use Rattle.bp_commit.proofs.PerformsLaws.{same_equivalence}
 use Rattle.bp_layout.specs.Words.{Image, word}
 use Rattle.bp_layout.specs.Inode.{size_of}
 use Rattle.bp_layout.specs.Reached.{IsReached}

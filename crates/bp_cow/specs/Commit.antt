@@ -12,7 +12,7 @@ use Rattle.bp_layout.specs.WellFormed.{IsWellFormed}
 use Rattle.bp_layout.specs.WordPaths.{address}
 use Rattle.bp_layout.specs.Words.{Image, block_count}
 use Rattle.bp_shapes.specs.Forest.{IsTreePointer}
-use Rattle.bp_tree.specs.Performs.{TakesBlocks}
+use Rattle.bp_commit.specs.Performs.{TakesBlocks}
 use Rattle.bp_cow.specs.CanCommit.{CanCommit}
 use Rattle.bp_cow.specs.Committed.{IsCommitted, after_commit}
 use Rattle.bp_cow.specs.Cover.{commit_cover, copied_count}

@@ -16,7 +16,7 @@ use Rattle.bp_plain.specs.Calls.Call.{snap, unsnap, upgrade}
 use Rattle.bp_plain.specs.Plain.{is_changing}
 use Rattle.bp_layout.specs.Need.{Change}
 use Rattle.bp_layout.specs.Words.{Image, word}
-use Rattle.bp_tree.specs.Performs.{IsShort}
+use Rattle.bp_commit.specs.Performs.{IsShort}
 use Rattle.bp_forms.specs.Step.{Step, IsChange}
 use Rattle.bp_limits.specs.declared.version.Version.TheVariants.{Two}
 

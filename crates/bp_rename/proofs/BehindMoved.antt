@@ -32,7 +32,7 @@ use Rattle.bp_shapes.specs.Forest.{tree_trail, IsForest}
 use Rattle.bp_shapes.specs.Sets.{AreExact, AreExactFor}
 use Rattle.bp_shapes.proofs.FreeSets.{wf_forest}
 use Rattle.bp_shapes.proofs.MovedSets.{carried_exact}
-use Rattle.bp_tree.specs.Performs.{HasRoomFor, IsOpen, Performs, most_stores, room_for}
+use Rattle.bp_commit.specs.Performs.{HasRoomFor, IsOpen, Performs, most_stores, room_for}
 use Rattle.bp_cow.specs.CanCommit.{CanCommit}
 use Rattle.bp_cow.specs.Commit.{CommitsTouched, HasRoom, commit_stores, cover_word}
 use Rattle.bp_cow.specs.Committed.{after_commit, changes_of}

@@ -7,7 +7,7 @@ use Rattle.pm_region.specs.Safe.{AddsMay}
 use Rattle.pm_region.proofs.SafeLaws.{room_after_quiet}
 use Rattle.bp_dirs.specs.Written.{HasNameAt}
 use Rattle.bp_tree.specs.Within.{IsWithin}
-use Rattle.bp_tree.specs.Performs.{HasRoomFor, Performs}
+use Rattle.bp_commit.specs.Performs.{HasRoomFor, Performs}
 use Rattle.bp_free.specs.Set.{Set, has}
 use Rattle.bp_layout.specs.Directory.{empty_slot, entry_count, name_at}
 use Rattle.bp_layout.specs.Inode.{ContentStandsAt, kind_of, root_of, size_of}

@@ -23,7 +23,7 @@ use Rattle.bp_shapes.specs.Forest.{tree_trail}
 use Rattle.bp_shapes.specs.Freed.{IsGivenUp}
 use Rattle.bp_shapes.specs.Sets.{AreExact}
 use Rattle.bp_shapes.proofs.FreeSets.{wf_forest}
-use Rattle.bp_tree.specs.Performs.{HasRoomFor, Performs}
+use Rattle.bp_commit.specs.Performs.{HasRoomFor, Performs}
 use Rattle.bp_cow.specs.CanCommit.{CanCommit}
 use Rattle.bp_cow.specs.Commit.{CommitsTouched, HasRoom}
 use Rattle.bp_cow.specs.Committed.{after_commit, changes_of}

@@ -3,8 +3,8 @@ use Rattle.std.proofs.Common.{◌≡◌, ◌≢◌, ℕ, length, None, Some, ref
 use Rattle.std.proofs.lemmas.Bool.{eq-eqb, ne_eqb}
 use Rattle.bp_changes.specs.Effects.{MovesEntry}
 use Rattle.bp_layout.specs.Need.Change.{moves, replaces, respells}
-use Rattle.bp_tree.specs.Performs.{Performs}
-use Rattle.bp_tree.proofs.PerformsLaws.{performs_as}
+use Rattle.bp_commit.specs.Performs.{Performs}
+use Rattle.bp_commit.proofs.PerformsLaws.{performs_as}
 use Rattle.pm_region.specs.Memory.{Memory}
 use Rattle.bp_rename.specs.CanRename.{change_of, change_to, moved_inode}
 use Rattle.bp_rename.specs.RenamesEntry.{RenamesEntry}

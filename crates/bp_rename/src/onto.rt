@@ -7,7 +7,7 @@ ghost use Rattle.bp_layout.specs.Need.Change.{replaces};
 ghost use Rattle.bp_rename.specs.CanRename.{CanRename, moved_inode};
 ghost use Rattle.bp_changes.specs.Effects.{MovesEntry};
 ghost use Rattle.bp_shapes.specs.Sets.{IsExact, kept_of};
-ghost use Rattle.bp_tree.specs.Performs.{HasRoomFor, Performs};
+ghost use Rattle.bp_commit.specs.Performs.{HasRoomFor, Performs};
 ghost use Rattle.pm_region.specs.Memory.{current_words};
 ghost use Rattle.bp_rename.specs.TouchesTwo.{AreTwo, inumber_path};
 

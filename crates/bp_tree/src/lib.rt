@@ -6,8 +6,6 @@
 
 pub mod counts;
 mod descent;
-pub mod laws;
-pub mod likeness;
 pub mod marks;
 pub mod nulls;
 pub mod paths;
@@ -16,7 +14,6 @@ mod subtrees;
 pub mod tree;
 
 pub use counts::count_live;
-pub use likeness::SameTree;
 pub use marks::version;
 pub use nulls::first_null;
 pub use paths::{Slots, address, word_path};

@@ -6,7 +6,7 @@ use Rattle.std.specs.Prelude.{List}
 use Rattle.pm_region.specs.Memory.{Memory, current_words, with_room, room_in, Adds}
 use Rattle.pm_region.specs.Safe.{IsSafe}
 use Rattle.pm_region.proofs.MemoryLaws.{capacity-adds, current_words-adds, length-current_words}
-use Rattle.bp_tree.proofs.PerformsLaws.{performs_safe}
+use Rattle.bp_commit.proofs.PerformsLaws.{performs_safe}
 use Rattle.bp_layout.specs.Same.{Same}
 use Rattle.bp_layout.specs.Words.{block_count}
 use Rattle.bp_shapes.specs.Sets.{AreExact}

@@ -6,7 +6,7 @@ use Rattle.pm_region.specs.Memory.{Memory, current_words, crashed}
 use Rattle.pm_region.specs.Safe.{IsSafe}
 use Rattle.pm_region.proofs.MemoryLaws.{length-current_words}
 use Rattle.pm_region.proofs.SafeLaws.{safe_crashed}
-use Rattle.bp_tree.proofs.PerformsLaws.{same_equivalence}
+use Rattle.bp_commit.proofs.PerformsLaws.{same_equivalence}
 use Rattle.bp_free.specs.Set.{Set}
 use Rattle.bp_layout.specs.Same.{Same}
 use Rattle.bp_layout.specs.WellFormed.{IsWellFormed}

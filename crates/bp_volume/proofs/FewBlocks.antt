@@ -23,7 +23,7 @@ use Rattle.bp_layout.proofs.Below.{bytes_eq_self}
 use Rattle.bp_layout.proofs.Finding.{Finds, find-passes}
 use Rattle.bp_append.proofs.FewNeeded.{few_needed}
 use Rattle.bp_append.proofs.NeedLaws.{tall_low}
-use Rattle.bp_tree.specs.Performs.{HasRoomFor, Performs, most_stores}
+use Rattle.bp_commit.specs.Performs.{HasRoomFor, Performs, most_stores}
 use Rattle.bp_tree.proofs.Digits.{length-digits}
 
 -- ---- copies

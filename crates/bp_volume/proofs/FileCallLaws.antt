@@ -1,8 +1,8 @@
 -- A call on a file, from its parts.
 use Rattle.std.proofs.Common.{◌≡◌, ℕ, [], ◌∷◌, ◌++◌, true, false, refl, sym, ◌∙◌, ap, subst}
 use Rattle.pm_epochs.specs.declared.event.Event.TheVariants.{Mark}
-use Rattle.bp_tree.specs.Performs.{IsShort}
-use Rattle.bp_tree.proofs.PerformsLaws.{performed, performs_adds, performs_safe, performs_short, performs_unmarked, same_equivalence}
+use Rattle.bp_commit.specs.Performs.{IsShort}
+use Rattle.bp_commit.proofs.PerformsLaws.{performed, performs_adds, performs_safe, performs_short, performs_unmarked, same_equivalence}
 use Rattle.pm_region.specs.Memory.{Memory, current_words, with_room, Adds}
 use Rattle.pm_region.specs.Safe.{IsSafe}
 use Rattle.pm_region.proofs.MemoryLaws.{adds_both, current_words-adds, capacity-adds, current_words-with_room}

@@ -2,7 +2,7 @@ use Rattle.std.proofs.Common.{refl, sym, ◌∙◌, subst, arith}
 use Rattle.std.proofs.lemmas.List.{length-set}
 use Rattle.bp_layout.specs.Need.Change.{enters}
 use Rattle.bp_layout.specs.Thaw.{none_kept}
-use Rattle.bp_tree.specs.Performs.{PerformsWithin}
+use Rattle.bp_commit.specs.Performs.{PerformsWithin}
 use Rattle.pm_region.specs.Memory.{current_words}
 use Rattle.bp_calls.specs.Created.{EntersName}
 use Rattle.bp_calls.specs.Entrant.{entrant_of}

@@ -1,5 +1,5 @@
 use Rattle.std.proofs.Common.{arith, subst}
-use Rattle.bp_tree.specs.Performs.{HasRoomFor}
+use Rattle.bp_commit.specs.Performs.{HasRoomFor}
 use Rattle.bp_rename.proofs.Renames.{across_change, across_renames, onto_change, onto_renames, within_change}
 use Rattle.bp_rename.proofs.renaming.rename_in.Goals as goal
 use Rattle.bp_layout.specs.Thaw.{none_kept}

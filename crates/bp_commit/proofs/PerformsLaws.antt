@@ -27,8 +27,8 @@ use Rattle.bp_layout.specs.Same.{Same}
 use Rattle.bp_layout.specs.WellFormed.{IsWellFormed}
 use Rattle.bp_layout.specs.WordPaths.{address}
 use Rattle.bp_layout.specs.Words.{Image, block_count}
-use Rattle.bp_tree.specs.Performs.{InBlock, IsOpen, TakesBlocks, AddsTaking, most_stores, most_stores_thawed, Performs, PerformsThawed, PerformsWithin, IsShort}
-use Rattle.bp_tree.specs.Performs.IsOpen.{in_taken, in_live, at_root, at_size}
+use Rattle.bp_commit.specs.Performs.{InBlock, IsOpen, TakesBlocks, AddsTaking, most_stores, most_stores_thawed, Performs, PerformsThawed, PerformsWithin, IsShort}
+use Rattle.bp_commit.specs.Performs.IsOpen.{in_taken, in_live, at_root, at_size}
 
 pub same_equivalence : IsPartialEquivalence Same
 same_equivalence = record { symmetric = same_symmetric; transitive = same_transitive }

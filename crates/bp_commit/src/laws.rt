@@ -6,7 +6,7 @@ ghost use Rattle.bp_layout.specs.Need.{Change};
 ghost use Rattle.bp_layout.specs.Thaw.{full_need};
 ghost use Rattle.bp_layout.specs.Reached.{IsFreeBlock};
 ghost use Rattle.bp_layout.specs.Same.{Same};
-ghost use Rattle.bp_tree.specs.Performs.{InBlock, IsPerformed, IsShort};
+ghost use Rattle.bp_commit.specs.Performs.{InBlock, IsPerformed, IsShort};
 ghost use Rattle.pm_epochs.specs.Log.{StoresTo};
 ghost use Rattle.pm_epochs.specs.declared.event.Event.TheVariants.{Mark};
 ghost use Rattle.pm_region.specs.Memory.{Adds, Memory, current_words, events_between};

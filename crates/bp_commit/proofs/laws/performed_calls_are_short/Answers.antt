@@ -1,5 +1,5 @@
-use Rattle.bp_tree.proofs.PerformsLaws.{performs_short_between, performs_fits, performs_safe}
-use Rattle.bp_tree.proofs.laws.performed_calls_are_short.Goals as goal
+use Rattle.bp_commit.proofs.PerformsLaws.{performs_short_between, performs_fits, performs_safe}
+use Rattle.bp_commit.proofs.laws.performed_calls_are_short.Goals as goal
 
 pub returns-clause-short : goal.returns-clause-short
 returns-clause-short g kept old new change done = performs_short_between kept old new change _ done

@@ -30,18 +30,6 @@ use bp_limits::ENTRY_SIZE;
 use bp_tree::Tree;
 use pm_region::Region;
 
-/// The least number of a set that is not empty.
-fn take<K>(numbers: &mut Numbers<K>) -> u32
-    requires { members numbers.old ≢ [] }
-    ensures least { IsLeast numbers.old result }
-    ensures rest { numbers.new ≡ without numbers.old result }
-{
-    match numbers.take() {
-        Some(number) => number,
-        None => unreachable!(),
-    }
-}
-
 /// How many blocks a name takes where its inode is there, given its directory's tree and least empty slot: those that
 /// the tree lacks for one entry more, where no slot is empty.
 fn entry_need<R: Region>(region: &R, dir: u32, tree: Tree, slot: Option<u64>) -> u32
@@ -72,7 +60,7 @@ fn enter<R: Region>(parts: &mut Parts<R>, dir: u32, slot: Option<u64>, name: &[u
         (EntersName dir name.now kind) }
     ensures exact { IsExact (current_words (R.memory parts.new.region)) parts.new }
 {
-    let inode = take(&mut parts.inodes);
+    let inode = parts.inodes.take_least();
     parts.counts.set(inode, 1);
     match slot {
         Some(slot) => enter_slot(&mut parts.region, dir, slot, inode, name, kind),

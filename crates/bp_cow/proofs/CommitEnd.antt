@@ -167,7 +167,7 @@ module _ (bound : ℕ → ℕ) (touched : Touched) (first last : Memory) (blocks
     (found : FoundCover) (at : IsAt (current_words first) touched found) (longest : CoverHas (current_words first) touched found.len) (short : found.len ≤ length ((job_of touched).way 0))
     (top : ℕ) (free : ℕ → Bool) (after taken : Set) where
   abbrev plan : Plan
-  plan = record { old = current_words first; bound = bound; free = has blocks; job = job_of touched; place = found.place; top = top; taken = free }
+  plan = record { old = current_words first; bound = bound; free = has blocks; job = job_of touched; place = found.place; top = top; free_after = free }
 
   pub commits_turned : IsTurnedOver plan touched found.len found.place blocks taken first last → IsExactSet (current_words last) (IsTreePointer (current_words first) bound) none_kept (has after) →
       CommitsCopies bound touched first last blocks after

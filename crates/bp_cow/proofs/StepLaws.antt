@@ -7,7 +7,8 @@ use Rattle.bp_shapes.specs.Trail.{Trail, word_on, block_on}
 use Rattle.bp_shapes.specs.Forest.{IsTreePointer}
 use Rattle.bp_shapes.proofs.ForestLaws.{pointers}
 use Rattle.bp_shapes.proofs.PathTrails.{trail_of-next}
-use Rattle.bp_cow.specs.Copies.{TakesBlock, TurnsTo, pointing_to}
+use Rattle.bp_free.specs.Set.{TakesNumber}
+use Rattle.bp_cow.specs.Copies.{TurnsTo, pointing_to}
 use Rattle.bp_cow.specs.Job.{ways, front, end_of, word_trail, value_upto, laid_on, patch_at, IsBegun, IsAnew}
 use Rattle.bp_cow.specs.Job.IsAnew.{is_cover, is_begun, is_front}
 use Rattle.bp_cow.specs.Adds.{IsTakenWord}
@@ -92,7 +93,7 @@ module _ (plan : Plan) (from i depth : ℕ) (now : Image) (free : ℕ → Bool) 
           back q (inr e) = is_begun (subst (IsBegun plan.job from i) (sym e) begun)
 
       module _ (after : Image) (copy : ℕ) (free_after : ℕ → Bool) (none : IsBegun plan.job from i (front plan.job i (depth + 1)) → ⊥)
-          (turned : TurnsTo (patch_at plan.job i (depth + 1)) now after (512 * block + slot) copy) (takes : TakesBlock free free_after copy) where
+          (turned : TurnsTo (patch_at plan.job i (depth + 1)) now after (512 * block + slot) copy) (takes : TakesNumber free free_after copy) where
         first : IsAnew plan.job from i depth (slot ∷ way) → ⊥
         first n = not_anew plan.job from i depth low none (subst (IsAnew plan.job from i depth) (sym (trail_of-next (plan.job.way i) depth)) n)
 

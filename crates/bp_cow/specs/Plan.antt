@@ -48,7 +48,7 @@ pub record Plan : Type 0 where
   pub place : ℕ
   pub top : ℕ
   -- the free blocks after the last store
-  pub taken : ℕ → Bool
+  pub free_after : ℕ → Bool
 
 -- the plan for these touched words
 abbrev pub planned : Plan → Touched → Plan

@@ -43,4 +43,11 @@ impl Counts {
     {
         self.names[i as usize] = names;
     }
+
+    /// Takes each inode's names away.
+    pub fn clear(&mut self)
+        ensures { self.new ≡ replicate (length self.old) 0 }
+    {
+        self.names.fill(0);
+    }
 }

@@ -3,7 +3,7 @@ ghost use Rattle.std.specs.Prelude.{◌<◌, ◌+◌, ◌*◌, ◌/◌, ◌%◌,
 ghost use Rattle.std.specs.Option.{option_copied};
 ghost use Rattle.bp_io.specs.Plans.{new_plan, FollowsPlan};
 ghost use Rattle.bp_io.specs.Causes.{HasCause};
-ghost use Rattle.bp_io.specs.Files.{StaysAttached, StaysOrIsMade, Becomes, Answers, Attaches, IsAttached, KeepsFiles, KeepsOthers, ChangesBytes, MayChange, Resizes, KeepsSize, AreBlocks, Reads, makes, with_block};
+ghost use Rattle.bp_io.specs.Files.{StaysAttached, StaysOrIsMade, Becomes, Answers, Attaches, IsAttached, KeepsFiles, KeepsOthers, ChangesBytes, MayChange, Resizes, KeepsSize, AreBytesOfBlocks, Reads, makes, with_block};
 
 use crate::faults::CallPlan;
 use crate::files::Files;
@@ -117,7 +117,7 @@ impl Files for MemFiles<'_> {
     fn read_blocks(&mut self, first: u32, into: &mut [u8]) -> Result<(), Failed>
         requires whole { length into.old % BLOCK_SIZE ≡ 0 }
         requires inside { first + length into.old / BLOCK_SIZE ≤ (mem_view self.old).blocks }
-        ensures blocks { OnOk result (AreBlocks (mem_view self.old) first (length into.old / BLOCK_SIZE) into.new) }
+        ensures blocks { OnOk result (AreBytesOfBlocks (mem_view self.old) first (length into.old / BLOCK_SIZE) into.new) }
         ensures reads { Reads (mem_view self.old) (mem_view self.new) }
         ensures cause { HasCause (mem_view self.old).faults (mem_view self.new).faults result }
 

@@ -1,6 +1,6 @@
 -- The limits of the format, of calls, of scripts and of the programs.
 use Rattle.std.specs.Prelude.{ℕ, ◌==◌, Bool, true, false, if◌then◌else◌}
-use Rattle.bp_limits.specs.declared.TheConstants.{BLOCK_SIZE, BLOCK_WORDS, MIN_BLOCKS, MAX_BLOCKS, SUPER_MAGIC, SUPER_BLOCKS, SUPER_ROOT, SUPER_SIZE, SUPER_SECOND_ROOT, SUPER_SECOND_SIZE, INODE_SIZE, INODE_WORDS, BLOCK_INODES, ROOT_INUMBER, FILE_KIND, DIRECTORY_KIND, ENTRY_SIZE, ENTRY_WORDS, BLOCK_ENTRIES, MAX_HEIGHT, MAX_SIZE, MAX_NAME, MAX_PATH, MAX_READ, MAX_WRITE, CALL_ROOM, MAX_LINE, MAX_TEXT, MAX_INPUT, LOG_EVENTS, MAX_MASK, MAX_TURNS}
+use Rattle.bp_limits.specs.declared.TheConstants.{BLOCK_SIZE, BLOCK_WORDS, MIN_BLOCKS, MAX_BLOCKS, SUPER_MAGIC, SUPER_BLOCKS, SUPER_ROOT, SUPER_SIZE, SUPER_SECOND_ROOT, SUPER_SECOND_SIZE, INODE_SIZE, INODE_WORDS, BLOCK_INODES, ROOT_INUMBER, FILE_KIND, DIRECTORY_KIND, ENTRY_SIZE, ENTRY_WORDS, BLOCK_ENTRIES, MAX_HEIGHT, MAX_SIZE, MAX_NAME, MAX_PATH, MAX_READ, MAX_WRITE, MAX_PIECES, MAX_BATCH, CALL_ROOM, MAX_LINE, MAX_TEXT, MAX_INPUT, LOG_EVENTS, MAX_MASK, MAX_TURNS}
 use Rattle.bp_limits.specs.declared.version.Version.{Version}
 use Rattle.bp_limits.specs.declared.version.Version.TheVariants.{One, Two}
 
@@ -127,9 +127,12 @@ abbrev pub greatest_write : Version → ℕ
 greatest_write One = 65536
 greatest_write Two = max_write
 
--- the most bytes that the pieces of a batch have in all
+-- the most pieces of one batch, and the most bytes that they have in all
+abbrev pub max_pieces : ℕ
+max_pieces = MAX_PIECES
+
 abbrev pub max_batch : ℕ
-max_batch = 65536
+max_batch = MAX_BATCH
 
 -- the room in the log below which a call drains first, in events
 abbrev pub call_room : ℕ

@@ -93,6 +93,12 @@ pub const MAX_READ: usize = 65_536;
 /// The most bytes that one call writes, in images of any version: [`Version::greatest_write`].
 pub const MAX_WRITE: usize = 1_048_576;
 
+/// The most pieces of one batch.
+pub const MAX_PIECES: usize = 16;
+
+/// The most bytes that the pieces of a batch have in all.
+pub const MAX_BATCH: u64 = 65_536;
+
 /// The room in the log below which a call drains first: more events than any call adds.
 pub const CALL_ROOM: usize = 262_144;
 

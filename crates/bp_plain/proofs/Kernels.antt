@@ -12,7 +12,7 @@ use Rattle.bp_layout.specs.Lookup.Node.{file}
 use Rattle.bp_layout.specs.Below.{same_path, rest_below}
 use Rattle.bp_layout.specs.Directory.{Name}
 use Rattle.bp_layout.proofs.Below.{rest_below-append, rest_below-is, same_path-self, same_path-is}
-use Rattle.bp_plain.specs.PlainTree.{Nodes, One, is_one, path_cmp, pair_cmp}
+use Rattle.bp_plain.specs.PlainTree.{Nodes, Aliases, is_one, path_cmp, pair_cmp}
 use Rattle.bp_plain.specs.Plain.{alone, linked, moved_one, moved_pair, moved_path, paths_of, pairs_with, with_bytes_at, without}
 use Rattle.bp_plain.specs.Kernels.{IsKernel, kernel_from, row, rows}
 use Rattle.bp_plain.proofs.PathOrder.{pair_cmp-IsAntisymmetric, pair_cmp-IsTotalOrder, path_cmp-IsTotalOrder, same_path_from, tie_same, tie_self}
@@ -45,11 +45,11 @@ tie_paths a b p q = by_bools _ _ on back
 -- ---- kernels
 
 -- labels have one set of pairs
-pub kernel_once : (label : Path → Option ℕ) (one other : One) → IsKernel label one → IsKernel label other → one ≡ other
+pub kernel_once : (label : Path → Option ℕ) (one other : Aliases) → IsKernel label one → IsKernel label other → one ≡ other
 kernel_once label one other a b =
     same_set pair_cmp-IsTotalOrder pair_cmp-IsAntisymmetric one other (λ pair. a.each pair.0 pair.1 ∙ sym (b.each pair.0 pair.1))
 
-pub kernel_same : (label new : Path → Option ℕ) (one : One) → ((p : Path) → new p ≡ label p) → IsKernel label one → IsKernel new one
+pub kernel_same : (label new : Path → Option ℕ) (one : Aliases) → ((p : Path) → new p ≡ label p) → IsKernel label one → IsKernel new one
 kernel_same label new one same k = record { each = λ p q. k.each p q ∙ ap₂ are_one (sym (same p)) (sym (same q)) }
 
 pub are_one-none : (x : Option ℕ) → are_one x None ≡ false
@@ -67,7 +67,7 @@ are_one-self i = refl_eqb i
         elim_eq false e = absurd (eqb-false n n e refl)
 
 -- a path of a file of its own
-module _ (label new : Path → Option ℕ) (one : One) (p : Path) (i : ℕ) (k : IsKernel label one) (there : new p ≡ Some i)
+module _ (label new : Path → Option ℕ) (one : Aliases) (p : Path) (i : ℕ) (k : IsKernel label one) (there : new p ≡ Some i)
     (elsewhere : (q : Path) → q ≢ p → new q ≡ label q) (fresh : (q : Path) → label q ≢ Some i) where
   apart : (q : Path) → (o : Option ℕ) → label q ≡ o → are_one o (Some i) ≡ false
   apart q None e = refl
@@ -102,7 +102,7 @@ module _ (label new : Path → Option ℕ) (one : One) (p : Path) (i : ℕ) (k :
           rw (elsewhere a other, elsewhere b more) refl
 
 -- a path that no file has any more
-module _ (label new : Path → Option ℕ) (one : One) (p : Path) (k : IsKernel label one) (gone : new p ≡ None)
+module _ (label new : Path → Option ℕ) (one : Aliases) (p : Path) (k : IsKernel label one) (gone : new p ≡ None)
     (elsewhere : (q : Path) → q ≢ p → new q ≡ label q) where
   pub kernel_without : IsKernel new (without one p)
   kernel_without = record {
@@ -148,7 +148,7 @@ paths_in p q (e ∷ pairs) = rw (tie_paths p q e.0 e.1) (at (paths_in p q pairs)
     at rest true here = rw (same_back p e.0, here) (ap (λ b. same_path q e.1 || b) rest)
     at rest false here = rw (same_back p e.0, here) rest
 
-pub paths_of-any : (one : One) (p q : Path) → any_path q (paths_of one p) ≡ is_one one p q
+pub paths_of-any : (one : Aliases) (p q : Path) → any_path q (paths_of one p) ≡ is_one one p q
 paths_of-any one p q = paths_in p q (items one) ∙ sym (contains-items one (p, q))
 
 pub same_by_cmp : (p q : Path) → eq_by_cmp path_cmp p q ≡ same_path p q
@@ -200,7 +200,7 @@ are_one-back (Some i) None = refl
 are_one-back (Some i) (Some j) = by_bools (i == j) (j == i)
     (λ e. rw (eqb-true i j e) (are_one-self j)) (λ e. rw (eqb-true j i e) (are_one-self i))
 
-module _ (label new : Path → Option ℕ) (one : One) (p q : Path) (i : ℕ) (k : IsKernel label one) (from : label p ≡ Some i) (none : label q ≡ None)
+module _ (label new : Path → Option ℕ) (one : Aliases) (p q : Path) (i : ℕ) (k : IsKernel label one) (from : label p ≡ Some i) (none : label q ≡ None)
     (there : new q ≡ Some i) (elsewhere : (r : Path) → r ≢ q → new r ≡ label r) where
   with_file : (r : Path) → any_path r (paths_of one p) ≡ are_one (Some i) (label r)
   with_file r = paths_of-any one p r ∙ k.each p r ∙ ap (λ x. are_one x (label r)) from
@@ -340,7 +340,7 @@ module _ (p q : Path) (apart : rest_below p q ≡ None) where
       add (Some x) (Some y) f g = rw (f, g, tie_paths x y e.0 e.1) refl
 
   -- the labels go with the paths
-  pub kernel_moved : (label new : Path → Option ℕ) (one : One) → IsKernel label one → ((n : Name) (s : Path) → label (q ++ n ∷ s) ≡ None) →
+  pub kernel_moved : (label new : Path → Option ℕ) (one : Aliases) → IsKernel label one → ((n : Name) (s : Path) → label (q ++ n ∷ s) ≡ None) →
       ((r : Path) → new r ≡ option_and_then label (before_move p q r)) → IsKernel new (moved_one p q one)
   kernel_moved label new one k empty moves = record {
     each = λ a b. contains-from_list pair_cmp-IsTotalOrder (filter_map (moved_pair p q) (items one)) (a, b)

@@ -12,7 +12,7 @@ use Rattle.bp_layout.proofs.Below.{same_path-is}
 use Rattle.bp_plain.specs.Numbered.{Numbered, NumberedFiles, has_number, map_of, number_at, number_in, paths_numbered}
 use Rattle.bp_plain.specs.Numbered.Numbered.{directory, numbered_file}
 use Rattle.bp_plain.specs.Plain.{path_count, paths_of}
-use Rattle.bp_plain.specs.PlainTree.{One, is_one, path_cmp}
+use Rattle.bp_plain.specs.PlainTree.{Aliases, is_one, path_cmp}
 use Rattle.std.specs.Global.{Vec}
 use Rattle.arrayvec.specs.ArrayVec.{ArrayVec}
 use Rattle.bp_plain.specs.declared.trees.entries.Node.{Node as Kept}
@@ -41,7 +41,7 @@ len_once [] once = len-empty path_cmp
 len_once (p ∷ paths) once =
     len-insert path_cmp-IsTotalOrder (from_list paths) p ∙ rw (set_has paths p, once.0) (rw add-one (ap suc (len_once paths once.1)))
 
-pub count_is : (one : One) (p : Path) (paths : List Path) → AreOnce paths → ((q : Path) → any_path q paths ≡ is_one one p q) → path_count one p ≡ length paths
+pub count_is : (one : Aliases) (p : Path) (paths : List Path) → AreOnce paths → ((q : Path) → any_path q paths ≡ is_one one p q) → path_count one p ≡ length paths
 count_is one p paths once are =
     ap len (same_set path_cmp-IsTotalOrder path_cmp-IsAntisymmetric (from_list (paths_of one p)) (from_list paths) (λ q. set_has (paths_of one p) q ∙ paths_of-any one p q ∙ sym (are q) ∙ sym (set_has paths q)))
     ∙ len_once paths once

@@ -4,9 +4,9 @@ use Rattle.std.specs.Prelude.{◌≡◌, ℕ, List, [], ◌∷◌, ◌++◌, Opt
 use Rattle.std.specs.List.{filter_map}
 use Rattle.std.specs.FinSet.{from_list}
 use Rattle.bp_layout.specs.Lookup.{Path, are_one}
-use Rattle.bp_plain.specs.PlainTree.{One, is_one}
+use Rattle.bp_plain.specs.PlainTree.{Aliases, is_one}
 
-pub record IsKernel (label : Path → Option ℕ) (one : One) : Type 0 where
+pub record IsKernel (label : Path → Option ℕ) (one : Aliases) : Type 0 where
   pub each : (p q : Path) → is_one one p q ≡ are_one (label p) (label q)
 
 -- the pairs of a path, and of each of some paths, with paths of the same label
@@ -21,5 +21,5 @@ rows label [] paths = []
 rows label (p ∷ ps) paths = row label p paths ++ rows label ps paths
 
 -- the pairs among some paths
-abbrev pub kernel_from : (Path → Option ℕ) → List Path → One
+abbrev pub kernel_from : (Path → Option ℕ) → List Path → Aliases
 kernel_from label paths = from_list (rows label paths paths)

@@ -9,7 +9,7 @@ use Rattle.bp_layout.specs.Lookup.{Path, Node}
 use Rattle.bp_layout.specs.Lookup.Node.{dir, file}
 use Rattle.bp_limits.specs.Limits.{greatest_size, greatest_write, is_two, max_batch}
 use Rattle.bp_layout.specs.Below.{same_path, rest_below}
-use Rattle.bp_plain.specs.PlainTree.{FileTree, Nodes, One, PathMap, is_one, path_cmp}
+use Rattle.bp_plain.specs.PlainTree.{FileTree, Nodes, Aliases, PathMap, is_one, path_cmp}
 use Rattle.bp_layout.specs.PathText.{parse}
 use Rattle.bp_layout.specs.declared.fields.Kind.{Kind}
 use Rattle.bp_layout.specs.declared.fields.Kind.TheVariants.{File, Dir}
@@ -153,11 +153,11 @@ with_bytes_at (path ∷ paths) content nodes = with_bytes (with_bytes_at paths c
 -- ---- which paths are one
 
 -- the paths that are one with a path, itself among them
-abbrev pub paths_of : One → Path → List Path
+abbrev pub paths_of : Aliases → Path → List Path
 paths_of one path = filter_map (λ pair. if same_path pair.0 path then Some pair.1 else None) (set.items one)
 
 -- how many they are
-abbrev pub path_count : One → Path → ℕ
+abbrev pub path_count : Aliases → Path → ℕ
 path_count one path = set.len (set.from_list {R = path_cmp} (paths_of one path))
 
 -- the pairs of a new path with itself and with each of some others
@@ -166,14 +166,14 @@ pairs_with path [] = (path, path) ∷ []
 pairs_with path (other ∷ others) = (path, other) ∷ (other, path) ∷ pairs_with path others
 
 -- a path of a file of its own, and another one of the file at a path
-abbrev pub alone : One → Path → One
+abbrev pub alone : Aliases → Path → Aliases
 alone one path = set.insert one (path, path)
 
-abbrev pub linked : One → Path → Path → One
+abbrev pub linked : Aliases → Path → Path → Aliases
 linked one path new = set.union one (set.from_list (pairs_with new (paths_of one path)))
 
 -- no file has the path any more
-abbrev pub without : One → Path → One
+abbrev pub without : Aliases → Path → Aliases
 without one path = set.retain one (λ pair. not (same_path pair.0 path) && not (same_path pair.1 path))
 
 -- a pair whose paths move as entries do
@@ -181,7 +181,7 @@ abbrev pub moved_pair : Path → Path → Path × Path → Option (Path × Path)
 moved_pair p q pair = if same_path pair.0 q || same_path pair.1 q then None
     else Some (moved_path p q pair.0, moved_path p q pair.1)
 
-abbrev pub moved_one : Path → Path → One → One
+abbrev pub moved_one : Path → Path → Aliases → Aliases
 moved_one p q one = set.from_list (filter_map (moved_pair p q) (set.items one))
 
 -- ---- what a call makes of both

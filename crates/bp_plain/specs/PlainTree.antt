@@ -26,16 +26,16 @@ abbrev pub Nodes : Type 0
 Nodes = FinMap path_cmp Node
 
 -- pairs of paths that are one file: each path of a file makes one with itself
-abbrev pub One : Type 0
-One = FinSet pair_cmp
+abbrev pub Aliases : Type 0
+Aliases = FinSet pair_cmp
 
-abbrev pub is_one : One → Path → Path → Bool
+abbrev pub is_one : Aliases → Path → Path → Bool
 is_one one p q = contains one (p, q)
 
 -- both
 pub record PathMap : Type 0 where
   pub nodes : Nodes
-  pub one : One
+  pub one : Aliases
 
 -- the version of the format; what stands at each path now; and what stood there at the snapshot, where one was
 -- made

@@ -1,7 +1,7 @@
 -- The calls, refusals and answers of the program as those of the definitions.
 use Rattle.std.specs.Prelude.{ℕ, ◌≤◌, ◌+◌, List, length, map, slice_range}
 use Rattle.std.specs.List.{All}
-use Rattle.bp_limits.specs.Limits.{max_read}
+use Rattle.bp_limits.specs.Limits.{max_pieces, max_read}
 use Rattle.bp_plain.specs.declared.calls.Call.{Call as GivenCall}
 use Rattle.bp_plain.specs.declared.calls.Call.TheVariants as given
 use Rattle.bp_plain.specs.declared.errors.FsError.{FsError}
@@ -69,5 +69,5 @@ abbrev pub CanAsk : GivenCall → Type 0
 CanAsk (given.Read path off len) = len ≤ max_read
 CanAsk (given.SnapRead path off len) = len ≤ max_read
 CanAsk (given.Batch text pieces) =
-    (1 ≤ length pieces.now) × (length pieces.now ≤ 16) × All (LiesIn text.now) pieces.now
+    (1 ≤ length pieces.now) × (length pieces.now ≤ max_pieces) × All (LiesIn text.now) pieces.now
 CanAsk call = Unit {0}

@@ -10,7 +10,7 @@ use Rattle.bp_limits.specs.declared.version.Version.{Version}
 use Rattle.bp_limits.specs.declared.version.Version.TheVariants as marked
 use Rattle.bp_plain.specs.Numbered.{Numbered, NumberedFiles}
 use Rattle.bp_plain.specs.Numbered.Numbered.{directory, numbered_file}
-use Rattle.bp_plain.specs.PlainTree.{FileTree, Nodes, One, PathMap}
+use Rattle.bp_plain.specs.PlainTree.{FileTree, Nodes, Aliases, PathMap}
 
 abbrev pub node_bytes : Node → Option (List ℕ)
 node_bytes dir = None
@@ -53,11 +53,11 @@ nodes_code = finite.code path_code node_code
 abbrev pub numbered_code : Coded NumberedFiles
 numbered_code = finite.code path_code numbered_node_code
 
-abbrev pub one_code : Coded One
+abbrev pub one_code : Coded Aliases
 one_code = set.code (coded× path_code path_code)
 
 abbrev pub map_code : Coded PathMap
-map_code = code_by (Nodes × One) (coded× nodes_code one_code) (λ map. (map.nodes, map.one))
+map_code = code_by (Nodes × Aliases) (coded× nodes_code one_code) (λ map. (map.nodes, map.one))
     (λ parts. record { nodes = parts.0; one = parts.1 }) (λ _. refl)
 
 abbrev pub version_from : Bool → Version

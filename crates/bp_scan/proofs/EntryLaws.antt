@@ -18,7 +18,7 @@ use Rattle.bp_scan.specs.Named.{CountsAmong}
 use Rattle.bp_scan.specs.Progress.{IsDone, IsEntered, IsUnderWay}
 use Rattle.bp_scan.specs.Inodes.{EntersInode, FailsInode}
 use Rattle.bp_scan.specs.Reading.{IsReading, IsInside, steps}
-use Rattle.bp_scan.specs.Room.{HasRoom}
+use Rattle.bp_scan.specs.Room.{HasScanMemory}
 use Rattle.bp_scan.specs.declared.directories.Directory.{Directory}
 use Rattle.bp_scan.specs.declared.work.Scan.{Scan}
 use Rattle.bp_scan.proofs.Named.{among_few}
@@ -158,7 +158,7 @@ module _ (image : Image) (work : Scan) (directory : Directory) (slot : ℕ) (ins
         fails_in_inode new c p fails =
             inode_fails image work d slot reading j c p (omega (arith, some)) (here_found image work d slot reading inside.at.entered inside.at.kind slot j (entry_names some) low) new fails
 
-        module _ (new : has work.inodes j ≡ true) (rest : Set) (claimed : rest ≡ without work.inodes j) (marked : List ℕ) (first_name : marked ≡ set work.counts j 1) (after : Scan) (room : HasRoom image after)
+        module _ (new : has work.inodes j ≡ true) (rest : Set) (claimed : rest ≡ without work.inodes j) (marked : List ℕ) (first_name : marked ≡ set work.counts j 1) (after : Scan) (room : HasScanMemory image after)
             (enters : EntersInode image j (record { blocks = work.blocks; inodes = rest; todo = work.todo; counts = marked; entries = work.entries }) after) where
           now_is : after.inodes ≡ without work.inodes j
           now_is = enters.inodes ∙ claimed

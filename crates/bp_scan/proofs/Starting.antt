@@ -20,7 +20,7 @@ use Rattle.bp_scan.specs.Inodes.{EntersInode, FailsInode}
 use Rattle.bp_scan.specs.Named.{CountsAmong}
 use Rattle.bp_scan.specs.Progress.{IsDone, IsUnderWay}
 use Rattle.bp_scan.specs.Reading.{HasWholeInodes, HasInodeFile, IsReading}
-use Rattle.bp_scan.specs.Room.{HasRoom}
+use Rattle.bp_scan.specs.Room.{HasScanMemory}
 use Rattle.bp_scan.specs.declared.work.Scan.{Scan}
 use Rattle.bp_scan.proofs.Entering.{enter, fails_tree, nothing_seen}
 use Rattle.bp_scan.proofs.Readable.{is_sound, is_full, content_followed}
@@ -78,7 +78,7 @@ module _ (image : Image) (ready : HasWholeInodes image) (all left : Set) (whole 
   pub root_fails : (c : Check) (p : ℕ) → FailsInode image 1 left c p → Fails image c p
   root_fails c p fails = fails_inode image File NoEntry all left whole ready.some_inodes (inr refl) file 1 (omega arith) root_found not_root c p fails
 
-  pub reading_starts : (none : Set) (before after : Scan) → HasRoom image after → none ≡ empty (64 * block_count image) → Fills 2 (inode_count image) none before.inodes →
+  pub reading_starts : (none : Set) (before after : Scan) → HasScanMemory image after → none ≡ empty (64 * block_count image) → Fills 2 (inode_count image) none before.inodes →
       before.todo ≡ empty (64 * block_count image) → before.counts ≡ replicate (64 * block_count image) 0 → left ≡ before.blocks → EntersInode image 1 before after → IsReading image after 0 0
   reading_starts none before after room none_is fills todo_is counts_are left_is enters = record {
     ready = ready;

@@ -9,7 +9,7 @@ use Rattle.bp_spelling.specs.Names.{AreNames}
 use Rattle.bp_scan.specs.Scanned.{IsScanned}
 use Rattle.bp_scan.specs.Progress.{IsDone, IsEntered, IsMidway}
 use Rattle.bp_scan.specs.Named.{CountsAmong}
-use Rattle.bp_scan.specs.Room.{HasRoom}
+use Rattle.bp_scan.specs.Room.{HasScanMemory}
 use Rattle.bp_scan.specs.declared.directories.Directory.{Directory}
 use Rattle.bp_scan.specs.declared.work.Scan.{Scan}
 
@@ -25,7 +25,7 @@ HasInodeFile image all left = IsScanned image (λ t. ⊥ ⊎ (t ≡ 0)) (λ i s.
 
 -- nothing was entered: the sets are empty, and no name is counted
 pub record IsUnread (image : Image) (work : Scan) : Type 0 where
-  pub room : HasRoom image work
+  pub room : HasScanMemory image work
   pub blocks : work.blocks ≡ empty (block_count image)
   pub inodes : work.inodes ≡ empty (block_inodes * block_count image)
   pub todo : work.todo ≡ empty (block_inodes * block_count image)
@@ -34,7 +34,7 @@ pub record IsUnread (image : Image) (work : Scan) : Type 0 where
 -- the work in the middle of a scan; the directory at hand is 0 between directories
 pub record IsReading (image : Image) (work : Scan) (current slot : ℕ) : Type 0 where
   pub ready : HasWholeInodes image
-  pub room : HasRoom image work
+  pub room : HasScanMemory image work
   pub range : (i : ℕ) → has work.inodes i ≡ true → (2 ≤ i) × (i < inode_count image)
   pub root_kind : IsDirectory image root_inumber
   pub midway : IsMidway image work.blocks work.inodes work.todo current slot

@@ -8,7 +8,7 @@ ghost use Rattle.bp_layout.specs.Directory.{inumber_in};
 ghost use Rattle.bp_layout.specs.Tree.{IsFull, IsSound};
 ghost use Rattle.bp_limits.specs.Limits.{block_entries, entry_size};
 ghost use Rattle.bp_scan.specs.Reading.{IsReading, IsAtHand, IsInside, steps};
-ghost use Rattle.bp_scan.specs.Room.{HasRoom};
+ghost use Rattle.bp_scan.specs.Room.{HasScanMemory};
 ghost use Rattle.bp_scan.specs.Misspelled.{FailsNames};
 ghost use Rattle.bp_spelling.specs.Names.{AreNames, entry_place_in};
 ghost use Rattle.pm_region.specs.Memory.{current_words};
@@ -61,7 +61,7 @@ fn read_again<R: Region>(
     ensures inside { OnOk result (IsInside (current_words (R.memory region.now)) work.new directory (slot.number + 1)) }
     ensures steps { OnOk result (steps work.new ≤ steps work.old) }
     ensures fault { IfErr result (λ f. Fails (current_words (R.memory region.now)) f.check f.place) }
-    ensures room { HasRoom (current_words (R.memory region.now)) work.new }
+    ensures room { HasScanMemory (current_words (R.memory region.now)) work.new }
 {
     let inode = slot.named as u32;
     match get(region, inode).kind {
@@ -91,7 +91,7 @@ fn read_entry<R: Region>(
     ensures inside { OnOk result (IsInside (current_words (R.memory region.now)) work.new directory (slot.number + 1)) }
     ensures steps { OnOk result (steps work.new ≤ steps work.old) }
     ensures fault { IfErr result (λ f. Fails (current_words (R.memory region.now)) f.check f.place) }
-    ensures room { HasRoom (current_words (R.memory region.now)) work.new }
+    ensures room { HasScanMemory (current_words (R.memory region.now)) work.new }
 {
     let named = slot.named;
     if named == 0 {
@@ -128,7 +128,7 @@ fn read_leaf<R: Region>(
         OnOk result (IsInside words work.new directory end) }
     ensures steps { OnOk result (steps work.new ≤ steps work.old) }
     ensures fault { IfErr result (λ f. Fails (current_words (R.memory region.now)) f.check f.place) }
-    ensures room { HasRoom (current_words (R.memory region.now)) work.new }
+    ensures room { HasScanMemory (current_words (R.memory region.now)) work.new }
 {
     let place = entry_place(region, directory.tree, first, 0);
     let count = (directory.tree.size / ENTRY_SIZE - first).min(BLOCK_ENTRIES) as u32;
@@ -155,7 +155,7 @@ fn read_entries<R: Region>(
         OnOk result (IsInside words work.new directory (directory.tree.size / entry_size)) }
     ensures steps { OnOk result (steps work.new ≤ steps work.old) }
     ensures fault { IfErr result (λ f. Fails (current_words (R.memory region.now)) f.check f.place) }
-    ensures room { HasRoom (current_words (R.memory region.now)) work.new }
+    ensures room { HasScanMemory (current_words (R.memory region.now)) work.new }
 {
     for leaf in 0..(directory.tree.size / ENTRY_SIZE).div_ceil(BLOCK_ENTRIES) {
         read_leaf(region, directory, BLOCK_ENTRIES * leaf, work)?;
@@ -201,7 +201,7 @@ pub(crate) fn read_directory<R: Region>(
     ensures done { OnOk result (IsReading (current_words (R.memory region.now)) work.new 0 0) }
     ensures steps { OnOk result (steps work.new ≤ steps work.old) }
     ensures fault { IfErr result (λ f. Fails (current_words (R.memory region.now)) f.check f.place) }
-    ensures room { HasRoom (current_words (R.memory region.now)) work.new }
+    ensures room { HasScanMemory (current_words (R.memory region.now)) work.new }
 {
     let words = get(region, inode);
     let tree = Tree::of(&words);

@@ -10,7 +10,7 @@ ghost use Rattle.bp_layout.specs.Names.{AreCounts};
 ghost use Rattle.bp_layout.specs.Reached.{IsReached};
 ghost use Rattle.bp_layout.specs.Whole.{FailsWhole, IsFileSystem};
 ghost use Rattle.bp_scan.specs.Reading.{IsReading, IsUnread};
-ghost use Rattle.bp_scan.specs.Room.{HasRoom};
+ghost use Rattle.bp_scan.specs.Room.{HasScanMemory};
 ghost use Rattle.pm_region.specs.Memory.{current_words};
 ghost use Rattle.bp_layout.specs.Thaw.{none_kept};
 
@@ -28,7 +28,7 @@ fn start<R: Region>(region: &R, work: &mut Scan) -> Result<(), CheckFault>
     requires unread { IsUnread (current_words (R.memory region.now)) work.old }
     ensures started { OnOk result (IsReading (current_words (R.memory region.now)) work.new 0 0) }
     ensures fault { IfErr result (λ f. Fails (current_words (R.memory region.now)) f.check f.place) }
-    ensures room { HasRoom (current_words (R.memory region.now)) work.new }
+    ensures room { HasScanMemory (current_words (R.memory region.now)) work.new }
 {
     let room = work.blocks.room();
     work.blocks.fill(1, room);
@@ -44,7 +44,7 @@ fn read_directories<R: Region>(region: &R, work: &mut Scan) -> Result<(), CheckF
     ensures reading { OnOk result (IsReading (current_words (R.memory region.now)) work.new 0 0) }
     ensures none_left { OnOk result ((i : ℕ) → has work.new.todo i ≡ false) }
     ensures fault { IfErr result (λ f. Fails (current_words (R.memory region.now)) f.check f.place) }
-    ensures room { HasRoom (current_words (R.memory region.now)) work.new }
+    ensures room { HasScanMemory (current_words (R.memory region.now)) work.new }
 {
     while let Some(inode) = work.todo.take() {
         read_directory(region, inode, work)?;
@@ -64,7 +64,7 @@ pub(crate) fn read_trees<R: Region>(region: &R, work: &mut Scan) -> Result<(), C
     ensures reached { let words = current_words (R.memory region.now) in
         OnOk result ((i : ℕ) → 1 ≤ i → i < inode_count words → has work.new.inodes i ≡ false → IsReached words i) }
     ensures fault { IfErr result (λ f. FailsWhole (current_words (R.memory region.now)) f.check f.place) }
-    ensures room { HasRoom (current_words (R.memory region.now)) work.new }
+    ensures room { HasScanMemory (current_words (R.memory region.now)) work.new }
 {
     check_second(region)?;
     start(region, work)?;

@@ -9,7 +9,7 @@ ghost use Rattle.bp_layout.specs.Whole.{IsFileSystem};
 ghost use Rattle.bp_layout.specs.Words.{block_count, word};
 ghost use Rattle.bp_limits.specs.Limits.{block_inodes, block_words, super_blocks, super_magic, super_root, super_size};
 ghost use Rattle.bp_scan.specs.Faults.{IsFault};
-ghost use Rattle.bp_scan.specs.Room.{HasRoom};
+ghost use Rattle.bp_scan.specs.Room.{HasScanMemory};
 ghost use Rattle.bp_scan.specs.Totals.{HasTotals};
 ghost use Rattle.pm_region.specs.Memory.{current_words};
 ghost use Rattle.bp_layout.specs.Thaw.{none_kept};
@@ -73,7 +73,7 @@ fn check_superblock<R: Region>(region: &R) -> Result<(), MountFault>
 /// Does what [`scan`] does, with the two sets and the counts in the work.
 fn scan_with<R: Region>(region: &R, work: &mut Scan) -> Result<Totals, MountFault>
     requires sized { IsSized (current_words (R.memory region.now)) }
-    requires room { HasRoom (current_words (R.memory region.now)) work.old }
+    requires room { HasScanMemory (current_words (R.memory region.now)) work.old }
     ensures well_formed { IsOk result ↔ IsFileSystem (current_words (R.memory region.now)) }
     ensures blocks { OnOk result (AreFreeBlocks (current_words (R.memory region.now)) none_kept (has work.new.blocks)) }
     ensures inodes { OnOk result (AreFreeInodes (current_words (R.memory region.now)) (has work.new.inodes)) }
@@ -83,7 +83,7 @@ fn scan_with<R: Region>(region: &R, work: &mut Scan) -> Result<Totals, MountFaul
     ensures no_blocks { OnErr result (work.new.blocks ≡ empty (length work.old.blocks)) }
     ensures no_inodes { OnErr result (work.new.inodes ≡ empty (length work.old.inodes)) }
     ensures no_counts { OnErr result (work.new.counts ≡ replicate (length work.old.counts) 0) }
-    ensures room { HasRoom (current_words (R.memory region.now)) work.new }
+    ensures room { HasScanMemory (current_words (R.memory region.now)) work.new }
 {
     work.clear();
     check_superblock(region)?;

@@ -11,7 +11,7 @@ ghost use Rattle.bp_layout.specs.Whole.{FailsWhole, HasNoSecond};
 ghost use Rattle.bp_layout.specs.Words.{word};
 ghost use Rattle.bp_scan.specs.Inodes.{AreWords, IsRightInode, IsWrong, EntersInode, FailsInode};
 ghost use Rattle.bp_scan.specs.Reading.{HasWholeInodes, HasInodeFile};
-ghost use Rattle.bp_scan.specs.Room.{HasRoom};
+ghost use Rattle.bp_scan.specs.Room.{HasScanMemory};
 ghost use Rattle.bp_scan.specs.Scanned.{HasAllBlocks};
 ghost use Rattle.pm_region.specs.Memory.{current_words};
 
@@ -141,14 +141,14 @@ pub(crate) fn enter<R: Region>(region: &R, inode: u32, work: &mut Scan) -> Resul
         IsFull words (root_of words 0) (size_of words 0) }
     requires some { 1 ≤ inode }
     requires there { inode < inode_count (current_words (R.memory region.now)) }
-    requires room { HasRoom (current_words (R.memory region.now)) work.old }
+    requires room { HasScanMemory (current_words (R.memory region.now)) work.old }
     requires not_first { has work.old.blocks 0 ≡ false }
     requires new { has work.old.todo inode ≡ false }
     requires todo { inode < length work.old.todo }
     ensures ok { OnOk result (EntersInode (current_words (R.memory region.now)) inode work.old work.new) }
     ensures err { let words = current_words (R.memory region.now) in
         IfErr result (λ f. FailsInode words inode work.old.blocks f.check f.place) }
-    ensures room { HasRoom (current_words (R.memory region.now)) work.new }
+    ensures room { HasScanMemory (current_words (R.memory region.now)) work.new }
 {
     let words = load_inode(region, inode);
     check_words(inode, words)?;

@@ -28,7 +28,6 @@ pub(crate) struct Scan {
 impl Scan {
     /// Empties the sets, and sets the counts to 0.
     pub fn clear(&mut self)
-        requires { length self.old.counts ≡ length self.old.inodes }
         ensures blocks { self.new.blocks ≡ empty (length self.old.blocks) }
         ensures inodes { self.new.inodes ≡ empty (length self.old.inodes) }
         ensures todo { self.new.todo ≡ empty (length self.old.todo) }
@@ -38,17 +37,7 @@ impl Scan {
         self.blocks.clear();
         self.inodes.clear();
         self.todo.clear();
-        clear_counts(&mut self.counts, self.inodes.room());
-    }
-}
-
-/// Sets each of so many counts to 0.
-fn clear_counts(counts: &mut Counts, room: u32)
-    requires { room ≡ length counts.old }
-    ensures { counts.new ≡ replicate (length counts.old) 0 }
-{
-    for i in 0..room {
-        counts.set(i, 0);
+        self.counts.clear();
     }
 }
 

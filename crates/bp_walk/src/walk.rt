@@ -30,7 +30,7 @@ pub struct CheckFault {
 }
 
 /// The bytes below a pointer that stands `level` levels above the content words.
-fn span(level: u32) -> u64
+fn covered_bytes(level: u32) -> u64
     requires least { 1 ≤ level }
     requires most { level ≤ suc max_height }
     ensures { result ≡ covered level }
@@ -103,8 +103,8 @@ fn live_slots(size: u64, top: Pointer) -> u32
     ensures all { (slot : ℕ) → slot < block_words → (block_words * top.index + slot) * covered top.level < size
         → slot < result }
 {
-    let rest = size - top.index * span(top.level + 1);
-    ((rest - 1) / span(top.level) + 1).min(BLOCK_WORDS as u64) as u32
+    let rest = size - top.index * covered_bytes(top.level + 1);
+    ((rest - 1) / covered_bytes(top.level) + 1).min(BLOCK_WORDS as u64) as u32
 }
 
 /// Whether all of these pointers are null. It looks at each, which takes less time than to stop at the first that
@@ -245,7 +245,7 @@ pub fn take_tree<R: Region>(
     let Ok(root) = RootWord::read(tree.root, top) else {
         return Err(root_fault(tree, top, at));
     };
-    if tree.size > span(root.height + 1) {
+    if tree.size > covered_bytes(root.height + 1) {
         return Err(CheckFault {
             check: Check::Capacity,
             place: at + 1,

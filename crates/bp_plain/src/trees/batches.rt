@@ -1,6 +1,7 @@
 //! Batches of writes in the plain tree.
 
 ghost use Rattle.bp_layout.specs.PathText.{parse};
+ghost use Rattle.bp_limits.specs.Limits.{max_pieces};
 ghost use Rattle.bp_plain.specs.Calls.Call.{batch};
 ghost use Rattle.bp_plain.specs.Plain as plain;
 ghost use Rattle.bp_plain.specs.Seen.{LiesIn, piece_in, refusal_of, spanned};
@@ -14,10 +15,8 @@ use crate::calls::{Piece, Span};
 use crate::errors::FsError;
 use crate::paths::{first, parse, path_of, when};
 use crate::replies::Reply;
+use bp_limits::MAX_BATCH;
 use std::alloc::{AllocError, Global};
-
-/// The most bytes of one batch.
-const MAX_BATCH: u64 = 65_536;
 
 impl Plain {
     // ---- refusals
@@ -28,7 +27,7 @@ impl Plain {
         text: &[u8],
         pieces: &[Piece],
     ) -> Result<Option<FsError>, AllocError>
-        requires few { length pieces.now ≤ 16 }
+        requires few { length pieces.now ≤ max_pieces }
         requires lie { All (LiesIn text.now) pieces.now }
         ensures { IfOk result (λ found. option_map refusal_of found
             ≡ plain.refusal self.now (batch (map (piece_in text.now) pieces.now))) }
@@ -149,7 +148,7 @@ fn has_bad_path(alloc: Global, text: &[u8], pieces: &[Piece]) -> Result<bool, Al
 
 /// How many bytes the pieces have.
 fn total(pieces: &[Piece]) -> u64
-    requires { length pieces.now ≤ 16 }
+    requires { length pieces.now ≤ max_pieces }
     ensures { result ≡ sum_by (λ piece. piece.bytes.len) pieces.now }
 {
     let mut total = 0;

@@ -14,11 +14,11 @@ use Rattle.bp_calls.proofs.Refusals.{is_least}
 use Rattle.bp_calls.proofs.creating.enter.Goals as goal
 
 pub set-requires : goal.set-requires
-set-requires g c = omega (arith, c.take-inode.ensures.least.low, c.requires.exact.sets.inode_room, c.requires.exact.count_room)
+set-requires g c = omega (arith, c.take_least-inode.ensures.least.low, c.requires.exact.sets.inode_room, c.requires.exact.count_room)
 
 pub enter_slot-requires-clause-can : goal.enter_slot-requires-clause-can
 enter_slot-requires-clause-can g c =
-    can_name (g.R.Region.memory c.args.parts.now.region) c.args.parts.now.blocks c.args.parts.now.inodes c.args.dir c.take-inode.result c.args.name.now c.requires.can c.take-inode.ensures.least
+    can_name (g.R.Region.memory c.args.parts.now.region) c.args.parts.now.blocks c.args.parts.now.inodes c.args.dir c.take_least-inode.result c.args.name.now c.requires.can c.take_least-inode.ensures.least
 
 pub enter_slot-requires-clause-found : goal.enter_slot-requires-clause-found
 enter_slot-requires-clause-found g c = sym c.requires.slot ∙ c.in-Some.is
@@ -26,7 +26,7 @@ enter_slot-requires-clause-found g c = sym c.requires.slot ∙ c.in-Some.is
 pub enter_behind-requires : goal.enter_behind-requires
 enter_behind-requires g c =
     record {
-      can = can_enter_behind (g.R.Region.memory c.args.parts.now.region) c.args.parts.now.blocks c.args.parts.now.inodes c.args.dir c.take-inode.result c.args.name.now c.requires.can c.take-inode.ensures.least
+      can = can_enter_behind (g.R.Region.memory c.args.parts.now.region) c.args.parts.now.blocks c.args.parts.now.inodes c.args.dir c.take_least-inode.result c.args.name.now c.requires.can c.take_least-inode.ensures.least
           (sym c.requires.slot ∙ c.in-None.is);
     }
 
@@ -38,10 +38,10 @@ returns-in-Some g c =
     record {
       performs = λ free least.
           subst (λ o. PerformsWithin none_kept needed 5 (stores_behind_growth needed) old new (enters c.args.dir (entrant_of o)) (EntersName c.args.dir c.args.name.now c.args.kind))
-          (sym (is_least (current_words old) c.args.parts.now.blocks c.args.parts.now.inodes c.requires.can.exact c.take-inode.result c.take-inode.ensures.least free least)) c.enter_slot.ensures.performs;
+          (sym (is_least (current_words old) c.args.parts.now.blocks c.args.parts.now.inodes c.requires.can.exact c.take_least-inode.result c.take_least-inode.ensures.least free least)) c.enter_slot.ensures.performs;
       exact = exact_with (current_words old) (current_words new) c.args.parts.now _ c.requires.exact
-          (rw c.take-inode.ensures.rest (c.enter_slot.ensures.exact c.args.parts.now.blocks c.args.parts.now.inodes c.requires.can.exact)) refl
-          c.enter_slot.ensures.performs.effect.adds.trees.whole (rw c.set.ensures (length-set c.args.parts.now.counts c.take-inode.result 1))
+          (rw c.take_least-inode.ensures.rest (c.enter_slot.ensures.exact c.args.parts.now.blocks c.args.parts.now.inodes c.requires.can.exact)) refl
+          c.enter_slot.ensures.performs.effect.adds.trees.whole (rw c.set.ensures (length-set c.args.parts.now.counts c.take_least-inode.result 1))
           (rw c.set.ensures (c.enter_slot.ensures.counts c.args.parts.now.counts c.requires.exact.counts));
     }
 
@@ -53,9 +53,9 @@ returns-in-None g c =
     record {
       performs = λ free least.
           subst (λ o. PerformsWithin none_kept needed 5 (stores_behind_growth needed) old new (enters c.args.dir (entrant_of o)) (EntersName c.args.dir c.args.name.now c.args.kind))
-          (sym (is_least (current_words old) c.args.parts.now.blocks c.args.parts.now.inodes c.requires.can.exact c.take-inode.result c.take-inode.ensures.least free least)) c.enter_behind.ensures.performs;
+          (sym (is_least (current_words old) c.args.parts.now.blocks c.args.parts.now.inodes c.requires.can.exact c.take_least-inode.result c.take_least-inode.ensures.least free least)) c.enter_behind.ensures.performs;
       exact = exact_with (current_words old) (current_words new) c.args.parts.now _ c.requires.exact
-          (rw (c.enter_behind.ensures.inodes, c.take-inode.ensures.rest) (c.enter_behind.ensures.exact c.args.parts.now.inodes c.requires.can.exact)) c.enter_behind.ensures.frozen
-          c.enter_behind.ensures.performs.effect.adds.trees.whole (rw (c.enter_behind.ensures.counted, c.set.ensures) (length-set c.args.parts.now.counts c.take-inode.result 1))
+          (rw (c.enter_behind.ensures.inodes, c.take_least-inode.ensures.rest) (c.enter_behind.ensures.exact c.args.parts.now.inodes c.requires.can.exact)) c.enter_behind.ensures.frozen
+          c.enter_behind.ensures.performs.effect.adds.trees.whole (rw (c.enter_behind.ensures.counted, c.set.ensures) (length-set c.args.parts.now.counts c.take_least-inode.result 1))
           (rw (c.enter_behind.ensures.counted, c.set.ensures) (c.enter_behind.ensures.counts c.args.parts.now.counts c.requires.exact.counts));
     }

@@ -27,10 +27,10 @@ returns-in_default-clause-err g c =
     (λ form. clash (c.in_default.ensures.form.1 (subst (λ t. IsRootWord t c.args.tree.root) top form)) refl)
     (λ high. c.root_fault.ensures.high (subst (λ t. t < height_of c.args.tree.root) top high)) (λ low. c.root_fault.ensures.low (subst (λ t. height_of c.args.tree.root ≤ t) top low)))
 
-pub returns-then-tree-span-clause-err : goal.returns-then-tree-span-clause-err
-returns-then-tree-span-clause-err g c =
+pub returns-then-tree-covered_bytes-clause-err : goal.returns-then-tree-covered_bytes-clause-err
+returns-then-tree-covered_bytes-clause-err g c =
     let next : suc (height_of c.args.tree.root) ≡ c.in-Ok.root.height + 1 = omega (arith, c.in-Ok.ensures.height) in
-    let span : c.span.result ≡ covered (suc (height_of c.args.tree.root)) = c.span.ensures ∙ ap covered (sym next) in
+    let span : c.covered_bytes.result ≡ covered (suc (height_of c.args.tree.root)) = c.covered_bytes.ensures ∙ ap covered (sym next) in
     capacity (omega (arith, span, c.if-tree-span.true))
 
 pub returns-in_err-block-clause-err : goal.returns-in_err-block-clause-err
@@ -38,7 +38,7 @@ returns-in_err-block-clause-err g c =
     let p = err_from_is_err_and c.from_residual.result c.from_residual.ensures.1 in
     let some : 0 < c.args.tree.size = omega (arith, c.if-tree-eq0.false) in
     let next : suc (height_of c.args.tree.root) ≡ c.in-Ok.root.height + 1 = omega (arith, c.in-Ok.ensures.height) in
-    let span : c.span.result ≡ covered (suc (height_of c.args.tree.root)) = c.span.ensures ∙ ap covered (sym next) in
+    let span : c.covered_bytes.result ≡ covered (suc (height_of c.args.tree.root)) = c.covered_bytes.ensures ∙ ap covered (sym next) in
     let fits : c.args.tree.size ≤ covered (suc (height_of c.args.tree.root)) = omega (arith, span, c.if-tree-span.false) in
     let refused : RefusesPointed (block_of c.args.tree.root) c.args.holes c.args.blocks.now c.in_err-block.field-0.0.check = subst (λ (x : ℕ). RefusesPointed x c.args.holes c.args.blocks.now c.in_err-block.field-0.0.check) c.in-Ok.ensures.block c.in_err-block.ensures.err in
     rw (p.1, p.2, c.in_err-block.ensures.place) (refused_root (current_words (g.R.Region.memory c.args.region.now)) c.args.at c.args.tree.root c.args.tree.size c.args.holes c.args.blocks.now c.in_err-block.field-0.0.check c.requires.room some fits refused)
@@ -68,7 +68,7 @@ returns-then-root-eq0-clause-ok g c =
     let image = current_words (g.R.Region.memory c.args.region.now) in
     let some : 0 < c.args.tree.size = omega (arith, c.if-tree-eq0.false) in
     let next : suc (height_of c.args.tree.root) ≡ c.in-Ok.root.height + 1 = omega (arith, c.in-Ok.ensures.height) in
-    let span : c.span.result ≡ covered (suc (height_of c.args.tree.root)) = c.span.ensures ∙ ap covered (sym next) in
+    let span : c.covered_bytes.result ≡ covered (suc (height_of c.args.tree.root)) = c.covered_bytes.ensures ∙ ap covered (sym next) in
     let fits : c.args.tree.size ≤ covered (suc (height_of c.args.tree.root)) = omega (arith, span, c.if-tree-span.false) in
     let named : block_of c.args.tree.root ≡ c.in_ok-block.block = sym c.in-Ok.ensures.block ∙ sym c.in_ok-block.ensures.named in
     let top : c.greatest_height-top.result ≡ greatest_height (version_of image) = c.greatest_height-top.ensures.height ∙ ap greatest_height c.version-version.ensures in
@@ -84,7 +84,7 @@ returns-clause-ok g c =
     let image = current_words (g.R.Region.memory c.args.region.now) in
     let some : 0 < c.args.tree.size = omega (arith, c.if-tree-eq0.false) in
     let next : suc (height_of c.args.tree.root) ≡ c.in-Ok.root.height + 1 = omega (arith, c.in-Ok.ensures.height) in
-    let span : c.span.result ≡ covered (suc (height_of c.args.tree.root)) = c.span.ensures ∙ ap covered (sym next) in
+    let span : c.covered_bytes.result ≡ covered (suc (height_of c.args.tree.root)) = c.covered_bytes.ensures ∙ ap covered (sym next) in
     let fits : c.args.tree.size ≤ covered (suc (height_of c.args.tree.root)) = omega (arith, span, c.if-tree-span.false) in
     let named : block_of c.args.tree.root ≡ c.in_ok-block.block = sym c.in-Ok.ensures.block ∙ sym c.in_ok-block.ensures.named in
     let top : c.greatest_height-top.result ≡ greatest_height (version_of image) = c.greatest_height-top.ensures.height ∙ ap greatest_height c.version-version.ensures in
@@ -101,8 +101,8 @@ returns-clause-err g c =
     claimed_root_fails image c.args.at c.args.tree.root c.args.tree.size c.args.holes c.args.blocks.now c.claim_pointed.new.blocks c.in_ok-block.block f.check f.place c.requires.room some named c.in_ok-block.ensures.ok c.if-block-eq0.false fails)
     c.take_below.ensures.err
 
-pub span-requires-clause-most : goal.span-requires-clause-most
-span-requires-clause-most g c = omega (arith, (c.in-Ok.ensures.form.0 refl).0, c.in-Ok.ensures.height, c.greatest_height-top.ensures.most)
+pub covered_bytes-requires-clause-most : goal.covered_bytes-requires-clause-most
+covered_bytes-requires-clause-most g c = omega (arith, (c.in-Ok.ensures.form.0 refl).0, c.in-Ok.ensures.height, c.greatest_height-top.ensures.most)
 
 pub take_below-requires-clause-low : goal.take_below-requires-clause-low
 take_below-requires-clause-low g c = omega (arith, (c.in-Ok.ensures.form.0 refl).0, c.greatest_height-top.ensures.most)

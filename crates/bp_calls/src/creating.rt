@@ -20,11 +20,12 @@ ghost use Rattle.bp_shapes.specs.Sets.{IsExact, kept_of};
 ghost use Rattle.bp_commit.specs.Performs.{HasRoomFor, Performs, PerformsWithin};
 ghost use Rattle.pm_region.specs.Memory.{current_words};
 
-use crate::entering::{enter_behind, enter_slot, tree_of};
+use crate::entering::{enter_behind, enter_slot};
 use crate::growing::{grow, grow_need};
 use bp_append::need_prep;
 use bp_dirs::free_slot;
 use bp_free::{NoSpace, Numbers, Parts};
+use bp_inodes::tree_of;
 use bp_layout::Kind;
 use bp_limits::ENTRY_SIZE;
 use bp_tree::Tree;

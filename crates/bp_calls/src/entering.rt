@@ -17,28 +17,15 @@ ghost use Rattle.bp_layout.specs.WellFormed.{IsWellFormed};
 ghost use Rattle.bp_commit.specs.Performs.{PerformsWithin};
 ghost use Rattle.pm_region.specs.Memory.{current_words, room_in};
 
-use crate::writing::root_path;
 use bp_append::prep;
 use bp_dirs::{entry_place, put_name};
 use bp_free::Parts;
-use bp_inodes::{fill, place};
+use bp_inodes::{fill, place, root_path};
 use bp_inplace::commit_word;
 use bp_layout::Kind;
-use bp_limits::ENTRY_SIZE;
+use bp_limits::{ENTRY_SIZE, SIZE_FIELD};
 use bp_tree::{Tree, content_word};
 use pm_region::Region;
-
-/// The tree of an inode.
-pub fn tree_of<R: Region>(region: &R, i: u32) -> Tree
-    requires well_formed { IsWellFormed (current_words (R.memory region.now)) }
-    requires reached { IsReached (current_words (R.memory region.now)) i }
-    requires some { 1 ≤ i }
-    ensures root { result.root ≡ root_of (current_words (R.memory region.now)) i }
-    ensures size { result.size ≡ size_of (current_words (R.memory region.now)) i }
-{
-    let inode = bp_inodes::get(region, i);
-    Tree::of(&inode)
-}
 
 /// Names a new inode in an empty entry of a directory.
 pub(crate) fn enter_slot<R: Region>(
@@ -144,7 +131,7 @@ pub(crate) fn enter_behind<R: Region>(
     ensures frozen { parts.new.frozen ≡ parts.old.frozen }
 {
     let tree = tree_of(&parts.region, dir);
-    let size_place = place(&parts.region, dir, 2);
+    let size_place = place(&parts.region, dir, SIZE_FIELD);
     put_behind(parts, dir, tree, inode, name);
     fill(&mut parts.region, inode, kind);
     commit_word(&mut parts.region, size_place, tree.size + ENTRY_SIZE);

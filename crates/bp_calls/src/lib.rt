@@ -13,10 +13,10 @@ mod resizing;
 mod writing;
 
 pub use creating::{create, create_in};
-pub use entering::{put_behind, tree_of};
+pub use entering::put_behind;
 pub use giving::give_back;
 pub use listing::list;
 pub use reading::{links, read, stat};
 pub use removing::remove;
 pub use resizing::truncate;
-pub use writing::{root_path, size_path, write};
+pub use writing::write;

@@ -9,10 +9,9 @@ ghost use Rattle.bp_layout.specs.WellFormed.{IsWellFormed};
 ghost use Rattle.bp_shapes.specs.Sets.{IsExact};
 ghost use Rattle.pm_region.specs.Memory.{current_words};
 
-use crate::entering::tree_of;
 use bp_dirs::count;
 use bp_free::Parts;
-use bp_inodes::get;
+use bp_inodes::{get, tree_of};
 use bp_layout::{Kind, Stat};
 use bp_tree::Tree;
 use pm_region::Region;

@@ -9,10 +9,10 @@ ghost use Rattle.bp_shapes.specs.Sets.{IsExact, kept_of};
 ghost use Rattle.bp_commit.specs.Performs.{Performs};
 ghost use Rattle.pm_region.specs.Memory.{current_words, room_in};
 
-use crate::entering::tree_of;
 use crate::giving::give_back;
 use bp_dirs::{entry_place, inumber};
 use bp_free::Parts;
+use bp_inodes::tree_of;
 use bp_inplace::commit_word;
 use pm_region::Region;
 

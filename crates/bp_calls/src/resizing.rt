@@ -14,13 +14,12 @@ ghost use Rattle.bp_shapes.specs.Sets.{IsExact, kept_of};
 ghost use Rattle.bp_commit.specs.Performs.{Performs};
 ghost use Rattle.pm_region.specs.Memory.{current_words, room_in};
 
-use crate::entering::tree_of;
 use crate::giving::give_back;
-use crate::writing::root_path;
 use bp_append::{need_prep, prep};
 use bp_free::{NoSpace, Parts};
-use bp_inodes::place;
+use bp_inodes::{place, root_path, tree_of};
 use bp_inplace::commit_word;
+use bp_limits::SIZE_FIELD;
 use bp_tree::Tree;
 use pm_region::Region;
 
@@ -47,7 +46,7 @@ fn grow_file<R: Region>(parts: &mut Parts<R>, i: u32, tree: Tree, size: u64) -> 
     if free < need {
         return Err(NoSpace { need, free });
     }
-    let size_place = place(&parts.region, i, 2);
+    let size_place = place(&parts.region, i, SIZE_FIELD);
     let at = root_path(&parts.region, i);
     prep(parts, &at, size, &[], size);
     commit_word(&mut parts.region, size_place, size);
@@ -68,7 +67,7 @@ fn shrink_file<R: Region>(parts: &mut Parts<R>, i: u32, tree: Tree, size: u64)
         (resizes i size) (ResizesFile i size) }
     ensures exact { IsExact (current_words (R.memory parts.new.region)) parts.new }
 {
-    let size_place = place(&parts.region, i, 2);
+    let size_place = place(&parts.region, i, SIZE_FIELD);
     commit_word(&mut parts.region, size_place, size);
     give_back(&parts.region, tree, size, &mut parts.blocks);
 }

@@ -15,32 +15,15 @@ ghost use Rattle.pm_region.specs.Memory.{current_words};
 
 mod across;
 
-use crate::entering::tree_of;
 use crate::writing::across::write_across;
 use bp_append::{need_prep, prep};
 use bp_cow::{Run, Touched, commit_at, copies_below, find_cover};
 use bp_free::{NoSpace, Parts};
-use bp_inodes::{inode_file, place};
+use bp_inodes::{inode_file, place, tree_of};
 use bp_inplace::commit_word;
-use bp_limits::INODE_SIZE;
+use bp_limits::{INODE_SIZE, SIZE_FIELD};
 use bp_tree::{Slots, Tree, word_path};
 use pm_region::Region;
-
-/// The path of the root word of an inode.
-pub fn root_path<R: Region>(region: &R, i: u32) -> Slots
-    requires { 4 ≤ length (current_words (R.memory region.now)) }
-    ensures { result.items ≡ inode_path (height_of (root_of (current_words (R.memory region.now)) 0)) i 1 }
-{
-    word_path(inode_file(region), u64::from(i) * INODE_SIZE + 8)
-}
-
-/// The path of the size word of an inode.
-pub fn size_path<R: Region>(region: &R, i: u32) -> Slots
-    requires { 4 ≤ length (current_words (R.memory region.now)) }
-    ensures { result.items ≡ inode_path (height_of (root_of (current_words (R.memory region.now)) 0)) i 2 }
-{
-    word_path(inode_file(region), u64::from(i) * INODE_SIZE + 16)
-}
 
 /// Writes bytes behind the size of a file. Its tree is prepared for them, and then its size takes them in.
 ///
@@ -71,7 +54,7 @@ fn write_behind<R: Region>(
         return Err(NoSpace { need, free });
     }
     let root = root_path(&parts.region, i);
-    let size_place = place(&parts.region, i, 2);
+    let size_place = place(&parts.region, i, SIZE_FIELD);
     prep(parts, &root, off, bytes, end);
     commit_word(&mut parts.region, size_place, end);
     Ok(())

@@ -6,9 +6,10 @@ ghost use Rattle.bp_layout.specs.Directory.{IsName};
 ghost use Rattle.bp_layout.specs.WellFormed.{IsWellFormed};
 ghost use Rattle.pm_region.specs.Memory.{current_words};
 
-use bp_calls::{create, tree_of};
+use bp_calls::create;
 use bp_dirs::find;
 use bp_free::{Blocks, Inodes, NoSpace, Parts};
+use bp_inodes::tree_of;
 use bp_layout::Kind;
 use bp_limits::{CALL_ROOM, LOG_EVENTS, MAX_NAME};
 use bp_samples::images::{EMPTY, TWO_ENTRIES, laid, put};

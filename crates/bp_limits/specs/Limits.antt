@@ -1,6 +1,6 @@
 -- The limits of the format, of calls, of scripts and of the programs.
 use Rattle.std.specs.Prelude.{ℕ, ◌==◌, Bool, true, false, if◌then◌else◌}
-use Rattle.bp_limits.specs.declared.TheConstants.{BLOCK_SIZE, BLOCK_WORDS, MIN_BLOCKS, MAX_BLOCKS, SUPER_MAGIC, SUPER_BLOCKS, SUPER_ROOT, SUPER_SIZE, SUPER_SECOND_ROOT, SUPER_SECOND_SIZE, INODE_SIZE, INODE_WORDS, BLOCK_INODES, ROOT_INUMBER, FILE_KIND, DIRECTORY_KIND, ENTRY_SIZE, ENTRY_WORDS, BLOCK_ENTRIES, MAX_HEIGHT, MAX_SIZE, MAX_NAME, MAX_PATH, MAX_READ, MAX_WRITE, MAX_PIECES, MAX_BATCH, CALL_ROOM, MAX_LINE, MAX_TEXT, MAX_INPUT, LOG_EVENTS, MAX_MASK, MAX_TURNS}
+use Rattle.bp_limits.specs.declared.TheConstants.{BLOCK_SIZE, BLOCK_WORDS, MIN_BLOCKS, MAX_BLOCKS, SUPER_MAGIC, SUPER_BLOCKS, SUPER_ROOT, SUPER_SIZE, SUPER_SECOND_ROOT, SUPER_SECOND_SIZE, INODE_SIZE, INODE_WORDS, ROOT_FIELD, SIZE_FIELD, BLOCK_INODES, ROOT_INUMBER, FILE_KIND, DIRECTORY_KIND, ENTRY_SIZE, ENTRY_WORDS, BLOCK_ENTRIES, MAX_HEIGHT, MAX_SIZE, MAX_NAME, MAX_PATH, MAX_READ, MAX_WRITE, MAX_PIECES, MAX_BATCH, CALL_ROOM, MAX_LINE, MAX_TEXT, MAX_INPUT, LOG_EVENTS, MAX_MASK, MAX_TURNS}
 use Rattle.bp_limits.specs.declared.version.Version.{Version}
 use Rattle.bp_limits.specs.declared.version.Version.TheVariants.{One, Two}
 
@@ -57,13 +57,21 @@ super_second_size = SUPER_SECOND_SIZE
 
 -- ---- inodes and directories
 
--- the bytes of an inode, its words, and the inodes of a block
+-- the bytes of an inode, and its words
 abbrev pub inode_size : ℕ
 inode_size = INODE_SIZE
 
 abbrev pub inode_words : ℕ
 inode_words = INODE_WORDS
 
+-- which of them are the root word and the size of its tree
+abbrev pub root_field : ℕ
+root_field = ROOT_FIELD
+
+abbrev pub size_field : ℕ
+size_field = SIZE_FIELD
+
+-- the inodes of a block
 abbrev pub block_inodes : ℕ
 block_inodes = BLOCK_INODES
 

@@ -12,6 +12,9 @@ pub use version::Version;
 /// The bytes of a block.
 pub const BLOCK_SIZE: u64 = 4096;
 
+/// The bytes of a word.
+pub const WORD_SIZE: u64 = 8;
+
 /// The words of a block, and so the pointers of a node.
 pub const BLOCK_WORDS: u32 = 512;
 
@@ -48,6 +51,12 @@ pub const INODE_SIZE: u64 = 64;
 
 /// The words of an inode.
 pub const INODE_WORDS: u32 = 8;
+
+/// The word of an inode that is the root word of its tree.
+pub const ROOT_FIELD: u32 = 1;
+
+/// The word of an inode that is its size.
+pub const SIZE_FIELD: u32 = 2;
 
 /// The inodes of a block.
 pub const BLOCK_INODES: u32 = 64;

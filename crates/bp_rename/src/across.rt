@@ -15,10 +15,10 @@ ghost use Rattle.pm_region.specs.Memory.{current_words};
 use crate::behind::{move_behind, need_behind};
 use crate::moving::Move;
 use crate::touching::{entry_path, touched_two};
-use bp_calls::tree_of;
 use bp_cow::{commit, need_cover};
 use bp_dirs::{entry_place, inumber, put_name};
 use bp_free::Parts;
+use bp_inodes::tree_of;
 use bp_tree::Slots;
 use pm_region::Region;
 

@@ -13,11 +13,11 @@ ghost use Rattle.bp_rename.specs.TouchesTwo.{AreTwo, inumber_path};
 
 use crate::moving::Move;
 use crate::touching::{entry_path, touched_two};
-use bp_calls::{give_back, tree_of};
+use bp_calls::give_back;
 use bp_cow::{commit, need_cover};
 use bp_dirs::inumber;
 use bp_free::Parts;
-use bp_inodes::get;
+use bp_inodes::{get, tree_of};
 use bp_tree::{Slots, Tree};
 use pm_region::Region;
 

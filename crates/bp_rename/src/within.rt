@@ -13,9 +13,9 @@ ghost use Rattle.bp_commit.specs.Performs.{HasRoomFor, Performs};
 ghost use Rattle.pm_region.specs.Memory.{current_words};
 
 use crate::moving::Move;
-use bp_calls::{root_path, tree_of};
 use bp_cow::{Run, Touched, commit, need_cover};
 use bp_free::Parts;
+use bp_inodes::{root_path, tree_of};
 use bp_limits::{ENTRY_SIZE, MAX_NAME};
 use pm_region::Region;
 

@@ -18,4 +18,5 @@ pub use marks::version;
 pub use nulls::first_null;
 pub use paths::{Slots, address, word_path};
 pub use reading::{leaf_words, read, unpack};
+pub use subtrees::child;
 pub use tree::{Tree, content_place, content_word, leaf_block, load_slot, node};

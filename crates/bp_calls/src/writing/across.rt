@@ -12,11 +12,10 @@ ghost use Rattle.bp_shapes.specs.Sets.{IsExact, kept_of};
 ghost use Rattle.bp_commit.specs.Performs.{Performs};
 ghost use Rattle.pm_region.specs.Memory.{current_words};
 
-use crate::entering::tree_of;
-use crate::writing::{root_path, size_path};
 use bp_append::{height_with, need_prep, prep};
 use bp_cow::{Run, Touched, commit, need_cover};
 use bp_free::{NoSpace, Parts};
+use bp_inodes::{root_path, size_path, tree_of};
 use bp_tree::{Slots, Tree};
 use pm_region::Region;
 

@@ -1,7 +1,7 @@
 use Rattle.pm_region.specs.Memory.{current_words}
 use Rattle.bp_layout.specs.Reached.IsReached.{inode_file}
 use Rattle.bp_layout.proofs.Reached.{reached-in_file}
-use Rattle.bp_calls.proofs.entering.tree_of.Goals as goal
+use Rattle.bp_inodes.proofs.tree_of.Goals as goal
 
 pub get-inode-requires-clause-sound : goal.get-inode-requires-clause-sound
 get-inode-requires-clause-sound g c = c.requires.well_formed.sound 0 inode_file

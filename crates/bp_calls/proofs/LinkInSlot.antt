@@ -1,0 +1,122 @@
+-- A name in an empty entry, and then the inumber of a file that has a name.
+use Rattle.std.proofs.Common.{◌≡◌, ◌≢◌, ℕ, ◌+◌, ◌-◌, ◌*◌, ◌/◌, ◌%◌, ◌<◌, ◌≤◌, List, [], suc, None, Some, unwrap_or, ap₂, set, refl, sym, ◌∙◌, ap, subst, arith}
+use Rattle.bp_calls.specs.Entered.{IsNewInode, IsReadyEntry}
+use Rattle.bp_calls.specs.Created.{CountsName, EntersName}
+use Rattle.bp_layout.specs.Need.{cover}
+use Rattle.bp_layout.specs.Need.Change.{enters as gains}
+use Rattle.bp_layout.specs.Need.Entrant.{linked}
+use Rattle.bp_layout.specs.WordPaths.{address, tree_path}
+use Rattle.bp_changes.proofs.AddsNames.{reached_stays}
+use Rattle.bp_tree.specs.Performs.{IsOpen, PerformsWithin}
+use Rattle.bp_calls.specs.Growth.{stores_behind_growth}
+use Rattle.bp_tree.proofs.PerformsLaws.{within_stores, within_more}
+use Rattle.bp_layout.specs.Free.{IsFreeInode}
+use Rattle.bp_calls.proofs.NeedLaws.{cover_in_slot, need_in_slot}
+use Rattle.bp_calls.proofs.OpenPlaces.{content_open, each_weaker, stands_stored, root_word_stays, content_address}
+use Rattle.bp_calls.proofs.EnteredOver.{adds_over, enters_well_formed, enters_over}
+use Rattle.bp_changes.proofs.ContentStore.{root_stays}
+use Rattle.bp_layout.specs.Directory.{empty_slot, Name, entry_count, inumber_at, slot_named}
+use Rattle.bp_layout.specs.Inode.{kind_of, size_of, ContentStandsAt, root_of, inode_count}
+use Rattle.bp_shapes.specs.Sets.{AreExact}
+use Rattle.bp_calls.specs.Spare.{IsSpare}
+use Rattle.bp_calls.specs.Steps.{CanName, name_need}
+use Rattle.bp_dirs.specs.Written.{HasNameAt}
+use Rattle.bp_inodes.specs.Filled.{FillsInode}
+use Rattle.bp_tree.specs.Within.{IsWithin}
+use Rattle.bp_free.specs.Set.{Set, without}
+use Rattle.bp_layout.specs.Fields.{kind_word}
+use Rattle.bp_layout.specs.Reached.{IsReached}
+use Rattle.bp_layout.proofs.Reached.{reached-in_file}
+use Rattle.bp_layout.specs.Reached.IsReached.{inode_file}
+use Rattle.bp_layout.specs.Tree.{node}
+use Rattle.bp_layout.specs.WellFormed.{IsWellFormed}
+use Rattle.bp_layout.specs.Words.{Image, height_of}
+use Rattle.bp_layout.specs.declared.fields.Kind.{Kind}
+use Rattle.pm_epochs.specs.Crash.{commit}
+use Rattle.pm_epochs.specs.May.{AnyAt, EachMay}
+use Rattle.pm_region.specs.Memory.{Memory, current_words, Adds}
+use Rattle.pm_region.specs.Safe.{AddsMay}
+use Rattle.pm_region.proofs.MayLaws.{may_twice, may_weaker, each_after}
+use Rattle.pm_region.proofs.MemoryLaws.{current_words-adds}
+use Rattle.bp_calls.proofs.AfterLaws.{prepared_well_formed, prepared_same, kind_after, size_after, reached_after, slot_named_after}
+use Rattle.bp_calls.proofs.EnteredLaws.{Enters, entered}
+use Rattle.bp_calls.proofs.Refusals.{found_empty}
+use Rattle.bp_calls.proofs.ReadBack.{name_read, inode_stays, new_inode}
+use Rattle.bp_calls.proofs.SetLaws.{exact_prepared, exact_entered}
+use Rattle.bp_calls.proofs.Spares.{no_inode_file, row_stands, one_content, spare_inode, spare_entry}
+use Rattle.bp_calls.proofs.Trees.{SameTrees, spare_trees, word_kept, stands_kept}
+use Rattle.bp_layout.specs.Thaw.{none_kept}
+use Rattle.bp_changes.proofs.Named.{added_counts}
+use Rattle.bp_calls.proofs.SlotStores.{IsLoose, name_loose, slot_committed, slot_entry, slot_is, slot_mid, slot_missing, slot_ready, slot_trees, slot_within}
+use Rattle.bp_calls.specs.Created.{CountsMore, LinksEntry}
+use Rattle.bp_calls.specs.Steps.{CanLink}
+use Rattle.bp_calls.proofs.EnteredLaws.{Links, linked as linked_entry}
+use Rattle.bp_calls.proofs.EnteredOver.{links_entry_over, links_over}
+use Rattle.bp_calls.proofs.SetLaws.{exact_linked}
+use Rattle.bp_changes.proofs.LinksName as linking
+use Rattle.bp_changes.proofs.Named.{linked_counts}
+
+module _ (first third last : Memory) (i s j entry : ℕ) (name : Name) (can : CanLink (current_words first) i j name)
+    (found : empty_slot (current_words first) i ≡ Some s) (entry_at : ContentStandsAt (current_words first) i (32 * s + 0) entry)
+    (spells : AddsMay (AnyAt (IsWithin (entry + 1) 31)) 0 31 first third) (named : HasNameAt (current_words third) entry name)
+    (commits : Adds third last (commit entry j)) where
+  abbrev image : Image
+  image = current_words first
+
+  abbrev mid : Image
+  mid = current_words third
+
+  abbrev after : Image
+  after = set mid entry j
+
+  wf : IsWellFormed image
+  wf = can.lacks.well_formed
+
+  loose : AddsMay (AnyAt (IsLoose image)) 0 31 first third
+  loose = may_weaker (AnyAt (IsWithin (entry + 1) 31)) (AnyAt (IsLoose image)) 0 31 first third (name_loose image wf i s entry can.lacks.reached can.lacks.directory found entry_at) spells
+
+  trees : SameTrees image mid
+  trees = slot_trees first third last i s j entry 31 name can.lacks found entry_at loose named commits
+
+  mid_well_formed : IsWellFormed mid
+  mid_well_formed = slot_mid first third last i s j entry 31 name can.lacks found entry_at loose named commits
+
+  ready : IsReadyEntry mid i s name
+  ready = slot_ready first third last i s j entry 31 name can.lacks found entry_at loose named commits
+
+  missing : slot_named mid i name ≡ None
+  missing = slot_missing first third last i s j entry 31 name can.lacks found entry_at loose named commits
+
+  mid_entry : ContentStandsAt mid i (32 * s + 0) entry
+  mid_entry = slot_entry first third last i s j entry 31 name can.lacks found entry_at loose named commits
+
+  committed : current_words last ≡ after
+  committed = slot_committed first third last i s j entry 31 name can.lacks found entry_at loose named commits
+
+  mid_there : IsReached mid j
+  mid_there = reached_after image mid wf trees.prepared j can.there
+
+  mid_file : kind_of mid j ≡ 1
+  mid_file = kind_after image mid wf trees.prepared j can.there ∙ can.file
+
+  links : Links mid after i s j name
+  links = linked_entry mid mid_well_formed i s j entry name ready can.lacks.form missing mid_entry mid_there mid_file
+
+  effect : LinksEntry i name j image (current_words last)
+  effect =
+      subst (λ w. LinksEntry i name j image w) (sym committed)
+      (links_entry_over image mid after wf trees.prepared.meaning i s j name (slot_is first third last i s j entry 31 name can.lacks found entry_at loose named commits) trees.prepared.inode_bytes links)
+
+  pub link_performs : PerformsWithin none_kept (name_need image i) 5 (stores_behind_growth (name_need image i)) first last (gains i linked) (LinksEntry i name j)
+  link_performs =
+      slot_within first third last i s j entry 31 name can.lacks found entry_at loose named commits (gains i linked) (LinksEntry i name j) (omega arith) refl refl
+      (linking.linked_well_formed mid after mid_well_formed i s j links.adds) (linking.reached_stays mid after mid_well_formed i s j links.adds i ready.reached) effect
+
+  pub link_exact : (blocks inodes : Set) → AreExact image none_kept blocks inodes → AreExact (current_words last) none_kept blocks inodes
+  link_exact blocks inodes exact =
+      subst (λ w. AreExact w none_kept blocks inodes) (sym committed)
+      (exact_linked mid mid_well_formed i s j entry name ready can.lacks.form missing mid_entry blocks inodes (exact_prepared image mid wf trees.prepared blocks inodes exact) mid_there mid_file)
+
+  pub link_counts : CountsMore image (current_words last) j
+  link_counts = subst (λ w. CountsMore image w j) (sym committed)
+      (λ counts low are. linked_counts image after wf i s j (links_over image mid after wf trees.prepared.meaning i s j trees.prepared.inode_bytes links.adds) counts are low)

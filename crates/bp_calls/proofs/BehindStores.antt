@@ -8,19 +8,15 @@ use Rattle.bp_append.specs.Prepared.{Prepares, need_for}
 use Rattle.bp_append.specs.Stores.{prep_stores}
 use Rattle.bp_append.proofs.OtherTrees.{node_stays, other_block_back, other_block_on}
 use Rattle.bp_changes.specs.SameMeaning.{SameMeaning}
-use Rattle.bp_changes.proofs.AddsNames.{reached_cases, reached_stays}
 use Rattle.bp_changes.proofs.ReachedOn.{meaning_on, reached_on}
 use Rattle.bp_changes.proofs.SameMeaning.{reached-back, well_formed-same}
-use Rattle.bp_free.specs.Set.{Set, has as contains, members, without}
-use Rattle.bp_inodes.specs.Filled.{FillsInode}
+use Rattle.bp_free.specs.Set.{Set, has as contains, members}
 use Rattle.bp_layout.specs.Directory.{Name, empty_slot, entry_count, slot_named}
-use Rattle.bp_layout.specs.Fields.{kind_word}
-use Rattle.bp_layout.specs.Free.{AreFreeInodes, IsFreeInode}
+use Rattle.bp_layout.specs.Free.{AreFreeInodes}
 use Rattle.bp_layout.specs.Inode.{ContentStandsAt, kind_of, root_of, size_of, inode_count}
 use Rattle.bp_layout.specs.Members.{Has}
 use Rattle.bp_layout.specs.Need.{Change, cover}
 use Rattle.bp_layout.specs.Need.Change.{enters as gains}
-use Rattle.bp_layout.specs.Need.Entrant.{taken}
 use Rattle.bp_layout.specs.Reached.{IsReached, IsLiveBlock}
 use Rattle.bp_layout.specs.Reached.IsReached.{inode_file}
 use Rattle.bp_layout.specs.Same.{Same}
@@ -28,12 +24,9 @@ use Rattle.bp_layout.specs.Tree.{node, HasBlock}
 use Rattle.bp_layout.specs.WellFormed.{IsWellFormed}
 use Rattle.bp_layout.specs.WordPaths.{address}
 use Rattle.bp_layout.specs.Words.{Image, word, height_of}
-use Rattle.bp_layout.specs.declared.fields.Kind.{Kind}
 use Rattle.bp_layout.proofs.Reached.{reached-in_file}
-use Rattle.bp_layout.proofs.SmallTrees.{empty_has_none}
 use Rattle.bp_shapes.specs.Sets.{AreExact}
 use Rattle.bp_tree.specs.Performs.{AddsTaking, IsOpen, PerformsWithin, TakesBlocks}
-use Rattle.bp_tree.specs.Within.{IsWithin}
 use Rattle.bp_tree.specs.Performs.IsOpen.{in_taken, in_live, at_root, at_size}
 use Rattle.bp_tree.proofs.PerformsLaws.{same_equivalence, takes_twice, within_committed, within_more}
 use Rattle.bp_append.proofs.StoresLaws.{behind_one}
@@ -45,30 +38,22 @@ use Rattle.pm_epochs.proofs.MayLaws.{StoresMay-weaker, quiet_may}
 use Rattle.pm_epochs.proofs.PieceLaws.{IsPiece-append, IsPiece-commit}
 use Rattle.pm_region.specs.Memory.{Memory, current_words, room_in, Adds}
 use Rattle.pm_region.specs.Safe.{AddsMay}
-use Rattle.pm_region.proofs.MayLaws.{may_frame, may_weaker, each_after}
+use Rattle.pm_region.proofs.MayLaws.{each_after}
 use Rattle.pm_region.proofs.MemoryLaws.{adds_both, base-adds, current_words-adds, room_in-piece}
-use Rattle.bp_calls.specs.Created.{CountsName, EntersName}
-use Rattle.bp_calls.specs.Entered.{IsNewInode, IsReadyBehind}
+use Rattle.bp_calls.specs.Entered.{IsReadyBehind}
 use Rattle.bp_calls.specs.Entries.{PutsBehind}
 use Rattle.bp_calls.specs.Growth.{stores_behind_growth}
 use Rattle.bp_calls.specs.Spare.{IsSpare}
-use Rattle.bp_calls.specs.Steps.{CanEnterBehind, entering_room, name_need}
+use Rattle.bp_calls.specs.Steps.{entering_room, name_need, CanPutBehind}
 use Rattle.bp_calls.proofs.AfterLaws.{prepared_well_formed, prepared_same, size_after, slot_named_over}
-use Rattle.bp_calls.proofs.EnteredLaws.{Enters, directory_inode}
-use Rattle.bp_calls.proofs.GrownLaws.{GrowsBlocks, grown, grown_blocks, grown_file}
-use Rattle.bp_calls.proofs.InSlot.{inode_inside, inode_row}
+use Rattle.bp_calls.proofs.EnteredLaws.{directory_inode}
+use Rattle.bp_calls.proofs.GrownLaws.{GrowsBlocks, grown_blocks, grown_file}
 use Rattle.bp_calls.proofs.NeedLaws.{need_behind}
 use Rattle.bp_calls.proofs.OpenPlaces.{content_open, each_weaker, size_covered}
-use Rattle.bp_calls.proofs.ReadBack.{new_inode}
-use Rattle.bp_calls.proofs.ReadyKept.{ready_kept, ready_back, ready_stays}
-use Rattle.bp_calls.proofs.SetLaws.{free_inodes_taken, length_without}
-use Rattle.bp_calls.proofs.EnteredOver.{adds_over, enters_well_formed, enters_over}
 use Rattle.bp_calls.proofs.TakenBlocks.{free_taken}
 use Rattle.bp_calls.proofs.Trees.{SameTrees, has_more, live_leaf, spare_trees, stands_kept}
 use Rattle.bp_layout.specs.Thaw.{none_kept}
-use Rattle.bp_changes.proofs.Named.{added_counts}
 use Rattle.bp_calls.proofs.PutsLaws.{one_entry}
-use Rattle.bp_calls.specs.Steps.{CanPutBehind}
 use Rattle.bp_layout.specs.Need.Entrant.{linked}
 use Rattle.bp_calls.proofs.SlotStores.{IsLoose}
 

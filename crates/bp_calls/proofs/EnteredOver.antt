@@ -1,5 +1,5 @@
 -- One name more, over what nobody sees.
-use Rattle.std.proofs.Common.{◌≡◌, ◌⊎◌, ℕ, zero, suc, ◌<◌, ◌≤◌, [], ◌==◌, if◌then◌else◌, sym, ◌∙◌, ap₂, arith, inl, inr, le_trans, unwrap_or}
+use Rattle.std.proofs.Common.{◌≡◌, ◌⊎◌, ℕ, zero, suc, ◌<◌, ◌≤◌, sym, ◌∙◌, ap₂, arith, inl, inr, le_trans, unwrap_or}
 use Rattle.std.proofs.lemmas.Bool.{cases_lt}
 use Rattle.bp_layout.specs.Words.{Image}
 use Rattle.bp_layout.specs.Fields.{kind_word}

@@ -1,22 +1,17 @@
 -- A new inode, a name in an empty entry, and then the inumber.
-use Rattle.std.proofs.Common.{◌≡◌, ◌≢◌, ℕ, ◌+◌, ◌-◌, ◌*◌, ◌/◌, ◌%◌, ◌<◌, ◌≤◌, List, [], suc, None, Some, unwrap_or, ap₂, set, refl, sym, ◌∙◌, ap, subst, arith}
+use Rattle.std.proofs.Common.{◌≡◌, ◌≢◌, ℕ, ◌+◌, ◌-◌, ◌*◌, ◌/◌, ◌%◌, ◌<◌, ◌≤◌, List, [], None, Some, set, refl, sym, ◌∙◌, ap, subst, arith}
 use Rattle.bp_calls.specs.Entered.{IsNewInode, IsReadyEntry}
 use Rattle.bp_calls.specs.Created.{CountsName, EntersName}
-use Rattle.bp_layout.specs.Need.{cover}
 use Rattle.bp_layout.specs.Need.Change.{enters as gains}
 use Rattle.bp_layout.specs.Need.Entrant.{taken}
-use Rattle.bp_layout.specs.WordPaths.{address, tree_path}
 use Rattle.bp_changes.proofs.AddsNames.{reached_stays}
 use Rattle.bp_tree.specs.Performs.{IsOpen, PerformsWithin}
 use Rattle.bp_calls.specs.Growth.{stores_behind_growth}
-use Rattle.bp_tree.proofs.PerformsLaws.{within_stores, within_more}
 use Rattle.bp_layout.specs.Free.{IsFreeInode}
-use Rattle.bp_calls.proofs.NeedLaws.{cover_in_slot, need_in_slot}
-use Rattle.bp_calls.proofs.OpenPlaces.{content_open, each_weaker, stands_stored, root_word_stays, content_address}
+use Rattle.bp_calls.proofs.OpenPlaces.{content_open}
 use Rattle.bp_calls.proofs.EnteredOver.{adds_over, enters_well_formed, enters_over}
-use Rattle.bp_changes.proofs.ContentStore.{root_stays}
-use Rattle.bp_layout.specs.Directory.{empty_slot, Name, entry_count, inumber_at, slot_named}
-use Rattle.bp_layout.specs.Inode.{size_of, ContentStandsAt, root_of, inode_count}
+use Rattle.bp_layout.specs.Directory.{empty_slot, Name, entry_count, slot_named}
+use Rattle.bp_layout.specs.Inode.{ContentStandsAt, root_of, inode_count}
 use Rattle.bp_shapes.specs.Sets.{AreExact}
 use Rattle.bp_calls.specs.Spare.{IsSpare}
 use Rattle.bp_calls.specs.Steps.{CanName, name_need}
@@ -26,25 +21,22 @@ use Rattle.bp_tree.specs.Within.{IsWithin}
 use Rattle.bp_free.specs.Set.{Set, without}
 use Rattle.bp_layout.specs.Fields.{kind_word}
 use Rattle.bp_layout.specs.Reached.{IsReached}
-use Rattle.bp_layout.proofs.Reached.{reached-in_file}
 use Rattle.bp_layout.specs.Reached.IsReached.{inode_file}
 use Rattle.bp_layout.specs.Tree.{node}
 use Rattle.bp_layout.specs.WellFormed.{IsWellFormed}
 use Rattle.bp_layout.specs.Words.{Image, height_of}
 use Rattle.bp_layout.specs.declared.fields.Kind.{Kind}
 use Rattle.pm_epochs.specs.Crash.{commit}
-use Rattle.pm_epochs.specs.May.{AnyAt, EachMay}
+use Rattle.pm_epochs.specs.May.{AnyAt}
 use Rattle.pm_region.specs.Memory.{Memory, current_words, Adds}
 use Rattle.pm_region.specs.Safe.{AddsMay}
-use Rattle.pm_region.proofs.MayLaws.{may_twice, may_weaker, each_after}
-use Rattle.pm_region.proofs.MemoryLaws.{current_words-adds}
-use Rattle.bp_calls.proofs.AfterLaws.{prepared_well_formed, prepared_same, kind_after, size_after, reached_after, slot_named_after}
+use Rattle.pm_region.proofs.MayLaws.{may_twice, may_weaker}
 use Rattle.bp_calls.proofs.EnteredLaws.{Enters, entered}
 use Rattle.bp_calls.proofs.Refusals.{found_empty}
-use Rattle.bp_calls.proofs.ReadBack.{name_read, inode_stays, new_inode}
+use Rattle.bp_calls.proofs.ReadBack.{inode_stays, new_inode}
 use Rattle.bp_calls.proofs.SetLaws.{exact_prepared, exact_entered}
-use Rattle.bp_calls.proofs.Spares.{no_inode_file, row_stands, one_content, spare_inode, spare_entry}
-use Rattle.bp_calls.proofs.Trees.{SameTrees, spare_trees, word_kept, stands_kept}
+use Rattle.bp_calls.proofs.Spares.{no_inode_file, row_stands, one_content, spare_inode}
+use Rattle.bp_calls.proofs.Trees.{SameTrees}
 use Rattle.bp_layout.specs.Thaw.{none_kept}
 use Rattle.bp_changes.proofs.Named.{added_counts}
 use Rattle.bp_calls.proofs.SlotStores.{IsLoose, name_loose, slot_committed, slot_entry, slot_is, slot_mid, slot_missing, slot_ready, slot_trees, slot_within}

@@ -1,5 +1,5 @@
 -- One more name for a file: what it asks of the memory, and what the whole call promises.
-use Rattle.std.proofs.Common.{◌≡◌, ℕ, ◌+◌, ◌*◌, ◌<◌, ◌≤◌, length, None, refl, arith}
+use Rattle.std.proofs.Common.{◌≡◌, ℕ, ◌<◌, ◌≤◌, length, None, refl, arith}
 use Rattle.bp_free.specs.Set.{Set, members}
 use Rattle.bp_layout.specs.Directory.{Name, empty_slot}
 use Rattle.bp_layout.specs.Need.Change.{enters}

@@ -1,4 +1,4 @@
-use Rattle.std.proofs.Common.{◌+◌, refl, sym, ◌∙◌, arith}
+use Rattle.std.proofs.Common.{refl, sym, ◌∙◌, arith}
 use Rattle.std.proofs.lemmas.List.{length-set}
 use Rattle.pm_region.specs.Memory.{current_words}
 use Rattle.bp_calls.proofs.CountLaws.{exact_with, reached_counted}
@@ -38,7 +38,7 @@ returns-in-Some g c =
     record {
       performs = c.link_slot.ensures.performs;
       exact = exact_with (current_words old) (current_words new) c.args.parts.now _ c.requires.exact (c.link_slot.ensures.exact c.args.parts.now.blocks c.args.parts.now.inodes c.requires.can.exact) refl
-          c.link_slot.ensures.performs.effect.adds.trees.whole (rw c.set.ensures (length-set c.args.parts.now.counts c.args.i (c.names-names.result + 1)))
+          c.link_slot.ensures.performs.effect.adds.trees.whole (rw c.set.ensures (length-set c.args.parts.now.counts c.args.i _))
           (rw (c.set.ensures, c.names-names.ensures) (c.link_slot.ensures.counts c.args.parts.now.counts low c.requires.exact.counts));
     }
 
@@ -50,6 +50,6 @@ returns-in-None g c =
     record {
       performs = c.link_behind.ensures.performs;
       exact = exact_with (current_words old) (current_words new) c.args.parts.now _ c.requires.exact (rw c.link_behind.ensures.inodes (c.link_behind.ensures.exact c.args.parts.now.inodes c.requires.can.exact)) c.link_behind.ensures.frozen
-          c.link_behind.ensures.performs.effect.adds.trees.whole (rw (c.link_behind.ensures.counted, c.set.ensures) (length-set c.args.parts.now.counts c.args.i (c.names-names.result + 1)))
+          c.link_behind.ensures.performs.effect.adds.trees.whole (rw (c.link_behind.ensures.counted, c.set.ensures) (length-set c.args.parts.now.counts c.args.i _))
           (rw (c.link_behind.ensures.counted, c.set.ensures, c.names-names.ensures) (c.link_behind.ensures.counts c.args.parts.now.counts low c.requires.exact.counts));
     }

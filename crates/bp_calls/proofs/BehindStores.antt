@@ -55,7 +55,7 @@ use Rattle.bp_calls.proofs.Trees.{SameTrees, has_more, live_leaf, spare_trees, s
 use Rattle.bp_layout.specs.Thaw.{none_kept}
 use Rattle.bp_calls.proofs.PutsLaws.{one_entry}
 use Rattle.bp_layout.specs.Need.Entrant.{linked}
-use Rattle.bp_calls.proofs.SlotStores.{IsLoose}
+use Rattle.bp_calls.proofs.SlotStores.{IsHidden}
 
 -- a preparation, and then stores that nobody sees and the commit of one word
 module _ (old mid third new : Memory) (change : Change) (Effect : Image → Image → Type 0) (took : List ℕ) (most_barriers most : ℕ) (one : AddsTaking none_kept took most_barriers most old mid)
@@ -203,7 +203,7 @@ pub record KeepsGrown (old new : Image) (i : ℕ) : Type 0 where
   pub stay : (b : ℕ) → HasBlock old (root_of old i) (size_of old i + 256) b → HasBlock new (root_of new i) (size_of new i + 256) b
 
 module _ (first second third last : Memory) (blocks after : Set) (i j place more : ℕ) (name : Name) (can : CanPutBehind first blocks i name)
-    (puts : PutsBehind first second (members blocks) (members after) i j name) (stored : AddsMay (AnyAt (IsLoose (current_words second))) 0 more second third)
+    (puts : PutsBehind first second (members blocks) (members after) i j name) (stored : AddsMay (AnyAt (IsHidden (current_words second))) 0 more second third)
     (ready_then : IsReadyBehind (current_words third) i j name) (keeps : KeepsGrown (current_words second) (current_words third) i) (size_at : ContentStandsAt (current_words first) 0 (8 * i + 2) place)
     (commits : Adds third last (commit place (size_of (current_words first) i + 256))) where
   abbrev before : Image
@@ -236,11 +236,11 @@ module _ (first second third last : Memory) (blocks after : Set) (i j place more
   middle_size_at : ContentStandsAt middle 0 (8 * i + 2) place
   middle_size_at = put_size_at first second blocks after i j name can puts place size_at
 
-  trees_of : (other : Image) → EachMay (AnyAt (IsLoose middle)) middle other → SameTrees middle other
-  trees_of other all = spare_trees middle other middle_well (each_weaker (IsLoose middle) (IsSpare middle) middle other (λ p both. both.0) all)
+  trees_of : (other : Image) → EachMay (AnyAt (IsHidden middle)) middle other → SameTrees middle other
+  trees_of other all = spare_trees middle other middle_well (each_weaker (IsHidden middle) (IsSpare middle) middle other (λ p both. both.0) all)
 
   trees : SameTrees middle full
-  trees = trees_of full (each_after (AnyAt (IsLoose middle)) 0 more second third stored)
+  trees = trees_of full (each_after (AnyAt (IsHidden middle)) 0 more second third stored)
 
   pub full_well_formed : IsWellFormed full
   full_well_formed = prepared_well_formed middle full middle_well trees.prepared
@@ -291,7 +291,7 @@ module _ (first second third last : Memory) (blocks after : Set) (i j place more
 
     in_four : PerformsWithin none_kept (name_need before i) 4 (stores + (more + 1)) first last change Effect
     in_four =
-        within_behind first second third last change Effect puts.prepared.taken 2 stores puts.prepared.adds (AnyAt (IsLoose middle)) more place (size_of before i + 256) (name_need before i) stored commits
+        within_behind first second third last change Effect puts.prepared.taken 2 stores puts.prepared.adds (AnyAt (IsHidden middle)) more place (size_of before i + 256) (name_need before i) stored commits
         (λ other all. prepared_same middle other middle_well (trees_of other all).prepared) (λ p v may. may.1) (put_live first second blocks after i j name can puts) covered
         (put_number first second blocks after i j name can puts) (content_open middle [] 0 (8 * i + 2) place inode_file middle_size_leaf middle_size_at)
         (rw behind_committed well_formed) (rw behind_committed effect)

@@ -12,7 +12,7 @@ use Rattle.bp_layout.proofs.Finding.{map-same}
 use Rattle.bp_layout.proofs.Reached.{reached-in_file}
 use Rattle.bp_layout.proofs.LookupLaws.{Shows, lookup_in-found}
 use Rattle.bp_changes.specs.Effects.{AddsNames, KeepsBlocks, LinksName, SetsInumber}
-use Rattle.bp_changes.proofs.Link.{CanFill, entry_adds, entry_links, name_of_new, kinds_stay}
+use Rattle.bp_changes.proofs.Link.{AwaitsInumber, entry_adds, entry_links, name_of_new, kinds_stay}
 use Rattle.bp_changes.proofs.LinkInPlace.{store_adds, store_blocks}
 use Rattle.bp_calls.specs.Entered.{IsNewInode, IsReadyEntry}
 
@@ -23,7 +23,7 @@ pub record Enters (old new : Image) (i s j : ℕ) (name : Name) (kind : ℕ) : T
   pub kind_is : kind_of new j ≡ kind
 
 -- the same of one more name of file j
-pub record Links (old new : Image) (i s j : ℕ) (name : Name) : Type 0 where
+pub record EntersLink (old new : Image) (i s j : ℕ) (name : Name) : Type 0 where
   pub adds : LinksName old new i s j
   pub spelled : name_at new i s ≡ name
 
@@ -58,8 +58,8 @@ file_inode image j kind e = let one : kind_of image 0 ≡ 1 = (rw e at kind) in 
 
 module _ (old : Image) (wf : IsWellFormed old) (i s j place : ℕ) (name : Name) (ready : IsReadyEntry old i s name)
     (form : IsName name) (missing : slot_named old i name ≡ None) (stands : ContentStandsAt old i (32 * s + 0) place) where
-  ready_fills : CanFill old i s
-  ready_fills = record {
+  ready_awaits : AwaitsInumber old i s
+  ready_awaits = record {
     reached = ready.reached;
     directory = ready.directory;
     in_size = ready.slot;
@@ -69,7 +69,7 @@ module _ (old : Image) (wf : IsWellFormed old) (i s j place : ℕ) (name : Name)
   }
 
   stored : SetsInumber old (set old place j) i s j
-  stored = store_adds old wf i s j place ready_fills stands
+  stored = store_adds old wf i s j place ready_awaits stands
 
   pub entered_file : size_of (set old place j) 0 ≡ size_of old 0
   entered_file = stored.size 0 (reached-in_file old wf 0 inode_file)
@@ -79,16 +79,16 @@ module _ (old : Image) (wf : IsWellFormed old) (i s j place : ℕ) (name : Name)
 
   pub entered : (kind : ℕ) → IsNewInode old j kind → Enters old (set old place j) i s j name kind
   entered kind fresh = record {
-    adds = entry_adds old (set old place j) wf i s j ready_fills some stored (record { fresh = fresh.free.free; in_file = fresh.free.high; kind = rw fresh.kind_is (fresh.least, fresh.most); nothing = fresh.empty });
-    spelled = name_of_new old (set old place j) wf i s j ready_fills some stored ∙ ready.spelled;
-    kind_is = kinds_stay old (set old place j) wf i s j ready_fills some stored j fresh.free.high ∙ fresh.kind_is;
+    adds = entry_adds old (set old place j) wf i s j ready_awaits some stored (record { fresh = fresh.free.free; in_file = fresh.free.high; kind = rw fresh.kind_is (fresh.least, fresh.most); nothing = fresh.empty });
+    spelled = name_of_new old (set old place j) wf i s j ready_awaits some stored ∙ ready.spelled;
+    kind_is = kinds_stay old (set old place j) wf i s j ready_awaits some stored j fresh.free.high ∙ fresh.kind_is;
   }
     where
       some : j ≢ 0
       some none = let low : 2 ≤ j = fresh.free.low in omega (arith, none, low)
 
-  pub linked : IsReached old j → kind_of old j ≡ 1 → Links old (set old place j) i s j name
+  pub linked : IsReached old j → kind_of old j ≡ 1 → EntersLink old (set old place j) i s j name
   linked there file = record {
-    adds = entry_links old (set old place j) wf i s j ready_fills (file_inode old j file) stored there file;
-    spelled = name_of_new old (set old place j) wf i s j ready_fills (file_inode old j file) stored ∙ ready.spelled;
+    adds = entry_links old (set old place j) wf i s j ready_awaits (file_inode old j file) stored there file;
+    spelled = name_of_new old (set old place j) wf i s j ready_awaits (file_inode old j file) stored ∙ ready.spelled;
   }

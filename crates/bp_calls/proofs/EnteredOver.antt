@@ -17,7 +17,7 @@ use Rattle.bp_changes.proofs.ReachedOn.{names_on, reached_on}
 use Rattle.bp_changes.proofs.SameMeaning.{reached-back}
 use Rattle.bp_layout.proofs.View.{SameDirectories}
 use Rattle.bp_calls.specs.Created.{EntersName, LinksEntry}
-use Rattle.bp_calls.proofs.EnteredLaws.{Enters, Links}
+use Rattle.bp_calls.proofs.EnteredLaws.{Enters, EntersLink}
 use Rattle.bp_calls.proofs.AfterLaws.{directories_over, empty_slot_over}
 
 pub enters_well_formed : (old new : Image) → IsWellFormed old → (i s j kind : ℕ) (name : Name) → Enters old new i s j name kind → IsWellFormed new
@@ -105,7 +105,7 @@ module _ (old mid new : Image) (wf : IsWellFormed old) (same : SameMeaning old m
     kind_is = enters.kind_is;
   }
 
-  pub links_entry_over : (i s j : ℕ) (name : Name) → s ≡ unwrap_or (empty_slot old i) (entry_count old i) → size_of mid 0 ≡ size_of old 0 → Links mid new i s j name → LinksEntry i name j old new
+  pub links_entry_over : (i s j : ℕ) (name : Name) → s ≡ unwrap_or (empty_slot old i) (entry_count old i) → size_of mid 0 ≡ size_of old 0 → EntersLink mid new i s j name → LinksEntry i name j old new
   links_entry_over i s j name slot same_file links = record { slot = s; slot_is = slot; adds = links_over i s j same_file links.adds; name_is = links.spelled }
 
   -- so a name that came into the image in the middle came into the first

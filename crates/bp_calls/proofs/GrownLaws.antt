@@ -19,7 +19,7 @@ use Rattle.bp_changes.proofs.ContentStore.{word-stored, word-elsewhere}
 use Rattle.bp_changes.specs.Effects.{IsNewEntry}
 use Rattle.bp_changes.proofs.GainsEntry.{GainsEntry, gains_adds, gains_links, takes_inode}
 use Rattle.bp_calls.specs.Entered.{IsNewInode, IsReadyBehind}
-use Rattle.bp_calls.proofs.EnteredLaws.{Enters, Links, not_named, name_same, directory_inode, file_inode}
+use Rattle.bp_calls.proofs.EnteredLaws.{Enters, EntersLink, not_named, name_same, directory_inode, file_inode}
 
 -- ---- a store of the greater size
 
@@ -324,7 +324,7 @@ module _ (old : Image) (wf : IsWellFormed old) (n j place : ℕ) (name : Name) (
         not_here : j ≢ suc n
         not_here e = fresh.free.free (subst (IsReached old) (sym e) ready.reached)
 
-    grown_links_suc : IsReached old j → kind_of old j ≡ 1 → Links old new (suc n) (size_of old (suc n) / 256) j name
+    grown_links_suc : IsReached old j → kind_of old j ≡ 1 → EntersLink old new (suc n) (size_of old (suc n) / 256) j name
     grown_links_suc there file = record {
       adds = gains_links old new (suc n) (size_of old (suc n) / 256) j (grown_gains (file_inode old j file) form missing) there file (superblock 3 (omega arith));
       spelled = name_here form;
@@ -338,7 +338,7 @@ grown old wf zero j kind place name fresh ready form missing stands = absurd (di
 grown old wf (suc n) j kind place name fresh ready form missing stands = grown_suc old wf n j place name ready stands form missing kind fresh
 
 pub grown_links : (old : Image) → IsWellFormed old → (i j place : ℕ) (name : Name) → IsReached old j → kind_of old j ≡ 1 → IsReadyBehind old i j name → IsName name → slot_named old i name ≡ None →
-    ContentStandsAt old 0 (8 * i + 2) place → Links old (set old place (size_of old i + 256)) i (size_of old i / 256) j name
+    ContentStandsAt old 0 (8 * i + 2) place → EntersLink old (set old place (size_of old i + 256)) i (size_of old i / 256) j name
 grown_links old wf zero j place name there file ready form missing stands = absurd (directory_inode old 0 ready.directory refl)
 grown_links old wf (suc n) j place name there file ready form missing stands = grown_links_suc old wf n j place name ready stands form missing there file
 

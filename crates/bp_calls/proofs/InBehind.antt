@@ -42,7 +42,7 @@ use Rattle.bp_calls.proofs.EnteredOver.{adds_over, enters_well_formed, enters_ov
 use Rattle.bp_calls.proofs.Trees.{SameTrees, spare_trees}
 use Rattle.bp_layout.specs.Thaw.{none_kept}
 use Rattle.bp_changes.proofs.Named.{added_counts}
-use Rattle.bp_calls.proofs.SlotStores.{IsLoose}
+use Rattle.bp_calls.proofs.SlotStores.{IsHidden}
 use Rattle.bp_calls.proofs.BehindStores.{KeepsGrown, behind_committed, behind_sets, behind_slot, behind_within, done_file, full_before, full_meaning, full_missing, full_size_at, full_there, full_well_formed, put_before, put_ready, put_well_formed_behind}
 
 module _ (first second : Memory) (blocks after : Set) (i j : ℕ) (name : Name) (can : CanEnterBehind first blocks i j name) (puts : PutsBehind first second (members blocks) (members after) i j name) where
@@ -85,11 +85,11 @@ module _ (first second third last : Memory) (blocks after : Set) (i j place : �
   inode_at : ContentStandsAt mid 0 (8 * j + 0) at
   inode_at = inode_row mid j at filled.stands
 
-  loose : AddsMay (AnyAt (IsLoose mid)) 0 3 second third
-  loose = may_weaker (AnyAt (IsWithin at 3)) (AnyAt (IsLoose mid)) 0 3 second third (inode_inside mid mid_well_formed j at [] mid_free inode_at) filled.stores
+  hidden : AddsMay (AnyAt (IsHidden mid)) 0 3 second third
+  hidden = may_weaker (AnyAt (IsWithin at 3)) (AnyAt (IsHidden mid)) 0 3 second third (inode_inside mid mid_well_formed j at [] mid_free inode_at) filled.stores
 
   trees : SameTrees mid full
-  trees = spare_trees mid full mid_well_formed (each_weaker (IsLoose mid) (IsSpare mid) mid full (λ p both. both.0) (each_after (AnyAt (IsLoose mid)) 0 3 second third loose))
+  trees = spare_trees mid full mid_well_formed (each_weaker (IsHidden mid) (IsSpare mid) mid full (λ p both. both.0) (each_after (AnyAt (IsHidden mid)) 0 3 second third hidden))
 
   frame : (p : ℕ) → (IsWithin at 3 p → ⊥) → word full p ≡ word mid p
   frame p beside = may_frame (AnyAt (IsWithin at 3)) 0 3 second third filled.stores p (λ v within. beside within)
@@ -112,23 +112,23 @@ module _ (first second third last : Memory) (blocks after : Set) (i j place : �
   done = set full place (size_of full i + 256)
 
   well : IsWellFormed full
-  well = full_well_formed first second third last blocks after i j place 3 name can.can puts loose full_ready keeps size_at commits
+  well = full_well_formed first second third last blocks after i j place 3 name can.can puts hidden full_ready keeps size_at commits
 
   meaning : SameMeaning image full
-  meaning = full_meaning first second third last blocks after i j place 3 name can.can puts loose full_ready keeps size_at commits
+  meaning = full_meaning first second third last blocks after i j place 3 name can.can puts hidden full_ready keeps size_at commits
 
   committed : current_words last ≡ done
-  committed = behind_committed first second third last blocks after i j place 3 name can.can puts loose full_ready keeps size_at commits
+  committed = behind_committed first second third last blocks after i j place 3 name can.can puts hidden full_ready keeps size_at commits
 
   enters : Enters full done i (size_of full i / 256) j name (kind_word kind)
-  enters = grown full well i j (kind_word kind) place name fresh full_ready can.can.lacks.form (full_missing first second third last blocks after i j place 3 name can.can puts loose full_ready keeps size_at commits) (full_size_at first second third last blocks after i j place 3 name can.can puts loose full_ready keeps size_at commits)
+  enters = grown full well i j (kind_word kind) place name fresh full_ready can.can.lacks.form (full_missing first second third last blocks after i j place 3 name can.can puts hidden full_ready keeps size_at commits) (full_size_at first second third last blocks after i j place 3 name can.can puts hidden full_ready keeps size_at commits)
 
   effect : EntersName i name kind image done
-  effect = enters_over image full done wf meaning i (size_of full i / 256) j name kind can.free (behind_slot first second third last blocks after i j place 3 name can.can puts loose full_ready keeps size_at commits) enters
+  effect = enters_over image full done wf meaning i (size_of full i / 256) j name kind can.free (behind_slot first second third last blocks after i j place 3 name can.can puts hidden full_ready keeps size_at commits) enters
 
   pub behind_performs : PerformsWithin none_kept (name_need image i) 5 (stores_behind_growth (name_need image i)) first last (gains i (taken j)) (EntersName i name kind)
   behind_performs =
-      behind_within first second third last blocks after i j place 3 name can.can puts loose full_ready keeps size_at commits (gains i (taken j)) (EntersName i name kind) (omega arith) refl
+      behind_within first second third last blocks after i j place 3 name can.can puts hidden full_ready keeps size_at commits (gains i (taken j)) (EntersName i name kind) (omega arith) refl
       (enters_well_formed full done well i (size_of full i / 256) j (kind_word kind) name enters) effect
 
   -- ---- the sets
@@ -137,11 +137,11 @@ module _ (first second third last : Memory) (blocks after : Set) (i j place : �
   done_cases t there =
       elim (reached_cases full done well i (size_of full i / 256) j enters.adds t there) [
         | inl e ↦ inl e
-        | inr was ↦ inr (full_before first second third last blocks after i j place 3 name can.can puts loose full_ready keeps size_at commits t was)
+        | inr was ↦ inr (full_before first second third last blocks after i j place 3 name can.can puts hidden full_ready keeps size_at commits t was)
       ]
 
   done_stays : (t : ℕ) → IsReached image t → IsReached done t
-  done_stays t there = reached_stays full done well i (size_of full i / 256) j enters.adds t (full_there first second third last blocks after i j place 3 name can.can puts loose full_ready keeps size_at commits t there)
+  done_stays t there = reached_stays full done well i (size_of full i / 256) j enters.adds t (full_there first second third last blocks after i j place 3 name can.can puts hidden full_ready keeps size_at commits t there)
 
   done_before : (t b : ℕ) → IsReached done t → HasBlock done (root_of done t) (size_of done t) b → IsReached image t
   done_before t b there has =
@@ -153,9 +153,9 @@ module _ (first second third last : Memory) (blocks after : Set) (i j place : �
   pub behind_exact : length after ≡ length blocks → (inodes : Set) → AreExact image none_kept blocks inodes → AreExact (current_words last) none_kept after (without inodes j)
   behind_exact room inodes exact =
       rw committed
-      (behind_sets first second third last blocks after i j place 3 name can.can puts loose full_ready keeps size_at commits done_before done_stays
+      (behind_sets first second third last blocks after i j place 3 name can.can puts hidden full_ready keeps size_at commits done_before done_stays
       (enters.adds.trees.whole ∙ meaning.trees.whole) room inodes (without inodes j) exact (length_without inodes j)
-      (free_inodes_taken image done inodes j (done_file first second third last blocks after i j place 3 name can.can puts loose full_ready keeps size_at commits) (exact.free_inodes.all j can.free)
+      (free_inodes_taken image done inodes j (done_file first second third last blocks after i j place 3 name can.can puts hidden full_ready keeps size_at commits) (exact.free_inodes.all j can.free)
       (IsReached.named (size_of full i / 256) (done_stays i can.can.lacks.reached) enters.adds.entry) done_cases done_stays exact.free_inodes))
 
   pub behind_counts : CountsName image (current_words last) j

@@ -39,7 +39,7 @@ use Rattle.bp_calls.proofs.Spares.{no_inode_file, row_stands, one_content, spare
 use Rattle.bp_calls.proofs.Trees.{SameTrees}
 use Rattle.bp_layout.specs.Thaw.{none_kept}
 use Rattle.bp_changes.proofs.Named.{added_counts}
-use Rattle.bp_calls.proofs.SlotStores.{IsLoose, name_loose, slot_committed, slot_entry, slot_is, slot_mid, slot_missing, slot_ready, slot_trees, slot_within}
+use Rattle.bp_calls.proofs.SlotStores.{IsHidden, name_hidden, slot_committed, slot_entry, slot_is, slot_mid, slot_missing, slot_ready, slot_trees, slot_within}
 
 -- the row of an inode's words
 pub inode_row : (image : Image) (j at : ℕ) → ContentStandsAt image 0 (8 * j) at → ContentStandsAt image 0 (8 * j + 0) at
@@ -97,28 +97,28 @@ module _ (first second third last : Memory) (i s j entry : ℕ) (name : Name) (k
   reached : IsReached image i
   reached = can.lacks.reached
 
-  all_loose : AddsMay (AnyAt (IsLoose image)) 0 34 first third
-  all_loose = may_twice (AnyAt (IsLoose image)) 0 3 first 0 31 second third
-      (may_weaker (AnyAt (IsWithin at 3)) (AnyAt (IsLoose image)) 0 3 first second (inode_inside image wf j at [] can.free inode_at) filled.stores)
-      (may_weaker (AnyAt (IsWithin (entry + 1) 31)) (AnyAt (IsLoose image)) 0 31 second third (name_loose image wf i s entry reached can.lacks.directory found entry_at) spells)
+  all_hidden : AddsMay (AnyAt (IsHidden image)) 0 34 first third
+  all_hidden = may_twice (AnyAt (IsHidden image)) 0 3 first 0 31 second third
+      (may_weaker (AnyAt (IsWithin at 3)) (AnyAt (IsHidden image)) 0 3 first second (inode_inside image wf j at [] can.free inode_at) filled.stores)
+      (may_weaker (AnyAt (IsWithin (entry + 1) 31)) (AnyAt (IsHidden image)) 0 31 second third (name_hidden image wf i s entry reached can.lacks.directory found entry_at) spells)
 
   trees : SameTrees image mid
-  trees = slot_trees first third last i s j entry 34 name can.lacks found entry_at all_loose named commits
+  trees = slot_trees first third last i s j entry 34 name can.lacks found entry_at all_hidden named commits
 
   mid_well_formed : IsWellFormed mid
-  mid_well_formed = slot_mid first third last i s j entry 34 name can.lacks found entry_at all_loose named commits
+  mid_well_formed = slot_mid first third last i s j entry 34 name can.lacks found entry_at all_hidden named commits
 
   ready : IsReadyEntry mid i s name
-  ready = slot_ready first third last i s j entry 34 name can.lacks found entry_at all_loose named commits
+  ready = slot_ready first third last i s j entry 34 name can.lacks found entry_at all_hidden named commits
 
   missing : slot_named mid i name ≡ None
-  missing = slot_missing first third last i s j entry 34 name can.lacks found entry_at all_loose named commits
+  missing = slot_missing first third last i s j entry 34 name can.lacks found entry_at all_hidden named commits
 
   mid_entry : ContentStandsAt mid i (32 * s + 0) entry
-  mid_entry = slot_entry first third last i s j entry 34 name can.lacks found entry_at all_loose named commits
+  mid_entry = slot_entry first third last i s j entry 34 name can.lacks found entry_at all_hidden named commits
 
   committed : current_words last ≡ set mid entry j
-  committed = slot_committed first third last i s j entry 34 name can.lacks found entry_at all_loose named commits
+  committed = slot_committed first third last i s j entry 34 name can.lacks found entry_at all_hidden named commits
 
   -- no word of the inode is one of the entry
   apart : (p : ℕ) → at ≤ p → p < at + 3 → IsWithin (entry + 1) 31 p → ⊥
@@ -142,11 +142,11 @@ module _ (first second third last : Memory) (i s j entry : ℕ) (name : Name) (k
   effect : EntersName i name kind image (current_words last)
   effect =
       subst (λ w. EntersName i name kind image w) (sym committed)
-      (enters_over image mid (set mid entry j) wf trees.prepared.meaning i s j name kind can.free (slot_is first third last i s j entry 34 name can.lacks found entry_at all_loose named commits) enters)
+      (enters_over image mid (set mid entry j) wf trees.prepared.meaning i s j name kind can.free (slot_is first third last i s j entry 34 name can.lacks found entry_at all_hidden named commits) enters)
 
   pub slot_performs : PerformsWithin none_kept (name_need image i) 5 (stores_behind_growth (name_need image i)) first last (gains i (taken j)) (EntersName i name kind)
   slot_performs =
-      slot_within first third last i s j entry 34 name can.lacks found entry_at all_loose named commits (gains i (taken j)) (EntersName i name kind) (omega arith) refl refl
+      slot_within first third last i s j entry 34 name can.lacks found entry_at all_hidden named commits (gains i (taken j)) (EntersName i name kind) (omega arith) refl refl
       (enters_well_formed mid (set mid entry j) mid_well_formed i s j (kind_word kind) name enters) (reached_stays mid (set mid entry j) mid_well_formed i s j enters.adds i ready.reached) effect
 
   pub slot_exact : (blocks inodes : Set) → AreExact image none_kept blocks inodes → AreExact (current_words last) none_kept blocks (without inodes j)

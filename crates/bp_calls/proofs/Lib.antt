@@ -51,7 +51,7 @@ pub mod CountLaws
 pub mod FewNames
 pub mod GrowthPerforms
 pub mod NewNames
-pub mod LinkLaws
+pub mod ShareLaws
 pub mod WrittenStands
 pub mod RunCommits
 pub mod WriteBelow

@@ -24,11 +24,11 @@ use Rattle.bp_layout.specs.Need.Entrant.{linked}
 use Rattle.pm_region.proofs.MayLaws.{may_none}
 use Rattle.bp_changes.proofs.LinksName as linking
 use Rattle.bp_changes.proofs.Named.{linked_counts}
-use Rattle.bp_calls.proofs.EnteredLaws.{Links}
+use Rattle.bp_calls.proofs.EnteredLaws.{EntersLink}
 use Rattle.bp_calls.proofs.EnteredOver.{links_entry_over, links_over}
 use Rattle.bp_calls.proofs.GrownLaws.{grown_links}
 use Rattle.bp_calls.proofs.SetLaws.{free_inodes_stay}
-use Rattle.bp_calls.proofs.SlotStores.{IsLoose}
+use Rattle.bp_calls.proofs.SlotStores.{IsHidden}
 use Rattle.bp_calls.proofs.BehindStores.{KeepsGrown, behind_committed, behind_sets, behind_slot, behind_within, done_file, full_before, full_file, full_meaning, full_missing, full_size_at, full_there, full_well_formed, put_ready}
 
 module _ (first second last : Memory) (blocks after : Set) (i j place : ℕ) (name : Name) (can : CanLinkBehind first blocks i j name)
@@ -48,8 +48,8 @@ module _ (first second last : Memory) (blocks after : Set) (i j place : ℕ) (na
 
   -- ---- nothing is stored behind the preparation
 
-  none : AddsMay (AnyAt (IsLoose mid)) 0 0 second second
-  none = may_none (AnyAt (IsLoose mid)) second
+  none : AddsMay (AnyAt (IsHidden mid)) 0 0 second second
+  none = may_none (AnyAt (IsHidden mid)) second
 
   keeps : KeepsGrown mid mid i
   keeps = record { back = λ b has. has; stay = λ b has. has }
@@ -74,7 +74,7 @@ module _ (first second last : Memory) (blocks after : Set) (i j place : ℕ) (na
   committed : current_words last ≡ done
   committed = behind_committed first second second last blocks after i j place 0 name can.can puts none mid_ready keeps size_at commits
 
-  links : Links mid done i (size_of mid i / 256) j name
+  links : EntersLink mid done i (size_of mid i / 256) j name
   links = grown_links mid well i j place name mid_there (meaning.kind j can.there ∙ can.file) mid_ready can.can.lacks.form (full_missing first second second last blocks after i j place 0 name can.can puts none mid_ready keeps size_at commits) (full_size_at first second second last blocks after i j place 0 name can.can puts none mid_ready keeps size_at commits)
 
   effect : LinksEntry i name j image done

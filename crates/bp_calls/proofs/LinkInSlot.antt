@@ -24,9 +24,9 @@ use Rattle.bp_calls.proofs.AfterLaws.{kind_after, reached_after}
 use Rattle.bp_calls.proofs.SetLaws.{exact_prepared, exact_linked}
 use Rattle.bp_calls.proofs.Trees.{SameTrees}
 use Rattle.bp_layout.specs.Thaw.{none_kept}
-use Rattle.bp_calls.proofs.SlotStores.{IsLoose, name_loose, slot_committed, slot_entry, slot_is, slot_mid, slot_missing, slot_ready, slot_trees, slot_within}
+use Rattle.bp_calls.proofs.SlotStores.{IsHidden, name_hidden, slot_committed, slot_entry, slot_is, slot_mid, slot_missing, slot_ready, slot_trees, slot_within}
 use Rattle.bp_calls.specs.Created.{CountsMore, LinksEntry}
-use Rattle.bp_calls.proofs.EnteredLaws.{Links, linked as linked_entry}
+use Rattle.bp_calls.proofs.EnteredLaws.{EntersLink, linked as linked_entry}
 use Rattle.bp_calls.proofs.EnteredOver.{links_entry_over, links_over}
 use Rattle.bp_changes.proofs.LinksName as linking
 use Rattle.bp_changes.proofs.Named.{linked_counts}
@@ -47,26 +47,26 @@ module _ (first third last : Memory) (i s j entry : ℕ) (name : Name) (can : Ca
   wf : IsWellFormed image
   wf = can.lacks.well_formed
 
-  loose : AddsMay (AnyAt (IsLoose image)) 0 31 first third
-  loose = may_weaker (AnyAt (IsWithin (entry + 1) 31)) (AnyAt (IsLoose image)) 0 31 first third (name_loose image wf i s entry can.lacks.reached can.lacks.directory found entry_at) spells
+  hidden : AddsMay (AnyAt (IsHidden image)) 0 31 first third
+  hidden = may_weaker (AnyAt (IsWithin (entry + 1) 31)) (AnyAt (IsHidden image)) 0 31 first third (name_hidden image wf i s entry can.lacks.reached can.lacks.directory found entry_at) spells
 
   trees : SameTrees image mid
-  trees = slot_trees first third last i s j entry 31 name can.lacks found entry_at loose named commits
+  trees = slot_trees first third last i s j entry 31 name can.lacks found entry_at hidden named commits
 
   mid_well_formed : IsWellFormed mid
-  mid_well_formed = slot_mid first third last i s j entry 31 name can.lacks found entry_at loose named commits
+  mid_well_formed = slot_mid first third last i s j entry 31 name can.lacks found entry_at hidden named commits
 
   ready : IsReadyEntry mid i s name
-  ready = slot_ready first third last i s j entry 31 name can.lacks found entry_at loose named commits
+  ready = slot_ready first third last i s j entry 31 name can.lacks found entry_at hidden named commits
 
   missing : slot_named mid i name ≡ None
-  missing = slot_missing first third last i s j entry 31 name can.lacks found entry_at loose named commits
+  missing = slot_missing first third last i s j entry 31 name can.lacks found entry_at hidden named commits
 
   mid_entry : ContentStandsAt mid i (32 * s + 0) entry
-  mid_entry = slot_entry first third last i s j entry 31 name can.lacks found entry_at loose named commits
+  mid_entry = slot_entry first third last i s j entry 31 name can.lacks found entry_at hidden named commits
 
   committed : current_words last ≡ after
-  committed = slot_committed first third last i s j entry 31 name can.lacks found entry_at loose named commits
+  committed = slot_committed first third last i s j entry 31 name can.lacks found entry_at hidden named commits
 
   mid_there : IsReached mid j
   mid_there = reached_after image mid wf trees.prepared j can.there
@@ -74,17 +74,17 @@ module _ (first third last : Memory) (i s j entry : ℕ) (name : Name) (can : Ca
   mid_file : kind_of mid j ≡ 1
   mid_file = kind_after image mid wf trees.prepared j can.there ∙ can.file
 
-  links : Links mid after i s j name
+  links : EntersLink mid after i s j name
   links = linked_entry mid mid_well_formed i s j entry name ready can.lacks.form missing mid_entry mid_there mid_file
 
   effect : LinksEntry i name j image (current_words last)
   effect =
       subst (λ w. LinksEntry i name j image w) (sym committed)
-      (links_entry_over image mid after wf trees.prepared.meaning i s j name (slot_is first third last i s j entry 31 name can.lacks found entry_at loose named commits) trees.prepared.inode_bytes links)
+      (links_entry_over image mid after wf trees.prepared.meaning i s j name (slot_is first third last i s j entry 31 name can.lacks found entry_at hidden named commits) trees.prepared.inode_bytes links)
 
   pub link_performs : PerformsWithin none_kept (name_need image i) 5 (stores_behind_growth (name_need image i)) first last (gains i linked) (LinksEntry i name j)
   link_performs =
-      slot_within first third last i s j entry 31 name can.lacks found entry_at loose named commits (gains i linked) (LinksEntry i name j) (omega arith) refl refl
+      slot_within first third last i s j entry 31 name can.lacks found entry_at hidden named commits (gains i linked) (LinksEntry i name j) (omega arith) refl refl
       (linking.linked_well_formed mid after mid_well_formed i s j links.adds) (linking.reached_stays mid after mid_well_formed i s j links.adds i ready.reached) effect
 
   pub link_exact : (blocks inodes : Set) → AreExact image none_kept blocks inodes → AreExact (current_words last) none_kept blocks inodes

@@ -36,13 +36,13 @@ use Rattle.bp_calls.proofs.Trees.{SameTrees, spare_trees, word_kept, stands_kept
 use Rattle.bp_layout.specs.Thaw.{none_kept}
 
 -- nobody reads the word, and it is in a live block
-abbrev pub IsLoose : Image → ℕ → Type 0
-IsLoose image p = IsSpare image p × IsOpen image none_kept [] p
+abbrev pub IsHidden : Image → ℕ → Type 0
+IsHidden image p = IsSpare image p × IsOpen image none_kept [] p
 
 -- stores to the words of an empty entry that spell its name
-pub name_loose : (image : Image) → IsWellFormed image → (i s entry : ℕ) → IsReached image i → kind_of image i ≡ 2 → empty_slot image i ≡ Some s → ContentStandsAt image i (32 * s + 0) entry →
-    (p v : ℕ) → AnyAt (IsWithin (entry + 1) 31) p v → AnyAt (IsLoose image) p v
-name_loose image wf i s entry reached directory found entry_at p v inside =
+pub name_hidden : (image : Image) → IsWellFormed image → (i s entry : ℕ) → IsReached image i → kind_of image i ≡ 2 → empty_slot image i ≡ Some s → ContentStandsAt image i (32 * s + 0) entry →
+    (p v : ℕ) → AnyAt (IsWithin (entry + 1) 31) p v → AnyAt (IsHidden image) p v
+name_hidden image wf i s entry reached directory found entry_at p v inside =
     let low : entry + 1 ≤ p = inside.low in
     let high : p < entry + 1 + 31 = inside.high in
     let f : ℕ = p - entry in
@@ -52,7 +52,7 @@ name_loose image wf i s entry reached directory found entry_at p v inside =
 
 module _ (first third last : Memory) (i s j entry more : ℕ) (name : Name) (lacks : LacksName (current_words first) i name)
     (found : empty_slot (current_words first) i ≡ Some s) (entry_at : ContentStandsAt (current_words first) i (32 * s + 0) entry)
-    (stored : AddsMay (AnyAt (IsLoose (current_words first))) 0 more first third) (named : HasNameAt (current_words third) entry name)
+    (stored : AddsMay (AnyAt (IsHidden (current_words first))) 0 more first third) (named : HasNameAt (current_words third) entry name)
     (commits : Adds third last (commit entry j)) where
   abbrev image : Image
   image = current_words first
@@ -78,11 +78,11 @@ module _ (first third last : Memory) (i s j entry more : ℕ) (name : Name) (lac
   word_stands : (f : ℕ) → f < 32 → ContentStandsAt image i (32 * s + f) (entry + f)
   word_stands f few = row_stands image i (32 * s + 0) f (32 * s + f) entry (entry + f) (omega arith) refl (omega (arith, few)) entry_at
 
-  trees_of : (other : Image) → EachMay (AnyAt (IsLoose image)) image other → SameTrees image other
-  trees_of other all = spare_trees image other wf (each_weaker (IsLoose image) (IsSpare image) image other (λ p both. both.0) all)
+  trees_of : (other : Image) → EachMay (AnyAt (IsHidden image)) image other → SameTrees image other
+  trees_of other all = spare_trees image other wf (each_weaker (IsHidden image) (IsSpare image) image other (λ p both. both.0) all)
 
   pub slot_trees : SameTrees image mid
-  slot_trees = trees_of mid (each_after (AnyAt (IsLoose image)) 0 more first third stored)
+  slot_trees = trees_of mid (each_after (AnyAt (IsHidden image)) 0 more first third stored)
 
   pub slot_mid : IsWellFormed mid
   slot_mid = prepared_well_formed image mid wf slot_trees.prepared
@@ -147,7 +147,7 @@ module _ (first third last : Memory) (i s j entry more : ℕ) (name : Name) (lac
     in_two : Effect image (current_words last) → PerformsWithin none_kept (name_need image i) 2 (more + 1) first last change Effect
     in_two effect =
         subst (λ n. PerformsWithin none_kept n 2 (more + 1) first last change Effect) needs
-        (within_stores none_kept first last change Effect (AnyAt (IsLoose image)) more third entry j [] (λ other all. prepared_same image other wf (trees_of other all).prepared) stored commits tt tt tt
+        (within_stores none_kept first last change Effect (AnyAt (IsHidden image)) more third entry j [] (λ other all. prepared_same image other wf (trees_of other all).prepared) stored commits tt tt tt
         (λ p v both. both.1) (sym (subst (λ w. address w (cover image change) ≡ entry) (sym slot_committed) covered_after)) (sym (needs ∙ need_in_slot image i wf reached lacks.directory s found))
         (content_open image [] i (32 * s + 0) entry reached (omega (arith, in_size)) entry_at) (subst IsWellFormed (sym slot_committed) well_formed) effect)
 

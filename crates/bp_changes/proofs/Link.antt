@@ -16,8 +16,8 @@ use Rattle.bp_changes.proofs.GainsEntry.{CanTake, GainsEntry, gains_adds, gains_
 use Rattle.bp_layout.proofs.Finding.{map-same}
 use Rattle.bp_layout.proofs.Reached.{reached-in_file}
 
--- An empty entry of a directory whose name is new there.
-pub record CanFill (old : Image) (i s : ℕ) : Type 0 where
+-- An empty entry of a directory, whose name is new there: its inumber is what it lacks.
+pub record AwaitsInumber (old : Image) (i s : ℕ) : Type 0 where
   pub reached : IsReached old i
   pub directory : kind_of old i ≡ 2
   pub in_size : s < entry_count old i
@@ -25,7 +25,7 @@ pub record CanFill (old : Image) (i s : ℕ) : Type 0 where
   pub name : IsName (name_at old i s)
   pub new_name : (r k : ℕ) → EntryNames old i r k → name_at old i r ≢ name_at old i s
 
-module _ (old new : Image) (wf : IsWellFormed old) (i s j : ℕ) (can : CanFill old i s) (some : j ≢ 0) (adds : SetsInumber old new i s j) where
+module _ (old new : Image) (wf : IsWellFormed old) (i s j : ℕ) (can : AwaitsInumber old i s) (some : j ≢ 0) (adds : SetsInumber old new i s j) where
   in_inodes : (t : ℕ) → IsReached old t → t < inode_count old
   in_inodes = reached-in_file old wf
 

@@ -2,7 +2,7 @@ use Rattle.std.proofs.Common.{sym, arith}
 use Rattle.pm_region.specs.Memory.{current_words}
 use Rattle.bp_calls.specs.Created.{LinksEntry}
 use Rattle.bp_calls.proofs.EnteredLaws.{directory_inode}
-use Rattle.bp_calls.proofs.LinkLaws.{link_lacks, link_room, within_link}
+use Rattle.bp_calls.proofs.ShareLaws.{link_lacks, link_room, within_link}
 use Rattle.bp_calls.proofs.linking.link_in.Goals as goal
 
 pub tree_of-tree-requires-clause-some : goal.tree_of-tree-requires-clause-some

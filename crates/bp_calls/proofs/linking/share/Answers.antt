@@ -3,7 +3,7 @@ use Rattle.std.proofs.lemmas.List.{length-set}
 use Rattle.pm_region.specs.Memory.{current_words}
 use Rattle.bp_calls.proofs.CountLaws.{exact_with, reached_counted}
 use Rattle.bp_calls.proofs.FewNames.{few_names}
-use Rattle.bp_calls.proofs.LinkLaws.{can_link_behind}
+use Rattle.bp_calls.proofs.ShareLaws.{can_link_behind}
 use Rattle.bp_calls.proofs.linking.share.Goals as goal
 
 pub names-names-requires : goal.names-names-requires

@@ -1,5 +1,5 @@
 -- One name more, over what nobody sees.
-use Rattle.std.proofs.Common.{◌≡◌, ◌⊎◌, ℕ, zero, suc, ◌<◌, ◌≤◌, [], ◌==◌, if◌then◌else◌, sym, ◌∙◌, ap₂, arith, inl, inr, le_trans, unwrap_or}
+use Rattle.std.proofs.Common.{◌≡◌, ◌⊎◌, ℕ, zero, suc, ◌<◌, ◌≤◌, sym, ◌∙◌, ap₂, arith, inl, inr, le_trans, unwrap_or}
 use Rattle.std.proofs.lemmas.Bool.{cases_lt}
 use Rattle.bp_layout.specs.Words.{Image}
 use Rattle.bp_layout.specs.Fields.{kind_word}
@@ -9,14 +9,15 @@ use Rattle.bp_layout.specs.Inode.{kind_of, size_of, inode_count}
 use Rattle.bp_layout.specs.Reached.{IsReached}
 use Rattle.bp_layout.specs.WellFormed.{IsWellFormed}
 use Rattle.bp_layout.specs.declared.fields.Kind.{Kind}
-use Rattle.bp_changes.specs.Effects.{AddsNames, IsNewEntry}
+use Rattle.bp_changes.specs.Effects.{AddsNames, IsNewEntry, LinksName}
 use Rattle.bp_changes.specs.SameMeaning.{SameMeaning}
 use Rattle.bp_changes.proofs.AddsNames.{linked_well_formed}
+use Rattle.bp_changes.proofs.GainsEntry.{GainsEntry, adds_gain, gains_adds, gains_links, links_gain}
 use Rattle.bp_changes.proofs.ReachedOn.{names_on, reached_on}
 use Rattle.bp_changes.proofs.SameMeaning.{reached-back}
 use Rattle.bp_layout.proofs.View.{SameDirectories}
-use Rattle.bp_calls.specs.Created.{EntersName}
-use Rattle.bp_calls.proofs.EnteredLaws.{Enters}
+use Rattle.bp_calls.specs.Created.{EntersName, LinksEntry}
+use Rattle.bp_calls.proofs.EnteredLaws.{Enters, EntersLink}
 use Rattle.bp_calls.proofs.AfterLaws.{directories_over, empty_slot_over}
 
 pub enters_well_formed : (old new : Image) → IsWellFormed old → (i s j kind : ℕ) (name : Name) → Enters old new i s j name kind → IsWellFormed new
@@ -42,43 +43,55 @@ module _ (old mid new : Image) (wf : IsWellFormed old) (same : SameMeaning old m
   file_stays zero reached kind = absurd (omega (arith, kind))
   file_stays (suc u) reached kind = same.size u reached
 
-  pub adds_over : (i s j : ℕ) → AddsNames mid new i s j → AddsNames old new i s j
-  adds_over i s j adds = record {
+  pub gains_over : (i s j : ℕ) → GainsEntry mid new i s j → GainsEntry old new i s j
+  gains_over i s j gains = record {
     reached = here;
-    fresh = λ r. adds.fresh (on j r);
     trees = record {
-      whole = adds.trees.whole ∙ same.trees.whole;
-      marked = adds.trees.marked ∙ same.trees.marked;
-      counted = adds.trees.counted ∙ same.trees.counted;
-      low = λ t r. adds.trees.low t (on t r);
-      sound = λ t r. adds.trees.sound t (on t r);
-      apart = λ t u b r q. adds.trees.apart t u b (on t r) (on u q);
-      full_inode_file = adds.trees.full_inode_file;
-      full_directories = λ u r kind. adds.trees.full_directories u (on u r) (same.kind u r ∙ kind);
+      whole = gains.trees.whole ∙ same.trees.whole;
+      marked = gains.trees.marked ∙ same.trees.marked;
+      counted = gains.trees.counted ∙ same.trees.counted;
+      low = λ t r. gains.trees.low t (on t r);
+      sound = λ t r. gains.trees.sound t (on t r);
+      apart = λ t u b r q. gains.trees.apart t u b (on t r) (on u q);
+      full_inode_file = gains.trees.full_inode_file;
+      full_directories = λ u r kind. gains.trees.full_directories u (on u r) (same.kind u r ∙ kind);
     };
-    inode_bytes = le_trans same.inodes adds.inode_bytes;
-    inode_blocks = adds.inode_blocks;
-    in_file = adds.in_file;
-    kind = λ u r. adds.kind u (on u r) ∙ same.kind u r;
-    new_kind = adds.new_kind;
-    new_size = adds.new_size;
-    file_size = λ u r kind. adds.file_size u (on u r) (same.kind u r ∙ kind) ∙ file_stays u r kind;
-    directory_size = λ u r kind. adds.directory_size u (on u r) (same.kind u r ∙ kind);
-    back = λ u r k reached n. back u r k reached (adds.back u r k (on u reached) n);
-    stay = λ u r k reached n. adds.stay u r k (on u reached) (names_on old mid same u r k reached n);
-    entry = adds.entry;
-    same_names = λ u r k reached n. adds.same_names u r k (on u reached) (names_on old mid same u r k reached n) ∙ alike.name u r k reached n;
-    name = adds.name;
-    new_name = λ r k n clash. adds.new_name r k (names_on old mid same i r k here n) (alike.name i r k here n ∙ clash);
-    bytes = λ u o r kind low. adds.bytes u o (on u r) (same.kind u r ∙ kind) (rw (file_stays u r kind) low) ∙ same.bytes u o r kind low;
+    kind = λ u r. gains.kind u (on u r) ∙ same.kind u r;
+    file_size = λ u r kind. gains.file_size u (on u r) (same.kind u r ∙ kind) ∙ file_stays u r kind;
+    directory_size = λ u r kind. gains.directory_size u (on u r) (same.kind u r ∙ kind);
+    back = λ u r k reached n. back u r k reached (gains.back u r k (on u reached) n);
+    stay = λ u r k reached n. gains.stay u r k (on u reached) (names_on old mid same u r k reached n);
+    entry = gains.entry;
+    same_names = λ u r k reached n. gains.same_names u r k (on u reached) (names_on old mid same u r k reached n) ∙ alike.name u r k reached n;
+    name = gains.name;
+    new_name = λ r k n clash. gains.new_name r k (names_on old mid same i r k here n) (alike.name i r k here n ∙ clash);
+    bytes = λ u o r kind low. gains.bytes u o (on u r) (same.kind u r ∙ kind) (rw (file_stays u r kind) low) ∙ same.bytes u o r kind low;
   }
     where
       here : IsReached old i
-      here = reached-back old mid wf same i adds.reached
+      here = reached-back old mid wf same i gains.reached
 
       back : (u r k : ℕ) → IsReached old u → IsNewEntry i s j u r k ⊎ EntryNames mid u r k → IsNewEntry i s j u r k ⊎ EntryNames old u r k
       back u r k reached (inl fresh) = inl fresh
       back u r k reached (inr n) = inr (names_before u r k reached n)
+
+  pub adds_over : (i s j : ℕ) → AddsNames mid new i s j → AddsNames old new i s j
+  adds_over i s j adds = gains_adds old new i s j (gains_over i s j (adds_gain mid new i s j adds)) (record {
+    fresh = λ r. adds.fresh (on j r);
+    inode_bytes = le_trans same.inodes adds.inode_bytes;
+    inode_blocks = adds.inode_blocks;
+    in_file = adds.in_file;
+    new_kind = adds.new_kind;
+    new_size = adds.new_size;
+  })
+
+  -- where the inode file did not grow
+  pub links_over : (i s j : ℕ) → size_of mid 0 ≡ size_of old 0 → LinksName mid new i s j → LinksName old new i s j
+  links_over i s j same_file links =
+      gains_links old new i s j (gains_over i s j (links_gain mid new i s j links)) there (sym (same.kind j there) ∙ links.is_file) (links.inode_bytes ∙ same_file)
+    where
+      there : IsReached old j
+      there = reached-back old mid wf same j links.other
 
   pub enters_over : (i s j : ℕ) (name : Name) (kind : Kind) → IsFreeInode old j → s ≡ unwrap_or (empty_slot old i) (entry_count old i) → Enters mid new i s j name (kind_word kind) →
       EntersName i name kind old new
@@ -91,6 +104,9 @@ module _ (old mid new : Image) (wf : IsWellFormed old) (same : SameMeaning old m
     name_is = enters.spelled;
     kind_is = enters.kind_is;
   }
+
+  pub links_entry_over : (i s j : ℕ) (name : Name) → s ≡ unwrap_or (empty_slot old i) (entry_count old i) → size_of mid 0 ≡ size_of old 0 → EntersLink mid new i s j name → LinksEntry i name j old new
+  links_entry_over i s j name slot same_file links = record { slot = s; slot_is = slot; adds = links_over i s j same_file links.adds; name_is = links.spelled }
 
   -- so a name that came into the image in the middle came into the first
   pub entered_over : (i : ℕ) (name : Name) (kind : Kind) → kind_of old i ≡ 2 → EntersName i name kind mid new → EntersName i name kind old new

@@ -10,11 +10,15 @@ pub mod Trees
 pub mod Spares
 pub mod Rooms
 pub mod ReadBack
+pub mod SlotStores
 pub mod InSlot
+pub mod LinkInSlot
 pub mod EntryBytes
 pub mod PutsLaws
 pub mod ReadyKept
+pub mod BehindStores
 pub mod InBehind
+pub mod LinkBehind
 pub mod Refusals
 pub mod OpenPlaces
 pub mod ReadingLaws
@@ -47,6 +51,7 @@ pub mod CountLaws
 pub mod FewNames
 pub mod GrowthPerforms
 pub mod NewNames
+pub mod ShareLaws
 pub mod WrittenStands
 pub mod RunCommits
 pub mod WriteBelow

@@ -1,5 +1,5 @@
 -- A name is entered: what it needs, and that there is what it needs, also where the inode file grows first.
-use Rattle.std.proofs.Common.{◌≡◌, ◌≢◌, ℕ, ◌+◌, ◌<◌, ◌≤◌, [], length, Option, None, Some, sym, ◌∙◌, ap, subst, arith}
+use Rattle.std.proofs.Common.{◌≡◌, ◌≢◌, ℕ, ◌+◌, ◌<◌, ◌≤◌, [], length, Option, None, Some, refl, sym, ◌∙◌, ap, subst, arith}
 use Rattle.std.specs.Prelude.{Result, Ok, Err, OnErr, OnOk}
 use Rattle.bp_append.specs.Prepared.{need_for}
 use Rattle.bp_free.specs.Set.{Set, IsLeast, members}
@@ -127,14 +127,15 @@ module _ (old mid : Memory) (blocks inodes after filled : Set) (i : ℕ) (name :
 
 -- ---- the whole call
 
-pub within_call : (old new : Memory) (i j : ℕ) (Effect : Image → Image → Type 0) →
-    PerformsWithin none_kept (name_need (current_words old) i) 5 (stores_behind_growth (name_need (current_words old) i)) old new (enters i (taken j)) Effect → Performs none_kept old new (enters i (taken j)) Effect
-within_call old new i j Effect done =
-    unthawed old new (enters i (taken j)) Effect
-    (within_more none_kept needed 5 (stores_behind_growth needed) old new (enters i (taken j)) Effect done 8 (most_stores_thawed needed) (omega arith) few)
+-- whichever inode is there
+pub within_call : (old new : Memory) (change : Change) (i : ℕ) (Effect : Image → Image → Type 0) → need (current_words old) change ≡ name_need (current_words old) i →
+    PerformsWithin none_kept (name_need (current_words old) i) 5 (stores_behind_growth (name_need (current_words old) i)) old new change Effect → Performs none_kept old new change Effect
+within_call old new change i Effect same done =
+    unthawed old new change Effect
+    (within_more none_kept needed 5 (stores_behind_growth needed) old new change Effect (subst (λ n. PerformsWithin none_kept n 5 (stores_behind_growth n) old new change Effect) (sym same) done) 8 (most_stores_thawed needed) (omega arith) few)
   where
     needed : ℕ
-    needed = name_need (current_words old) i
+    needed = need (current_words old) change
 
     few : stores_behind_growth needed ≤ most_stores_thawed needed
     few = omega arith
@@ -182,7 +183,7 @@ module _ (old : Memory) (blocks inodes : Set) (i : ℕ) (exact : AreExact (curre
   pub some_performs : (new : Memory) (Effect : Image → Image → Type 0) → members inodes ≢ [] →
       ((free : Option ℕ) → IsLeastFree words free → PerformsWithin none_kept (name_need words i) 5 (stores_behind_growth (name_need words i)) old new (enters i (entrant_of free)) Effect) →
       (free : Option ℕ) → IsLeastFree words free → Performs none_kept old new (enters i (entrant_of free)) Effect
-  some_performs new Effect some done = some_free some (λ free. Performs none_kept old new (enters i (entrant_of free)) Effect) (λ j least. within_call old new i j Effect (done (Some j) least))
+  some_performs new Effect some done = some_free some (λ free. Performs none_kept old new (enters i (entrant_of free)) Effect) (λ j least. within_call old new (enters i (taken j)) i Effect refl (done (Some j) least))
 
   pub none_performs : (new : Memory) (Effect : Image → Image → Type 0) → members inodes ≡ [] → Performs none_kept old new (enters i grown) Effect → (free : Option ℕ) → IsLeastFree words free →
       Performs none_kept old new (enters i (entrant_of free)) Effect

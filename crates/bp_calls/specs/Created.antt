@@ -1,5 +1,5 @@
 -- What a call that creates a name makes of an image.
-use Rattle.std.specs.Prelude.{◌≡◌, ◌⊎◌, ℕ, ◌≤◌, List, slice_set, unwrap_or}
+use Rattle.std.specs.Prelude.{◌≡◌, ◌⊎◌, ℕ, ◌+◌, ◌<◌, ◌≤◌, List, length, slice_index, slice_set, unwrap_or}
 use Rattle.bp_layout.specs.Directory.{Name, empty_slot, entry_count, name_at}
 use Rattle.bp_layout.specs.Free.{IsFreeInode}
 use Rattle.bp_layout.specs.Inode.{inode_count, kind_of}
@@ -31,3 +31,8 @@ pub record LinksEntry (i : ℕ) (name : Name) (j : ℕ) (old new : Image) : Type
 -- what counts the names of the first image counts those of the second, once inode j has one
 abbrev pub CountsName : Image → Image → ℕ → Type 0
 CountsName old new j = (counts : List ℕ) → AreCounts old counts → AreCounts new (slice_set counts j 1)
+
+-- the same of one more name of inode j
+abbrev pub CountsMore : Image → Image → ℕ → Type 0
+CountsMore old new j = (counts : List ℕ) → j < length counts → AreCounts old counts →
+    AreCounts new (slice_set counts j (slice_index counts j + 1))

@@ -4,7 +4,7 @@ use Rattle.bp_append.specs.Prepared.{need_for}
 use Rattle.bp_free.specs.Set.{Set, members}
 use Rattle.bp_layout.specs.Directory.{Name, IsName, empty_slot, slot_named}
 use Rattle.bp_layout.specs.Free.{IsFreeInode}
-use Rattle.bp_layout.specs.Inode.{IsDirectory, size_of}
+use Rattle.bp_layout.specs.Inode.{IsDirectory, IsFile, size_of}
 use Rattle.bp_layout.specs.Need.{need}
 use Rattle.bp_layout.specs.Need.Change.{enters}
 use Rattle.bp_layout.specs.Need.Entrant.{linked}
@@ -30,7 +30,13 @@ pub record CanName (image : Image) (i j : ℕ) (name : Name) : Type 0 where
   pub lacks : LacksName image i name
   pub free : IsFreeInode image j
 
--- the room in the log that a name asks once an inode is free, where it needs so many blocks: for its stores, 5 barriers
+-- the same, and inode j is a file that has a name
+pub record CanLink (image : Image) (i j : ℕ) (name : Name) : Type 0 where
+  pub lacks : LacksName image i name
+  pub there : IsReached image j
+  pub file : IsFile image j
+
+-- the room in the log that a name asks once an inode is there, where it needs so many blocks: for its stores, 5 barriers
 -- and its mark
 abbrev pub entering_room : ℕ → ℕ
 entering_room needed = stores_behind_growth needed + 5 + 1
@@ -58,10 +64,23 @@ pub record CanEnterBehind (memory : Memory) (blocks : Set) (i j : ℕ) (name : N
   pub can : CanPutBehind memory blocks i name
   pub free : IsFreeInode (current_words memory) j
 
+-- or inode j is a file that has a name
+pub record CanLinkBehind (memory : Memory) (blocks : Set) (i j : ℕ) (name : Name) : Type 0 where
+  pub can : CanPutBehind memory blocks i name
+  pub there : IsReached (current_words memory) j
+  pub file : IsFile (current_words memory) j
+
 -- The directory lacks the name, the sets are exact, an inode is free, and so are as many blocks as the name needs.
 pub record CanEnter (memory : Memory) (blocks inodes : Set) (i : ℕ) (name : Name) : Type 0 where
   pub lacks : LacksName (current_words memory) i name
   pub exact : AreExact (current_words memory) none_kept blocks inodes
   pub some : members inodes ≢ []
+  pub enough : name_need (current_words memory) i ≤ length (members blocks)
+  pub room : entering_room (name_need (current_words memory) i) ≤ room_in memory
+
+-- the same of file j, which is there
+pub record CanShare (memory : Memory) (blocks inodes : Set) (i j : ℕ) (name : Name) : Type 0 where
+  pub link : CanLink (current_words memory) i j name
+  pub exact : AreExact (current_words memory) none_kept blocks inodes
   pub enough : name_need (current_words memory) i ≤ length (members blocks)
   pub room : entering_room (name_need (current_words memory) i) ≤ room_in memory

@@ -33,7 +33,7 @@ use pm_region::Region;
 
 /// How many blocks a name takes where its inode is there, given its directory's tree and least empty slot: those that
 /// the tree lacks for one entry more, where no slot is empty.
-fn entry_need<R: Region>(region: &R, dir: u32, tree: Tree, slot: Option<u64>) -> u32
+pub(crate) fn entry_need<R: Region>(region: &R, dir: u32, tree: Tree, slot: Option<u64>) -> u32
     requires well_formed { IsWellFormed (current_words (R.memory region.now)) }
     requires reached { IsReached (current_words (R.memory region.now)) dir }
     requires directory { IsDirectory (current_words (R.memory region.now)) dir }

@@ -6,6 +6,7 @@ pub mod Separation
 pub mod ContentStore
 pub mod AddsNames
 pub mod LinksName
+pub mod GainsEntry
 pub mod Link
 pub mod ChangesFile
 pub mod Resize

@@ -14,7 +14,7 @@ use Rattle.bp_layout.proofs.TreeLaws.{KeepsPointers, sound-kept, full-kept, has_
 use Rattle.bp_layout.proofs.Reached.{reached-in_file}
 use Rattle.bp_changes.proofs.ContentStore.{pointers_stay, content_elsewhere, content_here, superblock_stays, kind_stays, root_stays, size_stays}
 use Rattle.bp_changes.specs.Effects.{SetsInumber, KeepsBlocks, CanUnlink, RemovesEntry}
-use Rattle.bp_changes.proofs.Link.{CanLink}
+use Rattle.bp_changes.proofs.Link.{AwaitsInumber}
 use Rattle.bp_changes.proofs.Formatted.{low_stays}
 
 module _ (old : Image) (wf : IsWellFormed old) (i s value place : ℕ) (reached_here : IsReached old i) (directory : kind_of old i ≡ 2) (in_size : s < entry_count old i)
@@ -75,7 +75,7 @@ module _ (old : Image) (wf : IsWellFormed old) (i s value place : ℕ) (reached_
     stay = λ t b reached has. to_new (λ r z. HasBlock (set old place value) r z b) t reached (has_block-stays old (set old place value) (root_of old t) (size_of old t) (keeps t reached) b has);
   }
 
-pub store_adds : (old : Image) → IsWellFormed old → (i s j place : ℕ) → CanLink old i s j → ContentStandsAt old i (32 * s + 0) place → SetsInumber old (set old place j) i s j
+pub store_adds : (old : Image) → IsWellFormed old → (i s j place : ℕ) → AwaitsInumber old i s → ContentStandsAt old i (32 * s + 0) place → SetsInumber old (set old place j) i s j
 store_adds old wf i s j place can stands = store_sets old wf i s j place can.reached can.directory can.in_size stands
 
 pub store_removes : (old : Image) → IsWellFormed old → (i s j place : ℕ) → CanUnlink old i s j → ContentStandsAt old i (32 * s + 0) place → RemovesEntry old (set old place 0) i s

@@ -31,7 +31,7 @@ pub returns-then-tree-covered_bytes-clause-err : goal.returns-then-tree-covered_
 returns-then-tree-covered_bytes-clause-err g c =
     let next : suc (height_of c.args.tree.root) ≡ c.in-Ok.root.height + 1 = omega (arith, c.in-Ok.ensures.height) in
     let span : c.covered_bytes.result ≡ covered (suc (height_of c.args.tree.root)) = c.covered_bytes.ensures ∙ ap covered (sym next) in
-    capacity (omega (arith, span, c.if-tree-span.true))
+    capacity (omega (arith, span, c.if-tree-covered_bytes.true))
 
 pub returns-in_err-block-clause-err : goal.returns-in_err-block-clause-err
 returns-in_err-block-clause-err g c =
@@ -39,7 +39,7 @@ returns-in_err-block-clause-err g c =
     let some : 0 < c.args.tree.size = omega (arith, c.if-tree-eq0.false) in
     let next : suc (height_of c.args.tree.root) ≡ c.in-Ok.root.height + 1 = omega (arith, c.in-Ok.ensures.height) in
     let span : c.covered_bytes.result ≡ covered (suc (height_of c.args.tree.root)) = c.covered_bytes.ensures ∙ ap covered (sym next) in
-    let fits : c.args.tree.size ≤ covered (suc (height_of c.args.tree.root)) = omega (arith, span, c.if-tree-span.false) in
+    let fits : c.args.tree.size ≤ covered (suc (height_of c.args.tree.root)) = omega (arith, span, c.if-tree-covered_bytes.false) in
     let refused : RefusesPointed (block_of c.args.tree.root) c.args.holes c.args.blocks.now c.in_err-block.field-0.0.check = subst (λ (x : ℕ). RefusesPointed x c.args.holes c.args.blocks.now c.in_err-block.field-0.0.check) c.in-Ok.ensures.block c.in_err-block.ensures.err in
     rw (p.1, p.2, c.in_err-block.ensures.place) (refused_root (current_words (g.R.Region.memory c.args.region.now)) c.args.at c.args.tree.root c.args.tree.size c.args.holes c.args.blocks.now c.in_err-block.field-0.0.check c.requires.room some fits refused)
 
@@ -69,7 +69,7 @@ returns-then-root-eq0-clause-ok g c =
     let some : 0 < c.args.tree.size = omega (arith, c.if-tree-eq0.false) in
     let next : suc (height_of c.args.tree.root) ≡ c.in-Ok.root.height + 1 = omega (arith, c.in-Ok.ensures.height) in
     let span : c.covered_bytes.result ≡ covered (suc (height_of c.args.tree.root)) = c.covered_bytes.ensures ∙ ap covered (sym next) in
-    let fits : c.args.tree.size ≤ covered (suc (height_of c.args.tree.root)) = omega (arith, span, c.if-tree-span.false) in
+    let fits : c.args.tree.size ≤ covered (suc (height_of c.args.tree.root)) = omega (arith, span, c.if-tree-covered_bytes.false) in
     let named : block_of c.args.tree.root ≡ c.in_ok-block.block = sym c.in-Ok.ensures.block ∙ sym c.in_ok-block.ensures.named in
     let top : c.greatest_height-top.result ≡ greatest_height (version_of image) = c.greatest_height-top.ensures.height ∙ ap greatest_height c.version-version.ensures in
     let form : IsRootWord (greatest_height (version_of image)) c.args.tree.root = subst (λ t. IsRootWord t c.args.tree.root) top (c.in-Ok.ensures.form.0 refl) in
@@ -85,7 +85,7 @@ returns-clause-ok g c =
     let some : 0 < c.args.tree.size = omega (arith, c.if-tree-eq0.false) in
     let next : suc (height_of c.args.tree.root) ≡ c.in-Ok.root.height + 1 = omega (arith, c.in-Ok.ensures.height) in
     let span : c.covered_bytes.result ≡ covered (suc (height_of c.args.tree.root)) = c.covered_bytes.ensures ∙ ap covered (sym next) in
-    let fits : c.args.tree.size ≤ covered (suc (height_of c.args.tree.root)) = omega (arith, span, c.if-tree-span.false) in
+    let fits : c.args.tree.size ≤ covered (suc (height_of c.args.tree.root)) = omega (arith, span, c.if-tree-covered_bytes.false) in
     let named : block_of c.args.tree.root ≡ c.in_ok-block.block = sym c.in-Ok.ensures.block ∙ sym c.in_ok-block.ensures.named in
     let top : c.greatest_height-top.result ≡ greatest_height (version_of image) = c.greatest_height-top.ensures.height ∙ ap greatest_height c.version-version.ensures in
     let form : IsRootWord (greatest_height (version_of image)) c.args.tree.root = subst (λ t. IsRootWord t c.args.tree.root) top (c.in-Ok.ensures.form.0 refl) in

@@ -23,7 +23,7 @@ use bp_dirs::{entry_place, put_name};
 use bp_free::{NoSpace, Parts};
 use bp_inodes::{place, tree_of};
 use bp_inplace::commit_word;
-use bp_limits::ENTRY_SIZE;
+use bp_limits::{ENTRY_SIZE, SIZE_FIELD};
 use pm_region::Region;
 
 /// Names a file in an empty entry of a directory.
@@ -61,7 +61,7 @@ fn link_behind<R: Region>(parts: &mut Parts<R>, dir: u32, i: u32, name: &[u8])
     ensures frozen { parts.new.frozen ≡ parts.old.frozen }
 {
     let tree = tree_of(&parts.region, dir);
-    let size_place = place(&parts.region, dir, 2);
+    let size_place = place(&parts.region, dir, SIZE_FIELD);
     put_behind(parts, dir, tree, i, name);
     commit_word(&mut parts.region, size_place, tree.size + ENTRY_SIZE);
 }

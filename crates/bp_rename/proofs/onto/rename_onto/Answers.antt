@@ -165,15 +165,15 @@ returns-then-names-gt0 g c =
     let more = onto_other (current_words old) c.args.to_move.now c.args.slot c.requires.can c.requires.onto c.args.parts.now c.requires.exact (omega (arith, some, read, c.if-names-gt0.true)) in
     record {
       performs = onto_performs old new c.args.to_move.now c.args.slot c.requires.can c.requires.onto
-    c.touched_two-touched.result touches c.args.parts.now.blocks c.args.parts.now.inodes c.commit.new.parts.blocks c.requires.exact.sets c.requires.room c.commit.ensures.commits c.commit.ensures.size;
+          c.touched_two-touched.result touches c.args.parts.now.blocks c.args.parts.now.inodes c.commit.new.parts.blocks c.requires.exact.sets c.requires.room c.commit.ensures.commits c.commit.ensures.size;
       exact = exact_with _ _ c.args.parts.now _ c.requires.exact
           (rw c.commit.ensures.inodes (named_exact old new c.args.to_move.now c.args.slot c.requires.can c.requires.onto
-    c.touched_two-touched.result touches c.args.parts.now.blocks c.args.parts.now.inodes c.commit.new.parts.blocks c.requires.exact.sets c.requires.room c.commit.ensures.commits c.commit.ensures.size more)) c.commit.ensures.frozen
+          c.touched_two-touched.result touches c.args.parts.now.blocks c.args.parts.now.inodes c.commit.new.parts.blocks c.requires.exact.sets c.requires.room c.commit.ensures.commits c.commit.ensures.size more)) c.commit.ensures.frozen
           (onto_whole old new c.args.to_move.now c.args.slot c.requires.can c.requires.onto
-    c.touched_two-touched.result touches c.args.parts.now.blocks c.args.parts.now.inodes c.commit.new.parts.blocks c.requires.exact.sets c.requires.room c.commit.ensures.commits c.commit.ensures.size)
+          c.touched_two-touched.result touches c.args.parts.now.blocks c.args.parts.now.inodes c.commit.new.parts.blocks c.requires.exact.sets c.requires.room c.commit.ensures.commits c.commit.ensures.size)
           (rw (c.commit.ensures.counts, c.set.ensures) (length-set c.args.parts.now.counts c.inumber-replaced.result (c.names-names.result - 1)))
           (rw (c.commit.ensures.counts, c.set.ensures, named) (onto_counts old new c.args.to_move.now c.args.slot c.requires.can c.requires.onto
-    c.touched_two-touched.result touches c.args.parts.now.blocks c.args.parts.now.inodes c.commit.new.parts.blocks c.requires.exact.sets c.requires.room c.commit.ensures.commits c.commit.ensures.size c.args.parts.now.counts c.requires.exact.counts low (c.names-names.result - 1) (omega (arith, some, read))));
+          c.touched_two-touched.result touches c.args.parts.now.blocks c.args.parts.now.inodes c.commit.new.parts.blocks c.requires.exact.sets c.requires.room c.commit.ensures.commits c.commit.ensures.size c.args.parts.now.counts c.requires.exact.counts low (c.names-names.result - 1) (omega (arith, some, read))));
     }
 
 -- the name was its last
@@ -191,15 +191,15 @@ returns g c =
     let last = onto_last (current_words old) c.args.to_move.now c.args.slot c.requires.can c.requires.onto c.args.parts.now c.requires.exact (omega (arith, some, read, c.if-names-gt0.false)) in
     record {
       performs = onto_performs old new c.args.to_move.now c.args.slot c.requires.can c.requires.onto
-    c.touched_two-touched.result touches c.args.parts.now.blocks c.args.parts.now.inodes c.commit.new.parts.blocks c.requires.exact.sets c.requires.room c.commit.ensures.commits c.commit.ensures.size;
+          c.touched_two-touched.result touches c.args.parts.now.blocks c.args.parts.now.inodes c.commit.new.parts.blocks c.requires.exact.sets c.requires.room c.commit.ensures.commits c.commit.ensures.size;
       exact = exact_with _ _ c.args.parts.now _ c.requires.exact
           (rw (c.give.ensures, c.commit.ensures.inodes, named)
           (onto_exact old new c.args.to_move.now c.args.slot c.requires.can c.requires.onto
-    c.touched_two-touched.result touches c.args.parts.now.blocks c.args.parts.now.inodes c.commit.new.parts.blocks c.requires.exact.sets c.requires.room c.commit.ensures.commits c.commit.ensures.size c.give_back.new.blocks
+          c.touched_two-touched.result touches c.args.parts.now.blocks c.args.parts.now.inodes c.commit.new.parts.blocks c.requires.exact.sets c.requires.room c.commit.ensures.commits c.commit.ensures.size c.give_back.new.blocks
           (rw (c.get-inode.ensures.root, c.get-inode.ensures.size, named) at c.give_back.ensures) last)) c.commit.ensures.frozen
           (onto_whole old new c.args.to_move.now c.args.slot c.requires.can c.requires.onto
-    c.touched_two-touched.result touches c.args.parts.now.blocks c.args.parts.now.inodes c.commit.new.parts.blocks c.requires.exact.sets c.requires.room c.commit.ensures.commits c.commit.ensures.size)
+          c.touched_two-touched.result touches c.args.parts.now.blocks c.args.parts.now.inodes c.commit.new.parts.blocks c.requires.exact.sets c.requires.room c.commit.ensures.commits c.commit.ensures.size)
           (rw (c.commit.ensures.counts, c.set.ensures) (length-set c.args.parts.now.counts c.inumber-replaced.result (c.names-names.result - 1)))
           (rw (c.commit.ensures.counts, c.set.ensures, named) (onto_counts old new c.args.to_move.now c.args.slot c.requires.can c.requires.onto
-    c.touched_two-touched.result touches c.args.parts.now.blocks c.args.parts.now.inodes c.commit.new.parts.blocks c.requires.exact.sets c.requires.room c.commit.ensures.commits c.commit.ensures.size c.args.parts.now.counts c.requires.exact.counts low (c.names-names.result - 1) (omega (arith, some, read))));
+          c.touched_two-touched.result touches c.args.parts.now.blocks c.args.parts.now.inodes c.commit.new.parts.blocks c.requires.exact.sets c.requires.room c.commit.ensures.commits c.commit.ensures.size c.args.parts.now.counts c.requires.exact.counts low (c.names-names.result - 1) (omega (arith, some, read))));
     }

@@ -171,7 +171,7 @@ returns-then-names-gt0 g c =
           c.touched_two-touched.result touches c.args.parts.now.blocks c.args.parts.now.inodes c.commit.new.parts.blocks c.requires.exact.sets c.requires.room c.commit.ensures.commits c.commit.ensures.size more)) c.commit.ensures.frozen
           (onto_whole old new c.args.to_move.now c.args.slot c.requires.can c.requires.onto
           c.touched_two-touched.result touches c.args.parts.now.blocks c.args.parts.now.inodes c.commit.new.parts.blocks c.requires.exact.sets c.requires.room c.commit.ensures.commits c.commit.ensures.size)
-          (rw (c.commit.ensures.counts, c.set.ensures) (length-set c.args.parts.now.counts c.inumber-replaced.result (c.names-names.result - 1)))
+          (rw (c.commit.ensures.counts, c.set.ensures) (length-set _ _ _))
           (rw (c.commit.ensures.counts, c.set.ensures, named) (onto_counts old new c.args.to_move.now c.args.slot c.requires.can c.requires.onto
           c.touched_two-touched.result touches c.args.parts.now.blocks c.args.parts.now.inodes c.commit.new.parts.blocks c.requires.exact.sets c.requires.room c.commit.ensures.commits c.commit.ensures.size c.args.parts.now.counts c.requires.exact.counts low (c.names-names.result - 1) (omega (arith, some, read))));
     }
@@ -199,7 +199,7 @@ returns g c =
           (rw (c.get-inode.ensures.root, c.get-inode.ensures.size, named) at c.give_back.ensures) last)) c.commit.ensures.frozen
           (onto_whole old new c.args.to_move.now c.args.slot c.requires.can c.requires.onto
           c.touched_two-touched.result touches c.args.parts.now.blocks c.args.parts.now.inodes c.commit.new.parts.blocks c.requires.exact.sets c.requires.room c.commit.ensures.commits c.commit.ensures.size)
-          (rw (c.commit.ensures.counts, c.set.ensures) (length-set c.args.parts.now.counts c.inumber-replaced.result (c.names-names.result - 1)))
+          (rw (c.commit.ensures.counts, c.set.ensures) (length-set _ _ _))
           (rw (c.commit.ensures.counts, c.set.ensures, named) (onto_counts old new c.args.to_move.now c.args.slot c.requires.can c.requires.onto
           c.touched_two-touched.result touches c.args.parts.now.blocks c.args.parts.now.inodes c.commit.new.parts.blocks c.requires.exact.sets c.requires.room c.commit.ensures.commits c.commit.ensures.size c.args.parts.now.counts c.requires.exact.counts low (c.names-names.result - 1) (omega (arith, some, read))));
     }

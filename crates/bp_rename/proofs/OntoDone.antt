@@ -1,4 +1,4 @@
--- A name has moved onto another one: that it is performed, and that the sets are exact once what had the name comes back.
+-- A name has moved onto another one: that it is performed, that the sets are exact, once what had the name comes back where it has no other, and how many names it has left.
 use Rattle.std.proofs.Common.{◌≡◌, ◌≢◌, ◌⊎◌, ℕ, zero, suc, ◌+◌, ◌*◌, ◌/◌, ◌<◌, ◌≤◌, List, length, set, slice_index, true, false, Some, refl, sym, ◌∙◌, ap₂, subst, arith, inl, inr}
 use Rattle.std.proofs.lemmas.Bool.{cases_Bool, cases_eq}
 use Rattle.std.proofs.lemmas.List.{length-set}

@@ -20,7 +20,7 @@ ghost use Rattle.pm_region.specs.Memory.{current_words, room_in};
 use bp_append::prep;
 use bp_dirs::{entry_place, put_name};
 use bp_free::Parts;
-use bp_inodes::{fill, place, root_path};
+use bp_inodes::{fill, place, root_path, tree_of};
 use bp_inplace::commit_word;
 use bp_layout::Kind;
 use bp_limits::{ENTRY_SIZE, SIZE_FIELD};

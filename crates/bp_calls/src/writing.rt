@@ -19,7 +19,7 @@ use crate::writing::across::write_across;
 use bp_append::{need_prep, prep};
 use bp_cow::{Run, Touched, commit_at, copies_below, find_cover};
 use bp_free::{NoSpace, Parts};
-use bp_inodes::{inode_file, place, tree_of};
+use bp_inodes::{inode_file, place, root_path, tree_of};
 use bp_inplace::commit_word;
 use bp_limits::{INODE_SIZE, SIZE_FIELD};
 use bp_tree::{Slots, Tree, word_path};

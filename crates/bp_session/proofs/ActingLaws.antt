@@ -17,6 +17,8 @@ use Rattle.bp_plain.specs.Calls.Answer.{done as carried_out}
 use Rattle.bp_plain.specs.Plain.{answer as plain_answer, changes, is_changing, plain, refusal}
 use Rattle.bp_plain.specs.PlainTree.{FileTree}
 use Rattle.bp_plain.proofs.Existence.{stands_for, tree_of}
+use Rattle.bp_layout.specs.Trees.{has_snapshot, snapshot_of}
+use Rattle.bp_layout.specs.WellFormed.{IsWellFormed}
 use Rattle.bp_layout.specs.Whole.{HasSpace, SameFiles}
 use Rattle.pm_region.specs.Safe.{IsSafe}
 use Rattle.bp_volume.specs.Step.{StepFor}
@@ -113,7 +115,7 @@ words-with_room wanted memory = elim (nat_lt (room_in memory) wanted) as (λ ful
 pub words-call : (old new : Memory) (call : Call) (told : Answer) → IsSafe SameFiles old → FileCall old call told new → is_done told ≡ false → current_words new ≡ current_words old
 words-call old new call told safe does other =
     let first = safe.well.first.new_well_formed in
-    let second = λ there. (safe.well.second.same there).new_well_formed in
+    let second : has_snapshot (current_words old) ≡ true → IsWellFormed (snapshot_of (current_words old)) = λ there. (safe.well.second.same there).new_well_formed in
     let tree = tree_of (current_words old) first second in
     let stands = stands_for (current_words old) first second in
     let none = does.silent tree stands (not_changed _ _ tree call told other (does.step tree stands)) in

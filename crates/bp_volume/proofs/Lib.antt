@@ -21,3 +21,4 @@ pub mod SpaceLaws
 pub mod ReplyLaws
 pub mod HalfFormat
 pub mod CrashedLaws
+pub mod WholeLaws

@@ -1,5 +1,5 @@
 -- The calls that a volume carries out so far.
-use Rattle.std.specs.Prelude.{⊥, ◌≤◌}
+use Rattle.std.specs.Prelude.{◌≤◌}
 use Rattle.bp_limits.specs.Limits.{max_read}
 use Rattle.bp_plain.specs.Calls.{Call}
 use Rattle.bp_plain.specs.Calls.Call.{read, snap, unsnap, snap_list, snap_stat, snap_read, batch}

@@ -31,18 +31,18 @@ use Rattle.bp_volume.proofs.WalkLaws.{node_at, dir_at, walk-found}
 
 module _ (tree : FileTree) (text : List ℕ) where
   -- a call on a file is refused as any call there, whatever comes behind
-  file_first : (others : Path → List (Option Refusal)) (why : Refusal) → on_path text (refusal_of_file tree) ≡ Some why → on_path text (λ p. first (walk tree p ∷ when (is_dir_at tree p) is_dir ∷ others p)) ≡ Some why
+  file_first : (others : Path → List (Option Refusal)) (why : Refusal) → on_path text (refusal_of_file tree) ≡ Some why → on_path text (λ p. first (walk tree.now.nodes p ∷ when (is_dir_at tree.now.nodes p) is_dir ∷ others p)) ≡ Some why
   file_first others why stops = go (parse text) stops
     where
-      go : (o : Option Path) → on_parsed o (refusal_of_file tree) ≡ Some why → on_parsed o (λ p. first (walk tree p ∷ when (is_dir_at tree p) is_dir ∷ others p)) ≡ Some why
+      go : (o : Option Path) → on_parsed o (refusal_of_file tree) ≡ Some why → on_parsed o (λ p. first (walk tree.now.nodes p ∷ when (is_dir_at tree.now.nodes p) is_dir ∷ others p)) ≡ Some why
       go None e = e
-      go (Some path) e = first_two (walk tree path) (when (is_dir_at tree path) is_dir) (others path) why e
+      go (Some path) e = first_two (walk tree.now.nodes path) (when (is_dir_at tree.now.nodes path) is_dir) (others path) why e
 
   -- those of a write of few enough bytes
   refusal-write : (off : ℕ) (new : List ℕ) → length new ≤ max_write →
-      refusal tree (write text off new) ≡ on_path text (λ p. first (walk tree p ∷ when (is_dir_at tree p) is_dir ∷ when (nat_lt 0 (length new) && nat_lt max_size (off + length new)) too_big ∷ []))
+      refusal tree (write text off new) ≡ on_path text (λ p. first (walk tree.now.nodes p ∷ when (is_dir_at tree.now.nodes p) is_dir ∷ when (nat_lt 0 (length new) && nat_lt max_size (off + length new)) too_big ∷ []))
   refusal-write off new short =
-      ap (λ b. on_path text (λ p. first (when b too_long ∷ walk tree p ∷ when (is_dir_at tree p) is_dir ∷ when (nat_lt 0 (length new) && nat_lt max_size (off + length new)) too_big ∷ []))) (le-ltb max_write (length new) short)
+      ap (λ b. on_path text (λ p. first (when b too_long ∷ walk tree.now.nodes p ∷ when (is_dir_at tree.now.nodes p) is_dir ∷ when (nat_lt 0 (length new) && nat_lt max_size (off + length new)) too_big ∷ []))) (le-ltb max_write (length new) short)
 
 module _ (image : Image) (text : List ℕ) where
   pub write_stops : (off : ℕ) (new : List ℕ) (path : Path) (why : Refusal) → parse text ≡ Some path → length new ≤ max_write → RefusesFileAt image path why → Refuses image (write text off new) why
@@ -75,15 +75,15 @@ module _ (image : Image) (text : List ℕ) (i : ℕ) (at : PathFinds image text 
       cc
 
   module _ (tree : FileTree) (stands : Stands image tree) where
-    behind : (others : Path → List (Option Refusal)) → on_path text (λ p. first (walk tree p ∷ when (is_dir_at tree p) is_dir ∷ others p)) ≡ first (others at.path)
+    behind : (others : Path → List (Option Refusal)) → on_path text (λ p. first (walk tree.now.nodes p ∷ when (is_dir_at tree.now.nodes p) is_dir ∷ others p)) ≡ first (others at.path)
     behind others =
-        ap (λ o. on_parsed o (λ p. first (walk tree p ∷ when (is_dir_at tree p) is_dir ∷ others p))) at.parsed
-        ∙ ap (λ o. first (o ∷ when (is_dir_at tree at.path) is_dir ∷ others at.path)) (walk-found image tree stands at.path i at.inode)
+        ap (λ o. on_parsed o (λ p. first (walk tree.now.nodes p ∷ when (is_dir_at tree.now.nodes p) is_dir ∷ others p))) at.parsed
+        ∙ ap (λ o. first (o ∷ when (is_dir_at tree.now.nodes at.path) is_dir ∷ others at.path)) (walk-found image tree stands at.path i at.inode)
         ∙ ap (λ b. first (when b is_dir ∷ others at.path)) (dir_at image tree stands at.path i at.inode ∙ ap (λ k. k == 2) kind)
 
-    pub has_bytes : length (bytes_at tree (path_named text)) ≡ size_of image i
+    pub has_bytes : length (bytes_at tree.now.nodes (path_named text)) ≡ size_of image i
     has_bytes =
-        ap (λ p. length (bytes_at tree p)) path_is
+        ap (λ p. length (bytes_at tree.now.nodes p)) path_is
         ∙ ap (λ o. length (bytes_in o)) (node_at image tree stands at.path i at.inode ∙ ap (λ k. Some (if k == 1 then file had else dir)) kind)
         ∙ had_length
 
@@ -117,7 +117,7 @@ module _ (image : Image) (text : List ℕ) (i : ℕ) (at : PathFinds image text 
     }
 
   pub write_becomes : (off : ℕ) (new : List ℕ) (after : Image) → GetsBytes i off new image after → (tree : FileTree) → Stands image tree → Stands after (tree_after tree (write text off new))
-  write_becomes off new after gets tree stands = subst (λ p. Stands after (with_bytes tree p (written (bytes_at tree p) off new))) (sym path_is) (gets tree at.path stands at.inode)
+  write_becomes off new after gets tree stands = subst (λ p. Stands after (with_bytes tree p (written (bytes_at tree.now.nodes p) off new))) (sym path_is) (gets tree at.path stands at.inode)
 
   -- another size
 
@@ -134,7 +134,7 @@ module _ (image : Image) (text : List ℕ) (i : ℕ) (at : PathFinds image text 
     -- the size that it has changes nothing
     pub truncate_nothing : size ≤ max_size → size ≡ size_of image i → Tells image (truncate text size) done
     truncate_nothing fits same tree stands =
-        answer_steps image tree (truncate text size) done (truncate_goes fits tree stands) (ap not (eq-eqb size (length (bytes_at tree (path_named text))) (same ∙ sym (has_bytes tree stands)))) refl
+        answer_steps image tree (truncate text size) done (truncate_goes fits tree stands) (ap not (eq-eqb size (length (bytes_at tree.now.nodes (path_named text))) (same ∙ sym (has_bytes tree stands)))) refl
 
     truncate_need : (other : Change) → IsChange image (truncate text size) other → need image other ≡ need image (resizes i size)
     truncate_need _ (by_truncate {i = k} finds) = ap (λ j. need image (resizes j size)) (same_file k finds)
@@ -144,9 +144,9 @@ module _ (image : Image) (text : List ℕ) (i : ℕ) (at : PathFinds image text 
       is = by_truncate at;
       alike = truncate_need;
       allowed = truncate_goes fits;
-      changing = λ tree stands. ap not (ne_eqb size (length (bytes_at tree (path_named text))) (λ e. other (e ∙ has_bytes tree stands)));
+      changing = λ tree stands. ap not (ne_eqb size (length (bytes_at tree.now.nodes (path_named text))) (λ e. other (e ∙ has_bytes tree stands)));
       says = λ tree. refl;
     }
 
     pub truncate_becomes : (after : Image) → GetsSize i size image after → (tree : FileTree) → Stands image tree → Stands after (tree_after tree (truncate text size))
-    truncate_becomes after gets tree stands = subst (λ p. Stands after (with_bytes tree p (resized (bytes_at tree p) size))) (sym path_is) (gets tree at.path stands at.inode)
+    truncate_becomes after gets tree stands = subst (λ p. Stands after (with_bytes tree p (resized (bytes_at tree.now.nodes p) size))) (sym path_is) (gets tree at.path stands at.inode)

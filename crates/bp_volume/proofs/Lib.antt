@@ -23,3 +23,4 @@ pub mod ReplyLaws
 pub mod HalfFormat
 pub mod CrashedLaws
 pub mod WholeLaws
+pub mod SharingLaws

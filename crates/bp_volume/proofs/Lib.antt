@@ -16,6 +16,9 @@ pub mod MovingLaws
 pub mod CarriedLaws
 pub mod LaidLaws
 pub mod LinksLaws
+pub mod BesideExact
+pub mod SafeLaws
+pub mod UpgradeLaws
 pub mod WalkingLaws
 pub mod TargetLaws
 pub mod SpaceLaws

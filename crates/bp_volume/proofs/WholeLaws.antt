@@ -100,7 +100,7 @@ module _ (old : Image) (kept : ℕ → Bool) (taken : List ℕ) (free : (b : ℕ
   kept_closed place is (at_root e) = first_is_loose (subst (λ b. kept b ≡ true) (omega (arith, e)) is)
   kept_closed place is (at_size e) = first_is_loose (subst (λ b. kept b ≡ true) (omega (arith, e)) is)
 
-  keeps : (image : Image) → EachMay (AnyAt (IsOpen old kept taken)) old image → Keeps old image kept
+  pub keeps : (image : Image) → EachMay (AnyAt (IsOpen old kept taken)) old image → Keeps old image kept
   keeps image each = record {
     whole = each.size;
     superblock = λ place low a b. go place (low_closed place low a b) (each.each place);
@@ -126,7 +126,7 @@ module _ (kept : ℕ → Bool) (old new : Memory) (change : Change) (Effect : Im
   abbrev events : List Event
   events = done.commit.prepared ++ commit (address (current_words new) (cover (current_words old) change)) done.value
 
-  free_taken : (b : ℕ) → Has done.taken b → IsFreeBlock (current_words old) kept b
+  pub free_taken : (b : ℕ) → Has done.taken b → IsFreeBlock (current_words old) kept b
   free_taken b has = each-has (IsFreeBlock (current_words old) kept) done.taken b done.takes.free has
 
   rest_quiet : IsQuiet SameSnapshot (current_words old) done.commit.prepared

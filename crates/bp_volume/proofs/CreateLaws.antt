@@ -1,5 +1,5 @@
 -- Steps of a call that makes an empty file or directory.
-use Rattle.std.proofs.Common.{◌≡◌, ◌≢◌, ℕ, ◌≤◌, ◌==◌, List, [], ◌∷◌, ◌++◌, refl, sym, ◌∙◌, ap, ap₂, subst, arith, Option, None, Some, option_and_then}
+use Rattle.std.proofs.Common.{◌≡◌, ◌≢◌, ℕ, ◌≤◌, ◌==◌, List, [], ◌∷◌, ◌++◌, false, refl, sym, ◌∙◌, ap, ap₂, subst, arith, Option, None, Some, option_and_then}
 use Rattle.std.specs.Prelude.{not, is_some, if◌then◌else◌, unwrap_or}
 use Rattle.std.specs.Option.{option_map}
 use Rattle.std.specs.FinMap.{get}

@@ -9,7 +9,7 @@ use Rattle.bp_layout.specs.Thaw.{none_kept}
 use Rattle.bp_layout.proofs.NoSecond.{none_frozen}
 use Rattle.bp_volume.proofs.ChangeLaws.{carried_or_lacks, lacks_space, performs_call}
 use Rattle.bp_volume.proofs.CreateLaws.{making_makes, making_shows}
-use Rattle.bp_volume.proofs.FewBlocks.{few_entered, few_in_all, few_room, performs_room}
+use Rattle.bp_volume.proofs.FewBlocks.{few_entered, few_room, performs_room}
 use Rattle.bp_volume.proofs.WalkLaws.{reached_at}
 use Rattle.bp_volume.proofs.creating.create_new.Goals as goal
 
@@ -21,8 +21,8 @@ create_in-requires-clause-reached g c = reached_at _ c.requires.well_formed.firs
 
 pub create_in-requires-clause-room : goal.create_in-requires-clause-room
 create_in-requires-clause-room g c = λ free least enough.
-    few_room (g.R.Region.memory c.args.parts.now.region) none_kept (change_of c.args.new.dir (entrant_of free))
-    (few_in_all _ (change_of c.args.new.dir (entrant_of free)) (few_entered _ c.requires.well_formed.first c.args.new.dir (reached_at _ c.requires.well_formed.first _ c.args.new.dir c.requires.new.new.parent) (entrant_of free))) c.requires.room
+    few_room (g.R.Region.memory c.args.parts.now.region) (change_of c.args.new.dir (entrant_of free))
+    (few_entered _ c.requires.well_formed.first c.args.new.dir (reached_at _ c.requires.well_formed.first _ c.args.new.dir c.requires.new.new.parent) (entrant_of free)) c.requires.room
 
 pub returns-clause-called : goal.returns-clause-called
 returns-clause-called g c =
@@ -34,9 +34,8 @@ returns-clause-called g c =
     let done = performs told.0 told.1 in
     performs_call none_kept _ _ _ (change_of c.args.new.dir (entrant_of told.0)) _ c.requires.well_formed frozen makes done
     (λ enters. making_shows _ c.args.text.now c.args.new.dir c.args.new.name.now c.requires.new c.args.kind _ (entered_gains _ _ c.requires.well_formed.first c.args.new.dir c.args.new.name.now c.args.kind enters))
-    (performs_room none_kept _ _ _ _ done
-    (few_in_all _ (change_of c.args.new.dir (entrant_of told.0)) (few_entered _ c.requires.well_formed.first c.args.new.dir (reached_at _ c.requires.well_formed.first _ c.args.new.dir c.requires.new.new.parent) (entrant_of told.0)))
-    c.requires.room))
+    (performs_room _ _ _ _ done
+    (few_entered _ c.requires.well_formed.first c.args.new.dir (reached_at _ c.requires.well_formed.first _ c.args.new.dir c.requires.new.new.parent) (entrant_of told.0)) c.requires.room))
     c.create_in.ensures.performs)
     (on_err_weaker c.create_in.result (ap (λ (parts : Parts g.row.R.Denot). g.R.Region.memory parts.region)) c.create_in.ensures.same)
     (MatchResult-weaker c.create_in.result c.create_in.ensures.refused (λ _ nothing. nothing)

@@ -1,6 +1,6 @@
 -- Steps of a call that gives a file one more name.
-use Rattle.std.proofs.Common.{◌≡◌, ℕ, ◌==◌, List, [], ◌∷◌, ◌++◌, refl, sym, ◌∙◌, ap, subst, Option, None, Some}
-use Rattle.std.specs.Prelude.{unwrap_or}
+use Rattle.std.proofs.Common.{◌≡◌, ℕ, ◌==◌, List, [], ◌∷◌, ◌++◌, refl, sym, ◌∙◌, ap, subst, Option, None, Some, true≢false}
+use Rattle.std.specs.Prelude.{unwrap_or, is_err, Result, Ok, Err, MatchResult, OnErr}
 use Rattle.bp_calls.specs.OnTrees.{SharesName}
 use Rattle.bp_layout.specs.Directory.{Name}
 use Rattle.bp_layout.specs.Inode.{kind_of}
@@ -16,7 +16,10 @@ use Rattle.bp_plain.specs.Calls.Call.{link}
 use Rattle.bp_plain.specs.Calls.Refusal.{bad_path, is_dir}
 use Rattle.bp_plain.specs.Plain.{file_refusal, first, is_dir_at, new_refusal, on_parsed, on_path, parent_of, path_named, refusal, tree_after, when, with_name}
 use Rattle.bp_plain.specs.PlainTree.{FileTree}
+use Rattle.bp_plain.specs.Seen.{refusal_of}
 use Rattle.bp_plain.specs.Stands.{Shows, Stands}
+use Rattle.bp_plain.specs.declared.errors.FsError.{FsError}
+use Rattle.bp_plain.specs.declared.errors.FsError.TheVariants.{BadPath}
 use Rattle.bp_volume.specs.Step.{FindsNew, IsChange, PathFinds}
 use Rattle.bp_volume.specs.Step.IsChange.{by_link}
 use Rattle.bp_volume.specs.Told.{Refuses, StopsAtFile, StopsAtNew, refusal_of_file, refusal_of_new}
@@ -36,6 +39,11 @@ module _ (image : Image) (from to : List ℕ) where
       go : (o : Option Path) → on_parsed o (λ p. on_path to (of_both tree p)) ≡ Some bad_path
       go None = refl
       go (Some p) = ap (λ u. on_parsed u (of_both tree p)) none
+
+  -- as the error of a parser tells it
+  pub text_stops : {T E : Type 0} (inner : Result T E) (error : FsError) → MatchResult inner (λ x. ◌≡◌ {A = Result T FsError} (Err error) (Ok x)) (λ _. error ≡ BadPath) → OnErr inner (parse to ≡ None) → Refuses image (link from to) (refusal_of error)
+  text_stops (Ok x) error maps none = absurd (true≢false (ap is_err maps))
+  text_stops (Err fault) error maps none = subst (λ e. Refuses image (link from to) (refusal_of e)) (sym maps) (no_target none)
 
   -- it is one, and no file stands at the first
   pub no_source : (q : Path) → parse to ≡ Some q → (why : Refusal) → StopsAtFile image from why → Refuses image (link from to) why

@@ -20,8 +20,8 @@ pub returns-then-is_empty-clause-called : goal.returns-then-is_empty-clause-call
 returns-then-is_empty-clause-called g c =
     unchanged refl (write_nothing _ c.args.text.now c.args.i c.requires.at c.requires.kind c.args.off c.args.bytes.now c.requires.short (omega (arith, eqb-true _ _ (sym c.is_empty.ensures ∙ c.if-is_empty.true))))
 
-pub returns-then-off-bytes-clause-called : goal.returns-then-off-bytes-clause-called
-returns-then-off-bytes-clause-called g c =
+pub returns-then-off-greatest_size-clause-called : goal.returns-then-off-greatest_size-clause-called
+returns-then-off-greatest_size-clause-called g c =
     let some : length c.args.bytes.now ≢ 0 = eqb-false _ _ (sym c.is_empty.ensures ∙ c.if-is_empty.false) in
     let limit : c.greatest_size.result ≡ greatest_size (version_of (current_words (g.R.Region.memory c.args.parts.now.region))) = c.greatest_size.ensures.size ∙ ap greatest_size c.version.ensures in
     unchanged refl (write_too_big _ c.args.text.now c.args.i c.requires.at c.requires.kind c.args.off c.args.bytes.now c.requires.short (omega (arith, some)) (omega (arith, limit)))

@@ -231,7 +231,7 @@ module _ (image : Image) (p q : Path) (ends : Ends) (are : AreEnds image p q end
 
   -- and no file is at both
   other_files : are_same ends ≡ false → find_one image p q ≡ false
-  other_files other = ap₂ (λ a b. are_one (option_and_then (if_file image) a) (option_and_then (if_file image) b)) are.source.inode refl ∙ go ends.target.there refl other
+  other_files other = ap (λ a. are_one (option_and_then (if_file image) a) (file_at image q)) are.source.inode ∙ go ends.target.there refl other
     where
       apart : (x y : ℕ) → (a b : Bool) → (y == x) ≡ false → are_one (if a then Some x else None) (if b then Some y else None) ≡ false
       apart x y false b e = refl

@@ -1,5 +1,5 @@
 -- A call that changes the tree, from the change that it makes.
-use Rattle.std.proofs.Common.{◌≡◌, ℕ, ◌<◌, ◌≤◌, Bool, true, false, true≢false, length, ◌∙◌, sym, ap, ap₂, subst, arith, None}
+use Rattle.std.proofs.Common.{◌≡◌, ℕ, ◌<◌, ◌≤◌, Bool, true, false, true≢false, length, refl, ◌∙◌, sym, ap, ap₂, subst, arith, None}
 use Rattle.std.specs.Prelude.{◌&&◌, is_none, if◌then◌else◌, is_err, Result, Ok, Err, IsErrAnd, MatchResult, IfErr, OnErr, OnOk}
 use Rattle.pm_region.specs.Memory.{Memory, current_words, room_in}
 use Rattle.bp_free.specs.declared.parts.NoSpace.{NoSpace}

@@ -292,24 +292,24 @@ module _ (image : Image) (wf : IsWellFormed image) (i : ℕ) (reached : IsReache
   few_entered =
       omega (arith, new_entry_few image wf i reached (empty_slot image i), inodes_few entrant, enters_alone (empty_slot image i) refl (length (cover_of (is_there_after image (enters i entrant)) (touched image (enters i entrant)))))
 
--- ---- room
+-- ---- room, where no block is kept
 
--- where no block is kept, a change needs no more than this
-pub few_in_all : (image : Image) (change : Change) → IsFew (need image change) → IsFew (full_need image none_kept change)
+few_in_all : (image : Image) (change : Change) → IsFew (need image change) → IsFew (full_need image none_kept change)
 few_in_all image change few = subst IsFew (sym (full_need-none image change)) few
+
+room_enough : (needed room : ℕ) → IsFew needed → call_room ≤ room → room_for needed ≤ room
+room_enough needed room few enough = omega (arith, few, enough)
 
 room_is_left : (needed room left : ℕ) → IsFew needed → call_room ≤ room → room ≤ left + (most_barriers + most_stores needed) → 0 < left
 room_is_left needed room left few enough took = omega (arith, few, enough, took)
 
 -- a log with room for a call has room for a change that needs few blocks
-pub few_room : (memory : Memory) (kept : ℕ → Bool) (change : Change) → IsFew (full_need (current_words memory) kept change) → call_room ≤ room_in memory → HasRoomFor memory kept change
-few_room memory kept change few room = enough (full_need (current_words memory) kept change) (room_in memory) few room
-  where
-    enough : (needed left : ℕ) → IsFew needed → call_room ≤ left → room_for needed ≤ left
-    enough needed left few room = omega (arith, few, room)
+pub few_room : (memory : Memory) (change : Change) → IsFew (need (current_words memory) change) → call_room ≤ room_in memory → HasRoomFor memory none_kept change
+few_room memory change few room =
+    room_enough (full_need (current_words memory) none_kept change) (room_in memory) (few_in_all (current_words memory) change few) room
 
 -- few blocks leave room
-pub performs_room : (kept : ℕ → Bool) (old new : Memory) (change : Change) (Effect : Image → Image → Type 0) → Performs kept old new change Effect → IsFew (full_need (current_words old) kept change) → call_room ≤ room_in old → 0 < room_in new
-performs_room kept old new change Effect performs few room =
-    room_is_left (full_need (current_words old) kept change) (room_in old) (room_in new) few room
-    (room_after_commit Same _ performs.value most_barriers (most_stores (full_need (current_words old) kept change)) old new performs.commit)
+pub performs_room : (old new : Memory) (change : Change) (Effect : Image → Image → Type 0) → Performs none_kept old new change Effect → IsFew (need (current_words old) change) → call_room ≤ room_in old → 0 < room_in new
+performs_room old new change Effect performs few room =
+    room_is_left (full_need (current_words old) none_kept change) (room_in old) (room_in new) (few_in_all (current_words old) change few) room
+    (room_after_commit Same _ performs.value most_barriers (most_stores (full_need (current_words old) none_kept change)) old new performs.commit)

@@ -27,3 +27,4 @@ pub mod ReplyLaws
 pub mod HalfFormat
 pub mod CrashedLaws
 pub mod WholeLaws
+pub mod SharingLaws

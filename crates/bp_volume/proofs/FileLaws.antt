@@ -1,5 +1,5 @@
 -- Calls that change the file at a path: why they are refused, and what they make of the plain tree.
-use Rattle.std.proofs.Common.{◌≡◌, ◌≢◌, ℕ, ◌+◌, ◌≤◌, ◌<◌, ◌==◌, List, [], ◌∷◌, length, refl, sym, ◌∙◌, ap, ap₂, subst, Option, None, Some}
+use Rattle.std.proofs.Common.{arith, ◌≡◌, ◌≢◌, ℕ, ◌+◌, ◌≤◌, ◌<◌, ◌==◌, List, [], ◌∷◌, length, refl, sym, ◌∙◌, ap, ap₂, subst, Option, None, Some}
 use Rattle.std.specs.Prelude.{not, ◌&&◌, nat_lt, unwrap_or, if◌then◌else◌}
 use Rattle.std.proofs.lemmas.Bool.{lt-ltb, le-ltb, eq-eqb, ne_eqb}
 use Rattle.std.proofs.lemmas.List.FromFn.{length-map-range_with_len}
@@ -13,7 +13,9 @@ use Rattle.bp_layout.specs.Need.Change.{writes, resizes}
 use Rattle.bp_layout.specs.PathText.{parse}
 use Rattle.bp_layout.specs.Tree.{byte, content}
 use Rattle.bp_layout.specs.Words.{Image}
-use Rattle.bp_limits.specs.Limits.{greatest_size, greatest_write}
+use Rattle.bp_limits.specs.Limits.{greatest_size, greatest_write, max_write}
+use Rattle.bp_limits.specs.declared.version.Version.{Version}
+use Rattle.bp_limits.proofs.Versions.{size_least, write_most}
 use Rattle.bp_plain.specs.Calls.{Refusal}
 use Rattle.bp_plain.specs.Calls.Answer.{done, refused}
 use Rattle.bp_plain.specs.Calls.Call.{write, truncate}
@@ -28,6 +30,16 @@ use Rattle.bp_volume.proofs.ChangeLaws.{MakesChange}
 use Rattle.bp_volume.proofs.StepLaws.{refused_steps, answer_steps}
 use Rattle.bp_volume.proofs.WalkLaws.{node_at, dir_at, walk-found}
 
+-- ---- the limits of a version
+
+-- the bytes of one write are no more than any version's
+pub short_enough : (version : Version) (new : List ℕ) → length new ≤ greatest_write version → length new ≤ max_write
+short_enough version new short = omega (arith, write_most version, short)
+
+-- and fewer than the greatest file has
+pub short_of_size : (version : Version) (new : List ℕ) → length new ≤ greatest_write version → length new ≤ greatest_size version
+short_of_size version new short = omega (arith, write_most version, size_least version, short)
+
 -- ---- refusals by the path
 
 module _ (tree : FileTree) (text : List ℕ) where
@@ -40,7 +52,7 @@ module _ (tree : FileTree) (text : List ℕ) where
       go (Some path) e = ap (λ o. first (o ∷ others path)) e
 
   -- those of a write behind the number of its bytes
-  too_far : ℕ → List ℕ → List (Option Refusal)
+  abbrev too_far : ℕ → List ℕ → List (Option Refusal)
   too_far off new = when (nat_lt 0 (length new) && nat_lt (greatest_size tree.version) (off + length new)) too_big ∷ []
 
   refusal-write : (off : ℕ) (new : List ℕ) → length new ≤ greatest_write tree.version → refusal tree (write text off new) ≡ on_path text (λ p. first (file_refusal tree.now.nodes p ∷ too_far off new))

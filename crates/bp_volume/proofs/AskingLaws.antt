@@ -132,9 +132,9 @@ module _ (image : Image) (text : List ℕ) where
         (ap (λ p. bytes (take len (drop off (bytes_at tree.now.nodes p)))) path_is ∙ ap (λ o. bytes (take len (drop off (bytes_in o)))) node ∙ ap bytes (sym says))
 
     pub links_tells : (count : ℕ) → kind_of image i ≡ 1 → HasNames image i count → Tells image (links text) (links_of count)
-    links_tells count kind names tree stands =
+    links_tells count kind has tree stands =
         answer_steps image tree (links text) (links_of count) (file_allowed kind tree stands) refl
-        (ap (λ p. links_of (path_count tree.now.one p)) path_is ∙ ap links_of (counts_paths image i kind tree stands at.path at.inode count names))
+        (ap (λ p. links_of (path_count tree.now.one p)) path_is ∙ ap links_of (counts_paths image i kind tree stands at.path at.inode count has))
 
 -- the names that were listed, with a lack of memory told as a refusal
 pub listed_or_full : {E : Type 0} (image : Image) (text : List ℕ) (inner : Result (List (Kind × Name)) E) (outer : Result (List (Kind × Name)) FsError) →

@@ -18,6 +18,7 @@ pub mod LaidLaws
 pub mod LinksLaws
 pub mod BesideExact
 pub mod SafeLaws
+pub mod ScannedLaws
 pub mod UpgradeLaws
 pub mod WalkingLaws
 pub mod TargetLaws

@@ -13,6 +13,7 @@ use Rattle.pm_region.proofs.SafeLaws.{room_after_commit, safe_committed}
 use Rattle.bp_free.specs.declared.parts.Parts.{Parts}
 use Rattle.bp_layout.specs.Format.{upgraded}
 use Rattle.bp_layout.specs.Formatted.{version_of}
+use Rattle.bp_layout.specs.Need.{Change}
 use Rattle.bp_layout.specs.Whole.{HasNoSecond, IsFileSystem, SameFiles}
 use Rattle.bp_layout.specs.Words.{Image, word}
 use Rattle.bp_layout.proofs.BesideTrees.{SameTrees}
@@ -158,9 +159,9 @@ module _ (memory made : Memory) (is : IsFileSystem (current_words memory)) (one 
 module _ (image : Image) where
   -- no change of an image is one of an upgrade, so it needs no block
   upgrade_needs_none : Fits image upgrade
-  upgrade_needs_none needed free has = none has.change has.is
+  upgrade_needs_none needed free has = absurd (none has.change has.is)
     where
-      none : (change) → IsChange image upgrade change → needed ≤ free
+      none : (change : Change) → IsChange image upgrade change → ⊥
       none change is = elim is [ ]
 
   upgrade_changes : version_of image ≡ One → (tree : FileTree) → Stands image tree → changes tree upgrade ≡ true

@@ -110,7 +110,6 @@ are_apart tree p q = not (same_path p q) && not (is_one tree.now.one p q)
 file_found : (image : Image) (path : Path) (i : ℕ) → lookup image path ≡ Some i → kind_of image i ≡ 1 → file_at image path ≡ Some i
 file_found image path i at kind = ap (option_and_then (if_file image)) at ∙ ap (λ k. if k == 1 then Some i else None) kind
 
-
 module _ (image : Image) (p q : Path) (ends : Ends) (are : AreEnds image p q ends) where
   past_all : (tree : FileTree) → Stands image tree → move_refusal tree.now.nodes p q ≡ by_kinds (is_dir_at tree.now.nodes p) (is_dir_at tree.now.nodes q) (is_some (get tree.now.nodes q)) (same_path p q) (is_empty_dir tree.now.nodes q)
   past_all tree stands =

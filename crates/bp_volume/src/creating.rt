@@ -2,7 +2,7 @@
 
 ghost use Rattle.std.specs.Prelude.{◌≡◌, ◌≤◌};
 ghost use Rattle.bp_layout.specs.Directory.{empty_slot};
-ghost use Rattle.bp_layout.specs.WellFormed.{IsWellFormed};
+ghost use Rattle.bp_layout.specs.Whole.{IsFileSystem};
 ghost use Rattle.bp_limits.specs.Limits.{call_room};
 ghost use Rattle.bp_shapes.specs.Sets.{IsExact};
 ghost use Rattle.bp_volume.specs.Carried.{CarriesOut, making};
@@ -25,7 +25,7 @@ fn create_new<R: Region>(
     new: NewName<'_>,
     kind: Kind,
 ) -> Result<(), FsError>
-    requires well_formed { IsWellFormed (current_words (R.memory parts.old.region)) }
+    requires well_formed { IsFileSystem (current_words (R.memory parts.old.region)) }
     requires exact { IsExact (current_words (R.memory parts.old.region)) parts.old }
     requires new { FindsNew (current_words (R.memory parts.old.region)) text.now new.dir new.name.now }
     requires slot { new.slot ≡ empty_slot (current_words (R.memory parts.old.region)) new.dir }
@@ -43,7 +43,7 @@ pub(crate) fn create_at<R: Region>(
     text: &[u8],
     kind: Kind,
 ) -> Result<(), FsError>
-    requires well_formed { IsWellFormed (current_words (R.memory parts.old.region)) }
+    requires well_formed { IsFileSystem (current_words (R.memory parts.old.region)) }
     requires exact { IsExact (current_words (R.memory parts.old.region)) parts.old }
     requires room { call_room ≤ room_in (R.memory parts.old.region) }
     ensures called { CarriesOut (R.memory parts.old.region) (making kind text.now) (unit_answer result)

@@ -4,6 +4,7 @@ ghost use Rattle.std.specs.Prelude.{◌≡◌, ◌≢◌, ◌≤◌, IfErr, IfOk
 ghost use Rattle.bp_changes.specs.Effects.{CanUnlink};
 ghost use Rattle.bp_layout.specs.Directory.{inumber_at};
 ghost use Rattle.bp_layout.specs.WellFormed.{IsWellFormed};
+ghost use Rattle.bp_layout.specs.Whole.{IsFileSystem};
 ghost use Rattle.bp_limits.specs.Limits.{call_room};
 ghost use Rattle.bp_plain.specs.Calls.Call.{rename};
 ghost use Rattle.bp_plain.specs.Seen.{refusal_of};
@@ -142,7 +143,7 @@ fn may_move<R: Region>(region: &R, from: &[u8], to: &[u8], ends: &Ends<'_>) -> R
     }
 }
 
-/// Whether both ends are one entry. An inode has one name.
+/// Whether both ends are one entry, or two names of one file.
 fn are_same(ends: &Ends<'_>) -> bool
     ensures { result ≡ are_same ends.now }
 {
@@ -182,7 +183,7 @@ fn move_name<R: Region>(
     to: &[u8],
     ends: &Ends<'_>,
 ) -> Result<(), FsError>
-    requires well_formed { IsWellFormed (current_words (R.memory parts.old.region)) }
+    requires well_formed { IsFileSystem (current_words (R.memory parts.old.region)) }
     requires exact { IsExact (current_words (R.memory parts.old.region)) parts.old }
     requires may { MayMove (current_words (R.memory parts.old.region)) from.now to.now ends.now }
     requires room { call_room ≤ room_in (R.memory parts.old.region) }
@@ -194,14 +195,15 @@ fn move_name<R: Region>(
     rename_in(parts, &to_move, ends.target.empty).map_err(no_space)
 }
 
-/// Moves a name between the ends that were found. A name that is to move onto itself stays.
+/// Moves a name between the ends that were found. A name that is to move onto itself stays, and so does one that is to
+/// move onto another name of its file.
 fn rename_found<R: Region>(
     parts: &mut Parts<R>,
     from: &[u8],
     to: &[u8],
     ends: &Ends<'_>,
 ) -> Result<(), FsError>
-    requires well_formed { IsWellFormed (current_words (R.memory parts.old.region)) }
+    requires well_formed { IsFileSystem (current_words (R.memory parts.old.region)) }
     requires exact { IsExact (current_words (R.memory parts.old.region)) parts.old }
     requires found { FindsEnds (current_words (R.memory parts.old.region)) from.now to.now ends.now }
     requires room { call_room ≤ room_in (R.memory parts.old.region) }
@@ -222,7 +224,7 @@ pub(crate) fn rename_at<R: Region>(
     from: &[u8],
     to: &[u8],
 ) -> Result<(), FsError>
-    requires well_formed { IsWellFormed (current_words (R.memory parts.old.region)) }
+    requires well_formed { IsFileSystem (current_words (R.memory parts.old.region)) }
     requires exact { IsExact (current_words (R.memory parts.old.region)) parts.old }
     requires room { call_room ≤ room_in (R.memory parts.old.region) }
     ensures called { CarriesOut (R.memory parts.old.region) (rename from.now to.now) (unit_answer result)

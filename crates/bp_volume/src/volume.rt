@@ -2,8 +2,7 @@
 
 ghost use Rattle.std.specs.Prelude.{[], ◌*◌, ◌≡◌, ◌⊎◌, ◌≤◌, ◌↔◌, IfErr, IfOk, IsOk, OnErr, OnOk, drop, length};
 ghost use Rattle.bp_layout.specs.Formatted.{IsSized};
-ghost use Rattle.bp_layout.specs.Free.{HasFree};
-ghost use Rattle.bp_layout.specs.Whole.{IsFileSystem, SameFiles};
+ghost use Rattle.bp_layout.specs.Whole.{HasSpace, IsFileSystem, SameFiles};
 ghost use Rattle.bp_layout.specs.Words.{block_count};
 ghost use Rattle.bp_limits.specs.Limits.{block_inodes, call_room};
 ghost use Rattle.pm_epochs.specs.Log.{marks};
@@ -189,7 +188,7 @@ impl<R: Region> Volume<R> {
 
     /// How many blocks are free, and how many are live.
     pub fn space(&self) -> Space
-        ensures free { HasFree (current_words self.now) result.free }
+        ensures free { HasSpace (current_words self.now) result.free }
         ensures live { HasLive (current_words self.now) result.live }
     {
         let free = self.parts.blocks.count();

@@ -1,6 +1,6 @@
--- A call that is performed leaves the snapshot as it is, at every moment of a crash: so what holds of the first tree
--- holds of both.
-use Rattle.std.proofs.Common.{◌≡◌, ◌≢◌, ◌⊎◌, ℕ, ◌/◌, ◌<◌, ◌≤◌, List, ◌++◌, length, Bool, true, false, refl, sym, ◌∙◌, ap, subst, arith, inl, inr}
+-- A call that is performed leaves the version and the snapshot as they are, at every moment of a crash: so what holds of
+-- the first tree holds of both.
+use Rattle.std.proofs.Common.{◌≡◌, ◌≢◌, ◌⊎◌, ℕ, ◌/◌, ◌<◌, ◌≤◌, List, ◌++◌, length, Bool, true, false, Option, None, Some, refl, sym, ◌∙◌, ap, subst, arith, inl, inr}
 use Rattle.pm_epochs.specs.declared.event.Event.{Event}
 use Rattle.pm_epochs.specs.Crash.{IsPartialEquivalence, IsQuiet, commit}
 use Rattle.pm_epochs.specs.May.{AnyAt, EachMay}
@@ -24,7 +24,9 @@ use Rattle.bp_commit.specs.Performs.{IsOpen, Performs, most_stores}
 use Rattle.bp_commit.specs.Performs.IsOpen.{in_taken, in_live, at_root, at_size}
 use Rattle.bp_commit.proofs.PerformsLaws.{all_open}
 use Rattle.bp_layout.specs.Formatted.{version_of}
-use Rattle.bp_limits.specs.declared.version.Version.TheVariants.{Two}
+use Rattle.bp_plain.specs.Plain.{with_now}
+use Rattle.bp_plain.specs.PlainTree.{FileTree, PathMap}
+use Rattle.bp_plain.specs.Stands.{Shows, ShowsSnapshot, Stands}
 use Rattle.bp_limits.specs.Limits.{version_at}
 
 -- ---- the second tree of two images
@@ -56,6 +58,27 @@ whole_equivalence = record {
   };
 }
 
+-- ---- the tree that an image shows
+
+shows_same : (old new : Image) → Same old new → (map : PathMap) → Shows old map → Shows new map
+shows_same old new same map shows = record {
+  well_formed = same.new_well_formed;
+  shows = λ path. shows.shows path ∙ sym (same.shows path);
+  one = λ p q. shows.one p q ∙ sym (same.one p q);
+}
+
+snapshot_shows : (old new : Image) → SameSnapshot old new → (snap : Option PathMap) → ShowsSnapshot old snap → ShowsSnapshot new snap
+snapshot_shows old new same None none = same.there ∙ none
+snapshot_shows old new same (Some map) shows = (same.there ∙ shows.0, shows_same (snapshot_of old) (snapshot_of new) (same.same shows.0) map shows.1)
+
+-- images that mean the same stand for one tree
+pub stands_same : (old new : Image) → SameFiles old new → (tree : FileTree) → Stands old tree → Stands new tree
+stands_same old new same tree stands = record {
+  version = stands.version ∙ sym same.first.version;
+  now = shows_same old new same.first tree.now stands.now;
+  snap = snapshot_shows old new same.second tree.snap stands.snap;
+}
+
 -- ---- stores at open words
 
 module _ (old : Image) (kept : ℕ → Bool) (taken : List ℕ) (free : (b : ℕ) → Has taken b → IsFreeBlock old kept b) (long : 4 ≤ length old) (fs : IsFileSystem old) (frozen : AreFrozen old kept) where
@@ -77,7 +100,7 @@ module _ (old : Image) (kept : ℕ → Bool) (taken : List ℕ) (free : (b : ℕ
   kept_closed place is (at_root e) = first_is_loose (subst (λ b. kept b ≡ true) (omega (arith, e)) is)
   kept_closed place is (at_size e) = first_is_loose (subst (λ b. kept b ≡ true) (omega (arith, e)) is)
 
-  keeps : (image : Image) → EachMay (AnyAt (IsOpen old kept taken)) old image → Keeps old image kept
+  pub keeps : (image : Image) → EachMay (AnyAt (IsOpen old kept taken)) old image → Keeps old image kept
   keeps image each = record {
     whole = each.size;
     superblock = λ place low a b. go place (low_closed place low a b) (each.each place);
@@ -103,7 +126,7 @@ module _ (kept : ℕ → Bool) (old new : Memory) (change : Change) (Effect : Im
   abbrev events : List Event
   events = done.commit.prepared ++ commit (address (current_words new) (cover (current_words old) change)) done.value
 
-  free_taken : (b : ℕ) → Has done.taken b → IsFreeBlock (current_words old) kept b
+  pub free_taken : (b : ℕ) → Has done.taken b → IsFreeBlock (current_words old) kept b
   free_taken b has = each-has (IsFreeBlock (current_words old) kept) done.taken b done.takes.free has
 
   rest_quiet : IsQuiet SameSnapshot (current_words old) done.commit.prepared
@@ -127,22 +150,30 @@ module _ (kept : ℕ → Bool) (old new : Memory) (change : Change) (Effect : Im
   pub whole_rest : SameSnapshot (current_words old) (current_words new)
   whole_rest = rest_stays (current_words old) kept done.taken free_taken long fs frozen (current_words new) after
 
+  kept_words : Keeps (current_words old) (current_words new) kept
+  kept_words = keeps (current_words old) kept done.taken free_taken long fs frozen (current_words new) after
+
+  -- in the version that it was
+  pub whole_version : version_of (current_words new) ≡ version_of (current_words old)
+  whole_version = ap version_at (kept_words.superblock 0 (omega arith) (λ e. omega (arith, e)) (λ e. omega (arith, e)))
+
   pub whole_file_system : IsFileSystem (current_words new)
   whole_file_system = record {
     first = done.well_formed;
     second = λ there. (whole_rest.same (sym whole_rest.there ∙ there)).new_well_formed;
     no_second = record {
-      root = λ two. kept_words.superblock 4 (omega arith) (λ e. omega (arith, e)) (λ e. omega (arith, e)) ∙ fs.no_second.root (was_two two);
-      size = λ two. kept_words.superblock 5 (omega arith) (λ e. omega (arith, e)) (λ e. omega (arith, e)) ∙ fs.no_second.size (was_two two);
+      root = λ two. kept_words.superblock 4 (omega arith) (λ e. omega (arith, e)) (λ e. omega (arith, e)) ∙ fs.no_second.root (sym whole_version ∙ two);
+      size = λ two. kept_words.superblock 5 (omega arith) (λ e. omega (arith, e)) (λ e. omega (arith, e)) ∙ fs.no_second.size (sym whole_version ∙ two);
     };
   }
-    where
-      kept_words : Keeps (current_words old) (current_words new) kept
-      kept_words = keeps (current_words old) kept done.taken free_taken long fs frozen (current_words new) after
-
-      was_two : version_of (current_words new) ≡ Two → version_of (current_words old) ≡ Two
-      was_two two = sym (ap version_at (kept_words.superblock 0 (omega arith) (λ e. omega (arith, e)) (λ e. omega (arith, e)))) ∙ two
 
   pub whole_frozen : AreFrozen (current_words new) kept
-  whole_frozen = frozen_stays (current_words old) (current_words new) kept long frozen
-      (keeps (current_words old) kept done.taken free_taken long fs frozen (current_words new) after) fs.second
+  whole_frozen = frozen_stays (current_words old) (current_words new) kept long frozen kept_words fs.second
+
+  -- so a tree of which the call changes no more than what it has now
+  pub whole_stands : (tree : FileTree) (now : PathMap) → Stands (current_words old) tree → Shows (current_words new) now → Stands (current_words new) (with_now tree now)
+  whole_stands tree now stands shows = record {
+    version = stands.version ∙ sym whole_version;
+    now = shows;
+    snap = snapshot_shows (current_words old) (current_words new) whole_rest tree.snap stands.snap;
+  }

@@ -1,4 +1,0 @@
-//! Forms to be tried.
-#![tactic(auto)]
-
-pub mod laws;

@@ -129,14 +129,15 @@ fn lengths(rt: HostRuntime) {
         (0, 32_768),
         (32_767, 32_768),
         (32_769, 36_864),
-        (67_108_865, 67_108_864),
+        (67_108_865, 67_112_960),
+        (268_435_457, 268_435_456),
     ] {
         assert_eq!(rt;
             image_length(found),
             Err(MountFault::BadSize { found, wanted })
         );
     }
-    for (found, blocks) in [(32_768, 8), (67_108_864, 16_384)] {
+    for (found, blocks) in [(32_768, 8), (67_108_864, 16_384), (268_435_456, 65_536)] {
         assert_eq!(rt; image_length(found), Ok(blocks));
     }
 }

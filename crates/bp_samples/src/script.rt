@@ -292,7 +292,7 @@ fn notices(rt: HostRuntime) {
         (Notice::NoFile, b"err 34 nofile\n"),
         (
             Notice::Usage,
-            b"usage: bpfs format FILE --blocks N / run FILE / check FILE / play FILE --seed S --count C\n",
+            b"usage: bpfs format FILE --blocks N [--version V] / run FILE / check FILE / play FILE --seed S --count C\n",
         ),
     ];
     for (notice, want) in rows {

@@ -5,18 +5,18 @@ use Rattle.bp_shell.proofs.ProgramLaws.{format_broken, format_done, format_faile
 use Rattle.bp_shell.proofs.formatting.format_file.Goals as goal
 
 pub returns-in-None-clause-outcome : goal.returns-in-None-clause-outcome
-returns-in-None-clause-outcome g c = λ left reads. format_memory _ _ _ refl refl refl refl refl refl
+returns-in-None-clause-outcome g c = λ left reads. format_memory _ _ _ _ refl refl refl refl refl refl
 
 pub returns-in-Err-clause-outcome : goal.returns-in-Err-clause-outcome
 returns-in-Err-clause-outcome g c = λ left reads.
-    format_failed _ _ _ refl refl (rw (c.region.ensures.memory, new_words c.in-Some.volume (new_image c.args.blocks) c.in-Some.ensures.image c.in-Some.ensures.drained) at c.in-Err.ensures.partly) refl refl c.in-Err.ensures.cause.failed
+    format_failed _ _ _ _ refl refl (rw (c.region.ensures.memory, new_words c.in-Some.volume (new_image c.args.version c.args.blocks) c.in-Some.ensures.image c.in-Some.ensures.drained) at c.in-Err.ensures.partly) refl refl c.in-Err.ensures.cause.failed
 
 pub returns-in-Ok-print-clause-outcome : goal.returns-in-Ok-print-clause-outcome
 returns-in-Ok-print-clause-outcome g c = λ left reads.
-    format_done _ _ _ refl refl (rw (c.region.ensures.memory, new_words c.in-Some.volume (new_image c.args.blocks) c.in-Some.ensures.image c.in-Some.ensures.drained) at c.in-Ok.ensures.written) c.in-Ok-print.ensures.all c.in-Ok.ensures.flushed
+    format_done _ _ _ _ refl refl (rw (c.region.ensures.memory, new_words c.in-Some.volume (new_image c.args.version c.args.blocks) c.in-Some.ensures.image c.in-Some.ensures.drained) at c.in-Ok.ensures.written) c.in-Ok-print.ensures.all c.in-Ok.ensures.flushed
     c.in-Ok-print.ensures.cause.same c.in-Ok.ensures.cause.same
 
 pub returns-clause-outcome : goal.returns-clause-outcome
 returns-clause-outcome g c = λ left reads.
-    format_broken _ _ _ refl refl (rw (c.region.ensures.memory, new_words c.in-Some.volume (new_image c.args.blocks) c.in-Some.ensures.image c.in-Some.ensures.drained) at c.in-Ok.ensures.written) c.in-Err-print.ensures.some c.in-Ok.ensures.flushed
+    format_broken _ _ _ _ refl refl (rw (c.region.ensures.memory, new_words c.in-Some.volume (new_image c.args.version c.args.blocks) c.in-Some.ensures.image c.in-Some.ensures.drained) at c.in-Ok.ensures.written) c.in-Err-print.ensures.some c.in-Ok.ensures.flushed
     c.in-Err-print.ensures.cause.failed c.in-Ok.ensures.cause.same

@@ -208,12 +208,7 @@ fn answer_texts(rt: HostRuntime) -> Result<(), Fail> {
     );
     answers(&rt, Answer::DirOf(0), into, b"dir 0\n");
     answers(&rt, Answer::LinksOf(2), into, b"links 2\n");
-    answers(
-        &rt,
-        Answer::LinksOf(u32::MAX),
-        into,
-        b"links 4294967295\n",
-    );
+    answers(&rt, Answer::LinksOf(u32::MAX), into, b"links 4294967295\n");
     answers(
         &rt,
         Answer::Bytes(&[0, 10, 255, 0xab]),

@@ -192,7 +192,7 @@ module _ (image : Image) (from to : List ℕ) (ends : Ends) (may : MayMove image
             let slots : ◌≡◌ {A = Option ℕ} (Some entry.slot) (Some r) = rw at at has in
             let slot : entry.slot ≡ r = cc in
             let entry_is : FindsEntry image to j entry.slot entry.inumber = target_entry image from to ends found entry at in
-            let named : inumber_at image j entry.slot ≡ entry.inumber = found_inumber image (parent_of q) (last_of q) j entry.slot entry.inumber (is_found image to j entry.slot entry.inumber entry_is) in
+            let named : inumber_at image j entry.slot ≡ entry.inumber = found_inumber image _ _ j entry.slot entry.inumber (is_found image to j entry.slot entry.inumber entry_is) in
             let target : inumber_at image move.to_dir r ≡ entry.inumber = ap₂ (inumber_at image) is.to_dir (sym slot) ∙ named in
             let source : moved_inode image move ≡ ends.source.inumber = found_inumber image (parent_of p) (last_of p) move.from_dir move.from_slot ends.source.inumber source_found in
             λ same. eqb-false entry.inumber ends.source.inumber (sym (ap (is_inode ends.source.inumber) at) ∙ may.other) (sym target ∙ same ∙ source)

@@ -110,7 +110,6 @@ are_apart tree p q = not (same_path p q) && not (is_one tree.now.one p q)
 file_found : (image : Image) (path : Path) (i : ℕ) → lookup image path ≡ Some i → kind_of image i ≡ 1 → file_at image path ≡ Some i
 file_found image path i at kind = ap (option_and_then (if_file image)) at ∙ ap (λ k. if k == 1 then Some i else None) kind
 
-
 module _ (image : Image) (p q : Path) (ends : Ends) (are : AreEnds image p q ends) where
   past_all : (tree : FileTree) → Stands image tree → move_refusal tree.now.nodes p q ≡ by_kinds (is_dir_at tree.now.nodes p) (is_dir_at tree.now.nodes q) (is_some (get tree.now.nodes q)) (same_path p q) (is_empty_dir tree.now.nodes q)
   past_all tree stands =
@@ -231,7 +230,7 @@ module _ (image : Image) (p q : Path) (ends : Ends) (are : AreEnds image p q end
 
   -- and no file is at both
   other_files : are_same ends ≡ false → find_one image p q ≡ false
-  other_files other = ap₂ (λ a b. are_one (option_and_then (if_file image) a) (option_and_then (if_file image) b)) are.source.inode refl ∙ go ends.target.there refl other
+  other_files other = ap (λ a. are_one (option_and_then (if_file image) a) (file_at image q)) are.source.inode ∙ go ends.target.there refl other
     where
       apart : (x y : ℕ) → (a b : Bool) → (y == x) ≡ false → are_one (if a then Some x else None) (if b then Some y else None) ≡ false
       apart x y false b e = refl

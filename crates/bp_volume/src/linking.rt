@@ -33,11 +33,7 @@ pub(crate) struct LinkEnds<'a> {
 }
 
 /// The file that a path text finds, and the new name that another one spells.
-fn link_ends<'a, R: Region>(
-    region: &R,
-    from: &[u8],
-    to: &'a [u8],
-) -> Result<LinkEnds<'a>, FsError>
+fn link_ends<'a, R: Region>(region: &R, from: &[u8], to: &'a [u8]) -> Result<LinkEnds<'a>, FsError>
     requires { IsWellFormed (current_words (R.memory region.now)) }
     ensures found { IfOk result (λ ends. PathFinds (current_words (R.memory region.now)) from.now ends.inode) }
     ensures kind { IfOk result (λ ends. IsFile (current_words (R.memory region.now)) ends.inode) }

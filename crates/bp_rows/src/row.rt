@@ -100,8 +100,9 @@ impl Row {
             }
             InputLine::Part(text) => return expand(text, &mut self.script),
             InputLine::Ask(text) => {
-                self.asks.push_str(text)?;
+                let is_whole = expand(text, &mut self.asks)?;
                 self.asks.push_str("\n")?;
+                return Ok(is_whole);
             }
             _ => {}
         }

@@ -27,7 +27,7 @@ pub onto_renames : (old new : Memory) (move : Move) (r : ℕ) → move.to_slot �
     Performs none_kept old new (change_of move) (RenamesEntry move)
 onto_renames old new move r is performs =
     subst (λ change. Performs none_kept old new change (RenamesEntry move)) (sym (onto_change move r is))
-    (performs_as old new (replaces move.from_dir move.from_slot move.to_dir r) (λ image after. MovesEntry image after move.from_dir move.from_slot move.to_dir r (moved_inode image move)) performs (RenamesEntry move)
+    (performs_as none_kept old new (replaces move.from_dir move.from_slot move.to_dir r) (λ image after. MovesEntry image after move.from_dir move.from_slot move.to_dir r (moved_inode image move)) performs (RenamesEntry move)
     (λ moved. onto r is moved))
 
 pub across_renames : (old new : Memory) (move : Move) → move.to_slot ≡ None → move.from_dir ≢ move.to_dir → Performs none_kept old new (moves move.from_dir move.from_slot move.to_dir) (RenamesEntry move) →

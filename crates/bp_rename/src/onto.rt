@@ -47,8 +47,8 @@ pub(crate) fn need_onto<R: Region>(region: &R, to_move: &Move<'_>, slot: u64) ->
     need_cover(region, &touched_two(&words_onto(region, to_move, slot)))
 }
 
-/// Moves a name onto another one, by one commit of both inumbers. What had that name comes back: its blocks and its
-/// inode.
+/// Moves a name onto another one, by one commit of both inumbers. What had that name has a name less. Where that was its
+/// last one, its blocks and its inode come back.
 pub(crate) fn rename_onto<R: Region>(parts: &mut Parts<R>, to_move: &Move<'_>, slot: u64)
     requires can { CanRename (current_words (R.memory parts.old.region)) to_move.now }
     requires onto { to_move.now.to_slot ≡ Some slot }
@@ -68,7 +68,12 @@ pub(crate) fn rename_onto<R: Region>(parts: &mut Parts<R>, to_move: &Move<'_>, s
     let replaced = inumber(&parts.region, target, slot) as u32;
     let words = words_onto(&parts.region, to_move, slot);
     let touched = touched_two(&words);
+    let names = parts.counts.names(replaced) - 1;
+    parts.counts.set(replaced, names);
     commit(parts, &touched);
+    if names > 0 {
+        return;
+    }
     // Nobody reaches the inode any more, but its words still lead to its blocks.
     let inode = get(&parts.region, replaced);
     let tree = Tree {

@@ -51,8 +51,8 @@ pub fn rename_in<R: Region>(
     Ok(())
 }
 
-/// Moves a name, by one store alone in its epoch. Where the new name stood, in place of a file or an empty directory, the
-/// blocks and the inode of that one come back.
+/// Moves a name, by one store alone in its epoch. Where the new name stood, that file or empty directory has a name less,
+/// and its blocks and its inode come back where it has none left.
 ///
 /// # Errors
 ///

@@ -1,8 +1,7 @@
 -- Of two images that differ only in words of the superblock in which no tree stands, one has the free blocks, the free
 -- inodes and the names of the other.
-use Rattle.std.proofs.Common.{◌≡◌, ℕ, zero, suc, ◌+◌, ◌*◌, ◌/◌, ◌%◌, ◌<◌, ◌≤◌, length, refl, sym, ◌∙◌, ap, subst, subst₂, arith}
+use Rattle.std.proofs.Common.{◌≡◌, ℕ, zero, suc, ◌+◌, ◌*◌, ◌/◌, ◌%◌, ◌<◌, refl, sym, ◌∙◌, ap, subst, subst₂, arith}
 use Rattle.bp_changes.proofs.Named.{counts_same}
-use Rattle.bp_free.specs.Set.{Set, has}
 use Rattle.bp_free.specs.declared.parts.Parts.{Parts}
 use Rattle.bp_layout.specs.Directory.{EntryNames}
 use Rattle.bp_layout.specs.Inode.{inode_word, kind_of, root_of, size_of}
@@ -14,7 +13,7 @@ use Rattle.bp_layout.specs.Tree.{HasBlock, content_word, word_at}
 use Rattle.bp_layout.specs.Words.{Image, block_of, height_of, slot_word, word}
 use Rattle.bp_layout.proofs.BesideTrees.{SameTrees}
 use Rattle.bp_layout.proofs.TreeLaws.{has_block-kept}
-use Rattle.bp_shapes.specs.Sets.{AreExact, IsExact}
+use Rattle.bp_shapes.specs.Sets.{IsExact}
 
 pub same_back : (old new : Image) → SameTrees old new → SameTrees new old
 same_back old new same = record {

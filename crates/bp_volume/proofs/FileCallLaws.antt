@@ -1,5 +1,5 @@
 -- A call on a file, from its parts.
-use Rattle.std.proofs.Common.{◌≡◌, ℕ, Bool, [], ◌∷◌, ◌++◌, true, false, refl, sym, ◌∙◌, ap, subst}
+use Rattle.std.proofs.Common.{◌≡◌, ℕ, [], ◌∷◌, ◌++◌, true, false, refl, sym, ◌∙◌, ap, subst}
 use Rattle.pm_epochs.specs.declared.event.Event.TheVariants.{Mark}
 use Rattle.bp_commit.specs.Performs.{IsShort}
 use Rattle.bp_commit.proofs.PerformsLaws.{performed, performs_adds, performs_short, performs_unmarked}

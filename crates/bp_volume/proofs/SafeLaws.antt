@@ -1,8 +1,8 @@
 -- A call that is performed keeps a volume's memory safe, by its mark: at every moment of a crash both trees mean what they
 -- meant before it or after it, and no image has a second tree.
-use Rattle.std.proofs.Common.{◌≡◌, ◌≢◌, ℕ, ◌/◌, ◌<◌, ◌≤◌, [], ◌∷◌, length, Bool, true, refl, sym, ◌∙◌, ap, subst, arith}
+use Rattle.std.proofs.Common.{◌≡◌, ℕ, ◌≤◌, [], ◌∷◌, length, Bool, refl, sym, ◌∙◌, ap, arith}
 use Rattle.pm_epochs.specs.Crash.{IsPartialEquivalence, IsQuiet}
-use Rattle.pm_epochs.specs.May.{AnyAt, EachMay}
+use Rattle.pm_epochs.specs.May.{AnyAt}
 use Rattle.pm_epochs.specs.declared.event.Event.TheVariants.{Mark}
 use Rattle.pm_epochs.proofs.MayLaws.{quiet_may}
 use Rattle.pm_region.specs.Memory.{Adds, Memory, current_words}
@@ -19,7 +19,6 @@ use Rattle.bp_layout.specs.Words.{Image}
 use Rattle.bp_layout.specs.Whole.{HasNoSecond, IsFileSystem, SameFiles}
 use Rattle.bp_layout.proofs.SameLaws.{same_self}
 use Rattle.bp_limits.specs.Limits.{version_at}
-use Rattle.bp_limits.specs.declared.version.Version.TheVariants.{Two}
 use Rattle.bp_commit.specs.Performs.{IsOpen, Performs, most_stores}
 use Rattle.bp_volume.specs.Volume.{HaveNoSecond}
 use Rattle.bp_volume.proofs.WholeLaws.{free_taken, keeps, whole_commit, whole_equivalence, whole_file_system}

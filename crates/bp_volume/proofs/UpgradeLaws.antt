@@ -1,5 +1,5 @@
 -- An upgrade of version 1: its first epoch nobody sees, and then one store makes the image one of version 2.
-use Rattle.std.proofs.Common.{◌≡◌, ◌≢◌, ℕ, ◌*◌, ◌/◌, ◌<◌, ◌≤◌, List, [], ◌∷◌, ◌++◌, true, false, refl, sym, ◌∙◌, ap, subst, arith}
+use Rattle.std.proofs.Common.{◌≡◌, ◌≢◌, ℕ, ◌*◌, ◌<◌, ◌≤◌, List, [], ◌∷◌, ◌++◌, true, false, refl, sym, ◌∙◌, ap, subst, arith}
 use Rattle.std.specs.Prelude.{◌&&◌, not, if◌then◌else◌}
 use Rattle.pm_epochs.specs.declared.event.Event.{Event}
 use Rattle.pm_epochs.specs.declared.event.Event.TheVariants.{Mark, Store}

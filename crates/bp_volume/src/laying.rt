@@ -8,12 +8,13 @@ ghost use Rattle.pm_epochs.specs.Replay.{IsReplay};
 ghost use Rattle.pm_region.specs.Memory.{Adds, room_in};
 
 use bp_limits::{
-    BLOCK_SIZE, BLOCK_WORDS, SUPER_BLOCKS, SUPER_MAGIC, SUPER_ROOT, SUPER_SECOND_ROOT, SUPER_SECOND_SIZE, SUPER_SIZE, Version,
+    BLOCK_SIZE, BLOCK_WORDS, SUPER_BLOCKS, SUPER_MAGIC, SUPER_ROOT, SUPER_SECOND_ROOT,
+    SUPER_SECOND_SIZE, SUPER_SIZE, Version,
 };
 use pm_region::Region;
 
-/// Makes an empty file system of a version of a region of 8 to 65,536 blocks of 512 words. Its stores are not written back until
-/// the region is drained: up to then a crash may leave the old words, or words without the mark.
+/// Makes an empty file system of a version of a region of 8 to 65,536 blocks of 512 words. Its stores are not written back
+/// until the region is drained: up to then a crash may leave the old words, or words without the mark.
 pub fn lay_out<R: Region>(region: &mut R, version: Version)
     requires sized { IsSized (R.memory region.old).base }
     requires fresh { (R.memory region.old).events ≡ [] }

@@ -4,12 +4,11 @@ ghost use Rattle.std.specs.Prelude.{[], ◌*◌, ◌≡◌, ◌⊎◌, ◌≤◌
 ghost use Rattle.bp_layout.specs.Formatted.{IsSized};
 ghost use Rattle.bp_layout.specs.Whole.{HasSpace, IsFileSystem, SameFiles};
 ghost use Rattle.bp_layout.specs.Words.{block_count};
-ghost use Rattle.bp_limits.specs.Limits.{block_inodes, call_room};
+ghost use Rattle.bp_limits.specs.Limits.{block_inodes, call_room, max_read};
 ghost use Rattle.pm_epochs.specs.Log.{marks};
 ghost use Rattle.pm_epochs.specs.Replay.{IsRight, after_calls, kept_calls};
 ghost use Rattle.pm_region.specs.Memory.{crashed, current_words, drained, room_in, with_room};
 ghost use Rattle.pm_region.specs.Safe.{IsSafe};
-ghost use Rattle.bp_limits.specs.Limits.{max_read};
 ghost use Rattle.bp_limits.specs.declared.version.Version.TheVariants.{One};
 ghost use Rattle.bp_plain.specs.Calls.Answer.{done};
 ghost use Rattle.bp_plain.specs.Calls.Call.{create, link, links, list, mkdir, read, rename, rmdir, stat, truncate, unlink, upgrade, write};
@@ -301,10 +300,11 @@ impl<R: Region> Volume<R> {
     ///
     /// # Errors
     ///
-    /// `BadPath` where the text is no path; `TooLong` where there are more than 65,536 bytes, in version 2 more than 1,048,576; `NotFound` or `NotDir`
-    /// at the first name on the way that is missing, or is sought in a file; `IsDir` where a directory stands there;
-    /// `TooBig` where there are bytes, and the last would lie past the greatest size of a file; and last `NoSpace`
-    /// where fewer blocks are free than the write needs. Nothing has changed then.
+    /// `BadPath` where the text is no path; `TooLong` where there are more than 65,536 bytes, in version 2 more than
+    /// 1,048,576; `NotFound` or `NotDir` at the first name on the way that is missing, or is sought in a file; `IsDir`
+    /// where a directory stands there; `TooBig` where there are bytes, and the last would lie past the greatest size of
+    /// a file, which its version tells; and last `NoSpace` where fewer blocks are free than the write needs. Nothing has
+    /// changed then.
     pub fn write(&mut self, path: &[u8], off: u64, bytes: &[u8]) -> Result<(), FsError>
         ensures { FileCall self.old (write path.now off bytes.now) (unit_answer result) self.new }
     {

@@ -36,7 +36,15 @@ pub fn formatted(
         Version::One => "1",
         Version::Two => "2",
     };
-    let words = ["bpfs", "format", "f", "--blocks", blocks, "--version", number];
+    let words = [
+        "bpfs",
+        "format",
+        "f",
+        "--blocks",
+        blocks,
+        "--version",
+        number,
+    ];
     let mut files = MemFiles::new(alloc, None, &[])?;
     let mut source = FairSource::new(b"");
     let mut sink = MemSink::new(alloc, ROOM, &[])?;

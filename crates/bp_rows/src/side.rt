@@ -100,12 +100,7 @@ impl Side {
         cut_all_over(self.alloc, &self.row, &image, report)
     }
 
-    fn sweep(
-        &mut self,
-        device: Device,
-        count: u64,
-        report: &mut String,
-    ) -> Result<(), AllocError> {
+    fn sweep(&mut self, device: Device, count: u64, report: &mut String) -> Result<(), AllocError> {
         let name = device.name();
         for call in 0..count {
             self.row.failing = Failing::none(self.alloc);

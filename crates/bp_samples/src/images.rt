@@ -16,9 +16,10 @@ pub type Stores<'a> = &'a [(usize, u64)];
 /// The words of an image of 8 blocks.
 const WORDS: usize = MIN_BLOCKS as usize * BLOCK_WORDS as usize;
 
-/// The mark of the first version, and of the second.
+/// The mark of the first version, `BPFSRS01`.
 const MARK: u64 = 0x3130_5352_5346_5042;
 
+/// The mark of the second version, `BPFSRS02`.
 const SECOND_MARK: u64 = 0x3230_5352_5346_5042;
 
 /// A file system of 8 blocks in the first version: the inodes in block 1, and a root directory without an entry.

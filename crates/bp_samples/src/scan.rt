@@ -71,7 +71,7 @@ type Found = (Result<Totals, MountFault>, (u32, u32), [u32; 3]);
 const BASE: Found = (Ok(TOTALS), (5, 60), [0, 1, 1]);
 
 /// What a fault leaves.
-const fn refused(fault: MountFault) -> Found {
+fn refused(fault: MountFault) -> Found {
     (Err(fault), (0, 0), [0, 0, 0])
 }
 

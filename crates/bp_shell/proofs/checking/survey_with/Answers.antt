@@ -17,7 +17,7 @@ returns-in-Err-clause-kinds c = rw c.stop_of.ensures (stop_kinds c.in-Err.fault)
 
 pub returns-in-Ok-clause-clean : goal.returns-in-Ok-clause-clean
 returns-in-Ok-clause-clean c =
-    let is : IsFileSystem c.args.region.now.base = rw c.requires.fresh at (c.in-Ok.ensures.well_formed.0 tt) in
+    let is : IsFileSystem c.args.region.now.base = rw c.requires.fresh at (c.in-Ok.ensures.well_formed.0 refl) in
     record {
       totals = c.in-Ok.totals;
       free = c.count.result;

@@ -1,8 +1,13 @@
-use Rattle.std.proofs.Common.{refl}
+use Rattle.std.proofs.Common.{length, refl, ap, ◌∙◌}
+use Rattle.pm_region.specs.Memory.{Memory}
 use Rattle.bp_shell.specs.Formatting.{new_image}
-use Rattle.bp_shell.proofs.FormattingLaws.{new_words}
+use Rattle.bp_shell.proofs.FormattingLaws.{length-new_image, new_words}
 use Rattle.bp_shell.proofs.ProgramLaws.{format_broken, format_done, format_failed, format_memory}
 use Rattle.bp_shell.proofs.formatting.format_file.Goals as goal
+
+pub write_image-requires-clause-size : goal.write_image-requires-clause-size
+write_image-requires-clause-size g c =
+    ap (λ (m : Memory). length m.base) c.region.ensures.memory ∙ ap length c.in-Some.ensures.image ∙ length-new_image c.args.version c.args.blocks
 
 pub returns-in-None-clause-outcome : goal.returns-in-None-clause-outcome
 returns-in-None-clause-outcome g c = λ left reads. format_memory _ _ _ _ refl refl refl refl refl refl

@@ -15,6 +15,3 @@ pub mod MapLaws
 pub mod LinkCounts
 pub mod Carried
 pub mod KeptMaps
-pub mod Spelled
-pub mod Passing
-pub mod Stretches

@@ -3,10 +3,11 @@
 
     kill-runs.py PROGRAM [COUNT]      PROGRAM: crates/bpfs/out/bpfs, as `rt run` leaves it there; COUNT: how many runs are killed (300)
 
-A run gives many blocks of a file the number of its turn, makes a file, and syncs, turn by turn. It is killed (SIGKILL) at a random moment,
-unless it ended before; then it is looked at too, and does not count. `check` has to call FILE clean, FILE has to be the tree after one of
-the turns, no older than that of the last sync that was answered, and the next run has to serve it and to leave no second file. The images
-have 256 to 8,192 blocks. A folder in TMPDIR is used. A program that writes each block of FILE in place fails here after a few kills.
+A run gives many blocks of a file the number of its turn, gives the file one name more, and syncs, turn by turn. It is killed (SIGKILL) at
+a random moment, unless it ended before; then it is looked at too, and does not count. `check` has to call FILE clean, FILE has to be the
+tree after one of the turns, no older than that of the last sync that was answered, and the next run has to serve it and to leave no second
+file. The images have 256 to 8,192 blocks, and either version. A folder in TMPDIR is used. A program that writes each block of FILE in place
+fails here after a few kills.
 """
 import os
 import random
@@ -32,7 +33,7 @@ def script(blocks):
     lines = ["create /all"]
     for turn in range(TURNS):
         lines += [f"write /all {PIECE * piece} {PIECE * f'{turn:02x}'}" for piece in range(pieces(blocks))]
-        lines += [f"create /f{turn}", "sync"]
+        lines += [f"link /all /f{turn}", "sync"]
     return "".join(f"{line}\n" for line in lines).encode()
 
 
@@ -45,13 +46,13 @@ def turns_held(program, image, blocks):
     said = run(program, ["check", image])
     if said.returncode != 0 or not said.stdout.startswith(b"clean "):
         return f"no image: status {said.returncode}, {said.stdout!r}"
-    lines = ["list /", *(f"read /all {PIECE * piece} {PIECE}" for piece in range(pieces(blocks)))]
+    lines = ["list /", "links /all", *(f"read /all {PIECE * piece} {PIECE}" for piece in range(pieces(blocks)))]
     told = run(program, ["run", image], "".join(f"{line}\n" for line in lines).encode()).stdout.decode().split("\n")
     names = told[: told.index("end")]
     if not names:
         return 0
     held = len(names) - 1
-    wanted = ["entry f all", *(f"entry f f{turn}" for turn in range(held)), "end"]
+    wanted = ["entry f all", *(f"entry f f{turn}" for turn in range(held)), "end", f"links {held + 1}"]
     wanted += [f"data {PIECE * f'{held - 1:02x}'}"] * pieces(blocks) + [""]
     return held if told == wanted else f"the tree of no turn, with {names}"
 
@@ -105,7 +106,7 @@ def main():
         while kills < count:
             runs += 1
             size = draw.choice(SIZES)
-            run(program, ["format", image, "--blocks", str(size)])
+            run(program, ["format", image, "--blocks", str(size), "--version", draw.choice("12")])
             answered, was_killed = killed_run(program, image, size, draw.uniform(0, longest[size]))
             kills += was_killed
             leftovers += os.path.exists(second)

@@ -17,5 +17,6 @@ prepared_can_resize old new wf n from to place bytes taken ready reached is_file
   is_file = ready.meaning.kind (suc n) reached ∙ is_file;
   stands = stands;
   sound = ready.sound;
+  low = λ some. ready.low;
   apart = λ u b r away has also. ready.apart u b (reached-back old new wf ready.meaning u r) away also has;
 }

@@ -222,7 +222,7 @@ built_leaf image b size bytes Full present low some fits laid =
 
 -- a node over its slots' trees
 module _ (image : Image) (b level size : ℕ) (At : ℕ → Type 0) (bytes : ℕ → ℕ) (Member : ℕ → Type 0) (Full : Type 0) (children : Children image b level size At bytes Member Full) (present : b ≢ 0) (low_block : b < block_count image)
-    (low : level ≤ 2) (some : 0 < size) (fits : size ≤ span (suc level)) (own : Member b → ⊥) (all : (c : ℕ) → c * span level < size → At c) where
+    (low : suc level ≤ max_height) (some : 0 < size) (fits : size ≤ span (suc level)) (own : Member b → ⊥) (all : (c : ℕ) → c * span level < size → At c) where
   root : ℕ
   root = 4096 * b + suc level
 

@@ -13,7 +13,7 @@ use Rattle.bp_append.proofs.NeedLaws.{need_is, tall_low}
 use Rattle.bp_append.proofs.TallyLaws.{met_none, met_some, span-leaf, span-positive, span-suc}
 
 -- as far apart as so many steps, two offsets have quotients that are no further apart
-div_near : (a b s many : ℕ) → 0 < s → a ≤ b + many * s → a / s ≤ b / s + many
+pub div_near : (a b s many : ℕ) → 0 < s → a ≤ b + many * s → a / s ≤ b / s + many
 div_near a b s many some near =
     let rest = lt-div-mul-add {a = b} {b = s} some in
     let parts : (b / s + many + 1) * s ≡ b / s * s + s + many * s = grind arith in
@@ -44,27 +44,27 @@ raised_few root size from to level = go (nat_lt 0 size && not (block_of root == 
     go true = idle_few from to level
     go false = omega arith
 
-module _ (image : Image) (root size from to : ℕ) (near : to ≤ from + 65536) where
-  -- 17 leaves, with one more above the root
-  leaves_few : lack image root size from to 0 + raised_at root size from to 0 ≤ 18
+module _ (image : Image) (root size from to many : ℕ) (few : many ≤ 512) (near : to ≤ from + many * 4096) where
+  -- one leaf more than the bytes fill, with one more above the root
+  leaves_few : lack image root size from to 0 + raised_at root size from to 0 ≤ many + 2
   leaves_few =
-      let few : met 0 from to ≤ 16 + 1 = met_near 0 from to 16 (omega (arith, near)) in
-      omega (arith, few, raised_few root size from to 0)
+      let leaves : met 0 from to ≤ many + 1 = met_near 0 from to many near in
+      omega (arith, leaves, raised_few root size from to 0)
 
   -- two nodes of each level above, with one more above the root
   level_few : (level : ℕ) → lack image root size from to (suc level) + raised_at root size from to (suc level) ≤ 3
   level_few level =
-      let wide : 65536 ≤ span (suc level) = let up = span-suc level in let leaf : 4096 ≤ span level = span-leaf level in omega (arith, up, leaf) in
-      let few : met (suc level) from to ≤ 1 + 1 = met_near (suc level) from to 1 (omega (arith, near, wide)) in
-      omega (arith, few, raised_few root size from to (suc level))
+      let wide : 2097152 ≤ span (suc level) = let up = span-suc level in let leaf : 4096 ≤ span level = span-leaf level in omega (arith, up, leaf) in
+      let nodes : met (suc level) from to ≤ 1 + 1 = met_near (suc level) from to 1 (omega (arith, few, near, wide)) in
+      omega (arith, nodes, raised_few root size from to (suc level))
 
-  levels_few : (levels : ℕ) → needs image root size from to (suc levels) ≤ 18 + 3 * levels
+  levels_few : (levels : ℕ) → needs image root size from to (suc levels) ≤ many + 2 + 3 * levels
   levels_few zero = omega (arith, leaves_few)
   levels_few (suc level) = omega (arith, levels_few level, level_few level)
 
-  -- so many at most for the bytes of one call
-  pub few_needed : size ≤ from → (0 < size → height_of root ≤ max_height) → length (nodes_for image root size from to) ≤ 18 + 3 * max_height
+  -- so many at most
+  pub few_needed : size ≤ from → (0 < size → height_of root ≤ max_height) → length (nodes_for image root size from to) ≤ many + 2 + 3 * max_height
   few_needed behind low =
-      let few = levels_few (height_with root size to) in
+      let all = levels_few (height_with root size to) in
       let tall : height_with root size to ≤ max_height = tall_low root size to low in
-      omega (arith, few, tall, need_is image root size from to behind)
+      omega (arith, all, tall, need_is image root size from to behind)

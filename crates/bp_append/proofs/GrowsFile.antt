@@ -6,10 +6,11 @@ use Rattle.bp_layout.specs.Inode.{size_of}
 use Rattle.bp_layout.specs.Need.Change.{resizes}
 use Rattle.bp_layout.specs.WordPaths.{WordPath}
 use Rattle.pm_region.specs.Memory.{Memory, current_words}
-use Rattle.bp_tree.specs.Performs.{Performs}
+use Rattle.bp_commit.specs.Performs.{PerformsThawed}
 use Rattle.bp_append.specs.SizeStores.{GrowsFile}
 use Rattle.bp_append.proofs.GrowsTree.{OnlyGrows, GrowsTree}
 use Rattle.bp_append.proofs.GrowsTree as tree
+use Rattle.bp_layout.specs.Thaw.{none_kept}
 
 module _ (old middle new : Memory) (free_old free_new : List ℕ) (path : WordPath) (n size place : ℕ) (grows : GrowsFile old middle new free_old free_new path n size place) where
   pub only_grows : OnlyGrows (current_words old) (resizes (suc n) size) (suc n) size size
@@ -26,5 +27,5 @@ module _ (old middle new : Memory) (free_old free_new : List ℕ) (path : WordPa
   grown_size = tree.grown_size old middle new free_old free_new path n size size place grows.bytes grows_tree (resizes (suc n) size) only_grows
 
   -- whatever the call does besides
-  pub grown_performs : (Effect : Image → Image → Type 0) → Effect (current_words old) (current_words new) → Performs old new (resizes (suc n) size) Effect
+  pub grown_performs : (Effect : Image → Image → Type 0) → Effect (current_words old) (current_words new) → PerformsThawed none_kept old new (resizes (suc n) size) Effect
   grown_performs = tree.grown_performs old middle new free_old free_new path n size size place grows.bytes grows_tree (resizes (suc n) size) only_grows

@@ -3,6 +3,7 @@ use Rattle.std.proofs.Common.{◌≡◌, ◌≢◌, ℕ, zero, suc, ◌+◌, ◌
 use Rattle.std.proofs.lemmas.Bool.{ne_eqb}
 use Rattle.std.proofs.lemmas.List.{length-map, append-nil}
 use Rattle.pm_epochs.specs.Crash.{commit}
+use Rattle.bp_limits.specs.Limits.{max_height}
 use Rattle.bp_layout.specs.Words.{Image, word, block_of, height_of}
 use Rattle.bp_layout.specs.Tree.{node, HasBlock, IsLivePointer}
 use Rattle.bp_layout.specs.Inode.{kind_of, root_of, size_of, inode_count, ContentStandsAt}
@@ -22,14 +23,15 @@ use Rattle.bp_changes.proofs.SameMeaning as meaning
 use Rattle.bp_changes.proofs.Separation.{stands_in_block}
 use Rattle.pm_region.specs.Memory.{Memory, current_words, Adds}
 use Rattle.pm_region.proofs.MemoryLaws.{current_words-adds}
-use Rattle.bp_tree.specs.Performs.{IsOpen, Performs, most_stores}
-use Rattle.bp_tree.specs.Performs.IsOpen.{in_live}
+use Rattle.bp_commit.specs.Performs.{IsOpen, PerformsThawed, most_stores_thawed}
+use Rattle.bp_commit.specs.Performs.IsOpen.{in_live}
 use Rattle.bp_tree.proofs.ExistingPaths.{AllThere, inode_path-there, cover-one, copied-one}
-use Rattle.bp_tree.proofs.PerformsLaws.{performs_word}
+use Rattle.bp_commit.proofs.PerformsLaws.{performs_word}
 use Rattle.bp_append.specs.Prepared.{need_for, CanPrepare, PreparesWith}
 use Rattle.bp_append.specs.Stores.{prep_stores}
 use Rattle.bp_append.proofs.CallerLaws.{prepared_can_resize}
 use Rattle.bp_append.proofs.StoresLaws.{behind_whole}
+use Rattle.bp_layout.specs.Thaw.{none_kept}
 
 -- The change prepares this tree for some bytes and no other, and touches the word of its size alone.
 pub record OnlyGrows (image : Image) (change : Change) (t from to : ℕ) : Type 0 where
@@ -158,7 +160,7 @@ module _ (old middle new : Memory) (free_old free_new : List ℕ) (path : WordPa
       (ap (address (set mid place to)) (covered ∙ ap (λ r. inode_path (height_of r) (suc n) 2) (sym (root_stays ∙ roots)))
       ∙ address_from-digits (set mid place to) 2 (word (set mid place to) 2) refl (suc (height_of (word (set mid place to) 2))) (8 * suc n + 2) stands_new.present ∙ stands_new.at)
 
-  open_place : IsOpen image grows.prepared.taken place
+  open_place : IsOpen image none_kept grows.prepared.taken place
   open_place =
       let here : node image (root_of image 0) (height_of (root_of image 0)) ((8 * suc n + 2) / 512) ≡ place / 512 = omega (arith, grows.stands.at) in
       in_live (record {
@@ -166,19 +168,19 @@ module _ (old middle new : Memory) (free_old free_new : List ℕ) (path : WordPa
         reached = inode_file;
         has = subst (HasBlock image (root_of image 0) (size_of image 0)) here
             (stands_in_block image 0 (height_of (root_of image 0)) (8 * suc n + 2) place grows.stands (live_content _ _ (8 * suc n + 2) below));
-      })
+      }) refl
 
-  few : prep_stores (size_of image (suc n)) from to (need_for image (suc n) from to) + 1 ≤ most_stores (need image change)
-  few = go _ _ _ grown_need (behind_whole (size_of image (suc n)) from to 3)
+  few : prep_stores (size_of image (suc n)) from to (need_for image (suc n) from to) + 1 ≤ most_stores_thawed (need image change)
+  few = go _ _ _ grown_need (behind_whole (size_of image (suc n)) from to max_height)
     where
-      go : (made needs behind : ℕ) → needs ≡ made → behind ≤ 512 * suc 3 → 512 * made + behind + 2 + 1 ≤ 512 * (needs + 6) + 64
+      go : (made needs behind : ℕ) → needs ≡ made → behind ≤ 512 * suc max_height → 512 * made + behind + 2 + 1 ≤ 512 * (needs + 6) + 64
       go made needs behind e low = omega (arith, e, low)
 
   pub grown_size : size_of (current_words new) (suc n) ≡ to
   grown_size = rw committed (size_here mid wf_mid n to place can_resize)
 
   -- whatever the call does besides
-  pub grown_performs : (Effect : Image → Image → Type 0) → Effect (current_words old) (current_words new) → Performs old new change Effect
+  pub grown_performs : (Effect : Image → Image → Type 0) → Effect (current_words old) (current_words new) → PerformsThawed none_kept old new change Effect
   grown_performs Effect effect =
-      performs_word old new change Effect middle place to 2 (prep_stores (size_of image (suc n)) from to (need_for image (suc n) from to)) grows.prepared.taken grows.prepared.adds grows.stored (sym at_cover)
+      performs_word none_kept old new change Effect middle place to 2 (prep_stores (size_of image (suc n)) from to (need_for image (suc n) from to)) grows.prepared.taken grows.prepared.adds grows.stored (sym at_cover)
       (omega arith) few (grows.prepared.counted ∙ sym grown_need) open_place (rw committed (changed.well_formed-same mid (set mid place to) (suc n) wf_mid (resize_changes mid wf_mid n to place can_resize))) effect

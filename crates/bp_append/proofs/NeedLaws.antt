@@ -1,6 +1,8 @@
 -- The blocks that a preparation takes are the nodes that the tree lacks.
 use Rattle.std.proofs.Common.{◌≡◌, ◌≢◌, ◌⊎◌, ℕ, zero, suc, ◌+◌, ◌-◌, ◌*◌, ◌/◌, ◌<◌, ◌≤◌, min, max, List, [], ◌∷◌, ◌++◌, length, map, filter, flat_map, Bool, true, false, cond, not, ◌&&◌, ◌==◌, nat_lt, nat_le, if◌then◌else◌, refl, sym, ◌∙◌, ap, arith, rules, inl, inr, lt-ltb, le-ltb, le-leb, mul-le-mul_right, ne_eqb, le_trans}
-use Rattle.bp_limits.specs.Limits.{max_height, max_size}
+use Rattle.bp_limits.specs.declared.version.Version.{Version}
+use Rattle.bp_limits.specs.declared.version.Version.TheVariants.{One, Two}
+use Rattle.bp_limits.specs.Limits.{greatest_height, greatest_size, max_height, max_size}
 use Rattle.std.specs.List.{range_with_len}
 use Rattle.std.proofs.lemmas.Bool.{cases_lt, cases_eq, lt-leb}
 use Rattle.std.proofs.lemmas.List.{length-append, append-nil}
@@ -261,6 +263,10 @@ height_for_low bytes = search (rules)
 pub height_for_fits : (bytes : ℕ) → bytes ≤ max_size → bytes ≤ span (height_for bytes)
 height_for_fits bytes fits = search (rules)
 
+pub height_for_most : (version : Version) (bytes : ℕ) → bytes ≤ greatest_size version → height_for bytes ≤ greatest_height version
+height_for_most One bytes fits = search (rules)
+height_for_most Two bytes fits = height_for_low bytes
+
 pub tall_enough : (root size to : ℕ) → 0 < size → height_of root ≤ height_with root size to
 tall_enough root size to some = rw (ne_eqb size 0 (λ e. omega (arith, e, some))) (omega arith)
 
@@ -292,3 +298,15 @@ tall_low root size to low = go (cases_eq size 0)
         let h : height_with root size to ≡ max (height_of root) (height_for to) = rw (ne_eqb size 0 some) refl in
         let a = low (omega (arith, some)) in
         rw h (omega (arith, a, height_for_low to))
+
+-- it is no higher than those of a version that has room for the end
+pub tall_most : (version : Version) (root size to : ℕ) → (0 < size → height_of root ≤ greatest_height version) → to ≤ greatest_size version → height_with root size to ≤ greatest_height version
+tall_most version root size to low fits = go (cases_eq size 0)
+  where
+    go : (size ≡ 0) ⊎ (size ≡ 0 → ⊥) → height_with root size to ≤ greatest_height version
+    go (inl e) = rw e (height_for_most version to fits)
+    go (inr some) =
+        let h : height_with root size to ≡ max (height_of root) (height_for to) = rw (ne_eqb size 0 some) refl in
+        let a = low (omega (arith, some)) in
+        let b = height_for_most version to fits in
+        rw h (omega (arith, a, b))

@@ -1,5 +1,8 @@
 -- The whole preparation of a tree without blocks: nobody sees it, and the tree is ready.
 use Rattle.std.proofs.Common.{◌≡◌, ◌⊎◌, ℕ, ◌+◌, ◌*◌, ◌/◌, ◌<◌, ◌≤◌, List, [], ◌∷◌, length, refl, sym, ◌∙◌, ap, subst, subst₂, arith, rules, inl, inr, get_or-set_other, le_trans}
+use Rattle.bp_append.proofs.NeedLaws.{tall_most}
+use Rattle.bp_changes.proofs.Formatted.{version_stays}
+use Rattle.bp_layout.specs.Formatted.{version_of}
 use Rattle.std.proofs.lemmas.Bool.{cases_eq}
 use Rattle.bp_layout.proofs.MemberLaws.{each-has}
 use Rattle.bp_layout.specs.Words.{Image, block_of, height_of}
@@ -13,7 +16,7 @@ use Rattle.bp_changes.specs.Harmless.{IsHarmless, Agrees}
 use Rattle.bp_layout.specs.Members.{Has, Each}
 use Rattle.bp_changes.proofs.Frame.{root-kept, size-same}
 use Rattle.bp_shapes.proofs.Roots.{null_tree}
-use Rattle.bp_tree.specs.Performs.IsOpen.{in_taken}
+use Rattle.bp_commit.specs.Performs.IsOpen.{in_taken}
 use Rattle.pm_region.specs.Memory.{Memory, current_words}
 use Rattle.bp_append.specs.Built.{InBlocks}
 use Rattle.bp_append.specs.Filled.{IsUsable}
@@ -101,16 +104,20 @@ module _ (first new : Memory) (free_old free_new : List ℕ) (t place from to : 
   free_middle [] all = tt
   free_middle (b ∷ taken) all = (still_free old middle can.well agrees t place can.reached at b all.0, free_middle taken all.1)
 
+  meaning : SameMeaning old middle
+  meaning = meaning_middle old middle can.well agrees t place can.reached at
+
   pub null_ready : HasRootReady old middle t place makes.top
   null_ready = record {
-    meaning = meaning_middle old middle can.well agrees t place can.reached at;
+    meaning = meaning;
     well = wf_middle old middle can.well agrees t place can.reached at;
     reached = reached_middle old middle can.well agrees t place can.reached at;
     at = place_middle old middle can.well agrees t place can.reached at;
     reads = subst₂ (λ z r. ReadsAs (IsReadByWords middle t) middle z r makes.top) (sym sizes) (sym roots)
         (built_reads (IsReadByWords middle t) middle (size_of old t) to (root_of old t) makes.top (given_at from raw 0) made.taken (from ≡ 0)
-        (λ by. none_below (by_old old middle t (meaning_middle old middle can.well agrees t place can.reached at) can.reached by)) order null made.tree (free_middle made.taken taken_free)
-        (λ i low. given_before from raw (0 + i) (omega (arith, low, can.behind))));
+        (λ by. none_below (by_old old middle t meaning can.reached by)) order null made.tree (free_middle made.taken taken_free)
+        (λ i low. given_before from raw (0 + i) (omega (arith, low, can.behind)))
+        (rw (made.height, version_stays old middle meaning.trees.marked) (tall_most (version_of old) (root_of old t) (size_of old t) to (can.well.low t can.reached) can.fits)));
     sizes = λ u r. size-same old middle can.well agrees u r;
     roots = λ u r away. roots_stay u r;
   }
@@ -130,7 +137,7 @@ module _ (first new : Memory) (free_old free_new : List ℕ) (t place from to : 
         (λ o low. given_before from raw (0 + o) (omega (arith, low, can.behind)) ∙ sym (old_byte o low))
         (λ o above below. ap (given from raw) (zero_plus o))
         (λ by. can.by_words by ∙ none_below by)
-        made.height order
+        made.height can.fits order
         (λ u b k r away has few beyond. get_or-set_other middle place (512 * b + k) makes.top 0 beyond
         ∙ may_frame _ 0 _ first makes.between made.stores.part (512 * b + k) (λ v m. each-has (λ c. IsLiveBlock old c → ⊥) made.taken b taken_free (subst (Has made.taken) (block_row b k few) m) (record { tree = u; reached = r; has = has }))));
   }

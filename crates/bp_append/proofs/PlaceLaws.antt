@@ -5,6 +5,8 @@ use Rattle.std.proofs.lemmas.Bool.{cases_eq, cases_lt}
 use Rattle.std.proofs.lemmas.List.{append-nil}
 use Rattle.std.proofs.lemmas.List.Elements.{All-nil}
 use Rattle.bp_layout.proofs.MemberLaws.{each-has}
+use Rattle.bp_limits.proofs.Versions.{size_most}
+use Rattle.bp_layout.specs.Formatted.{version_of}
 use Rattle.bp_layout.specs.Words.{Image, word, block_count, height_of}
 use Rattle.bp_layout.specs.Tree.{node, IsLiveWord, IsLivePointer, IsSound}
 use Rattle.bp_layout.specs.Inode.{root_of, size_of, inode_count, RootPlace}
@@ -89,7 +91,7 @@ pub grow_can : (memory : Memory) (free : List ℕ) (t : ℕ) (path : WordPath) (
 grow_can memory free t path from to can = record {
   behind = can.behind;
   order = le_trans can.behind can.order;
-  fits = can.fits;
+  fits = le_trans can.fits (size_most (version_of (current_words memory)));
   sound = can.well.sound t can.reached;
   some = let some : 8 ≤ block_count (current_words memory) = can.well.formatted.sized.at_least in omega (arith, some, length-current_words memory);
   usable = can.usable;

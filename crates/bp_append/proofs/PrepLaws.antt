@@ -1,7 +1,7 @@
 -- A prepared tree in its image: nobody sees the preparation, and the tree is ready.
 use Rattle.std.proofs.Common.{◌≡◌, ℕ, ◌+◌, ◌*◌, ◌/◌, ◌%◌, ◌<◌, ◌≤◌, List, [], ◌∷◌, ◌++◌, length, set, refl, sym, ◌∙◌, subst, arith, inl, inr}
 use Rattle.std.proofs.lemmas.List.{append_assoc}
-use Rattle.bp_tree.proofs.PerformsLaws.{same_equivalence}
+use Rattle.bp_commit.proofs.PerformsLaws.{same_equivalence}
 use Rattle.bp_layout.proofs.MemberLaws.{each-as, each-has}
 use Rattle.bp_layout.specs.Words.{Image, word, height_of}
 use Rattle.bp_layout.specs.Tree.{node, HasBlock}
@@ -31,12 +31,13 @@ use Rattle.pm_epochs.proofs.CrashLaws.{IsClosed-barrier}
 use Rattle.pm_epochs.proofs.PieceLaws.{IsPiece-append, IsPiece-more, IsPiece-links_of, IsPiece-barrier, StoresTo-front}
 use Rattle.pm_region.specs.Memory.{Memory, current_words, Adds}
 use Rattle.pm_region.proofs.MemoryLaws.{adds_both, current_words-adds, length-current_words}
-use Rattle.bp_tree.specs.Performs.{InBlock, IsOpen, AddsTaking}
-use Rattle.bp_tree.specs.Performs.IsOpen.{in_live, at_root}
+use Rattle.bp_commit.specs.Performs.{InBlock, IsOpen, AddsTaking}
+use Rattle.bp_commit.specs.Performs.IsOpen.{in_live, at_root}
 use Rattle.bp_append.specs.Into.{AddsInto}
 use Rattle.bp_append.specs.Filled.{IsUsable}
 use Rattle.bp_append.specs.Built.{InBlocks}
 use Rattle.bp_append.specs.Grown.{Links}
+use Rattle.bp_layout.specs.Thaw.{none_kept}
 
 -- a word of a free block may be anything
 -- the root word of an inode is in a block of the inode file
@@ -52,15 +53,15 @@ root_block old wf t place reached stands =
     }
 
 -- so a preparation may store to it
-pub open_root : (old : Image) → IsWellFormed old → (t place : ℕ) → IsReached old t → RootPlace old t place → (taken : List ℕ) → IsOpen old taken place
+pub open_root : (old : Image) → IsWellFormed old → (t place : ℕ) → IsReached old t → RootPlace old t place → (taken : List ℕ) → IsOpen old none_kept taken place
 open_root old wf t place reached (top first two) taken = at_root two
-open_root old wf t place reached (inode some stands) taken = in_live (root_block old wf t place reached stands)
+open_root old wf t place reached (inode some stands) taken = in_live (root_block old wf t place reached stands) refl
 
 -- blocks that were usable and not live are free
-pub free_taken : (memory : Memory) (taken : List ℕ) → IsUsable (length memory.base / 512) taken → Each (λ b. IsLiveBlock (current_words memory) b → ⊥) taken → Each (IsFreeBlock (current_words memory)) taken
+pub free_taken : (memory : Memory) (taken : List ℕ) → IsUsable (length memory.base / 512) taken → Each (λ b. IsLiveBlock (current_words memory) b → ⊥) taken → Each (IsFreeBlock (current_words memory) none_kept) taken
 free_taken memory [] usable unused = tt
 free_taken memory (b ∷ taken) usable unused = (
-  record { low = usable.low.0; high = rw (length-current_words memory) usable.high.0; free = unused.0 },
+  record { low = usable.low.0; high = rw (length-current_words memory) usable.high.0; free = unused.0; loose = refl },
   free_taken memory taken (record { low = usable.low.1; high = usable.high.1; apart = usable.apart.1 }) unused.1,
 )
 
@@ -99,7 +100,7 @@ module _ (old between new : Memory) (taken : List ℕ) (May : ℕ → ℕ → Ty
   events = stores.part.added
 
   abbrev Open : ℕ → Type 0
-  Open = IsOpen (current_words old) taken
+  Open = IsOpen (current_words old) none_kept taken
 
   words_between : current_words between ≡ words_after (current_words old) events
   words_between = current_words-adds old between events stores.part.adds
@@ -107,8 +108,8 @@ module _ (old between new : Memory) (taken : List ℕ) (May : ℕ → ℕ → Ty
   joined : events ++ (Barrier ∷ (links_of links ++ Barrier ∷ [])) ≡ (events ++ Barrier ∷ []) ++ (links_of links ++ Barrier ∷ [])
   joined = sym (append_assoc events (Barrier ∷ []) (links_of links ++ Barrier ∷ []))
 
-  pub epochs_taking : (more : ℕ) → most + length links ≤ more → AnyOf Same (current_words between) (current_words between) links → AreApart taken → Each (IsFreeBlock (current_words old)) taken →
-      ((w v : ℕ) → May w v → IsOpen (current_words old) taken w) → StoresMay (AnyAt (IsOpen (current_words old) taken)) (links_of links) → AddsTaking taken 2 more old new
+  pub epochs_taking : (more : ℕ) → most + length links ≤ more → AnyOf Same (current_words between) (current_words between) links → AreApart taken → Each (IsFreeBlock (current_words old) none_kept) taken →
+      ((w v : ℕ) → May w v → IsOpen (current_words old) none_kept taken w) → StoresMay (AnyAt (IsOpen (current_words old) none_kept taken)) (links_of links) → AddsTaking none_kept taken 2 more old new
   epochs_taking more few any once free opens open_links = record {
     part = record {
       added = (events ++ Barrier ∷ []) ++ (links_of links ++ Barrier ∷ []);

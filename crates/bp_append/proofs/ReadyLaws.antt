@@ -2,6 +2,8 @@
 use Rattle.std.proofs.Common.{◌≡◌, ◌≢◌, ◌⊎◌, ℕ, suc, ◌+◌, ◌*◌, ◌/◌, ◌%◌, ◌<◌, ◌≤◌, List, length, set, get_or, refl, sym, ◌∙◌, ap, subst₂, arith, inl, inr, get_or-set_other, lt_of_lt_of_le, le_trans}
 use Rattle.std.proofs.lemmas.List.{length-set}
 use Rattle.bp_layout.proofs.MemberLaws.{each-has}
+use Rattle.bp_limits.specs.Limits.{greatest_height, greatest_size}
+use Rattle.bp_layout.specs.Formatted.{version_of}
 use Rattle.bp_layout.specs.Words.{Image, block_of, height_of, slot_word, byte_of}
 use Rattle.bp_layout.specs.Tree.{node, word_at, byte, IsLivePointer, IsLiveWord, HasBlock, IsSound, IsFull}
 use Rattle.bp_layout.specs.Inode.{root_of, size_of, inode_count, RootPlace}
@@ -16,6 +18,7 @@ use Rattle.bp_layout.specs.Members.{Has, Each}
 use Rattle.bp_layout.proofs.TreeLaws.{KeepsPointers, node-kept, has_block-kept, word_at-suc, live_above, live_pointer_word, live_content, slot_word-same}
 use Rattle.bp_layout.proofs.Reached.{reached-in_file}
 use Rattle.bp_changes.proofs.Separation.{SameWord, one_place_in_nodes}
+use Rattle.bp_changes.proofs.Formatted.{version_stays}
 use Rattle.bp_changes.proofs.ReachedOn.{reached_on, meaning_on}
 use Rattle.bp_shapes.proofs.Reshape as reshape
 use Rattle.bp_shapes.proofs.Roots.{reads_self, null_tree, null_words}
@@ -24,6 +27,7 @@ use Rattle.bp_append.specs.Given.{given}
 use Rattle.bp_append.specs.Built.{IsBuilt}
 use Rattle.bp_append.specs.Prepared.{Prepares}
 use Rattle.bp_append.proofs.ChildrenLaws.{built_kept}
+use Rattle.bp_append.proofs.NeedLaws.{tall_most}
 
 -- ---- a new tree in the place of none
 
@@ -51,9 +55,10 @@ null_byte image root o null = ap (λ w. byte_of w (o % 8)) (null_words image roo
     zero_byte c = omega arith
 
 pub built_reads : (ByWords : Type 0) (image : Image) (size to root other : ℕ) (bytes : ℕ → ℕ) (taken : List ℕ) (Full : Type 0) → (ByWords → size ≡ 0) → size ≤ to → (size ≡ 0) ⊎ (block_of root ≡ 0) → IsBuilt image other to bytes (Has taken) Full →
-    Each (λ b. IsLiveBlock image b → ⊥) taken → ((i : ℕ) → i < size → bytes i ≡ 0) → ReadsAs ByWords image size root other
-built_reads ByWords image size to root other bytes taken Full file fits null built free zeros = record {
+    Each (λ b. IsLiveBlock image b → ⊥) taken → ((i : ℕ) → i < size → bytes i ≡ 0) → height_of other ≤ greatest_height (version_of image) → ReadsAs ByWords image size root other
+built_reads ByWords image size to root other bytes taken Full file fits null built free zeros low = record {
   sound = sound_smaller image other size to fits built.sound;
+  low = λ some. low;
   content = record {
     words = λ by k low. absurd (omega (arith, low, file by));
     bytes = λ o low. built.bytes_are o (lt_of_lt_of_le low fits) ∙ zeros o low ∙ sym (zero_old o low null);
@@ -91,13 +96,13 @@ module _ (old image : Image) (wf : IsWellFormed old) (t place other from to : �
 
   -- the root word stands in none of the blocks
   pub place_beside : (b s : ℕ) → b ≢ 0 → s < 512 → HasBlock old (root_of old t) (size_of old t) b ⊎ (IsLiveBlock old b → ⊥) → 512 * b + s ≢ place
-  place_beside = beside old wf t place (root_of old t) reached at (reads_self (IsReadByWords old t) old (size_of old t) (root_of old t) (wf.sound t reached))
+  place_beside = beside old wf t place (root_of old t) reached at (reads_self (IsReadByWords old t) old (size_of old t) (root_of old t) (wf.sound t reached) (wf.low t reached))
 
   whole : length last ≡ length image
   whole = length-set image place other
 
   module _ (bytes : ℕ → ℕ) (Full : Type 0) (built : IsBuilt image other to bytes (λ b. HasBlock old (root_of old t) (size_of old t) b ⊎ Has taken b) Full) (kept : (o : ℕ) → o < size_of old t → bytes o ≡ byte old (root_of old t) o)
-      (behind : (o : ℕ) → size_of old t ≤ o → o < to → bytes o ≡ given from raw o) (full : IsReadByWords old t → Full) (height : height_of other ≡ height_with (root_of old t) (size_of old t) to) (order : size_of old t ≤ to)
+      (behind : (o : ℕ) → size_of old t ≤ o → o < to → bytes o ≡ given from raw o) (full : IsReadByWords old t → Full) (height : height_of other ≡ height_with (root_of old t) (size_of old t) to) (fits : to ≤ greatest_size (version_of old)) (order : size_of old t ≤ to)
       (frame : (u b k : ℕ) → IsReached old u → u ≢ t → HasBlock old (root_of old u) (size_of old u) b → k < 512 → 512 * b + k ≢ place → get_or last (512 * b + k) 0 ≡ get_or old (512 * b + k) 0) where
     member_free : (b : ℕ) → HasBlock old (root_of old t) (size_of old t) b ⊎ Has taken b → HasBlock old (root_of old t) (size_of old t) b ⊎ (IsLiveBlock old b → ⊥)
     member_free b m = elim m [ inl has ↦ inl has | inr t ↦ inr (each-has (λ c. IsLiveBlock old c → ⊥) taken b free t) ]
@@ -165,6 +170,7 @@ module _ (old image : Image) (wf : IsWellFormed old) (t place other from to : �
     prepared = record {
       meaning = meaning_last;
       height = rw shape.here height;
+      low = rw (shape.here, version_stays old last meaning_last.trees.marked, height) (tall_most (version_of old) (root_of old t) (size_of old t) to (wf.low t reached) fits);
       kept = λ o low. rw shape.here (tree_last.bytes_are o (lt_of_lt_of_le low order) ∙ kept o low);
       bytes_are = λ o above below. rw shape.here (tree_last.bytes_are o below ∙ behind o above below);
       sound = rw shape.here tree_last.sound;

@@ -1,5 +1,7 @@
 -- The whole preparation of a tree with blocks: nobody sees it, and the tree is ready.
-use Rattle.std.proofs.Common.{◌≡◌, ◌≢◌, ◌⊎◌, ℕ, suc, ◌+◌, ◌-◌, ◌*◌, ◌/◌, ◌%◌, ◌<◌, ◌≤◌, List, [], ◌∷◌, ◌++◌, length, min, set, get_or, sym, ◌∙◌, ap, subst, subst₂, arith, rules, inl, inr, get_or-set_other, le_trans}
+use Rattle.std.proofs.Common.{◌≡◌, ◌≢◌, ◌⊎◌, ℕ, suc, ◌+◌, ◌-◌, ◌*◌, ◌/◌, ◌%◌, ◌<◌, ◌≤◌, List, [], ◌∷◌, ◌++◌, length, min, set, get_or, sym, ◌∙◌, ap, subst, subst₂, arith, rules, inl, inr, get_or-set_other, le_trans, refl}
+use Rattle.bp_changes.proofs.Formatted.{version_stays}
+use Rattle.bp_layout.specs.Formatted.{version_of}
 use Rattle.bp_layout.proofs.MemberLaws.{each-has, each-of, has-behind, has-front}
 use Rattle.bp_limits.specs.Limits.{max_height}
 use Rattle.bp_layout.specs.Words.{Image, block_of, height_of}
@@ -22,8 +24,8 @@ use Rattle.bp_shapes.proofs.Reshape as reshape
 use Rattle.bp_shapes.proofs.NullLink as null_link
 use Rattle.pm_epochs.specs.May.{AnyAt, StoresMay, AnyOf, links_of}
 use Rattle.bp_shapes.specs.Behind.{IsBehind}
-use Rattle.bp_tree.specs.Performs.{IsOpen}
-use Rattle.bp_tree.specs.Performs.IsOpen.{in_taken, in_live}
+use Rattle.bp_commit.specs.Performs.{IsOpen}
+use Rattle.bp_commit.specs.Performs.IsOpen.{in_taken, in_live}
 use Rattle.pm_region.specs.Memory.{Memory, current_words}
 use Rattle.bp_append.specs.Filled.{IsUsable}
 use Rattle.bp_append.specs.Stores.{prep_stores}
@@ -42,11 +44,12 @@ use Rattle.bp_append.specs.Grown.{Grows}
 use Rattle.bp_append.specs.Prepared.{CanPrepare, PreparesWith, need_for}
 use Rattle.bp_append.proofs.VisitDone.{extended_old, extended_new}
 use Rattle.bp_append.proofs.HangBuilt.{hang_built, in_below}
-use Rattle.bp_append.proofs.NeedLaws.{tall_low}
+use Rattle.bp_append.proofs.NeedLaws.{tall_low, tall_most}
 use Rattle.bp_append.proofs.PrepLaws.{open_root, free_taken, in_free_harmless, no_root_in_free, agrees_of, after_append, words_new, epochs_taking, meaning_middle, wf_middle, reached_middle, place_middle, still_free}
 use Rattle.bp_append.proofs.ReadyLaws.{HasRootReady, prepared}
 use Rattle.bp_append.proofs.TwoLinks as two
 use Rattle.bp_append.proofs.NullPrepared.{full_by_words}
+use Rattle.bp_layout.specs.Thaw.{none_kept}
 
 given_before : (from : ℕ) (raw : List ℕ) (o : ℕ) → o < from → given from raw o ≡ 0
 given_before from raw o low = search (rules, low)
@@ -102,9 +105,9 @@ module _ (first new : Memory) (free_old free_new : List ℕ) (t place from to : 
       row : (d i : ℕ) → 512 * node old (root_of old t) d (i / 512) + i % 512 ≡ w → node old (root_of old t) d (i / 512) ≡ w / 512
       row d i e = omega (arith, e)
 
-  opens : (w v : ℕ) → May w v → IsOpen old (grows.visited ++ grows.raised) w
+  opens : (w v : ℕ) → May w v → IsOpen old none_kept (grows.visited ++ grows.raised) w
   opens w v (inl own) = in_taken own
-  opens w v (inr behind) = in_live (record { tree = t; reached = can.reached; has = behind_block w v behind })
+  opens w v (inr behind) = in_live (record { tree = t; reached = can.reached; has = behind_block w v behind }) refl
 
   sizes : size_of middle t ≡ size_of old t
   sizes = size-same old middle can.well agrees t can.reached
@@ -139,7 +142,7 @@ module _ (first new : Memory) (free_old free_new : List ℕ) (t place from to : 
 
   chain_there : IsChain middle (root_of middle t) grows.chain
   chain_there = record {
-    low = rw roots (omega (arith, grows.tall, tall_low (root_of old t) (size_of old t) to (can.well.sound t can.reached).low));
+    low = rw (roots, version_stays old middle meaning.trees.marked) (omega (arith, grows.tall, tall_most (version_of old) (root_of old t) (size_of old t) to (can.well.low t can.reached) can.fits));
     in_range = each-of _ grows.chain (λ b m. let low = each-has (λ c. c < length first.base / 512) (grows.visited ++ grows.raised) b usable.high (in_taken_chain b m) in omega (arith, low, agrees.whole, length-current_words first));
     not_null = each-of _ grows.chain (λ b m e. let low = each-has (λ c. 1 ≤ c) (grows.visited ++ grows.raised) b usable.low (in_taken_chain b m) in omega (arith, low, e));
     free = each-of _ grows.chain (λ b m. free_there b (in_taken_chain b m));
@@ -257,14 +260,14 @@ module _ (first new : Memory) (free_old free_new : List ℕ) (t place from to : 
       go (no_link e) = rw e (omega arith)
       go (one_link hung_place pointer e hangs part) = rw e (omega arith)
 
-  open_links : StoresMay (AnyAt (IsOpen old (grows.visited ++ grows.raised))) (links_of (grows.links ++ (place, raised_by (root_of old t) grows.chain) ∷ []))
+  open_links : StoresMay (AnyAt (IsOpen old none_kept (grows.visited ++ grows.raised))) (links_of (grows.links ++ (place, raised_by (root_of old t) grows.chain) ∷ []))
   open_links = go grows.hung
     where
       go : AreHung old middle (root_of old t) (size_of old t) from to raw grows.visited (λ p. HasBlock old (root_of old t) (size_of old t) (p / 512)) grows.links →
-          StoresMay (AnyAt (IsOpen old (grows.visited ++ grows.raised))) (links_of (grows.links ++ (place, raised_by (root_of old t) grows.chain) ∷ []))
+          StoresMay (AnyAt (IsOpen old none_kept (grows.visited ++ grows.raised))) (links_of (grows.links ++ (place, raised_by (root_of old t) grows.chain) ∷ []))
       go (no_link e) = rw e (open_root old can.well t place can.reached at (grows.visited ++ grows.raised), tt)
       go (one_link hung_place pointer e hangs part) =
-          rw e (in_live (record { tree = t; reached = can.reached; has = part }), (open_root old can.well t place can.reached at (grows.visited ++ grows.raised), tt))
+          rw e (in_live (record { tree = t; reached = can.reached; has = part }) refl, (open_root old can.well t place can.reached at (grows.visited ++ grows.raised), tt))
 
   ready_links : HasRootReady old (after_stores middle grows.links) t place (raised_by (root_of old t) grows.chain)
   ready_links = go grows.hung
@@ -301,7 +304,7 @@ module _ (first new : Memory) (free_old free_new : List ℕ) (t place from to : 
         (λ o low. extended_old old (root_of old t) (size_of old t) from raw 0 o (rw (zero_plus o) low))
         (λ o above below. extended_new old (root_of old t) (size_of old t) from raw 0 o (rw (zero_plus o) above) ∙ ap (given from raw) (zero_plus o))
         (λ by. (full_by_words old can.well t can.reached by, can.by_words by))
-        tall_is order frame);
+        tall_is can.fits order frame);
   }
     where
       zero_plus : (o : ℕ) → 0 + o ≡ o

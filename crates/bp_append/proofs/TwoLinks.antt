@@ -1,5 +1,6 @@
 -- The two links of a preparation, in any subset, over the image with all that was stored before them.
 use Rattle.std.proofs.Common.{◌≡◌, ◌≢◌, ◌⊎◌, ℕ, ◌+◌, ◌*◌, ◌/◌, ◌<◌, List, [], ◌∷◌, set, refl, sym, ◌∙◌, subst, subst₂, arith, inl, inr}
+use Rattle.bp_changes.proofs.Formatted.{version_stays}
 use Rattle.std.proofs.lemmas.Bool.{cases_eq}
 use Rattle.std.proofs.lemmas.List.{length-set}
 use Rattle.bp_layout.specs.Words.{Image, word, block_count, height_of}
@@ -88,7 +89,7 @@ module _ (old : Image) (wf : IsWellFormed old) (t d k place block : ℕ) (hang :
 
   chain_middle : IsChain middle (root_of old t) blocks
   chain_middle = record {
-    low = chain.low;
+    low = rw (version_stays old middle reshapes.marked) chain.low;
     in_range = in_range blocks chain.in_range;
     not_null = chain.not_null;
     free = all_free blocks chain.free fresh_middle;

@@ -1,5 +1,5 @@
 -- A tree is prepared in two epochs: stores that nobody sees, and then the links.
-use Rattle.std.specs.Prelude.{◌≡◌, ◌⊎◌, ℕ, suc, ◌+◌, ◌*◌, ◌/◌, ◌%◌, ◌<◌, ◌≤◌, List, [], ◌∷◌, ◌++◌, length}
+use Rattle.std.specs.Prelude.{◌≡◌, ◌⊎◌, ℕ, ◌+◌, ◌*◌, ◌/◌, ◌%◌, ◌<◌, ◌≤◌, List, [], ◌∷◌, ◌++◌, length}
 use Rattle.pm_epochs.specs.declared.event.Event.TheVariants.{Barrier}
 use Rattle.pm_epochs.specs.May.{links_of}
 use Rattle.bp_layout.specs.Words.{height_of}
@@ -12,7 +12,7 @@ use Rattle.bp_shapes.specs.Behind.{IsBehind}
 use Rattle.bp_layout.specs.Stores.{after_stores}
 use Rattle.pm_region.specs.Memory.{Memory, current_words, room_in, Adds}
 use Rattle.bp_append.specs.Into.{AddsInto}
-use Rattle.bp_append.specs.Stores.{stores_behind}
+use Rattle.bp_append.specs.Stores.{room_behind, stores_behind}
 use Rattle.bp_append.specs.Given.{given_at}
 use Rattle.bp_append.specs.Built.{InBlocks, IsBuilt}
 use Rattle.bp_append.specs.Filled.{IsUsable}
@@ -28,8 +28,8 @@ pub record CanGrow (memory : Memory) (free : List ℕ) (root size from to : ℕ)
   pub usable : IsUsable (length memory.base / block_words) free
   pub outside : (b : ℕ) → Has free b → HasBlock (current_words memory) root size b → ⊥
   pub enough : length (nodes_for (current_words memory) root size from to) ≤ length free
-  pub room : block_words * (length (nodes_for (current_words memory) root size from to) + suc max_height) + 4
-      ≤ room_in memory
+  pub room : block_words * length (nodes_for (current_words memory) root size from to)
+      + room_behind size from to max_height + 4 ≤ room_in memory
 
 -- the links in an epoch of their own
 abbrev pub Links : Memory → Memory → List (ℕ × ℕ) → Type 0

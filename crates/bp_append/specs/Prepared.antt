@@ -1,12 +1,13 @@
 -- What a preparation asks of an image and leaves in it.
 use Rattle.std.specs.Prelude.{◌≡◌, ◌≢◌, ◌⊎◌, ℕ, suc, ◌+◌, ◌*◌, ◌/◌, ◌<◌, ◌≤◌, List, ◌++◌, length}
 use Rattle.bp_layout.specs.Words.{Image, word, height_of}
+use Rattle.bp_layout.specs.Formatted.{version_of}
 use Rattle.bp_layout.specs.Tree.{word_at, byte, IsLiveWord, HasBlock, IsSound, IsFull}
 use Rattle.bp_layout.specs.Inode.{root_of, size_of}
 use Rattle.bp_layout.specs.Reached.{IsReached, IsLiveBlock}
 use Rattle.bp_layout.specs.WellFormed.{IsWellFormed}
 use Rattle.bp_layout.specs.WordPaths.{WordPath, tree_path}
-use Rattle.bp_limits.specs.Limits.{block_words, max_height, max_size}
+use Rattle.bp_limits.specs.Limits.{block_words, greatest_height, greatest_size, max_height}
 use Rattle.bp_layout.specs.Nodes.{nodes_for, height_with}
 use Rattle.bp_layout.specs.Members.{Has, Each}
 use Rattle.bp_changes.specs.SameContent.{IsReadByWords}
@@ -14,10 +15,11 @@ use Rattle.bp_changes.specs.SameMeaning.{SameMeaning}
 use Rattle.pm_region.specs.Memory.{Memory, current_words, room_in}
 use Rattle.bp_free.specs.Set.{members}
 use Rattle.bp_free.specs.declared.parts.Parts.{Parts}
-use Rattle.bp_tree.specs.Performs.{AddsTaking}
-use Rattle.bp_append.specs.Stores.{prep_stores}
+use Rattle.bp_commit.specs.Performs.{AddsTaking}
+use Rattle.bp_append.specs.Stores.{prep_stores, room_behind}
 use Rattle.bp_append.specs.Given.{given}
 use Rattle.bp_append.specs.Filled.{IsUsable}
+use Rattle.bp_layout.specs.Thaw.{none_kept}
 
 -- how many blocks tree t lacks for the bytes from one offset up to another
 abbrev pub need_for : Image → ℕ → ℕ → ℕ → ℕ
@@ -32,18 +34,20 @@ pub record CanPrepare (memory : Memory) (free : List ℕ) (t : ℕ) (path : Word
   pub leads : path ≡ tree_path (height_of (word (current_words memory) 2)) t 0 0
   pub behind : size_of (current_words memory) t ≤ from
   pub order : from ≤ to
-  pub fits : to ≤ max_size
+  pub fits : to ≤ greatest_size (version_of (current_words memory))
   pub by_words : IsReadByWords (current_words memory) t → from ≡ size_of (current_words memory) t
   pub usable : IsUsable (length memory.base / block_words) free
   pub unused : Each (λ b. IsLiveBlock (current_words memory) b → ⊥) free
   pub enough : need_for (current_words memory) t from to ≤ length free
-  pub room : block_words * (need_for (current_words memory) t from to + suc max_height) + 4 ≤ room_in memory
+  pub room : block_words * need_for (current_words memory) t from to
+      + room_behind (size_of (current_words memory) t) from to max_height + 4 ≤ room_in memory
 
 -- Tree t is ready for the bytes up to the end: these are the given ones, in its old blocks and those taken. Nothing
 -- else has changed that an image means, nor a live word of another tree but the root word of t.
 pub record Prepares (old new : Image) (t from to : ℕ) (bytes taken : List ℕ) : Type 0 where
   pub meaning : SameMeaning old new
   pub height : height_of (root_of new t) ≡ height_with (root_of old t) (size_of old t) to
+  pub low : height_of (root_of new t) ≤ greatest_height (version_of new)
   pub kept : (o : ℕ) → o < size_of old t → byte new (root_of new t) o ≡ byte old (root_of old t) o
   pub bytes_are : (o : ℕ) → size_of old t ≤ o → o < to → byte new (root_of new t) o ≡ given from bytes o
   pub sound : IsSound new (root_of new t) to
@@ -66,7 +70,7 @@ pub record PreparesWith (old new : Memory) (free_old free_new : List ℕ) (t fro
   pub taken : List ℕ
   pub takes : free_old ≡ taken ++ free_new
   pub counted : length taken ≡ need_for (current_words old) t from to
-  pub adds : AddsTaking taken 2 (prep_stores (size_of (current_words old) t) from to
+  pub adds : AddsTaking none_kept taken 2 (prep_stores (size_of (current_words old) t) from to
       (need_for (current_words old) t from to)) old new
   pub ready : Prepares (current_words old) (current_words new) t from to bytes taken
 

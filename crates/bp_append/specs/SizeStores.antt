@@ -5,8 +5,9 @@ use Rattle.bp_layout.specs.Inode.{ContentStandsAt, IsFile, size_of}
 use Rattle.bp_layout.specs.Need.Change.{resizes}
 use Rattle.bp_layout.specs.WordPaths.{WordPath}
 use Rattle.pm_region.specs.Memory.{Memory, current_words, Adds}
-use Rattle.bp_tree.specs.Performs.{Performs}
+use Rattle.bp_commit.specs.Performs.{PerformsThawed}
 use Rattle.bp_append.specs.Prepared.{CanPrepare, PreparesWith}
+use Rattle.bp_layout.specs.Thaw.{none_kept}
 
 -- A file grows to a size without bytes of its own: its tree is prepared, and then its size word, which stands at a
 -- place, is stored alone in its epoch.
@@ -24,4 +25,4 @@ pub record GrowsFile (old middle new : Memory) (free_old free_new : List ℕ) (p
 abbrev pub GrownFilesArePerformed : Type 0
 GrownFilesArePerformed = (old middle new : Memory) (free_old free_new : List ℕ) (path : WordPath) (n size place : ℕ) →
     GrowsFile old middle new free_old free_new path n size place
-    → Performs old new (resizes (suc n) size) (λ image after. size_of after (suc n) ≡ size)
+    → PerformsThawed none_kept old new (resizes (suc n) size) (λ image after. size_of after (suc n) ≡ size)

@@ -10,7 +10,7 @@ use Rattle.bp_layout.specs.Stores.{after_stores}
 use Rattle.pm_region.specs.Memory.{Memory, current_words, room_in}
 use Rattle.bp_append.specs.declared.visiting.Link.{Link}
 use Rattle.bp_append.specs.Into.{AddsInto}
-use Rattle.bp_append.specs.Stores.{stores_behind}
+use Rattle.bp_append.specs.Stores.{stores_behind, room_behind}
 use Rattle.bp_append.specs.Given.{given, given_at}
 use Rattle.bp_append.specs.Tally.{tally}
 use Rattle.bp_append.specs.Spine.{spine}
@@ -75,7 +75,7 @@ pub record CanVisit (memory : Memory) (free : List ℕ) (root size level start b
   pub usable : IsUsable (length memory.base / block_words) free
   pub enough : tally (suc level) (max from start) (min to (start + span level))
       ≤ length free + spine (current_words memory) root size from to (suc level)
-  pub room : block_words * tally (suc level) (max from start) (min to (start + span level)) + block_words * suc level
+  pub room : block_words * tally (suc level) (max from start) (min to (start + span level)) + room_behind size from to level
       ≤ room_in memory + block_words * spine (current_words memory) root size from to (suc level)
 
 -- The part of the tree under the block, with the links, has its old bytes and the given ones, in its old blocks and

@@ -4,20 +4,21 @@ use Rattle.std.proofs.lemmas.List.{append-nil, length-append}
 use Rattle.bp_free.specs.Set.{Set, members}
 use Rattle.bp_layout.specs.Free.{HasFree}
 use Rattle.bp_layout.specs.Inode.{root_of, size_of}
+use Rattle.bp_layout.specs.Need.{need}
 use Rattle.bp_layout.specs.Need.Change.{writes}
 use Rattle.bp_layout.specs.Nodes.{nodes_for}
 use Rattle.bp_layout.specs.WordPaths.{WordPath, inode_path}
 use Rattle.bp_layout.specs.Words.{Image, height_of}
 use Rattle.bp_limits.specs.Limits.{block_words, max_height}
 use Rattle.bp_append.specs.Prepared.{CanPrepare, PreparesWith, need_for}
-use Rattle.bp_append.proofs.StoresLaws.{behind_whole}
+use Rattle.bp_append.proofs.StoresLaws.{behind_whole, room_behind_whole}
 use Rattle.bp_shapes.specs.Sets.{AreExact}
-use Rattle.bp_tree.specs.Performs.{HasRoomFor, Performs, room_for}
+use Rattle.bp_commit.specs.Performs.{Performs, room_for}
 use Rattle.bp_cow.specs.Commit.{CanCommitIn, CommitsTouched}
 use Rattle.bp_cow.specs.Cover.{LeadsInside, copied_count}
 use Rattle.bp_cow.specs.Touched.{IsTouched, NoneBegins, all_paths}
 use Rattle.bp_cow.specs.declared.touched.Touched.{Touched}
-use Rattle.pm_region.specs.Memory.{Memory, current_words}
+use Rattle.pm_region.specs.Memory.{Memory, current_words, room_in}
 use Rattle.pm_region.proofs.MemoryLaws.{length-current_words, room_in-piece}
 use Rattle.bp_calls.specs.CanWrite.{CanWrite}
 use Rattle.bp_calls.specs.Space.{LacksSpace}
@@ -26,17 +27,19 @@ use Rattle.bp_calls.specs.WritesFile.{WritesFile}
 use Rattle.bp_calls.proofs.AcrossDone.{across_exact, across_performs}
 use Rattle.bp_calls.proofs.AcrossMiddle.{across_can, middle_count, middle_formed}
 use Rattle.bp_calls.proofs.SizesWith.{sizes_with}
-use Rattle.bp_calls.proofs.AcrossTouched.{across_apart, across_copies, across_inside, across_made, across_needs, across_shape, across_words}
+use Rattle.bp_calls.proofs.AcrossTouched.{across_apart, across_few, across_inside, across_needs, across_shape, across_words}
 use Rattle.bp_calls.proofs.FreeCounts.{free_members}
 use Rattle.bp_calls.proofs.TakenBlocks.{unused_members, usable_members}
+use Rattle.bp_layout.specs.Thaw.{none_kept}
+use Rattle.bp_calls.proofs.Unthawed.{lacks_thawed, room_asked, across_room}
 
 parted : (taken rest : List ℕ) {all : List ℕ} → all ≡ taken ++ rest → length all ≡ length taken + length rest
 parted taken rest e = ap (λ (xs : List ℕ). length xs) e ∙ length-append taken rest
 
 -- the log has room for both parts
-roomy : (made behind copied needed words room left : ℕ) → room ≤ left + (2 + (block_words * made + behind + 2)) → behind ≤ block_words * suc max_height → needed ≡ made + copied → words ≡ 1 → copied ≤ 50 → room_for needed ≤ room →
+roomy : (made behind copied needed words room left : ℕ) → room ≤ left + (2 + (block_words * made + behind + 2)) → behind ≤ block_words * suc max_height → needed ≡ made + copied → words ≡ 1 → room_for needed ≤ room →
     (block_words + 1) * copied + words + 1 + 2 ≤ left
-roomy made behind copied needed words room left a b c d e f = omega (arith, a, b, c, d, e, f)
+roomy made behind copied needed words room left a b c d e = omega (arith, a, b, c, d, e)
 
 module _ (old : Memory) (blocks inodes : Set) (off : ℕ) (bytes : List ℕ) (touched : Touched) where
   abbrev image : Image
@@ -78,20 +81,19 @@ module _ (old : Memory) (blocks inodes : Set) (off : ℕ) (bytes : List ℕ) (to
   made_is i root size one two = ap (λ r. made_for r size) one ∙ ap (made_for (root_of (current_words old) i)) two
 
   pub at_few : (i root size : ℕ) → WritesAcross old blocks inodes i off bytes touched → root ≡ root_of (current_words old) i → size ≡ size_of (current_words old) i →
-      length (nodes_for (current_words old) root size size (off + length bytes)) + copied_count (current_words old) touched ≤ 18 + 3 * max_height + 50
+      length (nodes_for (current_words old) root size size (off + length bytes)) + copied_count (current_words old) touched ≤ 320
   at_few zero root size across = not_inodes _ across
   at_few (suc n) root size across = λ one two.
-      omega (arith, made_is (suc n) root size one two, across_made old blocks inodes n off bytes touched across, across_copies old blocks inodes n off bytes touched across (current_words old))
+      omega (arith, made_is (suc n) root size one two, across_few old blocks inodes n off bytes touched across (current_words old))
 
   pub at_lacks : (i root size made copied free : ℕ) → WritesAcross old blocks inodes i off bytes touched → root ≡ root_of (current_words old) i → size ≡ size_of (current_words old) i →
       made ≡ length (nodes_for (current_words old) root size size (off + length bytes)) → copied ≡ copied_count (current_words old) touched → free ≡ length (members blocks) → free < made + copied →
-      LacksSpace (current_words old) (writes i off (length bytes)) (record { need = made + copied; free = free })
+      LacksSpace (current_words old) none_kept (writes i off (length bytes)) (record { need = made + copied; free = free })
   at_lacks zero root size made copied free across = not_inodes _ across
-  at_lacks (suc n) root size made copied free across = λ one two counted also is fewer. record {
-    needed = omega (arith, across_needs old blocks inodes n off bytes touched across, made_is (suc n) root size one two, counted, also);
-    free = subst (HasFree (current_words old)) (sym is) (free_members (current_words old) blocks across.can.exact.free_blocks across.can.exact.block_room);
-    fewer = fewer;
-  }
+  at_lacks (suc n) root size made copied free across = λ one two counted also is fewer.
+      lacks_thawed (current_words old) (writes (suc n) off (length bytes)) (made + copied) free
+      (omega (arith, across_needs old blocks inodes n off bytes touched across, made_is (suc n) root size one two, counted, also))
+      (subst (HasFree (current_words old) none_kept) (sym is) (free_members (current_words old) none_kept blocks across.can.exact.free_blocks across.can.exact.block_room)) fewer
 
   pub at_prepare : (i root size made : ℕ) (path : WordPath) → WritesAcross old blocks inodes i off bytes touched → root ≡ root_of (current_words old) i → size ≡ size_of (current_words old) i →
       made ≡ length (nodes_for (current_words old) root size size (off + length bytes)) → made + copied_count (current_words old) touched ≤ length (members blocks) → path ≡ inode_path (height_of (root_of (current_words old) 0)) i 1 →
@@ -99,7 +101,8 @@ module _ (old : Memory) (blocks inodes : Set) (off : ℕ) (bytes : List ℕ) (to
   at_prepare zero root size made path across = not_inodes _ across
   at_prepare (suc n) root size made path across = λ one two counted enough is.
       let needs = across_needs old blocks inodes n off bytes touched across in
-      let has : HasRoomFor old (writes (suc n) off (length bytes)) = across.can.room (omega (arith, enough, counted, made_is (suc n) root size one two, needs)) in
+      let has : room_for (need (current_words old) (writes (suc n) off (length bytes))) ≤ room_in old =
+      room_asked old blocks (writes (suc n) off (length bytes)) across.can.room (omega (arith, enough, counted, made_is (suc n) root size one two, needs)) in
       let can : CanPrepare old (members blocks) (suc n) path (size_of (current_words old) (suc n)) (off + length bytes) = record {
         well = across.can.well_formed;
         reached = across.can.reached;
@@ -111,7 +114,7 @@ module _ (old : Memory) (blocks inodes : Set) (off : ℕ) (bytes : List ℕ) (to
         usable = usable_members (current_words old) blocks inodes across.can.exact _ (omega (arith, length-current_words old));
         unused = unused_members (current_words old) blocks inodes across.can.exact;
         enough = omega (arith, enough, counted, made_is (suc n) root size one two);
-        room = omega (arith, needs, has);
+        room = across_room _ _ _ _ _ needs (room_behind_whole (size_of (current_words old) (suc n)) (size_of (current_words old) (suc n)) (off + length bytes) max_height) has;
       } in
       subst (λ s. CanPrepare old (members blocks) (suc n) path s (off + length bytes)) (sym two) can
 
@@ -131,7 +134,8 @@ module _ (old : Memory) (blocks inodes : Set) (off : ℕ) (bytes : List ℕ) (to
         let count = middle_count old middle blocks inodes after n off bytes touched across prepared in
         let need_is = made_is (suc n) root size one two in
         let needs = across_needs old blocks inodes n off bytes touched across in
-        let has : HasRoomFor old (writes (suc n) off (length bytes)) = across.can.room (omega (arith, enough, counted, need_is, needs)) in
+        let has : room_for (need (current_words old) (writes (suc n) off (length bytes))) ≤ room_in old =
+        room_asked old blocks (writes (suc n) off (length bytes)) across.can.room (omega (arith, enough, counted, need_is, needs)) in
         let parts : length (members blocks) ≡ length prepared.taken + length (members after) = parted prepared.taken (members after) prepared.takes in
         record {
           well_formed = middle_formed old middle blocks inodes after n off bytes touched across prepared;
@@ -140,14 +144,14 @@ module _ (old : Memory) (blocks inodes : Set) (off : ℕ) (bytes : List ℕ) (to
           some = omega (arith, parts, prepared.counted, counted, need_is, count, enough);
           room = let left = room_in-piece _ _ old middle prepared.adds.part.added prepared.adds.part.adds prepared.adds.part.piece in
               roomy _ _ _ _ _ _ _ left (behind_whole (size_of (current_words old) (suc n)) (size_of (current_words old) (suc n)) (off + length bytes) max_height) (omega (arith, needs, count))
-              (across_words old blocks inodes n off bytes touched across) (across_copies old blocks inodes n off bytes touched across (current_words middle)) has;
+              (across_words old blocks inodes n off bytes touched across) has;
         }
 
     module _ (new : Memory) (last : Set) where
       pub at_done : (i : ℕ) → WritesAcross old blocks inodes i off bytes touched →
           PreparesWith old middle (members blocks) (members after) i (size_of (current_words old) i) (off + length bytes) (drop (size_of (current_words old) i - off) bytes) → ((k : ℕ) → slice_index bytes k < 256) →
           CommitsTouched (sizes_with (current_words middle) touched) touched middle new after last → length last ≡ length after → length after ≡ length blocks →
-          Performs old new (writes i off (length bytes)) (WritesFile i off bytes) × AreExact (current_words new) last inodes
+          Performs none_kept old new (writes i off (length bytes)) (WritesFile i off bytes) × AreExact (current_words new) none_kept last inodes
       at_done zero across = not_inodes _ across
       at_done (suc n) across = λ prepared small done same room.
           (across_performs old middle new blocks inodes after last n off bytes touched across prepared small done, across_exact old middle new blocks inodes after last n off bytes touched across prepared small done same room)

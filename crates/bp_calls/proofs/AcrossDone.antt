@@ -16,10 +16,10 @@ use Rattle.bp_changes.proofs.ChangesFile as changed
 use Rattle.bp_changes.proofs.ChangesOver.{changes_over}
 use Rattle.bp_append.specs.Prepared.{PreparesWith, need_for}
 use Rattle.bp_append.specs.Stores.{prep_stores}
-use Rattle.bp_append.proofs.StoresLaws.{behind_whole}
+use Rattle.bp_append.proofs.StoresLaws.{behind_near}
 use Rattle.bp_shapes.specs.Sets.{AreExact}
 use Rattle.bp_shapes.proofs.FreeSets.{wf_forest}
-use Rattle.bp_tree.specs.Performs.{IsOpen, Performs, most_stores}
+use Rattle.bp_commit.specs.Performs.{IsOpen, Performs, most_stores_thawed}
 use Rattle.bp_cow.specs.CanCommit.{CanCommit}
 use Rattle.bp_cow.specs.Commit.{CommitsTouched, commit_stores, cover_word}
 use Rattle.bp_cow.specs.Cover.{commit_cover, copied_count}
@@ -38,6 +38,8 @@ use Rattle.bp_calls.proofs.SizesWith.{sizes_with}
 use Rattle.bp_calls.proofs.AcrossTouched.{across_copies, across_cover, across_end, across_needs, across_shape, across_words}
 use Rattle.bp_calls.proofs.RunCommits.{commit_exact, commit_writes_file, laid_past}
 use Rattle.bp_calls.proofs.WriteBehind.{given_inside}
+use Rattle.bp_layout.specs.Thaw.{none_kept}
+use Rattle.bp_calls.proofs.Unthawed.{unthawed}
 
 -- ---- one byte
 
@@ -126,7 +128,7 @@ module _ (old middle new : Memory) (blocks inodes after last : Set) (n off : ℕ
 
   -- ---- the stores
 
-  open_cover : IsOpen mid done.taken (cover_word mid touched)
+  open_cover : IsOpen mid none_kept done.taken (cover_word mid touched)
   open_cover =
       cover_open mid wf_mid touched (across_shape old blocks inodes n off bytes touched across) (inode_path (height_of (root_of mid 0)) (suc n) 2)
       (has_size (height_of (root_of mid 0)) (suc n) touched across.touches.run (run_there old middle blocks inodes after n off bytes touched across prepared) (across_shape old blocks inodes n off bytes touched across))
@@ -138,24 +140,25 @@ module _ (old middle new : Memory) (blocks inodes after last : Set) (n off : ℕ
   needs : need image write ≡ need_for image (suc n) (size_of image (suc n)) (off + length bytes) + copied_count image touched
   needs = across_needs old blocks inodes n off bytes touched across
 
-  few : prep_stores (size_of image (suc n)) (size_of image (suc n)) (off + length bytes) (need_for image (suc n) (size_of image (suc n)) (off + length bytes)) + commit_stores mid touched ≤ most_stores (need image write)
+  few : prep_stores (size_of image (suc n)) (size_of image (suc n)) (off + length bytes) (need_for image (suc n) (size_of image (suc n)) (off + length bytes)) + commit_stores mid touched ≤ most_stores_thawed (need image write)
   few =
-      go _ _ _ _ _ _ needs count_is (behind_whole (size_of image (suc n)) (size_of image (suc n)) (off + length bytes) max_height) (across_words old blocks inodes n off bytes touched across)
+      go _ _ _ _ _ _ needs count_is (behind_near (size_of image (suc n)) (off + length bytes) max_height (omega (arith, across.below, across.can.short))) (across_words old blocks inodes n off bytes touched across)
       (across_copies old blocks inodes n off bytes touched across image)
     where
-      go : (made copied copied_mid words needed behind : ℕ) → needed ≡ made + copied → copied_mid ≡ copied → behind ≤ block_words * suc max_height → words ≡ 1 → copied ≤ 50 →
-          block_words * made + behind + 2 + ((block_words + 1) * copied_mid + words + 1) ≤ most_stores needed
+      go : (made copied copied_mid words needed behind : ℕ) → needed ≡ made + copied → copied_mid ≡ copied → behind ≤ 1024 + max_height → words ≡ 1 → copied ≤ 290 →
+          block_words * made + behind + 2 + ((block_words + 1) * copied_mid + words + 1) ≤ most_stores_thawed needed
       go made copied copied_mid words needed behind a b c d e = omega (arith, a, b, c, d, e)
 
-  pub across_performs : Performs old new (writes (suc n) off (length bytes)) (WritesFile (suc n) off bytes)
+  pub across_performs : Performs none_kept old new (writes (suc n) off (length bytes)) (WritesFile (suc n) off bytes)
   across_performs =
-      commit_performs_after old middle new (writes (suc n) off (length bytes)) (WritesFile (suc n) off bytes) bound touched after last prepared.taken 2
+      unthawed old new (writes (suc n) off (length bytes)) (WritesFile (suc n) off bytes)
+      (commit_performs_after old middle new (writes (suc n) off (length bytes)) (WritesFile (suc n) off bytes) bound touched after last prepared.taken 2
       (prep_stores (size_of image (suc n)) (size_of image (suc n)) (off + length bytes) (need_for image (suc n) (size_of image (suc n)) (off + length bytes))) prepared.adds done
       (middle_live old middle blocks inodes after n off bytes touched across prepared)
       (left_free old middle blocks inodes after n off bytes touched across prepared)
       (middle_cover old middle blocks inodes after n off bytes touched across prepared ∙ sym (across_cover old blocks inodes n off bytes touched across)) (omega arith) few
       (omega (arith, prepared.counted, count_is, needs)) open_cover
-      (changed.well_formed-same image (current_words new) (suc n) wf changes) across_writes
+      (changed.well_formed-same image (current_words new) (suc n) wf changes) across_writes)
 
   -- ---- the sets
 
@@ -166,6 +169,6 @@ module _ (old middle new : Memory) (blocks inodes after last : Set) (n off : ℕ
       go (inl e) = rw e (size_is ∙ sym bound_is)
       go (inr other) = changes_mid.size t reached other ∙ sym (bound_other old middle blocks inodes after n off bytes touched across prepared t other)
 
-  pub across_exact : length last ≡ length after → length after ≡ length blocks → AreExact (current_words new) last inodes
+  pub across_exact : length last ≡ length after → length after ≡ length blocks → AreExact (current_words new) none_kept last inodes
   across_exact same room =
       commit_exact mid (current_words new) (suc n) wf_mid changes_mid bound bounds after last inodes (middle_sets old middle blocks inodes after n off bytes touched across prepared room) same done.exact

@@ -32,6 +32,7 @@ use Rattle.bp_calls.specs.TouchedAcross.{WritesAcross}
 use Rattle.bp_calls.proofs.AcrossTouched.{across_end, across_run, across_shape, across_some, across_words}
 use Rattle.bp_calls.proofs.SizesWith.{size_with_here, size_with_other, sizes_with}
 use Rattle.bp_calls.proofs.PreparedSets.{live_before, prepared_exact, prepared_forest, prepared_sets, sizes_low, still_free}
+use Rattle.bp_layout.specs.Thaw.{none_kept}
 
 module _ (old middle : Memory) (blocks inodes after : Set) (n off : ℕ) (bytes : List ℕ) (touched : Touched) (across : WritesAcross old blocks inodes (suc n) off bytes touched)
     (prepared : PreparesWith old middle (members blocks) (members after) (suc n) (size_of (current_words old) (suc n)) (off + length bytes) (drop (size_of (current_words old) (suc n) - off) bytes)) where
@@ -105,18 +106,18 @@ module _ (old middle : Memory) (blocks inodes after : Set) (n off : ℕ) (bytes 
       live_before old middle blocks inodes after (suc n) (size_of (current_words old) (suc n)) (off + length bytes) (drop (size_of (current_words old) (suc n) - off) bytes) across.can.well_formed across.can.exact across.can.reached
       some past prepared (sizes_with (current_words middle) touched) bound_here bound_other
 
-  pub left_free : (b : ℕ) → has after b ≡ true → IsFreeBlock (current_words old) b × (Has prepared.taken b → ⊥)
+  pub left_free : (b : ℕ) → has after b ≡ true → IsFreeBlock (current_words old) none_kept b × (Has prepared.taken b → ⊥)
   left_free =
       still_free old middle blocks inodes after (suc n) (size_of (current_words old) (suc n)) (off + length bytes) (drop (size_of (current_words old) (suc n) - off) bytes) across.can.well_formed across.can.exact across.can.reached
       some past prepared (sizes_with (current_words middle) touched) bound_here bound_other
 
   -- so the sets are exact under these sizes
-  pub middle_sets : length after ≡ length blocks → AreExactFor (current_words middle) (IsReached (current_words middle)) (sizes_with (current_words middle) touched) after inodes
+  pub middle_sets : length after ≡ length blocks → AreExactFor (current_words middle) (IsReached (current_words middle)) (sizes_with (current_words middle) touched) none_kept after inodes
   middle_sets =
       prepared_sets old middle blocks inodes after (suc n) (size_of (current_words old) (suc n)) (off + length bytes) (drop (size_of (current_words old) (suc n) - off) bytes) across.can.well_formed across.can.exact across.can.reached
       some past prepared (sizes_with (current_words middle) touched) bound_here bound_other
 
-  pub middle_exact : AreUnheld (current_words middle) (IsReached (current_words middle)) (sizes_with (current_words middle) touched) (has after)
+  pub middle_exact : AreUnheld (current_words middle) (IsReached (current_words middle)) (sizes_with (current_words middle) touched) none_kept (has after)
   middle_exact =
       prepared_exact old middle blocks inodes after (suc n) (size_of (current_words old) (suc n)) (off + length bytes) (drop (size_of (current_words old) (suc n) - off) bytes) across.can.well_formed across.can.exact across.can.reached
       some past prepared (sizes_with (current_words middle) touched) bound_here bound_other

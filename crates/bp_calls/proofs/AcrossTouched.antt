@@ -1,12 +1,14 @@
 -- What a write across the size of a file touches and needs, before it prepares anything.
-use Rattle.std.proofs.Common.{◌≡◌, ℕ, suc, ◌+◌, ◌-◌, ◌*◌, ◌/◌, ◌^◌, ◌<◌, ◌≤◌, min, max, List, [], ◌∷◌, ◌++◌, ◌==◌, length, map, fold, flat_map, Bool, true, Some, nat_lt, if◌then◌else◌, refl, sym, ◌∙◌, ap, subst, suc-ne-zero, arith}
+use Rattle.std.proofs.Common.{◌≡◌, ℕ, suc, ◌+◌, ◌-◌, ◌*◌, ◌/◌, ◌^◌, ◌<◌, ◌≤◌, min, max, List, [], ◌∷◌, ◌++◌, ◌==◌, length, map, fold, flat_map, Bool, true, Some, nat_lt, if◌then◌else◌, refl, sym, ◌∙◌, ap, subst, suc-ne-zero, arith, le_trans}
+use Rattle.bp_limits.proofs.Versions.{size_most}
+use Rattle.bp_layout.specs.Formatted.{version_of}
 use Rattle.std.specs.List.{range_with_len}
 use Rattle.std.proofs.lemmas.Bool.{eq-eqb, lt-ltb, ne_eqb}
 use Rattle.std.proofs.lemmas.List.{append-nil, length-map, length-take}
 use Rattle.bp_limits.specs.Limits.{block_size, block_words, max_height}
 use Rattle.bp_free.specs.Set.{Set}
 use Rattle.bp_layout.specs.Inode.{root_of, size_of, inode_count}
-use Rattle.bp_layout.specs.Need.{Change, Beyond, beyond, new_inodes, prepared_for, height_after, content_path, inode_word_path, need, prefixes_of}
+use Rattle.bp_layout.specs.Need.{Change, Beyond, beyond, new_inodes, prepared_for, height_after, content_path, inode_word_path, need}
 use Rattle.bp_layout.specs.Need.Change.{writes}
 use Rattle.bp_layout.specs.Need as layout
 use Rattle.bp_layout.specs.Nodes.{height_with, nodes_for}
@@ -117,9 +119,10 @@ module _ (old : Memory) (blocks inodes : Set) (n off : ℕ) (bytes : List ℕ) (
       let low_tree : height_with (root_of image (suc n)) (size_of image (suc n)) (off + length bytes) ≤ max_height =
       tall_low (root_of image (suc n)) (size_of image (suc n)) (off + length bytes) (wf.sound (suc n) across.can.reached).low in
       let fits : off + length bytes ≤ span (height_with (root_of image (suc n)) (size_of image (suc n)) (off + length bytes)) =
-      tall_fits (root_of image (suc n)) (size_of image (suc n)) (off + length bytes) across.can.fits in
+      tall_fits (root_of image (suc n)) (size_of image (suc n)) (off + length bytes) (le_trans across.can.fits (size_most (version_of image))) in
       let wide = span-is (height_with (root_of image (suc n)) (size_of image (suc n)) (off + length bytes)) in
       sized_shape (height_of (root_of image 0)) (suc n) touched across.touches.run across_run (inode_sound.low (omega (arith, there))) across_some
+      (omega (arith, across_long, across.past, across.can.short))
       (subst (λ h. h ≤ max_height) (sym across.touches.height) low_tree)
       (subst (λ h. run_end across.touches.run ≤ block_size * block_words ^ h) (sym across.touches.height) (omega (arith, fits, wide, across_end, across.past)))
 
@@ -135,16 +138,33 @@ module _ (old : Memory) (blocks inodes : Set) (n off : ℕ) (bytes : List ℕ) (
   pub across_words : length touched.words.now ≡ 1
   across_words = one_word (height_of (root_of image 0)) (suc n) touched across.touches.run across_run
 
-  -- few nodes are made and few blocks copied
-  pub across_made : need_for image (suc n) (size_of image (suc n)) (off + length bytes) ≤ 18 + 3 * max_height
-  across_made =
-      few_needed image (root_of image (suc n)) (size_of image (suc n)) (size_of image (suc n)) (off + length bytes) (omega (arith, across.can.short, across.below)) (omega arith) (wf.sound (suc n) across.can.reached).low
+  -- few nodes are made and few blocks copied: the leaves of both are those of one write
+  abbrev made_leaves : ℕ
+  made_leaves = (off + length bytes - size_of image (suc n)) / 4096 + 1
 
-  pub across_copies : (other : Image) → copied_count other touched ≤ 50
-  across_copies other =
-      let few : run_leaves across.touches.run ≤ 17 = few_leaves across.touches.run (omega (arith, across_long, across.past, across.can.short)) in
-      let most = run_copies other touched across_shape across_apart across.touches.run across.touches.one few in
+  across_made_by : need_for image (suc n) (size_of image (suc n)) (off + length bytes) ≤ made_leaves + 2 + 3 * max_height
+  across_made_by =
+      few_needed image (root_of image (suc n)) (size_of image (suc n)) (size_of image (suc n)) (off + length bytes) made_leaves (omega (arith, across.can.short, across.below)) (omega arith) (omega arith)
+      (wf.sound (suc n) across.can.reached).low
+
+  pub across_made : need_for image (suc n) (size_of image (suc n)) (off + length bytes) ≤ 259 + 3 * max_height
+  across_made = omega (arith, across_made_by, across.can.short, across.below)
+
+  across_leaves : run_leaves across.touches.run ≤ 257
+  across_leaves = few_leaves across.touches.run (omega (arith, across_long, across.past, across.can.short))
+
+  across_copies_by : (other : Image) → copied_count other touched ≤ run_leaves across.touches.run + 33
+  across_copies_by other =
+      let most = run_copies other touched across_shape across_apart across.touches.run across.touches.one (le_trans across_leaves (omega arith)) in
       omega (arith, most, across_words)
+
+  pub across_copies : (other : Image) → copied_count other touched ≤ 290
+  across_copies other = omega (arith, across_copies_by other, across_leaves)
+
+  pub across_few : (other : Image) → need_for image (suc n) (size_of image (suc n)) (off + length bytes) + copied_count other touched ≤ 320
+  across_few other =
+      let leaves : run_leaves across.touches.run + made_leaves ≤ 260 = omega (arith, across.touches.from, across_end, across.below, across.past, across.can.short) in
+      omega (arith, leaves, across_made_by, across_copies_by other)
 
   same_path : (k : ℕ) → run_path across.touches.run k ≡ content_path image write (suc n) k
   same_path k =

@@ -101,9 +101,6 @@ module _ (old new : Image) (wf : IsWellFormed old) (prepared : IsPrepared old ne
   pub live_before_too : (b : ℕ) → IsLiveBlock new b → IsLiveBlock old b
   live_before_too b live = record { tree = live.tree; reached = reached_before live.tree live.reached; has = prepared.blocks.back live.tree b (reached_before live.tree live.reached) live.has }
 
-  pub live_after : (b : ℕ) → IsLiveBlock old b → IsLiveBlock new b
-  live_after b live = record { tree = live.tree; reached = reached_after live.tree live.reached; has = prepared.blocks.stay live.tree b live.reached live.has }
-
   pub free_inode_after : (j : ℕ) → IsFreeInode old j → IsFreeInode new j
   free_inode_after j free = record { low = free.low; high = rw prepared.inode_bytes free.high; free = λ reached. free.free (reached_before j reached) }
 

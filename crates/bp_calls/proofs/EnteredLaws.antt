@@ -11,8 +11,8 @@ use Rattle.bp_layout.specs.WellFormed.{IsWellFormed}
 use Rattle.bp_layout.proofs.Finding.{map-same}
 use Rattle.bp_layout.proofs.Reached.{reached-in_file}
 use Rattle.bp_layout.proofs.LookupLaws.{Shows, lookup_in-found}
-use Rattle.bp_changes.specs.Effects.{AddsNames, KeepsBlocks}
-use Rattle.bp_changes.proofs.Link.{CanLink, entry_adds, name_of_new, kinds_stay}
+use Rattle.bp_changes.specs.Effects.{AddsNames, KeepsBlocks, LinksName, SetsInumber}
+use Rattle.bp_changes.proofs.Link.{AwaitsInumber, entry_adds, entry_links, name_of_new, kinds_stay}
 use Rattle.bp_changes.proofs.LinkInPlace.{store_adds, store_blocks}
 use Rattle.bp_calls.specs.Entered.{IsNewInode, IsReadyEntry}
 
@@ -21,6 +21,11 @@ pub record Enters (old new : Image) (i s j : ℕ) (name : Name) (kind : ℕ) : T
   pub adds : AddsNames old new i s j
   pub spelled : name_at new i s ≡ name
   pub kind_is : kind_of new j ≡ kind
+
+-- the same of one more name of file j
+pub record EntersLink (old new : Image) (i s j : ℕ) (name : Name) : Type 0 where
+  pub adds : LinksName old new i s j
+  pub spelled : name_at new i s ≡ name
 
 -- a name that no entry has
 pub not_named : (image : Image) → IsWellFormed image → (i : ℕ) (name : Name) → IsReached image i → slot_named image i name ≡ None →
@@ -46,33 +51,44 @@ name_same old new r q s few same =
 pub directory_inode : (image : Image) (i : ℕ) → kind_of image i ≡ 2 → i ≢ 0
 directory_inode image i kind e = let two : kind_of image 0 ≡ 2 = (rw e at kind) in absurd (omega (arith, two))
 
+pub file_inode : (image : Image) (j : ℕ) → kind_of image j ≡ 1 → j ≢ 0
+file_inode image j kind e = let one : kind_of image 0 ≡ 1 = (rw e at kind) in absurd (omega (arith, one))
+
 -- ---- the store
 
-module _ (old : Image) (wf : IsWellFormed old) (i s j kind place : ℕ) (name : Name) (fresh : IsNewInode old j kind) (ready : IsReadyEntry old i s name)
+module _ (old : Image) (wf : IsWellFormed old) (i s j place : ℕ) (name : Name) (ready : IsReadyEntry old i s name)
     (form : IsName name) (missing : slot_named old i name ≡ None) (stands : ContentStandsAt old i (32 * s + 0) place) where
-  pub ready_links : CanLink old i s j
-  ready_links = record {
+  ready_awaits : AwaitsInumber old i s
+  ready_awaits = record {
     reached = ready.reached;
     directory = ready.directory;
     in_size = ready.slot;
     empty = ready.empty;
-    fresh = fresh.free.free;
-    in_file = fresh.free.high;
-    kind = rw fresh.kind_is (fresh.least, fresh.most);
-    nothing = fresh.empty;
     name = rw ready.spelled form;
     new_name = λ r k n same. not_named old wf i name ready.reached missing r k n (same ∙ ready.spelled);
   }
 
-  pub entered : Enters old (set old place j) i s j name kind
-  entered = record {
-    adds = entry_adds old (set old place j) wf i s j ready_links (store_adds old wf i s j place ready_links stands);
-    spelled = name_of_new old (set old place j) wf i s j ready_links (store_adds old wf i s j place ready_links stands) ∙ ready.spelled;
-    kind_is = kinds_stay old (set old place j) wf i s j ready_links (store_adds old wf i s j place ready_links stands) j fresh.free.high ∙ fresh.kind_is;
-  }
+  stored : SetsInumber old (set old place j) i s j
+  stored = store_adds old wf i s j place ready_awaits stands
 
   pub entered_file : size_of (set old place j) 0 ≡ size_of old 0
-  entered_file = (store_adds old wf i s j place ready_links stands).size 0 (reached-in_file old wf 0 inode_file)
+  entered_file = stored.size 0 (reached-in_file old wf 0 inode_file)
 
   pub entered_blocks : KeepsBlocks old (set old place j)
   entered_blocks = store_blocks old wf i s j place ready.reached ready.directory ready.slot stands
+
+  pub entered : (kind : ℕ) → IsNewInode old j kind → Enters old (set old place j) i s j name kind
+  entered kind fresh = record {
+    adds = entry_adds old (set old place j) wf i s j ready_awaits some stored (record { fresh = fresh.free.free; in_file = fresh.free.high; kind = rw fresh.kind_is (fresh.least, fresh.most); nothing = fresh.empty });
+    spelled = name_of_new old (set old place j) wf i s j ready_awaits some stored ∙ ready.spelled;
+    kind_is = kinds_stay old (set old place j) wf i s j ready_awaits some stored j fresh.free.high ∙ fresh.kind_is;
+  }
+    where
+      some : j ≢ 0
+      some none = let low : 2 ≤ j = fresh.free.low in omega (arith, none, low)
+
+  pub linked : IsReached old j → kind_of old j ≡ 1 → EntersLink old (set old place j) i s j name
+  linked there file = record {
+    adds = entry_links old (set old place j) wf i s j ready_awaits (file_inode old j file) stored there file;
+    spelled = name_of_new old (set old place j) wf i s j ready_awaits (file_inode old j file) stored ∙ ready.spelled;
+  }

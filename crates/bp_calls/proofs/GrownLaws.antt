@@ -1,5 +1,8 @@
 -- The size of a directory grows over an entry that stands ready behind it: the directory gains the name.
 use Rattle.std.proofs.Common.{◌≡◌, ◌≢◌, ◌⊎◌, ℕ, zero, suc, ◌+◌, ◌*◌, ◌/◌, ◌%◌, ◌<◌, ◌≤◌, length, set, None, refl, sym, ◌∙◌, ap, subst, subst₂, suc-ne-zero, arith, inl, inr, get_or-set_other}
+use Rattle.bp_changes.proofs.Formatted.{low_stays}
+use Rattle.bp_layout.specs.Formatted.{version_of}
+use Rattle.bp_limits.specs.Limits.{greatest_height}
 use Rattle.std.proofs.lemmas.Bool.{cases_eq}
 use Rattle.std.proofs.lemmas.List.{length-set}
 use Rattle.bp_layout.specs.Words.{Image, word, byte_of, height_of, slot_word}
@@ -13,9 +16,10 @@ use Rattle.bp_layout.proofs.TreeLaws.{KeepsPointers, content-kept, slot_word-sam
 use Rattle.bp_layout.proofs.Reached.{reached-in_file}
 use Rattle.bp_changes.proofs.Separation.{stands_in_block}
 use Rattle.bp_changes.proofs.ContentStore.{word-stored, word-elsewhere}
-use Rattle.bp_changes.specs.Effects.{AddsNames, IsNewEntry}
+use Rattle.bp_changes.specs.Effects.{IsNewEntry}
+use Rattle.bp_changes.proofs.GainsEntry.{GainsEntry, gains_adds, gains_links, takes_inode}
 use Rattle.bp_calls.specs.Entered.{IsNewInode, IsReadyBehind}
-use Rattle.bp_calls.proofs.EnteredLaws.{Enters, not_named, name_same, directory_inode}
+use Rattle.bp_calls.proofs.EnteredLaws.{Enters, EntersLink, not_named, name_same, directory_inode, file_inode}
 
 -- ---- a store of the greater size
 
@@ -238,6 +242,12 @@ module _ (old : Image) (wf : IsWellFormed old) (n j place : ℕ) (name : Name) (
       (sound-kept old new (root_of old (suc n)) (size_of old (suc n) + 256) keeps_new whole ready.sound)
       (λ other. sound-kept old new (root_of old t) (size_of old t) (keeps t reached) whole (wf.sound t reached))
 
+  low_now : (t : ℕ) → IsReached old t → 0 < size_of new t → height_of (root_of new t) ≤ greatest_height (version_of new)
+  low_now t reached =
+      by_tree (λ root z. 0 < z → height_of root ≤ greatest_height (version_of new)) t reached
+      (low_stays old new (superblock 0 (omega arith)) (root_of old (suc n)) (root_of old (suc n)) (size_of old (suc n) + 256) (λ _. refl) (λ _. ready.low))
+      (λ other. low_stays old new (superblock 0 (omega arith)) (root_of old t) (root_of old t) (size_of old t) (λ _. refl) (wf.low t reached))
+
   full_stays : (t : ℕ) → IsReached old t → IsFull old (root_of old t) (size_of old t) →
       IsFull new (root_of new t) (size_of new t)
   full_stays t reached full =
@@ -267,29 +277,21 @@ module _ (old : Image) (wf : IsWellFormed old) (n j place : ℕ) (name : Name) (
   file_is : (t : ℕ) → kind_of old t ≡ 1 → t ≢ 0
   file_is t kind e = let one : kind_of old 0 ≡ 1 = (rw e at kind) in absurd (omega (arith, one))
 
-  module _ (kind : ℕ) (fresh : IsNewInode old j kind) (form : IsName name) (missing : slot_named old (suc n) name ≡ None) where
-    not_here : j ≢ suc n
-    not_here e = fresh.free.free (subst (IsReached old) (sym e) ready.reached)
-
-    grown_adds : AddsNames old new (suc n) (size_of old (suc n) / 256) j
-    grown_adds = record {
+  module _ (some : j ≢ 0) (form : IsName name) (missing : slot_named old (suc n) name ≡ None) where
+    grown_gains : GainsEntry old new (suc n) (size_of old (suc n) / 256) j
+    grown_gains = record {
       reached = ready.reached;
-      fresh = fresh.free.free;
       trees = record {
         whole = whole;
         marked = superblock 0 (omega arith);
         counted = superblock 1 (omega arith);
+        low = low_now;
         sound = sound_stays;
         apart = λ t u b r q one two. apart_cases t u b r q (cases_eq t (suc n)) (cases_eq u (suc n)) one two;
         full_inode_file = full_stays 0 inode_file wf.full_inode_file;
         full_directories = λ u r kind. full_stays u r (wf.full_directories u r kind);
       };
-      inode_bytes = rw (superblock 3 (omega arith)) (omega arith);
-      inode_blocks = rw (superblock 3 (omega arith)) wf.inode_blocks;
-      in_file = rw (superblock 3 (omega arith)) fresh.free.high;
       kind = λ u r. kind_stays u (in_file u r);
-      new_kind = rw (kind_stays j fresh.free.high, fresh.kind_is) (fresh.least, fresh.most);
-      new_size = size_stays j fresh.free.high not_here ∙ fresh.empty;
       file_size = λ u r kind. size_stays u (in_file u r) (file_not u kind);
       directory_size = size_cases;
       back = names_back;
@@ -298,7 +300,7 @@ module _ (old : Image) (wf : IsWellFormed old) (n j place : ℕ) (name : Name) (
         directory = kind_stays (suc n) (in_file (suc n) ready.reached) ∙ ready.directory;
         in_size = omega (arith, count_here);
         inumber = entered_here;
-        not_empty = λ none. let low : 2 ≤ j = fresh.free.low in omega (arith, none, low);
+        not_empty = some;
       };
       same_names = name_stays;
       name = rw (name_here form) form;
@@ -306,15 +308,39 @@ module _ (old : Image) (wf : IsWellFormed old) (n j place : ℕ) (name : Name) (
       bytes = λ u o r kind low. ap (λ w. byte_of w (o % 8)) (content_stays u (o / 8) r (file_is u kind) (omega (arith, low)));
     }
 
-    grown_suc : Enters old new (suc n) (size_of old (suc n) / 256) j name kind
-    grown_suc = record { adds = grown_adds; spelled = name_here form; kind_is = kind_stays j fresh.free.high ∙ fresh.kind_is }
+  module _ (form : IsName name) (missing : slot_named old (suc n) name ≡ None) where
+    grown_suc : (kind : ℕ) → IsNewInode old j kind → Enters old new (suc n) (size_of old (suc n) / 256) j name kind
+    grown_suc kind fresh = record {
+      adds = gains_adds old new (suc n) (size_of old (suc n) / 256) j (grown_gains some form missing)
+          (takes_inode old new j wf (record { fresh = fresh.free.free; in_file = fresh.free.high; kind = rw fresh.kind_is (fresh.least, fresh.most); nothing = fresh.empty })
+          (superblock 3 (omega arith)) (kind_stays j fresh.free.high) (size_stays j fresh.free.high not_here));
+      spelled = name_here form;
+      kind_is = kind_stays j fresh.free.high ∙ fresh.kind_is;
+    }
+      where
+        some : j ≢ 0
+        some none = let low : 2 ≤ j = fresh.free.low in omega (arith, none, low)
+
+        not_here : j ≢ suc n
+        not_here e = fresh.free.free (subst (IsReached old) (sym e) ready.reached)
+
+    grown_links_suc : IsReached old j → kind_of old j ≡ 1 → EntersLink old new (suc n) (size_of old (suc n) / 256) j name
+    grown_links_suc there file = record {
+      adds = gains_links old new (suc n) (size_of old (suc n) / 256) j (grown_gains (file_inode old j file) form missing) there file (superblock 3 (omega arith));
+      spelled = name_here form;
+    }
 
 -- ---- the same of any directory
 
 pub grown : (old : Image) → IsWellFormed old → (i j kind place : ℕ) (name : Name) → IsNewInode old j kind → IsReadyBehind old i j name → IsName name → slot_named old i name ≡ None →
     ContentStandsAt old 0 (8 * i + 2) place → Enters old (set old place (size_of old i + 256)) i (size_of old i / 256) j name kind
 grown old wf zero j kind place name fresh ready form missing stands = absurd (directory_inode old 0 ready.directory refl)
-grown old wf (suc n) j kind place name fresh ready form missing stands = grown_suc old wf n j place name ready stands kind fresh form missing
+grown old wf (suc n) j kind place name fresh ready form missing stands = grown_suc old wf n j place name ready stands form missing kind fresh
+
+pub grown_links : (old : Image) → IsWellFormed old → (i j place : ℕ) (name : Name) → IsReached old j → kind_of old j ≡ 1 → IsReadyBehind old i j name → IsName name → slot_named old i name ≡ None →
+    ContentStandsAt old 0 (8 * i + 2) place → EntersLink old (set old place (size_of old i + 256)) i (size_of old i / 256) j name
+grown_links old wf zero j place name there file ready form missing stands = absurd (directory_inode old 0 ready.directory refl)
+grown_links old wf (suc n) j place name there file ready form missing stands = grown_links_suc old wf n j place name ready stands form missing there file
 
 pub grown_file : (old : Image) → IsWellFormed old → (i j place : ℕ) (name : Name) → IsReadyBehind old i j name → ContentStandsAt old 0 (8 * i + 2) place →
     size_of (set old place (size_of old i + 256)) 0 ≡ size_of old 0

@@ -1,5 +1,5 @@
 -- The cover and the need of a new name with a growth of the inode file: those of the name on the longer file, and the growth.
-use Rattle.std.proofs.Common.{◌≡◌, ℕ, suc, ◌+◌, ◌*◌, List, length, flat_map, true, false, Option, None, Some, refl, sym, ◌∙◌, ap, ap₂, suc-ne-zero, arith}
+use Rattle.std.proofs.Common.{◌≡◌, ℕ, suc, ◌+◌, ◌*◌, List, length, flat_map, Option, None, Some, refl, sym, ◌∙◌, ap, ap₂, suc-ne-zero, arith}
 use Rattle.std.proofs.lemmas.List.{append-nil, length-map}
 use Rattle.bp_layout.specs.Words.{Image, height_of}
 use Rattle.bp_layout.specs.Tree.{node}
@@ -7,6 +7,7 @@ use Rattle.bp_layout.specs.Inode.{kind_of, root_of, size_of}
 use Rattle.bp_layout.specs.Directory.{empty_slot}
 use Rattle.bp_layout.specs.Need.{new_entry, prepared_for, cover, need, prep_count}
 use Rattle.bp_layout.specs.Need.Change.{enters}
+use Rattle.bp_layout.specs.Need.Entrant.{grown, linked}
 use Rattle.bp_layout.specs.Nodes.{height_with, nodes_for}
 use Rattle.bp_layout.specs.Reached.{IsReached}
 use Rattle.bp_layout.specs.WellFormed.{IsWellFormed}
@@ -45,19 +46,19 @@ module _ (old new : Image) (taken : List ℕ) (wf : IsWellFormed old) (adds : Ad
   high : height_of (root_of new 0) ≡ height_with (root_of old 0) (size_of old 0) (size_of old 0 + block_size)
   high = adds.height ∙ ap (height_with (root_of old 0) (size_of old 0)) adds.size
 
-  slot_cover : (s : ℕ) → empty_slot old i ≡ Some s → cover old (enters i false) ≡ cover new (enters i true)
+  slot_cover : (s : ℕ) → empty_slot old i ≡ Some s → cover old (enters i grown) ≡ cover new (enters i linked)
   slot_cover s found =
       growing_slot old wf n reached kind s found
       ∙ ap₂ (λ h r. tree_path h i (suc (height_of r)) (32 * s + 0)) (sym high) (sym root_same)
       ∙ sym (cover_in_slot new i wf_new reached_new kind_new s (slot_same ∙ found))
 
-  size_cover : empty_slot old i ≡ None → cover old (enters i false) ≡ cover new (enters i true)
+  size_cover : empty_slot old i ≡ None → cover old (enters i grown) ≡ cover new (enters i linked)
   size_cover none = growing_size old wf n reached kind none ∙ ap (λ h. inode_path h i 2) (sym high) ∙ sym (cover_behind new i wf_new reached_new kind_new (slot_same ∙ none))
 
-  pub longer_cover : cover old (enters i false) ≡ cover new (enters i true)
+  pub longer_cover : cover old (enters i grown) ≡ cover new (enters i linked)
   longer_cover = go (empty_slot old i) refl
     where
-      go : (found : Option ℕ) → empty_slot old i ≡ found → cover old (enters i false) ≡ cover new (enters i true)
+      go : (found : Option ℕ) → empty_slot old i ≡ found → cover old (enters i grown) ≡ cover new (enters i linked)
       go (Some s) found = slot_cover s found
       go None none = size_cover none
 
@@ -75,8 +76,8 @@ module _ (old new : Image) (taken : List ℕ) (wf : IsWellFormed old) (adds : Ad
           ap length (append-nil (prepared_for image (record { tree = i; from = size_of image i; to = size_of image i + entry_size })))
           ∙ length-map (nodes_for image (root_of image i) (size_of image i) (size_of image i) (size_of image i + entry_size)) _
 
-  pub longer_prep : prep_count new (enters i true) ≡ prep_count old (enters i false)
+  pub longer_prep : prep_count new (enters i linked) ≡ prep_count old (enters i grown)
   longer_prep = ap (λ f. length (flat_map (prepared_for new) (new_entry new i f))) slot_same ∙ entry_same (empty_slot old i)
 
-  pub longer_need : need old (enters i false) ≡ growth_need old + need new (enters i true)
+  pub longer_need : need old (enters i grown) ≡ growth_need old + need new (enters i linked)
   longer_need = omega (arith, longer_prep, growing_copies old wf n reached kind, none_copied new i wf_new reached_new kind_new)

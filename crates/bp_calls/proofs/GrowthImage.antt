@@ -1,5 +1,7 @@
 -- The size of the inode file is stored behind the preparation of one more leaf: what that makes of the image.
-use Rattle.std.proofs.Common.{◌≡◌, ◌≢◌, ℕ, zero, suc, ◌+◌, ◌-◌, ◌*◌, ◌/◌, ◌%◌, List, [], Bool, true, false, refl, sym, ◌∙◌, ap, subst, set, get_or-set_same, get_or-set_other, inl, arith, suc-ne-zero}
+use Rattle.std.proofs.Common.{◌≡◌, ◌≢◌, ℕ, zero, suc, ◌+◌, ◌-◌, ◌*◌, ◌/◌, ◌%◌, ◌<◌, List, [], Bool, true, false, refl, sym, ◌∙◌, ap, subst, set, get_or-set_same, get_or-set_other, inl, arith, suc-ne-zero, ◌≤◌}
+use Rattle.bp_changes.proofs.Formatted.{low_stays}
+use Rattle.bp_layout.specs.Formatted.{version_of}
 use Rattle.std.specs.Prelude.{nat_le, if◌then◌else◌, slice_index}
 use Rattle.std.proofs.lemmas.List.{length-set}
 use Rattle.bp_append.specs.Given.{given}
@@ -11,7 +13,7 @@ use Rattle.bp_layout.specs.Inode.{inode_word, kind_of, root_of, size_of}
 use Rattle.bp_layout.specs.Reached.{IsReached}
 use Rattle.bp_layout.specs.WellFormed.{IsWellFormed}
 use Rattle.bp_layout.proofs.TreeLaws.{KeepsPointers, slot_word-same, word_at-zero, word_at-suc, sound-kept, full-kept, has_block-kept, has_block-stays}
-use Rattle.bp_limits.specs.Limits.{block_size}
+use Rattle.bp_limits.specs.Limits.{block_size, greatest_height}
 use Rattle.bp_calls.specs.Growth.{AddsInodes}
 
 -- ---- a store of the size
@@ -109,6 +111,13 @@ module _ (old mid : Image) (taken : List ℕ) (wf : IsWellFormed old) (ready : P
   sound_new zero reached = rw size_here (sound_here 0 end ready.sound)
   sound_new (suc i) reached = rw (size_stays mid end i) (sound_here (suc i) (size_of mid (suc i)) (ready.meaning.trees.sound (suc i) reached))
 
+  low_new : (t : ℕ) → IsReached old t → 0 < size_of new t → height_of (root_of new t) ≤ greatest_height (version_of new)
+  low_new zero reached some =
+      low_stays mid new (top_word mid end 0 (omega arith)) (root_of new 0) (root_of mid 0) (size_of new 0) (λ _. root_stays mid end 0) (λ _. ready.low) some
+  low_new (suc i) reached some =
+      low_stays mid new (top_word mid end 0 (omega arith)) (root_of new (suc i)) (root_of mid (suc i)) (size_of mid (suc i)) (λ _. root_stays mid end (suc i))
+      (ready.meaning.trees.low (suc i) reached) (subst (λ z. 0 < z) (size_stays mid end i) some)
+
   apart_new : (t u b : ℕ) → IsReached old t → IsReached old u → HasBlock new (root_of new t) (size_of new t) b → HasBlock new (root_of new u) (size_of new u) b → t ≡ u
   apart_new zero zero b one two = λ has also. refl
   apart_new zero (suc u) b one two = λ has also. absurd (ready.apart (suc u) b two (suc-ne-zero u) (other_back u b also) (file_back b has))
@@ -125,6 +134,7 @@ module _ (old mid : Image) (taken : List ℕ) (wf : IsWellFormed old) (ready : P
       whole = length-set mid 3 end ∙ ready.meaning.trees.whole;
       marked = top_word mid end 0 (omega arith) ∙ ready.meaning.trees.marked;
       counted = top_word mid end 1 (omega arith) ∙ ready.meaning.trees.counted;
+      low = low_new;
       sound = sound_new;
       apart = apart_new;
       full_inode_file = rw size_here (full_here 0 end (ready.full (inl refl)));

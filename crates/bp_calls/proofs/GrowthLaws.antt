@@ -14,6 +14,7 @@ use Rattle.bp_layout.proofs.TreeLaws.{word_at-zero, live_pointer_word}
 use Rattle.bp_changes.proofs.ReachedOn.{reached_on}
 use Rattle.bp_changes.proofs.SameMeaning.{reached-back, well_formed-same}
 use Rattle.bp_calls.specs.Growth.{AddsInodes}
+use Rattle.bp_layout.specs.Thaw.{none_kept}
 
 module _ (old new : Image) (taken : List ℕ) (wf : IsWellFormed old) (adds : AddsInodes old new taken) where
   pub longer_well_formed : IsWellFormed new
@@ -83,9 +84,9 @@ module _ (old new : Image) (taken : List ℕ) (wf : IsWellFormed old) (adds : Ad
   longer_taken b took = record { tree = 0; reached = inode_file; has = adds.has_taken b took }
 
   -- what is free now was free, and was not taken
-  pub longer_free : (b : ℕ) → IsFreeBlock new b → IsFreeBlock old b × (Has taken b → ⊥)
+  pub longer_free : (b : ℕ) → IsFreeBlock new none_kept b → IsFreeBlock old none_kept b × (Has taken b → ⊥)
   longer_free b free = (
-    record { low = free.low; high = rw adds.meaning.trees.whole at free.high; free = λ live. free.free (longer_stays b live) },
+    record { low = free.low; high = rw adds.meaning.trees.whole at free.high; free = λ live. free.free (longer_stays b live); loose = free.loose },
     λ took. free.free (longer_taken b took),
   )
 

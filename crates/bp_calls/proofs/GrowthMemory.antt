@@ -18,9 +18,9 @@ use Rattle.bp_layout.specs.Reached.IsReached.{inode_file}
 use Rattle.bp_layout.specs.Same.{Same}
 use Rattle.bp_layout.specs.WellFormed.{IsWellFormed}
 use Rattle.bp_limits.specs.Limits.{block_size, super_size}
-use Rattle.bp_tree.specs.Performs.{AddsTaking}
-use Rattle.bp_tree.specs.Performs.IsOpen.{at_size}
-use Rattle.bp_tree.proofs.PerformsLaws.{same_equivalence, taking_twice}
+use Rattle.bp_commit.specs.Performs.{AddsTaking}
+use Rattle.bp_commit.specs.Performs.IsOpen.{at_size}
+use Rattle.bp_commit.proofs.PerformsLaws.{same_equivalence, taking_twice}
 use Rattle.pm_epochs.specs.declared.event.Event.TheVariants.{Store, Barrier}
 use Rattle.pm_epochs.proofs.MayLaws.{quiet_links}
 use Rattle.pm_epochs.proofs.PieceLaws.{IsPiece-append, IsPiece-barrier, IsPiece-more, IsPiece-store}
@@ -28,9 +28,10 @@ use Rattle.pm_region.specs.Memory.{Memory, Adds, current_words, room_in}
 use Rattle.pm_region.proofs.MemoryLaws.{current_words-adds, room_in-piece}
 use Rattle.bp_calls.specs.Growth.{AddsInodes, GrowsInodes, growth_need, growth_stores}
 use Rattle.bp_calls.proofs.GrowthImage.{adds_inodes}
+use Rattle.bp_layout.specs.Thaw.{none_kept}
 
 -- looser bounds
-taking_more : (taken : List ℕ) (most_barriers most barriers stores : ℕ) (old new : Memory) → most_barriers ≤ barriers → most ≤ stores → AddsTaking taken most_barriers most old new → AddsTaking taken barriers stores old new
+taking_more : (taken : List ℕ) (most_barriers most barriers stores : ℕ) (old new : Memory) → most_barriers ≤ barriers → most ≤ stores → AddsTaking none_kept taken most_barriers most old new → AddsTaking none_kept taken barriers stores old new
 taking_more taken most_barriers most barriers stores old new low few adds = record {
   part = record {
     added = adds.part.added;
@@ -90,7 +91,7 @@ module _ (old middle new : Memory) (free_old free_new : List ℕ) (wf : IsWellFo
       same_transitive mid image (set mid super_size end) (same_symmetric image mid (same-by_meaning image mid wf prepared.ready.meaning))
       (same-by_meaning image (set mid super_size end) wf (adds_inodes image mid prepared.taken wf prepared.ready).meaning)
 
-  size_stored : AddsTaking [] 1 1 middle new
+  size_stored : AddsTaking none_kept [] 1 1 middle new
   size_stored = record {
     part = record {
       added = Store super_size end ∷ Barrier ∷ [];
@@ -118,15 +119,15 @@ module _ (old middle new : Memory) (free_old free_new : List ℕ) (wf : IsWellFo
   live : (b : ℕ) → IsLiveBlock mid b → IsLiveBlock image b ⊎ Has prepared.taken b
   live b is = live_cases is.tree b (reached-back image mid wf prepared.ready.meaning is.tree is.reached) is.has (cases_eq is.tree 0)
 
-  both : AddsTaking (prepared.taken ++ []) (2 + 1) (prep_stores (size_of image 0) (size_of image 0) end (need_for image 0 (size_of image 0) end) + 1) old new
-  both = taking_twice old middle new prepared.taken [] 2 _ 1 1 prepared.adds size_stored live (λ b has. absurd has)
+  both : AddsTaking none_kept (prepared.taken ++ []) (2 + 1) (prep_stores (size_of image 0) (size_of image 0) end (need_for image 0 (size_of image 0) end) + 1) old new
+  both = taking_twice none_kept old middle new prepared.taken [] 2 _ 1 1 prepared.adds size_stored live (λ b has. absurd has)
 
   pub grows : GrowsInodes old new
   grows = record {
     taken = prepared.taken;
     adds = taking_more prepared.taken (2 + 1) _ 3 (growth_stores (length prepared.taken)) old new (omega arith)
         (let few = few_stores (size_of image 0) (need_for image 0 (size_of image 0) end) wf.inode_blocks in rw prepared.counted few)
-        (subst (λ xs. AddsTaking xs (2 + 1) (prep_stores (size_of image 0) (size_of image 0) end (need_for image 0 (size_of image 0) end) + 1) old new) (append-nil prepared.taken) both);
+        (subst (λ xs. AddsTaking none_kept xs (2 + 1) (prep_stores (size_of image 0) (size_of image 0) end (need_for image 0 (size_of image 0) end) + 1) old new) (append-nil prepared.taken) both);
     number = prepared.counted ∙ sym (growth_need_is image);
     grown = grown;
   }

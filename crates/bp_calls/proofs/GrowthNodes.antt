@@ -1,5 +1,5 @@
 -- The nodes that are there once the inode file has one more leaf: those of its tree, and those that are made over and behind it.
-use Rattle.std.proofs.Common.{◌≡◌, ◌≢◌, ◌⊎◌, ℕ, suc, ◌+◌, ◌-◌, ◌*◌, ◌/◌, ◌<◌, ◌≤◌, List, [], ◌∷◌, ◌++◌, map, filter, flat_map, Bool, true, false, not, ◌||◌, nat_le, nat_lt, if◌then◌else◌, refl, sym, ◌∙◌, ap, subst, inl, inr, arith}
+use Rattle.std.proofs.Common.{◌≡◌, ◌≢◌, ◌⊎◌, ℕ, suc, ◌+◌, ◌-◌, ◌*◌, ◌/◌, ◌<◌, ◌≤◌, List, [], ◌∷◌, ◌++◌, map, filter, flat_map, Bool, true, not, ◌||◌, nat_le, nat_lt, if◌then◌else◌, refl, sym, ◌∙◌, ap, subst, inl, inr, arith}
 use Rattle.std.specs.List.{range_with_len, list_any}
 use Rattle.std.proofs.Math.Nat.{div-eq_of_lt}
 use Rattle.std.proofs.lemmas.Bool.{cases_lt, eq-eqb, le-leb, le-ltb, lt-leb, lt-ltb, ne_eqb, or_left, or_right}
@@ -11,6 +11,7 @@ use Rattle.bp_layout.specs.Inode.{root_of, size_of}
 use Rattle.bp_layout.specs.Members.{Has}
 use Rattle.bp_layout.specs.Need.{growth, is_there, prepared_for, preparation, same_node}
 use Rattle.bp_layout.specs.Need.Change.{enters}
+use Rattle.bp_layout.specs.Need.Entrant.{grown}
 use Rattle.bp_layout.specs.Nodes.{TreeNode, height_with, is_present, nodes_for, nodes_over, raised_nodes}
 use Rattle.bp_layout.specs.WellFormed.{IsWellFormed}
 use Rattle.bp_limits.specs.Limits.{block_size}
@@ -69,11 +70,11 @@ module _ (image : Image) (root size to : ℕ) (some : 0 < size) (more : size < t
 
 -- so such a node of the inode file is there once a name is entered with a growth
 pub grown_there : (image : Image) (i level : ℕ) → IsWellFormed image → block_of (root_of image 0) ≢ 0 → height_of (root_of image 0) < level → level ≤ height_with (root_of image 0) (size_of image 0) (size_of image 0 + block_size) →
-    is_there image (enters i false) (0, record { level = level; index = 0 }) ≡ true
+    is_there image (enters i grown) (0, record { level = level; index = 0 }) ≡ true
 grown_there image i level wf top over within =
-    or_right (is_present image (root_of image 0) (size_of image 0) (record { level = level; index = 0 }) || list_any (same_node (0, record { level = level; index = 0 })) (preparation image (enters i false)))
-    (list_any (same_node (0, record { level = level; index = 0 })) (growth image (enters i false)))
-    (any_has (0, record { level = level; index = 0 }) (growth image (enters i false))
+    or_right (is_present image (root_of image 0) (size_of image 0) (record { level = level; index = 0 }) || list_any (same_node (0, record { level = level; index = 0 })) (preparation image (enters i grown)))
+    (list_any (same_node (0, record { level = level; index = 0 })) (growth image (enters i grown)))
+    (any_has (0, record { level = level; index = 0 }) (growth image (enters i grown))
     (has-front (prepared_for image (record { tree = 0; from = size_of image 0; to = size_of image 0 + block_size })) [] (0, record { level = level; index = 0 })
     (has-map (λ n. (0, n)) (nodes_for image (root_of image 0) (size_of image 0) (size_of image 0) (size_of image 0 + block_size)) (record { level = level; index = 0 })
     (made_over image (root_of image 0) (size_of image 0) (size_of image 0 + block_size) (omega (arith, wf.some_inodes)) (omega arith) top level over within))))

@@ -1,8 +1,11 @@
 -- One more leaf of the inode file: what its preparation asks, and what it leaves.
-use Rattle.std.proofs.Common.{◌≡◌, ℕ, suc, ◌+◌, ◌*◌, ◌/◌, ◌<◌, ◌≤◌, [], ◌∷◌, length, refl, sym, ◌∙◌, ap, subst, subst₂, arith}
+use Rattle.std.proofs.Common.{◌≡◌, ℕ, suc, ◌+◌, ◌*◌, ◌/◌, ◌<◌, ◌≤◌, [], ◌∷◌, length, refl, sym, ◌∙◌, ap, subst, subst₂, arith, le_trans}
+use Rattle.bp_limits.specs.declared.version.Version.TheVariants.{One}
+use Rattle.bp_limits.proofs.Versions.{size_least}
+use Rattle.bp_layout.specs.Formatted.{version_of}
 use Rattle.std.proofs.lemmas.List.{length-append}
 use Rattle.bp_append.specs.Prepared.{CanPrepare, PreparesWith, need_for}
-use Rattle.bp_append.proofs.StoresLaws.{behind_whole}
+use Rattle.bp_append.proofs.StoresLaws.{behind_whole, room_behind_whole}
 use Rattle.bp_append.proofs.FewNeeded.{few_needed}
 use Rattle.bp_layout.proofs.FewLeaves.{few_leaves}
 use Rattle.bp_free.specs.Set.{Set, Fills, members}
@@ -10,8 +13,8 @@ use Rattle.bp_layout.specs.Inode.{root_of, size_of}
 use Rattle.bp_layout.specs.Reached.IsReached.{inode_file}
 use Rattle.bp_layout.specs.WellFormed.{IsWellFormed}
 use Rattle.bp_layout.specs.Words.{Image, block_count}
-use Rattle.bp_limits.specs.Limits.{block_size, inode_size, max_blocks, max_height, max_size, super_size}
-use Rattle.bp_tree.specs.Performs.{room_for}
+use Rattle.bp_limits.specs.Limits.{block_size, inode_size, max_blocks, max_height, super_size, greatest_size}
+use Rattle.bp_commit.specs.Performs.{room_for}
 use Rattle.bp_tree.proofs.RegionWords.{length_now}
 use Rattle.bp_layout.specs.WordPaths.{WordPath}
 use Rattle.bp_shapes.specs.Sets.{AreExact}
@@ -22,6 +25,8 @@ use Rattle.bp_calls.specs.Growth.{AddsInodes, CanGrowInodes, GrowsInodes, growth
 use Rattle.bp_calls.proofs.GrowthMemory.{grown, grows, growth_need_is}
 use Rattle.bp_calls.proofs.GrowthSets.{exact_grown}
 use Rattle.bp_calls.proofs.TakenBlocks.{unused_members, usable_members}
+use Rattle.bp_layout.specs.Thaw.{none_kept}
+use Rattle.bp_calls.proofs.Unthawed.{prepared_room_of}
 
 module _ (image : Image) (wf : IsWellFormed image) where
   -- its leaves are different blocks, and block 0 is none of them
@@ -31,13 +36,13 @@ module _ (image : Image) (wf : IsWellFormed image) where
       few_leaves image (root_of image 0) (size_of image 0) (wf.sound 0 inode_file) wf.full_inode_file (omega (arith, wf.formatted.sized.at_least)) (size_of image 0 / 4096) (λ k low. omega (arith, low)) in
       omega (arith, few, wf.inode_blocks)
 
-  pub inodes_end_fits : size_of image 0 + block_size ≤ max_size
+  pub inodes_end_fits : size_of image 0 + block_size ≤ greatest_size One
   inodes_end_fits = omega (arith, inodes_end_low, wf.formatted.sized.at_most)
 
   pub growth_few : growth_need image ≤ 18 + 3 * max_height
   growth_few =
       let few : need_for image 0 (size_of image 0) (size_of image 0 + block_size) ≤ 18 + 3 * max_height =
-      few_needed image (root_of image 0) (size_of image 0) (size_of image 0) (size_of image 0 + block_size) (omega arith) (omega arith) (wf.sound 0 inode_file).low in
+      le_trans (few_needed image (root_of image 0) (size_of image 0) (size_of image 0) (size_of image 0 + block_size) 1 (omega arith) (omega arith) (omega arith) (wf.sound 0 inode_file).low) (omega arith) in
       omega (arith, few, growth_need_is image)
 
 can_prepare : (old : Memory) (blocks inodes : Set) → CanGrowInodes old blocks inodes →
@@ -48,12 +53,13 @@ can_prepare old blocks inodes can = record {
   leads = refl;
   behind = omega arith;
   order = omega arith;
-  fits = inodes_end_fits (current_words old) can.well_formed;
+  fits = le_trans (inodes_end_fits (current_words old) can.well_formed) (size_least (version_of (current_words old)));
   by_words = λ by. refl;
   usable = usable_members (current_words old) blocks inodes can.exact (length old.base / 512) (omega (arith, length_now old));
   unused = unused_members (current_words old) blocks inodes can.exact;
   enough = omega (arith, can.enough, growth_need_is (current_words old));
-  room = omega (arith, growth_need_is (current_words old), can.room);
+  room = prepared_room_of _ _ _ _ (growth_need_is (current_words old))
+      (room_behind_whole (size_of (current_words old) 0) (size_of (current_words old) 0) (size_of (current_words old) 0 + block_size) max_height) can.room;
 }
 
 -- ---- the parts of the growth, by the path and the size that are read
@@ -86,7 +92,7 @@ module _ (old : Memory) (blocks inodes : Set) (path : WordPath) (size : ℕ) (ca
         let left = room_in-piece _ _ old middle prepared.adds.part.added prepared.adds.part.adds prepared.adds.part.piece in
         enough _ _ _ _ left stores (rw (growth_need_is (current_words old)) at can.room)
       where
-        enough : (needed behind room left : ℕ) → room ≤ left + (2 + (512 * needed + behind + 2)) → behind ≤ 512 * suc 3 → room_for needed ≤ room → 2 ≤ left
+        enough : (needed behind room left : ℕ) → room ≤ left + (2 + (512 * needed + behind + 2)) → behind ≤ 512 * suc max_height → room_for needed ≤ room → 2 ≤ left
         enough needed behind room left a b c = omega (arith, a, b, c)
 
     module _ (new : Memory) (stored : Adds middle new (Store super_size (size + block_size) ∷ Barrier ∷ [])) where
@@ -94,7 +100,7 @@ module _ (old : Memory) (blocks inodes : Set) (path : WordPath) (size : ℕ) (ca
       grew = grows old middle new (members blocks) (members after) can.well_formed prepared (subst (λ s. Adds middle new (Store super_size (s + block_size) ∷ Barrier ∷ [])) is stored)
 
       module _ (filled : Set) (room : length after ≡ length blocks) (fills : Fills (size / inode_size) ((size + block_size) / inode_size) inodes filled) where
-        pub exact_behind : AreExact (current_words new) after filled
+        pub exact_behind : AreExact (current_words new) none_kept after filled
         exact_behind =
             exact_grown (current_words old) (current_words new) prepared.taken can.well_formed grown_here blocks after inodes filled can.exact prepared.takes room
             (subst (λ s. Fills (s / inode_size) ((s + block_size) / inode_size) inodes filled) is fills)

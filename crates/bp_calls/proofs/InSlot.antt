@@ -1,50 +1,45 @@
 -- A new inode, a name in an empty entry, and then the inumber.
-use Rattle.std.proofs.Common.{◌≡◌, ◌≢◌, ℕ, ◌+◌, ◌-◌, ◌*◌, ◌/◌, ◌%◌, ◌<◌, ◌≤◌, List, [], suc, true, Some, unwrap_or, ap₂, set, refl, sym, ◌∙◌, ap, subst, arith}
+use Rattle.std.proofs.Common.{◌≡◌, ◌≢◌, ℕ, ◌+◌, ◌-◌, ◌*◌, ◌/◌, ◌%◌, ◌<◌, ◌≤◌, List, [], None, Some, set, refl, sym, ◌∙◌, ap, subst, arith}
 use Rattle.bp_calls.specs.Entered.{IsNewInode, IsReadyEntry}
-use Rattle.bp_calls.specs.Created.{EntersName}
-use Rattle.bp_layout.specs.Need.{cover, need}
+use Rattle.bp_calls.specs.Created.{CountsName, EntersName}
 use Rattle.bp_layout.specs.Need.Change.{enters as gains}
-use Rattle.bp_layout.specs.WordPaths.{address, tree_path}
+use Rattle.bp_layout.specs.Need.Entrant.{taken}
 use Rattle.bp_changes.proofs.AddsNames.{reached_stays}
-use Rattle.bp_tree.specs.Performs.{IsOpen, PerformsWithin}
+use Rattle.bp_commit.specs.Performs.{IsOpen, PerformsWithin}
 use Rattle.bp_calls.specs.Growth.{stores_behind_growth}
-use Rattle.bp_tree.proofs.PerformsLaws.{within_stores, within_more}
 use Rattle.bp_layout.specs.Free.{IsFreeInode}
-use Rattle.bp_calls.proofs.NeedLaws.{cover_in_slot, need_in_slot}
-use Rattle.bp_calls.proofs.OpenPlaces.{content_open, each_weaker, stands_stored, root_word_stays, content_address}
-use Rattle.bp_calls.proofs.StandsLaws.{enters_well_formed, enters_over}
-use Rattle.bp_changes.proofs.ContentStore.{root_stays}
-use Rattle.bp_layout.specs.Directory.{empty_slot}
-use Rattle.bp_layout.specs.Inode.{size_of, ContentStandsAt, root_of, inode_count}
+use Rattle.bp_calls.proofs.OpenPlaces.{content_open}
+use Rattle.bp_calls.proofs.EnteredOver.{adds_over, enters_well_formed, enters_over}
+use Rattle.bp_layout.specs.Directory.{empty_slot, Name, entry_count, slot_named}
+use Rattle.bp_layout.specs.Inode.{ContentStandsAt, root_of, inode_count}
 use Rattle.bp_shapes.specs.Sets.{AreExact}
 use Rattle.bp_calls.specs.Spare.{IsSpare}
-use Rattle.bp_calls.specs.Steps.{CanName}
+use Rattle.bp_calls.specs.Steps.{CanName, name_need}
 use Rattle.bp_dirs.specs.Written.{HasNameAt}
 use Rattle.bp_inodes.specs.Filled.{FillsInode}
 use Rattle.bp_tree.specs.Within.{IsWithin}
 use Rattle.bp_free.specs.Set.{Set, without}
-use Rattle.bp_layout.specs.Directory.{Name, entry_count, inumber_at, slot_named}
 use Rattle.bp_layout.specs.Fields.{kind_word}
 use Rattle.bp_layout.specs.Reached.{IsReached}
-use Rattle.bp_layout.proofs.Reached.{reached-in_file}
 use Rattle.bp_layout.specs.Reached.IsReached.{inode_file}
 use Rattle.bp_layout.specs.Tree.{node}
 use Rattle.bp_layout.specs.WellFormed.{IsWellFormed}
 use Rattle.bp_layout.specs.Words.{Image, height_of}
 use Rattle.bp_layout.specs.declared.fields.Kind.{Kind}
 use Rattle.pm_epochs.specs.Crash.{commit}
-use Rattle.pm_epochs.specs.May.{AnyAt, EachMay}
+use Rattle.pm_epochs.specs.May.{AnyAt}
 use Rattle.pm_region.specs.Memory.{Memory, current_words, Adds}
 use Rattle.pm_region.specs.Safe.{AddsMay}
-use Rattle.pm_region.proofs.MayLaws.{may_twice, may_weaker, each_after}
-use Rattle.pm_region.proofs.MemoryLaws.{current_words-adds}
-use Rattle.bp_calls.proofs.AfterLaws.{prepared_well_formed, prepared_same, kind_after, size_after, reached_after, slot_named_after}
+use Rattle.pm_region.proofs.MayLaws.{may_twice, may_weaker}
 use Rattle.bp_calls.proofs.EnteredLaws.{Enters, entered}
 use Rattle.bp_calls.proofs.Refusals.{found_empty}
-use Rattle.bp_calls.proofs.ReadBack.{name_read, inode_stays, new_inode}
+use Rattle.bp_calls.proofs.ReadBack.{inode_stays, new_inode}
 use Rattle.bp_calls.proofs.SetLaws.{exact_prepared, exact_entered}
-use Rattle.bp_calls.proofs.Spares.{no_inode_file, row_stands, one_content, spare_inode, spare_entry}
-use Rattle.bp_calls.proofs.Trees.{SameTrees, spare_trees, word_kept, stands_kept}
+use Rattle.bp_calls.proofs.Spares.{no_inode_file, row_stands, one_content, spare_inode}
+use Rattle.bp_calls.proofs.Trees.{SameTrees}
+use Rattle.bp_layout.specs.Thaw.{none_kept}
+use Rattle.bp_changes.proofs.Named.{added_counts}
+use Rattle.bp_calls.proofs.SlotStores.{IsHidden, name_hidden, slot_committed, slot_entry, slot_is, slot_mid, slot_missing, slot_ready, slot_trees, slot_within}
 
 -- the row of an inode's words
 pub inode_row : (image : Image) (j at : ℕ) → ContentStandsAt image 0 (8 * j) at → ContentStandsAt image 0 (8 * j + 0) at
@@ -59,15 +54,15 @@ inode_spare image wf j at free stands p v inside =
     spare_inode image wf j f p free (omega arith) (row_stands image 0 (8 * j + 0) f (8 * j + f) at p (omega arith) (omega arith) (omega arith) stands)
 
 -- where the file has its words: nobody reads them, and they are in a live block
-pub inode_inside : (image : Image) → IsWellFormed image → (j at : ℕ) (taken : List ℕ) → IsFreeInode image j → ContentStandsAt image 0 (8 * j + 0) at → (p v : ℕ) → AnyAt (IsWithin at 3) p v →
-    AnyAt (λ q. IsSpare image q × IsOpen image taken q) p v
-inode_inside image wf j at taken free stands p v inside =
+pub inode_inside : (image : Image) → IsWellFormed image → (j at : ℕ) (took : List ℕ) → IsFreeInode image j → ContentStandsAt image 0 (8 * j + 0) at → (p v : ℕ) → AnyAt (IsWithin at 3) p v →
+    AnyAt (λ q. IsSpare image q × IsOpen image none_kept took q) p v
+inode_inside image wf j at took free stands p v inside =
     let low : at ≤ p = inside.low in
     let high : p < at + 3 = inside.high in
     let f : ℕ = p - at in
     let in_file : j < inode_count image = free.high in (
       inode_spare image wf j at free stands p v inside,
-      content_open image taken 0 (8 * j + f) p inode_file (omega (arith, in_file)) (row_stands image 0 (8 * j + 0) f (8 * j + f) at p (omega arith) (omega arith) (omega arith) stands),
+      content_open image took 0 (8 * j + f) p inode_file (omega (arith, in_file)) (row_stands image 0 (8 * j + 0) f (8 * j + f) at p (omega arith) (omega arith) (omega arith) stands),
     )
 
 -- an entry of a tree that was read from an inode
@@ -96,45 +91,34 @@ module _ (first second third last : Memory) (i s j entry : ℕ) (name : Name) (k
   in_size : s < entry_count image i
   in_size = (found_empty image i s found).0
 
-  empty : inumber_at image i s ≡ 0
-  empty = (found_empty image i s found).1
-
   wf : IsWellFormed image
   wf = can.lacks.well_formed
 
   reached : IsReached image i
   reached = can.lacks.reached
 
-  not_file : i ≢ 0
-  not_file = no_inode_file image i 2 can.lacks.directory (omega arith)
-
-  word_stands : (f : ℕ) → f < 32 → ContentStandsAt image i (32 * s + f) (entry + f)
-  word_stands f few = row_stands image i (32 * s + 0) f (32 * s + f) entry (entry + f) (omega arith) refl (omega (arith, few)) entry_at
-
-  abbrev Inside : ℕ → Type 0
-  Inside p = IsSpare image p × IsOpen image [] p
-
-  name_inside : (p v : ℕ) → AnyAt (IsWithin (entry + 1) 31) p v → AnyAt Inside p v
-  name_inside p v inside =
-      let low : entry + 1 ≤ p = inside.low in
-      let high : p < entry + 1 + 31 = inside.high in
-      let f : ℕ = p - entry in
-      let stands : ContentStandsAt image i (32 * s + f) p = row_stands image i (32 * s + 0) f (32 * s + f) entry p (omega arith) (omega arith) (omega arith) entry_at in
-      (spare_entry image wf i s f p reached can.lacks.directory in_size empty (omega arith) (omega arith) stands, content_open image [] i (32 * s + f) p reached (omega (arith, in_size)) stands)
-
-  all_inside : AddsMay (AnyAt Inside) 0 34 first third
-  all_inside = may_twice (AnyAt Inside) 0 3 first 0 31 second third
-      (may_weaker (AnyAt (IsWithin at 3)) (AnyAt Inside) 0 3 first second (inode_inside image wf j at [] can.free inode_at) filled.stores)
-      (may_weaker (AnyAt (IsWithin (entry + 1) 31)) (AnyAt Inside) 0 31 second third name_inside spells)
-
-  trees_of : (other : Image) → EachMay (AnyAt Inside) image other → SameTrees image other
-  trees_of other all = spare_trees image other wf (each_weaker Inside (IsSpare image) image other (λ p both. both.0) all)
+  all_hidden : AddsMay (AnyAt (IsHidden image)) 0 34 first third
+  all_hidden = may_twice (AnyAt (IsHidden image)) 0 3 first 0 31 second third
+      (may_weaker (AnyAt (IsWithin at 3)) (AnyAt (IsHidden image)) 0 3 first second (inode_inside image wf j at [] can.free inode_at) filled.stores)
+      (may_weaker (AnyAt (IsWithin (entry + 1) 31)) (AnyAt (IsHidden image)) 0 31 second third (name_hidden image wf i s entry reached can.lacks.directory found entry_at) spells)
 
   trees : SameTrees image mid
-  trees = trees_of mid (each_after (AnyAt Inside) 0 34 first third all_inside)
+  trees = slot_trees first third last i s j entry 34 name can.lacks found entry_at all_hidden named commits
 
   mid_well_formed : IsWellFormed mid
-  mid_well_formed = prepared_well_formed image mid wf trees.prepared
+  mid_well_formed = slot_mid first third last i s j entry 34 name can.lacks found entry_at all_hidden named commits
+
+  ready : IsReadyEntry mid i s name
+  ready = slot_ready first third last i s j entry 34 name can.lacks found entry_at all_hidden named commits
+
+  missing : slot_named mid i name ≡ None
+  missing = slot_missing first third last i s j entry 34 name can.lacks found entry_at all_hidden named commits
+
+  mid_entry : ContentStandsAt mid i (32 * s + 0) entry
+  mid_entry = slot_entry first third last i s j entry 34 name can.lacks found entry_at all_hidden named commits
+
+  committed : current_words last ≡ set mid entry j
+  committed = slot_committed first third last i s j entry 34 name can.lacks found entry_at all_hidden named commits
 
   -- no word of the inode is one of the entry
   apart : (p : ℕ) → at ≤ p → p < at + 3 → IsWithin (entry + 1) 31 p → ⊥
@@ -147,83 +131,29 @@ module _ (first second third last : Memory) (i s j entry : ℕ) (name : Name) (k
       let same = one_content image wf i (32 * s + g) 0 (8 * j + f) p reached inode_file (omega (arith, in_size)) (omega (arith, in_file))
       (row_stands image i (32 * s + 0) g (32 * s + g) entry p (omega arith) (omega arith) (omega arith) entry_at)
       (row_stands image 0 (8 * j + 0) f (8 * j + f) at p (omega arith) (omega arith) (omega arith) inode_at) in
-      not_file same.0
+      no_inode_file image i 2 can.lacks.directory (omega arith) same.0
 
   fresh : IsNewInode mid j (kind_word kind)
   fresh = new_inode image mid wf trees j at kind can.free inode_at (inode_stays second third at (entry + 1) 31 31 (kind_word kind) spells apart filled.inode)
 
-  ready : IsReadyEntry mid i s name
-  ready = record {
-    reached = reached_after image mid wf trees.prepared i reached;
-    directory = kind_after image mid wf trees.prepared i reached ∙ can.lacks.directory;
-    slot = rw (size_after image mid wf trees.prepared i reached) in_size;
-    empty = trees.prepared.meaning.inumber i s reached can.lacks.directory in_size ∙ empty;
-    spelled = name_read mid (root_of mid i) s entry name can.lacks.form.short named
-        (λ f some few. word_kept image mid trees i (32 * s + f) (entry + f) reached (omega (arith, in_size, few)) (word_stands f few));
-  }
+  enters : Enters mid (set mid entry j) i s j name (kind_word kind)
+  enters = entered mid mid_well_formed i s j entry name ready can.lacks.form missing mid_entry (kind_word kind) fresh
 
-  missing : slot_named mid i name ≡ slot_named image i name
-  missing = slot_named_after image mid wf trees.prepared i name reached can.lacks.directory
+  effect : EntersName i name kind image (current_words last)
+  effect =
+      subst (λ w. EntersName i name kind image w) (sym committed)
+      (enters_over image mid (set mid entry j) wf trees.prepared.meaning i s j name kind can.free (slot_is first third last i s j entry 34 name can.lacks found entry_at all_hidden named commits) enters)
 
-  mid_entry : ContentStandsAt mid i (32 * s + 0) entry
-  mid_entry = stands_kept image mid trees i (32 * s + 0) entry reached (omega (arith, in_size)) entry_at
-
-  committed : current_words last ≡ set mid entry j
-  committed = current_words-adds third last (commit entry j) commits
-
-  enters : Enters mid (current_words last) i s j name (kind_word kind)
-  enters = subst (λ w. Enters mid w i s j name (kind_word kind)) (sym committed) (entered mid mid_well_formed i s j (kind_word kind) entry name fresh ready can.lacks.form (missing ∙ can.lacks.missing) mid_entry)
-
-  -- ---- the cover
-
-  abbrev after : Image
-  after = set mid entry j
-
-  entered_after : Enters mid after i s j name (kind_word kind)
-  entered_after = entered mid mid_well_formed i s j (kind_word kind) entry name fresh ready can.lacks.form (missing ∙ can.lacks.missing) mid_entry
-
-  after_well_formed : IsWellFormed after
-  after_well_formed = enters_well_formed mid after mid_well_formed i s j (kind_word kind) name entered_after
-
-  mid_reached : IsReached mid i
-  mid_reached = reached_after image mid wf trees.prepared i reached
-
-  below : 8 * (32 * s + 0) < size_of image i
-  below = omega (arith, in_size)
-
-  mid_below : 8 * (32 * s + 0) < size_of mid i
-  mid_below = let stays : size_of mid i ≡ size_of image i = size_after image mid wf trees.prepared i reached in omega (arith, below, stays)
-
-  in_file : i < inode_count image
-  in_file = reached-in_file image wf i reached
-
-  mid_in_file : i < inode_count mid
-  mid_in_file = reached-in_file mid mid_well_formed i mid_reached
-
-  root_after : root_of after i ≡ root_of image i
-  root_after = root_stays mid mid_well_formed i (32 * s + 0) entry j mid_reached not_file mid_below mid_entry i mid_in_file ∙ trees.root i reached (omega (arith, below))
-
-  top_after : root_of after 0 ≡ root_of image 0
-  top_after = root_word_stays mid mid_well_formed i (32 * s + 0) entry j mid_reached mid_below mid_entry ∙ trees.root 0 inode_file (omega (arith, in_file))
-
-  covered_after : address after (cover image (gains i true)) ≡ entry
-  covered_after =
-      ap (address after) (cover_in_slot image i wf reached can.lacks.directory s found ∙ ap₂ (λ h k. tree_path (height_of h) i (suc (height_of k)) (32 * s + 0)) (sym top_after) (sym root_after))
-      ∙ content_address after after_well_formed i (32 * s + 0) entry (reached_stays mid after mid_well_formed i s j entered_after.adds i mid_reached)
-      (stands_stored mid mid_well_formed i (32 * s + 0) entry j mid_reached mid_below mid_entry
-      (root_stays mid mid_well_formed i (32 * s + 0) entry j mid_reached not_file mid_below mid_entry i mid_in_file))
-
-  in_two : PerformsWithin 2 35 first last (gains i true) (EntersName i name kind)
-  in_two = within_stores first last (gains i true) (EntersName i name kind) (AnyAt Inside) 34 third entry j [] (λ other all. prepared_same image other wf (trees_of other all).prepared) all_inside commits tt tt tt
-      (λ p v both. both.1) (sym (subst (λ w. address w (cover image (gains i true)) ≡ entry) (sym committed) covered_after)) (sym (need_in_slot image i wf reached can.lacks.directory s found))
-      (content_open image [] i (32 * s + 0) entry reached (omega (arith, in_size)) entry_at) (subst IsWellFormed (sym committed) after_well_formed)
-      (enters_over image mid (current_words last) wf trees.prepared.meaning i s j name kind can.free (sym (ap (λ o. unwrap_or o (entry_count image i)) found)) enters)
-
-  pub slot_performs : PerformsWithin 5 (stores_behind_growth (need image (gains i true))) first last (gains i true) (EntersName i name kind)
+  pub slot_performs : PerformsWithin none_kept (name_need image i) 5 (stores_behind_growth (name_need image i)) first last (gains i (taken j)) (EntersName i name kind)
   slot_performs =
-      within_more 2 35 first last (gains i true) (EntersName i name kind) in_two 5 (stores_behind_growth (need image (gains i true))) (omega arith) (omega arith)
+      slot_within first third last i s j entry 34 name can.lacks found entry_at all_hidden named commits (gains i (taken j)) (EntersName i name kind) (omega arith) refl refl
+      (enters_well_formed mid (set mid entry j) mid_well_formed i s j (kind_word kind) name enters) (reached_stays mid (set mid entry j) mid_well_formed i s j enters.adds i ready.reached) effect
 
-  pub slot_exact : (blocks inodes : Set) → AreExact image blocks inodes → AreExact (current_words last) blocks (without inodes j)
+  pub slot_exact : (blocks inodes : Set) → AreExact image none_kept blocks inodes → AreExact (current_words last) none_kept blocks (without inodes j)
   slot_exact blocks inodes exact =
-      subst (λ w. AreExact w blocks (without inodes j)) (sym committed)
-      (exact_entered mid mid_well_formed i s j (kind_word kind) entry name fresh ready can.lacks.form (missing ∙ can.lacks.missing) mid_entry blocks inodes (exact_prepared image mid wf trees.prepared blocks inodes exact))
+      subst (λ w. AreExact w none_kept blocks (without inodes j)) (sym committed)
+      (exact_entered mid mid_well_formed i s j entry name ready can.lacks.form missing mid_entry blocks inodes (exact_prepared image mid wf trees.prepared blocks inodes exact) (kind_word kind) fresh)
+
+  pub slot_counts : CountsName image (current_words last) j
+  slot_counts = subst (λ w. CountsName image w j) (sym committed)
+      (λ counts are. added_counts image (set mid entry j) wf i s j (adds_over image mid (set mid entry j) wf trees.prepared.meaning i s j enters.adds) counts are)

@@ -1,21 +1,23 @@
 -- A name leaves its directory by a store of 0 to its inumber, and the blocks and the number of its inode come back.
-use Rattle.std.proofs.Common.{◌≡◌, ◌≢◌, ◌⊎◌, ℕ, suc, ◌+◌, ◌*◌, ◌/◌, ◌%◌, ◌<◌, ◌≤◌, [], length, set, true, false, refl, sym, ◌∙◌, ap, ap₂, subst, arith, inl, inr}
-use Rattle.std.proofs.lemmas.Bool.{cases_Bool}
+use Rattle.std.proofs.Common.{◌≡◌, ◌≢◌, ◌⊎◌, ℕ, suc, ◌+◌, ◌*◌, ◌/◌, ◌%◌, ◌<◌, ◌≤◌, List, [], length, set, slice_index, true, false, refl, sym, ◌∙◌, ap, ap₂, subst, arith, inl, inr}
+use Rattle.std.proofs.lemmas.Bool.{cases_Bool, cases_eq}
 use Rattle.std.proofs.lemmas.List.{length-set}
 use Rattle.bp_calls.specs.GivenBack.{GivesBack}
 use Rattle.bp_calls.proofs.GivenUpLaws.{gives_as}
 use Rattle.bp_calls.proofs.OpenPlaces.{content_address, content_open, root_word_stays, stands_stored}
 use Rattle.bp_calls.proofs.ReadingLaws.{few_inode}
 use Rattle.bp_calls.proofs.Shorter.{CanGiveBack}
-use Rattle.bp_changes.specs.Effects.{CanUnlink, RemovesEntry}
+use Rattle.bp_changes.specs.Effects.{CanUnlink, HasOtherName, IsLastName, KeepsBlocks, RemovesEntry}
 use Rattle.bp_changes.proofs.ContentStore.{pointers_stay, root_stays}
-use Rattle.bp_changes.proofs.LinkInPlace.{store_removes}
-use Rattle.bp_changes.proofs.Unlink.{reached_stays, unlinked_well_formed}
+use Rattle.bp_changes.proofs.LinkInPlace.{store_blocks, store_removes}
+use Rattle.bp_changes.proofs.Named.{removed_counts}
+use Rattle.bp_changes.proofs.Unlink.{reached_back, reached_stays, unlinked_well_formed}
 use Rattle.bp_free.specs.Set.{Set, has, with}
 use Rattle.bp_free.proofs.Members.{has_with_other, has_with_same}
 use Rattle.bp_layout.proofs.FewLeaves.{few_inodes}
 use Rattle.bp_layout.specs.Directory.{EntryNames, inumber_at, inumber_in}
 use Rattle.bp_layout.specs.Inode.{ContentStandsAt, inode_count, kind_of, root_of, size_of}
+use Rattle.bp_layout.specs.Names.{AreCounts}
 use Rattle.bp_layout.specs.Need.{Change, copied, cover, entry_path, is_there_after, need}
 use Rattle.bp_layout.specs.Need.Change.{leaves}
 use Rattle.bp_layout.specs.Reached.{IsReached}
@@ -31,14 +33,17 @@ use Rattle.bp_layout.proofs.TreeLaws.{KeepsPointers, has_block-kept, has_block-s
 use Rattle.bp_shapes.specs.Freed.{IsGivenUp}
 use Rattle.bp_shapes.specs.Sets.{AreExact}
 use Rattle.bp_shapes.proofs.Freed.{freed_blocks, remove_frees, removed_inode}
-use Rattle.bp_tree.specs.Performs.{Performs}
+use Rattle.bp_commit.specs.Performs.{Performs}
 use Rattle.bp_tree.proofs.ExistingPaths.{AllThere, content_path-there, copied-one, cover-one}
-use Rattle.bp_tree.proofs.PerformsLaws.{performs_committed, takes_none}
+use Rattle.bp_commit.proofs.PerformsLaws.{performs_committed, takes_none}
 use Rattle.pm_epochs.specs.Crash.{commit}
 use Rattle.pm_epochs.proofs.CrashLaws.{quiet_none}
 use Rattle.pm_epochs.proofs.PieceLaws.{IsPiece-commit}
 use Rattle.pm_region.specs.Memory.{Adds, Memory, current_words}
 use Rattle.pm_region.proofs.MemoryLaws.{current_words-adds}
+use Rattle.bp_layout.specs.Thaw.{none_kept}
+use Rattle.bp_calls.proofs.Unthawed.{unthawed}
+use Rattle.bp_calls.proofs.SetLaws.{free_blocks_stay, free_inodes_stay}
 
 -- an entry that may go, and where its inumber stands
 pub record CanLeave (image : Image) (i s j place : ℕ) : Type 0 where
@@ -94,7 +99,7 @@ module _ (image : Image) (i s j place : ℕ) (can : CanLeave image i s j place) 
   pub named_reached : IsReached image j
   named_reached = named s reached entry
 
-  pub named_few : j < 1048576
+  pub named_few : j < 4194304
   named_few = few_inode image wf j (wf.inumbers i s j reached entry)
 
   removes : RemovesEntry image last i s
@@ -138,7 +143,8 @@ module _ (image : Image) (i s j place : ℕ) (can : CanLeave image i s j place) 
   gone_on : (b : ℕ) → HasBlock image root size b → IsGivenUp last root size 0 b
   gone_on b has = record { has = has_block-stays image last root size keeps b has; past = omega arith }
 
-  module _ (blocks inodes : Set) (exact : AreExact image blocks inodes) where
+  -- where it is the last name of its inode, the blocks and the number come back
+  module _ (blocks inodes : Set) (exact : AreExact image none_kept blocks inodes) where
     can_give_blocks : CanGiveBack last root size blocks
     can_give_blocks = record {
       sound = sound-kept image last root size keeps (length-set image place 0) (wf.sound j named_reached);
@@ -163,41 +169,92 @@ module _ (image : Image) (i s j place : ℕ) (can : CanLeave image i s j place) 
         go (inl is) = absurd ((exact.free_inodes.free j is).free named_reached)
         go (inr not) = not
 
-    exact_last : (after : Set) → GivesBack (IsGivenUp last root size 0) blocks after → AreExact last after (with inodes j)
-    exact_last after gives = record {
+    exact_last : IsLastName image i s j → (after : Set) → GivesBack (IsGivenUp last root size 0) blocks after → AreExact last none_kept after (with inodes j)
+    exact_last last_name after gives = record {
       block_room = rw (length-set image place 0) (gives.room ∙ exact.block_room);
       inode_room = rw (length-set image place 0) (length-set inodes j true ∙ exact.inode_room);
-      free_blocks = freed_blocks image last wf (length-set image place 0) (HasBlock image root size) (remove_frees image wf i s j place can.unlink can.stands) (has blocks) (has after) exact.free_blocks told.only told.still told.given;
-      free_inodes = removed_inode image last wf i s j can.unlink removes (has inodes) (has (with inodes j)) exact.free_inodes (has_with_same inodes j inode_in_room) (has_with_other inodes j);
+      free_blocks = freed_blocks image last wf (length-set image place 0) (HasBlock image root size) (remove_frees image wf i s j place can.unlink last_name can.stands) none_kept (has blocks) (has after) exact.free_blocks
+          (λ b is. elim (told.only b is) [ inl was ↦ inl was | inr gone ↦ inr (gone, refl) ]) told.still (λ b gone loose. told.given b gone);
+      free_inodes = removed_inode image last wf i s j can.unlink removes last_name (has inodes) (has (with inodes j)) exact.free_inodes (has_with_same inodes j inode_in_room) (has_with_other inodes j);
     }
       where
         told : GivesBack (HasBlock image root size) blocks after
         told = gives_as (IsGivenUp last root size 0) (HasBlock image root size) blocks after gone_back gone_on gives
 
+  -- ---- where it has another name all stays
+
+  module _ (more : HasOtherName image i s j) where
+    still_named : EntryNames last more.directory more.slot j
+    still_named =
+        let inside : more.directory < inode_count image = reached-in_file image wf more.directory more.reached in
+        record {
+          directory = removes.kind more.directory inside ∙ more.names.directory;
+          in_size = subst (λ z. more.slot < z / 256) (sym (removes.size more.directory inside)) more.names.in_size;
+          inumber = removes.entry more.directory more.slot 0 more.reached more.names.directory more.names.in_size (omega arith) (λ e same. more.other (sym e) (omega (arith, same))) ∙ more.names.inumber;
+          not_empty = more.names.not_empty;
+        }
+
+    still_reached : (t : ℕ) → IsReached image t → IsReached last t
+    still_reached t was = go (cases_eq t j)
+      where
+        not_itself : more.directory ≡ j → ⊥
+        not_itself e = can.unlink.alone more.slot j (subst (λ x. EntryNames image x more.slot j) e more.names)
+
+        go : (t ≡ j) ⊎ (t ≡ j → ⊥) → IsReached last t
+        go (inl e) = subst (IsReached last) (sym e) (named more.slot (reached_stays image last wf i s j can.unlink removes more.directory more.reached not_itself) still_named)
+        go (inr differ) = reached_stays image last wf i s j can.unlink removes t was differ
+
+    blocks_kept : KeepsBlocks image last
+    blocks_kept = store_blocks image wf i s 0 place reached entry.directory entry.in_size can.stands
+
+    exact_named : (blocks inodes : Set) → AreExact image none_kept blocks inodes → AreExact last none_kept blocks inodes
+    exact_named blocks inodes exact = record {
+      block_room = rw (length-set image place 0) exact.block_room;
+      inode_room = rw (length-set image place 0) exact.inode_room;
+      free_blocks = free_blocks_stay image last (has blocks) (length-set image place 0)
+          (λ b live. let was : IsReached image live.tree = before live.tree live.reached in record { tree = live.tree; reached = was; has = blocks_kept.back live.tree b was live.has })
+          (λ b live. record { tree = live.tree; reached = still_reached live.tree live.reached; has = blocks_kept.stay live.tree b live.reached live.has }) exact.free_blocks;
+      free_inodes = free_inodes_stay image last (has inodes) (removes.size 0 (reached-in_file image wf 0 inode_file)) before still_reached exact.free_inodes;
+    }
+      where
+        before : (t : ℕ) → IsReached last t → IsReached image t
+        before = reached_back image last wf i s j can.unlink removes
+
 module _ (old new : Memory) (i s j place : ℕ) (can : CanLeave (current_words old) i s j place) (adds : Adds old new (commit place 0)) where
   stored : current_words new ≡ set (current_words old) place 0
   stored = current_words-adds old new (commit place 0) adds
 
-  pub leaving_performs : Performs old new (leaves i s) (λ image after. RemovesEntry image after i s)
+  pub leaving_performs : Performs none_kept old new (leaves i s) (λ image after. RemovesEntry image after i s)
   leaving_performs =
-      performs_committed old new (leaves i s) (λ image after. RemovesEntry image after i s) place 0 2 1 []
+      unthawed old new (leaves i s) (λ image after. RemovesEntry image after i s)
+      (performs_committed none_kept old new (leaves i s) (λ image after. RemovesEntry image after i s) place 0 2 1 []
       (record {
         prepared = [];
         adds = adds;
         quiet = quiet_none Same (current_words old) (same_self (current_words old) can.well_formed);
         piece = IsPiece-commit place 0;
       })
-      (takes_none (current_words old))
+      (takes_none (current_words old) none_kept)
       (rw stored (sym (at_cover (current_words old) i s j place can)))
       (omega arith) (omega arith)
       (sym (none_leaving (current_words old) can.well_formed i s j can.unlink.reached can.unlink.entry))
       (content_open (current_words old) [] i (32 * s + 0) place can.unlink.reached (omega (arith, can.unlink.entry.in_size)) can.stands)
       (rw stored (last_well_formed (current_words old) i s j place can))
-      (rw stored (removes (current_words old) i s j place can))
+      (rw stored (removes (current_words old) i s j place can)))
 
-  module _ (blocks inodes : Set) (exact : AreExact (current_words old) blocks inodes) where
+  module _ (blocks inodes : Set) (exact : AreExact (current_words old) none_kept blocks inodes) where
     pub can_give : CanGiveBack (current_words new) (root_of (current_words old) j) (size_of (current_words old) j) blocks
     can_give = rw stored (can_give_blocks (current_words old) i s j place can blocks inodes exact)
 
-    pub leaving_exact : (after : Set) → GivesBack (IsGivenUp (current_words new) (root_of (current_words old) j) (size_of (current_words old) j) 0) blocks after → AreExact (current_words new) after (with inodes j)
-    leaving_exact after gives = rw stored (exact_last (current_words old) i s j place can blocks inodes exact after (rw stored at gives))
+    pub leaving_exact : IsLastName (current_words old) i s j → (after : Set) → GivesBack (IsGivenUp (current_words new) (root_of (current_words old) j) (size_of (current_words old) j) 0) blocks after → AreExact (current_words new) none_kept after (with inodes j)
+    leaving_exact last_name after gives = rw stored (exact_last (current_words old) i s j place can blocks inodes exact last_name after (rw stored at gives))
+
+    pub named_exact : HasOtherName (current_words old) i s j → AreExact (current_words new) none_kept blocks inodes
+    named_exact more = rw stored (exact_named (current_words old) i s j place can more blocks inodes exact)
+
+  pub leaving_counts : (counts : List ℕ) → AreCounts (current_words old) counts → j < length counts → (rest : ℕ) → slice_index counts j ≡ rest + 1 → AreCounts (current_words new) (set counts j rest)
+  leaving_counts counts are low rest is = rw stored
+      (removed_counts (current_words old) (set (current_words old) place 0) can.well_formed i s j can.unlink (removes (current_words old) i s j place can) counts are low rest is)
+
+  pub leaving_whole : length (current_words new) ≡ length (current_words old)
+  leaving_whole = rw stored (length-set (current_words old) place 0)

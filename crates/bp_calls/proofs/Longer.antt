@@ -7,7 +7,7 @@ use Rattle.bp_append.specs.Given.{given}
 use Rattle.bp_append.specs.Prepared.{CanPrepare, PreparesWith, need_for}
 use Rattle.bp_append.proofs.GrownEffect.{grown_changes, grown_bytes, grown_live, grown_stays, grown_taken}
 use Rattle.bp_append.proofs.GrowsTree.{OnlyGrows, GrowsTree, only_need, grown_performs, grown_size}
-use Rattle.bp_append.proofs.StoresLaws.{behind_whole}
+use Rattle.bp_append.proofs.StoresLaws.{behind_whole, room_behind_whole}
 use Rattle.bp_calls.specs.CanGrow.{CanGrowFile}
 use Rattle.bp_calls.specs.Resized.{ResizesFile}
 use Rattle.bp_calls.specs.Space.{LacksSpace}
@@ -21,11 +21,13 @@ use Rattle.bp_layout.specs.WordPaths.{WordPath, inode_path}
 use Rattle.bp_layout.specs.Words.{Image, height_of}
 use Rattle.bp_limits.specs.Limits.{max_height}
 use Rattle.bp_shapes.specs.Sets.{AreExact}
-use Rattle.bp_tree.specs.Performs.{HasRoomFor, Performs}
+use Rattle.bp_commit.specs.Performs.{Performs}
 use Rattle.bp_tree.proofs.RegionWords.{length_now}
 use Rattle.pm_epochs.specs.Crash.{commit}
 use Rattle.pm_region.specs.Memory.{Memory, Adds, current_words, room_in}
 use Rattle.pm_region.proofs.MemoryLaws.{base-adds, room_in-piece}
+use Rattle.bp_layout.specs.Thaw.{none_kept}
+use Rattle.bp_calls.proofs.Unthawed.{lacks_thawed, room_asked, unthawed, prepared_room_of}
 
 only_grows : (image : Image) (i size : ℕ) → size_of image i < size → OnlyGrows image (resizes i size) i size size
 only_grows image i size longer = record { prepares = rw (lt-ltb (size_of image i) size longer) refl; no_inodes = refl; touches = refl }
@@ -45,12 +47,9 @@ module _ (old : Memory) (blocks inodes : Set) (n size : ℕ) (can : CanGrowFile 
   needs : need image (resizes (suc n) size) ≡ need_for image (suc n) size size
   needs = only_need image (resizes (suc n) size) n size size can.well_formed can.reached (only_grows image (suc n) size can.longer)
 
-  no_space : (needed free : ℕ) → needed ≡ need_for image (suc n) size size → free ≡ length (members blocks) → free < needed → LacksSpace image (resizes (suc n) size) (record { need = needed; free = free })
-  no_space needed free is count fewer = record {
-    needed = needs ∙ sym is;
-    free = rw count (free_members image blocks can.exact.free_blocks can.exact.block_room);
-    fewer = fewer;
-  }
+  no_space : (needed free : ℕ) → needed ≡ need_for image (suc n) size size → free ≡ length (members blocks) → free < needed → LacksSpace image none_kept (resizes (suc n) size) (record { need = needed; free = free })
+  no_space needed free is count fewer =
+      lacks_thawed image (resizes (suc n) size) needed free (needs ∙ sym is) (rw count (free_members image none_kept blocks can.exact.free_blocks can.exact.block_room)) fewer
 
   can_prepare : (path : WordPath) → path ≡ inode_path (height_of (root_of image 0)) (suc n) 1 → need_for image (suc n) size size ≤ length (members blocks) → CanPrepare old (members blocks) (suc n) path size size
   can_prepare path leads enough = record {
@@ -64,7 +63,8 @@ module _ (old : Memory) (blocks inodes : Set) (n size : ℕ) (can : CanGrowFile 
     usable = usable_members image blocks inodes can.exact (length old.base / 512) (omega (arith, length_now old));
     unused = unused_members image blocks inodes can.exact;
     enough = enough;
-    room = let room = can.room (omega (arith, needs, enough)) in omega (arith, needs, room);
+    room = let room = room_asked old blocks (resizes (suc n) size) can.room (omega (arith, needs, enough)) in
+        prepared_room_of _ _ _ _ needs (room_behind_whole (size_of image (suc n)) size size max_height) room;
   }
 
   -- behind the preparation there is room for the store
@@ -73,7 +73,7 @@ module _ (old : Memory) (blocks inodes : Set) (n size : ℕ) (can : CanGrowFile 
       let stores = behind_whole (size_of image (suc n)) size size max_height in
       let left = room_in-piece _ _ old middle prepared.adds.part.added prepared.adds.part.adds prepared.adds.part.piece in
       let all : length (members blocks) ≡ length prepared.taken + length free_new = ap (λ (xs : List ℕ). length xs) prepared.takes ∙ length-append prepared.taken free_new in
-      let has : HasRoomFor old (resizes (suc n) size) = can.room (omega (arith, needs, prepared.counted, all)) in
+      let has = room_asked old blocks (resizes (suc n) size) can.room (omega (arith, needs, prepared.counted, all)) in
       (omega (arith, needs, stores, left, has), ap length (base-adds old middle prepared.adds.part.added prepared.adds.part.adds))
 
   module _ (middle new : Memory) (rest : Set) (path : WordPath) (place : ℕ) (grows : GrowsTree old middle new (members blocks) (members rest) path n size size place []) (room : length rest ≡ length blocks) where
@@ -88,10 +88,12 @@ module _ (old : Memory) (blocks inodes : Set) (n size : ℕ) (can : CanGrowFile 
       zeros = λ o low past. grown_bytes old middle new (members blocks) (members rest) path n size size place [] grows (resizes (suc n) size) only o low ∙ grows.prepared.ready.bytes_are o past low ∙ none_given size o;
     }
 
-    performs : Performs old new (resizes (suc n) size) (ResizesFile (suc n) size)
-    performs = grown_performs old middle new (members blocks) (members rest) path n size size place [] grows (resizes (suc n) size) only (ResizesFile (suc n) size) resized
+    performs : Performs none_kept old new (resizes (suc n) size) (ResizesFile (suc n) size)
+    performs =
+        unthawed old new (resizes (suc n) size) (ResizesFile (suc n) size)
+        (grown_performs old middle new (members blocks) (members rest) path n size size place [] grows (resizes (suc n) size) only (ResizesFile (suc n) size) resized)
 
-    exact : AreExact (current_words new) rest inodes
+    exact : AreExact (current_words new) none_kept rest inodes
     exact =
         exact_taken image (current_words new) (suc n) can.well_formed resized.changes grows.prepared.taken blocks rest inodes can.exact grows.prepared.takes room
         (grown_live old middle new (members blocks) (members rest) path n size size place [] grows (resizes (suc n) size) only)
@@ -113,7 +115,7 @@ pub record Grew (old middle new : Memory) (blocks rest : Set) (path : WordPath) 
 
 module _ (old : Memory) (blocks inodes : Set) where
   pub refused : (i size : ℕ) → CanGrowFile old blocks inodes i size → (needed free : ℕ) → needed ≡ need_for (current_words old) i size size → free ≡ length (members blocks) → free < needed →
-      LacksSpace (current_words old) (resizes i size) (record { need = needed; free = free })
+      LacksSpace (current_words old) none_kept (resizes i size) (record { need = needed; free = free })
   refused zero size can = absurd (no_file (current_words old) can.file)
   refused (suc n) size can = no_space old blocks inodes n size can
 
@@ -127,7 +129,7 @@ module _ (old : Memory) (blocks inodes : Set) where
   room_behind middle free_new bytes (suc n) size can = room_left old blocks inodes n size can middle free_new bytes
 
   pub grew : (middle new : Memory) (rest : Set) (path : WordPath) (i size place : ℕ) → CanGrowFile old blocks inodes i size → Grew old middle new blocks rest path i size place →
-      Performs old new (resizes i size) (ResizesFile i size) × AreExact (current_words new) rest inodes
+      Performs none_kept old new (resizes i size) (ResizesFile i size) × AreExact (current_words new) none_kept rest inodes
   grew middle new rest path zero size place can = absurd (no_file (current_words old) can.file)
   grew middle new rest path (suc n) size place can = λ done.
       let grows : GrowsTree old middle new (members blocks) (members rest) path n size size place [] = record { can = done.can; is_file = can.file; stands = done.stands; prepared = done.prepared; stored = done.stored } in

@@ -1,5 +1,5 @@
 -- Where the words of live trees stand, after one of them was stored to too: in live blocks, at the places that their paths name.
-use Rattle.std.proofs.Common.{◌≡◌, ℕ, suc, ◌+◌, ◌*◌, ◌/◌, ◌%◌, ◌<◌, List, true, None, set, refl, sym, ◌∙◌, ap, arith, inl, inr, get_or-set_other}
+use Rattle.std.proofs.Common.{◌≡◌, ℕ, suc, ◌+◌, ◌*◌, ◌/◌, ◌%◌, ◌<◌, List, None, set, refl, sym, ◌∙◌, ap, arith, inl, inr, get_or-set_other}
 use Rattle.bp_layout.specs.Inode.{ContentStandsAt, kind_of, root_of, size_of, inode_count}
 use Rattle.bp_layout.specs.Reached.{IsReached, IsLiveBlock}
 use Rattle.bp_layout.specs.Reached.IsReached.{inode_file}
@@ -11,14 +11,16 @@ use Rattle.bp_layout.proofs.Addresses.{address_from-digits, address-tree_path}
 use Rattle.bp_changes.proofs.ContentStore.{word-elsewhere}
 use Rattle.bp_layout.proofs.Reached.{reached-in_file}
 use Rattle.bp_layout.proofs.TreeLaws.{KeepsPointers, node-kept, live_content, live_pointer_word}
-use Rattle.bp_tree.specs.Performs.{IsOpen}
-use Rattle.bp_tree.specs.Performs.IsOpen.{in_live}
+use Rattle.bp_commit.specs.Performs.{IsOpen}
+use Rattle.bp_commit.specs.Performs.IsOpen.{in_live}
 use Rattle.pm_epochs.specs.May.{AnyAt, EachMay}
 use Rattle.bp_layout.specs.Directory.{empty_slot}
 use Rattle.bp_layout.specs.Need.{cover}
 use Rattle.bp_layout.specs.Need.Change.{enters}
+use Rattle.bp_layout.specs.Need.Entrant.{linked}
 use Rattle.bp_calls.proofs.NeedLaws.{cover_behind}
 use Rattle.bp_calls.proofs.Trees.{live_leaf}
+use Rattle.bp_layout.specs.Thaw.{none_kept}
 
 -- a content word of a live leaf stands in a live block
 pub content_live : (image : Image) (t k place : ℕ) → IsReached image t → 4096 * (k / 512) < size_of image t → ContentStandsAt image t k place → IsLiveBlock image (place / 512)
@@ -30,8 +32,8 @@ content_live image t k place reached below stands =
       has = record { depth = height_of (root_of image t); index = k / 512; pointer = live_leaf _ _ _ below; named = named; not_null = λ null. stands.present (named ∙ null) };
     }
 
-pub content_open : (image : Image) (taken : List ℕ) (t k place : ℕ) → IsReached image t → 4096 * (k / 512) < size_of image t → ContentStandsAt image t k place → IsOpen image taken place
-content_open image taken t k place reached below stands = in_live (content_live image t k place reached below stands)
+pub content_open : (image : Image) (taken : List ℕ) (t k place : ℕ) → IsReached image t → 4096 * (k / 512) < size_of image t → ContentStandsAt image t k place → IsOpen image none_kept taken place
+content_open image taken t k place reached below stands = in_live (content_live image t k place reached below stands) refl
 
 -- fewer values may stand
 pub each_weaker : (Inside Wider : ℕ → Type 0) (old new : List ℕ) → ((p : ℕ) → Inside p → Wider p) → EachMay (AnyAt Inside) old new → EachMay (AnyAt Wider) old new
@@ -77,7 +79,7 @@ module _ (image : Image) where
 
 -- where no entry of a directory is empty, the cover of a new name is the word of its size, also once it has another value there
 pub size_covered : (image mid : Image) (i place value : ℕ) → IsWellFormed image → IsWellFormed mid → root_of mid 0 ≡ root_of image 0 → IsReached image i → IsReached mid i → kind_of image i ≡ 2 → empty_slot image i ≡ None →
-    ContentStandsAt mid 0 (8 * i + 2) place → address (set mid place value) (cover image (enters i true)) ≡ place
+    ContentStandsAt mid 0 (8 * i + 2) place → address (set mid place value) (cover image (enters i linked)) ≡ place
 size_covered image mid i place value wf also same_root reached there kind none stands =
     let in_file : i < inode_count mid = reached-in_file mid also i there in
     let below : 8 * (8 * i + 2) < size_of mid 0 = omega (arith, in_file) in

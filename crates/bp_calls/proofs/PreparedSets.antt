@@ -1,5 +1,7 @@
 -- Behind the preparation of a tree the sizes that count are those that the trees have, and for this one the end for which it is prepared: under them the trees are apart, and the sets are exact.
-use Rattle.std.proofs.Common.{◌≡◌, ◌≢◌, ◌⊎◌, ℕ, ◌≤◌, List, length, true, sym, ◌∙◌, subst, inl, inr, arith, lt_of_lt_of_le}
+use Rattle.std.proofs.Common.{◌≡◌, ◌≢◌, ◌⊎◌, ℕ, ◌<◌, ◌≤◌, List, length, true, sym, ◌∙◌, subst, inl, inr, arith, lt_of_lt_of_le}
+use Rattle.bp_layout.specs.Formatted.{version_of}
+use Rattle.bp_limits.specs.Limits.{greatest_height}
 use Rattle.std.proofs.lemmas.Bool.{cases_eq}
 use Rattle.bp_layout.proofs.MemberLaws.{has-behind}
 use Rattle.bp_free.specs.Set.{Set, has, members}
@@ -10,7 +12,7 @@ use Rattle.bp_layout.specs.Reached.{IsReached, HoldsBlock, IsLiveBlock, IsFreeBl
 use Rattle.bp_layout.specs.Reached.IsReached.{inode_file}
 use Rattle.bp_layout.specs.Tree.{HasBlock, IsSound}
 use Rattle.bp_layout.specs.WellFormed.{IsWellFormed}
-use Rattle.bp_layout.specs.Words.{Image}
+use Rattle.bp_layout.specs.Words.{Image, height_of}
 use Rattle.bp_changes.proofs.ReachedOn.{reached_on}
 use Rattle.bp_changes.proofs.SameMeaning as meaning
 use Rattle.bp_append.specs.Prepared.{PreparesWith}
@@ -22,6 +24,7 @@ use Rattle.bp_shapes.proofs.FreeSets.{wf_forest}
 use Rattle.pm_region.specs.Memory.{Memory, current_words}
 use Rattle.bp_calls.proofs.SetLaws.{free_inodes_stay}
 use Rattle.bp_calls.proofs.TakenBlocks.{has_either, in_members, members_apart, of_members}
+use Rattle.bp_layout.specs.Thaw.{none_kept}
 
 -- a tree has its blocks under a greater size too
 pub wider : (image : Image) (root size more b : ℕ) → size ≤ more → HasBlock image root size b → HasBlock image root more b
@@ -33,7 +36,7 @@ wider image root size more b low has = record {
   not_null = has.not_null;
 }
 
-module _ (old middle : Memory) (blocks inodes after : Set) (x from to : ℕ) (bytes : List ℕ) (wf : IsWellFormed (current_words old)) (exact : AreExact (current_words old) blocks inodes)
+module _ (old middle : Memory) (blocks inodes after : Set) (x from to : ℕ) (bytes : List ℕ) (wf : IsWellFormed (current_words old)) (exact : AreExact (current_words old) none_kept blocks inodes)
     (reached : IsReached (current_words old) x) (some : x ≢ 0) (past : size_of (current_words old) x ≤ to) (prepared : PreparesWith old middle (members blocks) (members after) x from to bytes)
     (bound : ℕ → ℕ) (bound_here : bound x ≡ to) (bound_other : (t : ℕ) → (t ≡ x → ⊥) → bound t ≡ size_of (current_words middle) t) where
   abbrev image : Image
@@ -83,6 +86,7 @@ module _ (old middle : Memory) (blocks inodes after : Set) (x from to : ℕ) (by
         some = omega (arith, plain.some, zero_bound);
         in_file = λ i reached. omega (arith, plain.in_file i reached, zero_bound);
         sound = λ t reached. by_tree (IsSound mid) t prepared.ready.sound (λ other. middle_formed.sound t reached);
+        low = λ t reached. by_tree (λ root s. 0 < s → height_of root ≤ greatest_height (version_of mid)) t (λ _. prepared.ready.low) (λ other. middle_formed.low t reached);
         apart = λ t u b r q has also. apart t u b r q has also (cases_eq t x) (cases_eq u x);
       }
     where
@@ -130,14 +134,14 @@ module _ (old middle : Memory) (blocks inodes after : Set) (x from to : ℕ) (by
       }
 
   -- the blocks that are left in the set were free, and the preparation did not take them
-  pub still_free : (b : ℕ) → has after b ≡ true → IsFreeBlock (current_words old) b × (Has prepared.taken b → ⊥)
+  pub still_free : (b : ℕ) → has after b ≡ true → IsFreeBlock (current_words old) none_kept b × (Has prepared.taken b → ⊥)
   still_free b is =
       let there : Has (members blocks) b = subst (λ bs. Has bs b) (sym prepared.takes) (has-behind prepared.taken (members after) b (in_members after b is)) in (
         exact.free_blocks.free b (of_members blocks b there),
         λ took. apart_parts prepared.taken (members after) b (subst AreApart prepared.takes (members_apart blocks)) took (in_members after b is),
       )
 
-  pub prepared_exact : AreUnheld (current_words middle) (IsReached (current_words middle)) bound (has after)
+  pub prepared_exact : AreUnheld (current_words middle) (IsReached (current_words middle)) bound none_kept (has after)
   prepared_exact = record {
     free = λ b is.
         let free = still_free b is in
@@ -145,10 +149,11 @@ module _ (old middle : Memory) (blocks inodes after : Set) (x from to : ℕ) (by
           low = free.0.low;
           high = rw prepared.ready.meaning.trees.whole free.0.high;
           free = λ held. elim (held_before b held) [ inl was ↦ free.0.free was | inr took ↦ free.1 took ];
+          loose = free.0.loose;
         };
     all = λ b unheld.
         let was : has blocks b ≡ true =
-        exact.free_blocks.all b (record { low = unheld.low; high = rw prepared.ready.meaning.trees.whole at unheld.high; free = λ live. unheld.free (held_on b live) }) in
+        exact.free_blocks.all b (record { low = unheld.low; high = rw prepared.ready.meaning.trees.whole at unheld.high; free = λ live. unheld.free (held_on b live); loose = unheld.loose }) in
         elim (has_either prepared.taken (members after) b (subst (λ bs. Has bs b) prepared.takes (in_members blocks b was))) [
           | inl early ↦ absurd (unheld.free (own_block b (prepared.ready.has_taken b early)))
           | inr late ↦ of_members after b late
@@ -156,7 +161,7 @@ module _ (old middle : Memory) (blocks inodes after : Set) (x from to : ℕ) (by
   }
 
   -- so the sets are exact under these sizes
-  pub prepared_sets : length after ≡ length blocks → AreExactFor (current_words middle) (IsReached (current_words middle)) bound after inodes
+  pub prepared_sets : length after ≡ length blocks → AreExactFor (current_words middle) (IsReached (current_words middle)) bound none_kept after inodes
   prepared_sets room = record {
     block_room = rw prepared.ready.meaning.trees.whole (room ∙ exact.block_room);
     inode_room = rw prepared.ready.meaning.trees.whole exact.inode_room;

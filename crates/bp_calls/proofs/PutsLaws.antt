@@ -1,5 +1,8 @@
 -- An entry is put behind the last one of a directory: what that asks of a preparation, and that it reads back.
-use Rattle.std.proofs.Common.{◌≡◌, ℕ, zero, suc, ◌+◌, ◌*◌, ◌/◌, ◌%◌, ◌^◌, ◌<◌, ◌≤◌, List, length, refl, sym, ◌∙◌, arith}
+use Rattle.std.proofs.Common.{◌≡◌, ℕ, zero, suc, ◌+◌, ◌*◌, ◌/◌, ◌%◌, ◌^◌, ◌<◌, ◌≤◌, List, length, refl, sym, ◌∙◌, arith, le_trans}
+use Rattle.bp_limits.specs.declared.version.Version.TheVariants.{One}
+use Rattle.bp_limits.proofs.Versions.{size_least}
+use Rattle.bp_layout.specs.Formatted.{version_of}
 use Rattle.std.proofs.lemmas.List.{append-nil}
 use Rattle.bp_append.specs.Prepared.{CanPrepare, PreparesWith, need_for}
 use Rattle.bp_append.proofs.FewNeeded.{few_needed}
@@ -15,25 +18,30 @@ use Rattle.bp_append.specs.Given.{given}
 use Rattle.bp_layout.specs.WellFormed.{IsWellFormed}
 use Rattle.bp_layout.specs.WordPaths.{WordPath, inode_path}
 use Rattle.bp_layout.specs.Words.{Image, height_of}
-use Rattle.bp_limits.specs.Limits.{max_size}
+use Rattle.bp_limits.specs.Limits.{greatest_size, max_height}
 use Rattle.pm_region.specs.Memory.{Memory, current_words}
 use Rattle.pm_region.proofs.MemoryLaws.{length-current_words}
 use Rattle.bp_calls.specs.Entries.{AreEntryBytes, PutsBehind}
-use Rattle.bp_calls.specs.Steps.{CanPutBehind}
+use Rattle.bp_calls.specs.Steps.{CanPutBehind, entering_room}
 use Rattle.bp_calls.proofs.EnteredLaws.{directory_inode}
 use Rattle.bp_calls.proofs.EntryBytes.{inumber_there, length_there, inumber_read, name_read_back}
 use Rattle.bp_calls.proofs.TakenBlocks.{unused_members, usable_members}
+use Rattle.bp_append.proofs.StoresLaws.{room_behind_one}
 
 -- a directory is small, since it has no nulls
-pub small_directory : (image : Image) → IsWellFormed image → (i : ℕ) → IsReached image i → kind_of image i ≡ 2 → size_of image i + 256 ≤ max_size
+pub small_directory : (image : Image) → IsWellFormed image → (i : ℕ) → IsReached image i → kind_of image i ≡ 2 → size_of image i + 256 ≤ greatest_size One
 small_directory image wf i reached kind =
     let few = few_entries image (root_of image i) (size_of image i) (wf.sound i reached) (wf.full_directories i reached kind) (omega (arith, wf.formatted.sized.at_least)) in
     omega (arith, few, wf.formatted.sized.at_most, wf.directory_sizes i reached kind)
 
+-- an entry behind the last one lies in one leaf
+pub one_entry : (size : ℕ) → size % 256 ≡ 0 → size + 256 ≤ size / 4096 * 4096 + 4096
+one_entry size whole = omega (arith, whole)
+
 -- one entry needs few blocks
-pub few_behind : (image : Image) → IsWellFormed image → (i : ℕ) → IsReached image i → need_for image i (size_of image i) (size_of image i + 256) ≤ 18 + 3 * 3
+pub few_behind : (image : Image) → IsWellFormed image → (i : ℕ) → IsReached image i → need_for image i (size_of image i) (size_of image i + 256) ≤ 18 + 3 * max_height
 few_behind image wf i reached =
-    few_needed image (root_of image i) (size_of image i) (size_of image i) (size_of image i + 256) (omega arith) (omega arith) (wf.sound i reached).low
+    let few = few_needed image (root_of image i) (size_of image i) (size_of image i) (size_of image i + 256) 1 (omega arith) (omega arith) (omega arith) (wf.sound i reached).low in omega (arith, few)
 
 module _ (old : Memory) (blocks : Set) (j : ℕ) (name : Name) where
   abbrev image : Image
@@ -47,13 +55,16 @@ module _ (old : Memory) (blocks : Set) (j : ℕ) (name : Name) where
     leads = is ∙ sym (append-nil (inode_path (height_of (root_of image 0)) (suc n) 1));
     behind = omega arith;
     order = omega arith;
-    fits = small_directory image can.lacks.well_formed (suc n) can.lacks.reached can.lacks.directory;
+    fits = le_trans (small_directory image can.lacks.well_formed (suc n) can.lacks.reached can.lacks.directory) (size_least (version_of image));
     by_words = λ by. refl;
     usable = usable_members image blocks can.inodes can.exact _ (omega (arith, length-current_words old));
     unused = unused_members image blocks can.inodes can.exact;
     enough = can.enough;
-    room = omega (arith, can.room);
+    room = go _ _ _ (room_behind_one (size_of image (suc n)) (size_of image (suc n) + 256) max_height (one_entry (size_of image (suc n)) (can.lacks.well_formed.directory_sizes (suc n) can.lacks.reached can.lacks.directory))) can.room;
   }
+    where
+      go : (needed asked room : ℕ) → asked ≤ 1024 + max_height → entering_room needed ≤ room → 512 * needed + asked + 4 ≤ room
+      go needed asked room a b = omega (arith, a, b)
 
   -- given the size that was read
   pub put_prepares : (i : ℕ) → CanPutBehind old blocks i name → (path : WordPath) → path ≡ inode_path (height_of (root_of image 0)) i 1 → (size : ℕ) → size ≡ size_of image i →

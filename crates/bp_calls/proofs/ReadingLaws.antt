@@ -27,7 +27,7 @@ module _ (image : Image) (wf : IsWellFormed image) where
   inode_file_sound = wf.sound 0 inode_file
 
   -- inode numbers are small
-  pub few_inode : (j : ℕ) → j < inode_count image → j < 1048576
+  pub few_inode : (j : ℕ) → j < inode_count image → j < 4194304
   few_inode j high =
       let few : size_of image 0 / 64 ≤ 64 * block_count image = few_inodes image (root_of image 0) (size_of image 0) inode_file_sound wf.full_inode_file (omega (arith, wf.formatted.sized.at_least)) wf.inode_blocks in
       omega (arith, few, high, wf.formatted.sized.at_most)
@@ -36,7 +36,7 @@ module _ (image : Image) (wf : IsWellFormed image) where
   pub record IsInode (j : ℕ) : Type 0 where
     pub low : 1 ≤ j
     pub high : j < inode_count image
-    pub few : j < 1048576
+    pub few : j < 4194304
     pub least : 1 ≤ kind_of image j
     pub most : kind_of image j ≤ 2
 
@@ -77,7 +77,7 @@ module _ (image : Image) (wf : IsWellFormed image) where
         go (suc j) at =
             let high : inumber_in image root slot < inode_count image = wf.inumbers i slot (inumber_in image root slot) reached names_here in
             let kinds : (1 ≤ kind_of image (suc j)) × (kind_of image (suc j) ≤ 2) = wf.kinds j (subst (IsReached image) at names_reached) in
-            rw at (record { low = omega arith; high = omega (arith, high, at); few = subst (λ k. k < 1048576) at (few_inode (inumber_in image root slot) high); least = kinds.0; most = kinds.1 })
+            rw at (record { low = omega arith; high = omega (arith, high, at); few = subst (λ k. k < 4194304) at (few_inode (inumber_in image root slot) high); least = kinds.0; most = kinds.1 })
 
 -- ---- the entries of some slots and of those behind them
 

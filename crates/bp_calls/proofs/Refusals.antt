@@ -1,15 +1,17 @@
 -- Whether an inode is free, by a set that has just the free inodes; and a slot that is found.
-use Rattle.std.proofs.Common.{◌≡◌, ◌≢◌, ℕ, ◌<◌, List, [], ◌∷◌, length, Bool, true, false, ◌==◌, Some, refl, sym, ◌∙◌, ap, arith, true≢false}
-use Rattle.std.proofs.lemmas.Bool.{eqb-true, false_from_ne_true}
+use Rattle.std.proofs.Common.{◌≡◌, ◌≢◌, ◌⊎◌, ℕ, zero, suc, ◌<◌, ◌≤◌, List, [], ◌∷◌, length, Bool, true, false, ◌==◌, Option, None, Some, refl, sym, ◌∙◌, ap, subst, arith, inl, inr, true≢false}
+use Rattle.std.proofs.lemmas.Bool.{cases_Bool, cases_lt, eqb-true}
 use Rattle.std.specs.List.{Contains}
 use Rattle.bp_shapes.specs.Sets.{AreExact}
-use Rattle.bp_free.specs.Set.{Set, has, members}
+use Rattle.bp_free.specs.Set.{IsLeast, Set, has, members}
 use Rattle.bp_free.proofs.Members.{members_all, members_has}
 use Rattle.bp_layout.specs.Directory.{empty_slot, inumber_at, entry_count}
-use Rattle.bp_layout.specs.Free.{TellsFreeInode}
+use Rattle.bp_layout.specs.Free.{IsFreeInode, IsLeastFree}
+use Rattle.bp_layout.specs.Free.IsLeastFree.{some as a_least, none as no_least}
 use Rattle.bp_layout.specs.Words.{Image}
 use Rattle.bp_layout.proofs.Finding.{Finds, find-passes}
 use Rattle.bp_calls.proofs.SetLaws.{in_room}
+use Rattle.bp_layout.specs.Thaw.{none_kept}
 
 -- a list that is not empty has a first
 first_of : (xs : List ℕ) → xs ≢ [] → (x : ℕ) × Contains xs x
@@ -34,23 +36,56 @@ has_members set i is none =
     let here = rw none at there in
     omega (arith, here.1)
 
-module _ (image : Image) (blocks inodes : Set) (exact : AreExact image blocks inodes) where
-  -- a free inode is told of
-  pub tells_true : members inodes ≢ [] → (free : Bool) → TellsFreeInode image free → free ≡ true
-  tells_true some free tells = let one = some_number inodes some in tells.none one.0 (exact.free_inodes.free one.0 one.1)
+-- the first number below a bound that is in a set, or none
+first_in : (set : ℕ → Bool) (n : ℕ) → ((i : ℕ) × ((set i ≡ true) × ((k : ℕ) → k < i → set k ≡ false))) ⊎ ((k : ℕ) → k < n → set k ≡ false)
+first_in set zero = inr (λ k low. absurd (omega (arith, low)))
+first_in set (suc n) = go (first_in set n) (cases_Bool (set n))
+  where
+    Found : Type 0
+    Found = (i : ℕ) × ((set i ≡ true) × ((k : ℕ) → k < i → set k ≡ false))
 
-  pub tells_false : members inodes ≡ [] → (free : Bool) → TellsFreeInode image free → free ≡ false
-  tells_false none free tells = false_from_ne_true free (λ is. let some = tells.some is in has_members inodes some.0 (exact.free_inodes.all some.0 some.1) none)
+    go : Found ⊎ ((k : ℕ) → k < n → set k ≡ false) → (set n ≡ true) ⊎ (set n ≡ false) → Found ⊎ ((k : ℕ) → k < suc n → set k ≡ false)
+    go (inl found) which = inl found
+    go (inr none) (inl is) = inl (n, (is, none))
+    go (inr none) (inr not) = inr (λ k low. at k (cases_lt k n) low)
+      where
+        at : (k : ℕ) → (k < n) ⊎ (n ≤ k) → k < suc n → set k ≡ false
+        at k (inl less) low = none k less
+        at k (inr high) low = let here : k ≡ n = omega (arith, high, low) in subst (λ x. set x ≡ false) (sym here) not
 
-  -- so it is told whether one is free
-  pub tells : (free : Bool) × TellsFreeInode image free
-  tells = go (members inodes) refl
+module _ (image : Image) (blocks inodes : Set) (exact : AreExact image none_kept blocks inodes) where
+  -- where the set has a number an inode is free
+  pub not_none : members inodes ≢ [] → IsLeastFree image None → ⊥
+  not_none some (no_least nobody) = let one = some_number inodes some in nobody one.0 (exact.free_inodes.free one.0 one.1)
+
+  -- and none is where it has none
+  pub not_some : members inodes ≡ [] → (i : ℕ) → IsLeastFree image (Some i) → ⊥
+  not_some none i (a_least free least) = has_members inodes i (exact.free_inodes.all i free) none
+
+  least_of : (i : ℕ) → (has inodes i ≡ true) × ((k : ℕ) → k < i → has inodes k ≡ false) → IsLeastFree image (Some i)
+  least_of i (is, first) = a_least (exact.free_inodes.free i is) (λ j free. go j free (cases_lt j i))
     where
-      go : (xs : List ℕ) → members inodes ≡ xs → (free : Bool) × TellsFreeInode image free
-      go [] none = (false, record { some = λ e. absurd (true≢false (sym e)); none = λ i free. absurd (has_members inodes i (exact.free_inodes.all i free) none) })
-      go (x ∷ xs) is =
-          let one = some_number inodes (λ none. let count : length (x ∷ xs) ≡ 0 = ap length (sym is ∙ none) in omega (arith, count)) in
-          (true, record { some = λ e. (one.0, exact.free_inodes.free one.0 one.1); none = λ i free. refl })
+      go : (j : ℕ) → IsFreeInode image j → (j < i) ⊎ (i ≤ j) → i ≤ j
+      go j free (inl low) = absurd (true≢false (sym (exact.free_inodes.all j free) ∙ first j low))
+      go j free (inr high) = high
+
+  -- the least number of the set is the least free inode, and there is no other
+  pub is_least : (i : ℕ) → IsLeast inodes i → (free : Option ℕ) → IsLeastFree image free → free ≡ Some i
+  is_least i least None told = absurd (not_none (has_members inodes i least.is_in) told)
+  is_least i least (Some j) (a_least free most) =
+      let low : j ≤ i = most i (exact.free_inodes.free i least.is_in) in
+      ap Some (same low (cases_lt j i))
+    where
+      same : j ≤ i → (j < i) ⊎ (i ≤ j) → j ≡ i
+      same low (inl less) = absurd (true≢false (sym (exact.free_inodes.all j free) ∙ least.first j less))
+      same low (inr high) = omega (arith, low, high)
+
+  -- so it is told which is the least
+  pub tells : (free : Option ℕ) × IsLeastFree image free
+  tells = elim (first_in (has inodes) (length inodes)) [
+    | inl (i, found) ↦ (Some i, least_of i found)
+    | inr none ↦ (None, no_least (λ i free. true≢false (sym (exact.free_inodes.all i free) ∙ none i (in_room inodes i (exact.free_inodes.all i free)))))
+  ]
 
 -- the slot that is found is one of the directory's, and empty
 pub found_empty : (image : Image) (i s : ℕ) → empty_slot image i ≡ Some s → (s < entry_count image i) × (inumber_at image i s ≡ 0)

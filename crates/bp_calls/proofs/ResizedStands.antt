@@ -4,7 +4,8 @@ use Rattle.std.specs.FinMap.{get}
 use Rattle.std.proofs.lemmas.Bool.{cases_lt}
 use Rattle.std.proofs.lemmas.List.{get_or-append_right, get_or-replicate, get_or-take, get_or_append_left, length-append, length-replicate, length-take}
 use Rattle.std.proofs.lemmas.List.FromFn.{get_or-map-range_with_len, length-map-range_with_len}
-use Rattle.bp_calls.specs.Resized.{GetsSize, ResizesFile}
+use Rattle.bp_calls.specs.OnTrees.{GetsSize}
+use Rattle.bp_calls.specs.Resized.{ResizesFile}
 use Rattle.bp_layout.specs.Inode.{root_of, size_of}
 use Rattle.bp_layout.specs.Lookup.{node_of}
 use Rattle.bp_layout.specs.Lookup.Node.{file}
@@ -12,9 +13,9 @@ use Rattle.bp_layout.specs.Tree.{byte, content}
 use Rattle.bp_layout.specs.WellFormed.{IsWellFormed}
 use Rattle.bp_layout.specs.Words.{Image}
 use Rattle.bp_layout.proofs.NameBytes.{map-tells}
-use Rattle.bp_plain.specs.Plain.{bytes_at, bytes_in, resized, with_bytes}
-use Rattle.bp_plain.specs.Stands.{Stands}
-use Rattle.bp_stands.proofs.FileStands.{file_stands, one_path}
+use Rattle.bp_plain.specs.Plain.{bytes_at, bytes_in, resized, with_content}
+use Rattle.bp_plain.specs.Stands.{Shows}
+use Rattle.bp_stands.proofs.FileStands.{content_shows}
 
 module _ (old new : Image) (wf : IsWellFormed old) (i size : ℕ) (is : ResizesFile i size old new) where
   abbrev had : List ℕ
@@ -51,8 +52,7 @@ module _ (old new : Image) (wf : IsWellFormed old) (i size : ℕ) (is : ResizesF
   node_is = rw is.changes.is_file refl
 
   pub resized_gets : GetsSize i size old new
-  resized_gets tree here stands at =
-      let there : get tree here ≡ Some (file had) = stands.shows here ∙ rw at (ap Some node_is) in
-      let same : content new (root_of new i) (size_of new i) ≡ resized (bytes_at tree here) size = bytes_are ∙ ap (λ found. resized (bytes_in found) size) (sym there) in
-      subst (λ bytes. Stands new (with_bytes tree here bytes)) same
-      (file_stands old new i wf is.changes tree _ stands (one_path old i (content new (root_of new i) (size_of new i)) wf tree here at))
+  resized_gets map here shows at =
+      let there : get map.nodes here ≡ Some (file had) = shows.shows here ∙ rw at (ap Some node_is) in
+      let same : content new (root_of new i) (size_of new i) ≡ resized (bytes_at map.nodes here) size = bytes_are ∙ ap (λ found. resized (bytes_in found) size) (sym there) in
+      subst (λ bytes. Shows new (with_content map here bytes)) same (content_shows old new i wf is.changes here at map shows)

@@ -23,7 +23,7 @@ use Rattle.bp_shapes.specs.Trail.{trail_of}
 use Rattle.bp_shapes.proofs.FreeSets.{wf_forest}
 use Rattle.bp_tree.proofs.Digits.{length-digits}
 use Rattle.bp_tree.proofs.PathLaws.{small_digits}
-use Rattle.bp_tree.specs.Performs.{IsOpen}
+use Rattle.bp_commit.specs.Performs.{IsOpen}
 use Rattle.bp_cow.specs.declared.touched.Run.{Run}
 use Rattle.bp_cow.specs.declared.touched.Touched.{Touched}
 use Rattle.bp_cow.specs.CanCommit.{IsRunIn}
@@ -37,8 +37,8 @@ use Rattle.bp_cow.proofs.RunLaws.{length-run_path, length-run_way}
 use Rattle.bp_cow.proofs.RunWrites.{root_path_trail}
 use Rattle.bp_calls.specs.WritesFile.{WritesFile, written_byte}
 use Rattle.bp_calls.proofs.SetLaws.{free_inodes_stay}
-use Rattle.bp_calls.proofs.WriteBehind.{written_before, written_inside}
-use Rattle.bp_calls.proofs.WrittenStands.{written_past}
+use Rattle.bp_calls.proofs.WriteBehind.{written_before, written_inside, written_past}
+use Rattle.bp_layout.specs.Thaw.{none_kept}
 
 -- ---- what it asks
 
@@ -47,6 +47,7 @@ pub record IsRunOf (image : Image) (i : ℕ) (run : Run) : Type 0 where
   pub root : run.root.items ≡ inode_path (height_of (root_of image 0)) i 1
   pub height : run.height ≡ height_of (root_of image i)
   pub some : 0 < length run.bytes.now
+  pub few : length run.bytes.now ≤ max_write
   pub below : run_end run ≤ size_of image i
 
 module _ (image : Image) (wf : IsWellFormed image) (n : ℕ) (reached : IsReached image (suc n)) (run : Run) (is : IsRunOf image (suc n) run) where
@@ -62,6 +63,7 @@ module _ (image : Image) (wf : IsWellFormed image) (n : ℕ) (reached : IsReache
       let tree_low : height_of (root_of image (suc n)) ≤ max_height = sound.low (omega (arith, is.below, is.some)) in
       record {
         some = is.some;
+        few = is.few;
         low = omega (arith, tree_low, is.height);
         covered = subst (λ h. run_end run ≤ block_size * block_words ^ h) (sym is.height) (let fits : size_of image (suc n) ≤ span (height_of (root_of image (suc n))) = sound.fits in let whole = span-is (height_of (root_of image (suc n))) in omega (arith, is.below, fits, whole));
         short = omega (arith, run_root_length, inodes_low, tree_low, is.height);
@@ -79,12 +81,12 @@ module _ (image : Image) (wf : IsWellFormed image) (n : ℕ) (reached : IsReache
       (leaf-fronts image (size_of image) (wf_forest image wf) run run_is run_in 0 d (omega arith) short)
 
   -- so the word of the cover, whatever else is touched, is one where a call may store
-  pub run_open : (touched : Touched) → IsTouched touched → touched.run ≡ Some run → (taken : List ℕ) → IsOpen image taken (cover_word image touched)
+  pub run_open : (touched : Touched) → IsTouched touched → touched.run ≡ Some run → (taken : List ℕ) → IsOpen image none_kept taken (cover_word image touched)
   run_open touched shape one taken =
       cover_open image wf touched shape (run_path run (run.off / 8)) (has-of-run touched shape run (run.off / 8) one (omega arith) (omega (arith, is.some))) run_live taken
 
 -- the bytes of one write have few leaves
-pub few_leaves : (run : Run) → length run.bytes.now ≤ max_write → run_leaves run ≤ 17
+pub few_leaves : (run : Run) → length run.bytes.now ≤ max_write → run_leaves run ≤ 257
 few_leaves run short = omega (arith, short)
 
 -- ---- the file
@@ -144,13 +146,13 @@ module _ (image new : Image) (i : ℕ) (wf : IsWellFormed image) (changes : Chan
     has = subst (λ s. HasBlock new (root_of new one.tree) s b) (sym (sizes one.tree one.reached)) one.has;
   }
 
-  pub commit_exact : (blocks after inodes : Set) → AreExactFor image (IsReached image) bound blocks inodes → length after ≡ length blocks → AreUnheld new (IsReached image) bound (has after) → AreExact new after inodes
+  pub commit_exact : (blocks after inodes : Set) → AreExactFor image (IsReached image) bound none_kept blocks inodes → length after ≡ length blocks → AreUnheld new (IsReached image) bound none_kept (has after) → AreExact new none_kept after inodes
   commit_exact blocks after inodes exact room unheld = record {
     block_room = rw changes.trees.whole (room ∙ exact.block_room);
     inode_room = rw changes.trees.whole exact.inode_room;
     free_blocks = record {
-      free = λ b there. let free = unheld.free b there in record { low = free.low; high = free.high; free = λ one. free.free (held b one) };
-      all = λ b free. unheld.all b (record { low = free.low; high = free.high; free = λ one. free.free (lives b one) });
+      free = λ b there. let free = unheld.free b there in record { low = free.low; high = free.high; free = λ one. free.free (held b one); loose = free.loose };
+      all = λ b free. unheld.all b (record { low = free.low; high = free.high; free = λ one. free.free (lives b one); loose = free.loose });
     };
     free_inodes = free_inodes_stay image new (has inodes) (changes.size 0 inode_file (not_zero image new i wf changes)) (reached-back image new i wf changes) (reached-on image new i wf changes) exact.free_inodes;
   }

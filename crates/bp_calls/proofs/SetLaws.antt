@@ -6,18 +6,20 @@ use Rattle.bp_free.specs.Set.{Set, has, without}
 use Rattle.bp_free.proofs.Members.{has_without_same, has_without_other, has_past}
 use Rattle.bp_layout.specs.Words.{Image}
 use Rattle.bp_layout.specs.Tree.{HasBlock}
-use Rattle.bp_layout.specs.Inode.{root_of, size_of, ContentStandsAt}
+use Rattle.bp_layout.specs.Inode.{kind_of, root_of, size_of, ContentStandsAt}
 use Rattle.bp_layout.specs.Directory.{Name, IsName, slot_named}
 use Rattle.bp_layout.specs.Reached.{IsReached, IsLiveBlock, IsFreeBlock}
 use Rattle.bp_layout.specs.WellFormed.{IsWellFormed}
 use Rattle.bp_layout.specs.Free.{AreFreeBlocks, AreFreeInodes, IsFreeInode}
 use Rattle.bp_layout.proofs.SmallTrees.{empty_has_none}
-use Rattle.bp_changes.specs.Effects.{AddsNames, KeepsBlocks}
+use Rattle.bp_changes.specs.Effects.{AddsNames, KeepsBlocks, LinksName}
 use Rattle.bp_changes.proofs.AddsNames.{reached_cases, reached_stays}
+use Rattle.bp_changes.proofs.LinksName as linking
 use Rattle.bp_calls.specs.Entered.{IsNewInode, IsReadyEntry}
 use Rattle.bp_shapes.specs.Sets.{AreExact}
-use Rattle.bp_calls.proofs.EnteredLaws.{entered, entered_blocks, entered_file}
-use Rattle.bp_calls.proofs.AfterLaws.{IsPrepared, live_before_too, live_after, reached_before, reached_after}
+use Rattle.bp_calls.proofs.EnteredLaws.{entered, entered_blocks, entered_file, linked}
+use Rattle.bp_calls.proofs.AfterLaws.{IsPrepared, reached_before, reached_after}
+use Rattle.bp_layout.specs.Thaw.{none_kept}
 
 -- ---- one number less
 
@@ -43,10 +45,10 @@ still_in numbers i k there is = go (cases_eq k i)
 -- ---- free numbers
 
 pub free_blocks_stay : (old new : Image) (numbers : ℕ → Bool) → length new ≡ length old → ((b : ℕ) → IsLiveBlock new b → IsLiveBlock old b) → ((b : ℕ) → IsLiveBlock old b → IsLiveBlock new b) →
-    AreFreeBlocks old numbers → AreFreeBlocks new numbers
+    AreFreeBlocks old none_kept numbers → AreFreeBlocks new none_kept numbers
 free_blocks_stay old new numbers whole back stay are = record {
-  free = λ b is. let free : IsFreeBlock old b = are.free b is in record { low = free.low; high = rw whole free.high; free = λ live. free.free (back b live) };
-  all = λ b free. are.all b (record { low = free.low; high = rw whole at free.high; free = λ live. free.free (stay b live) });
+  free = λ b is. let free : IsFreeBlock old none_kept b = are.free b is in record { low = free.low; high = rw whole free.high; free = λ live. free.free (back b live); loose = free.loose };
+  all = λ b free. are.all b (record { low = free.low; high = rw whole at free.high; free = λ live. free.free (stay b live); loose = free.loose });
 }
 
 pub free_inodes_stay : (old new : Image) (numbers : ℕ → Bool) → size_of new 0 ≡ size_of old 0 → ((t : ℕ) → IsReached new t → IsReached old t) → ((t : ℕ) → IsReached old t → IsReached new t) →
@@ -73,17 +75,24 @@ free_inodes_taken old new numbers taken bytes there here cases stay are = record
 
 -- ---- over a preparation
 
-pub exact_prepared : (old new : Image) → IsWellFormed old → IsPrepared old new → (blocks inodes : Set) → AreExact old blocks inodes → AreExact new blocks inodes
-exact_prepared old new wf prepared blocks inodes exact = record {
-  block_room = rw prepared.meaning.trees.whole exact.block_room;
-  inode_room = rw prepared.meaning.trees.whole exact.inode_room;
-  free_blocks = free_blocks_stay old new (has blocks) prepared.meaning.trees.whole (live_before_too old new wf prepared) (live_after old new wf prepared) exact.free_blocks;
-  free_inodes = free_inodes_stay old new (has inodes) prepared.inode_bytes (reached_before old new wf prepared) (reached_after old new wf prepared) exact.free_inodes;
+-- where what is reached is what it was, and each tree has the blocks that it had
+pub exact_kept : (old new : Image) → length new ≡ length old → size_of new 0 ≡ size_of old 0 → ((t : ℕ) → IsReached new t → IsReached old t) → ((t : ℕ) → IsReached old t → IsReached new t) → KeepsBlocks old new →
+    (blocks inodes : Set) → AreExact old none_kept blocks inodes → AreExact new none_kept blocks inodes
+exact_kept old new whole same_file back stay keeps blocks inodes exact = record {
+  block_room = rw whole exact.block_room;
+  inode_room = rw whole exact.inode_room;
+  free_blocks = free_blocks_stay old new (has blocks) whole
+      (λ b live. record { tree = live.tree; reached = back live.tree live.reached; has = keeps.back live.tree b (back live.tree live.reached) live.has })
+      (λ b live. record { tree = live.tree; reached = stay live.tree live.reached; has = keeps.stay live.tree b live.reached live.has }) exact.free_blocks;
+  free_inodes = free_inodes_stay old new (has inodes) same_file back stay exact.free_inodes;
 }
+
+pub exact_prepared : (old new : Image) → IsWellFormed old → IsPrepared old new → (blocks inodes : Set) → AreExact old none_kept blocks inodes → AreExact new none_kept blocks inodes
+exact_prepared old new wf prepared = exact_kept old new prepared.meaning.trees.whole prepared.inode_bytes (reached_before old new wf prepared) (reached_after old new wf prepared) prepared.blocks
 
 -- ---- over one more name
 
-module _ (old new : Image) (wf : IsWellFormed old) (i s j : ℕ) (adds : AddsNames old new i s j) (blocks inodes : Set) (exact : AreExact old blocks inodes) (free : IsFreeInode old j) (same_file : size_of new 0 ≡ size_of old 0) where
+module _ (old new : Image) (wf : IsWellFormed old) (i s j : ℕ) (adds : AddsNames old new i s j) (blocks inodes : Set) (exact : AreExact old none_kept blocks inodes) (free : IsFreeInode old j) (same_file : size_of new 0 ≡ size_of old 0) where
   no_new_block : (t b : ℕ) → t ≡ j → HasBlock new (root_of new t) (size_of new t) b → ⊥
   no_new_block t b e has = empty_has_none new (root_of new t) b (rw (ap (size_of new) e ∙ adds.new_size) at has)
 
@@ -103,7 +112,7 @@ module _ (old new : Image) (wf : IsWellFormed old) (i s j : ℕ) (adds : AddsNam
       free_inodes_taken old new inodes j same_file (exact.free_inodes.all j free) (IsReached.named s (reached_stays old new wf i s j adds i adds.reached) adds.entry)
       (reached_cases old new wf i s j adds) (reached_stays old new wf i s j adds) exact.free_inodes
 
-  pub exact_added : KeepsBlocks old new → AreExact new blocks (without inodes j)
+  pub exact_added : KeepsBlocks old new → AreExact new none_kept blocks (without inodes j)
   exact_added keeps = record {
     block_room = rw adds.trees.whole exact.block_room;
     inode_room = rw adds.trees.whole (length_without inodes j ∙ exact.inode_room);
@@ -113,9 +122,18 @@ module _ (old new : Image) (wf : IsWellFormed old) (i s j : ℕ) (adds : AddsNam
     free_inodes = inodes_taken;
   }
 
--- an inumber came into a ready entry
-pub exact_entered : (old : Image) → IsWellFormed old → (i s j kind place : ℕ) (name : Name) → IsNewInode old j kind → IsReadyEntry old i s name → IsName name → slot_named old i name ≡ None →
-    ContentStandsAt old i (32 * s + 0) place → (blocks inodes : Set) → AreExact old blocks inodes → AreExact (set old place j) blocks (without inodes j)
-exact_entered old wf i s j kind place name fresh ready form missing stands blocks inodes exact =
-    exact_added old (set old place j) wf i s j (entered old wf i s j kind place name fresh ready form missing stands).adds blocks inodes exact fresh.free
-    (entered_file old wf i s j kind place name fresh ready form missing stands) (entered_blocks old wf i s j kind place name fresh ready form missing stands)
+-- an inumber came into a ready entry: of an inode that was free, or of a file that has a name
+module _ (old : Image) (wf : IsWellFormed old) (i s j place : ℕ) (name : Name) (ready : IsReadyEntry old i s name) (form : IsName name) (missing : slot_named old i name ≡ None)
+    (stands : ContentStandsAt old i (32 * s + 0) place) (blocks inodes : Set) (exact : AreExact old none_kept blocks inodes) where
+  pub exact_entered : (kind : ℕ) → IsNewInode old j kind → AreExact (set old place j) none_kept blocks (without inodes j)
+  exact_entered kind fresh =
+      exact_added old (set old place j) wf i s j (entered old wf i s j place name ready form missing stands kind fresh).adds blocks inodes exact fresh.free
+      (entered_file old wf i s j place name ready form missing stands) (entered_blocks old wf i s j place name ready form missing stands)
+
+  pub exact_linked : IsReached old j → kind_of old j ≡ 1 → AreExact (set old place j) none_kept blocks inodes
+  exact_linked there file =
+      exact_kept old (set old place j) links.trees.whole links.inode_bytes (linking.reached_back old (set old place j) wf i s j links) (linking.reached_stays old (set old place j) wf i s j links)
+      (entered_blocks old wf i s j place name ready form missing stands) blocks inodes exact
+    where
+      links : LinksName old (set old place j) i s j
+      links = (linked old wf i s j place name ready form missing stands there file).adds

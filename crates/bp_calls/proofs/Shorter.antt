@@ -30,14 +30,16 @@ use Rattle.bp_layout.proofs.TreeLaws.{KeepsPointers, node-kept, sound-kept, has_
 use Rattle.bp_shapes.specs.Sets.{AreExact}
 use Rattle.bp_shapes.specs.Freed.{IsGivenUp}
 use Rattle.bp_shapes.proofs.Freed.{freed_blocks, resize_frees}
-use Rattle.bp_tree.specs.Performs.{Performs}
+use Rattle.bp_commit.specs.Performs.{Performs}
 use Rattle.bp_tree.proofs.ExistingPaths.{AllThere, inode_path-there, cover-one, copied-one}
-use Rattle.bp_tree.proofs.PerformsLaws.{performs_committed, takes_none}
+use Rattle.bp_commit.proofs.PerformsLaws.{performs_committed, takes_none}
 use Rattle.pm_epochs.specs.Crash.{commit}
 use Rattle.pm_epochs.proofs.CrashLaws.{quiet_none}
 use Rattle.pm_epochs.proofs.PieceLaws.{IsPiece-commit}
 use Rattle.pm_region.specs.Memory.{Memory, Adds, current_words}
 use Rattle.pm_region.proofs.MemoryLaws.{current_words-adds}
+use Rattle.bp_layout.specs.Thaw.{none_kept}
+use Rattle.bp_calls.proofs.Unthawed.{unthawed}
 
 -- a tree is sound under a smaller size too
 pub sound_smaller : (image : Image) (root size less : ℕ) → less ≤ size → IsSound image root size → IsSound image root less
@@ -88,7 +90,7 @@ none_shrinking image wf (suc n) size reached file smaller = needed_smaller image
 -- a file whose size word is stored to
 pub record Shrinks (image : Image) (blocks inodes : Set) (i size place : ℕ) : Type 0 where
   pub well_formed : IsWellFormed image
-  pub exact : AreExact image blocks inodes
+  pub exact : AreExact image none_kept blocks inodes
   pub reached : IsReached image i
   pub is_file : kind_of image i ≡ 1
   pub smaller : size < size_of image i
@@ -113,6 +115,7 @@ module _ (image : Image) (blocks inodes : Set) (n size place : ℕ) (shrinks : S
     is_file = shrinks.is_file;
     stands = shrinks.stands;
     sound = sound_smaller image (root_of image file) (size_of image file) size (omega (arith, shrinks.smaller)) (wf.sound file shrinks.reached);
+    low = λ some. wf.low file shrinks.reached (omega (arith, some, shrinks.smaller));
     apart = λ u b reached other here there. other (wf.apart u file b reached shrinks.reached there (has_larger image (root_of image file) size (size_of image file) b (omega (arith, shrinks.smaller)) here));
   }
 
@@ -182,12 +185,13 @@ module _ (image : Image) (blocks inodes : Set) (n size place : ℕ) (shrinks : S
     past = gone.past;
   }
 
-  exact_last : (after : Set) → GivesBack (IsGivenUp last (root_of image file) (size_of image file) size) blocks after → AreExact last after inodes
+  exact_last : (after : Set) → GivesBack (IsGivenUp last (root_of image file) (size_of image file) size) blocks after → AreExact last none_kept after inodes
   exact_last after gives = record {
     block_room = rw (length-set image place size) (gives.room ∙ shrinks.exact.block_room);
     inode_room = rw (length-set image place size) shrinks.exact.inode_room;
     free_blocks = freed_blocks image last wf (length-set image place size) (IsGivenUp image (root_of image file) (size_of image file) size)
-        (resize_frees image wf n size place can (omega (arith, shrinks.smaller))) (has blocks) (has after) shrinks.exact.free_blocks told.only told.still told.given;
+        (resize_frees image wf n size place can (omega (arith, shrinks.smaller))) none_kept (has blocks) (has after) shrinks.exact.free_blocks
+        (λ b is. elim (told.only b is) [ inl was ↦ inl was | inr gone ↦ inr (gone, refl) ]) told.still (λ b gone loose. told.given b gone);
     free_inodes = free_inodes_stay image last (has inodes) (changes.size 0 inode_file (λ e. suc-ne-zero n (sym e)))
         (changed.reached-back image last file wf changes) (changed.reached-on image last file wf changes) shrinks.exact.free_inodes;
   }
@@ -206,22 +210,23 @@ module _ (old new : Memory) (blocks inodes : Set) (n size place : ℕ) (shrinks 
   stored : current_words new ≡ set (current_words old) place size
   stored = current_words-adds old new (commit place size) adds
 
-  pub shorter_performs : Performs old new (resizes (suc n) size) (ResizesFile (suc n) size)
+  pub shorter_performs : Performs none_kept old new (resizes (suc n) size) (ResizesFile (suc n) size)
   shorter_performs =
-      performs_committed old new (resizes (suc n) size) (ResizesFile (suc n) size) place size 2 1 []
+      unthawed old new (resizes (suc n) size) (ResizesFile (suc n) size)
+      (performs_committed none_kept old new (resizes (suc n) size) (ResizesFile (suc n) size) place size 2 1 []
       (record {
         prepared = [];
         adds = adds;
         quiet = quiet_none Same (current_words old) (same_self (current_words old) shrinks.well_formed);
         piece = IsPiece-commit place size;
       })
-      (takes_none (current_words old))
+      (takes_none (current_words old) none_kept)
       (rw stored (sym (at_cover (current_words old) blocks inodes n size place shrinks)))
       (omega arith) (omega arith)
       (sym (needed_smaller (current_words old) shrinks.well_formed n size shrinks.reached (omega (arith, shrinks.smaller))))
       (content_open (current_words old) [] 0 (8 * suc n + 2) place inode_file (let small = low (current_words old) blocks inodes n size place shrinks in omega (arith, small)) shrinks.stands)
       (rw stored (changed.well_formed-same (current_words old) (set (current_words old) place size) (suc n) shrinks.well_formed (changes (current_words old) blocks inodes n size place shrinks)))
-      (rw stored (resizes_last (current_words old) blocks inodes n size place shrinks))
+      (rw stored (resizes_last (current_words old) blocks inodes n size place shrinks)))
 
 -- ---- told of any number
 
@@ -244,7 +249,7 @@ can_give_back old new blocks inodes (suc n) size place root was at here shrinks 
 })
 
 pub shrunk : (old new : Memory) (blocks after inodes : Set) (i size place root was : ℕ) → root ≡ root_of (current_words old) i → was ≡ size_of (current_words old) i → Shrinks (current_words old) blocks inodes i size place → Adds old new (commit place size) →
-    GivesBack (IsGivenUp (current_words new) root was size) blocks after → Performs old new (resizes i size) (ResizesFile i size) × AreExact (current_words new) after inodes
+    GivesBack (IsGivenUp (current_words new) root was size) blocks after → Performs none_kept old new (resizes i size) (ResizesFile i size) × AreExact (current_words new) none_kept after inodes
 shrunk old new blocks after inodes zero size place root was at here shrinks adds gives = absurd (no_file (current_words old) shrinks.is_file)
 shrunk old new blocks after inodes (suc n) size place root was at here shrinks adds gives = (
   shorter_performs old new blocks inodes n size place shrinks adds,

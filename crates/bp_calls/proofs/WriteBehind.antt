@@ -1,5 +1,6 @@
 -- A write behind the size of a file: what it asks of a preparation, and that it is performed.
 use Rattle.std.proofs.Common.{◌≡◌, ◌⊎◌, ℕ, zero, suc, ◌+◌, ◌-◌, ◌*◌, ◌<◌, ◌≤◌, max, List, length, slice_index, refl, sym, ◌∙◌, ap, subst, inl, inr, arith, lt-ltb, le-ltb, le-leb}
+use Rattle.bp_limits.specs.Limits.{max_height}
 use Rattle.std.proofs.lemmas.Bool.{cases_lt, lt-leb}
 use Rattle.std.proofs.lemmas.List.{append-nil, length-append}
 use Rattle.bp_free.specs.Set.{Set, members}
@@ -16,10 +17,10 @@ use Rattle.pm_epochs.specs.Crash.{commit}
 use Rattle.pm_region.specs.Memory.{Memory, current_words, room_in, Adds}
 use Rattle.pm_region.proofs.MemoryLaws.{base-adds, length-current_words}
 use Rattle.pm_region.proofs.SafeLaws.{room_after_quiet}
-use Rattle.bp_tree.specs.Performs.{HasRoomFor, Performs, room_for}
+use Rattle.bp_commit.specs.Performs.{Performs, room_for}
 use Rattle.bp_append.specs.Given.{given}
 use Rattle.bp_append.specs.Stores.{prep_stores}
-use Rattle.bp_append.proofs.StoresLaws.{behind_whole}
+use Rattle.bp_append.proofs.StoresLaws.{behind_whole, room_behind_whole}
 use Rattle.bp_append.specs.Prepared.{CanPrepare, PreparesWith, need_for}
 use Rattle.bp_append.proofs.GrowsTree.{OnlyGrows, GrowsTree, only_need, grown_size, grown_performs}
 use Rattle.bp_append.proofs.GrownEffect.{grown_changes, grown_bytes, grown_live, grown_stays, grown_taken}
@@ -29,8 +30,14 @@ use Rattle.bp_calls.specs.Space.{LacksSpace}
 use Rattle.bp_calls.specs.WritesFile.{WritesFile, written_byte}
 use Rattle.bp_calls.proofs.FreeCounts.{free_members}
 use Rattle.bp_calls.proofs.TakenBlocks.{exact_taken, unused_members, usable_members}
+use Rattle.bp_layout.specs.Thaw.{none_kept}
+use Rattle.bp_calls.proofs.Unthawed.{lacks_thawed, room_asked, unthawed, prepared_room_of}
 
 -- ---- one byte
+
+-- behind the new bytes the old ones stay
+pub written_past : (off : ℕ) (bytes : List ℕ) (size : ℕ) (old : ℕ → ℕ) (o : ℕ) → off + length bytes ≤ o → o < size → written_byte off bytes size old o ≡ old o
+written_past off bytes size old o past below = rw (le-leb off o (omega (arith, past)), le-ltb o (off + length bytes) past, lt-ltb o size below) refl
 
 module _ (off : ℕ) (bytes : List ℕ) (size : ℕ) (old : ℕ → ℕ) (o : ℕ) where
   pub written_inside : off ≤ o → o < off + length bytes → written_byte off bytes size old o ≡ slice_index bytes (o - off)
@@ -86,7 +93,8 @@ module _ (old : Memory) (blocks inodes : Set) (n off : ℕ) (bytes : List ℕ) (
     usable = usable_members image blocks inodes can.exact _ (omega (arith, length-current_words old));
     unused = unused_members image blocks inodes can.exact;
     enough = enough;
-    room = let room = can.room (omega (arith, behind_need, enough)) in omega (arith, behind_need, room);
+    room = let room = room_asked old blocks (writes (suc n) off (length bytes)) can.room (omega (arith, behind_need, enough)) in
+        prepared_room_of _ _ _ _ behind_need (room_behind_whole (size_of image (suc n)) off end max_height) room;
   }
 
   module _ (middle new : Memory) (after : Set) (path : WordPath) (place : ℕ) (prepares : CanPrepare old (members blocks) (suc n) path off end) (stands : ContentStandsAt image 0 (8 * suc n + 2) place)
@@ -121,11 +129,12 @@ module _ (old : Memory) (blocks inodes : Set) (n off : ℕ) (bytes : List ℕ) (
       bytes_are = λ o low. byte_is o (omega (arith, low, size_is));
     }
 
-    pub behind_performs : Performs old new (writes (suc n) off (length bytes)) (WritesFile (suc n) off bytes)
+    pub behind_performs : Performs none_kept old new (writes (suc n) off (length bytes)) (WritesFile (suc n) off bytes)
     behind_performs =
-        grown_performs old middle new (members blocks) (members after) path n off end place bytes grows (writes (suc n) off (length bytes)) only (WritesFile (suc n) off bytes) behind_writes
+        unthawed old new (writes (suc n) off (length bytes)) (WritesFile (suc n) off bytes)
+        (grown_performs old middle new (members blocks) (members after) path n off end place bytes grows (writes (suc n) off (length bytes)) only (WritesFile (suc n) off bytes) behind_writes)
 
-    pub behind_exact : length after ≡ length blocks → AreExact (current_words new) after inodes
+    pub behind_exact : length after ≡ length blocks → AreExact (current_words new) none_kept after inodes
     unfolding grows
     behind_exact room =
         exact_taken image (current_words new) (suc n) can.well_formed behind_writes.changes prepared.taken blocks after inodes can.exact prepared.takes room
@@ -143,14 +152,12 @@ module _ (old : Memory) (blocks inodes : Set) (off : ℕ) (bytes : List ℕ) whe
   not_inodes P can = absurd (omega (arith, can.file))
 
   pub behind_lacks : (i root size needed free : ℕ) → CanWrite old blocks inodes i off bytes → size_of (current_words old) i ≤ off → root ≡ root_of (current_words old) i → size ≡ size_of (current_words old) i →
-      needed ≡ nodes_here root size → free ≡ length (members blocks) → free < needed → LacksSpace (current_words old) (writes i off (length bytes)) (record { need = needed; free = free })
+      needed ≡ nodes_here root size → free ≡ length (members blocks) → free < needed → LacksSpace (current_words old) none_kept (writes i off (length bytes)) (record { need = needed; free = free })
   behind_lacks zero root size needed free can = λ behind one two counted is fewer. not_inodes _ can
-  behind_lacks (suc n) root size needed free can = λ behind one two counted is fewer. record {
-    needed = behind_need old blocks inodes n off bytes can behind
-        ∙ sym (counted ∙ ap (λ r. nodes_here r size) one ∙ ap (nodes_here (root_of (current_words old) (suc n))) two);
-    free = subst (HasFree (current_words old)) (sym is) (free_members (current_words old) blocks can.exact.free_blocks can.exact.block_room);
-    fewer = fewer;
-  }
+  behind_lacks (suc n) root size needed free can = λ behind one two counted is fewer.
+      lacks_thawed (current_words old) (writes (suc n) off (length bytes)) needed free
+      (behind_need old blocks inodes n off bytes can behind ∙ sym (counted ∙ ap (λ r. nodes_here r size) one ∙ ap (nodes_here (root_of (current_words old) (suc n))) two))
+      (subst (HasFree (current_words old) none_kept) (sym is) (free_members (current_words old) none_kept blocks can.exact.free_blocks can.exact.block_room)) fewer
 
   pub behind_can : (i root size needed : ℕ) (path : WordPath) → CanWrite old blocks inodes i off bytes → size_of (current_words old) i ≤ off → root ≡ root_of (current_words old) i → size ≡ size_of (current_words old) i →
       needed ≡ nodes_here root size → needed ≤ length (members blocks) → path ≡ inode_path (height_of (root_of (current_words old) 0)) i 1 → CanPrepare old (members blocks) i path off (off + length bytes)
@@ -169,21 +176,21 @@ module _ (old : Memory) (blocks inodes : Set) (off : ℕ) (bytes : List ℕ) whe
         let left = room_after_quiet Same 2 (prep_stores (size_of (current_words old) (suc n)) off (off + length bytes) (need_for (current_words old) (suc n) off (off + length bytes))) old middle prepared.adds.part in
         let needs = behind_need old blocks inodes n off bytes can behind in
         let all : length (members blocks) ≡ length prepared.taken + length (members after) = ap (λ (xs : List ℕ). length xs) prepared.takes ∙ length-append prepared.taken (members after) in
-        let has : HasRoomFor old (writes (suc n) off (length bytes)) = can.room (omega (arith, needs, prepared.counted, all)) in
-        enough _ _ _ _ left (behind_whole (size_of (current_words old) (suc n)) off (off + length bytes) 3) (rw needs at has)
+        let has : room_for (need (current_words old) (writes (suc n) off (length bytes))) ≤ room_in old = room_asked old blocks (writes (suc n) off (length bytes)) can.room (omega (arith, needs, prepared.counted, all)) in
+        enough _ _ _ _ left (behind_whole (size_of (current_words old) (suc n)) off (off + length bytes) max_height) (rw needs at has)
       where
-        enough : (needed behind room left : ℕ) → room ≤ left + (2 + (512 * needed + behind + 2)) → behind ≤ 512 * suc 3 → room_for needed ≤ room → 3 ≤ left
+        enough : (needed behind room left : ℕ) → room ≤ left + (2 + (512 * needed + behind + 2)) → behind ≤ 512 * suc max_height → room_for needed ≤ room → 3 ≤ left
         enough needed behind room left a b c = omega (arith, a, b, c)
 
     module _ (new : Memory) (path : WordPath) (place : ℕ) where
       pub behind_performs_at : (i : ℕ) → CanWrite old blocks inodes i off bytes → size_of (current_words old) i ≤ off → CanPrepare old (members blocks) i path off (off + length bytes) →
           ContentStandsAt (current_words old) 0 (8 * i + 2) place → PreparesWith old middle (members blocks) (members after) i off (off + length bytes) bytes → Adds middle new (commit place (off + length bytes)) →
-          Performs old new (writes i off (length bytes)) (WritesFile i off bytes)
+          Performs none_kept old new (writes i off (length bytes)) (WritesFile i off bytes)
       behind_performs_at zero can = λ behind prepares stands prepared stored. not_inodes _ can
       behind_performs_at (suc n) can = λ behind prepares stands prepared stored. behind_performs old blocks inodes n off bytes can behind middle new after path place prepares stands prepared stored
 
       pub behind_exact_at : (i : ℕ) → CanWrite old blocks inodes i off bytes → size_of (current_words old) i ≤ off → CanPrepare old (members blocks) i path off (off + length bytes) →
           ContentStandsAt (current_words old) 0 (8 * i + 2) place → PreparesWith old middle (members blocks) (members after) i off (off + length bytes) bytes → Adds middle new (commit place (off + length bytes)) →
-          length after ≡ length blocks → AreExact (current_words new) after inodes
+          length after ≡ length blocks → AreExact (current_words new) none_kept after inodes
       behind_exact_at zero can = λ behind prepares stands prepared stored room. not_inodes _ can
       behind_exact_at (suc n) can = λ behind prepares stands prepared stored room. behind_exact old blocks inodes n off bytes can behind middle new after path place prepares stands prepared stored room

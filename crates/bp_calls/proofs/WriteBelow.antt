@@ -1,5 +1,5 @@
 -- A write below the size of a file: what it asks of a commit, and that it is performed.
-use Rattle.std.proofs.Common.{◌≡◌, ◌⊎◌, ℕ, zero, suc, ◌+◌, ◌-◌, ◌<◌, ◌≤◌, List, [], length, Some, slice_index, sym, ◌∙◌, ap, subst, inl, inr, arith}
+use Rattle.std.proofs.Common.{◌≡◌, ◌⊎◌, ℕ, zero, suc, ◌+◌, ◌-◌, ◌<◌, ◌≤◌, List, [], length, Some, slice_index, sym, ◌∙◌, ap, subst, inl, inr, arith, le_trans}
 use Rattle.std.proofs.lemmas.Bool.{cases_eq}
 use Rattle.std.proofs.lemmas.List.{take_all}
 use Rattle.bp_free.specs.Set.{Set, has, members}
@@ -13,8 +13,8 @@ use Rattle.bp_layout.specs.Words.{Image}
 use Rattle.bp_changes.specs.Effects.{ChangesFile}
 use Rattle.bp_changes.proofs.ChangesFile.{well_formed-same}
 use Rattle.bp_shapes.specs.Sets.{AreExact}
-use Rattle.bp_tree.specs.Performs.{HasRoomFor, Performs}
-use Rattle.pm_region.specs.Memory.{Memory, current_words}
+use Rattle.bp_commit.specs.Performs.{Performs, room_for}
+use Rattle.pm_region.specs.Memory.{Memory, current_words, room_in}
 use Rattle.bp_cow.specs.declared.touched.Run.{Run}
 use Rattle.bp_cow.specs.declared.touched.Touched.{Touched}
 use Rattle.bp_cow.specs.CanCommit.{CanCommit}
@@ -33,6 +33,8 @@ use Rattle.bp_calls.specs.TouchedBelow.{WritesBelow}
 use Rattle.bp_calls.specs.WritesFile.{WritesFile}
 use Rattle.bp_calls.proofs.FreeCounts.{free_members}
 use Rattle.bp_calls.proofs.RunCommits.{IsRunOf, commit_exact, commit_writes_file, few_leaves, run_in, run_is, run_open}
+use Rattle.bp_layout.specs.Thaw.{none_kept}
+use Rattle.bp_calls.proofs.Unthawed.{lacks_thawed, room_asked, unthawed}
 
 -- The run is all that is touched.
 record IsRunAlone (image : Image) (i : ℕ) (touched : Touched) (run : Run) : Type 0 where
@@ -80,9 +82,9 @@ module _ (old : Memory) (blocks inodes : Set) (n : ℕ) (touched : Touched) (run
     can = can;
     need_is = copies_need;
     room = λ enough.
-        let few = few_copies image (size_of image) touched (has blocks) wf can run is.one (few_leaves run asks.short) in
-        let room : HasRoomFor old (writes (suc n) run.off (length run.bytes.now)) = asks.room (omega (arith, copies_need, enough)) in
-        omega (arith, few, none, copies_need, room);
+        let few = few_copies image (size_of image) touched (has blocks) wf can run is.one (le_trans (few_leaves run asks.short) (omega arith)) in
+        let room : room_for (need image (writes (suc n) run.off (length run.bytes.now))) ≤ room_in old = room_asked old blocks (writes (suc n) run.off (length run.bytes.now)) asks.room (omega (arith, copies_need, enough)) in
+        omega (arith, few, few_leaves run asks.short, none, copies_need, room);
   }
 
   module _ (new : Memory) (after : Set) (small : (i : ℕ) → slice_index run.bytes.now i < 256) (done : CommitsTouched (size_of (current_words old)) touched old new blocks after) where
@@ -109,15 +111,16 @@ module _ (old : Memory) (blocks inodes : Set) (n : ℕ) (touched : Touched) (run
         (run_bytes image (current_words new) wf touched (has blocks) can run n is.one none asks.reached asks.file is.of.root is.of.height is.of.some is.of.below small (IsTurned (job_of touched) turned) done.words)
         (λ o past low. absurd (omega (arith, past, low, size_is)))
 
-    below_performs : Performs old new (writes (suc n) run.off (length run.bytes.now)) (WritesFile (suc n) run.off run.bytes.now)
+    below_performs : Performs none_kept old new (writes (suc n) run.off (length run.bytes.now)) (WritesFile (suc n) run.off run.bytes.now)
     below_performs =
-        commit_performs old new (writes (suc n) run.off (length run.bytes.now)) (WritesFile (suc n) run.off run.bytes.now) (size_of image) touched blocks after done
+        unthawed old new (writes (suc n) run.off (length run.bytes.now)) (WritesFile (suc n) run.off run.bytes.now)
+        (commit_performs old new (writes (suc n) run.off (length run.bytes.now)) (WritesFile (suc n) run.off run.bytes.now) (size_of image) touched blocks after done
         (run_cover image wf (size_of image) touched (has blocks) can run n is.one is.no_words asks.reached is.of.root is.of.height is.of.some is.of.below) copies_need
-        (let few = stores_few image (size_of image) touched (has blocks) wf can (omega (arith, leaves, few_leaves run asks.short)) in omega (arith, few, copies_need))
+        (let few = stores_few image (size_of image) touched (has blocks) wf can in omega (arith, few, leaves, few_leaves run asks.short, none, copies_need))
         (run_open image wf n asks.reached run is.of touched shape is.one done.taken)
-        (well_formed-same image (current_words new) (suc n) wf changes) below_writes
+        (well_formed-same image (current_words new) (suc n) wf changes) below_writes)
 
-    below_exact : length after ≡ length blocks → AreExact (current_words new) after inodes
+    below_exact : length after ≡ length blocks → AreExact (current_words new) none_kept after inodes
     below_exact room = commit_exact image (current_words new) (suc n) wf changes (size_of image) sizes blocks after inodes asks.exact room done.exact
 
 -- ---- by the number of the inode
@@ -131,11 +134,11 @@ module _ (old : Memory) (blocks inodes : Set) (touched : Touched) (run : Run) wh
   can_at (suc n) is asks = below_can old blocks inodes n touched run is asks
 
   module _ (new : Memory) (after : Set) (small : (i : ℕ) → slice_index run.bytes.now i < 256) (done : CommitsTouched (size_of (current_words old)) touched old new blocks after) where
-    performs_at : (i : ℕ) → IsRunAlone (current_words old) i touched run → CanWrite old blocks inodes i run.off run.bytes.now → Performs old new (writes i run.off (length run.bytes.now)) (WritesFile i run.off run.bytes.now)
+    performs_at : (i : ℕ) → IsRunAlone (current_words old) i touched run → CanWrite old blocks inodes i run.off run.bytes.now → Performs none_kept old new (writes i run.off (length run.bytes.now)) (WritesFile i run.off run.bytes.now)
     performs_at zero is asks = not_inodes _ asks
     performs_at (suc n) is asks = below_performs old blocks inodes n touched run is asks new after small done
 
-    exact_at : (i : ℕ) → IsRunAlone (current_words old) i touched run → CanWrite old blocks inodes i run.off run.bytes.now → length after ≡ length blocks → AreExact (current_words new) after inodes
+    exact_at : (i : ℕ) → IsRunAlone (current_words old) i touched run → CanWrite old blocks inodes i run.off run.bytes.now → length after ≡ length blocks → AreExact (current_words new) none_kept after inodes
     exact_at zero is asks = λ room. not_inodes _ asks
     exact_at (suc n) is asks = λ room. below_exact old blocks inodes n touched run is asks new after small done room
 
@@ -163,6 +166,7 @@ module _ (old : Memory) (blocks inodes : Set) (i off : ℕ) (bytes : List ℕ) (
       root = write.touches.root;
       height = write.touches.height;
       some = omega (arith, asks.some);
+      few = asks.short;
       below = of_run (λ o bs. o + length bs ≤ size_of (current_words old) i) write.below;
     };
   }
@@ -176,19 +180,18 @@ module _ (old : Memory) (blocks inodes : Set) (i off : ℕ) (bytes : List ℕ) (
   pub write_room : copied_count (current_words old) touched ≤ length (members blocks) → HasRoom old touched
   write_room = ready.room
 
-  pub write_lacks : (copies free : ℕ) → copies ≡ copied_count (current_words old) touched → free ≡ length (members blocks) → free < copies → LacksSpace (current_words old) (writes i off (length bytes)) (record { need = copies; free = free })
-  write_lacks copies free counted number fewer = record {
-    needed = sym (counted ∙ from_run (λ o bs. copied_count (current_words old) touched ≡ need (current_words old) (writes i o (length bs))) ready.need_is);
-    free = subst (HasFree (current_words old)) (sym number) (free_members (current_words old) blocks asks.exact.free_blocks asks.exact.block_room);
-    fewer = fewer;
-  }
+  pub write_lacks : (copies free : ℕ) → copies ≡ copied_count (current_words old) touched → free ≡ length (members blocks) → free < copies → LacksSpace (current_words old) none_kept (writes i off (length bytes)) (record { need = copies; free = free })
+  write_lacks copies free counted number fewer =
+      lacks_thawed (current_words old) (writes i off (length bytes)) copies free
+      (sym (counted ∙ from_run (λ o bs. copied_count (current_words old) touched ≡ need (current_words old) (writes i o (length bs))) ready.need_is))
+      (subst (HasFree (current_words old) none_kept) (sym number) (free_members (current_words old) none_kept blocks asks.exact.free_blocks asks.exact.block_room)) fewer
 
   module _ (new : Memory) (after : Set) (small : (k : ℕ) → slice_index bytes k < 256) (done : CommitsTouched (size_of (current_words old)) touched old new blocks after) where
     run_small : (k : ℕ) → slice_index run.bytes.now k < 256
     run_small = of_run (λ o bs. (k : ℕ) → slice_index bs k < 256) small
 
-    pub write_performs : Performs old new (writes i off (length bytes)) (WritesFile i off bytes)
-    write_performs = from_run (λ o bs. Performs old new (writes i o (length bs)) (WritesFile i o bs)) (performs_at old blocks inodes touched run new after run_small done i alone asks)
+    pub write_performs : Performs none_kept old new (writes i off (length bytes)) (WritesFile i off bytes)
+    write_performs = from_run (λ o bs. Performs none_kept old new (writes i o (length bs)) (WritesFile i o bs)) (performs_at old blocks inodes touched run new after run_small done i alone asks)
 
-    pub write_exact : length after ≡ length blocks → AreExact (current_words new) after inodes
+    pub write_exact : length after ≡ length blocks → AreExact (current_words new) none_kept after inodes
     write_exact = exact_at old blocks inodes touched run new after run_small done i alone asks

@@ -1,10 +1,11 @@
 -- The plain tree of an image in which bytes were written into a file.
-use Rattle.std.proofs.Common.{◌≡◌, ◌⊎◌, ℕ, ◌+◌, ◌-◌, ◌<◌, ◌≤◌, max, List, ◌++◌, length, take, drop, replicate, get_or, Some, refl, sym, ◌∙◌, ap, subst, inl, inr, arith, lt-ltb, le-ltb, le-leb}
+use Rattle.std.proofs.Common.{◌≡◌, ◌⊎◌, ℕ, ◌+◌, ◌-◌, ◌<◌, ◌≤◌, max, List, ◌++◌, length, take, drop, replicate, get_or, Some, refl, sym, ◌∙◌, ap, subst, inl, inr, arith}
 use Rattle.std.specs.FinMap.{get}
 use Rattle.std.proofs.lemmas.Bool.{cases_lt}
 use Rattle.std.proofs.lemmas.List.{get_or-append_right, get_or-drop, get_or-replicate, get_or-take, get_or_append_left, length-append, length-drop, length-replicate, length-take}
 use Rattle.std.proofs.lemmas.List.FromFn.{get_or-map-range_with_len, length-map-range_with_len}
-use Rattle.bp_calls.specs.WritesFile.{GetsBytes, WritesFile, written_byte}
+use Rattle.bp_calls.specs.OnTrees.{GetsBytes}
+use Rattle.bp_calls.specs.WritesFile.{WritesFile, written_byte}
 use Rattle.bp_layout.specs.Inode.{root_of, size_of}
 use Rattle.bp_layout.specs.Lookup.{node_of}
 use Rattle.bp_layout.specs.Lookup.Node.{file}
@@ -12,14 +13,10 @@ use Rattle.bp_layout.specs.Tree.{byte, content}
 use Rattle.bp_layout.specs.WellFormed.{IsWellFormed}
 use Rattle.bp_layout.specs.Words.{Image}
 use Rattle.bp_layout.proofs.NameBytes.{map-tells}
-use Rattle.bp_plain.specs.Plain.{bytes_at, bytes_in, with_bytes, written}
-use Rattle.bp_plain.specs.Stands.{Stands}
-use Rattle.bp_stands.proofs.FileStands.{file_stands, one_path}
-use Rattle.bp_calls.proofs.WriteBehind.{written_before, written_between, written_inside}
-
--- behind the new bytes the old ones stay
-pub written_past : (off : ℕ) (bytes : List ℕ) (size : ℕ) (old : ℕ → ℕ) (o : ℕ) → off + length bytes ≤ o → o < size → written_byte off bytes size old o ≡ old o
-written_past off bytes size old o past below = rw (le-leb off o (omega (arith, past)), le-ltb o (off + length bytes) past, lt-ltb o size below) refl
+use Rattle.bp_plain.specs.Plain.{bytes_at, bytes_in, with_content, written}
+use Rattle.bp_plain.specs.Stands.{Shows}
+use Rattle.bp_stands.proofs.FileStands.{content_shows}
+use Rattle.bp_calls.proofs.WriteBehind.{written_before, written_between, written_inside, written_past}
 
 -- the list with the new bytes, byte by byte
 module _ (had : List ℕ) (off : ℕ) (bytes : List ℕ) where
@@ -97,8 +94,7 @@ module _ (old new : Image) (wf : IsWellFormed old) (i off : ℕ) (bytes : List �
   node_is = rw is.changes.is_file refl
 
   pub written_gets : GetsBytes i off bytes old new
-  written_gets tree here stands at =
-      let there : get tree here ≡ Some (file had) = stands.shows here ∙ rw at (ap Some node_is) in
-      let same : content new (root_of new i) (size_of new i) ≡ written (bytes_at tree here) off bytes = bytes_are ∙ ap (λ found. written (bytes_in found) off bytes) (sym there) in
-      subst (λ whole_content. Stands new (with_bytes tree here whole_content)) same
-      (file_stands old new i wf is.changes tree _ stands (one_path old i (content new (root_of new i) (size_of new i)) wf tree here at))
+  written_gets map here shows at =
+      let there : get map.nodes here ≡ Some (file had) = shows.shows here ∙ rw at (ap Some node_is) in
+      let same : content new (root_of new i) (size_of new i) ≡ written (bytes_at map.nodes here) off bytes = bytes_are ∙ ap (λ found. written (bytes_in found) off bytes) (sym there) in
+      subst (λ whole_content. Shows new (with_content map here whole_content)) same (content_shows old new i wf is.changes here at map shows)

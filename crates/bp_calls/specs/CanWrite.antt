@@ -6,18 +6,21 @@ use Rattle.bp_layout.specs.Inode.{IsFile}
 use Rattle.bp_layout.specs.Need.Change.{writes}
 use Rattle.bp_layout.specs.Reached.{IsReached}
 use Rattle.bp_layout.specs.WellFormed.{IsWellFormed}
-use Rattle.bp_limits.specs.Limits.{max_size, max_write}
+use Rattle.bp_layout.specs.Formatted.{version_of}
+use Rattle.bp_limits.specs.Limits.{greatest_size, max_write}
 use Rattle.bp_calls.specs.Space.{HasRoomWhereFree}
 use Rattle.pm_region.specs.Memory.{Memory, current_words}
+use Rattle.bp_layout.specs.Thaw.{none_kept}
 
 -- The image is well formed, the sets are exact, and inode i is a file. There are bytes, no more than one call writes,
--- and they end where a file may end. The log has room for the change, where enough blocks are free.
+-- and they end where a file of the image's version may end. The log has room for the change, where enough blocks are
+-- free.
 pub record CanWrite (memory : Memory) (blocks inodes : Set) (i off : ℕ) (bytes : List ℕ) : Type 0 where
   pub well_formed : IsWellFormed (current_words memory)
-  pub exact : AreExact (current_words memory) blocks inodes
+  pub exact : AreExact (current_words memory) none_kept blocks inodes
   pub reached : IsReached (current_words memory) i
   pub file : IsFile (current_words memory) i
   pub some : 1 ≤ length bytes
   pub short : length bytes ≤ max_write
-  pub fits : off + length bytes ≤ max_size
-  pub room : HasRoomWhereFree memory blocks (writes i off (length bytes))
+  pub fits : off + length bytes ≤ greatest_size (version_of (current_words memory))
+  pub room : HasRoomWhereFree memory none_kept blocks (writes i off (length bytes))

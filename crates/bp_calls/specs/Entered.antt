@@ -1,12 +1,13 @@
 -- What stands ready for a new name, before the one store that shows it.
 use Rattle.std.specs.Prelude.{◌≡◌, ◌≢◌, ℕ, ◌+◌, ◌/◌, ◌<◌, ◌≤◌}
-use Rattle.bp_limits.specs.Limits.{entry_size}
+use Rattle.bp_layout.specs.Formatted.{version_of}
+use Rattle.bp_limits.specs.Limits.{entry_size, greatest_height}
 use Rattle.bp_layout.specs.Directory.{Name, inumber_at, inumber_in, name_at, name_in, entry_count}
 use Rattle.bp_layout.specs.Free.{IsFreeInode}
 use Rattle.bp_layout.specs.Inode.{IsDirectory, kind_of, root_of, size_of}
 use Rattle.bp_layout.specs.Reached.{IsReached}
 use Rattle.bp_layout.specs.Tree.{HasBlock, IsSound, IsFull}
-use Rattle.bp_layout.specs.Words.{Image}
+use Rattle.bp_layout.specs.Words.{Image, height_of}
 
 -- inode j, which no path reaches, is a file or a directory without bytes
 pub record IsNewInode (image : Image) (j kind : ℕ) : Type 0 where
@@ -30,6 +31,7 @@ pub record IsReadyBehind (image : Image) (i j : ℕ) (name : Name) : Type 0 wher
   pub reached : IsReached image i
   pub directory : IsDirectory image i
   pub sound : IsSound image (root_of image i) (size_of image i + entry_size)
+  pub low : height_of (root_of image i) ≤ greatest_height (version_of image)
   pub full : IsFull image (root_of image i) (size_of image i + entry_size)
   pub apart : (u b : ℕ) → IsReached image u → u ≢ i →
       HasBlock image (root_of image i) (size_of image i + entry_size) b →

@@ -1,11 +1,12 @@
 -- The inode file gets one more leaf of inodes where none is free, and a call goes on behind that.
-use Rattle.std.specs.Prelude.{◌≡◌, ◌≢◌, ◌⊎◌, ℕ, suc, ◌+◌, ◌*◌, ◌<◌, ◌≤◌, List, length, false}
+use Rattle.std.specs.Prelude.{◌≡◌, ◌≢◌, ◌⊎◌, ℕ, suc, ◌+◌, ◌*◌, ◌<◌, ◌≤◌, List, length}
 use Rattle.bp_changes.specs.SameMeaning.{SameMeaning}
 use Rattle.bp_free.specs.Set.{Set, members}
 use Rattle.bp_layout.specs.Inode.{root_of, size_of}
 use Rattle.bp_layout.specs.Members.{Has}
 use Rattle.bp_layout.specs.Need.{growth_count}
 use Rattle.bp_layout.specs.Need.Change.{enters}
+use Rattle.bp_layout.specs.Need.Entrant.{grown}
 use Rattle.bp_layout.specs.Nodes.{height_with}
 use Rattle.bp_layout.specs.Reached.{IsReached}
 use Rattle.bp_layout.specs.Tree.{byte, word_at, HasBlock, IsLiveWord}
@@ -13,18 +14,19 @@ use Rattle.bp_layout.specs.WellFormed.{IsWellFormed}
 use Rattle.bp_layout.specs.Words.{Image, height_of}
 use Rattle.bp_limits.specs.Limits.{block_size, block_words}
 use Rattle.bp_shapes.specs.Sets.{AreExact}
-use Rattle.bp_tree.specs.Performs.{AddsTaking, room_for}
+use Rattle.bp_commit.specs.Performs.{AddsTaking, room_for}
 use Rattle.pm_region.specs.Memory.{Memory, current_words, room_in}
+use Rattle.bp_layout.specs.Thaw.{none_kept}
 
 -- how many blocks the inode file takes for one more leaf: as many in each change that needs an inode and finds none
 abbrev pub growth_need : Image → ℕ
-growth_need image = growth_count image (enters 1 false)
+growth_need image = growth_count image (enters 1 grown)
 
 -- The image is well formed, and the sets are exact. As many blocks are free as the inode file takes, and the log has
 -- room for a call that needs so many.
 pub record CanGrowInodes (memory : Memory) (blocks inodes : Set) : Type 0 where
   pub well_formed : IsWellFormed (current_words memory)
-  pub exact : AreExact (current_words memory) blocks inodes
+  pub exact : AreExact (current_words memory) none_kept blocks inodes
   pub enough : growth_need (current_words memory) ≤ length (members blocks)
   pub room : room_for (growth_need (current_words memory)) ≤ room_in memory
 
@@ -60,6 +62,6 @@ stores_behind_growth needed = block_words * (needed + 4) + 64
 -- store.
 pub record GrowsInodes (old new : Memory) : Type 0 where
   pub taken : List ℕ
-  pub adds : AddsTaking taken 3 (growth_stores (length taken)) old new
+  pub adds : AddsTaking none_kept taken 3 (growth_stores (length taken)) old new
   pub number : length taken ≡ growth_need (current_words old)
   pub grown : AddsInodes (current_words old) (current_words new) taken

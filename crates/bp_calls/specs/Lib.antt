@@ -1,5 +1,7 @@
 pub mod Entered
+pub mod Entrant
 pub mod Created
+pub mod OnTrees
 pub mod Spare
 pub mod Steps
 pub mod Asked

@@ -1,19 +1,21 @@
 -- What stands before a name is entered in a directory.
-use Rattle.std.specs.Prelude.{◌≡◌, ◌≢◌, ℕ, ◌+◌, ◌≤◌, [], true, None, length}
+use Rattle.std.specs.Prelude.{◌≡◌, ◌≢◌, ℕ, ◌+◌, ◌≤◌, [], None, length}
 use Rattle.bp_append.specs.Prepared.{need_for}
-use Rattle.bp_calls.specs.Growth.{stores_behind_growth}
 use Rattle.bp_free.specs.Set.{Set, members}
 use Rattle.bp_layout.specs.Directory.{Name, IsName, empty_slot, slot_named}
 use Rattle.bp_layout.specs.Free.{IsFreeInode}
-use Rattle.bp_layout.specs.Inode.{IsDirectory, size_of}
+use Rattle.bp_layout.specs.Inode.{IsDirectory, IsFile, size_of}
 use Rattle.bp_layout.specs.Need.{need}
 use Rattle.bp_layout.specs.Need.Change.{enters}
+use Rattle.bp_layout.specs.Need.Entrant.{linked}
 use Rattle.bp_layout.specs.Reached.{IsReached}
 use Rattle.bp_layout.specs.WellFormed.{IsWellFormed}
 use Rattle.bp_layout.specs.Words.{Image}
+use Rattle.bp_calls.specs.Growth.{stores_behind_growth}
 use Rattle.bp_limits.specs.Limits.{entry_size}
 use Rattle.bp_shapes.specs.Sets.{AreExact}
 use Rattle.pm_region.specs.Memory.{Memory, current_words, room_in}
+use Rattle.bp_layout.specs.Thaw.{none_kept}
 
 -- directory i is reached, and has no such name
 pub record LacksName (image : Image) (i : ℕ) (name : Name) : Type 0 where
@@ -28,10 +30,20 @@ pub record CanName (image : Image) (i j : ℕ) (name : Name) : Type 0 where
   pub lacks : LacksName image i name
   pub free : IsFreeInode image j
 
--- the room in the log that a name asks once an inode is free, where it needs so many blocks: for its stores, 5 barriers
+-- the same, and inode j is a file that has a name
+pub record CanLink (image : Image) (i j : ℕ) (name : Name) : Type 0 where
+  pub lacks : LacksName image i name
+  pub there : IsReached image j
+  pub file : IsFile image j
+
+-- the room in the log that a name asks once an inode is there, where it needs so many blocks: for its stores, 5 barriers
 -- and its mark
 abbrev pub entering_room : ℕ → ℕ
 entering_room needed = stores_behind_growth needed + 5 + 1
+
+-- how many blocks a name takes in directory i, where its inode is there: as many whichever inode that is
+abbrev pub name_need : Image → ℕ → ℕ
+name_need image i = need image (enters i linked)
 
 -- how many blocks directory i lacks for one entry more
 abbrev pub entry_need_for : Image → ℕ → ℕ
@@ -43,7 +55,7 @@ pub record CanPutBehind (memory : Memory) (blocks : Set) (i : ℕ) (name : Name)
   pub lacks : LacksName (current_words memory) i name
   pub none : empty_slot (current_words memory) i ≡ None
   pub inodes : Set
-  pub exact : AreExact (current_words memory) blocks inodes
+  pub exact : AreExact (current_words memory) none_kept blocks inodes
   pub enough : entry_need_for (current_words memory) i ≤ length (members blocks)
   pub room : entering_room (entry_need_for (current_words memory) i) ≤ room_in memory
 
@@ -52,10 +64,23 @@ pub record CanEnterBehind (memory : Memory) (blocks : Set) (i j : ℕ) (name : N
   pub can : CanPutBehind memory blocks i name
   pub free : IsFreeInode (current_words memory) j
 
+-- or inode j is a file that has a name
+pub record CanLinkBehind (memory : Memory) (blocks : Set) (i j : ℕ) (name : Name) : Type 0 where
+  pub can : CanPutBehind memory blocks i name
+  pub there : IsReached (current_words memory) j
+  pub file : IsFile (current_words memory) j
+
 -- The directory lacks the name, the sets are exact, an inode is free, and so are as many blocks as the name needs.
 pub record CanEnter (memory : Memory) (blocks inodes : Set) (i : ℕ) (name : Name) : Type 0 where
   pub lacks : LacksName (current_words memory) i name
-  pub exact : AreExact (current_words memory) blocks inodes
+  pub exact : AreExact (current_words memory) none_kept blocks inodes
   pub some : members inodes ≢ []
-  pub enough : need (current_words memory) (enters i true) ≤ length (members blocks)
-  pub room : entering_room (need (current_words memory) (enters i true)) ≤ room_in memory
+  pub enough : name_need (current_words memory) i ≤ length (members blocks)
+  pub room : entering_room (name_need (current_words memory) i) ≤ room_in memory
+
+-- the same of file j, which is there
+pub record CanShare (memory : Memory) (blocks inodes : Set) (i j : ℕ) (name : Name) : Type 0 where
+  pub link : CanLink (current_words memory) i j name
+  pub exact : AreExact (current_words memory) none_kept blocks inodes
+  pub enough : name_need (current_words memory) i ≤ length (members blocks)
+  pub room : entering_room (name_need (current_words memory) i) ≤ room_in memory

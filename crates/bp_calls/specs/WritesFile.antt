@@ -1,13 +1,9 @@
 -- Bytes are written into a file.
-use Rattle.std.specs.Prelude.{◌≡◌, ℕ, ◌+◌, ◌-◌, ◌<◌, ◌&&◌, nat_le, nat_lt, max, if◌then◌else◌, List, Some, length, slice_index}
+use Rattle.std.specs.Prelude.{◌≡◌, ℕ, ◌+◌, ◌-◌, ◌<◌, ◌&&◌, nat_le, nat_lt, max, if◌then◌else◌, List, length, slice_index}
 use Rattle.bp_layout.specs.Inode.{root_of, size_of}
-use Rattle.bp_layout.specs.Lookup.{Path, lookup}
 use Rattle.bp_layout.specs.Tree.{byte}
 use Rattle.bp_layout.specs.Words.{Image}
 use Rattle.bp_changes.specs.Effects.{ChangesFile}
-use Rattle.bp_plain.specs.Plain.{bytes_at, with_bytes, written}
-use Rattle.bp_plain.specs.PlainTree.{FileTree}
-use Rattle.bp_plain.specs.Stands.{Stands}
 
 -- one byte of a file once bytes were written from an offset on, where it had this size and this byte
 abbrev pub written_byte : ℕ → List ℕ → ℕ → (ℕ → ℕ) → ℕ → ℕ
@@ -22,9 +18,3 @@ pub record WritesFile (i off : ℕ) (bytes : List ℕ) (old new : Image) : Type 
   pub size : size_of new i ≡ max (size_of old i) (off + length bytes)
   pub bytes_are : (o : ℕ) → o < size_of new i → byte new (root_of new i) o
       ≡ written_byte off bytes (size_of old i) (byte old (root_of old i)) o
-
--- wherever a path finds file i, the second image stands for the tree with these bytes in the file from an offset on,
--- behind zeros where it ended before
-abbrev pub GetsBytes : ℕ → ℕ → List ℕ → Image → Image → Type 0
-GetsBytes i off bytes old new = (tree : FileTree) (here : Path) → Stands old tree → lookup old here ≡ Some i
-    → Stands new (with_bytes tree here (written (bytes_at tree here) off bytes))

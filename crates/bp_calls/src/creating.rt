@@ -1,55 +1,46 @@
 //! New names.
 
-ghost use Rattle.std.specs.Prelude.{◌≡◌, ◌≢◌, ◌+◌, ◌*◌, ◌≤◌, [], None, false, true, Bool, IfErr, OnErr, OnOk, length};
+ghost use Rattle.std.specs.Prelude.{◌≡◌, ◌≢◌, ℕ, ◌+◌, ◌*◌, ◌≤◌, [], Option, None, IfErr, OnErr, OnOk, length};
 ghost use Rattle.bp_calls.specs.Created.{EntersName};
+ghost use Rattle.bp_calls.specs.Entrant.{entrant_of};
 ghost use Rattle.bp_calls.specs.Growth.{stores_behind_growth};
 ghost use Rattle.bp_calls.specs.Space.{HasRoomWhereFree, LacksSpace};
-ghost use Rattle.bp_calls.specs.Steps.{CanEnter, LacksName};
+ghost use Rattle.bp_calls.specs.Steps.{CanEnter, LacksName, name_need};
 ghost use Rattle.bp_free.specs.Set.{IsLeast, members, without};
 ghost use Rattle.bp_layout.specs.Directory.{IsName, empty_slot, slot_named};
-ghost use Rattle.bp_layout.specs.Free.{TellsFreeInode};
+ghost use Rattle.bp_layout.specs.Free.{IsLeastFree};
 ghost use Rattle.bp_layout.specs.Inode.{IsDirectory, root_of, size_of};
 ghost use Rattle.bp_layout.specs.Need.{need};
 ghost use Rattle.bp_layout.specs.Need.Change.{enters};
+ghost use Rattle.bp_layout.specs.Need.Entrant.{grown};
 ghost use Rattle.bp_layout.specs.Reached.{IsReached};
 ghost use Rattle.bp_layout.specs.WellFormed.{IsWellFormed};
 ghost use Rattle.bp_limits.specs.Limits.{max_height};
-ghost use Rattle.bp_shapes.specs.Sets.{AreExact};
-ghost use Rattle.bp_tree.specs.Performs.{HasRoomFor, Performs, PerformsWithin};
+ghost use Rattle.bp_shapes.specs.Sets.{IsExact, kept_of};
+ghost use Rattle.bp_commit.specs.Performs.{HasRoomFor, Performs, PerformsWithin};
 ghost use Rattle.pm_region.specs.Memory.{current_words};
 
-use crate::entering::{enter_behind, enter_slot, tree_of};
+use crate::entering::{enter_behind, enter_slot};
 use crate::growing::{grow, grow_need};
 use bp_append::need_prep;
 use bp_dirs::free_slot;
 use bp_free::{NoSpace, Numbers, Parts};
+use bp_inodes::tree_of;
 use bp_layout::Kind;
 use bp_limits::ENTRY_SIZE;
 use bp_tree::Tree;
 use pm_region::Region;
 
-/// The least number of a set that is not empty.
-fn take<K>(numbers: &mut Numbers<K>) -> u32
-    requires { members numbers.old ≢ [] }
-    ensures least { IsLeast numbers.old result }
-    ensures rest { numbers.new ≡ without numbers.old result }
-{
-    match numbers.take() {
-        Some(number) => number,
-        None => unreachable!(),
-    }
-}
-
-/// How many blocks a name takes where an inode is free, given its directory's tree and least empty slot: those that the
-/// tree lacks for one entry more, where no slot is empty.
-fn entry_need<R: Region>(region: &R, dir: u32, tree: Tree, slot: Option<u64>) -> u32
+/// How many blocks a name takes where its inode is there, given its directory's tree and least empty slot: those that
+/// the tree lacks for one entry more, where no slot is empty.
+pub(crate) fn entry_need<R: Region>(region: &R, dir: u32, tree: Tree, slot: Option<u64>) -> u32
     requires well_formed { IsWellFormed (current_words (R.memory region.now)) }
     requires reached { IsReached (current_words (R.memory region.now)) dir }
     requires directory { IsDirectory (current_words (R.memory region.now)) dir }
     requires root { tree.root ≡ root_of (current_words (R.memory region.now)) dir }
     requires size { tree.size ≡ size_of (current_words (R.memory region.now)) dir }
     requires slot { slot ≡ empty_slot (current_words (R.memory region.now)) dir }
-    ensures need { result ≡ need (current_words (R.memory region.now)) (enters dir true) }
+    ensures need { result ≡ name_need (current_words (R.memory region.now)) dir }
     ensures few { result ≤ 18 + 3 * max_height }
 {
     match slot {
@@ -61,13 +52,17 @@ fn entry_need<R: Region>(region: &R, dir: u32, tree: Tree, slot: Option<u64>) ->
 /// Names the least free inode in a directory, in its least empty slot or behind its last entry.
 fn enter<R: Region>(parts: &mut Parts<R>, dir: u32, slot: Option<u64>, name: &[u8], kind: Kind)
     requires can { CanEnter (R.memory parts.old.region) parts.old.blocks parts.old.inodes dir name.now }
+    requires exact { IsExact (current_words (R.memory parts.old.region)) parts.old }
     requires slot { slot ≡ empty_slot (current_words (R.memory parts.old.region)) dir }
-    ensures performs { PerformsWithin 5
-        (stores_behind_growth (need (current_words (R.memory parts.old.region)) (enters dir true)))
-        (R.memory parts.old.region) (R.memory parts.new.region) (enters dir true) (EntersName dir name.now kind) }
-    ensures exact { AreExact (current_words (R.memory parts.new.region)) parts.new.blocks parts.new.inodes }
+    ensures performs { (free : Option ℕ) → IsLeastFree (current_words (R.memory parts.old.region)) free
+        → PerformsWithin (kept_of parts.old) (name_need (current_words (R.memory parts.old.region)) dir) 5
+        (stores_behind_growth (name_need (current_words (R.memory parts.old.region)) dir))
+        (R.memory parts.old.region) (R.memory parts.new.region) (enters dir (entrant_of free))
+        (EntersName dir name.now kind) }
+    ensures exact { IsExact (current_words (R.memory parts.new.region)) parts.new }
 {
-    let inode = take(&mut parts.inodes);
+    let inode = parts.inodes.take_least();
+    parts.counts.set(inode, 1);
     match slot {
         Some(slot) => enter_slot(&mut parts.region, dir, slot, inode, name, kind),
         None => enter_behind(parts, dir, inode, name, kind),
@@ -83,14 +78,14 @@ fn grow_and_enter<R: Region>(
     kind: Kind,
 )
     requires lacks { LacksName (current_words (R.memory parts.old.region)) dir name.now }
-    requires exact { AreExact (current_words (R.memory parts.old.region)) parts.old.blocks parts.old.inodes }
+    requires exact { IsExact (current_words (R.memory parts.old.region)) parts.old }
     requires slot { slot ≡ empty_slot (current_words (R.memory parts.old.region)) dir }
-    requires enough { need (current_words (R.memory parts.old.region)) (enters dir false)
+    requires enough { need (current_words (R.memory parts.old.region)) (enters dir grown)
         ≤ length (members parts.old.blocks) }
-    requires room { HasRoomFor (R.memory parts.old.region) (enters dir false) }
-    ensures performs { Performs (R.memory parts.old.region) (R.memory parts.new.region) (enters dir false)
-        (EntersName dir name.now kind) }
-    ensures exact { AreExact (current_words (R.memory parts.new.region)) parts.new.blocks parts.new.inodes }
+    requires room { HasRoomFor (R.memory parts.old.region) (kept_of parts.old) (enters dir grown) }
+    ensures performs { Performs (kept_of parts.old) (R.memory parts.old.region) (R.memory parts.new.region)
+        (enters dir grown) (EntersName dir name.now kind) }
+    ensures exact { IsExact (current_words (R.memory parts.new.region)) parts.new }
 {
     grow(parts);
     enter(parts, dir, slot, name, kind);
@@ -110,21 +105,23 @@ pub fn create_in<R: Region>(
     kind: Kind,
 ) -> Result<(), NoSpace>
     requires well_formed { IsWellFormed (current_words (R.memory parts.old.region)) }
-    requires exact { AreExact (current_words (R.memory parts.old.region)) parts.old.blocks parts.old.inodes }
+    requires exact { IsExact (current_words (R.memory parts.old.region)) parts.old }
     requires reached { IsReached (current_words (R.memory parts.old.region)) dir }
     requires directory { IsDirectory (current_words (R.memory parts.old.region)) dir }
     requires name { IsName name.now }
     requires slot { slot ≡ empty_slot (current_words (R.memory parts.old.region)) dir }
     requires new { slot_named (current_words (R.memory parts.old.region)) dir name.now ≡ None }
-    requires room { (free : Bool) → TellsFreeInode (current_words (R.memory parts.old.region)) free
-        → HasRoomWhereFree (R.memory parts.old.region) parts.old.blocks (enters dir free) }
-    ensures performs { OnOk result ((free : Bool) → TellsFreeInode (current_words (R.memory parts.old.region)) free
-        → Performs (R.memory parts.old.region) (R.memory parts.new.region) (enters dir free)
-        (EntersName dir name.now kind)) }
-    ensures exact { AreExact (current_words (R.memory parts.new.region)) parts.new.blocks parts.new.inodes }
-    ensures refused { IfErr result (λ lacks. (free : Bool)
-        → TellsFreeInode (current_words (R.memory parts.old.region)) free
-        → LacksSpace (current_words (R.memory parts.old.region)) (enters dir free) lacks) }
+    requires room { (free : Option ℕ) → IsLeastFree (current_words (R.memory parts.old.region)) free
+        → HasRoomWhereFree (R.memory parts.old.region) (kept_of parts.old) parts.old.blocks
+        (enters dir (entrant_of free)) }
+    ensures performs { OnOk result ((free : Option ℕ) → IsLeastFree (current_words (R.memory parts.old.region)) free
+        → Performs (kept_of parts.old) (R.memory parts.old.region) (R.memory parts.new.region)
+        (enters dir (entrant_of free)) (EntersName dir name.now kind)) }
+    ensures exact { IsExact (current_words (R.memory parts.new.region)) parts.new }
+    ensures refused { IfErr result (λ lacks. (free : Option ℕ)
+        → IsLeastFree (current_words (R.memory parts.old.region)) free
+        → LacksSpace (current_words (R.memory parts.old.region)) (kept_of parts.old)
+        (enters dir (entrant_of free)) lacks) }
     ensures same { OnErr result (parts.new ≡ parts.old) }
 {
     let tree = tree_of(&parts.region, dir);
@@ -159,20 +156,22 @@ pub fn create<R: Region>(
     kind: Kind,
 ) -> Result<(), NoSpace>
     requires well_formed { IsWellFormed (current_words (R.memory parts.old.region)) }
-    requires exact { AreExact (current_words (R.memory parts.old.region)) parts.old.blocks parts.old.inodes }
+    requires exact { IsExact (current_words (R.memory parts.old.region)) parts.old }
     requires reached { IsReached (current_words (R.memory parts.old.region)) dir }
     requires directory { IsDirectory (current_words (R.memory parts.old.region)) dir }
     requires name { IsName name.now }
     requires new { slot_named (current_words (R.memory parts.old.region)) dir name.now ≡ None }
-    requires room { (free : Bool) → TellsFreeInode (current_words (R.memory parts.old.region)) free
-        → HasRoomWhereFree (R.memory parts.old.region) parts.old.blocks (enters dir free) }
-    ensures performs { OnOk result ((free : Bool) → TellsFreeInode (current_words (R.memory parts.old.region)) free
-        → Performs (R.memory parts.old.region) (R.memory parts.new.region) (enters dir free)
-        (EntersName dir name.now kind)) }
-    ensures exact { AreExact (current_words (R.memory parts.new.region)) parts.new.blocks parts.new.inodes }
-    ensures refused { IfErr result (λ lacks. (free : Bool)
-        → TellsFreeInode (current_words (R.memory parts.old.region)) free
-        → LacksSpace (current_words (R.memory parts.old.region)) (enters dir free) lacks) }
+    requires room { (free : Option ℕ) → IsLeastFree (current_words (R.memory parts.old.region)) free
+        → HasRoomWhereFree (R.memory parts.old.region) (kept_of parts.old) parts.old.blocks
+        (enters dir (entrant_of free)) }
+    ensures performs { OnOk result ((free : Option ℕ) → IsLeastFree (current_words (R.memory parts.old.region)) free
+        → Performs (kept_of parts.old) (R.memory parts.old.region) (R.memory parts.new.region)
+        (enters dir (entrant_of free)) (EntersName dir name.now kind)) }
+    ensures exact { IsExact (current_words (R.memory parts.new.region)) parts.new }
+    ensures refused { IfErr result (λ lacks. (free : Option ℕ)
+        → IsLeastFree (current_words (R.memory parts.old.region)) free
+        → LacksSpace (current_words (R.memory parts.old.region)) (kept_of parts.old)
+        (enters dir (entrant_of free)) lacks) }
     ensures same { OnErr result (parts.new ≡ parts.old) }
 {
     let slot = free_slot(&parts.region, tree_of(&parts.region, dir));

@@ -1,43 +1,31 @@
 //! A name and its inode in a directory: in an empty entry, or in one behind the last.
 
-ghost use Rattle.std.specs.Prelude.{Some, true, ◌≡◌, ◌+◌, ◌≤◌, length};
+ghost use Rattle.std.specs.Prelude.{Some, ◌≡◌, ◌+◌, ◌≤◌, length};
 ghost use Rattle.bp_shapes.specs.Sets.{AreExact};
-ghost use Rattle.bp_calls.specs.Created.{EntersName};
+ghost use Rattle.bp_calls.specs.Created.{CountsName, EntersName};
 ghost use Rattle.bp_calls.specs.Entries.{AreEntryBytes, PutsBehind, entry_byte};
 ghost use Rattle.bp_calls.specs.Growth.{stores_behind_growth};
-ghost use Rattle.bp_calls.specs.Steps.{CanEnterBehind, CanName, CanPutBehind, entering_room};
+ghost use Rattle.bp_calls.specs.Steps.{CanEnterBehind, CanName, CanPutBehind, entering_room, name_need};
 ghost use Rattle.bp_free.specs.Set.{Set, members, without};
 ghost use Rattle.bp_layout.specs.Directory.{empty_slot};
 ghost use Rattle.bp_layout.specs.Inode.{root_of, size_of};
-ghost use Rattle.bp_layout.specs.Need.{need};
 ghost use Rattle.bp_layout.specs.Need.Change.{enters};
+ghost use Rattle.bp_layout.specs.Need.Entrant.{taken};
 ghost use Rattle.bp_layout.specs.Reached.{IsReached};
+ghost use Rattle.bp_layout.specs.Thaw.{none_kept};
 ghost use Rattle.bp_layout.specs.WellFormed.{IsWellFormed};
-ghost use Rattle.bp_tree.specs.Performs.{PerformsWithin};
+ghost use Rattle.bp_commit.specs.Performs.{PerformsWithin};
 ghost use Rattle.pm_region.specs.Memory.{current_words, room_in};
 
-use crate::writing::root_path;
 use bp_append::prep;
 use bp_dirs::{entry_place, put_name};
 use bp_free::Parts;
-use bp_inodes::{fill, place};
+use bp_inodes::{fill, place, root_path, tree_of};
 use bp_inplace::commit_word;
 use bp_layout::Kind;
-use bp_limits::ENTRY_SIZE;
+use bp_limits::{ENTRY_SIZE, SIZE_FIELD};
 use bp_tree::{Tree, content_word};
 use pm_region::Region;
-
-/// The tree of an inode.
-pub fn tree_of<R: Region>(region: &R, i: u32) -> Tree
-    requires well_formed { IsWellFormed (current_words (R.memory region.now)) }
-    requires reached { IsReached (current_words (R.memory region.now)) i }
-    requires some { 1 ≤ i }
-    ensures root { result.root ≡ root_of (current_words (R.memory region.now)) i }
-    ensures size { result.size ≡ size_of (current_words (R.memory region.now)) i }
-{
-    let inode = bp_inodes::get(region, i);
-    Tree::of(&inode)
-}
 
 /// Names a new inode in an empty entry of a directory.
 pub(crate) fn enter_slot<R: Region>(
@@ -50,13 +38,14 @@ pub(crate) fn enter_slot<R: Region>(
 )
     requires can { CanName (current_words (R.memory region.old)) dir inode name.now }
     requires found { empty_slot (current_words (R.memory region.old)) dir ≡ Some slot }
-    requires room { entering_room (need (current_words (R.memory region.old)) (enters dir true))
+    requires room { entering_room (name_need (current_words (R.memory region.old)) dir)
         ≤ room_in (R.memory region.old) }
-    ensures performs { PerformsWithin 5
-        (stores_behind_growth (need (current_words (R.memory region.old)) (enters dir true)))
-        (R.memory region.old) (R.memory region.new) (enters dir true) (EntersName dir name.now kind) }
-    ensures exact { (blocks inodes : Set) → AreExact (current_words (R.memory region.old)) blocks inodes
-        → AreExact (current_words (R.memory region.new)) blocks (without inodes inode) }
+    ensures performs { PerformsWithin none_kept (name_need (current_words (R.memory region.old)) dir) 5
+        (stores_behind_growth (name_need (current_words (R.memory region.old)) dir))
+        (R.memory region.old) (R.memory region.new) (enters dir (taken inode)) (EntersName dir name.now kind) }
+    ensures exact { (blocks inodes : Set) → AreExact (current_words (R.memory region.old)) none_kept blocks inodes
+        → AreExact (current_words (R.memory region.new)) none_kept blocks (without inodes inode) }
+    ensures counts { CountsName (current_words (R.memory region.old)) (current_words (R.memory region.new)) inode }
 {
     let tree = tree_of(region, dir);
     let entry = entry_place(region, tree, slot, 0);
@@ -102,6 +91,8 @@ pub fn put_behind<R: Region>(parts: &mut Parts<R>, dir: u32, tree: Tree, inode: 
         (members parts.new.blocks) dir inode name.now }
     ensures blocks { length parts.new.blocks ≡ length parts.old.blocks }
     ensures inodes { parts.new.inodes ≡ parts.old.inodes }
+    ensures counts { parts.new.counts ≡ parts.old.counts }
+    ensures frozen { parts.new.frozen ≡ parts.old.frozen }
 {
     let end = tree.size + ENTRY_SIZE;
     let at = root_path(&parts.region, dir);
@@ -126,15 +117,21 @@ pub(crate) fn enter_behind<R: Region>(
     kind: Kind,
 )
     requires can { CanEnterBehind (R.memory parts.old.region) parts.old.blocks dir inode name.now }
-    ensures performs { PerformsWithin 5
-        (stores_behind_growth (need (current_words (R.memory parts.old.region)) (enters dir true)))
-        (R.memory parts.old.region) (R.memory parts.new.region) (enters dir true) (EntersName dir name.now kind) }
-    ensures exact { (inodes : Set) → AreExact (current_words (R.memory parts.old.region)) parts.old.blocks inodes
-        → AreExact (current_words (R.memory parts.new.region)) parts.new.blocks (without inodes inode) }
+    ensures performs { PerformsWithin none_kept (name_need (current_words (R.memory parts.old.region)) dir) 5
+        (stores_behind_growth (name_need (current_words (R.memory parts.old.region)) dir))
+        (R.memory parts.old.region) (R.memory parts.new.region) (enters dir (taken inode))
+        (EntersName dir name.now kind) }
+    ensures exact { (inodes : Set)
+        → AreExact (current_words (R.memory parts.old.region)) none_kept parts.old.blocks inodes
+        → AreExact (current_words (R.memory parts.new.region)) none_kept parts.new.blocks (without inodes inode) }
+    ensures counts { CountsName (current_words (R.memory parts.old.region))
+        (current_words (R.memory parts.new.region)) inode }
     ensures inodes { parts.new.inodes ≡ parts.old.inodes }
+    ensures counted { parts.new.counts ≡ parts.old.counts }
+    ensures frozen { parts.new.frozen ≡ parts.old.frozen }
 {
     let tree = tree_of(&parts.region, dir);
-    let size_place = place(&parts.region, dir, 2);
+    let size_place = place(&parts.region, dir, SIZE_FIELD);
     put_behind(parts, dir, tree, inode, name);
     fill(&mut parts.region, inode, kind);
     commit_word(&mut parts.region, size_place, tree.size + ENTRY_SIZE);

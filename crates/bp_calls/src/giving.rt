@@ -1,40 +1,18 @@
 //! The blocks of a tree that lie behind a smaller size are given back.
 
-ghost use Rattle.std.specs.Prelude.{◌≡◌, ℕ, ◌-◌, ◌*◌, ◌<◌, ◌≤◌, false, length, IfNone, IfSome};
+ghost use Rattle.std.specs.Prelude.{◌≡◌, ℕ, ◌-◌, ◌*◌, ◌<◌, ◌≤◌, false, length};
 ghost use Rattle.bp_calls.specs.GivenUp.{IsTopGivenUp};
 ghost use Rattle.bp_calls.specs.GivenBack.{GivesBack};
 ghost use Rattle.bp_free.specs.Set.{has};
-ghost use Rattle.bp_layout.specs.Pieces.{child, piece};
 ghost use Rattle.bp_layout.specs.Tree.{HasBlock, IsSound, span};
-ghost use Rattle.bp_layout.specs.Words.{block_count, block_of, height_of, slot_word};
+ghost use Rattle.bp_layout.specs.Words.{block_count};
 ghost use Rattle.bp_shapes.specs.Freed.{IsGivenUp};
 ghost use Rattle.pm_region.specs.Memory.{current_words};
 
 use bp_free::Blocks;
-use bp_tree::{Tree, load_slot};
+use bp_tree::{Tree, child};
 use pm_region::Region;
 use pm_words::span;
-
-/// The tree in a slot of the topmost block of a tree that is higher than a leaf. None where the slot is null.
-fn subtree<R: Region>(region: &R, tree: Tree, slot: u64) -> Option<Tree>
-    requires sound { IsSound (current_words (R.memory region.now)) tree.root tree.size }
-    requires high { 1 ≤ height_of tree.root }
-    requires live { slot * span (height_of tree.root - 1) < tree.size }
-    ensures none { IfNone result (slot_word (current_words (R.memory region.now)) (block_of tree.root) slot ≡ 0) }
-    ensures root { IfSome result (λ below. below.root ≡
-        child (current_words (R.memory region.now)) (block_of tree.root) (height_of tree.root - 1) slot) }
-    ensures size { IfSome result (λ below. below.size ≡ piece tree.size (height_of tree.root - 1) slot) }
-{
-    let pointer = load_slot(region, tree.block(), slot);
-    if pointer == 0 {
-        return None;
-    }
-    let level = tree.height() - 1;
-    Some(Tree {
-        root: pointer + u64::from(level),
-        size: (tree.size - slot * span(level)).min(span(level)),
-    })
-}
 
 /// Gives the topmost block of a tree back, where nothing is left of the tree.
 fn give_top(blocks: &mut Blocks, top: u32, shorter: u64)
@@ -72,9 +50,7 @@ pub fn give_back<R: Region>(region: &R, tree: Tree, shorter: u64, blocks: &mut B
     }
     let step = span(height - 1);
     for slot in shorter / step..(tree.size - 1) / step + 1 {
-        match subtree(region, tree, slot) {
-            Some(below) => give_back(region, below, shorter.saturating_sub(slot * step), blocks),
-            None => {}
-        }
+        let below = child(region, tree, slot);
+        give_back(region, below, shorter.saturating_sub(slot * step), blocks);
     }
 }

@@ -1,13 +1,14 @@
 //! Laws of the paths of words, of free blocks, and of what calls make of the plain tree. Each is the contract of a
 //! function that does nothing.
 
-ghost use Rattle.std.specs.Prelude.{◌≡◌, ◌≤◌, ℕ, List, [], length};
+ghost use Rattle.std.specs.Prelude.{◌≡◌, ◌≤◌, ℕ, Bool, List, [], length};
 ghost use Rattle.bp_calls.specs.ContentPaths.{HasContentWord, KeepsHeights, WholePathExists};
-ghost use Rattle.bp_calls.specs.Created.{EntersName, GainsName};
+ghost use Rattle.bp_calls.specs.Created.{EntersName, LinksEntry};
 ghost use Rattle.bp_calls.specs.InPlace.{LiesInWord};
-ghost use Rattle.bp_calls.specs.Removed.{IsFoundAt, LosesName};
-ghost use Rattle.bp_calls.specs.Resized.{GetsSize, ResizesFile};
-ghost use Rattle.bp_calls.specs.WritesFile.{GetsBytes, WritesFile};
+ghost use Rattle.bp_calls.specs.OnTrees.{GainsName, GetsBytes, GetsSize, LosesName, SharesName};
+ghost use Rattle.bp_calls.specs.Removed.{IsFoundAt};
+ghost use Rattle.bp_calls.specs.Resized.{ResizesFile};
+ghost use Rattle.bp_calls.specs.WritesFile.{WritesFile};
 ghost use Rattle.bp_layout.specs.declared.fields.Kind.{Kind};
 ghost use Rattle.bp_changes.specs.Effects.{CanUnlink, RemovesEntry};
 ghost use Rattle.bp_dirs.specs.Names.{name_count};
@@ -32,17 +33,19 @@ pub fn content_paths_exist(image: &[u64])
         → WholePathExists image.now change t k }
 {}
 
-/// An image has one number of free blocks.
+/// An image has one number of free blocks, whichever are kept.
 pub fn one_number_is_free(image: &[u64])
-    ensures { (one other : ℕ) → HasFree image.now one → HasFree image.now other → one ≡ other }
+    ensures { (kept : ℕ → Bool) (one other : ℕ) → HasFree image.now kept one → HasFree image.now kept other
+        → one ≡ other }
 {}
 
 /// The blocks of an exact set are as many as the image has free.
 pub fn set_has_the_free(image: &[u64], blocks: &Blocks)
-    requires exact { AreFreeBlocks image.now (has blocks.now) }
     requires room { length blocks.now ≡ block_count image.now }
-    ensures count { HasFree image.now (length (members blocks.now)) }
-    ensures none { members blocks.now ≡ [] → HasFree image.now 0 }
+    ensures count { (kept : ℕ → Bool) → AreFreeBlocks image.now kept (has blocks.now)
+        → HasFree image.now kept (length (members blocks.now)) }
+    ensures none { (kept : ℕ → Bool) → AreFreeBlocks image.now kept (has blocks.now) → members blocks.now ≡ []
+        → HasFree image.now kept 0 }
 {}
 
 /// A change that is one store in its place needs no block: a name leaves, a file gets no more bytes than it has, or
@@ -60,6 +63,13 @@ pub fn entered_names_are_gained(old: &[u64], new: &[u64])
     requires { IsWellFormed old.now }
     ensures { (i : ℕ) (name : Name) (kind : Kind) → EntersName i name kind old.now new.now
         → GainsName i name kind old.now new.now }
+{}
+
+/// A file that was named in a directory is there too in the plain tree, at each path that finds the directory.
+pub fn linked_names_are_shared(old: &[u64], new: &[u64])
+    requires { IsWellFormed old.now }
+    ensures { (i : ℕ) (name : Name) (j : ℕ) → LinksEntry i name j old.now new.now
+        → SharesName i name j old.now new.now }
 {}
 
 /// A directory of which an entry was emptied loses the entry's name in the plain tree, at each path that finds the

@@ -11,9 +11,8 @@ ghost use Rattle.bp_layout.specs.Reached.{IsReached};
 ghost use Rattle.bp_layout.specs.WellFormed.{IsWellFormed};
 ghost use Rattle.pm_region.specs.Memory.{current_words};
 
-use crate::entering::tree_of;
 use bp_dirs::{EntryView, count};
-use bp_inodes::get;
+use bp_inodes::{get, tree_of};
 use bp_layout::Listing;
 use bp_limits::{BLOCK_ENTRIES, ENTRY_SIZE, ENTRY_WORDS, MAX_NAME};
 use bp_tree::leaf_words;

@@ -8,18 +8,18 @@ ghost use Rattle.bp_layout.specs.Inode.{IsFile, root_of, size_of};
 ghost use Rattle.bp_layout.specs.Need.Change.{resizes};
 ghost use Rattle.bp_layout.specs.Reached.{IsReached};
 ghost use Rattle.bp_layout.specs.WellFormed.{IsWellFormed};
-ghost use Rattle.bp_limits.specs.Limits.{max_size};
-ghost use Rattle.bp_shapes.specs.Sets.{AreExact};
-ghost use Rattle.bp_tree.specs.Performs.{Performs};
+ghost use Rattle.bp_layout.specs.Formatted.{version_of};
+ghost use Rattle.bp_limits.specs.Limits.{greatest_size};
+ghost use Rattle.bp_shapes.specs.Sets.{IsExact, kept_of};
+ghost use Rattle.bp_commit.specs.Performs.{Performs};
 ghost use Rattle.pm_region.specs.Memory.{current_words, room_in};
 
-use crate::entering::tree_of;
 use crate::giving::give_back;
-use crate::writing::root_path;
 use bp_append::{need_prep, prep};
 use bp_free::{NoSpace, Parts};
-use bp_inodes::place;
+use bp_inodes::{place, root_path, tree_of};
 use bp_inplace::commit_word;
+use bp_limits::SIZE_FIELD;
 use bp_tree::Tree;
 use pm_region::Region;
 
@@ -31,12 +31,14 @@ use pm_region::Region;
 /// `NoSpace` exactly where fewer blocks are free than it needs. Nothing has changed then.
 fn grow_file<R: Region>(parts: &mut Parts<R>, i: u32, tree: Tree, size: u64) -> Result<(), NoSpace>
     requires can { CanGrowFile (R.memory parts.old.region) parts.old.blocks parts.old.inodes i size }
+    requires exact { IsExact (current_words (R.memory parts.old.region)) parts.old }
     requires root { tree.root ≡ root_of (current_words (R.memory parts.old.region)) i }
     requires size { tree.size ≡ size_of (current_words (R.memory parts.old.region)) i }
-    ensures performs { OnOk result (Performs (R.memory parts.old.region) (R.memory parts.new.region)
+    ensures performs { OnOk result (Performs (kept_of parts.old) (R.memory parts.old.region) (R.memory parts.new.region)
         (resizes i size) (ResizesFile i size)) }
-    ensures exact { AreExact (current_words (R.memory parts.new.region)) parts.new.blocks parts.new.inodes }
-    ensures refused { IfErr result (LacksSpace (current_words (R.memory parts.old.region)) (resizes i size)) }
+    ensures exact { IsExact (current_words (R.memory parts.new.region)) parts.new }
+    ensures refused { IfErr result (LacksSpace (current_words (R.memory parts.old.region)) (kept_of parts.old)
+        (resizes i size)) }
     ensures same { OnErr result (parts.new ≡ parts.old) }
 {
     let need = need_prep(&parts.region, tree, size, size);
@@ -44,7 +46,7 @@ fn grow_file<R: Region>(parts: &mut Parts<R>, i: u32, tree: Tree, size: u64) -> 
     if free < need {
         return Err(NoSpace { need, free });
     }
-    let size_place = place(&parts.region, i, 2);
+    let size_place = place(&parts.region, i, SIZE_FIELD);
     let at = root_path(&parts.region, i);
     prep(parts, &at, size, &[], size);
     commit_word(&mut parts.region, size_place, size);
@@ -54,18 +56,18 @@ fn grow_file<R: Region>(parts: &mut Parts<R>, i: u32, tree: Tree, size: u64) -> 
 /// Gives a file a size below its own: the size is stored, and then the blocks come back that hold no byte below it.
 fn shrink_file<R: Region>(parts: &mut Parts<R>, i: u32, tree: Tree, size: u64)
     requires well_formed { IsWellFormed (current_words (R.memory parts.old.region)) }
-    requires exact { AreExact (current_words (R.memory parts.old.region)) parts.old.blocks parts.old.inodes }
+    requires exact { IsExact (current_words (R.memory parts.old.region)) parts.old }
     requires reached { IsReached (current_words (R.memory parts.old.region)) i }
     requires file { IsFile (current_words (R.memory parts.old.region)) i }
     requires root { tree.root ≡ root_of (current_words (R.memory parts.old.region)) i }
     requires size { tree.size ≡ size_of (current_words (R.memory parts.old.region)) i }
     requires smaller { size < tree.size }
     requires room { 3 ≤ room_in (R.memory parts.old.region) }
-    ensures performs { Performs (R.memory parts.old.region) (R.memory parts.new.region)
+    ensures performs { Performs (kept_of parts.old) (R.memory parts.old.region) (R.memory parts.new.region)
         (resizes i size) (ResizesFile i size) }
-    ensures exact { AreExact (current_words (R.memory parts.new.region)) parts.new.blocks parts.new.inodes }
+    ensures exact { IsExact (current_words (R.memory parts.new.region)) parts.new }
 {
-    let size_place = place(&parts.region, i, 2);
+    let size_place = place(&parts.region, i, SIZE_FIELD);
     commit_word(&mut parts.region, size_place, size);
     give_back(&parts.region, tree, size, &mut parts.blocks);
 }
@@ -78,16 +80,17 @@ fn shrink_file<R: Region>(parts: &mut Parts<R>, i: u32, tree: Tree, size: u64)
 /// `NoSpace` exactly where fewer blocks are free than it needs: a tree that gets higher takes a block for each level.
 pub fn truncate<R: Region>(parts: &mut Parts<R>, i: u32, size: u64) -> Result<(), NoSpace>
     requires well_formed { IsWellFormed (current_words (R.memory parts.old.region)) }
-    requires exact { AreExact (current_words (R.memory parts.old.region)) parts.old.blocks parts.old.inodes }
+    requires exact { IsExact (current_words (R.memory parts.old.region)) parts.old }
     requires reached { IsReached (current_words (R.memory parts.old.region)) i }
     requires file { IsFile (current_words (R.memory parts.old.region)) i }
-    requires fits { size ≤ max_size }
+    requires fits { size ≤ greatest_size (version_of (current_words (R.memory parts.old.region))) }
     requires changed { size ≢ size_of (current_words (R.memory parts.old.region)) i }
-    requires room { HasRoomWhereFree (R.memory parts.old.region) parts.old.blocks (resizes i size) }
-    ensures performs { OnOk result (Performs (R.memory parts.old.region) (R.memory parts.new.region)
+    requires room { HasRoomWhereFree (R.memory parts.old.region) (kept_of parts.old) parts.old.blocks (resizes i size) }
+    ensures performs { OnOk result (Performs (kept_of parts.old) (R.memory parts.old.region) (R.memory parts.new.region)
         (resizes i size) (ResizesFile i size)) }
-    ensures exact { AreExact (current_words (R.memory parts.new.region)) parts.new.blocks parts.new.inodes }
-    ensures refused { IfErr result (LacksSpace (current_words (R.memory parts.old.region)) (resizes i size)) }
+    ensures exact { IsExact (current_words (R.memory parts.new.region)) parts.new }
+    ensures refused { IfErr result (LacksSpace (current_words (R.memory parts.old.region)) (kept_of parts.old)
+        (resizes i size)) }
     ensures same { OnErr result (parts.new ≡ parts.old) }
 {
     let tree = tree_of(&parts.region, i);

@@ -2,7 +2,7 @@
 
 ghost use Rattle.std.specs.Prelude.{◌≡◌, ◌+◌, ◌≤◌, length, IfErr, OnErr, OnOk};
 ghost use Rattle.bp_calls.specs.CanWrite.{CanWrite};
-ghost use Rattle.bp_shapes.specs.Sets.{AreExact};
+ghost use Rattle.bp_shapes.specs.Sets.{IsExact, kept_of};
 ghost use Rattle.bp_calls.specs.Space.{LacksSpace};
 ghost use Rattle.bp_calls.specs.TouchedBelow.{TouchesBelow};
 ghost use Rattle.bp_calls.specs.WritesFile.{WritesFile};
@@ -10,37 +10,20 @@ ghost use Rattle.bp_layout.specs.Inode.{root_of, size_of};
 ghost use Rattle.bp_layout.specs.Need.Change.{writes};
 ghost use Rattle.bp_layout.specs.WordPaths.{inode_path};
 ghost use Rattle.bp_layout.specs.Words.{height_of};
-ghost use Rattle.bp_tree.specs.Performs.{Performs};
+ghost use Rattle.bp_commit.specs.Performs.{Performs};
 ghost use Rattle.pm_region.specs.Memory.{current_words};
 
 mod across;
 
-use crate::entering::tree_of;
 use crate::writing::across::write_across;
 use bp_append::{need_prep, prep};
 use bp_cow::{Run, Touched, commit_at, copies_below, find_cover};
 use bp_free::{NoSpace, Parts};
-use bp_inodes::{inode_file, place};
+use bp_inodes::{inode_file, place, root_path, tree_of};
 use bp_inplace::commit_word;
-use bp_limits::INODE_SIZE;
+use bp_limits::{INODE_SIZE, SIZE_FIELD};
 use bp_tree::{Slots, Tree, word_path};
 use pm_region::Region;
-
-/// The path of the root word of an inode.
-pub fn root_path<R: Region>(region: &R, i: u32) -> Slots
-    requires { 4 ≤ length (current_words (R.memory region.now)) }
-    ensures { result.items ≡ inode_path (height_of (root_of (current_words (R.memory region.now)) 0)) i 1 }
-{
-    word_path(inode_file(region), u64::from(i) * INODE_SIZE + 8)
-}
-
-/// The path of the size word of an inode.
-pub fn size_path<R: Region>(region: &R, i: u32) -> Slots
-    requires { 4 ≤ length (current_words (R.memory region.now)) }
-    ensures { result.items ≡ inode_path (height_of (root_of (current_words (R.memory region.now)) 0)) i 2 }
-{
-    word_path(inode_file(region), u64::from(i) * INODE_SIZE + 16)
-}
 
 /// Writes bytes behind the size of a file. Its tree is prepared for them, and then its size takes them in.
 ///
@@ -54,11 +37,12 @@ fn write_behind<R: Region>(
     bytes: &[u8],
 ) -> Result<(), NoSpace>
     requires can { CanWrite (R.memory parts.old.region) parts.old.blocks parts.old.inodes i off bytes.now }
+    requires exact { IsExact (current_words (R.memory parts.old.region)) parts.old }
     requires behind { size_of (current_words (R.memory parts.old.region)) i ≤ off }
-    ensures performs { OnOk result (Performs (R.memory parts.old.region) (R.memory parts.new.region)
+    ensures performs { OnOk result (Performs (kept_of parts.old) (R.memory parts.old.region) (R.memory parts.new.region)
         (writes i off (length bytes.now)) (WritesFile i off bytes.now)) }
-    ensures exact { AreExact (current_words (R.memory parts.new.region)) parts.new.blocks parts.new.inodes }
-    ensures refused { IfErr result (LacksSpace (current_words (R.memory parts.old.region))
+    ensures exact { IsExact (current_words (R.memory parts.new.region)) parts.new }
+    ensures refused { IfErr result (LacksSpace (current_words (R.memory parts.old.region)) (kept_of parts.old)
         (writes i off (length bytes.now))) }
     ensures same { OnErr result (parts.new ≡ parts.old) }
 {
@@ -70,7 +54,7 @@ fn write_behind<R: Region>(
         return Err(NoSpace { need, free });
     }
     let root = root_path(&parts.region, i);
-    let size_place = place(&parts.region, i, 2);
+    let size_place = place(&parts.region, i, SIZE_FIELD);
     prep(parts, &root, off, bytes, end);
     commit_word(&mut parts.region, size_place, end);
     Ok(())
@@ -113,11 +97,12 @@ fn write_below<R: Region>(
     bytes: &[u8],
 ) -> Result<(), NoSpace>
     requires can { CanWrite (R.memory parts.old.region) parts.old.blocks parts.old.inodes i off bytes.now }
+    requires exact { IsExact (current_words (R.memory parts.old.region)) parts.old }
     requires below { off + length bytes.now ≤ size_of (current_words (R.memory parts.old.region)) i }
-    ensures performs { OnOk result (Performs (R.memory parts.old.region) (R.memory parts.new.region)
+    ensures performs { OnOk result (Performs (kept_of parts.old) (R.memory parts.old.region) (R.memory parts.new.region)
         (writes i off (length bytes.now)) (WritesFile i off bytes.now)) }
-    ensures exact { AreExact (current_words (R.memory parts.new.region)) parts.new.blocks parts.new.inodes }
-    ensures refused { IfErr result (LacksSpace (current_words (R.memory parts.old.region))
+    ensures exact { IsExact (current_words (R.memory parts.new.region)) parts.new }
+    ensures refused { IfErr result (LacksSpace (current_words (R.memory parts.old.region)) (kept_of parts.old)
         (writes i off (length bytes.now))) }
     ensures same { OnErr result (parts.new ≡ parts.old) }
 {
@@ -142,10 +127,11 @@ fn write_below<R: Region>(
 /// copied for bytes below it. Nothing has changed then.
 pub fn write<R: Region>(parts: &mut Parts<R>, i: u32, off: u64, bytes: &[u8]) -> Result<(), NoSpace>
     requires can { CanWrite (R.memory parts.old.region) parts.old.blocks parts.old.inodes i off bytes.now }
-    ensures performs { OnOk result (Performs (R.memory parts.old.region) (R.memory parts.new.region)
+    requires exact { IsExact (current_words (R.memory parts.old.region)) parts.old }
+    ensures performs { OnOk result (Performs (kept_of parts.old) (R.memory parts.old.region) (R.memory parts.new.region)
         (writes i off (length bytes.now)) (WritesFile i off bytes.now)) }
-    ensures exact { AreExact (current_words (R.memory parts.new.region)) parts.new.blocks parts.new.inodes }
-    ensures refused { IfErr result (LacksSpace (current_words (R.memory parts.old.region))
+    ensures exact { IsExact (current_words (R.memory parts.new.region)) parts.new }
+    ensures refused { IfErr result (LacksSpace (current_words (R.memory parts.old.region)) (kept_of parts.old)
         (writes i off (length bytes.now))) }
     ensures same { OnErr result (parts.new ≡ parts.old) }
 {

@@ -1,7 +1,9 @@
 -- One more entry in one directory: the name shows the inode, all other names stay, and the tree gains one entry.
 use Rattle.std.proofs.Common.{◌≡◌, ◌≢◌, ◌⊎◌, ℕ, suc, ◌/◌, ◌%◌, ◌<◌, ◌≤◌, [], Bool, true, false, ◌==◌, if◌then◌else◌, Option, None, Some, refl, sym, ◌∙◌, ap, subst, subst₂, arith, inl, inr, le_trans}
 use Rattle.std.proofs.lemmas.Bool.{eqb-true}
-use Rattle.bp_layout.specs.Words.{Image}
+use Rattle.bp_limits.specs.Limits.{greatest_height}
+use Rattle.bp_layout.specs.Formatted.{version_of}
+use Rattle.bp_layout.specs.Words.{Image, height_of}
 use Rattle.bp_layout.specs.Tree.{HasBlock, IsSound, IsFull}
 use Rattle.bp_layout.specs.Inode.{kind_of, root_of, size_of, inode_count}
 use Rattle.bp_layout.specs.Directory.{Name, EntryNames, IsName, name_at, lookup_in}
@@ -50,6 +52,10 @@ module _ (old new : Image) (wf : IsWellFormed old) (i s j : ℕ) (adds : AddsNam
       subst (λ x. IsSound new (root_of new x) (size_of new x)) (sym e) (rw adds.new_size (empty_sound new (root_of new j)))
   sound_cases t (inr reached) = adds.trees.sound t reached
 
+  low_cases : (t : ℕ) → (t ≡ j) ⊎ IsReached old t → 0 < size_of new t → height_of (root_of new t) ≤ greatest_height (version_of new)
+  low_cases t (inl e) some = absurd (omega (arith, some, ap (size_of new) e ∙ adds.new_size))
+  low_cases t (inr reached) some = adds.trees.low t reached some
+
   apart_cases : (t u b : ℕ) → (t ≡ j) ⊎ IsReached old t → (u ≡ j) ⊎ IsReached old u →
       HasBlock new (root_of new t) (size_of new t) b → HasBlock new (root_of new u) (size_of new u) b → t ≡ u
   apart_cases t u b (inl e) q one two = absurd (new_has_none t b e one)
@@ -77,6 +83,7 @@ module _ (old new : Image) (wf : IsWellFormed old) (i s j : ℕ) (adds : AddsNam
   linked_well_formed =
       record {
         formatted = stays_formatted old new adds.trees wf.formatted;
+        low = λ t r. low_cases t (reached_cases t r);
         sound = λ t r. sound_cases t (reached_cases t r);
         apart = λ t u b r q one two. apart_cases t u b (reached_cases t r) (reached_cases u q) one two;
         full_inode_file = adds.trees.full_inode_file;
@@ -85,7 +92,7 @@ module _ (old new : Image) (wf : IsWellFormed old) (i s j : ℕ) (adds : AddsNam
         some_inodes = le_trans wf.some_inodes adds.inode_bytes;
         inumbers = λ u r k q n. in_file_cases u r k (entry_cases u r k q n);
         not_root = λ u r k q n. not_root_cases u r k (entry_cases u r k q n);
-        named_once = λ u r v q k from also n m. once_cases u r v q k (entry_cases u r k from n) (entry_cases v q k also m);
+        named_once = λ u r v q k from also n m kind. once_cases u r v q k (entry_cases u r k from n) (entry_cases v q k also m) kind;
         kinds = λ u r. kind_cases u (reached_cases (suc u) r);
         root_kind = adds.kind 1 root_directory ∙ wf.root_kind;
         directory_sizes = λ u r kind. size_cases u (reached_cases u r) kind;
@@ -101,11 +108,11 @@ module _ (old new : Image) (wf : IsWellFormed old) (i s j : ℕ) (adds : AddsNam
       not_root_cases u r k (inl e) one = adds.fresh (subst (IsReached old) (sym one ∙ e.inode) root_directory)
       not_root_cases u r k (inr e) one = wf.not_root u r k e.0 e.1 one
 
-      once_cases : (u r v q k : ℕ) → IsNewEntry i s j u r k ⊎ (IsReached old u × EntryNames old u r k) → IsNewEntry i s j v q k ⊎ (IsReached old v × EntryNames old v q k) → (u ≡ v) × (r ≡ q)
-      once_cases u r v q k (inl e) (inl f) = (e.directory ∙ sym f.directory, e.slot ∙ sym f.slot)
-      once_cases u r v q k (inl e) (inr f) = absurd (adds.fresh (subst (IsReached old) e.inode (named q f.0 f.1)))
-      once_cases u r v q k (inr e) (inl f) = absurd (adds.fresh (subst (IsReached old) f.inode (named r e.0 e.1)))
-      once_cases u r v q k (inr e) (inr f) = wf.named_once u r v q k e.0 f.0 e.1 f.1
+      once_cases : (u r v q k : ℕ) → IsNewEntry i s j u r k ⊎ (IsReached old u × EntryNames old u r k) → IsNewEntry i s j v q k ⊎ (IsReached old v × EntryNames old v q k) → kind_of new k ≡ 2 → (u ≡ v) × (r ≡ q)
+      once_cases u r v q k (inl e) (inl f) kind = (e.directory ∙ sym f.directory, e.slot ∙ sym f.slot)
+      once_cases u r v q k (inl e) (inr f) kind = absurd (adds.fresh (subst (IsReached old) e.inode (named q f.0 f.1)))
+      once_cases u r v q k (inr e) (inl f) kind = absurd (adds.fresh (subst (IsReached old) f.inode (named r e.0 e.1)))
+      once_cases u r v q k (inr e) (inr f) kind = wf.named_once u r v q k e.0 f.0 e.1 f.1 (sym (adds.kind k (named r e.0 e.1)) ∙ kind)
 
       kind_cases : (u : ℕ) → (suc u ≡ j) ⊎ IsReached old (suc u) → (1 ≤ kind_of new (suc u)) × (kind_of new (suc u) ≤ 2)
       kind_cases u (inl e) = rw (ap (kind_of new) e) adds.new_kind
@@ -177,6 +184,7 @@ module _ (old new : Image) (wf : IsWellFormed old) (i s j : ℕ) (adds : AddsNam
   pub names_added : AddsName old new i (name_at new i s) j
   names_added = record {
     well_formed = wf;
+    directory = sym (adds.kind i adds.reached) ∙ adds.entry.directory;
     missing = lookup_in-none old i (name_at new i s) (λ k shows. adds.new_name shows.slot k shows.entry shows.spelled);
     added = lookup_linked;
     alone = lookup_in_new;

@@ -56,6 +56,7 @@ module _ (old new : Image) (wf : IsWellFormed old) (i s k r j : ℕ) (carries : 
   pub carried_well_formed : IsWellFormed new
   carried_well_formed = record {
     formatted = stays_formatted old new carries.trees wf.formatted;
+    low = λ t q. carries.trees.low t (reached_back t q);
     sound = λ t q. carries.trees.sound t (reached_back t q);
     apart = λ t u b q p one two. carries.trees.apart t u b (reached_back t q) (reached_back u p) one two;
     full_inode_file = carries.trees.full_inode_file;
@@ -64,8 +65,9 @@ module _ (old new : Image) (wf : IsWellFormed old) (i s k r j : ℕ) (carries : 
     some_inodes = rw inode_bytes wf.some_inodes;
     inumbers = λ u x l q n. rw inode_bytes (in_file u x l (reached_back u q) (carries.back u x l (reached_back u q) n));
     not_root = λ u x l q n. not_root u x l (reached_back u q) (carries.back u x l (reached_back u q) n);
-    named_once = λ u x v y l q p n m.
-        once u x v y l (reached_back u q) (reached_back v p) (carries.back u x l (reached_back u q) n) (carries.back v y l (reached_back v p) m);
+    named_once = λ u x v y l q p n m kind.
+        once u x v y l (reached_back u q) (reached_back v p) (carries.back u x l (reached_back u q) n) (carries.back v y l (reached_back v p) m)
+        (sym (carries.kind l (reached_back l (named x q n))) ∙ kind);
     kinds = λ u q. rw (carries.kind (suc u) (reached_back (suc u) q)) (wf.kinds u (reached_back (suc u) q));
     root_kind = carries.kind 1 root_directory ∙ wf.root_kind;
     directory_sizes = λ u q kind. sizes u (reached_back u q) kind (cases_eq u k);
@@ -82,14 +84,14 @@ module _ (old new : Image) (wf : IsWellFormed old) (i s k r j : ℕ) (carries : 
       not_root u x l reached (inl e) one = wf.not_root i s j carries.reached carries.names (sym e.inode ∙ one)
       not_root u x l reached (inr e) one = wf.not_root u x l reached e.before one
 
-      source_is : (u x l : ℕ) → IsReached old u → EntryNames old u x l → l ≡ j → (u ≡ i) × (x ≡ s)
-      source_is u x l reached n e = wf.named_once u x i s j reached carries.reached (subst (EntryNames old u x) e n) carries.names
+      source_is : (u x l : ℕ) → IsReached old u → EntryNames old u x l → l ≡ j → kind_of old l ≡ 2 → (u ≡ i) × (x ≡ s)
+      source_is u x l reached n e kind = wf.named_once u x i s j reached carries.reached (subst (EntryNames old u x) e n) carries.names (subst (λ a. kind_of old a ≡ 2) e kind)
 
-      once : (u x v y l : ℕ) → IsReached old u → IsReached old v → Entry u x l → Entry v y l → (u ≡ v) × (x ≡ y)
-      once u x v y l q p (inl e) (inl f) = (e.directory ∙ sym f.directory, e.slot ∙ sym f.slot)
-      once u x v y l q p (inl e) (inr f) = let at : (v ≡ i) × (y ≡ s) = source_is v y l p f.before e.inode in absurd (f.other at.0 at.1)
-      once u x v y l q p (inr e) (inl f) = let at : (u ≡ i) × (x ≡ s) = source_is u x l q e.before f.inode in absurd (e.other at.0 at.1)
-      once u x v y l q p (inr e) (inr f) = wf.named_once u x v y l q p e.before f.before
+      once : (u x v y l : ℕ) → IsReached old u → IsReached old v → Entry u x l → Entry v y l → kind_of old l ≡ 2 → (u ≡ v) × (x ≡ y)
+      once u x v y l q p (inl e) (inl f) kind = (e.directory ∙ sym f.directory, e.slot ∙ sym f.slot)
+      once u x v y l q p (inl e) (inr f) kind = let at : (v ≡ i) × (y ≡ s) = source_is v y l p f.before e.inode kind in absurd (f.other at.0 at.1)
+      once u x v y l q p (inr e) (inl f) kind = let at : (u ≡ i) × (x ≡ s) = source_is u x l q e.before f.inode kind in absurd (e.other at.0 at.1)
+      once u x v y l q p (inr e) (inr f) kind = wf.named_once u x v y l q p e.before f.before kind
 
       sizes : (u : ℕ) → IsReached old u → kind_of new u ≡ 2 → (u ≡ k) ⊎ (u ≡ k → ⊥) → size_of new u % 256 ≡ 0
       sizes u reached kind (inl e) = subst (λ a. size_of new a % 256 ≡ 0) (sym e) carries.directory_size
@@ -185,6 +187,7 @@ module _ (old new : Image) (wf : IsWellFormed old) (i s k r j : ℕ) (carries : 
     source =
         lookup_in-found old i j (name_at old i s) (record { slot = s; entry = carries.names; spelled = refl })
         (λ x l n e. wf.names_once i x s l j carries.reached n carries.names e);
+    directory = sym (carries.kind k carries.target) ∙ carries.entry.directory;
     gone = lookup_source;
     target = lookup_target;
     alone = λ v name e. absurd (nothing v (lookup_in-shows old k v (name_at new k r) e));

@@ -78,6 +78,7 @@ module _ (old new : Image) (x : ℕ) (wf : IsWellFormed old) (same : ChangesFile
       let inodes : size_of new 0 ≡ size_of old 0 = same.size 0 inode_file not_zero in
       record {
         formatted = stays_formatted old new same.trees wf.formatted;
+        low = λ t r. same.trees.low t (reached-back t r);
         sound = λ t r. same.trees.sound t (reached-back t r);
         apart = λ t u b r q has also. same.trees.apart t u b (reached-back t r) (reached-back u q) has also;
         full_inode_file = same.trees.full_inode_file;
@@ -86,7 +87,8 @@ module _ (old new : Image) (x : ℕ) (wf : IsWellFormed old) (same : ChangesFile
         some_inodes = rw inodes wf.some_inodes;
         inumbers = λ i s j r n. rw inodes (wf.inumbers i s j (reached-back i r) (names-back i s j (reached-back i r) n));
         not_root = λ i s j r n. wf.not_root i s j (reached-back i r) (names-back i s j (reached-back i r) n);
-        named_once = λ i s k q j r p n m. wf.named_once i s k q j (reached-back i r) (reached-back k p) (names-back i s j (reached-back i r) n) (names-back k q j (reached-back k p) m);
+        named_once = λ i s k q j r p n m kind. wf.named_once i s k q j (reached-back i r) (reached-back k p) (names-back i s j (reached-back i r) n) (names-back k q j (reached-back k p) m)
+            (sym (same.kind j (reached-back j (named s r n))) ∙ kind);
         kinds = λ i r. rw (same.kind (suc i) (reached-back (suc i) r)) (wf.kinds i (reached-back (suc i) r));
         root_kind = same.kind 1 root_directory ∙ wf.root_kind;
         directory_sizes = λ i r kind.

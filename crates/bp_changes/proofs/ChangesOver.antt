@@ -19,6 +19,7 @@ module _ (old mid new : Image) (same : SameMeaning old mid) where
     whole = trees.whole ∙ same.trees.whole;
     marked = trees.marked ∙ same.trees.marked;
     counted = trees.counted ∙ same.trees.counted;
+    low = λ t r. trees.low t (on t r);
     sound = λ t r. trees.sound t (on t r);
     apart = λ t u b r q. trees.apart t u b (on t r) (on u q);
     full_inode_file = trees.full_inode_file;

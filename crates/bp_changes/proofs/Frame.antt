@@ -1,6 +1,8 @@
 -- An image whose words may all stand in a well-formed one is well-formed, and shows the same.
-use Rattle.std.proofs.Common.{le_of_eq, suc-ne-zero, ◌≡◌, ◌⊎◌, inl, inr, subst, ℕ, zero, suc, ◌+◌, ◌*◌, ◌/◌, ◌%◌, ◌<◌, refl, sym, ◌∙◌, ap, subst₂, arith}
+use Rattle.std.proofs.Common.{le_of_eq, suc-ne-zero, ◌≡◌, ◌⊎◌, inl, inr, subst, ℕ, zero, suc, ◌+◌, ◌*◌, ◌/◌, ◌%◌, ◌<◌, ◌≤◌, refl, sym, ◌∙◌, ap, subst₂, arith}
 use Rattle.std.proofs.lemmas.Bool.{cases_eq}
+use Rattle.bp_limits.specs.Limits.{greatest_height}
+use Rattle.bp_layout.specs.Formatted.{version_of}
 use Rattle.bp_layout.specs.Words.{Image, word, height_of, byte_of}
 use Rattle.bp_layout.specs.Tree.{content_word, byte, HasBlock, IsSound, IsFull}
 use Rattle.bp_layout.specs.Inode.{inode_word, kind_of, root_of, size_of, inode_count, ContentStandsAt, RootPlace}
@@ -16,6 +18,7 @@ use Rattle.bp_layout.proofs.TreeLaws.{KeepsPointers, content-kept, slot_word-sam
 use Rattle.bp_layout.proofs.SmallTrees.{none_live, empty_sound, empty_has_none}
 use Rattle.bp_changes.specs.SameMeaning.{SameMeaning}
 use Rattle.bp_changes.proofs.SameMeaning.{same-by_meaning}
+use Rattle.bp_changes.proofs.Formatted.{low_stays}
 
 module _ (old new : Image) (wf : IsWellFormed old) (agrees : Agrees old new) where
   -- the pointers of a reached tree stay
@@ -115,6 +118,8 @@ module _ (old new : Image) (wf : IsWellFormed old) (agrees : Agrees old new) whe
       whole = agrees.whole;
       marked = (agrees.each 0).superblock (omega arith);
       counted = (agrees.each 1).superblock (omega arith);
+      low = λ t r. at_old (λ root s. 0 < s → height_of root ≤ greatest_height (version_of new)) (λ _ _ _ some. absurd (omega (arith, some))) t r
+          (low_stays old new ((agrees.each 0).superblock (omega arith)) (root_of old t) (root_of old t) (size_of old t) (λ _. refl) (wf.low t r));
       sound = λ t r. at_old (IsSound new) (λ r s _. empty_sound new s) t r (sound-kept old new (root_of old t) (size_of old t) (keeps t r) agrees.whole (wf.sound t r));
       apart = λ t u b r q has also. wf.apart t u b r q (has_block-back t b r has) (has_block-back u b q also);
       full_inode_file = full-on 0 inode_file wf.full_inode_file;

@@ -5,6 +5,8 @@ pub mod Stores
 pub mod Separation
 pub mod ContentStore
 pub mod AddsNames
+pub mod LinksName
+pub mod GainsEntry
 pub mod Link
 pub mod ChangesFile
 pub mod Resize
@@ -15,6 +17,8 @@ pub mod MoveName
 pub mod Move
 pub mod Respell
 pub mod ReachedOn
+pub mod Snapshot
 pub mod ChangesOver
 pub mod Carry
 pub mod MoveReach
+pub mod Named

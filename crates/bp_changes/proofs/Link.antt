@@ -1,5 +1,6 @@
--- A store of an inumber into an empty entry adds that name to its directory, and changes nothing else.
-use Rattle.std.proofs.Common.{◌≡◌, ◌≢◌, ◌⊎◌, ℕ, ◌+◌, ◌*◌, ◌/◌, ◌%◌, ◌<◌, ◌≤◌, length, sym, ◌∙◌, ap, subst, subst₂, arith, inl, inr}
+-- A store of an inumber into an empty entry adds that name to its directory, and changes nothing else. The inode that the
+-- entry names was free, or it is a file that has a name.
+use Rattle.std.proofs.Common.{◌≡◌, ◌≢◌, ◌⊎◌, ℕ, ◌+◌, ◌*◌, ◌/◌, ◌%◌, ◌<◌, ◌≤◌, length, sym, ◌∙◌, ap, subst₂, arith, inl, inr}
 use Rattle.std.proofs.lemmas.Bool.{cases_eq}
 use Rattle.std.proofs.lemmas.List.FromFn.{length-map-range_with_len}
 use Rattle.bp_limits.specs.Limits.{max_name}
@@ -10,24 +11,21 @@ use Rattle.bp_layout.specs.Directory.{EntryNames, IsName, name_at, inumber_at, e
 use Rattle.bp_layout.specs.Reached.{IsReached}
 use Rattle.bp_layout.specs.Reached.IsReached.{inode_file}
 use Rattle.bp_layout.specs.WellFormed.{IsWellFormed}
-use Rattle.bp_changes.specs.Effects.{SetsInumber, AddsNames, IsNewEntry}
+use Rattle.bp_changes.specs.Effects.{SetsInumber, AddsNames, LinksName, IsNewEntry}
+use Rattle.bp_changes.proofs.GainsEntry.{CanTake, GainsEntry, gains_adds, gains_links, takes_inode}
 use Rattle.bp_layout.proofs.Finding.{map-same}
 use Rattle.bp_layout.proofs.Reached.{reached-in_file}
 
--- An empty entry of a directory whose name is new there, and an inode that nobody names and that has no bytes.
-pub record CanLink (old : Image) (i s j : ℕ) : Type 0 where
+-- An empty entry of a directory, whose name is new there: its inumber is what it lacks.
+pub record AwaitsInumber (old : Image) (i s : ℕ) : Type 0 where
   pub reached : IsReached old i
   pub directory : kind_of old i ≡ 2
   pub in_size : s < entry_count old i
   pub empty : inumber_at old i s ≡ 0
-  pub fresh : IsReached old j → ⊥
-  pub in_file : j < inode_count old
-  pub kind : (1 ≤ kind_of old j) × (kind_of old j ≤ 2)
-  pub nothing : size_of old j ≡ 0
   pub name : IsName (name_at old i s)
   pub new_name : (r k : ℕ) → EntryNames old i r k → name_at old i r ≢ name_at old i s
 
-module _ (old new : Image) (wf : IsWellFormed old) (i s j : ℕ) (can : CanLink old i s j) (adds : SetsInumber old new i s j) where
+module _ (old new : Image) (wf : IsWellFormed old) (i s j : ℕ) (can : AwaitsInumber old i s) (some : j ≢ 0) (adds : SetsInumber old new i s j) where
   in_inodes : (t : ℕ) → IsReached old t → t < inode_count old
   in_inodes = reached-in_file old wf
 
@@ -60,9 +58,6 @@ module _ (old new : Image) (wf : IsWellFormed old) (i s j : ℕ) (can : CanLink 
   count_stays : (u : ℕ) → u < inode_count old → entry_count new u ≡ entry_count old u
   count_stays u in_file = ap (λ n. n / 256) (sizes_stay u in_file)
 
-  j_not_zero : j ≢ 0
-  j_not_zero e = can.fresh (subst (IsReached old) (sym e) inode_file)
-
   names_cases : (u r k : ℕ) → IsReached old u → EntryNames new u r k → IsNewEntry i s j u r k ⊎ EntryNames old u r k
   names_cases u r k reached n = go (cases_eq u i) (cases_eq r s)
     where
@@ -85,7 +80,7 @@ module _ (old new : Image) (wf : IsWellFormed old) (i s j : ℕ) (can : CanLink 
     directory = kinds_stay i (in_inodes i can.reached) ∙ can.directory;
     in_size = rw (count_stays i (in_inodes i can.reached)) can.in_size;
     inumber = inumber_here;
-    not_empty = j_not_zero;
+    not_empty = some;
   }
 
   names_stay : (u r k : ℕ) → IsReached old u → EntryNames old u r k → EntryNames new u r k
@@ -102,17 +97,11 @@ module _ (old new : Image) (wf : IsWellFormed old) (i s j : ℕ) (can : CanLink 
   file_stays : size_of new 0 ≡ size_of old 0
   file_stays = sizes_stay 0 (in_inodes 0 inode_file)
 
-  pub entry_adds : AddsNames old new i s j
-  entry_adds = record {
+  entry_gains : GainsEntry old new i s j
+  entry_gains = record {
     reached = can.reached;
-    fresh = can.fresh;
     trees = adds.trees;
-    inode_bytes = rw file_stays (omega arith);
-    inode_blocks = rw file_stays wf.inode_blocks;
-    in_file = rw file_stays can.in_file;
     kind = λ u r. kinds_stay u (in_inodes u r);
-    new_kind = rw (kinds_stay j can.in_file) can.kind;
-    new_size = sizes_stay j can.in_file ∙ can.nothing;
     file_size = λ u r kind. sizes_stay u (in_inodes u r);
     directory_size = λ u r kind. rw (sizes_stay u (in_inodes u r)) (wf.directory_sizes u r kind);
     back = names_cases;
@@ -123,3 +112,9 @@ module _ (old new : Image) (wf : IsWellFormed old) (i s j : ℕ) (can : CanLink 
     new_name = λ r k n. rw name_of_new (can.new_name r k n);
     bytes = adds.bytes;
   }
+
+  pub entry_adds : CanTake old j → AddsNames old new i s j
+  entry_adds free = gains_adds old new i s j entry_gains (takes_inode old new j wf free file_stays (kinds_stay j free.in_file) (sizes_stay j free.in_file))
+
+  pub entry_links : IsReached old j → kind_of old j ≡ 1 → LinksName old new i s j
+  entry_links there file = gains_links old new i s j entry_gains there file file_stays

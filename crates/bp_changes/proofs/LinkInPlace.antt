@@ -1,7 +1,9 @@
 -- A store of an inumber in place: into an empty entry, or of 0 over one.
-use Rattle.std.proofs.Common.{◌≡◌, ◌≢◌, ℕ, ◌+◌, ◌*◌, ◌/◌, ◌%◌, ◌<◌, set, sym, ap, subst, subst₂, arith}
+use Rattle.std.proofs.Common.{◌≡◌, ◌≢◌, ℕ, ◌+◌, ◌*◌, ◌/◌, ◌%◌, ◌<◌, ◌≤◌, refl, set, sym, ap, subst, subst₂, arith}
 use Rattle.std.proofs.lemmas.List.{length-set}
-use Rattle.bp_layout.specs.Words.{Image, byte_of}
+use Rattle.bp_limits.specs.Limits.{greatest_height}
+use Rattle.bp_layout.specs.Formatted.{version_of}
+use Rattle.bp_layout.specs.Words.{Image, byte_of, height_of}
 use Rattle.bp_layout.specs.Tree.{HasBlock, IsSound, IsFull}
 use Rattle.bp_layout.specs.Inode.{kind_of, root_of, size_of, inode_count, ContentStandsAt}
 use Rattle.bp_layout.specs.Directory.{entry_count}
@@ -12,7 +14,8 @@ use Rattle.bp_layout.proofs.TreeLaws.{KeepsPointers, sound-kept, full-kept, has_
 use Rattle.bp_layout.proofs.Reached.{reached-in_file}
 use Rattle.bp_changes.proofs.ContentStore.{pointers_stay, content_elsewhere, content_here, superblock_stays, kind_stays, root_stays, size_stays}
 use Rattle.bp_changes.specs.Effects.{SetsInumber, KeepsBlocks, CanUnlink, RemovesEntry}
-use Rattle.bp_changes.proofs.Link.{CanLink}
+use Rattle.bp_changes.proofs.Link.{AwaitsInumber}
+use Rattle.bp_changes.proofs.Formatted.{low_stays}
 
 module _ (old : Image) (wf : IsWellFormed old) (i s value place : ℕ) (reached_here : IsReached old i) (directory : kind_of old i ≡ 2) (in_size : s < entry_count old i)
     (stands : ContentStandsAt old i (32 * s + 0) place) where
@@ -48,6 +51,8 @@ module _ (old : Image) (wf : IsWellFormed old) (i s value place : ℕ) (reached_
       whole = length-set old place value;
       marked = superblock_stays old wf i (32 * s + 0) place value reached_here not_inode_file below stands 0 (omega arith);
       counted = superblock_stays old wf i (32 * s + 0) place value reached_here not_inode_file below stands 1 (omega arith);
+      low = λ t r. to_new (λ root z. 0 < z → height_of root ≤ greatest_height (version_of (set old place value))) t r
+          (low_stays old (set old place value) (superblock_stays old wf i (32 * s + 0) place value reached_here not_inode_file below stands 0 (omega arith)) (root_of old t) (root_of old t) (size_of old t) (λ _. refl) (wf.low t r));
       sound = λ t r. to_new (IsSound (set old place value)) t r (sound-kept old (set old place value) (root_of old t) (size_of old t) (keeps t r) (length-set old place value) (wf.sound t r));
       apart = λ t u b r q one two. wf.apart t u b r q (to_old t b r one) (to_old u b q two);
       full_inode_file = to_new (IsFull (set old place value)) 0 inode_file (full-kept old (set old place value) (root_of old 0) (size_of old 0) (keeps 0 inode_file) wf.full_inode_file);
@@ -70,7 +75,7 @@ module _ (old : Image) (wf : IsWellFormed old) (i s value place : ℕ) (reached_
     stay = λ t b reached has. to_new (λ r z. HasBlock (set old place value) r z b) t reached (has_block-stays old (set old place value) (root_of old t) (size_of old t) (keeps t reached) b has);
   }
 
-pub store_adds : (old : Image) → IsWellFormed old → (i s j place : ℕ) → CanLink old i s j → ContentStandsAt old i (32 * s + 0) place → SetsInumber old (set old place j) i s j
+pub store_adds : (old : Image) → IsWellFormed old → (i s j place : ℕ) → AwaitsInumber old i s → ContentStandsAt old i (32 * s + 0) place → SetsInumber old (set old place j) i s j
 store_adds old wf i s j place can stands = store_sets old wf i s j place can.reached can.directory can.in_size stands
 
 pub store_removes : (old : Image) → IsWellFormed old → (i s j place : ℕ) → CanUnlink old i s j → ContentStandsAt old i (32 * s + 0) place → RemovesEntry old (set old place 0) i s

@@ -106,6 +106,7 @@ module _ (old new : Image) (wf : IsWellFormed old) (i s k r j : ℕ) (can : CanM
       let inodes : size_of new 0 ≡ size_of old 0 = moves.size 0 (in_inodes 0 inode_file) in
       record {
         formatted = stays_formatted old new moves.trees wf.formatted;
+        low = λ t q. moves.trees.low t (reached_back t q);
         sound = λ t q. moves.trees.sound t (reached_back t q);
         apart = λ t u b q p one two. moves.trees.apart t u b (reached_back t q) (reached_back u p) one two;
         full_inode_file = moves.trees.full_inode_file;
@@ -114,7 +115,8 @@ module _ (old new : Image) (wf : IsWellFormed old) (i s k r j : ℕ) (can : CanM
         some_inodes = rw inodes wf.some_inodes;
         inumbers = λ u x l q n. rw inodes (in_file u x l (reached_back u q) (entry_of u x l (reached_back u q) n));
         not_root = λ u x l q n. not_root u x l (reached_back u q) (entry_of u x l (reached_back u q) n);
-        named_once = λ u x v y l q p n m. once u x v y l (reached_back u q) (reached_back v p) (entry_of u x l (reached_back u q) n) (entry_of v y l (reached_back v p) m);
+        named_once = λ u x v y l q p n m kind. once u x v y l (reached_back u q) (reached_back v p) (entry_of u x l (reached_back u q) n) (entry_of v y l (reached_back v p) m)
+            (sym (moves.kind l (in_inodes l (reached_back l (named x q n)))) ∙ kind);
         kinds = λ u q. rw (moves.kind (suc u) (in_inodes (suc u) (reached_back (suc u) q))) (wf.kinds u (reached_back (suc u) q));
         root_kind = moves.kind 1 (in_inodes 1 root_directory) ∙ wf.root_kind;
         directory_sizes = λ u q kind.
@@ -131,14 +133,14 @@ module _ (old new : Image) (wf : IsWellFormed old) (i s k r j : ℕ) (can : CanM
       not_root u x l reached (is_target e f g) h = wf.not_root i s j can.reached can.entry (sym g ∙ h)
       not_root u x l reached (is_old n one two) h = wf.not_root u x l reached n h
 
-      source_is : (u x l : ℕ) → IsReached old u → EntryNames old u x l → l ≡ j → (u ≡ i) × (x ≡ s)
-      source_is u x l reached n e = wf.named_once u x i s j reached can.reached (subst (EntryNames old u x) e n) can.entry
+      source_is : (u x l : ℕ) → IsReached old u → EntryNames old u x l → l ≡ j → kind_of old l ≡ 2 → (u ≡ i) × (x ≡ s)
+      source_is u x l reached n e kind = wf.named_once u x i s j reached can.reached (subst (EntryNames old u x) e n) can.entry (subst (λ a. kind_of old a ≡ 2) e kind)
 
-      once : (u x v y l : ℕ) → IsReached old u → IsReached old v → Entry u x l → Entry v y l → (u ≡ v) × (x ≡ y)
-      once u x v y l q p (is_target a b c) (is_target d e f) = (a ∙ sym d, b ∙ sym e)
-      once u x v y l q p (is_target a b c) (is_old n one two) = let at : (v ≡ i) × (y ≡ s) = source_is v y l p n c in absurd (one at.0 at.1)
-      once u x v y l q p (is_old n one two) (is_target d e f) = let at : (u ≡ i) × (x ≡ s) = source_is u x l q n f in absurd (one at.0 at.1)
-      once u x v y l q p (is_old n one two) (is_old m three four) = wf.named_once u x v y l q p n m
+      once : (u x v y l : ℕ) → IsReached old u → IsReached old v → Entry u x l → Entry v y l → kind_of old l ≡ 2 → (u ≡ v) × (x ≡ y)
+      once u x v y l q p (is_target a b c) (is_target d e f) kind = (a ∙ sym d, b ∙ sym e)
+      once u x v y l q p (is_target a b c) (is_old n one two) kind = let at : (v ≡ i) × (y ≡ s) = source_is v y l p n c kind in absurd (one at.0 at.1)
+      once u x v y l q p (is_old n one two) (is_target d e f) kind = let at : (u ≡ i) × (x ≡ s) = source_is u x l q n f kind in absurd (one at.0 at.1)
+      once u x v y l q p (is_old n one two) (is_old m three four) kind = wf.named_once u x v y l q p n m kind
 
       name_form : (u x l : ℕ) → IsReached old u → Entry u x l → IsName (name_at new u x)
       name_form u x l reached (is_target e f g) = subst₂ (λ a b. IsName (name_at new a b)) (sym e) (sym f) (rw name_of_target can.name)
@@ -223,6 +225,7 @@ module _ (old new : Image) (wf : IsWellFormed old) (i s k r j : ℕ) (can : CanM
     well_formed = wf;
     apart = names_differ;
     source = lookup_in-found old i j (name_at old i s) (record { slot = s; entry = can.entry; spelled = refl }) (λ x l n e. wf.names_once i x s l j can.reached n can.entry e);
+    directory = can.directory;
     gone = lookup_source names_differ;
     target = lookup_target;
     alone = nothing;

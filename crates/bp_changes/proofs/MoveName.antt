@@ -5,6 +5,8 @@ use Rattle.std.proofs.lemmas.Bool.{cases_eq}
 use Rattle.std.proofs.lemmas.List.{append_assoc, append-nil, same_from_push}
 use Rattle.bp_layout.specs.Words.{Image}
 use Rattle.bp_layout.specs.Directory.{Name, lookup_in}
+use Rattle.bp_layout.specs.Inode.{IsDirectory}
+use Rattle.bp_layout.proofs.LookupLaws.{lookup_in-shows}
 use Rattle.bp_layout.specs.Reached.{IsReached}
 use Rattle.bp_layout.specs.Reached.IsReached.{root_directory}
 use Rattle.bp_layout.specs.Lookup.{Path, lookup_from, lookup, node_of, shown}
@@ -33,6 +35,7 @@ pub record MovesName (old new : Image) (i : ℕ) (was : Name) (k : ℕ) (now : N
   pub well_formed : IsWellFormed old
   pub apart : (i ≡ k) → (was ≡ now) → ⊥
   pub source : lookup_in old i was ≡ Some j
+  pub directory : IsDirectory old k
   pub gone : lookup_in new i was ≡ None
   pub target : lookup_in new k now ≡ Some j
   -- what had the name before has no names
@@ -41,6 +44,13 @@ pub record MovesName (old new : Image) (i : ℕ) (was : Name) (k : ℕ) (now : N
   pub nodes : (u : ℕ) → IsReached old u → node_of new u ≡ node_of old u
 
 module _ (old new : Image) (i : ℕ) (was : Name) (k : ℕ) (now : Name) (j : ℕ) (moves : MovesName old new i was k now j) where
+  -- what has a name in it is a directory
+  holds : (u : ℕ) (name : Name) (v : ℕ) → lookup_in old u name ≡ Some v → IsDirectory old u
+  holds u name v e = (lookup_in-shows old u v name e).entry.directory
+
+  to_holds : IsDirectory old k
+  to_holds = moves.directory
+
   -- ---- paths
 
   -- where a path first comes to one of the two names
@@ -121,13 +131,13 @@ module _ (old new : Image) (i : ℕ) (was : Name) (k : ℕ) (now : Name) (j : �
       (outside : rest_below (from ++ was ∷ []) to ≡ None) (aside : rest_below (to ++ now ∷ []) from ≡ None) where
     below_source : (path : Path) → Meets 1 i was path → (rest : Path) × (rest_below (from ++ was ∷ []) path ≡ Some rest)
     below_source path m =
-        let above : m.above ≡ from = path_once old moves.well_formed m.above from i m.parent from_is in
+        let above : m.above ≡ from = path_once old moves.well_formed m.above from i m.parent from_is (holds i was j moves.source) in
         let is : path ≡ (from ++ was ∷ []) ++ m.below = m.is ∙ ap (λ x. x ++ (was ∷ m.below)) above ∙ sym (append_assoc from (was ∷ []) m.below) in
         (m.below, ap (rest_below (from ++ was ∷ [])) is ∙ rest_below-append (from ++ was ∷ []) m.below)
 
     below_target : (path : Path) → Meets 1 k now path → (rest : Path) × (rest_below (to ++ now ∷ []) path ≡ Some rest)
     below_target path m =
-        let above : m.above ≡ to = path_once old moves.well_formed m.above to k m.parent to_is in
+        let above : m.above ≡ to = path_once old moves.well_formed m.above to k m.parent to_is to_holds in
         let is : path ≡ (to ++ now ∷ []) ++ m.below = m.is ∙ ap (λ x. x ++ (now ∷ m.below)) above ∙ sym (append_assoc to (now ∷ []) m.below) in
         (m.below, ap (rest_below (to ++ now ∷ [])) is ∙ rest_below-append (to ++ now ∷ []) m.below)
 
@@ -170,23 +180,31 @@ module _ (old new : Image) (i : ℕ) (was : Name) (k : ℕ) (now : Name) (j : �
 
         go : Walk j rest → lookup_from new j rest ≡ lookup_from old j rest
         go (same e) = e
-        go (source m) = absurd (not_longer from was m.above (path_once old moves.well_formed from ((from ++ was ∷ []) ++ m.above) i from_is (joined m.above i m.parent)))
+        go (source m) = absurd (not_longer from was m.above (path_once old moves.well_formed from ((from ++ was ∷ []) ++ m.above) i from_is (joined m.above i m.parent) (holds i was j moves.source)))
         go (target m) =
-            let is : to ≡ (from ++ was ∷ []) ++ m.above = path_once old moves.well_formed to ((from ++ was ∷ []) ++ m.above) k to_is (joined m.above k m.parent) in
+            let is : to ≡ (from ++ was ∷ []) ++ m.above = path_once old moves.well_formed to ((from ++ was ∷ []) ++ m.above) k to_is (joined m.above k m.parent) to_holds in
             absurd (clash to _ m.above (ap (rest_below (from ++ was ∷ [])) is ∙ rest_below-append (from ++ was ∷ []) m.above) outside)
 
-    pub shown_target : (rest : Path) → shown new ((to ++ now ∷ []) ++ rest) ≡ shown old ((from ++ was ∷ []) ++ rest)
-    shown_target rest =
+    pub lookup_target : (rest : Path) → lookup new ((to ++ now ∷ []) ++ rest) ≡ lookup old ((from ++ was ∷ []) ++ rest)
+    lookup_target rest =
         let inside : lookup new (to ++ now ∷ []) ≡ Some j = lookup_from-append new 1 to now ∙ rw to_stays moves.target in
         let after : lookup new ((to ++ now ∷ []) ++ rest) ≡ lookup_from new j rest = lookup_from-join new 1 (to ++ now ∷ []) rest ∙ rw inside refl in
         let before : lookup old ((from ++ was ∷ []) ++ rest) ≡ lookup_from old j rest = lookup_from-join old 1 (from ++ was ∷ []) rest ∙ rw source_is refl in
-        nodes_same ((to ++ now ∷ []) ++ rest) ((from ++ was ∷ []) ++ rest) (after ∙ subtree rest ∙ sym before)
+        after ∙ subtree rest ∙ sym before
+
+    pub shown_target : (rest : Path) → shown new ((to ++ now ∷ []) ++ rest) ≡ shown old ((from ++ was ∷ []) ++ rest)
+    shown_target rest = nodes_same ((to ++ now ∷ []) ++ rest) ((from ++ was ∷ []) ++ rest) (lookup_target rest)
+
+    pub lookup_source : (rest : Path) → lookup new ((from ++ was ∷ []) ++ rest) ≡ None
+    lookup_source rest =
+        let inside : lookup new (from ++ was ∷ []) ≡ None = lookup_from-append new 1 from was ∙ rw from_stays moves.gone in
+        lookup_from-join new 1 (from ++ was ∷ []) rest ∙ rw inside refl
 
     pub shown_source : (rest : Path) → shown new ((from ++ was ∷ []) ++ rest) ≡ None
-    shown_source rest =
-        let inside : lookup new (from ++ was ∷ []) ≡ None = lookup_from-append new 1 from was ∙ rw from_stays moves.gone in
-        let gone : lookup new ((from ++ was ∷ []) ++ rest) ≡ None = lookup_from-join new 1 (from ++ was ∷ []) rest ∙ rw inside refl in
-        rw gone refl
+    shown_source rest = rw (lookup_source rest) refl
+
+    pub lookup_elsewhere : (path : Path) → rest_below (to ++ now ∷ []) path ≡ None → rest_below (from ++ was ∷ []) path ≡ None → lookup new path ≡ lookup old path
+    lookup_elsewhere path no_target no_source = stays path no_source no_target
 
     pub shown_elsewhere : (path : Path) → rest_below (to ++ now ∷ []) path ≡ None → rest_below (from ++ was ∷ []) path ≡ None → shown new path ≡ shown old path
     shown_elsewhere path no_target no_source = nodes_same path path (stays path no_source no_target)
@@ -210,14 +228,14 @@ module _ (old new : Image) (i : ℕ) (was : Name) (k : ℕ) (now : Name) (j : �
                 same_from_push to ((from ++ was ∷ []) ++ front) now last (equal ∙ sym (append_assoc (from ++ was ∷ []) front (last ∷ []))) in
                 clash to (from ++ was ∷ []) front (ap (rest_below (from ++ was ∷ [])) both.0 ∙ rest_below-append (from ++ was ∷ []) front) outside
 
-    pub target_empty : (n : Name) (rest : Path) → shown old ((to ++ now ∷ []) ++ n ∷ rest) ≡ None
-    target_empty n rest =
-        let joined : lookup old ((to ++ now ∷ []) ++ n ∷ rest) ≡ None =
-        lookup_from-join old 1 (to ++ now ∷ []) (n ∷ rest) ∙ go (lookup old (to ++ now ∷ [])) refl in
-        rw joined refl
+    pub lookup_empty : (n : Name) (rest : Path) → lookup old ((to ++ now ∷ []) ++ n ∷ rest) ≡ None
+    lookup_empty n rest = lookup_from-join old 1 (to ++ now ∷ []) (n ∷ rest) ∙ go (lookup old (to ++ now ∷ [])) refl
       where
         go : (found : Option ℕ) → lookup old (to ++ now ∷ []) ≡ found → option_and_then (λ v. lookup_from old v (n ∷ rest)) found ≡ None
         go None e = refl
         go (Some v) e =
             let found : lookup_in old k now ≡ Some v = sym (lookup_from-append old 1 to now ∙ rw to_is refl) ∙ e in
             rw (moves.alone v n found) refl
+
+    pub target_empty : (n : Name) (rest : Path) → shown old ((to ++ now ∷ []) ++ n ∷ rest) ≡ None
+    target_empty n rest = rw (lookup_empty n rest) refl

@@ -5,6 +5,7 @@ use Rattle.bp_layout.specs.Words.{Image}
 use Rattle.bp_layout.specs.Below.{rest_below}
 use Rattle.bp_layout.specs.Directory.{EntryNames, name_at, inumber_at, lookup_in}
 use Rattle.bp_layout.specs.Lookup.{Path, lookup, lookup_from}
+use Rattle.bp_layout.specs.Inode.{IsDirectory}
 use Rattle.bp_layout.specs.Reached.{IsReached}
 use Rattle.bp_layout.specs.Reached.IsReached.{inode_file, root_directory, named as reaches}
 use Rattle.bp_layout.specs.WellFormed.{IsWellFormed}
@@ -38,8 +39,8 @@ path_below image wf j reached t (named {i = u} x below n) = on (path_below image
 
 -- a directory whose path is not below that of an entry is not below the entry's inode
 pub outside_by_paths : (image : Image) → IsWellFormed image → (i s j k : ℕ) → IsReached image i → EntryNames image i s j → (from to : Path) →
-    lookup image from ≡ Some i → lookup image to ≡ Some k → rest_below (from ++ name_at image i s ∷ []) to ≡ None → IsAtOrBelow image j k → ⊥
-outside_by_paths image wf i s j k reached names from to from_is to_is outside below = go (path_below image wf j (reaches s reached names) k below)
+    lookup image from ≡ Some i → lookup image to ≡ Some k → IsDirectory image k → rest_below (from ++ name_at image i s ∷ []) to ≡ None → IsAtOrBelow image j k → ⊥
+outside_by_paths image wf i s j k reached names from to from_is to_is directory outside below = go (path_below image wf j (reaches s reached names) k below)
   where
     here : lookup image (from ++ name_at image i s ∷ []) ≡ Some j
     here =
@@ -50,7 +51,7 @@ outside_by_paths image wf i s j k reached names from to from_is to_is outside be
     go : (rest : Path) × (lookup_from image j rest ≡ Some k) → ⊥
     go found =
         let joined : lookup image ((from ++ name_at image i s ∷ []) ++ found.0) ≡ Some k = lookup_from-join image 1 (from ++ name_at image i s ∷ []) found.0 ∙ rw here found.1 in
-        let is : to ≡ (from ++ name_at image i s ∷ []) ++ found.0 = path_once image wf to ((from ++ name_at image i s ∷ []) ++ found.0) k to_is joined in
+        let is : to ≡ (from ++ name_at image i s ∷ []) ++ found.0 = path_once image wf to ((from ++ name_at image i s ∷ []) ++ found.0) k to_is joined directory in
         let some : rest_below (from ++ name_at image i s ∷ []) to ≡ Some found.0 =
         ap (rest_below (from ++ name_at image i s ∷ [])) is ∙ rest_below-append (from ++ name_at image i s ∷ []) found.0 in
         let clash : ◌≡◌ {A = Option Path} None (Some found.0) = sym outside ∙ some in
@@ -138,15 +139,16 @@ module _ (old new : Image) (wf : IsWellFormed old) (i s k r j : ℕ) (can : CanM
       reach_stays old new i s k r j Replaced can.reached can.entry can.target (move.new_entry old new wf i s k r j can moves) alone not_target stay outside t was
       (λ gone. kept gone.0 gone.1)
 
-  -- what it named is not reached any more
-  pub replaced_not_reached : inumber_at old k r ≢ 0 → IsReached new (inumber_at old k r) → ⊥
-  replaced_not_reached some now = go (inumber_at old k r) now refl
+  -- where no other entry names it, what it named is not reached any more
+  pub replaced_not_reached : inumber_at old k r ≢ 0 → ((u x : ℕ) → IsReached old u → EntryNames old u x (inumber_at old k r) → (u ≡ k) × (x ≡ r)) →
+      IsReached new (inumber_at old k r) → ⊥
+  replaced_not_reached some last now = go (inumber_at old k r) now refl
     where
       target : EntryNames old k r (inumber_at old k r)
       target = record { directory = can.directory; in_size = can.in_size; inumber = refl; not_empty = some }
 
       source_is : (u x l : ℕ) → IsReached old u → EntryNames old u x l → l ≡ inumber_at old k r → (u ≡ k) × (x ≡ r)
-      source_is u x l q n e = wf.named_once u x k r (inumber_at old k r) q can.target (subst (EntryNames old u x) e n) target
+      source_is u x l q n e = last u x q (subst (EntryNames old u x) e n)
 
       by_entry : (u x l : ℕ) → IsReached old u → move.Entry old new wf i s k r j can moves u x l → l ≡ inumber_at old k r → ⊥
       by_entry u x l q (is_target a b c) e = let at : (i ≡ k) × (s ≡ r) = source_is i s j can.reached can.entry (sym c ∙ e) in can.apart at.0 at.1

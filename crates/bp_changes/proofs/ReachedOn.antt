@@ -32,6 +32,7 @@ meaning_on first second third one two = record {
     whole = two.trees.whole ∙ one.trees.whole;
     marked = two.trees.marked ∙ one.trees.marked;
     counted = two.trees.counted ∙ one.trees.counted;
+    low = λ t r. two.trees.low t (reached_on first second one t r);
     sound = λ t r. two.trees.sound t (reached_on first second one t r);
     apart = λ t u b r q. two.trees.apart t u b (reached_on first second one t r) (reached_on first second one u q);
     full_inode_file = two.trees.full_inode_file;

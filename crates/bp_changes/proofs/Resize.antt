@@ -1,7 +1,9 @@
 -- A store to the size word of a file gives the file that size, and changes nothing else.
-use Rattle.std.proofs.Common.{◌≡◌, ◌≢◌, ◌⊎◌, ℕ, zero, suc, ◌+◌, ◌*◌, ◌/◌, ◌%◌, ◌<◌, length, set, refl, sym, ◌∙◌, ap, subst, subst₂, suc-ne-zero, arith, inl, inr, get_or-set_other}
+use Rattle.std.proofs.Common.{◌≡◌, ◌≢◌, ◌⊎◌, ℕ, zero, suc, ◌+◌, ◌*◌, ◌/◌, ◌%◌, ◌<◌, ◌≤◌, length, set, refl, sym, ◌∙◌, ap, subst, subst₂, suc-ne-zero, arith, inl, inr, get_or-set_other}
 use Rattle.std.proofs.lemmas.Bool.{cases_eq}
 use Rattle.std.proofs.lemmas.List.{length-set}
+use Rattle.bp_limits.specs.Limits.{greatest_height}
+use Rattle.bp_layout.specs.Formatted.{version_of}
 use Rattle.bp_layout.specs.Words.{Image, word, byte_of, height_of, slot_word}
 use Rattle.bp_layout.specs.Tree.{node, content_word, content, HasBlock, IsSound, IsFull, IsLiveWord}
 use Rattle.bp_layout.specs.Inode.{inode_word, kind_of, root_of, size_of, inode_count, ContentStandsAt}
@@ -14,13 +16,15 @@ use Rattle.bp_layout.proofs.Reached.{reached-in_file}
 use Rattle.bp_changes.proofs.Separation.{stands_in_block}
 use Rattle.bp_changes.proofs.ContentStore.{word-stored, word-elsewhere}
 use Rattle.bp_changes.specs.Effects.{ChangesFile}
+use Rattle.bp_changes.proofs.Formatted.{low_stays}
 
--- a file, the place of its size word, and a size under which its tree is sound and apart from the others
+-- a file, the place of its size word, and a size under which its tree is sound, not too high, and apart from the others
 pub record CanResize (old : Image) (n size place : ℕ) : Type 0 where
   pub reached : IsReached old (suc n)
   pub is_file : kind_of old (suc n) ≡ 1
   pub stands : ContentStandsAt old 0 (8 * suc n + 2) place
   pub sound : IsSound old (root_of old (suc n)) size
+  pub low : 0 < size → height_of (root_of old (suc n)) ≤ greatest_height (version_of old)
   pub apart : (u b : ℕ) → IsReached old u → u ≢ suc n → HasBlock old (root_of old (suc n)) size b → HasBlock old (root_of old u) (size_of old u) b → ⊥
 
 module _ (old : Image) (wf : IsWellFormed old) (n size place : ℕ) (can : CanResize old n size place) where
@@ -124,6 +128,16 @@ module _ (old : Image) (wf : IsWellFormed old) (n size place : ℕ) (can : CanRe
   sound_cases t reached (inr other) =
       rw (root_stays t (in_file t reached), size_stays t (in_file t reached) other) (sound-kept old (set old place size) (root_of old t) (size_of old t) (keeps t reached) whole (wf.sound t reached))
 
+  low_cases : (t : ℕ) → IsReached old t → (t ≡ suc n) ⊎ (t ≡ suc n → ⊥) → 0 < size_of (set old place size) t →
+      height_of (root_of (set old place size) t) ≤ greatest_height (version_of (set old place size))
+  low_cases t reached (inl e) some =
+      let root : root_of (set old place size) t ≡ root_of old (suc n) = ap (root_of (set old place size)) e ∙ root_stays (suc n) (in_file (suc n) can.reached) in
+      let now : 0 < size = subst (λ z. 0 < z) (ap (size_of (set old place size)) e ∙ size_here) some in
+      low_stays old (set old place size) (superblock 0 (omega arith)) _ _ size (λ _. root) can.low now
+  low_cases t reached (inr other) some =
+      low_stays old (set old place size) (superblock 0 (omega arith)) _ _ (size_of old t) (λ _. root_stays t (in_file t reached)) (wf.low t reached)
+      (subst (λ z. 0 < z) (size_stays t (in_file t reached) other) some)
+
   -- the blocks of each tree are the old ones, and of the file those that its new size brings in
   pub block_of_file : (b : ℕ) → HasBlock (set old place size) (root_of (set old place size) (suc n)) (size_of (set old place size) (suc n)) b → HasBlock old (root_of old (suc n)) size b
   block_of_file b has =
@@ -176,6 +190,7 @@ module _ (old : Image) (wf : IsWellFormed old) (n size place : ℕ) (can : CanRe
       whole = whole;
       marked = superblock 0 (omega arith);
       counted = superblock 1 (omega arith);
+      low = λ t r. low_cases t r (cases_eq t (suc n));
       sound = λ t r. sound_cases t r (cases_eq t (suc n));
       apart = λ t u b r q one two. apart_cases t u b r q (cases_eq t (suc n)) (cases_eq u (suc n)) one two;
       full_inode_file = full_kept 0 inode_file (λ e. suc-ne-zero n (sym e)) wf.full_inode_file;

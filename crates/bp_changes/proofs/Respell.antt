@@ -78,6 +78,7 @@ module _ (old new : Image) (wf : IsWellFormed old) (i s j : ℕ) (spells : Respe
       let inodes : size_of new 0 ≡ size_of old 0 = spells.size 0 (in_inodes 0 inode_file) in
       record {
         formatted = stays_formatted old new spells.trees wf.formatted;
+        low = λ t q. spells.trees.low t (reached_back t q);
         sound = λ t q. spells.trees.sound t (reached_back t q);
         apart = λ t u b q p one two. spells.trees.apart t u b (reached_back t q) (reached_back u p) one two;
         full_inode_file = spells.trees.full_inode_file;
@@ -86,7 +87,8 @@ module _ (old new : Image) (wf : IsWellFormed old) (i s j : ℕ) (spells : Respe
         some_inodes = rw inodes wf.some_inodes;
         inumbers = λ u x l q n. rw inodes (wf.inumbers u x l (reached_back u q) (names_back u x l (reached_back u q) n));
         not_root = λ u x l q n. wf.not_root u x l (reached_back u q) (names_back u x l (reached_back u q) n);
-        named_once = λ u x v y l q p n m. wf.named_once u x v y l (reached_back u q) (reached_back v p) (names_back u x l (reached_back u q) n) (names_back v y l (reached_back v p) m);
+        named_once = λ u x v y l q p n m kind. wf.named_once u x v y l (reached_back u q) (reached_back v p) (names_back u x l (reached_back u q) n) (names_back v y l (reached_back v p) m)
+            (sym (spells.kind l (in_inodes l (reached_back l (named x q n)))) ∙ kind);
         kinds = λ u q. rw (spells.kind (suc u) (in_inodes (suc u) (reached_back (suc u) q))) (wf.kinds u (reached_back (suc u) q));
         root_kind = spells.kind 1 (in_inodes 1 root_directory) ∙ wf.root_kind;
         directory_sizes = λ u q kind.
@@ -164,6 +166,7 @@ module _ (old new : Image) (wf : IsWellFormed old) (i s j : ℕ) (spells : Respe
     well_formed = wf;
     apart = λ e same. spells.changed same;
     source = lookup_in-found old i j (name_at old i s) (record { slot = s; entry = spells.names; spelled = refl }) (λ x l n e. wf.names_once i x s l j spells.reached n spells.names e);
+    directory = spells.names.directory;
     gone = was_gone;
     target = now_shown;
     alone = λ v name e. absurd (nothing v (lookup_in-shows old i v (name_at new i s) e));

@@ -12,8 +12,8 @@ use Rattle.bp_layout.specs.WellFormed.{IsWellFormed}
 use Rattle.bp_layout.specs.Same.{Same}
 use Rattle.bp_changes.specs.SameMeaning.{SameMeaning}
 use Rattle.bp_layout.proofs.Finding.{map-same}
-use Rattle.bp_layout.proofs.View.{SameView, shown-same}
-use Rattle.bp_changes.proofs.Formatted.{stays_formatted}
+use Rattle.bp_layout.proofs.View.{SameView, find_one-same, shown-same}
+use Rattle.bp_changes.proofs.Formatted.{stays_formatted, version_stays}
 
 module _ (old new : Image) (wf : IsWellFormed old) (same : SameMeaning old new) where
   size-same : (i kind : ℕ) → kind_of old i ≡ suc kind → IsReached old i → size_of new i ≡ size_of old i
@@ -59,6 +59,7 @@ module _ (old new : Image) (wf : IsWellFormed old) (same : SameMeaning old new) 
   well_formed-same =
       record {
         formatted = stays_formatted old new same.trees wf.formatted;
+        low = λ t r. same.trees.low t (reached-back t r);
         sound = λ t r. same.trees.sound t (reached-back t r);
         apart = λ t u b r q has also. same.trees.apart t u b (reached-back t r) (reached-back u q) has also;
         full_inode_file = same.trees.full_inode_file;
@@ -69,7 +70,8 @@ module _ (old new : Image) (wf : IsWellFormed old) (same : SameMeaning old new) 
             let low : j < inode_count old = wf.inumbers i s j (reached-back i r) (names-back i s j (reached-back i r) n) in
             omega (arith, low, same.inodes);
         not_root = λ i s j r n. wf.not_root i s j (reached-back i r) (names-back i s j (reached-back i r) n);
-        named_once = λ i s k q j r p n m. wf.named_once i s k q j (reached-back i r) (reached-back k p) (names-back i s j (reached-back i r) n) (names-back k q j (reached-back k p) m);
+        named_once = λ i s k q j r p n m kind. wf.named_once i s k q j (reached-back i r) (reached-back k p) (names-back i s j (reached-back i r) n) (names-back k q j (reached-back k p) m)
+            (sym (same.kind j (reached-back j (named s r n))) ∙ kind);
         kinds = λ i r. rw (same.kind (suc i) (reached-back (suc i) r)) (wf.kinds i (reached-back (suc i) r));
         root_kind = same.kind 1 root_directory ∙ wf.root_kind;
         directory_sizes = λ i r kind.
@@ -81,4 +83,4 @@ module _ (old new : Image) (wf : IsWellFormed old) (same : SameMeaning old new) 
       }
 
   pub same-by_meaning : Same old new
-  same-by_meaning = record { old_well_formed = wf; new_well_formed = well_formed-same; shows = shown-same old new view-same }
+  same-by_meaning = record { old_well_formed = wf; new_well_formed = well_formed-same; version = version_stays old new same.trees.marked; shows = shown-same old new view-same; one = find_one-same old new view-same.directories }

@@ -78,16 +78,16 @@ module _ (old new : Image) (wf : IsWellFormed old) (i s j : ℕ) (can : CanUnlin
   entry_back : (u r k : ℕ) → IsReached new u → EntryNames new u r k → IsReached old u × EntryNames old u r k
   entry_back u r k reached n = (reached_back u reached, (names_back u r k (reached_back u reached) n).before)
 
-  -- the inode of the entry is not reached any more
-  pub not_reached : IsReached new j → ⊥
-  not_reached reached = go j reached refl
+  -- where no other entry names it, the inode of the entry is not reached any more
+  pub not_reached : ((u r : ℕ) → IsReached old u → EntryNames old u r j → (u ≡ i) × (r ≡ s)) → IsReached new j → ⊥
+  not_reached last reached = go j reached refl
     where
       go : (t : ℕ) → IsReached new t → t ≡ j → ⊥
       go _ inode_file e = can.entry.not_empty (sym e)
       go _ root_directory e = wf.not_root i s j can.reached can.entry (sym e)
       go _ (named {i = u} {j = k} r from n) e =
           let kept : IsKept u r k = names_back u r k (reached_back u from) n in
-          let same : (u ≡ i) × (r ≡ s) = wf.named_once u r i s j (reached_back u from) can.reached (subst (EntryNames old u r) e kept.before) can.entry in
+          let same : (u ≡ i) × (r ≡ s) = last u r (reached_back u from) (subst (EntryNames old u r) e kept.before) in
           kept.other same.0 same.1
 
   -- and all others are
@@ -103,6 +103,7 @@ module _ (old new : Image) (wf : IsWellFormed old) (i s j : ℕ) (can : CanUnlin
       let inodes : size_of new 0 ≡ size_of old 0 = removes.size 0 (in_inodes 0 inode_file) in
       record {
         formatted = stays_formatted old new removes.trees wf.formatted;
+        low = λ t r. removes.trees.low t (reached_back t r);
         sound = λ t r. removes.trees.sound t (reached_back t r);
         apart = λ t u b r q one two. removes.trees.apart t u b (reached_back t r) (reached_back u q) one two;
         full_inode_file = removes.trees.full_inode_file;
@@ -111,10 +112,10 @@ module _ (old new : Image) (wf : IsWellFormed old) (i s j : ℕ) (can : CanUnlin
         some_inodes = rw inodes wf.some_inodes;
         inumbers = λ u r k q n. let e : IsReached old u × EntryNames old u r k = entry_back u r k q n in rw inodes (wf.inumbers u r k e.0 e.1);
         not_root = λ u r k q n. let e : IsReached old u × EntryNames old u r k = entry_back u r k q n in wf.not_root u r k e.0 e.1;
-        named_once = λ u r v q k from also n m.
+        named_once = λ u r v q k from also n m kind.
             let e : IsReached old u × EntryNames old u r k = entry_back u r k from n in
             let f : IsReached old v × EntryNames old v q k = entry_back v q k also m in
-            wf.named_once u r v q k e.0 f.0 e.1 f.1;
+            wf.named_once u r v q k e.0 f.0 e.1 f.1 (sym (removes.kind k (in_inodes k (named r e.0 e.1))) ∙ kind);
         kinds = λ u r. rw (removes.kind (suc u) (in_inodes (suc u) (reached_back (suc u) r))) (wf.kinds u (reached_back (suc u) r));
         root_kind = removes.kind 1 (in_inodes 1 root_directory) ∙ wf.root_kind;
         directory_sizes = λ u r kind.
@@ -204,13 +205,16 @@ module _ (old new : Image) (wf : IsWellFormed old) (i s j : ℕ) (can : CanUnlin
       go false e = rw (removes.kind u (in_inodes u reached), e) refl
 
   module _ (parent : Path) (at : lookup old parent ≡ Some i) where
-    pub shown_elsewhere : (path : Path) → (path ≡ parent ++ name_at old i s ∷ [] → ⊥) → shown new path ≡ shown old path
-    shown_elsewhere path other = rw (same (ended_or_same 1 path root_directory)) (go (lookup old path) refl)
+    pub lookup_elsewhere : (path : Path) → (path ≡ parent ++ name_at old i s ∷ [] → ⊥) → lookup new path ≡ lookup old path
+    lookup_elsewhere path other = same (ended_or_same 1 path root_directory)
       where
         same : (lookup new path ≡ lookup old path) ⊎ EndedThere 1 path → lookup new path ≡ lookup old path
         same (inl e) = e
-        same (inr ends) = absurd (other (ends.is ∙ ap (λ p. p ++ name_at old i s ∷ []) (path_once old wf ends.above parent i ends.parent at)))
+        same (inr ends) = absurd (other (ends.is ∙ ap (λ p. p ++ name_at old i s ∷ []) (path_once old wf ends.above parent i ends.parent at can.entry.directory)))
 
+    pub shown_elsewhere : (path : Path) → (path ≡ parent ++ name_at old i s ∷ [] → ⊥) → shown new path ≡ shown old path
+    shown_elsewhere path other = rw (lookup_elsewhere path other) (go (lookup old path) refl)
+      where
         go : (found : Option ℕ) → lookup old path ≡ found → option_map (node_of new) found ≡ option_map (node_of old) found
         go None e = refl
         go (Some u) e = ap Some (node_stays u (lookup_from-reached old 1 u path root_directory e))
@@ -222,13 +226,14 @@ module _ (old new : Image) (wf : IsWellFormed old) (i s j : ℕ) (can : CanUnlin
         go : (lookup new parent ≡ lookup old parent) ⊎ EndedThere 1 parent → lookup new parent ≡ Some i
         go (inl e) = e ∙ at
         go (inr ends) =
-            let same : ends.above ≡ parent = path_once old wf ends.above parent i ends.parent at in
+            let same : ends.above ≡ parent = path_once old wf ends.above parent i ends.parent at can.entry.directory in
             absurd (longer parent (name_at old i s) (ends.is ∙ ap (λ p. p ++ name_at old i s ∷ []) same))
           where
             longer : (p : Path) (n : Name) → p ≡ p ++ n ∷ [] → ⊥
             longer p n e = omega (arith, ap length e, length-append p (n ∷ []))
 
+    pub lookup_there : lookup new (parent ++ name_at old i s ∷ []) ≡ None
+    lookup_there = lookup_from-append new 1 parent (name_at old i s) ∙ rw parent_stays lookup_unlinked
+
     pub shown_there : shown new (parent ++ name_at old i s ∷ []) ≡ None
-    shown_there =
-        let gone : lookup new (parent ++ name_at old i s ∷ []) ≡ None = lookup_from-append new 1 parent (name_at old i s) ∙ rw parent_stays lookup_unlinked in
-        rw gone refl
+    shown_there = rw lookup_there refl

@@ -76,7 +76,39 @@ pub record AddsNames (old new : Image) (i s j : ℕ) : Type 0 where
   pub bytes : (u o : ℕ) → IsReached old u → IsFile old u → o < size_of old u →
       byte new (root_of new u) o ≡ byte old (root_of old u) o
 
+-- One more entry, at slot s of directory i, for file j, which has a name. The slot was empty, or the directory grew by
+-- it. All else is as it was.
+pub record LinksName (old new : Image) (i s j : ℕ) : Type 0 where
+  pub reached : IsReached old i
+  pub other : IsReached old j
+  pub is_file : IsFile old j
+  pub trees : KeepsTrees old new
+  pub inode_bytes : size_of new 0 ≡ size_of old 0
+  pub kind : (u : ℕ) → IsReached old u → kind_of new u ≡ kind_of old u
+  pub file_size : (u : ℕ) → IsReached old u → IsFile old u → size_of new u ≡ size_of old u
+  pub directory_size : (u : ℕ) → IsReached old u → IsDirectory old u → size_of new u % entry_size ≡ 0
+  pub back : (u r k : ℕ) → IsReached old u → EntryNames new u r k → IsNewEntry i s j u r k ⊎ EntryNames old u r k
+  pub stay : (u r k : ℕ) → IsReached old u → EntryNames old u r k → EntryNames new u r k
+  pub entry : EntryNames new i s j
+  pub same_names : (u r k : ℕ) → IsReached old u → EntryNames old u r k → name_at new u r ≡ name_at old u r
+  pub name : IsName (name_at new i s)
+  pub new_name : (r k : ℕ) → EntryNames old i r k → name_at old i r ≢ name_at new i s
+  pub bytes : (u o : ℕ) → IsReached old u → IsFile old u → o < size_of old u →
+      byte new (root_of new u) o ≡ byte old (root_of old u) o
+
 -- ---- one name fewer
+
+-- no other entry names the inode of this one
+abbrev pub IsLastName : Image → ℕ → ℕ → ℕ → Type 0
+IsLastName old i s j = (u r : ℕ) → IsReached old u → EntryNames old u r j → (u ≡ i) × (r ≡ s)
+
+-- another entry does
+pub record HasOtherName (old : Image) (i s j : ℕ) : Type 0 where
+  pub directory : ℕ
+  pub slot : ℕ
+  pub reached : IsReached old directory
+  pub names : EntryNames old directory slot j
+  pub other : (directory ≡ i) → (slot ≡ s) → ⊥
 
 -- an entry that names a file or an empty directory
 pub record CanUnlink (old : Image) (i s j : ℕ) : Type 0 where

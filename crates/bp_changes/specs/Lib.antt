@@ -10,3 +10,4 @@ pub mod Harmless
 -- what each change makes of an image, and what a commit makes of its words
 pub mod Effects
 pub mod Commits
+pub mod Thawed

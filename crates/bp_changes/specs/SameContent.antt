@@ -1,6 +1,8 @@
 -- When two trees hold the same.
 use Rattle.std.specs.Prelude.{◌≡◌, ◌⊎◌, ℕ, ◌+◌, ◌*◌, ◌<◌, ◌≤◌}
-use Rattle.bp_layout.specs.Words.{Image}
+use Rattle.bp_limits.specs.Limits.{greatest_height}
+use Rattle.bp_layout.specs.Words.{Image, height_of}
+use Rattle.bp_layout.specs.Formatted.{version_of}
 use Rattle.bp_layout.specs.Tree.{content_word, byte, HasBlock, IsSound, IsFull}
 use Rattle.bp_layout.specs.Inode.{IsDirectory}
 use Rattle.bp_layout.specs.Reached.{IsLiveBlock}
@@ -14,10 +16,11 @@ pub record SameContent (ByWords : Type 0) (old new : Image) (size root other : �
   pub words : ByWords → (k : ℕ) → 8 * k + 8 ≤ size → content_word new other k ≡ content_word old root k
   pub bytes : (o : ℕ) → o < size → byte new other o ≡ byte old root o
 
--- In this image the second root word, at this size, is as good as the first: the same content, in blocks of the first
--- and free ones.
+-- In this image the second root word, at this size, is as good as the first: no higher than those of the image's
+-- version, and with the same content, in blocks of the first and free ones.
 pub record ReadsAs (ByWords : Type 0) (image : Image) (size root other : ℕ) : Type 0 where
   pub sound : IsSound image other size
+  pub low : 0 < size → height_of other ≤ greatest_height (version_of image)
   pub content : SameContent ByWords image image size root other
   pub blocks : (b : ℕ) → HasBlock image other size b → HasBlock image root size b ⊎ (IsLiveBlock image b → ⊥)
   pub full : IsFull image root size → IsFull image other size

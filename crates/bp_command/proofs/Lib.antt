@@ -1,7 +1,9 @@
 pub mod Commands
 pub mod Rows
 pub mod Numbers
+pub mod Walking
 pub mod PlayWords
+pub mod FormatWords
 pub mod Plain
 pub mod Taken
 pub mod Once

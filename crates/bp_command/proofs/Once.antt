@@ -3,7 +3,9 @@ use Rattle.std.proofs.Common.{◌≡◌, ℕ, List, Some, sym, ◌∙◌, ap, ap
 use Rattle.std.specs.Prelude.{codes}
 use Rattle.std.specs.Str.Parse.{digits_value, without_leading_plus}
 use Rattle.clap.specs.Words.{Row, Text}
-use Rattle.bp_command.specs.Programs.{GivesNumber, Names, Program, Requests}
+use Rattle.bp_limits.specs.Numbers.{version_numbered}
+use Rattle.bp_limits.specs.declared.version.Version.{Version}
+use Rattle.bp_command.specs.Programs.{AsksForVersion, GivesNumber, Names, Program, Requests}
 use Rattle.bp_command.specs.Programs.Program.{formats, runs, checks, plays}
 
 inside : {A : Type 0} {x y : A} → Some x ≡ Some y → x ≡ y
@@ -14,22 +16,26 @@ module _ (rows : List Row) where
   number_once : (option : Text) (least most n k : ℕ) → GivesNumber option least most rows n → GivesNumber option least most rows k → k ≡ n
   number_once option least most n k first second = sym second.value ∙ ap (λ (t : Text). digits_value 10 (without_leading_plus t)) (inside (sym second.given ∙ first.given)) ∙ first.value
 
+  version_once : (v w : Version) → AsksForVersion rows v → AsksForVersion rows w → w ≡ v
+  version_once v w first second = second.is ∙ ap version_numbered (number_once _ _ _ _ _ first.gives second.gives) ∙ sym first.is
+
   named_once : (verb : Text) (program other : Program) → Names verb rows program → Names verb rows other → other ≡ program
-  named_once verb (formats n b) (formats m c) first second = ap₂ formats (inside (sym second.1 ∙ first.1)) (number_once _ _ _ _ _ first.2 second.2)
-  named_once verb (formats n b) (runs m) first second = absurd (let no : codes "format" ≡ codes "run" = sym first.0 ∙ second.0 in cc)
-  named_once verb (formats n b) (checks m) first second = absurd (let no : codes "format" ≡ codes "check" = sym first.0 ∙ second.0 in cc)
-  named_once verb (formats n b) (plays m s c) first second = absurd (let no : codes "format" ≡ codes "play" = sym first.0 ∙ second.0 in cc)
+  named_once verb (formats n b v) (formats m c w) first second =
+      ap (λ (name : Text). formats name c w) (inside (sym second.1 ∙ first.1)) ∙ ap₂ (formats n) (number_once _ _ _ _ _ first.2 second.2) (version_once _ _ first.3 second.3)
+  named_once verb (formats n b v) (runs m) first second = absurd (let no : codes "format" ≡ codes "run" = sym first.0 ∙ second.0 in cc)
+  named_once verb (formats n b v) (checks m) first second = absurd (let no : codes "format" ≡ codes "check" = sym first.0 ∙ second.0 in cc)
+  named_once verb (formats n b v) (plays m s c) first second = absurd (let no : codes "format" ≡ codes "play" = sym first.0 ∙ second.0 in cc)
   named_once verb (runs n) (runs m) first second = ap runs (inside (sym second.1 ∙ first.1))
-  named_once verb (runs n) (formats m c) first second = absurd (let no : codes "run" ≡ codes "format" = sym first.0 ∙ second.0 in cc)
+  named_once verb (runs n) (formats m c w) first second = absurd (let no : codes "run" ≡ codes "format" = sym first.0 ∙ second.0 in cc)
   named_once verb (runs n) (checks m) first second = absurd (let no : codes "run" ≡ codes "check" = sym first.0 ∙ second.0 in cc)
   named_once verb (runs n) (plays m s c) first second = absurd (let no : codes "run" ≡ codes "play" = sym first.0 ∙ second.0 in cc)
   named_once verb (checks n) (checks m) first second = ap checks (inside (sym second.1 ∙ first.1))
-  named_once verb (checks n) (formats m c) first second = absurd (let no : codes "check" ≡ codes "format" = sym first.0 ∙ second.0 in cc)
+  named_once verb (checks n) (formats m c w) first second = absurd (let no : codes "check" ≡ codes "format" = sym first.0 ∙ second.0 in cc)
   named_once verb (checks n) (runs m) first second = absurd (let no : codes "check" ≡ codes "run" = sym first.0 ∙ second.0 in cc)
   named_once verb (checks n) (plays m s c) first second = absurd (let no : codes "check" ≡ codes "play" = sym first.0 ∙ second.0 in cc)
   named_once verb (plays n s c) (plays m t d) first second =
       ap (λ (name : Text). plays name t d) (inside (sym second.1 ∙ first.1)) ∙ ap₂ (plays n) (number_once _ _ _ _ _ first.2 second.2) (number_once _ _ _ _ _ first.3 second.3)
-  named_once verb (plays n s c) (formats m b) first second = absurd (let no : codes "play" ≡ codes "format" = sym first.0 ∙ second.0 in cc)
+  named_once verb (plays n s c) (formats m b w) first second = absurd (let no : codes "play" ≡ codes "format" = sym first.0 ∙ second.0 in cc)
   named_once verb (plays n s c) (runs m) first second = absurd (let no : codes "play" ≡ codes "run" = sym first.0 ∙ second.0 in cc)
   named_once verb (plays n s c) (checks m) first second = absurd (let no : codes "play" ≡ codes "check" = sym first.0 ∙ second.0 in cc)
 

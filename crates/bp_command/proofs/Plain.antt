@@ -1,5 +1,5 @@
 -- Plain words are taken, and give the program that they ask for.
-use Rattle.std.proofs.Common.{◌≡◌, ℕ, ◌<◌, ◌≤◌, List, [], ◌∷◌, length, ◌^◌, Bool, true, false, nat_eq, Option, None, Some, refl, sym, ◌∙◌, ap, ap₂, subst, arith}
+use Rattle.std.proofs.Common.{◌≡◌, ℕ, ◌<◌, ◌≤◌, inl, inr, List, [], ◌∷◌, length, ◌^◌, Bool, true, false, nat_eq, Option, None, Some, refl, sym, ◌∙◌, ap, ap₂, subst, arith}
 use Rattle.std.specs.Prelude.{codes, decimal}
 use Rattle.std.specs.Str.Parse.{IsNumeral, digits_value, without_leading_plus}
 use Rattle.std.proofs.lemmas.Fmt.{decimal_is_IsNumeral}
@@ -13,8 +13,13 @@ use Rattle.clap.specs.declared.builder.value_parser.ValueParser.TheVariants as v
 use Rattle.clap.proofs.OnLiterals.{clap_on_literals}
 use Rattle.clap.proofs.ValueTestLemmas.{Accepts-accepts}
 use Rattle.bp_command.specs.Commands.{IsTaken, subcommand_named}
-use Rattle.bp_command.specs.Programs.{Asks, IsProper, Names, Program, Requests, max_seed, program_words}
-use Rattle.bp_command.proofs.PlayWords.{Numbers, met_play, numbers_of, parts, some_name, taken_play}
+use Rattle.bp_limits.specs.Numbers.{version_numbered}
+use Rattle.bp_limits.specs.declared.version.Version.{Version}
+use Rattle.bp_limits.specs.declared.version.Version.TheVariants.{One, Two}
+use Rattle.bp_command.specs.Programs.{Asks, IsProper, Names, Program, Requests, max_seed, program_words, short_words, version_words}
+use Rattle.bp_command.proofs.Walking.{Numbers, numbers_of, parts, some_name}
+use Rattle.bp_command.proofs.FormatWords.{met_format, met_short, taken_format, taken_short}
+use Rattle.bp_command.proofs.PlayWords.{met_play, taken_play}
 use Rattle.bp_command.specs.Programs.Program.{formats, runs, checks, plays}
 
 -- ---- by computing
@@ -27,23 +32,13 @@ taken_check : (called : Text) (x : ℕ) (xs : Text) → nat_eq x 45 ≡ false �
 unfolding IsTaken clap_on_literals
 taken_check called x xs h = let n = some_name x xs in simp (h, n) refl
 
-taken_format : (called : Text) (x d : ℕ) (xs ds : Text) → nat_eq x 45 ≡ false → nat_eq d 45 ≡ false → accepts false (vp.Unsigned 8 16384) (d ∷ ds) ≡ true →
-    IsTaken (called ∷ codes "format" ∷ (x ∷ xs) ∷ codes "--blocks" ∷ (d ∷ ds) ∷ [])
-unfolding IsTaken clap_on_literals
-taken_format called x d xs ds h k a = let n = some_name x xs in simp (h, k, a, n) refl
-
-met_run : (called : Text) (x : ℕ) (xs : Text) → nat_eq x 45 ≡ false → parts (subcommand_named (called ∷ codes "run" ∷ (x ∷ xs) ∷ [])) ≡ Some (codes "run", Some (x ∷ xs), (None, None, None))
+met_run : (called : Text) (x : ℕ) (xs : Text) → nat_eq x 45 ≡ false → parts (subcommand_named (called ∷ codes "run" ∷ (x ∷ xs) ∷ [])) ≡ Some (codes "run", Some (x ∷ xs), (None, None, None, None))
 unfolding subcommand_named clap_on_literals
 met_run called x xs h = simp h refl
 
-met_check : (called : Text) (x : ℕ) (xs : Text) → nat_eq x 45 ≡ false → parts (subcommand_named (called ∷ codes "check" ∷ (x ∷ xs) ∷ [])) ≡ Some (codes "check", Some (x ∷ xs), (None, None, None))
+met_check : (called : Text) (x : ℕ) (xs : Text) → nat_eq x 45 ≡ false → parts (subcommand_named (called ∷ codes "check" ∷ (x ∷ xs) ∷ [])) ≡ Some (codes "check", Some (x ∷ xs), (None, None, None, None))
 unfolding subcommand_named clap_on_literals
 met_check called x xs h = simp h refl
-
-met_format : (called : Text) (x d : ℕ) (xs ds : Text) → nat_eq x 45 ≡ false → nat_eq d 45 ≡ false →
-    parts (subcommand_named (called ∷ codes "format" ∷ (x ∷ xs) ∷ codes "--blocks" ∷ (d ∷ ds) ∷ [])) ≡ Some (codes "format", Some (x ∷ xs), (Some (d ∷ ds), None, None))
-unfolding subcommand_named clap_on_literals
-met_format called x d xs ds h k = simp (h, k) refl
 
 -- ---- plain words
 
@@ -88,12 +83,43 @@ same_value least most number given d ds digits are is value = sym value ∙ ap (
 inside : {A : Type 0} {x y : A} → Some x ≡ Some y → x ≡ y
 inside e = cc
 
+-- the digit of a version, as its option takes it
+record IsDigitOf (version : Version) (v : ℕ) : Type 0 where
+  words : version_words version ≡ codes "--version" ∷ (v ∷ []) ∷ []
+  plain : nat_eq v 45 ≡ false
+  passes : accepts false (vp.Unsigned 1 2) (v ∷ []) ≡ true
+  value : version_numbered (digits_value 10 (without_leading_plus (v ∷ []))) ≡ version
+
+digit_of : (version : Version) → (v : ℕ) × IsDigitOf version v
+digit_of One = (49, record { words = refl; plain = refl; passes = refl; value = refl })
+digit_of Two = (50, record { words = refl; plain = refl; passes = refl; value = refl })
+
 module _ (called : Text) where
+  -- the words of a format, by the digits of its numbers
+  abbrev blocks_words : ℕ → Text → Text → List Text
+  blocks_words x xs blocks = called ∷ codes "format" ∷ (x ∷ xs) ∷ codes "--blocks" ∷ blocks ∷ []
+
+  abbrev all_words : ℕ → Text → Text → List Text → List Text
+  all_words x xs blocks version = called ∷ codes "format" ∷ (x ∷ xs) ∷ codes "--blocks" ∷ blocks ∷ version
+
+  named_version : (x blocks : ℕ) (xs : Text) (version : Version) → nat_eq x 45 ≡ false → 8 ≤ blocks → blocks ≤ 65536 → IsTaken (all_words x xs (decimal blocks) (version_words version))
+  named_version x blocks xs version h least most =
+      let digits = digits_of 8 65536 blocks least most (omega (arith, most)) in
+      let digit = digit_of version in
+      subst (λ (w : List Text). IsTaken (all_words x xs (decimal blocks) w)) (sym digit.1.words)
+      (
+      subst (λ (t : Text). IsTaken (all_words x xs t (codes "--version" ∷ (digit.0 ∷ []) ∷ []))) (sym digits.2.is)
+      (taken_format x digits.0 xs digits.1 h digits.2.plain digits.2.passes digit.0 digit.1.plain digit.1.passes called)
+      )
+
+  no_version : (x blocks : ℕ) (xs : Text) → nat_eq x 45 ≡ false → 8 ≤ blocks → blocks ≤ 65536 → IsTaken (blocks_words x xs (decimal blocks))
+  no_version x blocks xs h least most =
+      let digits = digits_of 8 65536 blocks least most (omega (arith, most)) in
+      subst (λ (t : Text). IsTaken (blocks_words x xs t)) (sym digits.2.is) (taken_short x digits.0 xs digits.1 h digits.2.plain digits.2.passes called)
+
   taken : (program : Program) → IsProper program → IsTaken (called ∷ program_words program)
-  taken (formats [] blocks) proper = absurd (omega (arith, proper.0.some))
-  taken (formats (x ∷ xs) blocks) proper =
-      let digits = digits_of 8 16384 blocks proper.1 proper.2 (omega (arith, proper.2)) in
-      subst (λ (t : Text). IsTaken (called ∷ codes "format" ∷ (x ∷ xs) ∷ codes "--blocks" ∷ t ∷ [])) (sym digits.2.is) (taken_format called x digits.0 xs digits.1 (ne_eqb _ _ proper.0.plain) digits.2.plain digits.2.passes)
+  taken (formats [] blocks version) proper = absurd (omega (arith, proper.0.some))
+  taken (formats (x ∷ xs) blocks version) proper = named_version x blocks xs version (ne_eqb _ _ proper.0.plain) proper.1 proper.2
   taken (runs []) proper = absurd (omega (arith, proper.some))
   taken (runs (x ∷ xs)) proper = taken_run called x xs (ne_eqb _ _ proper.plain)
   taken (checks []) proper = absurd (omega (arith, proper.some))
@@ -108,6 +134,14 @@ module _ (called : Text) where
       (taken_play x first.0 second.0 xs first.1 second.1 (ne_eqb _ _ proper.0.plain) first.2.plain second.2.plain first.2.passes called second.2.passes)
       )
 
+  taken_in_short : (program : Program) → IsProper program → IsTaken (called ∷ short_words program)
+  taken_in_short (formats [] blocks version) proper = absurd (omega (arith, proper.0.some))
+  taken_in_short (formats (x ∷ xs) blocks One) proper = no_version x blocks xs (ne_eqb _ _ proper.0.plain) proper.1 proper.2
+  taken_in_short (formats (x ∷ xs) blocks Two) proper = taken (formats (x ∷ xs) blocks Two) proper
+  taken_in_short (runs name) proper = taken (runs name) proper
+  taken_in_short (checks name) proper = taken (checks name) proper
+  taken_in_short (plays name seed count) proper = taken (plays name seed count) proper
+
   -- what the words give has these parts
   named_by : (found : Option (Text × List Row)) (verb name : Text) (numbers : Numbers) (other : Program) (v : Text) (rows : List Row) → parts found ≡ Some (verb, Some name, numbers) → found ≡ Some (v, rows) → Names v rows other
       → (first_of (codes "FILE") rows ≡ Some name) × (numbers_of rows ≡ numbers) × Names verb rows other
@@ -119,40 +153,53 @@ module _ (called : Text) where
       )
 
   only_run : (x : ℕ) (xs : Text) (other : Program) → nat_eq x 45 ≡ false → Requests (called ∷ codes "run" ∷ (x ∷ xs) ∷ []) other → other ≡ runs (x ∷ xs)
-  only_run x xs other h asked = let n = named_by _ (codes "run") (x ∷ xs) (None, None, None) other asked.verb asked.rows (met_run called x xs h) asked.is asked.names in go other n.0 n.2
+  only_run x xs other h asked = let n = named_by _ (codes "run") (x ∷ xs) (None, None, None, None) other asked.verb asked.rows (met_run called x xs h) asked.is asked.names in go other n.0 n.2
     where
       go : (p : Program) → first_of (codes "FILE") asked.rows ≡ Some (x ∷ xs) → Names (codes "run") asked.rows p → p ≡ runs (x ∷ xs)
-      go (formats name blocks) file n = let no : codes "run" ≡ codes "format" = n.0 in cc
+      go (formats name blocks version) file n = let no : codes "run" ≡ codes "format" = n.0 in cc
       go (runs name) file n = ap runs (inside (sym n.1 ∙ file))
       go (checks name) file n = let no : codes "run" ≡ codes "check" = n.0 in cc
       go (plays name seed count) file n = let no : codes "run" ≡ codes "play" = n.0 in cc
 
   only_check : (x : ℕ) (xs : Text) (other : Program) → nat_eq x 45 ≡ false → Requests (called ∷ codes "check" ∷ (x ∷ xs) ∷ []) other → other ≡ checks (x ∷ xs)
-  only_check x xs other h asked = let n = named_by _ (codes "check") (x ∷ xs) (None, None, None) other asked.verb asked.rows (met_check called x xs h) asked.is asked.names in go other n.0 n.2
+  only_check x xs other h asked = let n = named_by _ (codes "check") (x ∷ xs) (None, None, None, None) other asked.verb asked.rows (met_check called x xs h) asked.is asked.names in go other n.0 n.2
     where
       go : (p : Program) → first_of (codes "FILE") asked.rows ≡ Some (x ∷ xs) → Names (codes "check") asked.rows p → p ≡ checks (x ∷ xs)
-      go (formats name blocks) file n = let no : codes "check" ≡ codes "format" = n.0 in cc
+      go (formats name blocks version) file n = let no : codes "check" ≡ codes "format" = n.0 in cc
       go (runs name) file n = let no : codes "check" ≡ codes "run" = n.0 in cc
       go (checks name) file n = ap checks (inside (sym n.1 ∙ file))
       go (plays name seed count) file n = let no : codes "check" ≡ codes "play" = n.0 in cc
 
-  only_format : (x blocks : ℕ) (xs : Text) (other : Program) → nat_eq x 45 ≡ false → 8 ≤ blocks → blocks ≤ 16384 → Requests (called ∷ codes "format" ∷ (x ∷ xs) ∷ codes "--blocks" ∷ decimal blocks ∷ []) other →
-      other ≡ formats (x ∷ xs) blocks
-  only_format x blocks xs other h least most asked =
-      let digits = digits_of 8 16384 blocks least most (omega (arith, most)) in
-      let words : Requests (called ∷ codes "format" ∷ (x ∷ xs) ∷ codes "--blocks" ∷ (digits.0 ∷ digits.1) ∷ []) other =
-      subst (λ (t : Text). Requests (called ∷ codes "format" ∷ (x ∷ xs) ∷ codes "--blocks" ∷ t ∷ []) other) digits.2.is asked in
-      let n = named_by _ (codes "format") (x ∷ xs) (Some (digits.0 ∷ digits.1), None, None) other words.verb words.rows (met_format called x digits.0 xs digits.1 h digits.2.plain) words.is words.names in
-      go words.rows other digits.0 digits.1 digits.2 n.0 (ap (λ (p : Numbers). p.0) n.1) n.2
-    where
-      go : (rows : List Row) (p : Program) (d : ℕ) (ds : Text) → AreDigits 8 16384 blocks d ds → first_of (codes "FILE") rows ≡ Some (x ∷ xs) → one_of (codes "blocks") rows ≡ Some (d ∷ ds) → Names (codes "format") rows p →
-          p ≡ formats (x ∷ xs) blocks
-      go rows (formats name given) d ds are file number n =
-          let value : given ≡ blocks = same_value 8 16384 blocks given d ds n.2.digits are (inside (sym n.2.given ∙ number)) n.2.value in
-          ap (λ (m : Text). formats m given) (inside (sym n.1 ∙ file)) ∙ ap (formats (x ∷ xs)) value
-      go rows (runs name) d ds are file number n = let no : codes "format" ≡ codes "run" = n.0 in cc
-      go rows (checks name) d ds are file number n = let no : codes "format" ≡ codes "check" = n.0 in cc
-      go rows (plays name seed count) d ds are file number n = let no : codes "format" ≡ codes "play" = n.0 in cc
+  -- a format of these values asks for these numbers
+  values_of_format : (x blocks : ℕ) (xs : Text) (version : Version) (rows : List Row) (p : Program) (d : ℕ) (ds digit : Text) → AreDigits 8 65536 blocks d ds → version_numbered (digits_value 10 (without_leading_plus digit)) ≡ version →
+      first_of (codes "FILE") rows ≡ Some (x ∷ xs) → one_of (codes "blocks") rows ≡ Some (d ∷ ds) → one_of (codes "version") rows ≡ Some digit → Names (codes "format") rows p → p ≡ formats (x ∷ xs) blocks version
+  values_of_format x blocks xs version rows (formats name given asked) d ds digit are value file number named n =
+      let same : given ≡ blocks = same_value 8 65536 blocks given d ds n.2.digits are (inside (sym n.2.given ∙ number)) n.2.value in
+      let digits : n.3.gives.digits ≡ digit = inside (sym n.3.gives.given ∙ named) in
+      let one : asked ≡ version = n.3.is ∙ ap version_numbered (sym n.3.gives.value ∙ ap (λ (t : Text). digits_value 10 (without_leading_plus t)) digits) ∙ value in
+      ap (λ (m : Text). formats m given asked) (inside (sym n.1 ∙ file)) ∙ ap₂ (formats (x ∷ xs)) same one
+  values_of_format x blocks xs version rows (runs name) d ds digit are value file number named n = let no : codes "format" ≡ codes "run" = n.0 in cc
+  values_of_format x blocks xs version rows (checks name) d ds digit are value file number named n = let no : codes "format" ≡ codes "check" = n.0 in cc
+  values_of_format x blocks xs version rows (plays name seed count) d ds digit are value file number named n = let no : codes "format" ≡ codes "play" = n.0 in cc
+
+  only_format : (x blocks : ℕ) (xs : Text) (version : Version) (other : Program) → nat_eq x 45 ≡ false → 8 ≤ blocks → blocks ≤ 65536 → Requests (all_words x xs (decimal blocks) (version_words version)) other →
+      other ≡ formats (x ∷ xs) blocks version
+  only_format x blocks xs version other h least most asked =
+      let digits = digits_of 8 65536 blocks least most (omega (arith, most)) in
+      let digit = digit_of version in
+      let half : Requests (all_words x xs (digits.0 ∷ digits.1) (version_words version)) other = subst (λ (t : Text). Requests (all_words x xs t (version_words version)) other) digits.2.is asked in
+      let words : Requests (all_words x xs (digits.0 ∷ digits.1) (codes "--version" ∷ (digit.0 ∷ []) ∷ [])) other =
+      subst (λ (w : List Text). Requests (all_words x xs (digits.0 ∷ digits.1) w) other) digit.1.words half in
+      let n = named_by _ (codes "format") (x ∷ xs) (Some (digits.0 ∷ digits.1), Some (digit.0 ∷ []), None, None) other words.verb words.rows
+      (met_format x digits.0 xs digits.1 h digits.2.plain digits.2.passes digit.0 digit.1.plain digit.1.passes called) words.is words.names in
+      values_of_format x blocks xs version words.rows other digits.0 digits.1 (digit.0 ∷ []) digits.2 digit.1.value n.0 (ap (λ (p : Numbers). p.0) n.1) (ap (λ (p : Numbers). p.1) n.1) n.2
+
+  only_first : (x blocks : ℕ) (xs : Text) (other : Program) → nat_eq x 45 ≡ false → 8 ≤ blocks → blocks ≤ 65536 → Requests (blocks_words x xs (decimal blocks)) other → other ≡ formats (x ∷ xs) blocks One
+  only_first x blocks xs other h least most asked =
+      let digits = digits_of 8 65536 blocks least most (omega (arith, most)) in
+      let words : Requests (blocks_words x xs (digits.0 ∷ digits.1)) other = subst (λ (t : Text). Requests (blocks_words x xs t) other) digits.2.is asked in
+      let n = named_by _ (codes "format") (x ∷ xs) (Some (digits.0 ∷ digits.1), Some (codes "1"), None, None) other words.verb words.rows (met_short x digits.0 xs digits.1 h digits.2.plain digits.2.passes called) words.is words.names in
+      values_of_format x blocks xs One words.rows other digits.0 digits.1 (codes "1") digits.2 refl n.0 (ap (λ (p : Numbers). p.0) n.1) (ap (λ (p : Numbers). p.1) n.1) n.2
 
   -- the words of a play, by the digits of its numbers
   abbrev play_words : ℕ → Text → Text → Text → List Text
@@ -164,12 +211,12 @@ module _ (called : Text) where
       let second = digits_of 0 1000000 count (omega arith) counts (omega (arith, counts)) in
       let half : Requests (play_words x xs (first.0 ∷ first.1) (decimal count)) other = subst (λ (t : Text). Requests (play_words x xs t (decimal count)) other) first.2.is asked in
       let words : Requests (play_words x xs (first.0 ∷ first.1) (second.0 ∷ second.1)) other = subst (λ (t : Text). Requests (play_words x xs (first.0 ∷ first.1) t) other) second.2.is half in
-      let n = named_by _ (codes "play") (x ∷ xs) (None, Some (first.0 ∷ first.1), Some (second.0 ∷ second.1)) other words.verb words.rows (met_play x first.0 second.0 xs first.1 second.1 h first.2.plain second.2.plain first.2.passes called) words.is words.names in
-      go words.rows other first.0 second.0 first.1 second.1 first.2 second.2 n.0 (ap (λ (p : Numbers). p.1) n.1) (ap (λ (p : Numbers). p.2) n.1) n.2
+      let n = named_by _ (codes "play") (x ∷ xs) (None, None, Some (first.0 ∷ first.1), Some (second.0 ∷ second.1)) other words.verb words.rows (met_play x first.0 second.0 xs first.1 second.1 h first.2.plain second.2.plain first.2.passes called) words.is words.names in
+      go words.rows other first.0 second.0 first.1 second.1 first.2 second.2 n.0 (ap (λ (p : Numbers). p.2) n.1) (ap (λ (p : Numbers). p.3) n.1) n.2
     where
       go : (rows : List Row) (p : Program) (d e : ℕ) (ds es : Text) → AreDigits 0 max_seed seed d ds → AreDigits 0 1000000 count e es → first_of (codes "FILE") rows ≡ Some (x ∷ xs) → one_of (codes "seed") rows ≡ Some (d ∷ ds) →
           one_of (codes "count") rows ≡ Some (e ∷ es) → Names (codes "play") rows p → p ≡ plays (x ∷ xs) seed count
-      go rows (formats name blocks) d e ds es are these file first second n = let no : codes "play" ≡ codes "format" = n.0 in cc
+      go rows (formats name blocks version) d e ds es are these file first second n = let no : codes "play" ≡ codes "format" = n.0 in cc
       go rows (runs name) d e ds es are these file first second n = let no : codes "play" ≡ codes "run" = n.0 in cc
       go rows (checks name) d e ds es are these file first second n = let no : codes "play" ≡ codes "check" = n.0 in cc
       go rows (plays name given turns) d e ds es are these file first second n =
@@ -178,8 +225,8 @@ module _ (called : Text) where
           ap (λ (m : Text). plays m given turns) (inside (sym n.1 ∙ file)) ∙ ap₂ (plays (x ∷ xs)) seeds counts
 
   only : (program other : Program) → IsProper program → Requests (called ∷ program_words program) other → other ≡ program
-  only (formats [] blocks) other proper asked = absurd (omega (arith, proper.0.some))
-  only (formats (x ∷ xs) blocks) other proper asked = only_format x blocks xs other (ne_eqb _ _ proper.0.plain) proper.1 proper.2 asked
+  only (formats [] blocks version) other proper asked = absurd (omega (arith, proper.0.some))
+  only (formats (x ∷ xs) blocks version) other proper asked = only_format x blocks xs version other (ne_eqb _ _ proper.0.plain) proper.1 proper.2 asked
   only (runs []) other proper asked = absurd (omega (arith, proper.some))
   only (runs (x ∷ xs)) other proper asked = only_run x xs other (ne_eqb _ _ proper.plain) asked
   only (checks []) other proper asked = absurd (omega (arith, proper.some))
@@ -187,8 +234,22 @@ module _ (called : Text) where
   only (plays [] seed count) other proper asked = absurd (omega (arith, proper.0.some))
   only (plays (x ∷ xs) seed count) other proper asked = only_play x seed count xs other (ne_eqb _ _ proper.0.plain) proper.1 proper.2 asked
 
+  only_in_short : (program other : Program) → IsProper program → Requests (called ∷ short_words program) other → other ≡ program
+  only_in_short (formats [] blocks version) other proper asked = absurd (omega (arith, proper.0.some))
+  only_in_short (formats (x ∷ xs) blocks One) other proper asked = only_first x blocks xs other (ne_eqb _ _ proper.0.plain) proper.1 proper.2 asked
+  only_in_short (formats (x ∷ xs) blocks Two) other proper asked = only (formats (x ∷ xs) blocks Two) other proper asked
+  only_in_short (runs name) other proper asked = only (runs name) other proper asked
+  only_in_short (checks name) other proper asked = only (checks name) other proper asked
+  only_in_short (plays name seed count) other proper asked = only (plays name seed count) other proper asked
+
 pub plain_taken : (words : List Text) (program : Program) → Asks words program → IsTaken words
-plain_taken words program asks = subst IsTaken (sym asks.are) (taken asks.called program asks.proper)
+plain_taken words program asks = elim asks.are [
+  | inl are ↦ subst IsTaken (sym are) (taken asks.called program asks.proper)
+  | inr are ↦ subst IsTaken (sym are) (taken_in_short asks.called program asks.proper)
+]
 
 pub plain_only : (words : List Text) (program other : Program) → Asks words program → Requests words other → other ≡ program
-plain_only words program other asks asked = only asks.called program other asks.proper (subst (λ (w : List Text). Requests w other) asks.are asked)
+plain_only words program other asks asked = elim asks.are [
+  | inl are ↦ only asks.called program other asks.proper (subst (λ (w : List Text). Requests w other) are asked)
+  | inr are ↦ only_in_short asks.called program other asks.proper (subst (λ (w : List Text). Requests w other) are asked)
+]

@@ -9,10 +9,10 @@ use Rattle.std.proofs.lemmas.Slice.Eq.{bytes_eq-Decides}
 use Rattle.clap.specs.Facts.{explicit_source, parser_of_value, unwrap_or_range}
 use Rattle.clap.specs.Faults.{action_fault, bundle_fault, bundle_step_fault, check_fault, entered_fault, flag_word_fault, flags_fault, level_fault, long_fault, option_fault, other_fault, positional_fault, react_fault, set_fault, settle_fault, short_fault, step_fault, stray_fault, turn_fault, use_fault, values_fault, walk_fault, word_fault}
 use Rattle.clap.specs.Kinds.{Kinds, check_kinds, or_else, range_kinds, value_kinds}
-use Rattle.clap.specs.Simple.{Shape, argument_words, built, built_leaf, entered, filled, inherited, label_of, marked_built, names_of, rows_at, with_index, with_leaf_noted}
+use Rattle.clap.specs.Simple.{Shape, argument_words, built, built_leaf, entered, filled, help_rule, inherited, label_of, marked_built, names_of, rows_at, with_index, with_leaf_noted}
 use Rattle.clap.specs.Takes.{is_given}
 use Rattle.clap.specs.Values.{read_as}
-use Rattle.clap.specs.Walk.{Held, Names, Outcome, Row, Rule, Step, Text, Waiting, Walk, action_of, after_flag, after_step, answers_to, arg_by_id, arg_by_index, arg_by_long, arg_by_short, at_row, attached_value, bundle, bundle_met, bundle_step, first_of, flag_met, has_row, is_pending, long_met, long_or_other, more_values, most_values, nothing_held, one_of, option_met, option_word, plain_word, pushed, reacted, reading_by, rows_after, settled, settled_rows, short_met, short_or_plain, subcommand_met, subcommand_or_other, takes_several, takes_values, to_positional, used, used_as, used_by_id, values_or_missing, walk, walk_from, walked, walked_from, with_default, with_values, without, word_met}
+use Rattle.clap.specs.Walk.{Held, Names, Outcome, Row, Rule, Step, Text, Waiting, Walk, action_of, after_flag, after_step, answers_to, arg_by_id, arg_by_index, arg_by_long, arg_by_short, at_row, attached_value, bundle, bundle_met, bundle_step, default_rows, first_of, flag_met, has_row, is_pending, long_met, long_or_other, more_values, most_values, nothing_held, one_of, option_met, option_word, plain_word, pushed, reacted, reading_by, rows_after, settled, settled_rows, short_met, short_or_plain, subcommand_met, subcommand_or_other, takes_several, takes_values, to_positional, used, used_as, used_by_id, values_or_missing, walk, walk_from, walked, walked_from, with_default, with_values, without, word_met}
 use Rattle.clap.specs.Walk.Outcome.{done, waits, plain, refused}
 use Rattle.clap.specs.Walk.Step.{next, trailing, subcommand, value}
 use Rattle.clap.specs.Walk.Waiting.{idle, option, positional}
@@ -20,8 +20,10 @@ use Rattle.clap.specs.Lexer.{long_of, short_of}
 use Rattle.clap.specs.declared.builder.action.ArgAction.TheVariants.{Set, Help}
 use Rattle.clap.specs.declared.error.kind.ErrorKind.{ErrorKind}
 use Rattle.clap.specs.declared.error.kind.ErrorKind.TheVariants as kind
-use Rattle.clap.specs.declared.parser.matches.ValueSource.TheVariants.{CommandLine}
-use Rattle.bp_command.specs.Commands.{IsTaken, blocks_rule, bpfs_app, check_app, count_rule, file_rule, format_app, subcommand_named, play_app, run_app, seed_rule}
+use Rattle.clap.specs.declared.builder.value_parser.Reading.{Reading}
+use Rattle.clap.specs.declared.parser.matches.ValueSource.{ValueSource}
+use Rattle.clap.specs.declared.parser.matches.ValueSource.TheVariants.{CommandLine, DefaultValue}
+use Rattle.bp_command.specs.Commands.{IsTaken, blocks_rule, bpfs_app, check_app, count_rule, file_rule, format_app, subcommand_named, play_app, run_app, seed_rule, version_rule}
 use Rattle.bp_command.specs.Programs.{HasValues, IsNamed}
 
 -- ---- chains of faults, and tests
@@ -62,6 +64,45 @@ found_is {X} P test (y ∷ xs) x each e = go (found_is P test xs x each.1) (test
 
 -- ---- rows
 
+-- an argument has a row
+abbrev is_there : Text → List Row → Bool
+is_there id rows = is_some (find (λ r. bytes_eq r.id id) rows)
+
+given_there : (id : Text) (rows : List Row) → is_given id rows ≡ true → is_there id rows ≡ true
+given_there id rows given = go (find (λ r. bytes_eq r.id id) rows) given
+  where
+    go : (o : Option Row) → option_map_or (λ r. explicit_source r.source) o false ≡ true → is_some o ≡ true
+    go None none = absurd (true≢false (sym none))
+    go (Some r) some = refl
+
+any_there : (id : Text) (rows : List Row) → has_row id rows ≡ true → is_there id rows ≡ true
+any_there id [] any = absurd (true≢false (sym any))
+any_there id (r ∷ rows) any = go (bytes_eq r.id id) (any_there id rows) any
+  where
+    go : (b : Bool) → (has_row id rows ≡ true → is_there id rows ≡ true) → (b || has_row id rows) ≡ true → is_some (cond b (Some r) (find (λ r. bytes_eq r.id id) rows)) ≡ true
+    go true rest some = refl
+    go false rest some = rest some
+
+values_there : (id : Text) (how : Reading) (source : ValueSource) (values : List Text) (rows : List Row) → is_there id (with_values id how source values rows) ≡ true
+values_there id how source values [] = rw ((bytes_eq-Decides id id).1 refl) refl
+values_there id how source values (r ∷ rows) = go (bytes_eq r.id id) refl (values_there id how source values rows)
+  where
+    go : (b : Bool) → bytes_eq r.id id ≡ b → is_there id (with_values id how source values rows) ≡ true
+        → is_there id (cond b (more_values source values r ++ rows) (r ∷ with_values id how source values rows)) ≡ true
+    go true is rest = rw is refl
+    go false is rest = rw is rest
+
+-- a default makes a row, where the argument has none
+default_there : (a : Rule) (v : Text) (vs : List Text) (rows : List Row) → a.defaults ≡ v ∷ vs → is_there a.id (with_default rows a) ≡ true
+default_there a v vs rows is = go (has_row a.id rows) refl
+  where
+    go : (b : Bool) → has_row a.id rows ≡ b → is_there a.id (cond b rows (default_rows a.id (reading_by a) a.defaults rows)) ≡ true
+    go true any = any_there a.id rows any
+    go false any = rw is (values_there a.id (reading_by a) DefaultValue (v ∷ vs) rows)
+
+no_default : (a : Rule) (rows : List Row) → a.defaults ≡ [] → with_default rows a ≡ rows
+no_default a rows is = rw is (elim (has_row a.id rows) as (λ b. cond b rows rows ≡ rows) [ true ↦ refl | false ↦ refl ])
+
 -- a row has values, which its argument takes
 record Fits (a : Rule) (r : Row) : Type 0 where
   some : 0 < length r.values
@@ -85,7 +126,7 @@ module _ (s : Shape) where
   record IsUsable (a : Rule) : Type 0 where
     own : arg_by_id s.rules a.id ≡ Some a
     serves : ((action_of a ≡ Set) × (0 < (unwrap_or_range a.range).start_inclusive)) ⊎ (action_of a ≡ Help)
-    defaults : a.defaults ≡ []
+    defaults : values_fault a a.defaults ≡ []
 
   fit-append : (xs ys : List Row) → AllFit xs → AllFit ys → AllFit (xs ++ ys)
   fit-append [] ys first second = second
@@ -102,16 +143,16 @@ module _ (s : Shape) where
   fit-without : (id : Text) (rows : List Row) → AllFit rows → AllFit (without id rows)
   fit-without id rows fit = fit_at id (λ _. []) [] rows (λ r e h. tt) tt fit
 
-  fit-with_values : (a : Rule) (v : Text) (vs : List Text) (rows : List Row) → IsUsable a → values_fault a (v ∷ vs) ≡ [] → AllFit rows → AllFit (with_values a.id (reading_by a) CommandLine (v ∷ vs) rows)
-  fit-with_values a v vs rows usable pass fit = fit_at a.id (more_values CommandLine (v ∷ vs)) _ rows more (new, tt) fit
+  fit-with_values : (a : Rule) (source : ValueSource) (v : Text) (vs : List Text) (rows : List Row) → IsUsable a → values_fault a (v ∷ vs) ≡ [] → AllFit rows → AllFit (with_values a.id (reading_by a) source (v ∷ vs) rows)
+  fit-with_values a source v vs rows usable pass fit = fit_at a.id (more_values source (v ∷ vs)) _ rows more (new, tt) fit
     where
       same : (b : Rule) → arg_by_id s.rules a.id ≡ Some b → a ≡ b
       same b e = let both : Some a ≡ Some b = sym usable.own ∙ e in cc
 
-      new : (b : Rule) → arg_by_id s.rules a.id ≡ Some b → Fits b (record { id = a.id; values = v ∷ vs; count = None; source = Some CommandLine; reading = reading_by a })
-      new b e = subst (λ (x : Rule). Fits x (record { id = a.id; values = v ∷ vs; count = None; source = Some CommandLine; reading = reading_by a })) (same b e) (record { some = omega arith; reading = refl; pass = pass })
+      new : (b : Rule) → arg_by_id s.rules a.id ≡ Some b → Fits b (record { id = a.id; values = v ∷ vs; count = None; source = Some source; reading = reading_by a })
+      new b e = subst (λ (x : Rule). Fits x (record { id = a.id; values = v ∷ vs; count = None; source = Some source; reading = reading_by a })) (same b e) (record { some = omega arith; reading = refl; pass = pass })
 
-      more : (r : Row) → bytes_eq r.id a.id ≡ true → RowFits r → AllFit (more_values CommandLine (v ∷ vs) r)
+      more : (r : Row) → bytes_eq r.id a.id ≡ true → RowFits r → AllFit (more_values source (v ∷ vs) r)
       more r e fits = (
         λ b is.
             let id : r.id ≡ a.id = (bytes_eq-Decides r.id a.id).0 e in
@@ -137,7 +178,7 @@ module _ (s : Shape) where
           let parts = both_empty _ _ none in
           let faults : set_fault again a (v ∷ vs) rows ≡ [] = subst (λ x. action_fault x again a (v ∷ vs) rows ≡ []) is parts.1 in
           subst (λ x. AllFit (used_as x a.id (reading_by a) (v ∷ vs) rows)) (sym is)
-          (fit-with_values a v vs (without a.id rows) usable (both_empty _ _ faults).1 (fit-without a.id rows fit))
+          (fit-with_values a CommandLine v vs (without a.id rows) usable (both_empty _ _ faults).1 (fit-without a.id rows fit))
 
       go : ((action_of a ≡ Set) × (0 < (unwrap_or_range a.range).start_inclusive)) ⊎ (action_of a ≡ Help) → AllFit (used a values rows)
       go (inl is) = set values is.1 is.0 fault
@@ -265,19 +306,27 @@ module _ (s : Shape) where
     fit-walk names [] w fault fit = fit
     fit-walk names (word ∷ rest) w fault fit = let parts = both_empty _ _ fault in fit-walk names rest (walked s.rules names w word) parts.1 (fit-walked names w word parts.0 fit)
 
-    no_defaults : (rules : List Rule) (rows : List Row) → Each IsUsable rules → fold with_default rows rules ≡ rows
-    no_defaults [] rows each = refl
-    no_defaults (a ∷ rules) rows each = rw (one (has_row a.id rows)) (no_defaults rules rows each.1)
+    fit-default : (a : Rule) (rows : List Row) → IsUsable a → AllFit rows → AllFit (with_default rows a)
+    fit-default a rows is fit = go (has_row a.id rows)
       where
-        one : (b : Bool) → with_default rows a ≡ rows
-        one b = rw each.0.defaults (elim (has_row a.id rows) as (λ b. cond b rows rows ≡ rows) [ true ↦ refl | false ↦ refl ])
+        new : (values : List Text) → values_fault a values ≡ [] → AllFit (default_rows a.id (reading_by a) values rows)
+        new [] none = fit
+        new (v ∷ vs) none = fit-with_values a DefaultValue v vs rows is none fit
+
+        go : (b : Bool) → AllFit (cond b rows (default_rows a.id (reading_by a) a.defaults rows))
+        go true = fit
+        go false = new a.defaults is.defaults
+
+    fit-defaults : (rules : List Rule) (rows : List Row) → Each IsUsable rules → AllFit rows → AllFit (fold with_default rows rules)
+    fit-defaults [] rows each fit = fit
+    fit-defaults (a ∷ rules) rows each fit = fit-defaults rules (with_default rows a) each.1 (fit-default a rows each.0 fit)
 
     fit-level : (names : Names) (words : List Text) (has_subcommand : Bool) (below : Kinds) → level_fault s names nothing_held words has_subcommand below ≡ [] → AllFit (rows_after s.rules names words)
     fit-level names words has_subcommand below fault =
         let walks = both_empty _ _ fault in
         let later = both_empty _ _ walks.1 in
         let settles = both_empty _ _ later.1 in
-        rw (no_defaults s.rules (settled s.rules (walk s.rules names nothing_held words).held).rows usable) (fit-settled (walk s.rules names nothing_held words).held settles.0 (fit-walk names words (walk_from nothing_held) walks.0 tt))
+        fit-defaults s.rules _ usable (fit-settled (walk s.rules names nothing_held words).held settles.0 (fit-walk names words (walk_from nothing_held) walks.0 tt))
 
   -- what the last checks say of the rows
   level_checks : (names : Names) (words : List Text) (has_subcommand : Bool) (below : Kinds) → level_fault s names nothing_held words has_subcommand below ≡ [] → (below ≡ []) × (check_fault s (rows_after s.rules names words) has_subcommand ≡ [])
@@ -285,15 +334,15 @@ module _ (s : Shape) where
       let later = both_empty _ _ (both_empty _ _ fault).1 in
       (later.0, (both_empty _ _ (both_empty _ _ later.1).1).1)
 
-  -- a required argument has a value, which it takes
+  -- an argument that has a row has a value, which it takes
   record HasValue (id : Text) (a : Rule) (rows : List Row) : Type 0 where
     text : Text
     first : first_of id rows ≡ Some text
     one : one_of id rows ≡ Some (read_as (reading_by a) text)
     pass : value_kinds a.ignore_case (parser_of_value a.parser) text ≡ []
 
-  has_value : (id : Text) (a : Rule) (rows : List Row) → arg_by_id s.rules id ≡ Some a → AllFit rows → is_given id rows ≡ true → HasValue id a rows
-  has_value id a rows is fit given = go (find (λ r. bytes_eq r.id id) rows) refl given
+  has_value : (id : Text) (a : Rule) (rows : List Row) → arg_by_id s.rules id ≡ Some a → AllFit rows → is_there id rows ≡ true → HasValue id a rows
+  has_value id a rows is fit there = go (find (λ r. bytes_eq r.id id) rows) refl there
     where
       parts : (r : Row) (values : List Text) → find (λ r. bytes_eq r.id id) rows ≡ Some r → r.values ≡ values → Fits a r → HasValue id a rows
       parts r [] at are fits = absurd (omega (arith, fits.some, ap length are))
@@ -304,7 +353,7 @@ module _ (s : Shape) where
         pass = (both_empty _ _ (rw are at fits.pass)).0;
       }
 
-      go : (o : Option Row) → find (λ r. bytes_eq r.id id) rows ≡ o → option_map_or (λ r. explicit_source r.source) o false ≡ true → HasValue id a rows
+      go : (o : Option Row) → find (λ r. bytes_eq r.id id) rows ≡ o → is_some o ≡ true → HasValue id a rows
       go None at none = absurd (true≢false (sym none))
       go (Some r) at some =
           let here = found_is RowFits _ rows r fit at in
@@ -401,8 +450,11 @@ built_of s = built_leaf (inherited (with_leaf_noted (marked_built bpfs_app.top))
 abbrev pub file_arg : Rule
 file_arg = with_index 1 (filled file_rule)
 
-abbrev blocks_arg : Rule
+abbrev pub blocks_arg : Rule
 blocks_arg = with_index 2 (filled blocks_rule)
+
+abbrev pub version_arg : Rule
+version_arg = with_index 3 (filled version_rule)
 
 abbrev pub seed_arg : Rule
 seed_arg = with_index 2 (filled seed_rule)
@@ -410,10 +462,16 @@ seed_arg = with_index 2 (filled seed_rule)
 abbrev pub count_arg : Rule
 count_arg = with_index 3 (filled count_rule)
 
+abbrev help_arg : Rule
+help_arg = with_index 3 (filled help_rule)
+
 usable_format : Each (IsUsable (built_of format_app.top)) (built_of format_app.top).rules
 usable_format = (
   record { own = refl; serves = inl (refl, omega arith); defaults = refl },
-  (record { own = refl; serves = inl (refl, omega arith); defaults = refl }, (record { own = refl; serves = inr refl; defaults = refl }, tt)),
+  (
+    record { own = refl; serves = inl (refl, omega arith); defaults = refl },
+    (record { own = refl; serves = inl (refl, omega arith); defaults = refl }, (record { own = refl; serves = inr refl; defaults = refl }, tt)),
+  ),
 )
 
 usable_run : Each (IsUsable (built_of run_app.top)) (built_of run_app.top).rules
@@ -435,43 +493,57 @@ accepted : (b : Bool) (k : ErrorKind) → cond b [] (k ∷ []) ≡ [] → b ≡ 
 accepted true k e = refl
 accepted false k e = absurd (cc)
 
-format_values : (rows : List Row) → AllFit (built_of format_app.top) rows → check_fault (built_of format_app.top) rows false ≡ [] → HasValues (codes "format") rows
-format_values rows fit check =
+-- the version is there, in the words or by default
+version_there : (rows : List Row) → is_there (codes "version") (fold with_default rows (built_of format_app.top).rules) ≡ true
+version_there rows =
+    let above : List Row = with_default (with_default rows file_arg) blocks_arg in
+    let last : with_default (with_default above version_arg) help_arg ≡ with_default above version_arg = no_default help_arg (with_default above version_arg) refl in
+    subst (λ (r : List Row). is_there (codes "version") r ≡ true) (sym last) (default_there version_arg (codes "1") [] above refl)
+
+version_after : (words : List Text) → is_there (codes "version") (rows_after (built_of format_app.top).rules [] words) ≡ true
+version_after words = version_there (settled (built_of format_app.top).rules (walk (built_of format_app.top).rules [] nothing_held words).held).rows
+
+format_values : (rows : List Row) → AllFit (built_of format_app.top) rows → check_fault (built_of format_app.top) rows false ≡ [] → is_there (codes "version") rows ≡ true → HasValues (codes "format") rows
+format_values rows fit check there =
     let first = first_given (codes "FILE") rows (not (is_given (codes "blocks") rows) || false) (last_checks (built_of format_app.top) rows false check).1 in
-    let name = has_value (built_of format_app.top) (codes "FILE") file_arg rows refl fit first.0 in
-    let number = has_value (built_of format_app.top) (codes "blocks") blocks_arg rows refl fit (first_given (codes "blocks") rows false first.1).0 in
+    let name = has_value (built_of format_app.top) (codes "FILE") file_arg rows refl fit (given_there _ rows first.0) in
+    let number = has_value (built_of format_app.top) (codes "blocks") blocks_arg rows refl fit (given_there _ rows (first_given (codes "blocks") rows false first.1).0) in
+    let version = has_value (built_of format_app.top) (codes "version") version_arg rows refl fit there in
     record {
       program = inl refl;
       name = name.text;
       named = name.first;
       some = ltb-true 0 (length name.text) (accepted _ _ name.pass);
       blocks = λ _. record { digits = number.text; given = number.one; passes = accepted _ _ number.pass };
+      version = λ _. record { digits = version.text; given = version.one; passes = accepted _ _ version.pass };
       seed = λ e. absurd (let no : codes "format" ≡ codes "play" = e in cc);
       count = λ e. absurd (let no : codes "format" ≡ codes "play" = e in cc);
     }
 
 run_values : (rows : List Row) → AllFit (built_of run_app.top) rows → check_fault (built_of run_app.top) rows false ≡ [] → HasValues (codes "run") rows
 run_values rows fit check =
-    let name = has_value (built_of run_app.top) (codes "FILE") file_arg rows refl fit (first_given (codes "FILE") rows false (last_checks (built_of run_app.top) rows false check).1).0 in
+    let name = has_value (built_of run_app.top) (codes "FILE") file_arg rows refl fit (given_there _ rows (first_given (codes "FILE") rows false (last_checks (built_of run_app.top) rows false check).1).0) in
     record {
       program = inr (inl refl);
       name = name.text;
       named = name.first;
       some = ltb-true 0 (length name.text) (accepted _ _ name.pass);
       blocks = λ e. absurd (let no : codes "run" ≡ codes "format" = e in cc);
+      version = λ e. absurd (let no : codes "run" ≡ codes "format" = e in cc);
       seed = λ e. absurd (let no : codes "run" ≡ codes "play" = e in cc);
       count = λ e. absurd (let no : codes "run" ≡ codes "play" = e in cc);
     }
 
 check_values : (rows : List Row) → AllFit (built_of check_app.top) rows → check_fault (built_of check_app.top) rows false ≡ [] → HasValues (codes "check") rows
 check_values rows fit check =
-    let name = has_value (built_of check_app.top) (codes "FILE") file_arg rows refl fit (first_given (codes "FILE") rows false (last_checks (built_of check_app.top) rows false check).1).0 in
+    let name = has_value (built_of check_app.top) (codes "FILE") file_arg rows refl fit (given_there _ rows (first_given (codes "FILE") rows false (last_checks (built_of check_app.top) rows false check).1).0) in
     record {
       program = inr (inr (inl refl));
       name = name.text;
       named = name.first;
       some = ltb-true 0 (length name.text) (accepted _ _ name.pass);
       blocks = λ e. absurd (let no : codes "check" ≡ codes "format" = e in cc);
+      version = λ e. absurd (let no : codes "check" ≡ codes "format" = e in cc);
       seed = λ e. absurd (let no : codes "check" ≡ codes "play" = e in cc);
       count = λ e. absurd (let no : codes "check" ≡ codes "play" = e in cc);
     }
@@ -480,15 +552,16 @@ play_values : (rows : List Row) → AllFit (built_of play_app.top) rows → chec
 play_values rows fit check =
     let first = first_given (codes "FILE") rows (not (is_given (codes "seed") rows) || (not (is_given (codes "count") rows) || false)) (last_checks (built_of play_app.top) rows false check).1 in
     let second = first_given (codes "seed") rows (not (is_given (codes "count") rows) || false) first.1 in
-    let name = has_value (built_of play_app.top) (codes "FILE") file_arg rows refl fit first.0 in
-    let seed = has_value (built_of play_app.top) (codes "seed") seed_arg rows refl fit second.0 in
-    let count = has_value (built_of play_app.top) (codes "count") count_arg rows refl fit (first_given (codes "count") rows false second.1).0 in
+    let name = has_value (built_of play_app.top) (codes "FILE") file_arg rows refl fit (given_there _ rows first.0) in
+    let seed = has_value (built_of play_app.top) (codes "seed") seed_arg rows refl fit (given_there _ rows second.0) in
+    let count = has_value (built_of play_app.top) (codes "count") count_arg rows refl fit (given_there _ rows (first_given (codes "count") rows false second.1).0) in
     record {
       program = inr (inr (inr refl));
       name = name.text;
       named = name.first;
       some = ltb-true 0 (length name.text) (accepted _ _ name.pass);
       blocks = λ e. absurd (let no : codes "play" ≡ codes "format" = e in cc);
+      version = λ e. absurd (let no : codes "play" ≡ codes "format" = e in cc);
       seed = λ _. record { digits = seed.text; given = seed.one; passes = accepted _ _ seed.pass };
       count = λ _. record { digits = count.text; given = count.one; passes = accepted _ _ count.pass };
     }
@@ -499,7 +572,7 @@ Serves p s = answers_to p.0 (label_of s) ≡ true → level_fault s [] nothing_h
 
 each_serves : (p : Text × List Text) → bytes_eq p.0 (codes "help") ≡ false → Each (Serves p) (built bpfs_app).subs
 each_serves p other = (
-  λ _ fault. format_values _ (fit-level (built_of format_app.top) usable_format [] p.1 false [] fault) (level_checks (built_of format_app.top) [] p.1 false [] fault).1,
+  λ _ fault. format_values _ (fit-level (built_of format_app.top) usable_format [] p.1 false [] fault) (level_checks (built_of format_app.top) [] p.1 false [] fault).1 (version_after p.1),
   (
     λ _ fault. run_values _ (fit-level (built_of run_app.top) usable_run [] p.1 false [] fault) (level_checks (built_of run_app.top) [] p.1 false [] fault).1,
     (

@@ -1,5 +1,5 @@
 -- The command line of the program, in the words of `clap`.
-use Rattle.std.specs.Prelude.{◌≡◌, [], ⊤, false, Option, List, Some, true, codes}
+use Rattle.std.specs.Prelude.{◌≡◌, ◌∷◌, [], ⊤, false, Option, List, Some, true, codes}
 use Rattle.clap.specs.declared.builder.command.Command.TheViews.{out-Command}
 use Rattle.clap.specs.declared.builder.arg.Arg.{Arg}
 use Rattle.clap.specs.declared.builder.command.Command.{Command}
@@ -17,11 +17,19 @@ abbrev pub blocks_rule : Rule
 blocks_rule = record (new_rule (codes "blocks")) {
   long = Some (codes "blocks");
   required = true;
-  parser = Some (vp.Unsigned 8 16384);
+  parser = Some (vp.Unsigned 8 65536);
+}
+
+-- the version of a new file system, 1 where the words name none
+abbrev pub version_rule : Rule
+version_rule = record (new_rule (codes "version")) {
+  long = Some (codes "version");
+  defaults = codes "1" ∷ [];
+  parser = Some (vp.Unsigned 1 2);
 }
 
 abbrev pub format_app : App
-format_app = with_rule (with_rule (new_app (codes "format")) file_rule) blocks_rule
+format_app = with_rule (with_rule (with_rule (new_app (codes "format")) file_rule) blocks_rule) version_rule
 
 abbrev pub seed_rule : Rule
 seed_rule = record (new_rule (codes "seed")) {

@@ -1,24 +1,27 @@
 -- The programs, and the words that ask for them.
-use Rattle.std.specs.Prelude.{◌≡◌, ◌≢◌, ◌⊎◌, ℕ, ◌<◌, ◌≤◌, List, [], ◌∷◌, Some, true, false, length, slice_index, codes, decimal}
+use Rattle.std.specs.Prelude.{◌≡◌, ◌≢◌, ◌⊎◌, ℕ, ◌<◌, ◌≤◌, List, [], ◌∷◌, ◌++◌, Some, true, false, length, slice_index, codes, decimal}
 use Rattle.std.specs.Str.Parse.{digits_value, without_leading_plus}
 use Rattle.clap.specs.Words.{Row, Text, first_of, one_of}
 use Rattle.clap.specs.ValueTests.{accepts}
 use Rattle.clap.specs.declared.builder.value_parser.ValueParser.TheVariants as vp
 use Rattle.bp_limits.specs.Limits.{max_blocks, max_turns, min_blocks}
+use Rattle.bp_limits.specs.Numbers.{version_numbered}
+use Rattle.bp_limits.specs.declared.version.Version.{Version}
+use Rattle.bp_limits.specs.declared.version.Version.TheVariants.{One, Two}
 use Rattle.bp_command.specs.Commands.{IsTaken, subcommand_named}
 use Rattle.bp_command.specs.declared.reading.Program.{Program as Asked}
 use Rattle.bp_command.specs.declared.reading.Program.TheVariants.{Format, Run, Check, Play}
 
 pub data Program : Type 0 where
-  -- a file's name, and its number of blocks
-  formats : List ℕ → ℕ → Program
+  -- a file's name, its number of blocks, and its version
+  formats : List ℕ → ℕ → Version → Program
   runs : List ℕ → Program
   checks : List ℕ → Program
   -- a file's name, the number that the turns are made from, and how many there are
   plays : List ℕ → ℕ → ℕ → Program
 
 abbrev pub program_of : Asked → Program
-program_of (Format name blocks) = formats name.now blocks
+program_of (Format name blocks version) = formats name.now blocks version
 program_of (Run name) = runs name.now
 program_of (Check name) = checks name.now
 program_of (Play name seed count) = plays name.now seed count
@@ -27,9 +30,16 @@ program_of (Play name seed count) = plays name.now seed count
 abbrev pub max_seed : ℕ
 max_seed = 18446744073709551615
 
+-- the numbers of the versions
+abbrev pub first_version : ℕ
+first_version = 1
+
+abbrev pub last_version : ℕ
+last_version = 2
+
 -- a format is asked for of a number of blocks that an image may have, a play of a seed and a count that it may have
 abbrev pub HasNumbersInRange : Program → Type 0
-HasNumbersInRange (formats name blocks) = (min_blocks ≤ blocks) × (blocks ≤ max_blocks)
+HasNumbersInRange (formats name blocks version) = (min_blocks ≤ blocks) × (blocks ≤ max_blocks)
 HasNumbersInRange (runs name) = Unit {0}
 HasNumbersInRange (checks name) = Unit {0}
 HasNumbersInRange (plays name seed count) = (seed ≤ max_seed) × (count ≤ max_turns)
@@ -41,16 +51,29 @@ pub record IsFileName (name : List ℕ) : Type 0 where
   pub some : 0 < length name
   pub plain : slice_index name 0 ≢ 45
 
+-- the words of a format, but for its version
+abbrev pub format_words : List ℕ → ℕ → List (List ℕ)
+format_words name blocks = codes "format" ∷ name ∷ codes "--blocks" ∷ decimal blocks ∷ []
+
+abbrev pub version_words : Version → List (List ℕ)
+version_words One = codes "--version" ∷ codes "1" ∷ []
+version_words Two = codes "--version" ∷ codes "2" ∷ []
+
 -- the words of a program, behind the name under which it was called
 abbrev pub program_words : Program → List (List ℕ)
-program_words (formats name blocks) = codes "format" ∷ name ∷ codes "--blocks" ∷ decimal blocks ∷ []
+program_words (formats name blocks version) = format_words name blocks ++ version_words version
 program_words (runs name) = codes "run" ∷ name ∷ []
 program_words (checks name) = codes "check" ∷ name ∷ []
 program_words (plays name seed count) =
     codes "play" ∷ name ∷ codes "--seed" ∷ decimal seed ∷ codes "--count" ∷ decimal count ∷ []
 
+-- the same where a format of the first version names none
+abbrev pub short_words : Program → List (List ℕ)
+short_words (formats name blocks One) = format_words name blocks
+short_words program = program_words program
+
 abbrev pub IsProper : Program → Type 0
-IsProper (formats name blocks) = IsFileName name × (min_blocks ≤ blocks) × (blocks ≤ max_blocks)
+IsProper (formats name blocks version) = IsFileName name × (min_blocks ≤ blocks) × (blocks ≤ max_blocks)
 IsProper (runs name) = IsFileName name
 IsProper (checks name) = IsFileName name
 IsProper (plays name seed count) = IsFileName name × (seed ≤ max_seed) × (count ≤ max_turns)
@@ -58,7 +81,7 @@ IsProper (plays name seed count) = IsFileName name × (seed ≤ max_seed) × (co
 -- The words ask for the program in the plain way.
 pub record Asks (words : List (List ℕ)) (program : Program) : Type 0 where
   pub called : List ℕ
-  pub are : words ≡ called ∷ program_words program
+  pub are : (words ≡ called ∷ program_words program) ⊎ (words ≡ called ∷ short_words program)
   pub proper : IsProper program
 
 -- ---- words that the command takes
@@ -69,14 +92,15 @@ pub record HasNumber (option : Text) (least most : ℕ) (rows : List Row) : Type
   pub given : one_of option rows ≡ Some digits
   pub passes : accepts false (vp.Unsigned least most) digits ≡ true
 
--- what the values of a program's subcommand are: a file's name, which is not empty, for a format a number of blocks,
--- for a play a seed and a count
+-- what the values of a program's subcommand are: a file's name, which is not empty, for a format a number of blocks
+-- and one of a version, for a play a seed and a count
 pub record HasValues (verb : Text) (rows : List Row) : Type 0 where
   pub program : (verb ≡ codes "format") ⊎ (verb ≡ codes "run") ⊎ (verb ≡ codes "check") ⊎ (verb ≡ codes "play")
   pub name : Text
   pub named : first_of (codes "FILE") rows ≡ Some name
   pub some : 0 < length name
   pub blocks : verb ≡ codes "format" → HasNumber (codes "blocks") min_blocks max_blocks rows
+  pub version : verb ≡ codes "format" → HasNumber (codes "version") first_version last_version rows
   pub seed : verb ≡ codes "play" → HasNumber (codes "seed") 0 max_seed rows
   pub count : verb ≡ codes "play" → HasNumber (codes "count") 0 max_turns rows
 
@@ -95,9 +119,14 @@ pub record GivesNumber (option : Text) (least most : ℕ) (rows : List Row) (num
   pub at_least : least ≤ number
   pub at_most : number ≤ most
 
--- the number of blocks of a format, and the seed and the count of a play
+-- the number of blocks and the version of a format, and the seed and the count of a play
 abbrev pub AsksForBlocks : List Row → ℕ → Type 0
 AsksForBlocks rows blocks = GivesNumber (codes "blocks") min_blocks max_blocks rows blocks
+
+pub record AsksForVersion (rows : List Row) (version : Version) : Type 0 where
+  pub number : ℕ
+  pub gives : GivesNumber (codes "version") first_version last_version rows number
+  pub is : version ≡ version_numbered number
 
 abbrev pub HasSeed : List Row → ℕ → Type 0
 HasSeed rows seed = GivesNumber (codes "seed") 0 max_seed rows seed
@@ -107,8 +136,9 @@ HasCount rows count = GivesNumber (codes "count") 0 max_turns rows count
 
 -- a subcommand with these values asks for the program
 abbrev pub Names : Text → List Row → Program → Type 0
-Names verb rows (formats name blocks) =
+Names verb rows (formats name blocks version) =
     (verb ≡ codes "format") × (first_of (codes "FILE") rows ≡ Some name) × AsksForBlocks rows blocks
+    × AsksForVersion rows version
 Names verb rows (runs name) = (verb ≡ codes "run") × (first_of (codes "FILE") rows ≡ Some name)
 Names verb rows (checks name) = (verb ≡ codes "check") × (first_of (codes "FILE") rows ≡ Some name)
 Names verb rows (plays name seed count) =

@@ -1,7 +1,7 @@
 //! The command `bpfs` with its subcommands.
 
 ghost use Rattle.std.specs.Prelude.{IfOk};
-ghost use Rattle.bp_command.specs.Commands.{IsArgument, IsCommand, bare_app, blocks_rule, bpfs_app, check_app, count_rule, file_rule, format_app, play_app, run_app, seed_rule};
+ghost use Rattle.bp_command.specs.Commands.{IsArgument, IsCommand, bare_app, blocks_rule, bpfs_app, check_app, count_rule, file_rule, format_app, play_app, run_app, seed_rule, version_rule};
 
 use bp_limits::{MAX_BLOCKS, MAX_TURNS, MIN_BLOCKS};
 use clap::builder::ValueParser;
@@ -25,6 +25,16 @@ fn blocks<'a>(alloc: Global) -> Arg<'a>
         .long("blocks")
         .required(true)
         .value_parser(value_parser!(u64).range(i64::from(MIN_BLOCKS)..=i64::from(MAX_BLOCKS)))
+}
+
+/// The version of a new file system: the first one where the words name none.
+fn version<'a>(alloc: Global) -> Arg<'a>
+    ensures { IsArgument version_rule result }
+{
+    Arg::new(alloc, "version")
+        .long("version")
+        .default_value("1")
+        .value_parser(value_parser!(u64).range(1..=2))
 }
 
 /// The number that the turns of a play are made from: any of 64 bits.
@@ -53,7 +63,8 @@ fn format_command<'a>(alloc: Global) -> Result<Command<'a>, AllocError>
     Command::new(alloc, "format")
         .about("Makes FILE an empty file system of so many blocks of 4 KiB")
         .arg(file(alloc))?
-        .arg(blocks(alloc))
+        .arg(blocks(alloc))?
+        .arg(version(alloc))
 }
 
 fn run_command<'a>(alloc: Global) -> Result<Command<'a>, AllocError>

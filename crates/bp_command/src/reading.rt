@@ -2,11 +2,12 @@
 
 ghost use Rattle.std.specs.Prelude.{◌≡◌, ◌≤◌, IfErr, IfOk, IsSome, OnOk, codes, map, ℕ};
 ghost use Rattle.bp_command.specs.Commands.{HasMet, IsRight, IsTaken};
-ghost use Rattle.bp_command.specs.Programs.{GivesNumber, HasNumber, HasValues, HasNumbersInRange, Names, Requests, program_of};
+ghost use Rattle.bp_command.specs.Programs.{AsksForVersion, GivesNumber, HasNumber, HasValues, HasNumbersInRange, Names, Requests, first_version, last_version, program_of};
 ghost use Rattle.clap.specs.Words.{first_of, found_of, rows_of};
 
 use crate::building::command;
 use crate::laws::taken_words_have_values;
+use bp_limits::Version;
 use clap::ArgMatches;
 use clap::error::{Error, ErrorKind};
 use std::alloc::Global;
@@ -14,12 +15,14 @@ use std::alloc::Global;
 /// A program that words ask for.
 #[derive(Clone, Copy, Debug, PartialEq, Eq)]
 pub enum Program<'a> {
-    /// Makes a file a file system of 8 to 16,384 blocks.
+    /// Makes a file a file system of 8 to 65,536 blocks.
     Format {
         /// The file's name.
         name: &'a str,
         /// The number of blocks.
         blocks: u32,
+        /// The version, which is the first one where the words name none.
+        version: Version,
     },
     /// Serves a script over a file.
     Run {
@@ -93,6 +96,14 @@ fn number_of(values: &ArgMatches<'_>, option: &str) -> u64
     }
 }
 
+/// The version that a format is given, or the first one.
+fn version_of(values: &ArgMatches<'_>) -> Version
+    requires { HasNumber (codes "version") first_version last_version (rows_of (found_of values.now)) }
+    ensures { AsksForVersion (rows_of (found_of values.now)) result }
+{
+    Version::numbered(number_of(values, "version") as u8)
+}
+
 /// What a subcommand with its values asks for.
 fn program_named<'a>(verb: &str, values: &ArgMatches<'a>) -> Program<'a>
     requires { HasValues verb.now (rows_of (found_of values.now)) }
@@ -104,6 +115,7 @@ fn program_named<'a>(verb: &str, values: &ArgMatches<'a>) -> Program<'a>
         "format" => Program::Format {
             name,
             blocks: number_of(values, "blocks") as u32,
+            version: version_of(values),
         },
         "run" => Program::Run { name },
         "check" => Program::Check { name },

@@ -10,10 +10,12 @@ use Rattle.bp_shapes.specs.Forest.{IsExactSet}
 use Rattle.bp_layout.specs.Stores.{EqualBut}
 use Rattle.bp_shapes.proofs.PathTrails.{word-placed, low-placed}
 use Rattle.bp_cow.specs.Stage.{IsBuilding}
-use Rattle.bp_cow.specs.Copies.{Patch, TakesBlock, TurnsTo, pointing_to}
+use Rattle.bp_free.specs.Set.{TakesNumber}
+use Rattle.bp_cow.specs.Copies.{Patch, TurnsTo, pointing_to}
 use Rattle.bp_shapes.proofs.TrailLaws.{word_on-slot, Turns, pointer-turned}
 use Rattle.bp_shapes.proofs.StoreLaws.{store_turns, copy-kept}
 use Rattle.bp_cow.proofs.StageLaws.{stage_start, stage_copy, stage_word}
+use Rattle.bp_layout.specs.Thaw.{none_kept}
 
 -- a place in a block at or below a trail is not its own
 pub apart-placed : (image : Image) (Pointer : Trail → Type 0) (cover : Trail) → IsSkeleton image Pointer → IsPlaced image Pointer cover →
@@ -61,7 +63,7 @@ module _ (old words : Image) (place pointer : ℕ) (cover : Trail) (Pointer : Tr
 
     module _ (after : Image) (copy : ℕ) (free_after : ℕ → Bool) (patch : Patch) (pointed : Pointer (slot ∷ p)) (first : anew (slot ∷ p) → ⊥)
         (plain : (s w : ℕ) → Pointer (s ∷ slot ∷ p) → patch s w ≡ w) (lays : (s : ℕ) → s < 512 → patch s (word_on old (s ∷ slot ∷ p)) ≡ laid (s ∷ slot ∷ p))
-        (turned : TurnsTo patch words after (512 * block_on (set words place pointer) p + slot) copy) (takes : TakesBlock free free_after copy) where
+        (turned : TurnsTo patch words after (512 * block_on (set words place pointer) p + slot) copy) (takes : TakesNumber free free_after copy) where
       clash : (b : ℕ) → free b ≡ true → free b ≡ false → ⊥
       clash b one two = absurd (cc)
 
@@ -185,8 +187,8 @@ module _ (old words : Image) (place pointer : ℕ) (cover : Trail) (Pointer : Tr
 -- the cover's pointer, and a copy of its block that holds its words
 module _ (old mid : Image) (cover : Trail) (Pointer : Trail → Type 0) (pointers : ArePointers Pointer) (value : Trail → Option ℕ) (laid : Trail → ℕ) (free free_after : ℕ → Bool) (copy : ℕ) (patch : Patch)
     (plain : (s w : ℕ) → Pointer (s ∷ cover) → patch s w ≡ w) (lays : (s : ℕ) → s < 512 → patch s (word_on old (s ∷ cover)) ≡ laid (s ∷ cover))
-    (some : 0 < block_count old) (skeleton : IsSkeleton old Pointer) (exact : IsExactSet old Pointer free) (no_value : (p : Trail) → value p ≡ None)
-    (pointed : Pointer cover) (placed : IsPlaced old Pointer cover) (takes : TakesBlock free free_after copy) (equal : EqualBut copy old mid)
+    (some : 0 < block_count old) (skeleton : IsSkeleton old Pointer) (exact : IsExactSet old Pointer none_kept free) (no_value : (p : Trail) → value p ≡ None)
+    (pointed : Pointer cover) (placed : IsPlaced old Pointer cover) (takes : TakesNumber free free_after copy) (equal : EqualBut copy old mid)
     (copied : (slot : ℕ) → slot < 512 → slot_word mid copy slot ≡ patch slot (slot_word old (block_on old cover) slot)) where
   first_clash : (b : ℕ) → free b ≡ true → free b ≡ false → ⊥
   first_clash b one two = absurd (cc)

@@ -12,8 +12,9 @@ use Rattle.bp_cow.specs.declared.touched.Run.{Run}
 use Rattle.bp_cow.specs.declared.touched.Touched.{Touched}
 use Rattle.bp_cow.specs.Touched.{IsTouched, path_of, word_paths}
 use Rattle.bp_cow.specs.CanCommit.{IsRunIn, HasRunIn, CanCommit}
+use Rattle.bp_layout.specs.Thaw.{none_kept}
 
-module _ (old : Image) (wf : IsWellFormed old) (touched : Touched) (shape : IsTouched touched) (free : ℕ → Bool) (exact : AreFreeBlocks old free) where
+module _ (old : Image) (wf : IsWellFormed old) (touched : Touched) (shape : IsTouched touched) (free : ℕ → Bool) (exact : AreFreeBlocks old none_kept free) where
   forest : IsForest old (size_of old)
   forest = wf_forest old wf
 

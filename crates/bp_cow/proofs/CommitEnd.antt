@@ -30,6 +30,7 @@ use Rattle.bp_cow.specs.CanCommit.{CanCommit}
 use Rattle.bp_cow.proofs.CoverLaws.{at-word, some-ends}
 use Rattle.bp_cow.proofs.JobLaws.{can_build, in_place, first-length}
 use Rattle.bp_cow.proofs.StageEnd.{stage_committed}
+use Rattle.bp_layout.specs.Thaw.{none_kept}
 
 -- What a commit does, told by the code's numbers: the slots of the cover, and the set of the blocks that are free after the last store.
 pub record CommitsCopies (bound : ℕ → ℕ) (touched : Touched) (old new : Memory) (blocks blocks_after : Set) : Type 0 where
@@ -40,7 +41,7 @@ pub record CommitsCopies (bound : ℕ → ℕ) (touched : Touched) (old new : Me
   pub size : length taken ≡ length blocks
   pub commit : AddsCopyCommit (has blocks) (has taken) (place_on (current_words old) (trail_of (end_path touched 0) cover)) (513 * copies_at (job_of touched) cover + length touched.words.now + 1) old new
   pub words : IsCommitted (current_words old) (current_words new) (IsTreePointer (current_words old) bound) (IsTurned (job_of touched) cover) (after_commit (current_words old) (job_of touched))
-  pub exact : IsExactSet (current_words new) (IsTreePointer (current_words old) bound) (has blocks_after)
+  pub exact : IsExactSet (current_words new) (IsTreePointer (current_words old) bound) none_kept (has blocks_after)
 
 -- the same pointers under another name
 pub committed_same : (old new : Image) (Pointer turned other : Trail → Type 0) (after : Trail → ℕ) → ((q : Trail) → turned q → other q) → ((q : Trail) → other q → turned q) →
@@ -122,14 +123,15 @@ module _ (bound : ℕ → ℕ) (touched : Touched) (first last : Memory) (blocks
   same-block : (p : Trail) → IsTreePointer old bound p → block_on (current_words last) p ≡ block_on old p
   same-block p live = ap (λ w. w / 4096) (committed.kept p live (λ none. none))
 
-  exact-old : IsExactSet old (IsTreePointer old bound) (has blocks)
-  exact-old = unheld_exact old bound can.forest (has blocks) can.exact
+  exact-old : IsExactSet old (IsTreePointer old bound) none_kept (has blocks)
+  exact-old = unheld_exact old bound can.forest none_kept (has blocks) can.exact
 
-  exact-still : IsExactSet (current_words last) (IsTreePointer old bound) (has blocks)
+  exact-still : IsExactSet (current_words last) (IsTreePointer old bound) none_kept (has blocks)
   exact-still = record {
     live = λ b one. exact-old.live b (record { trail = one.trail; pointer = one.pointer; named = sym (same-block one.trail one.pointer) ∙ one.named; not_null = one.not_null });
-    dead = λ b low high none. exact-old.dead b low (subst (λ n. b < n / 512) committed.whole high) (λ one. none (record { trail = one.trail; pointer = one.pointer; named = same-block one.trail one.pointer ∙ one.named; not_null = one.not_null }));
+    dead = λ b low high none loose. exact-old.dead b low (subst (λ n. b < n / 512) committed.whole high) (λ one. none (record { trail = one.trail; pointer = one.pointer; named = same-block one.trail one.pointer ∙ one.named; not_null = one.not_null })) loose;
     in_range = λ b is. let range = exact-old.in_range b is in (range.0, subst (λ n. b < n / 512) (sym committed.whole) range.1);
+    loose = λ b is. refl;
   }
 
   pub commits_one : CommitsCopies bound touched first last blocks blocks
@@ -165,9 +167,9 @@ module _ (bound : ℕ → ℕ) (touched : Touched) (first last : Memory) (blocks
     (found : FoundCover) (at : IsAt (current_words first) touched found) (longest : CoverHas (current_words first) touched found.len) (short : found.len ≤ length ((job_of touched).way 0))
     (top : ℕ) (free : ℕ → Bool) (after taken : Set) where
   abbrev plan : Plan
-  plan = record { old = current_words first; bound = bound; free = has blocks; job = job_of touched; place = found.place; top = top; taken = free }
+  plan = record { old = current_words first; bound = bound; free = has blocks; job = job_of touched; place = found.place; top = top; free_after = free }
 
-  pub commits_turned : IsTurnedOver plan touched found.len found.place blocks taken first last → IsExactSet (current_words last) (IsTreePointer (current_words first) bound) (has after) →
+  pub commits_turned : IsTurnedOver plan touched found.len found.place blocks taken first last → IsExactSet (current_words last) (IsTreePointer (current_words first) bound) none_kept (has after) →
       CommitsCopies bound touched first last blocks after
   commits_turned done exact =
       let same : copies_at (job_of touched) found.len ≡ copies (job_of touched) found.len = copied-some (job_of touched) found.len short in

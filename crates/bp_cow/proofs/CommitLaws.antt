@@ -1,12 +1,15 @@
 -- What a copy on write has made, told on content words: a commit.
 use Rattle.std.proofs.Common.{◌≡◌, ◌≢◌, ◌⊎◌, ℕ, zero, suc, ◌+◌, ◌*◌, ◌/◌, ◌%◌, ◌<◌, ◌≤◌, max, [], refl, sym, ◌∙◌, ap, subst, arith, inl, inr, lt_of_lt_of_le, le_trans, zero-mul}
 use Rattle.std.proofs.lemmas.Bool.{cases_eq}
+use Rattle.bp_limits.specs.Limits.{greatest_height}
+use Rattle.bp_layout.specs.Formatted.{version_of}
 use Rattle.bp_layout.specs.Words.{Image, word, block_count, block_of, height_of, byte_of}
 use Rattle.bp_layout.specs.Tree.{word_at, node, content_word, covered, IsLivePointer, HasBlock, IsSound, IsFull}
 use Rattle.bp_layout.specs.Inode.{kind_of, root_of, size_of}
 use Rattle.bp_layout.specs.Reached.{IsReached}
 use Rattle.bp_layout.specs.Reached.IsReached.{inode_file}
 use Rattle.bp_changes.specs.Commits.{Commits}
+use Rattle.bp_changes.proofs.Formatted.{version_stays}
 use Rattle.bp_layout.proofs.TreeLaws.{live_above, live_content}
 use Rattle.bp_shapes.specs.Trail.{Trail, word_on, block_on, LeadsTo}
 use Rattle.bp_shapes.specs.Forest.{root_trail, tree_trail, IsForest, IsTreePointer}
@@ -134,6 +137,11 @@ module _ (old now : Image) (bound : ℕ → ℕ) (forest : IsForest old bound) (
             rw (root_height t r (omega (arith, some)))
             (le_trans (sizes t r) (forest.sound t r).fits)
 
+    low_now : (t : ℕ) → IsReached old t → 0 < size_of now t → height_of (root_of now t) ≤ greatest_height (version_of now)
+    low_now t r some =
+        let bytes : 0 < bound t = lt_of_lt_of_le some (sizes t r) in
+        rw (root_height t r bytes, version_stays old now (stage.superblock 0 (omega arith) (omega arith))) (forest.low t r bytes)
+
     apart_now : (t u b : ℕ) → IsReached old t → IsReached old u → HasBlock now (root_of now t) (size_of now t) b → HasBlock now (root_of now u) (size_of now u) b → t ≡ u
     apart_now t u b r q has also =
         let all : (t ≡ u) × (has.depth ≡ also.depth) × (has.index ≡ also.index) =
@@ -165,6 +173,7 @@ module _ (old now : Image) (bound : ℕ → ℕ) (forest : IsForest old bound) (
         whole = stage.whole;
         marked = stage.superblock 0 (omega arith) (omega arith);
         counted = stage.superblock 1 (omega arith) (omega arith);
+        low = low_now;
         sound = sound_now;
         apart = apart_now;
         full_inode_file = full_now 0 inode_file file;

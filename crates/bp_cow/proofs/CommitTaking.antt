@@ -22,9 +22,9 @@ use Rattle.bp_shapes.specs.Trail.{Trail, block_on, place_on, trail_of}
 use Rattle.bp_shapes.proofs.ExactSets.{exact-unheld, led_held}
 use Rattle.bp_shapes.proofs.FreeSets.{wf_forest}
 use Rattle.bp_shapes.proofs.PathTrails.{address-on, length-trail_of}
-use Rattle.bp_tree.specs.Performs.{IsOpen, AddsTaking, Performs, most_stores}
-use Rattle.bp_tree.specs.Performs.IsOpen.{in_live, at_root}
-use Rattle.bp_tree.proofs.PerformsLaws.{performs_committed, performs_twice}
+use Rattle.bp_commit.specs.Performs.{IsOpen, AddsTaking, PerformsThawed, most_stores_thawed}
+use Rattle.bp_commit.specs.Performs.IsOpen.{in_live, at_root}
+use Rattle.bp_commit.proofs.PerformsLaws.{performs_committed, performs_twice}
 use Rattle.bp_cow.specs.declared.touched.Touched.{Touched}
 use Rattle.bp_cow.specs.CanCommit.{CanCommit}
 use Rattle.bp_cow.specs.Commit.{CommitsTouched, commit_stores, cover_word}
@@ -40,6 +40,7 @@ use Rattle.bp_cow.proofs.CoverLaws.{some-ends, end-slots}
 use Rattle.bp_cow.proofs.CoverOf.{alike_front, nodes_of, cover_has, cover_length, cover_front, cover_address, count_is}
 use Rattle.bp_cow.proofs.JobLaws.{first-length, first-pointer, ways-short}
 use Rattle.bp_cow.proofs.PerformsLaws.{copies, of_copy, copies_taken, copies_counted}
+use Rattle.bp_layout.specs.Thaw.{none_kept}
 
 -- numbers past which none is in count for nothing
 count_past : (p : ℕ → Bool) (a n m : ℕ) → n ≤ m → ((k : ℕ) → a + n ≤ k → p k ≡ false) → length (filter p (range_with_len a m)) ≡ length (filter p (range_with_len a n))
@@ -79,10 +80,10 @@ module _ (bound : ℕ → ℕ) (touched : Touched) (old new : Memory) (blocks af
   copied-is = count_is touched can.shape image (none-begins image bound touched (has blocks) wf can) done.cover done.has_cover
 
   -- a free block is free under the image's own sizes
-  was_free : (b : ℕ) → has blocks b ≡ true → IsFreeBlock image b
+  was_free : (b : ℕ) → has blocks b ≡ true → IsFreeBlock image none_kept b
   was_free b is =
       let free = can.exact.free b is in
-      record { low = free.low; high = free.high; free = λ live. free.free (held live) }
+      record { low = free.low; high = free.high; free = λ live. free.free (held live); loose = free.loose }
     where
       held : IsLiveBlock image b → HoldsBlock image (IsReached image) bound b
       held live = record {
@@ -166,7 +167,7 @@ module _ (bound : ℕ → ℕ) (touched : Touched) (old new : Memory) (blocks af
         (λ b one. (of_copy (has blocks) (has done.taken) (place_on image (trail_of first done.cover)) (513 * copies_at (job_of touched) done.cover + length touched.words.now + 1) old new done.commit was_free b one).0);
     stays = stays-is;
     words = subst (λ k. IsCommitted image (current_words new) (IsTreePointer image bound) (IsTurned (job_of touched) k) (after_commit image (job_of touched))) cover-is done.words;
-    exact = exact-unheld (current_words new) (IsTreePointer image bound) (IsReached image) bound (has after)
+    exact = exact-unheld (current_words new) (IsTreePointer image bound) (IsReached image) bound none_kept (has after)
         (λ b one. has_led image (current_words new) bound can.forest (IsTurned (job_of touched) done.cover) (job_of touched) done.words b one.tree one.reached one.has)
         (λ b one. let tree = led_has image (current_words new) bound can.forest (IsTurned (job_of touched) done.cover) (job_of touched) done.words b one in record { tree = tree.0; reached = tree.1; has = tree.2 }) done.exact;
   }
@@ -176,10 +177,10 @@ module _ (bound : ℕ → ℕ) (touched : Touched) (old new : Memory) (blocks af
 -- The word of the cover is in the superblock or in a live block, where all pointers on the path of one touched word are live.
 module _ (image : Image) (wf : IsWellFormed image) (touched : Touched) (shape : IsTouched touched) (path : WordPath) (in_paths : Has (all_paths touched) path)
     (live : (d : ℕ) → d < length path → IsTreePointer image (size_of image) (trail_of path d)) (taken : List ℕ) where
-  pub cover_open : IsOpen image taken (cover_word image touched)
-  cover_open = subst (IsOpen image taken) (sym (cover_address touched shape image)) (go (length (commit_cover image touched)) (cover_has touched shape image))
+  pub cover_open : IsOpen image none_kept taken (cover_word image touched)
+  cover_open = subst (IsOpen image none_kept taken) (sym (cover_address touched shape image)) (go (length (commit_cover image touched)) (cover_has touched shape image))
     where
-      go : (k : ℕ) → CoverHas image touched k → IsOpen image taken (place_on image (trail_of (end_path touched 0) k))
+      go : (k : ℕ) → CoverHas image touched k → IsOpen image none_kept taken (place_on image (trail_of (end_path touched 0) k))
       go zero covers = at_root refl
       go (suc k) covers =
           let some : 0 < _ = some-ends touched shape in
@@ -190,28 +191,28 @@ module _ (image : Image) (wf : IsWellFormed image) (touched : Touched) (shape : 
           let same : trail_of path k ≡ trail_of (end_path touched 0) k = cc in
           in_live (subst (IsLiveBlock image) (sym block)
           (led_held image (size_of image) (wf_forest image wf) (block_on image (trail_of (end_path touched 0) k))
-          (record { trail = trail_of path k; pointer = live k (omega (arith, alike.0)); named = ap (block_on image) same; not_null = covers.exists k (omega arith) })))
+          (record { trail = trail_of path k; pointer = live k (omega (arith, alike.0)); named = ap (block_on image) same; not_null = covers.exists k (omega arith) }))) refl
 
 -- A commit alone performs a change whose cover and copies are those of the touched words.
 module _ (old new : Memory) (change : Change) (Effect : Image → Image → Type 0) (bound : ℕ → ℕ) (touched : Touched) (blocks after : Set) (done : CommitsTouched bound touched old new blocks after) where
   pub commit_performs : commit_cover (current_words old) touched ≡ cover (current_words old) change → copied_count (current_words old) touched ≡ need (current_words old) change →
-      commit_stores (current_words old) touched ≤ most_stores (need (current_words old) change) → IsOpen (current_words old) done.taken (cover_word (current_words old) touched) →
-      IsWellFormed (current_words new) → Effect (current_words old) (current_words new) → Performs old new change Effect
+      commit_stores (current_words old) touched ≤ most_stores_thawed (need (current_words old) change) → IsOpen (current_words old) none_kept done.taken (cover_word (current_words old) touched) →
+      IsWellFormed (current_words new) → Effect (current_words old) (current_words new) → PerformsThawed none_kept old new change Effect
   commit_performs covers count few inside well_formed effect =
-      performs_committed old new change Effect (cover_word (current_words old) touched) done.value 2 (commit_stores (current_words old) touched) done.taken done.commit done.takes
+      performs_committed none_kept old new change Effect (cover_word (current_words old) touched) done.value 2 (commit_stores (current_words old) touched) done.taken done.commit done.takes
       (sym done.stays ∙ ap (address (current_words new)) covers) (omega arith) few (done.number ∙ count) inside well_formed effect
 
 -- And so does a commit after a preparation. What the set has that the commit is given was free before, and the preparation did not take it.
 module _ (old middle new : Memory) (change : Change) (Effect : Image → Image → Type 0) (bound : ℕ → ℕ) (touched : Touched) (blocks after : Set) (first : List ℕ) (most_barriers most : ℕ)
-    (prepared : AddsTaking first most_barriers most old middle) (done : CommitsTouched bound touched middle new blocks after) where
+    (prepared : AddsTaking none_kept first most_barriers most old middle) (done : CommitsTouched bound touched middle new blocks after) where
   pub commit_performs_after : ((b : ℕ) → IsLiveBlock (current_words middle) b → IsLiveBlock (current_words old) b ⊎ Has first b) →
-      ((b : ℕ) → has blocks b ≡ true → IsFreeBlock (current_words old) b × (Has first b → ⊥)) →
+      ((b : ℕ) → has blocks b ≡ true → IsFreeBlock (current_words old) none_kept b × (Has first b → ⊥)) →
       commit_cover (current_words middle) touched ≡ cover (current_words old) change → most_barriers ≤ 6 →
-      most + commit_stores (current_words middle) touched ≤ most_stores (need (current_words old) change) → length first + copied_count (current_words middle) touched ≡ need (current_words old) change →
-      IsOpen (current_words middle) done.taken (cover_word (current_words middle) touched) →
-      IsWellFormed (current_words new) → Effect (current_words old) (current_words new) → Performs old new change Effect
+      most + commit_stores (current_words middle) touched ≤ most_stores_thawed (need (current_words old) change) → length first + copied_count (current_words middle) touched ≡ need (current_words old) change →
+      IsOpen (current_words middle) none_kept done.taken (cover_word (current_words middle) touched) →
+      IsWellFormed (current_words new) → Effect (current_words old) (current_words new) → PerformsThawed none_kept old new change Effect
   commit_performs_after live free covers few_barriers few count inside well_formed effect =
-      performs_twice old new change Effect middle (cover_word (current_words middle) touched) done.value most_barriers most 2 (commit_stores (current_words middle) touched) first done.taken prepared done.commit done.takes
+      performs_twice none_kept old new change Effect middle (cover_word (current_words middle) touched) done.value most_barriers most 2 (commit_stores (current_words middle) touched) first done.taken prepared done.commit done.takes
       live (λ b took. free b (each-has (λ c. has blocks c ≡ true) done.taken b done.from took)) (sym done.stays ∙ ap (address (current_words new)) covers) (omega (arith, few_barriers)) few
       (omega (arith, done.number, count)) inside well_formed effect
 
@@ -249,6 +250,6 @@ module _ (image : Image) (bound : ℕ → ℕ) (touched : Touched) (free : ℕ �
       go true e = rw e (omega (arith, all))
       go false e = rw e (omega arith)
 
-  -- so with a run of few leaves the stores are few: 32 words and 17 leaves, those of 65,536 bytes, make at most 540 copies
-  pub stores_few : (job_of touched).leaves ≤ 17 → commit_stores image touched ≤ block_words * copied_count image touched + 573
-  stores_few few = omega (arith, copied_few, few, can.shape.few)
+  -- so there are few stores besides those of the words of the copies
+  pub stores_few : commit_stores image touched ≤ block_words * copied_count image touched + 11 * (job_of touched).leaves + 12 * length touched.words.now + 2
+  stores_few = omega (arith, copied_few)

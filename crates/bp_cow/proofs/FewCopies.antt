@@ -63,7 +63,7 @@ near_digits root (suc height) k d low other =
     ap (λ p. trail_of p d) one ∙ trail_of-append (root ++ digits height (k / 512)) (suc k % 512 ∷ []) d short
     ∙ sym (ap (λ p. trail_of p d) two ∙ trail_of-append (root ++ digits height (k / 512)) (k % 512 ∷ []) d short)
 
-module _ (touched : Touched) (shape : IsTouched touched) (run : Run) (one : touched.run ≡ Some run) (few : run_leaves run ≤ 17) (from : ℕ) where
+module _ (touched : Touched) (shape : IsTouched touched) (run : Run) (one : touched.run ≡ Some run) (few : run_leaves run ≤ 512) (from : ℕ) where
   abbrev job : Job
   job = job_of touched
 
@@ -111,13 +111,13 @@ module _ (touched : Touched) (shape : IsTouched touched) (run : Run) (one : touc
       go (inr other) rest = let stay : (first + suc n) / 512 ≡ (first + n) / 512 = omega (arith, other) in omega (arith, rest, stay, next-way n low other)
 
   -- all ways of the run
-  run-few : 1 ≤ run_leaves run → turned_upto (job_of touched) from (run_leaves run) ≤ 38
+  run-few : 1 ≤ run_leaves run → turned_upto (job_of touched) from (run_leaves run) ≤ run_leaves run + 21
   run-few some =
       let last : ℕ = run_leaves run - 1 in
       let all = run-upto (run_leaves run - 1) (omega (arith, some)) in
       let count : suc (run_leaves run - 1) ≡ run_leaves run = omega (arith, some) in
       let near : (first + (run_leaves run - 1)) / 512 - first / 512 ≤ 1 = omega (arith, few) in
-      subst (λ n. turned_upto (job_of touched) from n ≤ 38) count (omega (arith, all, near, few))
+      subst (λ n. turned_upto (job_of touched) from n ≤ run_leaves run + 21) count (omega (arith, all, near, some))
 
   words-upto : (m : ℕ) → m ≤ length touched.words.now → turned_upto (job_of touched) from (run_leaves run + m) ≤ turned_upto (job_of touched) from (run_leaves run) + 11 * m
   words-upto zero low = let e : run_leaves run + 0 ≡ run_leaves run = omega arith in rw e (omega arith)
@@ -127,25 +127,25 @@ module _ (touched : Touched) (shape : IsTouched touched) (run : Run) (one : touc
       let short : length ((job_of touched).way (run_leaves run + m)) ≤ 11 = way-short touched shape (run_leaves run + m) (omega (arith, low, leaves-are)) in
       rw e (omega (arith, words-upto m (omega (arith, low)), all, short))
 
-  pub all-few : turned_upto (job_of touched) from (ways (job_of touched)) ≤ 38 + 11 * length touched.words.now
+  pub all-few : turned_upto (job_of touched) from (ways (job_of touched)) ≤ run_leaves run + 21 + 11 * length touched.words.now
   all-few =
       let whole : ways (job_of touched) ≡ run_leaves run + length touched.words.now = ap (λ n. n + length touched.words.now) leaves-are in
       rw whole (omega (arith, words-upto (length touched.words.now) (omega arith), run-few (omega arith)))
 
--- A run of few leaves, with some words beside it, copies so many blocks at most.
-pub run_copies : (image : Image) (touched : Touched) → IsTouched touched → NoneBegins (all_paths touched) → (run : Run) → touched.run ≡ Some run → run_leaves run ≤ 17 → copied_count image touched ≤ 39 + 11 * length touched.words.now
+-- A run of no more leaves than a node has, with some words beside it, copies few blocks more than it has leaves.
+pub run_copies : (image : Image) (touched : Touched) → IsTouched touched → NoneBegins (all_paths touched) → (run : Run) → touched.run ≡ Some run → run_leaves run ≤ 512 → copied_count image touched ≤ run_leaves run + 22 + 11 * length touched.words.now
 run_copies image touched shape apart run one few =
-    subst (λ n. n ≤ 39 + 11 * length touched.words.now) (count_is touched shape image apart (length (commit_cover image touched)) (cover_has touched shape image))
+    subst (λ n. n ≤ run_leaves run + 22 + 11 * length touched.words.now) (count_is touched shape image apart (length (commit_cover image touched)) (cover_has touched shape image))
     (go (nat_le (length (commit_cover image touched)) (length ((job_of touched).way 0))) refl)
   where
-    all : turned_upto (job_of touched) (length (commit_cover image touched)) (ways (job_of touched)) ≤ 38 + 11 * length touched.words.now
+    all : turned_upto (job_of touched) (length (commit_cover image touched)) (ways (job_of touched)) ≤ run_leaves run + 21 + 11 * length touched.words.now
     all = all-few touched shape run one few (length (commit_cover image touched))
 
-    go : (x : Bool) → nat_le (length (commit_cover image touched)) (length ((job_of touched).way 0)) ≡ x → copies_at (job_of touched) (length (commit_cover image touched)) ≤ 39 + 11 * length touched.words.now
+    go : (x : Bool) → nat_le (length (commit_cover image touched)) (length ((job_of touched).way 0)) ≡ x → copies_at (job_of touched) (length (commit_cover image touched)) ≤ run_leaves run + 22 + 11 * length touched.words.now
     go true e = rw e (omega (arith, all))
     go false e = rw e (omega arith)
 
 -- the same where they can be committed
-pub few_copies : (image : Image) (bound : ℕ → ℕ) (touched : Touched) (free : ℕ → Bool) (wf : IsWellFormed image) (can : CanCommit image bound touched free) (run : Run) → touched.run ≡ Some run → run_leaves run ≤ 17 →
-    copied_count image touched ≤ 39 + 11 * length touched.words.now
+pub few_copies : (image : Image) (bound : ℕ → ℕ) (touched : Touched) (free : ℕ → Bool) (wf : IsWellFormed image) (can : CanCommit image bound touched free) (run : Run) → touched.run ≡ Some run → run_leaves run ≤ 512 →
+    copied_count image touched ≤ run_leaves run + 22 + 11 * length touched.words.now
 few_copies image bound touched free wf can run one few = run_copies image touched can.shape (none-begins image bound touched free wf can) run one few

@@ -28,6 +28,7 @@ use Rattle.bp_cow.specs.Plan.{IsFeasible}
 use Rattle.bp_cow.proofs.RunLaws.{length-run_path, length-run_way, slot-run_path, slot-run_way, way-leaf, way-word, run_word-outside}
 use Rattle.bp_cow.proofs.RunFronts.{trail_of-take, front-run_way, end-run_way, between-run, same-run_path}
 use Rattle.bp_cow.proofs.CoverLaws.{run-slots, end-slots, some-ends}
+use Rattle.bp_layout.specs.Thaw.{none_kept}
 
 -- ---- a run
 
@@ -280,7 +281,7 @@ module _ (old : Image) (bound : ℕ → ℕ) (touched : Touched) (free : ℕ →
       some_blocks = let least = wf.formatted.sized.at_least in omega (arith, least);
       whole = wf.formatted.sized.whole;
       forest = can.forest;
-      exact = unheld_exact old bound can.forest free can.exact;
+      exact = unheld_exact old bound can.forest none_kept free can.exact;
       below = λ i here. (begin-way i here).0;
       short = ways-short;
       cover = λ i here. (begin-way i here).1 ∙ sym (first-front n short);

@@ -6,7 +6,7 @@ use Rattle.std.proofs.lemmas.Bool.{cases_lt}
 use Rattle.std.proofs.lemmas.List.{length-map, length-take}
 use Rattle.std.proofs.lemmas.List.Elements.{All-get_or}
 use Rattle.std.proofs.Math.Seq.{take-length}
-use Rattle.bp_limits.specs.Limits.{block_size, block_words, max_height}
+use Rattle.bp_limits.specs.Limits.{block_size, block_words, max_height, max_write}
 use Rattle.bp_layout.specs.Inode.{root_of, size_of, inode_count}
 use Rattle.bp_layout.specs.Members.{Has}
 use Rattle.bp_layout.specs.Need.{Change, height_after, is_there_after, existing_from, common_all, cover_of, prefixes_of}
@@ -84,14 +84,15 @@ module _ (height i : ℕ) (touched : Touched) (run : Run) (is : IsSizedRun heigh
   root_long = ap (λ (p : WordPath). length p) is.root ∙ length-digits (suc height) (8 * i + 1)
 
   -- what code asks of them
-  pub sized_shape : height ≤ max_height → 0 < length run.bytes.now → run.height ≤ max_height → run_end run ≤ block_size * block_words ^ run.height → IsTouched touched
-  sized_shape low some low_tree covered = record {
+  pub sized_shape : height ≤ max_height → 0 < length run.bytes.now → length run.bytes.now ≤ max_write → run.height ≤ max_height → run_end run ≤ block_size * block_words ^ run.height → IsTouched touched
+  sized_shape low some few low_tree covered = record {
     run = subst HasRun (sym is.one) (record {
       some = some;
+      few = few;
       low = low_tree;
       covered = covered;
       short = omega (arith, root_long, low, low_tree);
-      slots = λ d few. All-get_or (λ slot. slot < 512) run.root.items d 0 few (subst (All (λ slot. slot < 512)) (sym is.root) (small_digits (suc height) (8 * i + 1)));
+      slots = λ d short. All-get_or (λ slot. slot < 512) run.root.items d 0 short (subst (All (λ slot. slot < 512)) (sym is.root) (small_digits (suc height) (8 * i + 1)));
     });
     few = omega (arith, one_word);
     words = λ j here. by_word (λ p. 1 ≤ length p) (omega (arith, size_long)) j here;

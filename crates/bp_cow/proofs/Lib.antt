@@ -32,3 +32,4 @@ pub mod FewCopies
 pub mod RunThere
 pub mod RunWrites
 pub mod LeafCover
+pub mod Thawing

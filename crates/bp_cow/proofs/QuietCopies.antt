@@ -6,33 +6,26 @@ use Rattle.pm_epochs.proofs.MayLaws.{quiet_may}
 use Rattle.pm_epochs.proofs.PieceLaws.{IsPiece-append, IsPiece-commit, IsPiece-more}
 use Rattle.pm_region.specs.Memory.{Memory, current_words, Adds}
 use Rattle.pm_region.proofs.MemoryLaws.{adds_both}
-use Rattle.bp_tree.proofs.PerformsLaws.{same_equivalence}
+use Rattle.bp_commit.proofs.PerformsLaws.{same_equivalence}
 use Rattle.bp_layout.specs.Words.{Image, word}
 use Rattle.bp_layout.specs.Inode.{size_of}
 use Rattle.bp_layout.specs.Reached.{IsReached}
 use Rattle.bp_layout.specs.WellFormed.{IsWellFormed}
 use Rattle.bp_layout.specs.Same.{Same}
-use Rattle.bp_shapes.specs.Forest.{IsExactSet, IsForest, IsTreePointer, IsUnseen}
+use Rattle.bp_shapes.specs.Forest.{IsExactSet, IsForest, IsTreePointer}
 use Rattle.bp_layout.proofs.SameLaws.{same_symmetric}
 use Rattle.bp_shapes.proofs.Unseen.{same_unseen}
 use Rattle.bp_cow.specs.Adds.{IsTakenWord, AddsCopies, AddsCopyCommit}
+use Rattle.bp_layout.specs.Thaw.{none_kept}
 
 module _ (old : Image) (bound : ℕ → ℕ) (start taken : ℕ → Bool) (wf : IsWellFormed old) (forest : IsForest old bound) (sizes : (t : ℕ) → IsReached old t → size_of old t ≤ bound t)
-    (exact : IsExactSet old (IsTreePointer old bound) start) where
-  unseen : (place : ℕ) → IsTakenWord start taken place → IsUnseen old bound place
-  unseen place one =
-      let low = (exact.in_range (place / 512) (ap start one.inside ∙ one.was)).0 in
-      record { low = omega (arith, low); dead = λ has. clash (exact.live (place / 512) has) }
-    where
-      clash : start (place / 512) ≡ false → ⊥
-      clash used = let was : start (place / 512) ≡ true = ap start one.inside ∙ one.was in absurd (cc)
-
+    (exact : IsExactSet old (IsTreePointer old bound) none_kept start) where
   same : (image : Image) → EachMay (AnyAt (IsTakenWord start taken)) old image → Same old image
-  same image each = same_symmetric image old (same_unseen old bound start wf forest sizes exact image each.size (λ place seen. go place seen (each.each place)))
+  same image each = same_symmetric image old (same_unseen old bound none_kept start wf forest sizes exact image each.size (λ place used. go place used (each.each place)))
     where
-      go : (place : ℕ) → (IsUnseen old bound place → ⊥) → (word image place ≡ word old place) ⊎ IsTakenWord start taken place → word image place ≡ word old place
-      go place seen (inl e) = e
-      go place seen (inr one) = absurd (seen (unseen place one))
+      go : (place : ℕ) → start (place / 512) ≡ false → (word image place ≡ word old place) ⊎ IsTakenWord start taken place → word image place ≡ word old place
+      go place used (inl e) = e
+      go place used (inr one) = let was : start (place / 512) ≡ true = ap start one.inside ∙ one.was in absurd (cc)
 
   pub copy_commit : (most all : ℕ) → most + 1 ≤ all → (first middle last : Memory) → old ≡ current_words first → (place value : ℕ) → AddsCopies start start taken most first middle → Adds middle last (commit place value) →
       AddsCopyCommit start taken place all first last

@@ -1,4 +1,5 @@
 -- The blocks that a commit left are given back, one after the other.
+use Rattle.bp_free.specs.Set.{TakesNumber}
 use Rattle.std.proofs.Common.{◌≡◌, ◌≢◌, ◌⊎◌, ℕ, ◌+◌, ◌*◌, ◌/◌, ◌<◌, ◌≤◌, length, Bool, true, false, refl, sym, ◌∙◌, ap, subst, arith, inl, inr}
 use Rattle.std.specs.List.{slice_index}
 use Rattle.std.proofs.lemmas.Bool.{cases_eq}
@@ -8,7 +9,6 @@ use Rattle.bp_shapes.specs.Forest.{IsTreePointer}
 use Rattle.bp_shapes.proofs.ForestLaws.{skeleton}
 use Rattle.bp_shapes.proofs.TrailLaws.{word_on-slot}
 use Rattle.bp_shapes.proofs.PathTrails.{trail_of-next, length-trail_of}
-use Rattle.bp_cow.specs.Copies.{TakesBlock}
 use Rattle.bp_cow.specs.Job.{ways, front, IsBegun, IsAnew}
 use Rattle.bp_cow.specs.Job.IsAnew.{is_begun}
 use Rattle.bp_cow.specs.Plan.{Plan, CanMake}
@@ -44,7 +44,7 @@ module _ (old : Image) (Pointer anew : Trail → Type 0) (before after : ℕ →
       go false e = e
       go true e = absurd (again (returned.from _ e))
 
-  pub given_back : (next : ℕ → Bool) → TakesBlock next after (block_on old here) → IsReturned old Pointer (λ q. anew q ⊎ (q ≡ here)) before next
+  pub given_back : (next : ℕ → Bool) → TakesNumber next after (block_on old here) → IsReturned old Pointer (λ q. anew q ⊎ (q ≡ here)) before next
   given_back next takes = record {
     given = λ p l n full. given p l n full (cases_eq (block_on old p) (block_on old here));
     still = λ b is. more b (returned.still b is);
@@ -115,7 +115,7 @@ module _ (plan : Plan) (from i depth : ℕ) (before : ℕ → Bool) (now : Image
       pub back_full : after (block_on plan.old (front plan.job i (depth + 1))) ≡ false
       back_full = not_back plan.old Pointer (IsAnew plan.job from i depth) before after bones left.used back (front plan.job i (depth + 1)) next_live (not_anew plan.job from i depth low none) some
 
-      pub back_one : (next : ℕ → Bool) → TakesBlock next after (block_on plan.old (front plan.job i (depth + 1))) → IsBack plan from i (depth + 1) before next
+      pub back_one : (next : ℕ → Bool) → TakesNumber next after (block_on plan.old (front plan.job i (depth + 1))) → IsBack plan from i (depth + 1) before next
       back_one next takes =
           returned_same plan.old Pointer (λ q. IsAnew plan.job from i depth q ⊎ (q ≡ front plan.job i (depth + 1))) (IsAnew plan.job from i (depth + 1)) before next
           (λ q n. anew_more plan.job from i depth q n low) (λ q l n. inl (anew_more_back plan.job from i depth q n))
@@ -137,7 +137,7 @@ module _ (plan : Plan) (from : ℕ) (before : ℕ → Bool) (now : Image) (left 
       go q (inl n) = inl n
       go q (inr e) = inr (ap (block_on plan.old) e ∙ null)
 
-  pub back_cover : block_on plan.old (front plan.job 0 from) ≢ 0 → (next : ℕ → Bool) → TakesBlock next before (block_on plan.old (front plan.job 0 from)) → IsBack plan from 0 from before next
+  pub back_cover : block_on plan.old (front plan.job 0 from) ≢ 0 → (next : ℕ → Bool) → TakesNumber next before (block_on plan.old (front plan.job 0 from)) → IsBack plan from 0 from before next
   back_cover some next takes =
       returned_same plan.old (IsTreePointer plan.old plan.bound) (λ q. ⊥ ⊎ (q ≡ front plan.job 0 from)) (IsAnew plan.job from 0 from) before next
       (λ q n. anew_start plan.job from 0 q n) (λ q l n. inl (anew_start_back plan.job from 0 q n))

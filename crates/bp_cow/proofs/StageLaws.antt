@@ -6,10 +6,11 @@ use Rattle.bp_shapes.specs.Forest.{IsExactSet}
 use Rattle.bp_shapes.specs.Trail.{Trail, word_on, block_on, ArePointers, IsSkeleton, LeadsTo}
 use Rattle.bp_cow.specs.Stage.{IsStage}
 use Rattle.bp_shapes.proofs.TrailLaws.{cases_trail, Turns, pointer-turned, word-turned, slot-turned, skeleton-turned}
+use Rattle.bp_layout.specs.Thaw.{none_kept}
 
 -- nothing is done
 pub stage_start : (old : Image) (Pointer : Trail → Type 0) (anew : Trail → Type 0) (value : Trail → Option ℕ) (laid : Trail → ℕ) (free : ℕ → Bool) →
-    IsSkeleton old Pointer → IsExactSet old Pointer free → ((p : Trail) → anew p → ⊥) → ((p : Trail) → value p ≡ None) →
+    IsSkeleton old Pointer → IsExactSet old Pointer none_kept free → ((p : Trail) → anew p → ⊥) → ((p : Trail) → value p ≡ None) →
     IsStage old old Pointer anew value laid free
 stage_start old Pointer anew value laid free skeleton exact none no_value = record {
   whole = refl;
@@ -23,7 +24,7 @@ stage_start old Pointer anew value laid free skeleton exact none no_value = reco
   unvalued = λ p live. no_value p;
   early = λ p slot live n. no_value (slot ∷ p);
   taken = λ b any. either b any;
-  known = λ b low high full not. absurd (other b (exact.dead b low high not) full);
+  known = λ b low high full not. absurd (other b (exact.dead b low high not refl) full);
   in_range = exact.in_range;
 }
   where
@@ -227,11 +228,12 @@ module _ (old now : Image) (Pointer : Trail → Type 0) (pointers : ArePointers 
       ((p : Trail) → Pointer p → anew p → block_on old p ≢ 0 → free_after (block_on old p) ≡ true) →
       ((b : ℕ) → free b ≡ true → free_after b ≡ true) →
       ((b : ℕ) → free_after b ≡ true → (free b ≡ true) ⊎ ((p : Trail) × Pointer p × anew p × (block_on old p ≡ b) × (b ≢ 0))) →
-      IsExactSet now Pointer free_after
+      IsExactSet now Pointer none_kept free_after
   exact-end free_after decide given still from = record {
     live = λ b has. live b has (free_after b) refl;
-    dead = λ b low high none. dead b low high none (free b) refl;
+    dead = λ b low high none loose. dead b low high none (free b) refl;
     in_range = λ b is. in_range b (from b is);
+    loose = λ b is. refl;
   }
     where
       clash : (b : ℕ) → free b ≡ true → free b ≡ false → ⊥

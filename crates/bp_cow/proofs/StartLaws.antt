@@ -7,7 +7,8 @@ use Rattle.bp_shapes.specs.Forest.{IsTreePointer}
 use Rattle.bp_shapes.proofs.ForestLaws.{pointers, skeleton}
 use Rattle.bp_shapes.proofs.PathTrails.{word-placed, low-placed}
 use Rattle.bp_cow.specs.Adds.{IsTakenWord}
-use Rattle.bp_cow.specs.Copies.{TakesBlock, pointing_to}
+use Rattle.bp_free.specs.Set.{TakesNumber}
+use Rattle.bp_cow.specs.Copies.{pointing_to}
 use Rattle.bp_cow.specs.Job.{front, value_upto, laid_on, patch_at, IsAnew}
 use Rattle.bp_cow.specs.Plan.{Plan, IsMade, CanMake}
 use Rattle.bp_cow.proofs.BuildingLaws.{building_start}
@@ -38,7 +39,7 @@ module _ (plan : Plan) (from : ℕ) (can : CanMake plan from) where
       let range : block_on plan.old cover < block_count plan.old = bones.in_range cover pointed in
       rw start_word (omega (arith, range, can.whole))
 
-  module _ (copy : ℕ) (free_after : ℕ → Bool) (takes : TakesBlock plan.free free_after copy) where
+  module _ (copy : ℕ) (free_after : ℕ → Bool) (takes : TakesNumber plan.free free_after copy) where
     pub start_to : (0 < copy) × (512 * copy + 512 ≤ length plan.old)
     start_to = let range = can.exact.in_range copy takes.was in (range.0, omega (arith, range.1, can.whole))
 

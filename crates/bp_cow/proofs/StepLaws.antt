@@ -7,7 +7,8 @@ use Rattle.bp_shapes.specs.Trail.{Trail, word_on, block_on}
 use Rattle.bp_shapes.specs.Forest.{IsTreePointer}
 use Rattle.bp_shapes.proofs.ForestLaws.{pointers}
 use Rattle.bp_shapes.proofs.PathTrails.{trail_of-next}
-use Rattle.bp_cow.specs.Copies.{TakesBlock, TurnsTo, pointing_to}
+use Rattle.bp_free.specs.Set.{TakesNumber}
+use Rattle.bp_cow.specs.Copies.{TurnsTo, pointing_to}
 use Rattle.bp_cow.specs.Job.{ways, front, end_of, word_trail, value_upto, laid_on, patch_at, IsBegun, IsAnew}
 use Rattle.bp_cow.specs.Job.IsAnew.{is_cover, is_begun, is_front}
 use Rattle.bp_cow.specs.Adds.{IsTakenWord}
@@ -25,12 +26,12 @@ module _ (plan : Plan) (from i depth : ℕ) (now : Image) (free : ℕ → Bool) 
       let some : block_on (seen plan now) p ≢ 0 = fresh.0 in
       let low : block_on (seen plan now) p < block_count (seen plan now) = made.stage.skeleton.in_range p live in
       let count : block_count (seen plan now) ≡ block_count plan.old = ap (λ n. n / 512) made.stage.whole in
-      can.exact.dead _ (omega (arith, some)) (rw count at low) fresh.1
+      can.exact.dead _ (omega (arith, some)) (rw count at low) fresh.1 refl
 
   pub still_free : (b : ℕ) → free b ≡ true → plan.free b ≡ true
   still_free b is =
       let range = made.stage.in_range b is in
-      can.exact.dead b range.0 range.1 (λ has. let full : free b ≡ false = made.stage.taken b (inl has) in absurd (cc))
+      can.exact.dead b range.0 range.1 (λ has. let full : free b ≡ false = made.stage.taken b (inl has) in absurd (cc)) refl
 
 module _ (plan : Plan) (from i depth : ℕ) (now : Image) (free : ℕ → Bool) (can : CanMake plan from) (here : i < ways plan.job) (low : from ≤ depth) (high : depth ≤ length (plan.job.way i))
     (made : IsMade plan from i depth now free) where
@@ -92,7 +93,7 @@ module _ (plan : Plan) (from i depth : ℕ) (now : Image) (free : ℕ → Bool) 
           back q (inr e) = is_begun (subst (IsBegun plan.job from i) (sym e) begun)
 
       module _ (after : Image) (copy : ℕ) (free_after : ℕ → Bool) (none : IsBegun plan.job from i (front plan.job i (depth + 1)) → ⊥)
-          (turned : TurnsTo (patch_at plan.job i (depth + 1)) now after (512 * block + slot) copy) (takes : TakesBlock free free_after copy) where
+          (turned : TurnsTo (patch_at plan.job i (depth + 1)) now after (512 * block + slot) copy) (takes : TakesNumber free free_after copy) where
         first : IsAnew plan.job from i depth (slot ∷ way) → ⊥
         first n = not_anew plan.job from i depth low none (subst (IsAnew plan.job from i depth) (sym (trail_of-next (plan.job.way i) depth)) n)
 

@@ -9,6 +9,7 @@ use Rattle.bp_shapes.specs.Trail.{trail_of}
 use Rattle.bp_cow.specs.Touched.{IsTouched, run_end, run_path, path_of, word_paths, end_trail, touched_trail}
 use Rattle.bp_cow.specs.declared.touched.Run.{Run}
 use Rattle.bp_cow.specs.declared.touched.Touched.{Touched}
+use Rattle.bp_layout.specs.Thaw.{none_kept}
 
 -- the run lies in the tree of a reached inode, which has that height, below the size that counts
 pub record IsRunIn (old : Image) (bound : ℕ → ℕ) (run : Run) : Type 0 where
@@ -29,7 +30,7 @@ pub record CanCommit (old : Image) (bound : ℕ → ℕ) (touched : Touched) (fr
   pub shape : IsTouched touched
   pub forest : IsForest old bound
   pub sizes : (t : ℕ) → IsReached old t → size_of old t ≤ bound t
-  pub exact : AreUnheld old (IsReached old) bound free
+  pub exact : AreUnheld old (IsReached old) bound none_kept free
   pub pointers : (i d : ℕ) → i < length touched.words.now → d < length (path_of (word_paths touched) i) →
       IsTreePointer old bound (trail_of (path_of (word_paths touched) i) d)
   pub contents : (i : ℕ) → i < length touched.words.now → ¬ IsTreePointer old bound (touched_trail touched i)

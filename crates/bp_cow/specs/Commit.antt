@@ -12,13 +12,14 @@ use Rattle.bp_layout.specs.WellFormed.{IsWellFormed}
 use Rattle.bp_layout.specs.WordPaths.{address}
 use Rattle.bp_layout.specs.Words.{Image, block_count}
 use Rattle.bp_shapes.specs.Forest.{IsTreePointer}
-use Rattle.bp_tree.specs.Performs.{TakesBlocks}
+use Rattle.bp_commit.specs.Performs.{TakesBlocks}
 use Rattle.bp_cow.specs.CanCommit.{CanCommit}
 use Rattle.bp_cow.specs.Committed.{IsCommitted, after_commit}
 use Rattle.bp_cow.specs.Cover.{commit_cover, copied_count}
 use Rattle.bp_cow.specs.Job.{IsTurned}
 use Rattle.bp_cow.specs.Touched.{job_of}
 use Rattle.bp_cow.specs.declared.touched.Touched.{Touched}
+use Rattle.bp_layout.specs.Thaw.{none_kept}
 
 -- the stores that a commit makes at most: those of the words of each copy and of the pointer to it, of the touched
 -- words, and the last one
@@ -58,7 +59,7 @@ pub record CommitsTouched (bound : ℕ → ℕ) (touched : Touched) (old new : M
   pub commit : AddsCommit Same (cover_word (current_words old) touched) value 2
       (commit_stores (current_words old) touched) old new
   pub taken : List ℕ
-  pub takes : TakesBlocks (current_words old) taken commit.prepared
+  pub takes : TakesBlocks (current_words old) none_kept taken commit.prepared
   pub number : length taken ≡ copied_count (current_words old) touched
   -- the blocks were in the set of free ones
   pub from : Each (λ b. has blocks b ≡ true) taken
@@ -67,4 +68,5 @@ pub record CommitsTouched (bound : ℕ → ℕ) (touched : Touched) (old new : M
       ≡ cover_word (current_words old) touched
   pub words : IsCommittedBy bound touched (length (commit_cover (current_words old) touched)) (current_words old)
       (current_words new)
-  pub exact : AreUnheld (current_words new) (IsReached (current_words old)) bound (has blocks_after)
+  pub exact : AreUnheld (current_words new) (IsReached (current_words old)) bound none_kept
+      (has blocks_after)

@@ -11,6 +11,7 @@ use Rattle.bp_cow.specs.Job.{Job, ways, front, end_of, word_trail, IsAnew, value
 use Rattle.bp_cow.specs.Stage.{IsBuilding}
 use Rattle.bp_cow.specs.Touched.{job_of}
 use Rattle.bp_cow.specs.declared.touched.Touched.{Touched}
+use Rattle.bp_layout.specs.Thaw.{none_kept}
 
 -- `bound`: the sizes under which the trees count; `from`: how many slots the cover has; `place`: where its word stands
 pub record IsFeasible (old : Image) (bound : ℕ → ℕ) (job : Job) (from place : ℕ) (free : ℕ → Bool) : Type 0 where
@@ -18,7 +19,7 @@ pub record IsFeasible (old : Image) (bound : ℕ → ℕ) (job : Job) (from plac
   pub some_blocks : 0 < block_count old
   pub whole : length old ≡ block_words * block_count old
   pub forest : IsForest old bound
-  pub exact : IsExactSet old (IsTreePointer old bound) free
+  pub exact : IsExactSet old (IsTreePointer old bound) none_kept free
   -- each way begins with the cover, and each of its fronts is a pointer
   pub below : (i : ℕ) → i < ways job → from ≤ length (job.way i)
   pub short : (i : ℕ) → i < ways job → length (job.way i) ≤ 11
@@ -47,7 +48,7 @@ pub record Plan : Type 0 where
   pub place : ℕ
   pub top : ℕ
   -- the free blocks after the last store
-  pub taken : ℕ → Bool
+  pub free_after : ℕ → Bool
 
 -- the plan for these touched words
 abbrev pub planned : Plan → Touched → Plan

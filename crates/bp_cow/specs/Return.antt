@@ -29,7 +29,7 @@ IsBack plan from i depth before after =
 
 -- the old blocks on a way can be given back from a depth on, behind those that have been
 pub record CanGive (plan : Plan) (from i depth : ℕ) (blocks : Set) (now : Image) : Type 0 where
-  pub left : IsLeft plan from plan.taken now
+  pub left : IsLeft plan from plan.free_after now
   pub way : IsOnWay plan from i depth
-  pub back : IsBack plan from i depth plan.taken (has blocks)
+  pub back : IsBack plan from i depth plan.free_after (has blocks)
   pub fits : block_count plan.old ≤ length blocks

@@ -25,13 +25,13 @@ pub record CanTurn (plan : Plan) (touched : Touched) (from place : ℕ) (blocks 
   pub some : copies (job_of touched) from ≤ length (members blocks)
   pub room : 513 * copies (job_of touched) from + (job_of touched).words + 3 ≤ room_in memory
 
--- all is as the plan says, and `taken` are the blocks that are free then, those that were copied not among them
-pub record IsTurnedOver (plan : Plan) (touched : Touched) (from place : ℕ) (blocks taken : Set)
+-- all is as the plan says, and `left` are the blocks that are free then, those that were copied not among them
+pub record IsTurnedOver (plan : Plan) (touched : Touched) (from place : ℕ) (blocks left : Set)
     (old new : Memory) : Type 0 where
-  pub count : length (members blocks) ≡ length (members taken) + copies (job_of touched) from
-  pub size : length taken ≡ length blocks
-  pub commit : AddsCopyCommit (has blocks) (has taken) place (513 * copies (job_of touched) from
+  pub count : length (members blocks) ≡ length (members left) + copies (job_of touched) from
+  pub size : length left ≡ length blocks
+  pub commit : AddsCopyCommit (has blocks) (has left) place (513 * copies (job_of touched) from
       + (job_of touched).words) old new
   pub stage : IsStage plan.old (current_words new) (IsTreePointer plan.old plan.bound)
       (IsAnew (job_of touched) from (ways (job_of touched)) from)
-      (value_upto (job_of touched) (job_of touched).words) (laid_on plan.old (job_of touched)) (has taken)
+      (value_upto (job_of touched) (job_of touched).words) (laid_on plan.old (job_of touched)) (has left)

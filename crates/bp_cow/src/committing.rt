@@ -12,6 +12,7 @@ ghost use Rattle.bp_cow.specs.Found.{IsCoverIn};
 ghost use Rattle.bp_cow.specs.Plan.{Plan};
 ghost use Rattle.bp_cow.specs.Touched.{IsTouched, only_value};
 ghost use Rattle.bp_cow.specs.Turned.{CanTurn, IsTurnedOver};
+ghost use Rattle.bp_layout.specs.Thaw.{none_kept};
 
 use crate::build::make;
 use crate::covering::{FoundCover, find_cover};
@@ -61,7 +62,7 @@ fn commit_copies<R: Region>(
     ensures done { (taken : Set) × IsTurnedOver plan touched.now from place blocks.old taken
         (R.memory region.old) (R.memory region.new) }
     ensures exact { IsExactSet (current_words (R.memory region.new))
-        (IsTreePointer plan.old plan.bound) (has blocks.new) }
+        (IsTreePointer plan.old plan.bound) none_kept (has blocks.new) }
     ensures size { length blocks.new ≡ length blocks.old }
 {
     let _words = region.words();
@@ -92,6 +93,8 @@ pub fn commit_at<R: Region>(parts: &mut Parts<R>, touched: &Touched<'_>, cover: 
         (R.memory parts.old.region) (R.memory parts.new.region) parts.old.blocks parts.new.blocks }
     ensures size { length parts.new.blocks ≡ length parts.old.blocks }
     ensures inodes { parts.new.inodes ≡ parts.old.inodes }
+    ensures counts { parts.new.counts ≡ parts.old.counts }
+    ensures frozen { parts.new.frozen ≡ parts.old.frozen }
 {
     if touched.way_len(0) < cover.len {
         commit_one(&mut parts.region, touched, cover.place);
@@ -116,6 +119,8 @@ pub fn commit<R: Region>(parts: &mut Parts<R>, touched: &Touched<'_>)
         (R.memory parts.old.region) (R.memory parts.new.region) parts.old.blocks parts.new.blocks }
     ensures size { length parts.new.blocks ≡ length parts.old.blocks }
     ensures inodes { parts.new.inodes ≡ parts.old.inodes }
+    ensures counts { parts.new.counts ≡ parts.old.counts }
+    ensures frozen { parts.new.frozen ≡ parts.old.frozen }
 {
     let cover = find_cover(&parts.region, touched);
     commit_at(parts, touched, cover);

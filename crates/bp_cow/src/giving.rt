@@ -32,7 +32,7 @@ fn give_step<R: Region>(
     requires can { CanGive (planned plan touched.now) from i depth blocks.old (current_words (R.memory region.now)) }
     requires more { depth < length ((job_of touched.now).way i) }
     requires block { block ≡ block_on plan.old (front (job_of touched.now) i depth) }
-    ensures back { IsBack (planned plan touched.now) from i (depth + 1) plan.taken (has blocks.new) }
+    ensures back { IsBack (planned plan touched.now) from i (depth + 1) plan.free_after (has blocks.new) }
     ensures block { result ≡ block_on plan.old (front (job_of touched.now) i (depth + 1)) }
     ensures size { length blocks.new ≡ length blocks.old }
 {
@@ -58,7 +58,7 @@ fn give_way<R: Region>(
     requires touched { IsTouched touched.now }
     requires can { CanGive (planned plan touched.now) from i from blocks.old (current_words (R.memory region.now)) }
     requires top { top ≡ block_on plan.old (front (job_of touched.now) 0 from) }
-    ensures back { IsBack (planned plan touched.now) from (i + 1) from plan.taken (has blocks.new) }
+    ensures back { IsBack (planned plan touched.now) from (i + 1) from plan.free_after (has blocks.new) }
     ensures size { length blocks.new ≡ length blocks.old }
 {
     let end = touched.way_len(i);
@@ -78,11 +78,11 @@ pub(crate) fn give_back<R: Region>(
 )
     ghost plan: { Plan }
     requires touched { IsTouched touched.now }
-    requires left { IsLeft (planned plan touched.now) from plan.taken (current_words (R.memory region.now)) }
-    requires taken { plan.taken ≡ has blocks.old }
+    requires left { IsLeft (planned plan touched.now) from plan.free_after (current_words (R.memory region.now)) }
+    requires taken { plan.free_after ≡ has blocks.old }
     requires top { top ≡ block_on plan.old (front (job_of touched.now) 0 from) }
     requires fits { block_count plan.old ≤ length blocks.old }
-    ensures back { IsBack (planned plan touched.now) from (ways (job_of touched.now)) from plan.taken (has blocks.new) }
+    ensures back { IsBack (planned plan touched.now) from (ways (job_of touched.now)) from plan.free_after (has blocks.new) }
     ensures size { length blocks.new ≡ length blocks.old }
 {
     let ways = touched.ways();

@@ -48,6 +48,7 @@ ghost use Rattle.bp_cow.specs.Touched.{
   job_of,
 };
 ghost use Rattle.bp_cow.specs.declared.touched.Run.{Run};
+ghost use Rattle.bp_layout.specs.Thaw.{none_kept};
 
 use crate::touched::{Run, Touched};
 
@@ -135,13 +136,13 @@ pub fn commits_are_told_on_trees(old: &[u64], new: &[u64], touched: &Touched<'_>
 pub fn a_word_or_a_run_can_be_committed(image: &[u64], touched: &Touched<'_>)
     requires well_formed { IsWellFormed image.now }
     requires touched { IsTouched touched.now }
-    ensures word { (free : ℕ → Bool) (t k : ℕ) → AreFreeBlocks image.now free → touched.now.run ≡ None →
+    ensures word { (free : ℕ → Bool) (t k : ℕ) → AreFreeBlocks image.now none_kept free → touched.now.run ≡ None →
         length touched.now.words.now ≡ 1 →
         IsReached image.now t → 8 * k < size_of image.now t → (t ≡ 0 → k % 8 ≢ 1) →
         touched_trail touched.now 0 ≡
         tree_trail (height_of (word image.now super_root)) t (suc (height_of (root_of image.now t))) k →
         CanCommit image.now (size_of image.now) touched.now free }
-    ensures run { (free : ℕ → Bool) (run : Run) → AreFreeBlocks image.now free → touched.now.run ≡ Some run →
+    ensures run { (free : ℕ → Bool) (run : Run) → AreFreeBlocks image.now none_kept free → touched.now.run ≡ Some run →
         length touched.now.words.now ≡ 0 →
         IsRunIn image.now (size_of image.now) run → CanCommit image.now (size_of image.now) touched.now free }
 {}

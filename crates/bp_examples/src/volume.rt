@@ -4,8 +4,8 @@ ghost use Rattle.std.specs.Prelude.{[], ◌*◌, ◌≡◌, IfOk, length, vec_le
 ghost use Rattle.bp_limits.specs.Limits.{block_words, call_room, min_blocks};
 
 use bp_layout::{Kind, Stat};
-use bp_limits::CALL_ROOM;
-use bp_plain::{Answer, Call, Reply};
+use bp_limits::{CALL_ROOM, Version};
+use bp_plain::{Answer, Call, FsError, Reply};
 use bp_samples::images::{EMPTY, laid};
 use bp_volume::Volume;
 use pm_region::{ListRegion, Region};
@@ -41,6 +41,33 @@ fn a_new_volume_is_used(rt: HostRuntime) -> Result<(), Fail> {
     assert_eq!(rt; names.at(1).1, b"b".as_slice());
     volume.sync();
     assert_eq!(rt; volume.region().event_count(), 0);
+    Ok(())
+}
+
+#[test]
+fn a_file_has_two_names(rt: HostRuntime) -> Result<(), Fail> {
+    let mut volume = fresh(rt.alloc())?;
+    assert_eq!(rt; volume.create(b"/a"), Ok(()));
+    assert_eq!(rt; volume.link(b"/a", b"/b"), Ok(()));
+    assert_eq!(rt; volume.write(b"/a", 0, b"hi"), Ok(()));
+    assert_eq!(rt; volume.links(b"/b"), Ok(2));
+    assert_eq!(rt; volume.stat(b"/b"), Ok(Stat::File { size: 2 }));
+    Ok(())
+}
+
+#[test]
+fn a_size_of_version_2_wants_that_version(rt: HostRuntime) -> Result<(), Fail> {
+    let size = Version::One.greatest_size() + 1;
+    let mut volume = fresh(rt.alloc())?;
+    assert_eq!(rt; volume.create(b"/a"), Ok(()));
+    assert_eq!(rt; volume.truncate(b"/a", size), Err(FsError::TooBig));
+    volume.upgrade();
+    assert_eq!(rt; volume.truncate(b"/a", size), Ok(()));
+    let region = region_of(rt.alloc(), laid(rt.alloc(), &[])?)?;
+    let made = Volume::format_as(rt.alloc(), region, Version::Two);
+    let mut volume = made.ok().ok_or("no volume")?;
+    assert_eq!(rt; volume.create(b"/a"), Ok(()));
+    assert_eq!(rt; volume.truncate(b"/a", size), Ok(()));
     Ok(())
 }
 

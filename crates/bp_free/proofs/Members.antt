@@ -7,7 +7,7 @@ use Rattle.std.proofs.lemmas.List.Elements.{filter-append, filter_passes, All-co
 use Rattle.std.proofs.lemmas.List.Kept.{IsStrictlyIncreasing-filter}
 use Rattle.std.proofs.lemmas.List.Sums.{length-filter, count_by-le-length}
 use Rattle.std.proofs.lemmas.List.FromFn.{length-range_with_len, get_or-range_with_len}
-use Rattle.bp_free.specs.Set.{Set, has, members, below, members_above, with, without, empty, IsLeast, Fills}
+use Rattle.bp_free.specs.Set.{Set, has, members, below, members_above, with, without, empty, IsLeast, TakesNumber, TakesLeast, Fills}
 
 -- ---- ranges
 
@@ -164,6 +164,21 @@ count_without s i low there =
     let now = ap length (members_without s i low) ∙ length-append (below s i) (members_above s i) in
     let before = ap length (members_in s i low there) ∙ length-append (below s i) (i ∷ members_above s i) in
     omega (arith, now, before)
+
+-- the set that lacks its least number is what is left when that is taken
+pub taken_least : (old new : Set) (i : ℕ) → IsLeast old i → new ≡ without old i → TakesLeast old new i
+taken_least old new i least rest = record {
+  least = least;
+  rest = rest;
+  taken = record {
+    was = least.is_in;
+    gone = ap (λ s. has s i) rest ∙ has_without_same old i least.low;
+    others = λ k other. ap (λ s. has s k) rest ∙ has_without_other old i k other;
+  };
+  first = members_least old i least ∙ ap (λ s. i ∷ members s) (sym rest);
+  count = ap (λ s. length (members s) + 1) rest ∙ count_without old i least.low least.is_in;
+  size = ap length rest ∙ length-set old i false;
+}
 
 pub count_most : (s : Set) → length (members s) ≤ length s
 count_most s =

@@ -1,5 +1,5 @@
 -- A set of numbers below a room: for each number, whether it is in.
-use Rattle.std.specs.Prelude.{◌≡◌, ℕ, ◌+◌, ◌-◌, ◌<◌, ◌≤◌, List, length, Bool, true, false, filter, slice_index_or, slice_set, replicate}
+use Rattle.std.specs.Prelude.{◌≡◌, ◌≢◌, ◌∷◌, ℕ, ◌+◌, ◌-◌, ◌<◌, ◌≤◌, List, length, Bool, true, false, filter, slice_index_or, slice_set, replicate}
 use Rattle.std.specs.List.{range_with_len}
 
 abbrev pub Set : Type 0
@@ -38,6 +38,21 @@ pub record IsLeast (set : Set) (i : ℕ) : Type 0 where
   pub low : i < length set
   pub is_in : has set i ≡ true
   pub first : (k : ℕ) → k < i → has set k ≡ false
+
+-- i is taken out of a set, which is told by a test of each number
+pub record TakesNumber (old new : ℕ → Bool) (i : ℕ) : Type 0 where
+  pub was : old i ≡ true
+  pub gone : new i ≡ false
+  pub others : (k : ℕ) → k ≢ i → new k ≡ old k
+
+-- i was the least number of the set, and it alone has left
+pub record TakesLeast (old new : Set) (i : ℕ) : Type 0 where
+  pub least : IsLeast old i
+  pub rest : new ≡ without old i
+  pub taken : TakesNumber (has old) (has new) i
+  pub first : members old ≡ i ∷ members new
+  pub count : length (members new) + 1 ≡ length (members old)
+  pub size : length new ≡ length old
 
 -- the numbers from one number up to another join, and no others
 pub record Fills (from to : ℕ) (old new : Set) : Type 0 where

@@ -5,11 +5,13 @@
 #![tactic(auto)]
 
 mod bits;
+mod counts;
 pub mod laws;
 mod numbers;
 mod parts;
 mod steps;
 
+pub use counts::Counts;
 pub use numbers::{BlockNumbers, Blocks, InodeNumbers, Inodes, Numbers};
 pub use parts::{NoSpace, Parts};
 pub use steps::Steps;

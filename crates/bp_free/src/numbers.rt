@@ -3,7 +3,7 @@
 ghost use Rattle.std.specs.Prelude.{◌≡◌, ℕ, ◌+◌, ◌*◌, ◌%◌, ◌<◌, ◌≤◌, ◌^◌, [], false, true, length, IfOk, MatchOption};
 ghost use Rattle.std.specs.Int.{div_ceil};
 ghost use Rattle.bp_free.specs.Looks.{looks};
-ghost use Rattle.bp_free.specs.Set.{Set, has, members, with, without, empty, IsLeast, Fills};
+ghost use Rattle.bp_free.specs.Set.{Set, has, members, with, without, empty, IsLeast, TakesLeast, Fills};
 ghost use Rattle.bp_free.specs.Words.{TellsAlone};
 
 use crate::bits::{Bits, Member, WORD};
@@ -129,6 +129,18 @@ impl<Kind> Numbers<Kind> {
             (λ i. IsLeast self.old i × (self.new ≡ without self.old i)) }
     {
         self.take_by(&mut Uncounted)
+    }
+
+    /// Takes the least number out of a set that has one.
+    pub fn take_least(&mut self) -> u32
+        requires { 0 < length (members self.old) }
+        ensures { TakesLeast self.old self.new result }
+    {
+        match self.take() {
+            Some(least) => least,
+            // The set has a number.
+            None => unreachable!(),
+        }
     }
 
     /// What [`Numbers::take`] does, and how many steps the search takes: a step is a look at a word of 64 numbers, or

@@ -4,7 +4,10 @@
 #![tactic(auto)]
 
 ghost use Rattle.std.specs.Prelude.{◌≡◌, ◌+◌, ◌*◌, ◌<◌, ◌≤◌, length};
-ghost use Rattle.bp_limits.specs.Limits.{inode_words};
+ghost use Rattle.bp_limits.specs.Limits.{inode_words, root_field, size_field};
+ghost use Rattle.bp_layout.specs.Reached.{IsReached};
+ghost use Rattle.bp_layout.specs.WordPaths.{inode_path};
+ghost use Rattle.bp_layout.specs.Words.{height_of};
 ghost use Rattle.bp_layout.specs.Tree.{IsFull, IsSound};
 ghost use Rattle.bp_layout.specs.Inode.{ContentStandsAt, inode_count, kind_of, root_of, size_of};
 ghost use Rattle.bp_layout.specs.Fields.{kind_word};
@@ -17,8 +20,11 @@ ghost use Rattle.pm_region.specs.Memory.{current_words, room_in};
 ghost use Rattle.pm_region.specs.Safe.{AddsMay};
 
 use bp_layout::{Inode, Kind};
-use bp_limits::{BLOCK_INODES, BLOCK_WORDS, INODE_WORDS, SUPER_ROOT, SUPER_SIZE};
-use bp_tree::{Tree, content_place, leaf_block};
+use bp_limits::{
+    BLOCK_INODES, BLOCK_WORDS, INODE_SIZE, INODE_WORDS, ROOT_FIELD, SIZE_FIELD, SUPER_ROOT,
+    SUPER_SIZE, WORD_SIZE,
+};
+use bp_tree::{Slots, Tree, content_place, leaf_block, word_path};
 use pm_region::Region;
 
 /// The inode file: words 2 and 3 of the superblock are its root word and its size.
@@ -82,8 +88,8 @@ fn put<R: Region>(region: &mut R, place: u32, kind: Kind)
     // Words are counted in 32 bits, so that the last place fits.
     let _words = region.words();
     region.store(place, kind.word());
-    region.store(place + 1, 0);
-    region.store(place + 2, 0);
+    region.store(place + ROOT_FIELD, 0);
+    region.store(place + SIZE_FIELD, 0);
 }
 
 /// Makes an inode that nobody reaches a file or a directory without bytes, by stores to its words alone.
@@ -95,4 +101,38 @@ pub fn fill<R: Region>(region: &mut R, i: u32, kind: Kind)
 {
     let at = place(region, i, 0);
     put(region, at, kind);
+}
+
+/// The tree of an inode.
+pub fn tree_of<R: Region>(region: &R, i: u32) -> Tree
+    requires well_formed { IsWellFormed (current_words (R.memory region.now)) }
+    requires reached { IsReached (current_words (R.memory region.now)) i }
+    requires some { 1 ≤ i }
+    ensures root { result.root ≡ root_of (current_words (R.memory region.now)) i }
+    ensures size { result.size ≡ size_of (current_words (R.memory region.now)) i }
+{
+    let inode = get(region, i);
+    Tree::of(&inode)
+}
+
+/// The path of the root word of an inode.
+pub fn root_path<R: Region>(region: &R, i: u32) -> Slots
+    requires { 4 ≤ length (current_words (R.memory region.now)) }
+    ensures { result.items ≡ inode_path (height_of (root_of (current_words (R.memory region.now)) 0)) i 1 }
+{
+    word_path(
+        inode_file(region),
+        INODE_SIZE * u64::from(i) + WORD_SIZE * u64::from(ROOT_FIELD),
+    )
+}
+
+/// The path of the size word of an inode.
+pub fn size_path<R: Region>(region: &R, i: u32) -> Slots
+    requires { 4 ≤ length (current_words (R.memory region.now)) }
+    ensures { result.items ≡ inode_path (height_of (root_of (current_words (R.memory region.now)) 0)) i 2 }
+{
+    word_path(
+        inode_file(region),
+        INODE_SIZE * u64::from(i) + WORD_SIZE * u64::from(SIZE_FIELD),
+    )
 }

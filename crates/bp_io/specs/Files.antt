@@ -136,8 +136,8 @@ pub record KeepsSize (old new : View) : Type 0 where
   pub blocks : new.blocks ≡ old.blocks
 
 -- These are the bytes of so many blocks of the attached file, from one on, where they are told.
-abbrev pub AreBlocks : View → ℕ → ℕ → List ℕ → Type 0
-AreBlocks old first count read = (name : List ℕ) → old.is_attached name ≡ true
+abbrev pub AreBytesOfBlocks : View → ℕ → ℕ → List ℕ → Type 0
+AreBytesOfBlocks old first count read = (name : List ℕ) → old.is_attached name ≡ true
     → TellsFile (old.contents name) (λ bytes. read ≡ blocks_of bytes first count)
 
 -- Nothing changes but the count of faults.

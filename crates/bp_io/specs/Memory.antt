@@ -2,7 +2,7 @@
 use Rattle.std.specs.Prelude.{◌/◌, length, if◌then◌else◌, List, ℕ, Option, Some, None}
 use Rattle.bp_limits.specs.Limits.{block_size}
 use Rattle.bp_io.specs.Files.{View}
-use Rattle.bp_io.specs.Plans.{Plan}
+use Rattle.bp_io.specs.Plans.{FaultPlan}
 use Rattle.bp_io.specs.declared.faults.CallPlan.{CallPlan}
 use Rattle.bp_io.specs.declared.memory_streams.FairSource.{FairSource}
 use Rattle.bp_io.specs.declared.memory_streams.MemSource.{MemSource}
@@ -12,7 +12,7 @@ use Rattle.bp_io.specs.declared.fair_files.FairFiles.{FairFiles}
 use Rattle.bp_io.specs.declared.mem_files.MemFiles.{MemFiles}
 
 -- a plan as the program keeps it
-abbrev pub plan_of : CallPlan → Plan
+abbrev pub plan_of : CallPlan → FaultPlan
 plan_of p = record { fail_at = p.fail_at.now; next = p.next }
 
 -- the bytes that are left
@@ -27,7 +27,7 @@ mem_left s = s.rest.now
 abbrev pub source_most : MemSource → ℕ
 source_most s = s.most
 
-abbrev pub source_plan : MemSource → Plan
+abbrev pub source_plan : MemSource → FaultPlan
 source_plan s = plan_of s.plan
 
 abbrev pub source_faults : MemSource → ℕ
@@ -41,7 +41,7 @@ mem_taken s = s.bytes.items
 abbrev pub sink_room : MemSink → ℕ
 sink_room s = s.room
 
-abbrev pub sink_plan : MemSink → Plan
+abbrev pub sink_plan : MemSink → FaultPlan
 sink_plan s = plan_of s.plan
 
 abbrev pub sink_faults : MemSink → ℕ
@@ -81,5 +81,5 @@ mem_view s = record {
   faults = s.plan.faults;
 }
 
-abbrev pub files_plan : MemFiles → Plan
+abbrev pub files_plan : MemFiles → FaultPlan
 files_plan s = plan_of s.plan

@@ -7,7 +7,7 @@ use crate::{Access, Failed};
 use std::alloc::{AllocError, Global};
 
 /// A file in memory that has every name, and never fails: whatever is attached is this file. It has
-/// room for 16,384 blocks of 4,096 bytes from the start.
+/// room for 65,536 blocks of 4,096 bytes from the start.
 #[derive(Drop)]
 pub struct FairFiles {
     image: Image,
@@ -23,7 +23,7 @@ impl FairFiles {
     ///
     /// # Errors
     ///
-    /// `AllocError` only where there is no memory for 67,108,864 bytes, or for these where they are
+    /// `AllocError` only where there is no memory for 268,435,456 bytes, or for these where they are
     /// more.
     pub fn new(alloc: Global, bytes: &[u8]) -> Result<Self, AllocError>
         ensures image { IfOk result (λ files. fair_image files ≡ bytes.now) }

@@ -1,7 +1,7 @@
 // Files of blocks.
 ghost use Rattle.std.specs.Prelude.{◌⊎◌, OnErr, ◌≡◌, ◌≤◌, ◌<◌, ◌+◌, ◌*◌, ◌/◌, ◌%◌, List, length, ℕ, IfNone, IfOk, OnOk, IfSome, true, false};
 ghost use Rattle.bp_io.specs.Causes.{HasCause};
-ghost use Rattle.bp_io.specs.Files.{View, StaysAttached, StaysOrIsMade, Becomes, Answers, Attaches, IsAttached, KeepsFiles, KeepsOthers, ChangesBytes, MayChange, Resizes, KeepsSize, AreBlocks, Reads, makes, with_block};
+ghost use Rattle.bp_io.specs.Files.{View, StaysAttached, StaysOrIsMade, Becomes, Answers, Attaches, IsAttached, KeepsFiles, KeepsOthers, ChangesBytes, MayChange, Resizes, KeepsSize, AreBytesOfBlocks, Reads, makes, with_block};
 
 use crate::{Access, Failed};
 use bp_limits::{BLOCK_SIZE, MAX_BLOCKS};
@@ -51,7 +51,7 @@ pub trait Files {
     fn read_blocks(&mut self, first: u32, into: &mut [u8]) -> Result<(), Failed>
         requires whole { length into.old % BLOCK_SIZE ≡ 0 }
         requires inside { first + length into.old / BLOCK_SIZE ≤ (view self.old).blocks }
-        ensures blocks { OnOk result (AreBlocks (view self.old) first (length into.old / BLOCK_SIZE) into.new) }
+        ensures blocks { OnOk result (AreBytesOfBlocks (view self.old) first (length into.old / BLOCK_SIZE) into.new) }
         ensures reads { Reads (view self.old) (view self.new) }
         ensures cause { HasCause (view self.old).faults (view self.new).faults result };
 

@@ -3,7 +3,7 @@ ghost use Rattle.std.specs.Prelude.{◌<◌, ◌+◌, ◌*◌, ◌/◌, ◌%◌,
 ghost use Rattle.std.specs.Option.{option_copied};
 ghost use Rattle.bp_io.specs.Plans.{new_plan, FollowsPlan};
 ghost use Rattle.bp_io.specs.Causes.{HasCause};
-ghost use Rattle.bp_io.specs.Files.{StaysAttached, StaysOrIsMade, Becomes, Answers, Attaches, IsAttached, KeepsFiles, KeepsOthers, ChangesBytes, MayChange, Resizes, KeepsSize, AreBlocks, Reads, makes, with_block};
+ghost use Rattle.bp_io.specs.Files.{StaysAttached, StaysOrIsMade, Becomes, Answers, Attaches, IsAttached, KeepsFiles, KeepsOthers, ChangesBytes, MayChange, Resizes, KeepsSize, AreBytesOfBlocks, Reads, makes, with_block};
 
 use crate::faults::CallPlan;
 use crate::files::Files;
@@ -13,7 +13,7 @@ use bp_limits::{BLOCK_SIZE, MAX_BLOCKS};
 use std::alloc::{AllocError, Global};
 
 /// A file in memory that has every name, or none until one is made; then each name has it. It has
-/// room for 16,384 blocks of 4,096 bytes from the start.
+/// room for 65,536 blocks of 4,096 bytes from the start.
 ///
 /// Chosen calls fail, and change no byte: the calls of all its functions have one row of numbers
 /// from 0 on, and those fail whose numbers are in a list.
@@ -37,7 +37,7 @@ impl<'a> MemFiles<'a> {
     ///
     /// # Errors
     ///
-    /// `AllocError` only where there is no memory for 67,108,864 bytes, or for these where they are
+    /// `AllocError` only where there is no memory for 268,435,456 bytes, or for these where they are
     /// more.
     pub fn new(alloc: Global, image: Option<&[u8]>, fail_at: &'a [u64]) -> Result<Self, AllocError>
         ensures image { IfOk result (λ files. mem_image files ≡ option_copied image.entry) }
@@ -117,7 +117,7 @@ impl Files for MemFiles<'_> {
     fn read_blocks(&mut self, first: u32, into: &mut [u8]) -> Result<(), Failed>
         requires whole { length into.old % BLOCK_SIZE ≡ 0 }
         requires inside { first + length into.old / BLOCK_SIZE ≤ (mem_view self.old).blocks }
-        ensures blocks { OnOk result (AreBlocks (mem_view self.old) first (length into.old / BLOCK_SIZE) into.new) }
+        ensures blocks { OnOk result (AreBytesOfBlocks (mem_view self.old) first (length into.old / BLOCK_SIZE) into.new) }
         ensures reads { Reads (mem_view self.old) (mem_view self.new) }
         ensures cause { HasCause (mem_view self.old).faults (mem_view self.new).faults result }
 

@@ -10,6 +10,8 @@ use Rattle.bp_layout.specs.Checks.{IsFound, Fails, pointer_place, entry_place}
 use Rattle.bp_layout.specs.declared.check.Check.{Check}
 use Rattle.bp_layout.specs.Checks.IsFound.{inode_file, root_directory, named}
 use Rattle.bp_layout.specs.Checks.Fails.{height, root_bits, pointer_bits, range, twice, hole, inode_file_size, inumber, root_named, inode_twice, kind, root_kind, directory_size, capacity, name_form, name_twice}
+use Rattle.bp_layout.specs.Formatted.{version_of}
+use Rattle.bp_limits.specs.Limits.{greatest_height}
 
 pub found_reached : (image : Image) (t : ℕ) → IsFound image t → IsReached image t
 found_reached image _ inode_file = the_inode_file
@@ -29,7 +31,7 @@ same_entry image i s k r a b = ap (λ (x : ℕ). entry_place image x s 0) a ∙ 
 -- the word and its fault cannot both be
 pub none_fails : (image : Image) → IsWellFormed image → (c : Check) (p : ℕ) → Fails image c p → ⊥
 none_fails image wf _ _ (height {t = t} at high) =
-    let low : height_of (root_of image t) ≤ 3 = (wf.sound t (found_reached image t at.found)).low (some_bytes _ _ 0 0 at.live) in omega (arith, high, low)
+    let low : height_of (root_of image t) ≤ greatest_height (version_of image) = wf.low t (found_reached image t at.found) (some_bytes _ _ 0 0 at.live) in omega (arith, high, low)
 none_fails image wf _ _ (root_bits {t = t} at bits) = bits ((wf.sound t (found_reached image t at.found)).root_bits (some_bytes _ _ 0 0 at.live))
 none_fails image wf _ _ (pointer_bits {t = t} {d = d} {k = k} at bits) = bits ((wf.sound t (found_reached image t at.found)).pointer_bits d k at.live)
 none_fails image wf _ _ (range {t = t} {d = d} {k = k} at high) =
@@ -48,8 +50,8 @@ none_fails image wf _ _ (inode_file_size (inr small)) = let some : 4096 ≤ size
 none_fails image wf _ _ (inumber {i = i} {s = s} {j = j} at high) =
     let low : j < inode_count image = wf.inumbers i s j (found_reached image i at.found) at.names in omega (arith, high, low)
 none_fails image wf _ _ (root_named {i = i} {s = s} at) = wf.not_root i s 1 (found_reached image i at.found) at.names refl
-none_fails image wf _ _ (inode_twice {i = i} {s = s} {j = j} {k = k} {r = r} at also other) =
-    let same : (i ≡ k) × (s ≡ r) = wf.named_once i s k r j (found_reached image i at.found) (found_reached image k also.found) at.names also.names in
+none_fails image wf _ _ (inode_twice {i = i} {s = s} {j = j} {k = k} {r = r} at also other found directory) =
+    let same : (i ≡ k) × (s ≡ r) = wf.named_once i s k r j (found_reached image i at.found) (found_reached image k also.found) at.names also.names directory in
     other (sym at.at ∙ same_entry image i s k r same.0 same.1 ∙ also.at)
 none_fails image wf _ _ (kind {i = i} found not_file not_directory at) =
     let both : (1 ≤ kind_of image (suc i)) × (kind_of image (suc i) ≤ 2) = wf.kinds i (found_reached image (suc i) found) in

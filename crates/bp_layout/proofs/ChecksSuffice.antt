@@ -1,5 +1,5 @@
 -- An image with its magic word and its number of blocks, in which no check fails, is well-formed.
-use Rattle.std.proofs.Common.{◌≡◌, ◌≢◌, ◌⊎◌, ℕ, zero, suc, ◌+◌, ◌*◌, ◌/◌, ◌%◌, ◌<◌, ◌≤◌, refl, sym, ◌∙◌, ap, subst, arith, inl, inr, ⊎_elim}
+use Rattle.std.proofs.Common.{◌≡◌, ◌≢◌, ◌⊎◌, ℕ, zero, suc, ◌+◌, ◌*◌, ◌/◌, ◌%◌, ◌<◌, ◌≤◌, refl, sym, ◌∙◌, ap, subst, arith, inl, inr, ⊎_elim, le_trans}
 use Rattle.std.proofs.lemmas.Bool.{cases_eq, cases_lt}
 use Rattle.bp_layout.specs.Words.{Image, block_count, block_of, height_of, slot_word}
 use Rattle.bp_layout.specs.Tree.{word_at, node, covered, IsLivePointer, IsSound, IsFull}
@@ -9,7 +9,9 @@ use Rattle.bp_layout.specs.Reached.{IsReached}
 use Rattle.bp_layout.specs.Reached.IsReached.{inode_file as the_inode_file, root_directory as the_root_directory, named as by_name}
 use Rattle.bp_layout.specs.WellFormed.{IsWellFormed}
 use Rattle.bp_layout.specs.Checks.{NoneFails, IsFound, IsPointer, IsEntry, IsFollowed, Passes, ContentFollowed, pointer_place, entry_place, size_place}
-use Rattle.bp_layout.specs.Formatted.{IsFormatted}
+use Rattle.bp_layout.specs.Formatted.{IsFormatted, version_of}
+use Rattle.bp_limits.specs.Limits.{greatest_height}
+use Rattle.bp_limits.proofs.Versions.{height_most}
 use Rattle.bp_layout.specs.Checks.IsFound.{inode_file, root_directory, named}
 use Rattle.bp_layout.specs.declared.check.Check.TheVariants.{Height, PointerBits, Range, BlockTwice, Hole, InodeFileSize, Inumber, InodeTwice, Kind, DirectorySize, Capacity, NameForm, NameTwice}
 use Rattle.bp_layout.specs.Checks.Fails.{height, root_bits, pointer_bits, range, twice, hole, inode_file_size, inumber, root_named, inode_twice, kind, root_kind, directory_size, capacity, name_form, name_twice}
@@ -48,7 +50,7 @@ module _ (image : Image) (none : NoneFails image) where
   root_pointer : (t : ℕ) → IsFound image t → 0 < size_of image t → IsPointer image t 0 0 (pointer_place image t 0 0)
   root_pointer t found some = record { found = found; live = root_live t some; followed = tt; at = refl }
 
-  low_root : (t : ℕ) → IsFound image t → 0 < size_of image t → height_of (root_of image t) ≤ 3
+  low_root : (t : ℕ) → IsFound image t → 0 < size_of image t → height_of (root_of image t) ≤ greatest_height (version_of image)
   low_root t found some = not_less _ _ (λ high. none.none Height _ (height (root_pointer t found some) high))
 
   bits_root : (t : ℕ) → IsFound image t → 0 < size_of image t → root_of image t / 8 % 512 ≡ 0
@@ -105,7 +107,7 @@ module _ (image : Image) (none : NoneFails image) where
 
   sound : 8 ≤ block_count image → (t : ℕ) → IsFound image t → IsSound image (root_of image t) (size_of image t)
   sound some t found = record {
-    low = low_root t found;
+    low = λ some. le_trans (low_root t found some) (height_most (version_of image));
     root_bits = bits_root t found;
     pointer_bits = λ d k live. bits d k live (followed t (suc d) k found live);
     in_range = λ d k live. low d k live (followed t d k found live);
@@ -182,6 +184,7 @@ module _ (image : Image) (none : NoneFails image) where
   pub checks_suffice : IsFormatted image → IsWellFormed image
   checks_suffice formatted = record {
     formatted = formatted;
+    low = λ t r. low_root t (found_all t r);
     sound = λ t r. sound formatted.sized.at_least t (found_all t r);
     apart = λ t u b r q one two.
         let all : (t ≡ u) × (one.depth ≡ two.depth) × (one.index ≡ two.index) =
@@ -193,9 +196,9 @@ module _ (image : Image) (none : NoneFails image) where
     some_inodes = some_inodes;
     inumbers = λ i s j r n. in_file i s j (found_all i r) n;
     not_root = λ i s j r n one. none.none InodeTwice _ (root_named (subst (λ x. IsEntry image i s x (entry_place image i s 0)) one (entry i s j (found_all i r) n)));
-    named_once = λ i s k q j r p n m.
+    named_once = λ i s k q j r p n m kind.
         one_entry i s j k q j (found_all i r) (found_all k p) n m
-        (is_equal _ _ (λ ne. none.none InodeTwice _ (inode_twice (entry i s j (found_all i r) n) (entry k q j (found_all k p) m) ne)));
+        (is_equal _ _ (λ ne. none.none InodeTwice _ (inode_twice (entry i s j (found_all i r) n) (entry k q j (found_all k p) m) ne (found_all j (by_name s r n)) kind)));
     kinds = λ i r. kinds i (found_all (suc i) r) (cases_eq (kind_of image (suc i)) 1) (cases_eq (kind_of image (suc i)) 2);
     root_kind = is_equal _ _ (λ other. none.none Kind _ (root_kind root_found other refl));
     directory_sizes = λ i r directory. is_equal _ _ (λ odd. none.none DirectorySize _ (directory_size (found_all i r) directory odd refl));

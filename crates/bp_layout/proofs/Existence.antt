@@ -7,7 +7,7 @@ use Rattle.std.proofs.lemmas.Map.Steps.{length-le_from_distinct_below}
 use Rattle.bp_layout.proofs.Reached.{reached-in_file}
 use Rattle.bp_layout.proofs.View.{lookup_from-reached}
 use Rattle.bp_layout.specs.Words.{Image}
-use Rattle.bp_layout.specs.Inode.{size_of, inode_count}
+use Rattle.bp_layout.specs.Inode.{IsDirectory, size_of, inode_count}
 use Rattle.bp_layout.specs.Directory.{Name, name_at, slots}
 use Rattle.bp_layout.specs.Lookup.{Path, lookup}
 use Rattle.bp_layout.specs.Reached.IsReached.{root_directory}
@@ -77,21 +77,22 @@ module _ (image : Image) (wf : IsWellFormed image) where
   inodes_of none i = i ∷ []
   inodes_of (more {path = p} b name) i = i ∷ inodes_of b (unwrap_or (lookup image p) 0)
 
-  -- one of them stands at a path that is no longer
-  record OnTheWay (n q : ℕ) : Type 0 where
+  -- one of them stands at a path that is no longer; all but the last are directories
+  record OnTheWay (i n q : ℕ) : Type 0 where
     path : Path
     found : lookup image path ≡ Some q
     short : length path ≤ n
+    directory : IsDirectory image i → IsDirectory image q
 
-  on_the_way : (path : Path) (b : ByLast path) (i q : ℕ) → lookup image path ≡ Some i → Has (inodes_of b i) q → OnTheWay (length path) q
+  on_the_way : (path : Path) (b : ByLast path) (i q : ℕ) → lookup image path ≡ Some i → Has (inodes_of b i) q → OnTheWay i (length path) q
   unfolding inodes_of
-  on_the_way _ none i q e (inl h) = record { path = []; found = e ∙ ap Some h; short = omega arith }
+  on_the_way _ none i q e (inl h) = record { path = []; found = e ∙ ap Some h; short = omega arith; directory = λ kind. subst (IsDirectory image) h kind }
   on_the_way _ none i q e (inr h) = absurd h
-  on_the_way _ (more {path = p} b name) i q e (inl h) = record { path = p ++ name ∷ []; found = e ∙ ap Some h; short = omega arith }
+  on_the_way _ (more {path = p} b name) i q e (inl h) = record { path = p ++ name ∷ []; found = e ∙ ap Some h; short = omega arith; directory = λ kind. subst (IsDirectory image) h kind }
   on_the_way _ (more {path = p} b name) i q e (inr h) =
       let step : LastStep image wf p name i = last_step image wf p name i e in
-      let before : OnTheWay (length p) q = on_the_way p b step.parent q step.found (rw (step.found) at h) in
-      record { path = before.path; found = before.found; short = omega (arith, before.short, length-append p (name ∷ [])) }
+      let before : OnTheWay step.parent (length p) q = on_the_way p b step.parent q step.found (rw (step.found) at h) in
+      record { path = before.path; found = before.found; short = omega (arith, before.short, length-append p (name ∷ [])); directory = λ kind. before.directory step.shows.entry.directory }
 
   differ : (path : Path) (b : ByLast path) (i : ℕ) → lookup image path ≡ Some i → AreApart (inodes_of b i)
   unfolding inodes_of
@@ -100,8 +101,8 @@ module _ (image : Image) (wf : IsWellFormed image) where
       let step : LastStep image wf p name i = last_step image wf p name i e in
       rw step.found (apart-more i (inodes_of b step.parent)
       (λ h.
-      let before : OnTheWay (length p) i = on_the_way p b step.parent i step.found h in
-      let same : before.path ≡ p ++ name ∷ [] = path_once image wf before.path (p ++ name ∷ []) i before.found e in
+      let before : OnTheWay step.parent (length p) i = on_the_way p b step.parent i step.found h in
+      let same : before.path ≡ p ++ name ∷ [] = path_once image wf before.path (p ++ name ∷ []) i before.found e (before.directory step.shows.entry.directory) in
       omega (arith, before.short, ap length same, length-append p (name ∷ [])))
       (differ p b step.parent step.found))
 
@@ -116,7 +117,7 @@ module _ (image : Image) (wf : IsWellFormed image) where
       let most : length (inodes_of (by_last path) i) ≤ inode_count image =
       at_most (inodes_of (by_last path) i) (inode_count image) (differ path (by_last path) i e)
       (λ q h.
-      let at : OnTheWay (length path) q = on_the_way path (by_last path) i q e h in
+      let at : OnTheWay i (length path) q = on_the_way path (by_last path) i q e h in
       reached-in_file image wf q (lookup_from-reached image 1 q at.path root_directory at.found)) in
       omega (arith, most, length-inodes_of path (by_last path) i)
 

@@ -1,13 +1,19 @@
--- A formatted image is well-formed and shows the root directory alone.
+-- A formatted image is well-formed, of its version, and shows the root directory alone.
 use Rattle.std.proofs.Common.{◌≡◌, ◌⊎◌, ℕ, suc, ◌+◌, ◌*◌, ◌%◌, ◌<◌, ◌≤◌, [], ◌∷◌, length, None, Some, refl, sym, ◌∙◌, ap, subst, suc-ne-zero, arith, inl, inr}
-use Rattle.bp_layout.specs.Words.{Image, word, block_count, block_of, slot_word}
+use Rattle.bp_layout.specs.Words.{Image, word, block_count, block_of, height_of, slot_word}
 use Rattle.bp_layout.specs.Tree.{HasBlock, IsSound}
 use Rattle.bp_layout.specs.Inode.{kind_of, root_of, size_of, inode_word}
 use Rattle.bp_layout.specs.Directory.{EntryNames, Name, lookup_in, entry_count}
 use Rattle.bp_layout.specs.Reached.{IsReached}
 use Rattle.bp_layout.specs.Reached.IsReached.{inode_file, root_directory, named}
 use Rattle.bp_layout.specs.WellFormed.{IsWellFormed}
-use Rattle.bp_limits.specs.Limits.{magic}
+use Rattle.bp_layout.specs.Whole.{IsFileSystem}
+use Rattle.bp_layout.proofs.NoSecond.{alone_file_system}
+use Rattle.bp_limits.specs.declared.version.Version.{Version}
+use Rattle.bp_limits.specs.declared.version.Version.TheVariants.{One, Two}
+use Rattle.bp_limits.specs.Limits.{greatest_height, magic, version_at}
+use Rattle.bp_limits.proofs.Versions.{version_marked}
+use Rattle.bp_layout.specs.Formatted.{version_of}
 use Rattle.bp_layout.specs.Lookup.{Path, shown}
 use Rattle.bp_layout.specs.Lookup.Node.{dir}
 use Rattle.bp_layout.specs.Format.{format_stores, formatted}
@@ -15,33 +21,57 @@ use Rattle.bp_layout.proofs.LastValue.{AllWithinImage, length-after_stores, word
 use Rattle.bp_layout.proofs.SmallTrees.{none_live, empty_sound, empty_has_none, content_word-leaf, leaf_sound, leaf_full}
 
 -- what the words of a format say, for any image that has them
-pub record HasFormat (image : Image) : Type 0 where
-  pub marked : word image 0 ≡ magic
+pub record HasFormat (image : Image) (version : Version) : Type 0 where
+  pub marked : word image 0 ≡ magic version
   pub counted : word image 1 ≡ block_count image
   pub root : word image 2 ≡ 4096
   pub size : word image 3 ≡ 4096
+  pub no_second_root : version ≡ Two → word image 4 ≡ 0
+  pub no_second_size : version ≡ Two → word image 5 ≡ 0
   pub root_kind : word image 520 ≡ 2
   pub root_root : word image 521 ≡ 0
   pub root_size : word image 522 ≡ 0
 
-pub formatted_words : (image : Image) (blocks : ℕ) → length image ≡ 512 * blocks → 8 ≤ blocks → HasFormat (formatted image blocks)
-formatted_words image blocks whole least =
-    let within : AllWithinImage (length image) (format_stores blocks) =
+pub formatted_words : (image : Image) (version : Version) (blocks : ℕ) → length image ≡ 512 * blocks → 8 ≤ blocks → HasFormat (formatted image version blocks) version
+formatted_words image One blocks whole least =
+    let within : AllWithinImage (length image) (format_stores One blocks) =
     omega arith in
-    let same : length (formatted image blocks) ≡ length image = length-after_stores image (format_stores blocks) in
-    let stored = λ (place : ℕ). word-after_stores image (format_stores blocks) place within in
-    let number : blocks ≡ block_count (formatted image blocks) = omega (arith, same) in
+    let same : length (formatted image One blocks) ≡ length image = length-after_stores image (format_stores One blocks) in
+    let stored = λ (place : ℕ). word-after_stores image (format_stores One blocks) place within in
+    let number : blocks ≡ block_count (formatted image One blocks) = omega (arith, same) in
     record {
       marked = stored 0;
       counted = stored 1 ∙ number;
       root = stored 2;
       size = stored 3;
+      no_second_root = λ e. absurd (cc);
+      no_second_size = λ e. absurd (cc);
+      root_kind = stored 520;
+      root_root = stored 521;
+      root_size = stored 522;
+    }
+formatted_words image Two blocks whole least =
+    let within : AllWithinImage (length image) (format_stores Two blocks) =
+    omega arith in
+    let same : length (formatted image Two blocks) ≡ length image = length-after_stores image (format_stores Two blocks) in
+    let stored = λ (place : ℕ). word-after_stores image (format_stores Two blocks) place within in
+    let number : blocks ≡ block_count (formatted image Two blocks) = omega (arith, same) in
+    record {
+      marked = stored 0;
+      counted = stored 1 ∙ number;
+      root = stored 2;
+      size = stored 3;
+      no_second_root = λ e. stored 4;
+      no_second_size = λ e. stored 5;
       root_kind = stored 520;
       root_root = stored 521;
       root_size = stored 522;
     }
 
-module _ (image : Image) (has : HasFormat image) where
+module _ (image : Image) (version : Version) (has : HasFormat image version) where
+  pub version-is : version_of image ≡ version
+  version-is = ap version_at has.marked ∙ version_marked version
+
   inode_file_root : root_of image 0 ≡ 4096
   inode_file_root = has.root
 
@@ -111,13 +141,18 @@ module _ (image : Image) (has : HasFormat image) where
       go (inl e) = absurd (suc-ne-zero i e)
       go (inr e) = let zeroth : i ≡ 0 = omega (arith, e) in subst (λ (n : ℕ). kind_of image (suc n) ≡ 2) (sym zeroth) root_kind-is
 
-  pub format_well_formed : length image ≡ 512 * block_count image → 8 ≤ block_count image → block_count image ≤ 16384 → IsWellFormed image
+  low_root : (t : ℕ) → IsReached image t → 0 < size_of image t → height_of (root_of image t) ≤ greatest_height (version_of image)
+  low_root = each_tree (λ t. 0 < size_of image t → height_of (root_of image t) ≤ greatest_height (version_of image))
+      (λ some. rw has.root (omega arith)) (λ some. omega (arith, some, root_size-is))
+
+  pub format_well_formed : length image ≡ 512 * block_count image → 8 ≤ block_count image → block_count image ≤ 65536 → IsWellFormed image
   format_well_formed whole least most = record {
     formatted = record {
       sized = record { whole = whole; at_least = least; at_most = most };
-      marked = has.marked;
+      marked = has.marked ∙ ap magic (sym version-is);
       counted = has.counted;
     };
+    low = low_root;
     sound = each_tree (λ t. IsSound image (root_of image t) (size_of image t)) (inode_file_sound least) root_sound;
     apart = λ t u b r q one two. blocks_apart t u b (two_reached t r) (two_reached u q) one two;
     full_inode_file = leaf_full image (word image 2) (word image 3) (rw has.root refl) (rw has.root (omega arith)) (rw has.size (omega arith));
@@ -126,7 +161,7 @@ module _ (image : Image) (has : HasFormat image) where
     some_inodes = rw has.size (omega arith);
     inumbers = λ i s j r n. absurd (no_name i s j r n);
     not_root = λ i s j r n. absurd (no_name i s j r n);
-    named_once = λ i s k q j r p n m. absurd (no_name i s j r n);
+    named_once = λ i s k q j r p n m kind. absurd (no_name i s j r n);
     kinds = λ i r. rw (kind_is i r) (omega arith, omega arith);
     root_kind = root_kind-is;
     directory_sizes = λ i r kind. rw (size_is i r kind) refl;
@@ -143,16 +178,28 @@ module _ (image : Image) (has : HasFormat image) where
   shows_no_name : (name : Name) (path : Path) → shown image (name ∷ path) ≡ None
   shows_no_name name path = rw (finds_none name) refl
 
-module _ (image : Image) (blocks : ℕ) (whole : length image ≡ 512 * blocks) (least : 8 ≤ blocks) (most : blocks ≤ 16384) where
-  -- a format over any words is well formed
-  pub formatted_well_formed : IsWellFormed (formatted image blocks)
+-- a format over any words has the mark of its version
+pub formatted_version : (image : Image) (version : Version) (blocks : ℕ) → length image ≡ 512 * blocks → 8 ≤ blocks → version_of (formatted image version blocks) ≡ version
+formatted_version image version blocks whole least = version-is (formatted image version blocks) version (formatted_words image version blocks whole least)
+
+module _ (image : Image) (version : Version) (blocks : ℕ) (whole : length image ≡ 512 * blocks) (least : 8 ≤ blocks) (most : blocks ≤ 65536) where
+  -- it is well formed
+  pub formatted_well_formed : IsWellFormed (formatted image version blocks)
   formatted_well_formed =
-      let same : length (formatted image blocks) ≡ length image = length-after_stores image (format_stores blocks) in
-      format_well_formed (formatted image blocks) (formatted_words image blocks whole least) (omega (arith, same)) (omega (arith, same)) (omega (arith, same))
+      let same : length (formatted image version blocks) ≡ length image = length-after_stores image (format_stores version blocks) in
+      format_well_formed (formatted image version blocks) version (formatted_words image version blocks whole least) (omega (arith, same)) (omega (arith, same)) (omega (arith, same))
+
+  -- and a file system
+  pub formatted_file_system : IsFileSystem (formatted image version blocks)
+  formatted_file_system =
+      let has : HasFormat (formatted image version blocks) version = formatted_words image version blocks whole least in
+      let is : version_of (formatted image version blocks) ≡ version = formatted_version image version blocks whole least in
+      alone_file_system (formatted image version blocks) formatted_well_formed
+      (record { root = λ two. has.no_second_root (sym is ∙ two); size = λ two. has.no_second_size (sym is ∙ two) })
 
   -- and shows the root directory alone
-  pub shown_formatted_root : shown (formatted image blocks) [] ≡ Some dir
-  shown_formatted_root = shows_root (formatted image blocks) (formatted_words image blocks whole least)
+  pub shown_formatted_root : shown (formatted image version blocks) [] ≡ Some dir
+  shown_formatted_root = shows_root (formatted image version blocks) version (formatted_words image version blocks whole least)
 
-  pub shown_formatted_else : (name : Name) (path : Path) → shown (formatted image blocks) (name ∷ path) ≡ None
-  shown_formatted_else = shows_no_name (formatted image blocks) (formatted_words image blocks whole least)
+  pub shown_formatted_else : (name : Name) (path : Path) → shown (formatted image version blocks) (name ∷ path) ≡ None
+  shown_formatted_else = shows_no_name (formatted image version blocks) version (formatted_words image version blocks whole least)

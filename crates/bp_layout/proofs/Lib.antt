@@ -2,9 +2,9 @@ pub mod Reached
 pub mod TreeLaws
 pub mod Finding
 pub mod View
+pub mod BesideTrees
 pub mod LastValue
 pub mod SmallTrees
-pub mod Format
 pub mod LookupLaws
 pub mod Paths
 pub mod Addresses
@@ -15,6 +15,9 @@ pub mod ChecksLaws
 pub mod OnePlace
 pub mod OncePointer
 pub mod ChecksSuffice
+pub mod NoSecond
+pub mod Format
+pub mod Upgrade
 pub mod FewLeaves
 pub mod WordBytes
 pub mod NameBytes
@@ -22,3 +25,5 @@ pub mod SameLaws
 pub mod Parts
 pub mod Pieces
 pub mod ListedLaws
+pub mod TreeImages
+pub mod ThawLaws

@@ -1,10 +1,11 @@
--- Paths from the root: each reached inode has one, and what a new name makes of them.
+-- Paths from the root: each reached directory has one, and what a new name makes of them.
 use Rattle.std.proofs.Common.{◌≡◌, ◌⊎◌, ℕ, [], ◌∷◌, ◌++◌, Bool, true, false, Option, None, Some, option_and_then, bytes_eq, refl, sym, ◌∙◌, ap, ap₂, subst₂, inl, inr}
 use Rattle.std.specs.Option.{option_map}
 use Rattle.std.proofs.lemmas.Bool.{cases_eq}
 use Rattle.std.specs.Cmp.Lexicographic.{same_text, other_text}
 use Rattle.bp_layout.specs.Words.{Image}
 use Rattle.bp_layout.specs.Directory.{Name, name_at, lookup_in}
+use Rattle.bp_layout.specs.Inode.{IsDirectory}
 use Rattle.bp_layout.specs.Reached.{IsReached}
 use Rattle.bp_layout.specs.Reached.IsReached.{root_directory}
 use Rattle.bp_layout.specs.Lookup.{Path, lookup_from, lookup, node_of, shown}
@@ -71,27 +72,28 @@ module _ (image : Image) (wf : IsWellFormed image) where
       let step : LastStep path name i = last_step path name i e in
       wf.not_root step.parent step.shows.slot i step.reached step.shows.entry one
 
-  one_path : (p q : Path) → ByLast p → ByLast q → (i : ℕ) → lookup image p ≡ Some i → lookup image q ≡ Some i → p ≡ q
-  one_path _ _ none none i e f = refl
-  one_path _ _ none (more {path = q} before name) i e f = let root : 1 ≡ i = cc in absurd (not_root q name i f (sym root))
-  one_path _ _ (more {path = p} before name) none i e f = let root : 1 ≡ i = cc in absurd (not_root p name i e (sym root))
-  one_path _ _ (more {path = p} before name) (more {path = q} also other) i e f =
+  one_path : (p q : Path) → ByLast p → ByLast q → (i : ℕ) → lookup image p ≡ Some i → lookup image q ≡ Some i → IsDirectory image i → p ≡ q
+  one_path _ _ none none i e f kind = refl
+  one_path _ _ none (more {path = q} before name) i e f kind = let root : 1 ≡ i = cc in absurd (not_root q name i f (sym root))
+  one_path _ _ (more {path = p} before name) none i e f kind = let root : 1 ≡ i = cc in absurd (not_root p name i e (sym root))
+  one_path _ _ (more {path = p} before name) (more {path = q} also other) i e f kind =
       let left : LastStep p name i = last_step p name i e in
       let right : LastStep q other i = last_step q other i f in
       let same : (left.parent ≡ right.parent) × (left.shows.slot ≡ right.shows.slot) =
-      wf.named_once left.parent left.shows.slot right.parent right.shows.slot i left.reached right.reached left.shows.entry right.shows.entry in
+      wf.named_once left.parent left.shows.slot right.parent right.shows.slot i left.reached right.reached left.shows.entry right.shows.entry kind in
       let names : name ≡ other = sym left.shows.spelled ∙ ap₂ (λ x y. name_at image x y) same.0 same.1 ∙ right.shows.spelled in
-      ap₂ (λ x y. x ++ y ∷ []) (one_path p q before also left.parent left.found (right.found ∙ ap Some (sym same.0))) names
+      ap₂ (λ x y. x ++ y ∷ []) (one_path p q before also left.parent left.found (right.found ∙ ap Some (sym same.0)) left.shows.entry.directory) names
 
-  -- each inode stands at one path
-  pub path_once : (p q : Path) (i : ℕ) → lookup image p ≡ Some i → lookup image q ≡ Some i → p ≡ q
-  path_once p q i e f = one_path p q (by_last p) (by_last q) i e f
+  -- each directory stands at one path
+  pub path_once : (p q : Path) (i : ℕ) → lookup image p ≡ Some i → lookup image q ≡ Some i → IsDirectory image i → p ≡ q
+  path_once p q i e f kind = one_path p q (by_last p) (by_last q) i e f kind
 
 -- ---- a new name in one directory
 
 -- the second image has one more name, for an inode that names nothing
 pub record AddsName (old new : Image) (i : ℕ) (name : Name) (j : ℕ) : Type 0 where
   pub well_formed : IsWellFormed old
+  pub directory : IsDirectory old i
   pub missing : lookup_in old i name ≡ None
   pub added : lookup_in new i name ≡ Some j
   pub alone : (other : Name) → lookup_in new j other ≡ None
@@ -142,13 +144,13 @@ module _ (old new : Image) (i : ℕ) (name : Name) (j : ℕ) (adds : AddsName ol
       go rest (inr e) f = elsewhere rest (adds.others u first reached (λ x y. e x)) (lookup_in old u first) refl
 
   module _ (parent : Path) (at : lookup old parent ≡ Some i) where
-    stays : (path : Path) → (path ≡ parent ++ name ∷ [] → ⊥) → lookup new path ≡ lookup old path
+    pub stays : (path : Path) → (path ≡ parent ++ name ∷ [] → ⊥) → lookup new path ≡ lookup old path
     stays path other = go (there_or_same 1 path root_directory)
       where
         go : (lookup new path ≡ lookup old path) ⊎ EndsThere old new i name j 1 path → lookup new path ≡ lookup old path
         go (inl same) = same
         go (inr ends) =
-            let above : ends.above ≡ parent = path_once old adds.well_formed ends.above parent i ends.parent at in
+            let above : ends.above ≡ parent = path_once old adds.well_formed ends.above parent i ends.parent at adds.directory in
             absurd (other (ends.is ∙ ap (λ p. p ++ name ∷ []) above))
 
     parent_stays : lookup new parent ≡ Some i
@@ -158,11 +160,11 @@ module _ (old new : Image) (i : ℕ) (name : Name) (j : ℕ) (adds : AddsName ol
         go (inl same) = same ∙ at
         go (inr ends) = let none : ◌≡◌ {A = Option ℕ} None (Some i) = sym ends.before ∙ at in absurd (cc)
 
+    pub lookup_there : lookup new (parent ++ name ∷ []) ≡ Some j
+    lookup_there = lookup_from-append new 1 parent name ∙ rw parent_stays adds.added
+
     pub shown_there : shown new (parent ++ name ∷ []) ≡ Some (node_of new j)
-    shown_there =
-        let found : lookup new (parent ++ name ∷ []) ≡ Some j =
-        lookup_from-append new 1 parent name ∙ rw parent_stays adds.added in
-        rw found refl
+    shown_there = rw lookup_there refl
 
     pub shown_elsewhere : (path : Path) → (path ≡ parent ++ name ∷ [] → ⊥) → shown new path ≡ shown old path
     shown_elsewhere path other = rw (stays path other) (go (lookup old path) refl)

@@ -8,7 +8,7 @@ use Rattle.bp_layout.specs.Inode.{kind_of, root_of, size_of}
 use Rattle.bp_layout.specs.Directory.{Name, EntryNames, name_at, inumber_at, entry_count, is_named, slot_named, lookup_in}
 use Rattle.bp_layout.specs.Reached.{IsReached}
 use Rattle.bp_layout.specs.Reached.IsReached.{root_directory, named}
-use Rattle.bp_layout.specs.Lookup.{Path, lookup_from, node_of, shown}
+use Rattle.bp_layout.specs.Lookup.{Path, lookup_from, node_of, shown, if_file, file_at, find_one, are_one}
 use Rattle.bp_layout.specs.Lookup.Node.{file}
 use Rattle.bp_layout.proofs.Finding.{find-same, Finds, find-passes}
 
@@ -113,3 +113,14 @@ shown-same old new same path = rw (lookup_from-same old new same.directories 1 p
     go : (found : Option ℕ) → lookup_from old 1 path ≡ found → option_map (node_of new) found ≡ option_map (node_of old) found
     go None e = refl
     go (Some i) e = ap Some (node_of-same old new same i (lookup_from-reached old 1 i path root_directory e))
+
+-- and which paths are one file
+pub file_at-same : (old new : Image) → SameDirectories old new → (path : Path) → file_at new path ≡ file_at old path
+file_at-same old new same path = rw (lookup_from-same old new same 1 path root_directory) (go (lookup_from old 1 path) refl)
+  where
+    go : (found : Option ℕ) → lookup_from old 1 path ≡ found → option_and_then (if_file new) found ≡ option_and_then (if_file old) found
+    go None e = refl
+    go (Some i) e = rw (same.kind i (lookup_from-reached old 1 i path root_directory e)) refl
+
+pub find_one-same : (old new : Image) → SameDirectories old new → (p q : Path) → find_one new p q ≡ find_one old p q
+find_one-same old new same p q = λ i. are_one (file_at-same old new same p i) (file_at-same old new same q i)

@@ -2,12 +2,13 @@
 -- range, and trees whose height holds their size.
 use Rattle.std.specs.Prelude.{◌≡◌, ◌≢◌, ◌⊎◌, ℕ, zero, suc, ◌+◌, ◌*◌, ◌/◌, ◌%◌, ◌<◌, ◌≤◌}
 use Rattle.bp_layout.specs.Words.{Image, block_count, height_of}
-use Rattle.bp_limits.specs.Limits.{block_size, block_words, directory_kind, entry_size, entry_words, file_kind, inode_words, max_height, root_inumber, super_root, super_size}
+use Rattle.bp_layout.specs.Formatted.{version_of}
+use Rattle.bp_limits.specs.Limits.{block_size, block_words, directory_kind, entry_size, entry_words, file_kind, greatest_height, inode_words, root_inumber, super_root, super_size}
 use Rattle.bp_layout.specs.Tree.{word_at, node, place_of, covered, IsLivePointer}
 use Rattle.bp_layout.specs.Inode.{IsDirectory, inode_count, kind_of, root_of, size_of}
 use Rattle.bp_layout.specs.Directory.{EntryNames, IsName, name_at}
 use Rattle.bp_layout.specs.declared.check.Check.{Check}
-use Rattle.bp_layout.specs.declared.check.Check.TheVariants.{Height, PointerBits, Range, BlockTwice, Hole, InodeFileSize, Inumber, InodeTwice, Kind, DirectorySize, Capacity, NameForm, NameTwice}
+use Rattle.bp_layout.specs.declared.check.Check.TheVariants.{Height, PointerBits, Range, BlockTwice, Hole, InodeFileSize, Inumber, InodeTwice, Kind, DirectorySize, Capacity, NameForm, NameTwice, SecondFile}
 
 -- the number of a check in the list of docs/format.md
 abbrev pub number_of : Check → ℕ
@@ -24,10 +25,12 @@ number_of DirectorySize = 10
 number_of Capacity = 11
 number_of NameForm = 12
 number_of NameTwice = 13
+number_of SecondFile = 14
 
 -- the pointer at a depth and number is in form and in range
 abbrev pub Passes : Image → ℕ → ℕ → ℕ → Type 0
-Passes image root zero index = (root % block_size ≤ max_height) × (node image root zero index < block_count image)
+Passes image root zero index =
+    (root % block_size ≤ greatest_height (version_of image)) × (node image root zero index < block_count image)
 Passes image root (suc depth) index =
     (word_at image root (suc depth) index % block_size ≡ 0) × (node image root (suc depth) index < block_count image)
 
@@ -86,7 +89,8 @@ pub record IsEntry (image : Image) (i slot j place : ℕ) : Type 0 where
 
 -- this check fails at this place
 pub data Fails (image : Image) : Check → ℕ → Type 0 where
-  height : {t p : ℕ} → IsPointer image t 0 0 p → max_height < height_of (root_of image t) → Fails image Height p
+  height : {t p : ℕ} → IsPointer image t 0 0 p → greatest_height (version_of image) < height_of (root_of image t)
+      → Fails image Height p
   root_bits : {t p : ℕ} → IsPointer image t 0 0 p → root_of image t / 8 % 512 ≢ 0 → Fails image PointerBits p
   pointer_bits : {t d k p : ℕ} → IsPointer image t (suc d) k p
       → word_at image (root_of image t) (suc d) k % block_size ≢ 0 → Fails image PointerBits p
@@ -101,7 +105,8 @@ pub data Fails (image : Image) : Check → ℕ → Type 0 where
       → Fails image InodeFileSize super_size
   inumber : {i s j p : ℕ} → IsEntry image i s j p → inode_count image ≤ j → Fails image Inumber p
   root_named : {i s p : ℕ} → IsEntry image i s root_inumber p → Fails image InodeTwice p
-  inode_twice : {i s j p k r q : ℕ} → IsEntry image i s j p → IsEntry image k r j q → p ≢ q → Fails image InodeTwice p
+  inode_twice : {i s j p k r q : ℕ} → IsEntry image i s j p → IsEntry image k r j q → p ≢ q → IsFound image j
+      → IsDirectory image j → Fails image InodeTwice p
   kind : {i p : ℕ} → IsFound image (suc i) → kind_of image (suc i) ≢ file_kind → kind_of image (suc i) ≢ directory_kind
       → inode_place image (suc i) 0 ≡ p → Fails image Kind p
   root_kind : {p : ℕ} → IsFound image root_inumber → kind_of image root_inumber ≢ directory_kind

@@ -2,15 +2,15 @@
 use Rattle.std.specs.Prelude.{◌≡◌, ℕ, ◌+◌, ◌*◌, ◌/◌, ◌%◌, ◌≤◌, List, [], ◌∷◌, map, slice_index}
 use Rattle.std.specs.List.{range_with_len}
 use Rattle.bp_layout.specs.Words.{byte_of, height_of}
-use Rattle.bp_limits.specs.Limits.{block_size, directory_kind, file_kind, max_height}
+use Rattle.bp_limits.specs.Limits.{block_size, directory_kind, file_kind}
 use Rattle.bp_layout.specs.declared.fields.Kind.{Kind}
 use Rattle.bp_layout.specs.declared.fields.Kind.TheVariants.{File, Dir}
 use Rattle.bp_layout.specs.declared.fields.Super.{Super}
 use Rattle.bp_layout.specs.declared.fields.Inode.{Inode}
 
--- A root word has a height in bits 0 to 2, and a block in bits 12 to 63. Bits 3 to 11 are zero.
-abbrev pub IsRootWord : ℕ → Type 0
-IsRootWord word = (height_of word ≤ max_height) × (word / 8 % 512 ≡ 0)
+-- A root word has a height in bits 0 to 2, which is at most `top`, and a block in bits 12 to 63. Bits 3 to 11 are zero.
+abbrev pub IsRootWord : ℕ → ℕ → Type 0
+IsRootWord top word = (height_of word ≤ top) × (word / 8 % 512 ≡ 0)
 
 abbrev pub root_word : ℕ → ℕ → ℕ
 root_word height block = block_size * block + height

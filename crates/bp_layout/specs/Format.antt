@@ -1,20 +1,43 @@
--- The stores of a format, in their order.
-use Rattle.std.specs.Prelude.{ℕ, List, [], ◌∷◌, flat_map}
+-- The stores of a format, in their order, and those of an upgrade.
+use Rattle.std.specs.Prelude.{ℕ, List, [], ◌∷◌, ◌++◌, flat_map}
 use Rattle.bp_layout.specs.Words.{Image}
-use Rattle.bp_limits.specs.Limits.{block_size, magic, super_blocks, super_magic, super_root, super_size}
+use Rattle.bp_limits.specs.declared.version.Version.{Version}
+use Rattle.bp_limits.specs.declared.version.Version.TheVariants.{One, Two}
+use Rattle.bp_limits.specs.Limits.{block_size, magic, super_blocks, super_magic, super_root, super_second_root, super_second_size, super_size}
 use Rattle.bp_layout.specs.Stores.{after_stores}
 
+-- the words that version 2 keeps for a second inode file, where there is none
+abbrev pub no_second : List (ℕ × ℕ)
+no_second = (super_second_root, 0) ∷ (super_second_size, 0) ∷ []
+
+abbrev pub kept_words : Version → List (ℕ × ℕ)
+kept_words One = []
+kept_words Two = no_second
+
 -- the words of an empty file system of so many blocks, but for the mark
-abbrev pub empty_words : ℕ → List (ℕ × ℕ)
-empty_words blocks =
-    (super_blocks, blocks) ∷ (super_root, 0x1000) ∷ (super_size, block_size) ∷ (520, 2) ∷ (521, 0) ∷ (522, 0) ∷ []
+abbrev pub empty_words : Version → ℕ → List (ℕ × ℕ)
+empty_words version blocks = (super_blocks, blocks) ∷ (super_root, 0x1000) ∷ (super_size, block_size) ∷ []
+    ++ kept_words version ++ (520, 2) ∷ (521, 0) ∷ (522, 0) ∷ []
 
 -- The mark goes, the words of an empty file system are stored, and the mark comes back, each in an epoch of its own.
-abbrev pub format_epochs : ℕ → List (List (ℕ × ℕ))
-format_epochs blocks = ((super_magic, 0) ∷ []) ∷ empty_words blocks ∷ ((super_magic, magic) ∷ []) ∷ []
+abbrev pub format_epochs : Version → ℕ → List (List (ℕ × ℕ))
+format_epochs version blocks =
+    ((super_magic, 0) ∷ []) ∷ empty_words version blocks ∷ ((super_magic, magic version) ∷ []) ∷ []
 
-abbrev pub format_stores : ℕ → List (ℕ × ℕ)
-format_stores blocks = flat_map (λ stores. stores) (format_epochs blocks)
+abbrev pub format_stores : Version → ℕ → List (ℕ × ℕ)
+format_stores version blocks = flat_map (λ stores. stores) (format_epochs version blocks)
 
-abbrev pub formatted : Image → ℕ → Image
-formatted image blocks = after_stores image (format_stores blocks)
+abbrev pub formatted : Image → Version → ℕ → Image
+formatted image version blocks = after_stores image (format_stores version blocks)
+
+-- ---- an upgrade of version 1
+
+-- The words that version 2 keeps are stored, and then its mark.
+abbrev pub upgrade_epochs : List (List (ℕ × ℕ))
+upgrade_epochs = no_second ∷ ((super_magic, magic Two) ∷ []) ∷ []
+
+abbrev pub upgrade_stores : List (ℕ × ℕ)
+upgrade_stores = flat_map (λ stores. stores) upgrade_epochs
+
+abbrev pub upgraded : Image → Image
+upgraded image = after_stores image upgrade_stores

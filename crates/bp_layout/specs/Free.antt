@@ -1,5 +1,6 @@
--- The free blocks and inodes of an image. A set of numbers is told by a test of each number.
-use Rattle.std.specs.Prelude.{◌≡◌, List, ℕ, ◌<◌, ◌≤◌, length, filter, Bool, true}
+-- The free blocks and inodes of an image. A set of numbers is told by a test of each number. Some blocks may be kept
+-- besides those that trees have: those of a snapshot.
+use Rattle.std.specs.Prelude.{◌≡◌, List, ℕ, ◌<◌, ◌≤◌, length, filter, Bool, true, Option, None, Some}
 use Rattle.std.specs.List.{range_with_len}
 use Rattle.bp_layout.specs.Words.{Image, block_count}
 use Rattle.bp_layout.specs.Inode.{inode_count, size_of}
@@ -15,14 +16,14 @@ pub record IsUnused (image : Image) (Tree : ℕ → Type 0) (i : ℕ) : Type 0 w
 abbrev pub IsFreeInode : Image → ℕ → Type 0
 IsFreeInode image = IsUnused image (IsReached image)
 
--- the set has just the blocks that none of these trees has, under a size for each
-pub record AreUnheld (image : Image) (Tree : ℕ → Type 0) (bound : ℕ → ℕ) (set : ℕ → Bool) : Type 0 where
-  pub free : (b : ℕ) → set b ≡ true → IsUnheld image Tree bound b
-  pub all : (b : ℕ) → IsUnheld image Tree bound b → set b ≡ true
+-- the set has just the blocks that none of these trees has, under a size for each, and that are not kept
+pub record AreUnheld (image : Image) (Tree : ℕ → Type 0) (bound : ℕ → ℕ) (kept set : ℕ → Bool) : Type 0 where
+  pub free : (b : ℕ) → set b ≡ true → IsUnheld image Tree bound kept b
+  pub all : (b : ℕ) → IsUnheld image Tree bound kept b → set b ≡ true
 
 -- so just the free blocks
-abbrev pub AreFreeBlocks : Image → (ℕ → Bool) → Type 0
-AreFreeBlocks image = AreUnheld image (IsReached image) (size_of image)
+abbrev pub AreFreeBlocks : Image → (ℕ → Bool) → (ℕ → Bool) → Type 0
+AreFreeBlocks image kept = AreUnheld image (IsReached image) (size_of image) kept
 
 -- the set has just the inodes that are none of these trees
 pub record AreUnused (image : Image) (Tree : ℕ → Type 0) (set : ℕ → Bool) : Type 0 where
@@ -38,12 +39,12 @@ abbrev pub numbers_below : ℕ → (ℕ → Bool) → List ℕ
 numbers_below bound set = filter set (range_with_len 0 bound)
 
 -- how many blocks are free
-pub record HasFree (image : Image) (count : ℕ) : Type 0 where
+pub record HasFree (image : Image) (kept : ℕ → Bool) (count : ℕ) : Type 0 where
   pub set : ℕ → Bool
-  pub are : AreFreeBlocks image set
+  pub are : AreFreeBlocks image kept set
   pub number : length (numbers_below (block_count image) set) ≡ count
 
--- whether an inode is free
-pub record TellsFreeInode (image : Image) (free : Bool) : Type 0 where
-  pub some : free ≡ true → (i : ℕ) × IsFreeInode image i
-  pub none : (i : ℕ) → IsFreeInode image i → free ≡ true
+-- the least inode that is free, where one is
+pub data IsLeastFree (image : Image) : Option ℕ → Type 0 where
+  some : {i : ℕ} → IsFreeInode image i → ((j : ℕ) → IsFreeInode image j → i ≤ j) → IsLeastFree image (Some i)
+  none : ((j : ℕ) → IsFreeInode image j → ⊥) → IsLeastFree image None

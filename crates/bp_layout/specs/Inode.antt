@@ -1,6 +1,6 @@
 -- The trees of an image have numbers: 0 is the inode file, and any other number is an inode's.
 use Rattle.std.specs.Prelude.{◌≡◌, ◌≢◌, ℕ, zero, suc, ◌+◌, ◌*◌, ◌/◌, ◌%◌}
-use Rattle.bp_limits.specs.Limits.{block_words, directory_kind, file_kind, inode_size, inode_words, super_root, super_size}
+use Rattle.bp_limits.specs.Limits.{block_words, directory_kind, file_kind, inode_size, inode_words, root_field, size_field, super_root, super_size}
 use Rattle.bp_layout.specs.Words.{Image, word, height_of}
 use Rattle.bp_layout.specs.Tree.{node, content_word}
 
@@ -21,11 +21,11 @@ IsDirectory image i = kind_of image i ≡ directory_kind
 
 abbrev pub root_of : Image → ℕ → ℕ
 root_of image zero = word image super_root
-root_of image (suc i) = inode_word image (suc i) 1
+root_of image (suc i) = inode_word image (suc i) root_field
 
 abbrev pub size_of : Image → ℕ → ℕ
 size_of image zero = word image super_size
-size_of image (suc i) = inode_word image (suc i) 2
+size_of image (suc i) = inode_word image (suc i) size_field
 
 abbrev pub inode_count : Image → ℕ
 inode_count image = size_of image 0 / inode_size

@@ -12,6 +12,8 @@ pub mod Formatted
 pub mod WellFormed
 pub mod Checks
 pub mod Same
+-- both trees
+pub mod Trees
 -- the fields of an image, as code reads and writes them
 pub mod Fields
 pub mod Listed
@@ -28,4 +30,7 @@ pub mod WordPaths
 pub mod Pieces
 pub mod Nodes
 pub mod Need
+pub mod Thaw
+pub mod Names
+pub mod Whole
 pub mod Members

@@ -1,5 +1,5 @@
 -- What an image shows at each path.
-use Rattle.std.specs.Prelude.{ℕ, List, [], ◌∷◌, ◌==◌, Option, Some, option_map, option_and_then, if◌then◌else◌}
+use Rattle.std.specs.Prelude.{ℕ, List, [], ◌∷◌, ◌==◌, Bool, false, Option, None, Some, option_map, option_and_then, if◌then◌else◌}
 use Rattle.bp_limits.specs.Limits.{root_inumber, file_kind}
 use Rattle.bp_layout.specs.Words.{Image}
 use Rattle.bp_layout.specs.Tree.{content}
@@ -27,3 +27,22 @@ node_of image i = if kind_of image i == file_kind then file (content image (root
 -- what stands at a path
 abbrev pub shown : Image → Path → Option Node
 shown image path = option_map (node_of image) (lookup image path)
+
+-- ---- which paths find one file
+
+-- the inode, where it is a file
+abbrev pub if_file : Image → ℕ → Option ℕ
+if_file image i = if kind_of image i == file_kind then Some i else None
+
+-- the file at a path
+abbrev pub file_at : Image → Path → Option ℕ
+file_at image path = option_and_then (if_file image) (lookup image path)
+
+-- both are there, and they are one
+abbrev pub are_one : Option ℕ → Option ℕ → Bool
+are_one (Some i) (Some j) = i == j
+are_one _ _ = false
+
+-- two paths find one file
+abbrev pub find_one : Image → Path → Path → Bool
+find_one image p q = are_one (file_at image p) (file_at image q)

@@ -1,5 +1,5 @@
 -- What a change touches, and how many blocks it needs.
-use Rattle.std.specs.Prelude.{ℕ, suc, ◌+◌, ◌-◌, ◌*◌, ◌/◌, min, max, List, [], ◌∷◌, ◌++◌, length, take, drop, map, filter, flat_map, Bool, false, not, ◌&&◌, ◌||◌, ◌==◌, nat_lt, nat_le, bytes_eq, Option, None, Some, if◌then◌else◌, fold}
+use Rattle.std.specs.Prelude.{ℕ, suc, ◌+◌, ◌-◌, ◌*◌, ◌/◌, min, max, List, [], ◌∷◌, ◌++◌, length, take, drop, map, filter, flat_map, Bool, not, ◌&&◌, ◌||◌, ◌==◌, nat_lt, nat_le, bytes_eq, Option, None, Some, if◌then◌else◌, fold}
 use Rattle.std.specs.List.{range_with_len, list_any}
 use Rattle.bp_limits.specs.Limits.{block_size, block_words, entry_size, entry_words}
 use Rattle.bp_layout.specs.Words.{Image, height_of}
@@ -8,14 +8,29 @@ use Rattle.bp_layout.specs.Inode.{root_of, size_of}
 use Rattle.bp_layout.specs.Directory.{empty_slot}
 use Rattle.bp_layout.specs.WordPaths.{WordPath, inode_path, tree_path}
 
+-- the inode that a new entry names
+pub data Entrant : Type 0 where
+  -- the least that is free
+  taken : ℕ → Entrant
+  -- the first of a new leaf of the inode file, where none is free
+  grown : Entrant
+  -- one that has a name already
+  linked : Entrant
+
+-- bytes below the size of an inode's tree
+pub record Stretch : Type 0 where
+  pub inode : ℕ
+  pub off : ℕ
+  pub len : ℕ
+
 -- a change of an image, by inodes and slots
 pub data Change : Type 0 where
   -- inode, offset, length
   writes : ℕ → ℕ → ℕ → Change
   -- inode, size
   resizes : ℕ → ℕ → Change
-  -- directory; whether an inode is free
-  enters : ℕ → Bool → Change
+  -- directory; what its new entry names
+  enters : ℕ → Entrant → Change
   -- directory, slot
   leaves : ℕ → ℕ → Change
   -- the source's directory and slot, the target's directory and slot
@@ -24,6 +39,8 @@ pub data Change : Type 0 where
   moves : ℕ → ℕ → ℕ → Change
   -- directory, slot, length of the new name
   respells : ℕ → ℕ → ℕ → Change
+  -- bytes of several files, or of one
+  overwrites : List Stretch → Change
 
 -- ---- preparation
 
@@ -43,13 +60,13 @@ beyond image (writes i off len) = if nat_lt (size_of image i) (off + len)
     then record { tree = i; from = max off (size_of image i); to = off + len } ∷ [] else []
 beyond image (resizes i size) =
     if nat_lt (size_of image i) size then record { tree = i; from = size; to = size } ∷ [] else []
-beyond image (enters i free) = new_entry image i (empty_slot image i)
+beyond image (enters i entrant) = new_entry image i (empty_slot image i)
 beyond image (moves i s j) = new_entry image j (empty_slot image j)
 beyond image _ = []
 
--- the inode file grows by a leaf, where no inode is free
+-- the inode file grows by a leaf, where an inode is wanted and none is free
 abbrev pub new_inodes : Image → Change → List Beyond
-new_inodes image (enters i false) = record { tree = 0; from = size_of image 0; to = size_of image 0 + block_size } ∷ []
+new_inodes image (enters i grown) = record { tree = 0; from = size_of image 0; to = size_of image 0 + block_size } ∷ []
 new_inodes image _ = []
 
 -- the nodes that are made for some bytes, each with its tree
@@ -73,34 +90,53 @@ height_after image change t =
     fold (λ h b. if b.tree == t then height_with (root_of image t) (size_of image t) b.to else h)
     (height_of (root_of image t)) (beyond image change ++ new_inodes image change)
 
+-- the paths where the trees have these heights
+abbrev pub content_path_at : (ℕ → ℕ) → ℕ → ℕ → WordPath
+content_path_at heights t index = tree_path (heights 0) t (suc (heights t)) index
+
+abbrev pub entry_path_at : (ℕ → ℕ) → ℕ → ℕ → ℕ → WordPath
+entry_path_at heights i slot f = content_path_at heights i (entry_words * slot + f)
+
+abbrev pub entered_at : (ℕ → ℕ) → ℕ → Option ℕ → WordPath
+entered_at heights i None = inode_path (heights 0) i 2
+entered_at heights i (Some slot) = entry_path_at heights i slot 0
+
+abbrev pub stretch_paths : (ℕ → ℕ) → Stretch → List WordPath
+stretch_paths heights s =
+    if s.len == 0 then [] else map (content_path_at heights s.inode)
+    (range_with_len (s.off / 8) (suc ((s.off + s.len - 1) / 8 - s.off / 8)))
+
+abbrev pub touched_at : (ℕ → ℕ) → Image → Change → List WordPath
+touched_at heights image (writes i off len) =
+    map (content_path_at heights i)
+    (if nat_lt off (size_of image i) then range_with_len (off / 8)
+    (suc ((min (off + len) (size_of image i) - 1) / 8 - off / 8)) else [])
+    ++ (if nat_lt (size_of image i) (off + len) then inode_path (heights 0) i 2 ∷ [] else [])
+touched_at heights image (resizes i size) = inode_path (heights 0) i 2 ∷ []
+touched_at heights image (enters i entrant) = entered_at heights i (empty_slot image i) ∷ []
+touched_at heights image (leaves i s) = entry_path_at heights i s 0 ∷ []
+touched_at heights image (replaces i s j r) = entry_path_at heights i s 0 ∷ entry_path_at heights j r 0 ∷ []
+touched_at heights image (moves i s j) =
+    entered_at heights j (empty_slot image j) ∷ entry_path_at heights i s 0 ∷ []
+touched_at heights image (respells i s len) =
+    map (entry_path_at heights i s) (range_with_len 1 (suc ((len + 7) / 8)))
+touched_at heights image (overwrites stretches) = flat_map (stretch_paths heights) stretches
+
+-- and those after the preparation
 abbrev pub inode_word_path : Image → Change → ℕ → ℕ → WordPath
 inode_word_path image change i f = inode_path (height_after image change 0) i f
 
 abbrev pub content_path : Image → Change → ℕ → ℕ → WordPath
-content_path image change t index = tree_path (height_after image change 0) t (suc (height_after image change t)) index
+content_path image change t index = content_path_at (height_after image change) t index
 
 abbrev pub entry_path : Image → Change → ℕ → ℕ → ℕ → WordPath
 entry_path image change i slot f = content_path image change i (entry_words * slot + f)
 
 abbrev pub entered : Image → Change → ℕ → Option ℕ → WordPath
-entered image change i None = inode_word_path image change i 2
-entered image change i (Some slot) = entry_path image change i slot 0
+entered image change i slot = entered_at (height_after image change) i slot
 
 abbrev pub touched : Image → Change → List WordPath
-touched image (writes i off len) =
-    map (content_path image (writes i off len) i)
-    (if nat_lt off (size_of image i) then range_with_len (off / 8)
-    (suc ((min (off + len) (size_of image i) - 1) / 8 - off / 8)) else [])
-    ++ (if nat_lt (size_of image i) (off + len) then inode_word_path image (writes i off len) i 2 ∷ [] else [])
-touched image (resizes i size) = inode_word_path image (resizes i size) i 2 ∷ []
-touched image (enters i free) = entered image (enters i free) i (empty_slot image i) ∷ []
-touched image (leaves i s) = entry_path image (leaves i s) i s 0 ∷ []
-touched image (replaces i s j r) =
-    entry_path image (replaces i s j r) i s 0 ∷ entry_path image (replaces i s j r) j r 0 ∷ []
-touched image (moves i s j) =
-    entered image (moves i s j) j (empty_slot image j) ∷ entry_path image (moves i s j) i s 0 ∷ []
-touched image (respells i s len) =
-    map (entry_path image (respells i s len) i s) (range_with_len 1 (suc ((len + 7) / 8)))
+touched image change = touched_at (height_after image change) image change
 
 -- ---- cover
 
@@ -179,7 +215,7 @@ copies_of there paths = prefixes_of (length (cover_of there paths)) [] paths
 abbrev pub copied : Image → Change → List WordPath
 copied image change = copies_of (is_there_after image change) (touched image change)
 
--- ---- need: how many blocks are taken
+-- ---- need: how many blocks are taken, besides those that are thawed
 
 -- for bytes at or past a size
 abbrev pub prep_count : Image → Change → ℕ

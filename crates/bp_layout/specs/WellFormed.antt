@@ -1,15 +1,18 @@
--- When an image is a file system.
+-- When the first tree of an image is one of files and directories.
 use Rattle.std.specs.Prelude.{◌≡◌, ◌≢◌, ℕ, suc, ◌%◌, ◌<◌, ◌≤◌}
-use Rattle.bp_layout.specs.Words.{Image}
+use Rattle.bp_layout.specs.Words.{Image, height_of}
 use Rattle.bp_layout.specs.Tree.{HasBlock, IsSound, IsFull}
 use Rattle.bp_layout.specs.Inode.{IsDirectory, inode_count, kind_of, root_of, size_of}
 use Rattle.bp_layout.specs.Directory.{EntryNames, IsName, name_at}
 use Rattle.bp_layout.specs.Reached.{IsReached}
-use Rattle.bp_layout.specs.Formatted.{IsFormatted}
-use Rattle.bp_limits.specs.Limits.{block_size, entry_size, root_inumber}
+use Rattle.bp_layout.specs.Formatted.{IsFormatted, version_of}
+use Rattle.bp_limits.specs.Limits.{block_size, entry_size, greatest_height, root_inumber}
 
 pub record IsWellFormed (image : Image) : Type 0 where
   pub formatted : IsFormatted image
+  -- no tree is higher than those of the image's version
+  pub low : (t : ℕ) → IsReached image t → 0 < size_of image t
+      → height_of (root_of image t) ≤ greatest_height (version_of image)
   -- each tree by itself, and no block in two
   pub sound : (t : ℕ) → IsReached image t → IsSound image (root_of image t) (size_of image t)
   pub apart : (t u b : ℕ) → IsReached image t → IsReached image u →
@@ -21,11 +24,11 @@ pub record IsWellFormed (image : Image) : Type 0 where
   -- the inode file is whole blocks of inodes
   pub inode_blocks : size_of image 0 % block_size ≡ 0
   pub some_inodes : block_size ≤ size_of image 0
-  -- each entry names an inode that is there, no other entry names it, and none names the root
+  -- each entry names an inode that is there, none names the root, and no two name one directory
   pub inumbers : (i s j : ℕ) → IsReached image i → EntryNames image i s j → j < inode_count image
   pub not_root : (i s j : ℕ) → IsReached image i → EntryNames image i s j → j ≢ root_inumber
   pub named_once : (i s k r j : ℕ) → IsReached image i → IsReached image k → EntryNames image i s j
-      → EntryNames image k r j → (i ≡ k) × (s ≡ r)
+      → EntryNames image k r j → IsDirectory image j → (i ≡ k) × (s ≡ r)
   pub kinds : (i : ℕ) → IsReached image (suc i) → (1 ≤ kind_of image (suc i)) × (kind_of image (suc i) ≤ 2)
   pub root_kind : IsDirectory image root_inumber
   pub directory_sizes : (i : ℕ) → IsReached image i → IsDirectory image i → size_of image i % entry_size ≡ 0

@@ -1,7 +1,7 @@
 -- A word path names a word from the top: the slots through which one goes to it. The empty path is the root word of
 -- the inode file.
 use Rattle.std.specs.Prelude.{◌≢◌, ℕ, zero, suc, ◌+◌, ◌*◌, ◌/◌, ◌%◌, List, [], ◌∷◌, ◌++◌, Bool, not, ◌==◌}
-use Rattle.bp_limits.specs.Limits.{block_words, inode_words, super_root}
+use Rattle.bp_limits.specs.Limits.{block_words, inode_words, root_field, super_root}
 use Rattle.bp_layout.specs.Words.{Image, word, block_of}
 
 abbrev pub WordPath : Type 0
@@ -19,7 +19,7 @@ inode_path height i f = digits (suc height) (inode_words * i + f)
 -- the path of a word of tree t at a depth, where the inode file has this height
 abbrev pub tree_path : ℕ → ℕ → ℕ → ℕ → WordPath
 tree_path height zero depth index = digits depth index
-tree_path height (suc i) depth index = inode_path height (suc i) 1 ++ digits depth index
+tree_path height (suc i) depth index = inode_path height (suc i) root_field ++ digits depth index
 
 -- the place that a path names, from the place of a pointer on
 abbrev pub address_from : Image → ℕ → WordPath → ℕ

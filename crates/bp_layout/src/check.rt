@@ -32,6 +32,8 @@ pub enum Check {
     NameForm,
     /// Two entries of a directory have the same name.
     NameTwice,
+    /// A word that version 2 keeps for a second inode file is not 0.
+    SecondFile,
 }
 
 impl Check {
@@ -53,6 +55,7 @@ impl Check {
             Check::Capacity => 11,
             Check::NameForm => 12,
             Check::NameTwice => 13,
+            Check::SecondFile => 14,
         }
     }
 }

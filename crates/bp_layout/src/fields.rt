@@ -6,7 +6,7 @@ ghost use Rattle.bp_limits.specs.Limits.{max_height};
 ghost use Rattle.bp_layout.specs.Words.{block_of, height_of};
 
 use arrayvec::ArrayVec;
-use bp_limits::{BLOCK_SIZE, DIRECTORY_KIND, FILE_KIND, MAX_HEIGHT, MAX_NAME};
+use bp_limits::{BLOCK_SIZE, DIRECTORY_KIND, FILE_KIND, MAX_NAME};
 
 /// The kind of an inode.
 #[derive(Clone, Copy, Debug, PartialEq, Eq)]
@@ -43,18 +43,19 @@ pub struct RootWord {
 }
 
 impl RootWord {
-    /// The fields of a root word: its height in bits 0 to 2, its block in bits 12 to 63.
+    /// The fields of a root word: its height in bits 0 to 2, its block in bits 12 to 63. `top` is the greatest height that a
+    /// tree has.
     ///
     /// # Errors
     ///
-    /// `BadPointer` exactly where the height is above `MAX_HEIGHT`, or one of bits 3 to 11 is set.
-    pub fn read(word: u64) -> Result<RootWord, BadPointer>
-        ensures form { IsOk result ↔ IsRootWord word }
+    /// `BadPointer` exactly where the height is above `top`, or one of bits 3 to 11 is set.
+    pub fn read(word: u64, top: u32) -> Result<RootWord, BadPointer>
+        ensures form { IsOk result ↔ IsRootWord top word }
         ensures height { IfOk result (λ root. root.height ≡ height_of word) }
         ensures block { IfOk result (λ root. root.block ≡ block_of word) }
     {
         let height = (word % 8) as u32;
-        if height > MAX_HEIGHT || word / 8 % 512 != 0 {
+        if height > top || word / 8 % 512 != 0 {
             return Err(BadPointer);
         }
         Ok(RootWord {
@@ -99,7 +100,7 @@ pub fn pointer_word(block: u64) -> u64
 /// The words of a superblock that are not dead.
 #[derive(Clone, Copy, Debug, PartialEq, Eq)]
 pub struct Super {
-    /// `MAGIC` in an image that is formatted.
+    /// The mark of a version in an image that is formatted.
     pub magic: u64,
     /// The number of blocks of the image.
     pub blocks: u64,

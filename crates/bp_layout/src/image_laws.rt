@@ -2,32 +2,52 @@
 
 ghost use Rattle.std.specs.Prelude.{None, Some, [], ℕ, ◌*◌, ◌∷◌, ◌↔◌, ◌≡◌, ◌≤◌, length};
 ghost use Rattle.bp_layout.specs.Checks.{NoneFails};
-ghost use Rattle.bp_layout.specs.Formatted.{IsFormatted};
+ghost use Rattle.bp_layout.specs.Formatted.{IsFormatted, version_of};
 ghost use Rattle.bp_layout.specs.Directory.{Name};
-ghost use Rattle.bp_layout.specs.Format.{formatted};
+ghost use Rattle.bp_layout.specs.Format.{formatted, upgraded};
+ghost use Rattle.bp_limits.specs.declared.version.Version.TheVariants.{Two};
+ghost use Rattle.bp_layout.specs.Inode.{IsDirectory};
 ghost use Rattle.bp_limits.specs.Limits.{block_words, max_blocks, min_blocks};
-ghost use Rattle.bp_layout.specs.Lookup.{Path, lookup, shown};
+ghost use Rattle.bp_layout.specs.Lookup.{Path, find_one, lookup, shown};
 ghost use Rattle.bp_layout.specs.Lookup.Node.{dir};
 ghost use Rattle.bp_layout.specs.WellFormed.{IsWellFormed};
+ghost use Rattle.bp_layout.specs.Whole.{IsFileSystem, NoneFailsWhole};
 
-/// An image is well formed exactly where it is formatted and no check fails at any place.
+use bp_limits::Version;
+
+/// The first tree of an image is well formed exactly where the image is formatted and no check of it fails at any place.
 pub fn well_formed_by_checks(image: &[u64])
     ensures { IsWellFormed image.now ↔ (IsFormatted image.now × NoneFails image.now) }
 {}
 
-/// A format over any words makes an image that is well formed and shows the root directory alone.
-pub fn format_shows_the_root(image: &[u64], blocks: u64)
+/// An image is a file system exactly where it is formatted and no check fails at any place.
+pub fn file_system_by_checks(image: &[u64])
+    ensures { IsFileSystem image.now ↔ (IsFormatted image.now × NoneFailsWhole image.now) }
+{}
+
+/// A format over any words makes a file system of its version that shows the root directory alone.
+pub fn format_shows_the_root(image: &[u64], version: Version, blocks: u64)
     requires whole { length image.now ≡ block_words * blocks }
     requires least { min_blocks ≤ blocks }
     requires most { blocks ≤ max_blocks }
-    ensures well_formed { IsWellFormed (formatted image.now blocks) }
-    ensures root { shown (formatted image.now blocks) [] ≡ Some dir }
-    ensures alone { (name : Name) (path : Path) → shown (formatted image.now blocks) (name ∷ path) ≡ None }
+    ensures well_formed { IsFileSystem (formatted image.now version blocks) }
+    ensures version { version_of (formatted image.now version blocks) ≡ version }
+    ensures root { shown (formatted image.now version blocks) [] ≡ Some dir }
+    ensures alone { (name : Name) (path : Path) → shown (formatted image.now version blocks) (name ∷ path) ≡ None }
 {}
 
-/// In a well-formed image an inode stands at one path.
-pub fn inode_has_one_path(image: &[u64])
+/// An upgrade makes a well-formed image a file system of version 2 that shows the same.
+pub fn upgrade_shows_the_same(image: &[u64])
+    requires { IsWellFormed image.now }
+    ensures well_formed { IsFileSystem (upgraded image.now) }
+    ensures version { version_of (upgraded image.now) ≡ Two }
+    ensures shows { (path : Path) → shown (upgraded image.now) path ≡ shown image.now path }
+    ensures one { (p q : Path) → find_one (upgraded image.now) p q ≡ find_one image.now p q }
+{}
+
+/// In a well-formed image a directory stands at one path.
+pub fn directory_has_one_path(image: &[u64])
     requires { IsWellFormed image.now }
     ensures { (one other : Path) (i : ℕ) → lookup image.now one ≡ Some i → lookup image.now other ≡ Some i
-        → one ≡ other }
+        → IsDirectory image.now i → one ≡ other }
 {}

@@ -8,18 +8,19 @@ ghost use Rattle.arrayvec.specs.ArrayVec.{array_vec_len};
 
 use crate::{BadPointer, Entry, Inode, RootWord, Super, pointer, pointer_word};
 
-/// A root word is read back.
-pub fn root_word_read(root: RootWord) -> Result<RootWord, BadPointer>
-    requires height { root.height ≤ max_height }
+/// A root word is read back, where the greatest height is no less than its own.
+pub fn root_word_read(root: RootWord, top: u32) -> Result<RootWord, BadPointer>
+    requires height { root.height ≤ top }
+    requires top { top ≤ max_height }
     requires block { root.block < 2 ^ 52 }
     ensures { result ≡ Ok root }
 {
-    RootWord::read(root.word())
+    RootWord::read(root.word(), top)
 }
 
 /// A root word is written back.
-pub fn root_word_written(word: u64)
-    requires { IsRootWord word }
+pub fn root_word_written(word: u64, top: u32)
+    requires { IsRootWord top word }
     ensures { root_word (height_of word) (block_of word) ≡ word }
 {}
 

@@ -1,125 +1,172 @@
 -- The limits of the format, of calls, of scripts and of the programs.
-use Rattle.std.specs.Prelude.{ℕ}
+use Rattle.std.specs.Prelude.{ℕ, ◌==◌, Bool, true, false, if◌then◌else◌}
+use Rattle.bp_limits.specs.declared.TheConstants.{BLOCK_SIZE, BLOCK_WORDS, MIN_BLOCKS, MAX_BLOCKS, SUPER_MAGIC, SUPER_BLOCKS, SUPER_ROOT, SUPER_SIZE, SUPER_SECOND_ROOT, SUPER_SECOND_SIZE, INODE_SIZE, INODE_WORDS, ROOT_FIELD, SIZE_FIELD, BLOCK_INODES, ROOT_INUMBER, FILE_KIND, DIRECTORY_KIND, ENTRY_SIZE, ENTRY_WORDS, BLOCK_ENTRIES, MAX_HEIGHT, MAX_SIZE, MAX_NAME, MAX_PATH, MAX_READ, MAX_WRITE, MAX_PIECES, MAX_BATCH, CALL_ROOM, MAX_LINE, MAX_TEXT, MAX_INPUT, LOG_EVENTS, MAX_MASK, MAX_TURNS}
+use Rattle.bp_limits.specs.declared.version.Version.{Version}
+use Rattle.bp_limits.specs.declared.version.Version.TheVariants.{One, Two}
 
 -- ---- words and blocks
 
 -- the bytes of a block, and its words
 abbrev pub block_size : ℕ
-block_size = 4096
+block_size = BLOCK_SIZE
 
 abbrev pub block_words : ℕ
-block_words = 512
+block_words = BLOCK_WORDS
 
 -- the least and the greatest number of blocks of an image
 abbrev pub min_blocks : ℕ
-min_blocks = 8
+min_blocks = MIN_BLOCKS
 
 abbrev pub max_blocks : ℕ
-max_blocks = 16384
+max_blocks = MAX_BLOCKS
 
 -- ---- the superblock
 
--- the bytes `BPFSRS01`
-abbrev pub magic : ℕ
-magic = 0x3130535253465042
+-- the mark of a version, word 0 of its images: the bytes `BPFSRS01` and `BPFSRS02`
+abbrev pub magic : Version → ℕ
+magic One = 0x3130535253465042
+magic Two = 0x3230535253465042
+
+-- the version that a word 0 marks, the first one where it is the mark of none
+abbrev pub version_at : ℕ → Version
+version_at word = if word == magic Two then Two else One
+
+abbrev pub is_two : Version → Bool
+is_two One = false
+is_two Two = true
 
 -- where the mark stands, the number of blocks, and the root word and the size of the inode file
 abbrev pub super_magic : ℕ
-super_magic = 0
+super_magic = SUPER_MAGIC
 
 abbrev pub super_blocks : ℕ
-super_blocks = 1
+super_blocks = SUPER_BLOCKS
 
 abbrev pub super_root : ℕ
-super_root = 2
+super_root = SUPER_ROOT
 
 abbrev pub super_size : ℕ
-super_size = 3
+super_size = SUPER_SIZE
+
+-- where version 2 has place for the root word and the size of a second inode file
+abbrev pub super_second_root : ℕ
+super_second_root = SUPER_SECOND_ROOT
+
+abbrev pub super_second_size : ℕ
+super_second_size = SUPER_SECOND_SIZE
 
 -- ---- inodes and directories
 
--- the bytes of an inode, its words, and the inodes of a block
+-- the bytes of an inode, and its words
 abbrev pub inode_size : ℕ
-inode_size = 64
+inode_size = INODE_SIZE
 
 abbrev pub inode_words : ℕ
-inode_words = 8
+inode_words = INODE_WORDS
 
+-- which of them are the root word and the size of its tree
+abbrev pub root_field : ℕ
+root_field = ROOT_FIELD
+
+abbrev pub size_field : ℕ
+size_field = SIZE_FIELD
+
+-- the inodes of a block
 abbrev pub block_inodes : ℕ
-block_inodes = 64
+block_inodes = BLOCK_INODES
 
 -- the number of the root directory's inode
 abbrev pub root_inumber : ℕ
-root_inumber = 1
+root_inumber = ROOT_INUMBER
 
 -- the first word of a file's inode, and of a directory's
 abbrev pub file_kind : ℕ
-file_kind = 1
+file_kind = FILE_KIND
 
 abbrev pub directory_kind : ℕ
-directory_kind = 2
+directory_kind = DIRECTORY_KIND
 
 -- the bytes of an entry of a directory, its words, and the entries of a block
 abbrev pub entry_size : ℕ
-entry_size = 256
+entry_size = ENTRY_SIZE
 
 abbrev pub entry_words : ℕ
-entry_words = 32
+entry_words = ENTRY_WORDS
 
 abbrev pub block_entries : ℕ
-block_entries = 16
+block_entries = BLOCK_ENTRIES
 
 -- ---- trees
 
--- the greatest height of a tree
+-- the greatest height of a tree, in images of any version and of each
 abbrev pub max_height : ℕ
-max_height = 3
+max_height = MAX_HEIGHT
+
+abbrev pub greatest_height : Version → ℕ
+greatest_height One = 3
+greatest_height Two = max_height
 
 -- the greatest size of a file, a directory and the inode file, in bytes: what a tree of the greatest height covers
 abbrev pub max_size : ℕ
-max_size = 549755813888
+max_size = MAX_SIZE
+
+abbrev pub greatest_size : Version → ℕ
+greatest_size One = 549755813888
+greatest_size Two = max_size
 
 -- ---- names and calls
 
 -- the greatest length of a name and of a path, in bytes
 abbrev pub max_name : ℕ
-max_name = 240
+max_name = MAX_NAME
 
 abbrev pub max_path : ℕ
-max_path = 4096
+max_path = MAX_PATH
 
--- the most bytes that one call reads, and that one writes
+-- the most bytes that one call reads
 abbrev pub max_read : ℕ
-max_read = 65536
+max_read = MAX_READ
 
+-- the most bytes that one call writes, in images of any version and of each
 abbrev pub max_write : ℕ
-max_write = 65536
+max_write = MAX_WRITE
+
+abbrev pub greatest_write : Version → ℕ
+greatest_write One = 65536
+greatest_write Two = max_write
+
+-- the most pieces of one batch, and the most bytes that they have in all
+abbrev pub max_pieces : ℕ
+max_pieces = MAX_PIECES
+
+abbrev pub max_batch : ℕ
+max_batch = MAX_BATCH
 
 -- the room in the log below which a call drains first, in events
 abbrev pub call_room : ℕ
-call_room = 65536
+call_room = CALL_ROOM
 
 -- ---- scripts and programs
 
 -- the longest line of a script, without its newline, and of a reply, with it
 abbrev pub max_line : ℕ
-max_line = 140000
+max_line = MAX_LINE
 
 abbrev pub max_text : ℕ
-max_text = 140000
+max_text = MAX_TEXT
 
 -- the most bytes of a script
 abbrev pub max_input : ℕ
-max_input = 1073741824
+max_input = MAX_INPUT
 
 -- the events that the log of a program's region can take
 abbrev pub log_events : ℕ
-log_events = 131072
+log_events = LOG_EVENTS
 
 -- the most places of the mask that a script's line spells
 abbrev pub max_mask : ℕ
-max_mask = 560000
+max_mask = MAX_MASK
 
 -- the most turns of a play
 abbrev pub max_turns : ℕ
-max_turns = 1000000
+max_turns = MAX_TURNS

@@ -3,10 +3,17 @@
 //! Clauses cite the same figures from `specs/Limits.antt`, under the same names in small letters.
 #![tactic(auto)]
 
+mod version;
+
+pub use version::Version;
+
 // ---- words and blocks
 
 /// The bytes of a block.
 pub const BLOCK_SIZE: u64 = 4096;
+
+/// The bytes of a word.
+pub const WORD_SIZE: u64 = 8;
 
 /// The words of a block, and so the pointers of a node.
 pub const BLOCK_WORDS: u32 = 512;
@@ -15,14 +22,11 @@ pub const BLOCK_WORDS: u32 = 512;
 pub const MIN_BLOCKS: u32 = 8;
 
 /// The greatest number of blocks of an image.
-pub const MAX_BLOCKS: u32 = 16_384;
+pub const MAX_BLOCKS: u32 = 65_536;
 
 // ---- the superblock
 
-/// Word 0 of an image: the bytes `BPFSRS01`, the lowest first.
-pub const MAGIC: u64 = 0x3130_5352_5346_5042;
-
-/// The place of the mark of an image, in words.
+/// The place of the mark of an image, in words: [`Version::magic`].
 pub const SUPER_MAGIC: u32 = 0;
 
 /// The place of the number of blocks.
@@ -34,6 +38,12 @@ pub const SUPER_ROOT: u32 = 2;
 /// The place of the size of the inode file.
 pub const SUPER_SIZE: u32 = 3;
 
+/// The place that version 2 keeps for the root word of a second inode file. There is none, so that the word is 0.
+pub const SUPER_SECOND_ROOT: u32 = 4;
+
+/// The place that version 2 keeps for the size of a second inode file, which is 0 too.
+pub const SUPER_SECOND_SIZE: u32 = 5;
+
 // ---- inodes and directories
 
 /// The bytes of an inode.
@@ -41,6 +51,12 @@ pub const INODE_SIZE: u64 = 64;
 
 /// The words of an inode.
 pub const INODE_WORDS: u32 = 8;
+
+/// The word of an inode that is the root word of its tree.
+pub const ROOT_FIELD: u32 = 1;
+
+/// The word of an inode that is its size.
+pub const SIZE_FIELD: u32 = 2;
 
 /// The inodes of a block.
 pub const BLOCK_INODES: u32 = 64;
@@ -65,11 +81,12 @@ pub const BLOCK_ENTRIES: u64 = 16;
 
 // ---- trees
 
-/// The greatest height of a tree.
-pub const MAX_HEIGHT: u32 = 3;
+/// The greatest height of a tree, in images of any version: [`Version::greatest_height`].
+pub const MAX_HEIGHT: u32 = 5;
 
-/// The greatest size of a file, a directory and the inode file, in bytes: what a tree of the greatest height covers.
-pub const MAX_SIZE: u64 = 549_755_813_888;
+/// The greatest size of a file, a directory and the inode file in bytes, in images of any version: what a tree of the greatest
+/// height covers. See [`Version::greatest_size`].
+pub const MAX_SIZE: u64 = 144_115_188_075_855_872;
 
 // ---- names and calls
 
@@ -82,16 +99,22 @@ pub const MAX_PATH: usize = 4096;
 /// The most bytes that one call reads.
 pub const MAX_READ: usize = 65_536;
 
-/// The most bytes that one call writes.
-pub const MAX_WRITE: usize = 65_536;
+/// The most bytes that one call writes, in images of any version: [`Version::greatest_write`].
+pub const MAX_WRITE: usize = 1_048_576;
+
+/// The most pieces of one batch.
+pub const MAX_PIECES: usize = 16;
+
+/// The most bytes that the pieces of a batch have in all.
+pub const MAX_BATCH: u64 = 65_536;
 
 /// The room in the log below which a call drains first: more events than any call adds.
-pub const CALL_ROOM: usize = 65_536;
+pub const CALL_ROOM: usize = 262_144;
 
 // ---- scripts and programs
 
 /// The longest line of a script, in bytes without its newline.
-pub const MAX_LINE: usize = 140_000;
+pub const MAX_LINE: usize = 2_200_000;
 
 /// The longest line of a reply, in bytes with its newline.
 pub const MAX_TEXT: usize = 140_000;
@@ -100,10 +123,10 @@ pub const MAX_TEXT: usize = 140_000;
 pub const MAX_INPUT: u64 = 1_073_741_824;
 
 /// The events that the log of a program's region can take.
-pub const LOG_EVENTS: usize = 131_072;
+pub const LOG_EVENTS: usize = 524_288;
 
 /// The most places of the mask that a script's line spells: eight for two digits of the longest line.
-pub const MAX_MASK: usize = 560_000;
+pub const MAX_MASK: usize = 8_800_000;
 
 /// The most turns of a play.
 pub const MAX_TURNS: u32 = 1_000_000;

@@ -19,12 +19,13 @@ use Rattle.bp_layout.specs.declared.fields.Kind.{Kind}
 use Rattle.bp_layout.specs.Below.{rest_below}
 use Rattle.bp_layout.specs.Directory.{Name}
 use Rattle.bp_layout.specs.Listing.{listed}
-use Rattle.bp_layout.specs.Lookup.{Path, Node}
-use Rattle.bp_plain.specs.declared.trees.Node.{Node as Kept}
+use Rattle.bp_layout.specs.Lookup.{Path}
+use Rattle.bp_plain.specs.Numbered.{Numbered, plain_entry, plain_node}
+use Rattle.bp_plain.specs.declared.trees.entries.Node.{Node as Kept}
 use Rattle.bp_plain.specs.Plain.{kind_of_node, listed_in, only_name}
 use Rattle.bp_plain.specs.PlainTree.{path_cmp}
-use Rattle.bp_plain.specs.SeenTree.{names_of, node_seen, entry_kept}
-use Rattle.bp_plain.proofs.Uniqueness.{path_cmp-IsAntisymmetric, path_cmp-IsTotalOrder}
+use Rattle.bp_plain.specs.SeenTree.{names_of, numbered, node_seen, entry_kept}
+use Rattle.bp_plain.proofs.PathOrder.{path_cmp-IsAntisymmetric, path_cmp-IsTotalOrder}
 
 -- the order of names and of paths in a program
 abbrev pub name_order : ArrayVec ℕ → ArrayVec ℕ → Ordering
@@ -42,12 +43,12 @@ order_seen (x ∷ xs) (y ∷ ys) = ap (ordering_then (name_order x y)) (order_se
 
 -- so a path finds the same node
 pub find_seen : (path : List (ArrayVec ℕ)) (es : List (Vec (ArrayVec ℕ) × Kept)) →
-    find path_cmp (names_of path) (map entry_kept es) ≡ option_map node_seen (lookup (is_at (λ key. slice_cmp name_order path key.items)) es)
+    find path_cmp (names_of path) (map entry_kept es) ≡ option_map numbered (lookup (is_at (λ key. slice_cmp name_order path key.items)) es)
 find_seen path [] = refl
 find_seen path (e ∷ es) = go (is_eq (slice_cmp name_order path e.0.items)) refl (find_seen path es)
   where
-    go : (b : Bool) → is_eq (slice_cmp name_order path e.0.items) ≡ b → find path_cmp (names_of path) (map entry_kept es) ≡ option_map node_seen (lookup (is_at (λ key. slice_cmp name_order path key.items)) es) →
-        find path_cmp (names_of path) (map entry_kept (e ∷ es)) ≡ option_map node_seen (lookup (is_at (λ key. slice_cmp name_order path key.items)) (e ∷ es))
+    go : (b : Bool) → is_eq (slice_cmp name_order path e.0.items) ≡ b → find path_cmp (names_of path) (map entry_kept es) ≡ option_map numbered (lookup (is_at (λ key. slice_cmp name_order path key.items)) es) →
+        find path_cmp (names_of path) (map entry_kept (e ∷ es)) ≡ option_map numbered (lookup (is_at (λ key. slice_cmp name_order path key.items)) (e ∷ es))
     go true at rest = rw (sym (ap is_eq (order_seen path e.0.items)) ∙ at, at) refl
     go false at rest = rw (sym (ap is_eq (order_seen path e.0.items)) ∙ at, at) rest
 
@@ -55,17 +56,17 @@ pub passes : {b : Bool} → b ≡ true → T b
 passes e = subst T (sym e) tt
 
 pub get_seen : (path : List (ArrayVec ℕ)) (es : List (Vec (ArrayVec ℕ) × Kept)) → is_sorted path_cmp (map entry_kept es) ≡ true →
-    get (from_sorted {R = path_cmp} (map entry_kept es)) (names_of path) ≡ option_map node_seen (lookup (is_at (λ key. slice_cmp name_order path key.items)) es)
+    get (from_sorted {R = path_cmp} (map entry_kept es)) (names_of path) ≡ option_map numbered (lookup (is_at (λ key. slice_cmp name_order path key.items)) es)
 get_seen path es sorted = get-from_sorted path_cmp (map entry_kept es) (names_of path) (passes sorted) ∙ find_seen path es
 
 -- a node that comes in
 pub put_seen : (es : List (Vec (ArrayVec ℕ) × Kept)) (key : Vec (ArrayVec ℕ)) (node : Kept) →
-    map entry_kept (insert_entry key_order es key node) ≡ put path_cmp (names_of key.items) (node_seen node) (map entry_kept es)
+    map entry_kept (insert_entry key_order es key node) ≡ put path_cmp (names_of key.items) (numbered node) (map entry_kept es)
 put_seen [] key node = refl
 put_seen (e ∷ es) key node = go (key_order key e.0) refl (put_seen es key node)
   where
-    go : (r : Ordering) → key_order key e.0 ≡ r → map entry_kept (insert_entry key_order es key node) ≡ put path_cmp (names_of key.items) (node_seen node) (map entry_kept es) →
-        map entry_kept (insert_entry key_order (e ∷ es) key node) ≡ put path_cmp (names_of key.items) (node_seen node) (map entry_kept (e ∷ es))
+    go : (r : Ordering) → key_order key e.0 ≡ r → map entry_kept (insert_entry key_order es key node) ≡ put path_cmp (names_of key.items) (numbered node) (map entry_kept es) →
+        map entry_kept (insert_entry key_order (e ∷ es) key node) ≡ put path_cmp (names_of key.items) (numbered node) (map entry_kept (e ∷ es))
     go Less at rest = rw (sym (order_seen key.items e.0.items) ∙ at, at) refl
     go Equal at rest = rw (sym (order_seen key.items e.0.items) ∙ at, at) refl
     go Greater at rest = rw (sym (order_seen key.items e.0.items) ∙ at, at) (ap (λ es. entry_kept e ∷ es) rest)
@@ -82,7 +83,7 @@ pub right_holds : (a b : Bool) → T (a && b) → T b
 right_holds true b both = both
 right_holds false b both = absurd both
 
-less_than : (r : Ordering) → T (is_lt r) → r ≡ Less
+pub less_than : (r : Ordering) → T (is_lt r) → r ≡ Less
 less_than Less low = refl
 less_than Equal low = absurd low
 less_than Greater low = absurd low
@@ -93,20 +94,20 @@ module _ (old : List (Vec (ArrayVec ℕ) × Kept)) (sorted : is_sorted path_cmp 
   pub sorted_after : is_sorted path_cmp (map entry_kept new) ≡ true
   sorted_after =
       ap (is_sorted path_cmp) (ap (map entry_kept) is ∙ put_seen old key node)
-      ∙ true_from _ (is_sorted-put path_cmp path_cmp-IsTotalOrder (names_of key.items) (node_seen node) (map entry_kept old) (passes sorted))
+      ∙ true_from _ (is_sorted-put path_cmp path_cmp-IsTotalOrder (names_of key.items) (numbered node) (map entry_kept old) (passes sorted))
 
   -- and the tree gains the node
-  pub tree_after_put : from_sorted {R = path_cmp} (map entry_kept new) ≡ insert (from_sorted {R = path_cmp} (map entry_kept old)) (names_of key.items) (node_seen node)
+  pub tree_after_put : from_sorted {R = path_cmp} (map entry_kept new) ≡ insert (from_sorted {R = path_cmp} (map entry_kept old)) (names_of key.items) (numbered node)
   tree_after_put =
       same_entries_map _ _
       (entries-from_sorted path_cmp (map entry_kept new) (passes sorted_after) ∙ ap (map entry_kept) is ∙ put_seen old key node
-      ∙ ap (put path_cmp (names_of key.items) (node_seen node)) (sym (entries-from_sorted path_cmp (map entry_kept old) (passes sorted)))
-      ∙ sym (entries-insert path_cmp-IsTotalOrder (from_sorted {R = path_cmp} (map entry_kept old)) (names_of key.items) (node_seen node)))
+      ∙ ap (put path_cmp (names_of key.items) (numbered node)) (sym (entries-from_sorted path_cmp (map entry_kept old) (passes sorted)))
+      ∙ sym (entries-insert path_cmp-IsTotalOrder (from_sorted {R = path_cmp} (map entry_kept old)) (names_of key.items) (numbered node)))
 
 -- ---- a node that goes
 
 -- entries behind a key are not those of the key
-others_kept : (k x : Path) (es : List (Path × Node)) → path_cmp k x ≡ Equal → T (below_all path_cmp x es) → where_key path_cmp (λ y. not (eq_by_cmp path_cmp k y)) es ≡ es
+others_kept : (k x : Path) (es : List (Path × Numbered)) → path_cmp k x ≡ Equal → T (below_all path_cmp x es) → where_key path_cmp (λ y. not (eq_by_cmp path_cmp k y)) es ≡ es
 others_kept k x [] tied below = refl
 others_kept k x (e ∷ es) tied below =
     let less = less_than (path_cmp x e.0) (left_holds _ _ below) in
@@ -139,7 +140,7 @@ module _ (old : List (Vec (ArrayVec ℕ) × Kept)) (sorted : is_sorted path_cmp 
   pub tree_without : from_sorted {R = path_cmp} (map entry_kept new) ≡ remove (from_sorted {R = path_cmp} (map entry_kept old)) (names_of path)
   tree_without = same_map path_cmp-IsTotalOrder path_cmp-IsAntisymmetric _ _ at
     where
-      turned : (b : Bool) (found : Option Node) → cond (not b) found None ≡ cond b None found
+      turned : (b : Bool) (found : Option Numbered) → cond (not b) found None ≡ cond b None found
       turned true found = refl
       turned false found = refl
 
@@ -158,14 +159,14 @@ pub all_entries : (es : List (Vec (ArrayVec ℕ) × Kept)) → is_sorted path_cm
 all_entries es sorted = entries-from_sorted path_cmp (map entry_kept es) (passes sorted)
 
 -- a node behind a reference
-pub node_behind : (found : Option (Bor Kept)) → option_map (λ node. node_seen node.now) found ≡ option_map node_seen (option_copied found)
+pub node_behind : (found : Option (Bor Kept)) → option_map (λ node. numbered node.now) found ≡ option_map numbered (option_copied found)
 node_behind None = refl
 node_behind (Some node) = refl
 
 -- ---- the rows of a listing
 
 abbrev pub rows : List (ArrayVec ℕ) → List (Vec (ArrayVec ℕ) × Kept) → List (Kind × Name)
-rows dir es = filter_map (listed_in (names_of dir)) (map entry_kept es)
+rows dir es = filter_map (listed_in (names_of dir)) (map plain_entry (map entry_kept es))
 
 -- a further row, which was found
 pub row_found : (dir : List (ArrayVec ℕ)) (e : Vec (ArrayVec ℕ) × Kept) (rest left : List (Vec (ArrayVec ℕ) × Kept)) (before after : List (Kind × ArrayVec ℕ)) (kind : Kind) (copy : ArrayVec ℕ) (name : Name) (whole : List (Kind × Name)) →
@@ -184,3 +185,8 @@ same_bytes [] [] all = refl
 same_bytes [] (y ∷ ys) all = absurd all
 same_bytes (x ∷ xs) [] all = absurd all
 same_bytes (x ∷ xs) (y ∷ ys) all = ap₂ (λ a b. a ∷ b) all.0 (same_bytes xs ys all.1)
+
+-- a node behind a reference, without its number
+pub plain_behind : (found : Option (Bor Kept)) → option_map (λ node. node_seen node.now) found ≡ option_map plain_node (option_map (λ node. numbered node.now) found)
+plain_behind None = refl
+plain_behind (Some node) = refl

@@ -1,3 +1,5 @@
+pub mod PathOrder
+pub mod Kernels
 pub mod Uniqueness
 pub mod Existence
 pub mod Moved
@@ -7,3 +9,9 @@ pub mod Parts
 pub mod PathLaws
 pub mod FileTrees
 pub mod Renamed
+pub mod Numbers
+pub mod Rooted
+pub mod MapLaws
+pub mod LinkCounts
+pub mod Carried
+pub mod KeptMaps

@@ -2,17 +2,17 @@
 use Rattle.std.proofs.Common.{◌≡◌, ◌⊎◌, List, [], ◌∷◌, ◌++◌, Bool, true, false, Option, None, Some, refl, sym, ◌∙◌, ap, inl, inr, true≢false, append-nil}
 use Rattle.std.proofs.lemmas.List.{append_cancel_left}
 use Rattle.std.specs.List.{filter_map}
-use Rattle.std.specs.FinMap.{get, entries, get-from_entries, get-entries}
+use Rattle.std.specs.FinMap.{FinMap, get, entries, get-from_entries, get-entries}
 use Rattle.std.specs.FinMap.Entries.{find}
 use Rattle.std.specs.Ordering.{eq_by_cmp}
 use Rattle.std.specs.Cmp.{eq_by_cmp_equiv}
 use Rattle.bp_layout.specs.Directory.{Name}
-use Rattle.bp_layout.specs.Lookup.{Path, Node}
-use Rattle.bp_plain.specs.PlainTree.{FileTree, path_cmp}
+use Rattle.bp_layout.specs.Lookup.{Path}
+use Rattle.bp_plain.specs.PlainTree.{path_cmp}
 use Rattle.bp_layout.specs.Below.{same_path, rest_below}
 use Rattle.bp_layout.proofs.Below.{rest_below-append, rest_below-is, same_path-self, same_path-is, path_case}
 use Rattle.bp_plain.specs.Plain.{moved, moved_entry, moved_path}
-use Rattle.bp_plain.proofs.Uniqueness.{path_cmp-IsTotalOrder, same_path_from}
+use Rattle.bp_plain.proofs.PathOrder.{path_cmp-IsTotalOrder, same_path_from}
 
 -- ---- what is found at a path
 
@@ -54,20 +54,20 @@ module _ (p q : Path) (can : CanMove p q) where
   append_cancel a r s e = append_cancel_left a r s e
 
   -- below the target: what was below the source
-  find-target : (es : List (Path × Node)) (r : Path) → ((n : Name) (s : Path) → find path_cmp (q ++ n ∷ s) es ≡ None) →
+  find-target : {A : Type 0} (es : List (Path × A)) (r : Path) → ((n : Name) (s : Path) → find path_cmp (q ++ n ∷ s) es ≡ None) →
       find path_cmp (q ++ r) (filter_map (moved_entry p q) es) ≡ find path_cmp (p ++ r) es
-  find-target [] r none = refl
-  find-target (e ∷ es) r none = go (λ h. find-target es r h) (same_path e.0 q) refl (key_of e.0)
+  find-target {A} [] r none = refl
+  find-target {A} (e ∷ es) r none = go (λ h. find-target es r h) (same_path e.0 q) refl (key_of e.0)
     where
       none_later : (n : Name) (s : Path) → find path_cmp (q ++ n ∷ s) es ≡ None
       none_later n s = later (eq_by_cmp path_cmp (q ++ n ∷ s) e.0) refl
         where
           later : (b : Bool) → eq_by_cmp path_cmp (q ++ n ∷ s) e.0 ≡ b → find path_cmp (q ++ n ∷ s) es ≡ None
-          later true at = let some : ◌≡◌ {A = Option Node} (Some e.1) None = rw at at (none n s) in absurd (cc)
+          later true at = let some : ◌≡◌ {A = Option A} (Some e.1) None = rw at at (none n s) in absurd (cc)
           later false at = rw at at (none n s)
 
       not_there : (n : Name) (s : Path) → e.0 ≡ q ++ n ∷ s → ⊥
-      not_there n s here = let some : ◌≡◌ {A = Option Node} (Some e.1) None = rw (ties (q ++ n ∷ s) e.0 (sym here)) at (none n s) in absurd (cc)
+      not_there n s here = let some : ◌≡◌ {A = Option A} (Some e.1) None = rw (ties (q ++ n ∷ s) e.0 (sym here)) at (none n s) in absurd (cc)
 
       go : (((n : Name) (s : Path) → find path_cmp (q ++ n ∷ s) es ≡ None) → find path_cmp (q ++ r) (filter_map (moved_entry p q) es) ≡ find path_cmp (p ++ r) es) →
           (b : Bool) → same_path e.0 q ≡ b → Key e.0 →
@@ -93,9 +93,9 @@ module _ (p q : Path) (can : CanMove p q) where
           not_source f = let none : ◌≡◌ {A = Option Path} (Some r) None = sym (rest_below-append p r) ∙ ap (rest_below p) f ∙ below in absurd (cc)
 
   -- below the source, and not below the target: nothing
-  find-source : (es : List (Path × Node)) (path : Path) → rest_below q path ≡ None → (r : Path) → path ≡ p ++ r → find path_cmp path (filter_map (moved_entry p q) es) ≡ None
-  find-source [] path apart r below = refl
-  find-source (e ∷ es) path apart r below = go (find-source es path apart r below) (same_path e.0 q) refl (key_of e.0)
+  find-source : {A : Type 0} (es : List (Path × A)) (path : Path) → rest_below q path ≡ None → (r : Path) → path ≡ p ++ r → find path_cmp path (filter_map (moved_entry p q) es) ≡ None
+  find-source {A} [] path apart r below = refl
+  find-source {A} (e ∷ es) path apart r below = go (find-source es path apart r below) (same_path e.0 q) refl (key_of e.0)
     where
       go : find path_cmp path (filter_map (moved_entry p q) es) ≡ None → (b : Bool) → same_path e.0 q ≡ b → Key e.0 → find path_cmp path (filter_map (moved_entry p q) (e ∷ es)) ≡ None
       go rest true at k = rw at rest
@@ -104,9 +104,9 @@ module _ (p q : Path) (can : CanMove p q) where
           rw (at, new, differs path e.0 (λ f. let some : ◌≡◌ {A = Option Path} (Some r) None = sym (rest_below-append p r) ∙ ap (rest_below p) (sym below ∙ f) ∙ none in absurd (cc))) rest
 
   -- elsewhere: what was there
-  find-elsewhere : (es : List (Path × Node)) (path : Path) → rest_below q path ≡ None → rest_below p path ≡ None → find path_cmp path (filter_map (moved_entry p q) es) ≡ find path_cmp path es
-  find-elsewhere [] path apart aside = refl
-  find-elsewhere (e ∷ es) path apart aside = go (find-elsewhere es path apart aside) (same_path e.0 q) refl (key_of e.0)
+  find-elsewhere : {A : Type 0} (es : List (Path × A)) (path : Path) → rest_below q path ≡ None → rest_below p path ≡ None → find path_cmp path (filter_map (moved_entry p q) es) ≡ find path_cmp path es
+  find-elsewhere {A} [] path apart aside = refl
+  find-elsewhere {A} (e ∷ es) path apart aside = go (find-elsewhere es path apart aside) (same_path e.0 q) refl (key_of e.0)
     where
       go : find path_cmp path (filter_map (moved_entry p q) es) ≡ find path_cmp path es → (b : Bool) → same_path e.0 q ≡ b → Key e.0 →
           find path_cmp path (filter_map (moved_entry p q) (e ∷ es)) ≡ find path_cmp path (e ∷ es)
@@ -121,17 +121,17 @@ module _ (p q : Path) (can : CanMove p q) where
           same_test false here = rw (at, new, here) rest
 
 -- what the tree has at a path after the rename
-abbrev pub after_move : Path → Path → FileTree → Path → Option Node
-after_move p q tree path = below_target (rest_below q path) (rest_below p path)
+abbrev pub after_move : {A : Type 0} → Path → Path → FinMap path_cmp A → Path → Option A
+after_move {A} p q tree path = below_target (rest_below q path) (rest_below p path)
   where
-    below_target : Option Path → Option Path → Option Node
+    below_target : Option Path → Option Path → Option A
     below_target (Some rest) source = get tree (p ++ rest)
     below_target None (Some rest) = None
     below_target None None = get tree path
 
-pub get-moved : (p q : Path) (tree : FileTree) → rest_below p q ≡ None → ((n : Name) (s : Path) → get tree (q ++ n ∷ s) ≡ None) → (path : Path) →
+pub get-moved : {A : Type 0} (p q : Path) (tree : FinMap path_cmp A) → rest_below p q ≡ None → ((n : Name) (s : Path) → get tree (q ++ n ∷ s) ≡ None) → (path : Path) →
     get (moved p q tree) path ≡ after_move p q tree path
-get-moved p q tree apart none path = get-from_entries path_cmp-IsTotalOrder (filter_map (moved_entry p q) (entries tree)) path ∙ go (rest_below q path) refl (rest_below p path) refl
+get-moved {A} p q tree apart none path = get-from_entries path_cmp-IsTotalOrder (filter_map (moved_entry p q) (entries tree)) path ∙ go (rest_below q path) refl (rest_below p path) refl
   where
     can : CanMove p q
     can = record { apart = apart }

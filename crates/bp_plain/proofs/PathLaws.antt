@@ -1,8 +1,7 @@
 -- Fronts of lists of names, and the first of refusals.
-use Rattle.std.proofs.Common.{◌≡◌, ℕ, ◌+◌, ◌<◌, ◌==◌, Bool, true, false, List, [], ◌∷◌, ◌++◌, length, get_or, map, take, drop, Option, None, Some, refl, sym, ◌∙◌, ap, true≢false, ◌-◌, is_some, arith}
+use Rattle.std.proofs.Common.{◌≡◌, ℕ, ◌+◌, ◌<◌, Bool, true, false, List, [], ◌∷◌, ◌++◌, length, get_or, map, take, drop, Option, None, Some, refl, sym, ◌∙◌, ap, true≢false, ◌-◌, is_some, arith}
 use Rattle.std.specs.Option.{is_none}
 use Rattle.std.specs.FinMap.{get}
-use Rattle.std.proofs.Math.Dec.{eqb-suc-zero}
 use Rattle.std.proofs.lemmas.List.{drop_more, take_more, map-append}
 use Rattle.std.specs.Option.{option_map}
 use Rattle.std.specs.Prelude.{nat_eq}
@@ -12,8 +11,8 @@ use Rattle.bp_layout.specs.Below.{rest_below}
 use Rattle.bp_plain.specs.declared.errors.FsError.{FsError}
 use Rattle.bp_plain.specs.Calls.{Refusal}
 use Rattle.bp_plain.specs.Calls.Refusal.{not_dir, not_found}
-use Rattle.bp_plain.specs.Plain.{first, is_root_path, parent_of, first_refusal_from, is_dir_at}
-use Rattle.bp_plain.specs.PlainTree.{FileTree}
+use Rattle.bp_plain.specs.Plain.{first, parent_of, first_refusal_from, is_dir_at}
+use Rattle.bp_plain.specs.PlainTree.{Nodes}
 use Rattle.bp_plain.specs.Seen.{refusal_of}
 use Rattle.bp_plain.specs.SeenTree.{names_of}
 
@@ -21,10 +20,6 @@ use Rattle.bp_plain.specs.SeenTree.{names_of}
 
 abbrev pub refusals_of : List (Option FsError) → List (Option Refusal)
 refusals_of found = map (option_map refusal_of) found
-
-pub first_of_four : (a b c d : Option FsError) (e f g h : Option Refusal) →
-    option_map refusal_of a ≡ e → option_map refusal_of b ≡ f → option_map refusal_of c ≡ g → option_map refusal_of d ≡ h → first (refusals_of (a ∷ b ∷ c ∷ d ∷ [])) ≡ first (e ∷ f ∷ g ∷ h ∷ [])
-first_of_four a b c d e f g h one two three four = rw (one, two, three, four) refl
 
 -- ---- parents
 
@@ -35,10 +30,6 @@ parent_seen x (y ∷ path) = ap (λ names. x.items ∷ names) (parent_seen y pat
 pub parent_front : (path : List (ArrayVec ℕ)) (n : ℕ) → n ≡ length path - 1 → names_of (take n path) ≡ parent_of (names_of path)
 parent_front [] n e = rw e refl
 parent_front (x ∷ path) n e = let same : n ≡ length path = omega (arith, e) in rw same (parent_seen x path)
-
-pub root_seen : (path : List (ArrayVec ℕ)) → (length path == 0) ≡ is_root_path (names_of path)
-root_seen [] = refl
-root_seen (x ∷ path) = eqb-suc-zero (length path)
 
 -- ---- walks
 
@@ -55,7 +46,7 @@ not_none_of None e = absurd (true≢false (sym e))
 not_none_of (Some x) e = refl
 
 -- the way as far as it was walked, and the rest of it
-abbrev pub walked : FileTree → List (ArrayVec ℕ) → ℕ → Option Refusal
+abbrev pub walked : Nodes → List (ArrayVec ℕ) → ℕ → Option Refusal
 walked tree path depth = first_refusal_from tree (names_of (take depth path)) (names_of (drop depth path))
 
 -- a name of a path, with those before it and behind it
@@ -64,7 +55,7 @@ pub name_at : (path : List (ArrayVec ℕ)) (depth : ℕ) → depth < length path
 name_at [] depth low = absurd (omega (arith, low))
 name_at (x ∷ path) depth low = (get_or (x ∷ path) depth x, drop_more (x ∷ path) depth x low, take_more (x ∷ path) depth x low)
 
-module _ (tree : FileTree) (path : List (ArrayVec ℕ)) (depth : ℕ) (low : depth < length path) where
+module _ (tree : Nodes) (path : List (ArrayVec ℕ)) (depth : ℕ) (low : depth < length path) where
   abbrev name : ArrayVec ℕ
   name = (name_at path depth low).0
 

@@ -1,5 +1,5 @@
--- The entries of a plain tree after a rename, moved one by one.
-use Rattle.std.proofs.Common.{◌≡◌, ℕ, ◌+◌, ◌<◌, ◌&&◌, Bool, true, false, List, [], ◌∷◌, ◌++◌, length, take, get_or, is_some, map, refl, sym, ◌∙◌, ap, ap₂, append_assoc}
+-- Paths in a program against those of the definitions, and the entries of a copy with a change, put in one by one.
+use Rattle.std.proofs.Common.{◌≡◌, ℕ, ◌+◌, ◌<◌, ◌&&◌, Bool, true, false, List, [], ◌∷◌, ◌++◌, length, take, get_or, is_some, map, Option, None, Some, refl, sym, ◌∙◌, ap, ap₂, append_assoc}
 use Rattle.std.proofs.lemmas.List.{take_more, map-append}
 use Rattle.std.specs.Cmp.Lexicographic.{pointwise}
 use Rattle.std.specs.List.{filter_map}
@@ -7,11 +7,13 @@ use Rattle.std.specs.Global.{Vec}
 use Rattle.std.specs.FinMap.{empty, from_entries}
 use Rattle.arrayvec.specs.ArrayVec.{ArrayVec}
 use Rattle.bp_layout.specs.Below.{same_path, rest_below}
-use Rattle.bp_layout.specs.Lookup.{Path, Node}
-use Rattle.bp_plain.specs.declared.trees.Node.{Node as Kept}
-use Rattle.bp_plain.specs.Plain.{moved_entry}
-use Rattle.bp_plain.specs.PlainTree.{FileTree, path_cmp}
-use Rattle.bp_plain.specs.SeenTree.{entry_kept, names_of, with_moved}
+use Rattle.bp_layout.specs.Lookup.{Path}
+use Rattle.bp_plain.specs.declared.trees.entries.Change.{Change}
+use Rattle.bp_plain.specs.declared.trees.entries.Node.{Node as Kept}
+use Rattle.bp_plain.specs.Changed.{changed, with_entry}
+use Rattle.bp_plain.specs.Numbered.{Numbered, NumberedFiles}
+use Rattle.bp_plain.specs.PlainTree.{path_cmp}
+use Rattle.bp_plain.specs.SeenTree.{entry_kept, names_of}
 use Rattle.bp_plain.proofs.PathLaws.{same_name}
 
 -- ---- paths
@@ -47,29 +49,29 @@ name_added before after names i name copy old low is more same so_far =
 -- ---- entries
 
 -- the last one first, so that of two at one path the first stays
-abbrev pub all_moved : Path → Path → List (Path × Node) → FileTree → FileTree
-all_moved p q [] tree = tree
-all_moved p q (entry ∷ es) tree = with_moved p q entry (all_moved p q es tree)
+abbrev pub all_put : Change → List (Path × Numbered) → NumberedFiles → NumberedFiles
+all_put change [] files = files
+all_put change (entry ∷ es) files = with_entry (changed change entry) (all_put change es files)
 
-pub all_moved-last : (p q : Path) (es : List (Path × Node)) (entry : Path × Node) (tree : FileTree) → all_moved p q (es ++ entry ∷ []) tree ≡ all_moved p q es (with_moved p q entry tree)
-all_moved-last p q [] entry tree = refl
-all_moved-last p q (e ∷ es) entry tree = ap (with_moved p q e) (all_moved-last p q es entry tree)
+pub all_put-last : (change : Change) (es : List (Path × Numbered)) (entry : Path × Numbered) (files : NumberedFiles) → all_put change (es ++ entry ∷ []) files ≡ all_put change es (with_entry (changed change entry) files)
+all_put-last change [] entry files = refl
+all_put-last change (e ∷ es) entry files = ap (with_entry (changed change e)) (all_put-last change es entry files)
 
-pub all_moved-is : (p q : Path) (es : List (Path × Node)) → all_moved p q es empty ≡ from_entries {R = path_cmp} (filter_map (moved_entry p q) es)
-all_moved-is p q [] = refl
-all_moved-is p q (e ∷ es) = go (same_path e.0 q) refl (all_moved-is p q es)
+pub all_put-is : (change : Change) (es : List (Path × Numbered)) → all_put change es empty ≡ from_entries {R = path_cmp} (filter_map (changed change) es)
+all_put-is change [] = refl
+all_put-is change (e ∷ es) = go (changed change e) refl (all_put-is change es)
   where
-    go : (b : Bool) → same_path e.0 q ≡ b → all_moved p q es empty ≡ from_entries {R = path_cmp} (filter_map (moved_entry p q) es) →
-        all_moved p q (e ∷ es) empty ≡ from_entries {R = path_cmp} (filter_map (moved_entry p q) (e ∷ es))
-    go true at rest = rw at rest
-    go false at rest = rw (at, rest) refl
+    go : (found : Option (Path × Numbered)) → changed change e ≡ found → all_put change es empty ≡ from_entries {R = path_cmp} (filter_map (changed change) es) →
+        all_put change (e ∷ es) empty ≡ from_entries {R = path_cmp} (filter_map (changed change) (e ∷ es))
+    go None at rest = rw at rest
+    go (Some entry) at rest = rw (at, rest) refl
 
 -- a further entry from the back
-pub moved_more : (p q : Path) (entry : Vec (ArrayVec ℕ) × Kept) (rest left : List (Vec (ArrayVec ℕ) × Kept)) (before after whole : FileTree) →
-    left ≡ rest ++ entry ∷ [] → after ≡ with_moved p q (entry_kept entry) before →
-    all_moved p q (map entry_kept left) before ≡ whole → all_moved p q (map entry_kept rest) after ≡ whole
-moved_more p q entry rest left before after whole is made so_far =
-    ap (all_moved p q (map entry_kept rest)) made
-    ∙ sym (all_moved-last p q (map entry_kept rest) (entry_kept entry) before)
-    ∙ ap (λ es. all_moved p q es before) (sym (map-append entry_kept rest (entry ∷ [])))
-    ∙ ap (λ es. all_moved p q (map entry_kept es) before) (sym is) ∙ so_far
+pub put_more : (change : Change) (entry : Vec (ArrayVec ℕ) × Kept) (rest left : List (Vec (ArrayVec ℕ) × Kept)) (before after whole : NumberedFiles) →
+    left ≡ rest ++ entry ∷ [] → after ≡ with_entry (changed change (entry_kept entry)) before →
+    all_put change (map entry_kept left) before ≡ whole → all_put change (map entry_kept rest) after ≡ whole
+put_more change entry rest left before after whole is made so_far =
+    ap (all_put change (map entry_kept rest)) made
+    ∙ sym (all_put-last change (map entry_kept rest) (entry_kept entry) before)
+    ∙ ap (λ es. all_put change es before) (sym (map-append entry_kept rest (entry ∷ [])))
+    ∙ ap (λ es. all_put change (map entry_kept es) before) (sym is) ∙ so_far

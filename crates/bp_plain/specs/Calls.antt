@@ -3,6 +3,12 @@ use Rattle.std.specs.Prelude.{ℕ, List}
 use Rattle.bp_layout.specs.declared.fields.Kind.{Kind}
 use Rattle.bp_layout.specs.Directory.{Name}
 
+-- bytes for the file at a path, from an offset on
+pub record Piece : Type 0 where
+  pub path : List ℕ
+  pub off : ℕ
+  pub bytes : List ℕ
+
 pub data Call : Type 0 where
   create : List ℕ → Call
   mkdir : List ℕ → Call
@@ -15,6 +21,17 @@ pub data Call : Type 0 where
   write : List ℕ → ℕ → List ℕ → Call
   truncate : List ℕ → ℕ → Call
   rename : List ℕ → List ℕ → Call
+  -- a path that is there, and a new one
+  link : List ℕ → List ℕ → Call
+  links : List ℕ → Call
+  upgrade : Call
+  snap : Call
+  unsnap : Call
+  -- of the snapshot
+  snap_list : List ℕ → Call
+  snap_stat : List ℕ → Call
+  snap_read : List ℕ → ℕ → ℕ → Call
+  batch : List Piece → Call
 
 pub data Refusal : Type 0 where
   bad_path : Refusal
@@ -30,6 +47,10 @@ pub data Refusal : Type 0 where
   -- the blocks that the call needs, and those that are free
   no_space : ℕ → ℕ → Refusal
   no_memory : Refusal
+  no_snap : Refusal
+  has_snap : Refusal
+  old_version : Refusal
+  past_end : Refusal
 
 pub data Answer : Type 0 where
   done : Answer
@@ -37,4 +58,5 @@ pub data Answer : Type 0 where
   file_of : ℕ → Answer
   dir_of : ℕ → Answer
   names : List (Kind × Name) → Answer
+  links_of : ℕ → Answer
   refused : Refusal → Answer

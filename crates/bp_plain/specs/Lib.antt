@@ -3,8 +3,14 @@ pub mod Stands
 pub mod Calls
 pub mod Refusals
 pub mod Plain
+pub mod Export
 pub mod Seen
+pub mod Served
 pub mod ReplyView
 pub mod SeenAnswers
+pub mod Kernels
+pub mod Numbered
 pub mod TreeCode
 pub mod SeenTree
+pub mod SeenMap
+pub mod Changed

@@ -1,20 +1,23 @@
--- A plain file tree, and what each call makes of it.
-use Rattle.std.specs.Prelude.{ℕ, ◌+◌, ◌-◌, List, [], ◌∷◌, ◌++◌, length, take, drop, replicate, Bool, true, false, not, ◌&&◌, ◌==◌, nat_lt, Option, None, Some, is_some, is_none, option_map, unwrap_or, if◌then◌else◌}
-use Rattle.std.specs.List.{filter_map}
-use Rattle.std.specs.FinMap.{get, insert, remove, entries, from_entries}
+-- A plain file tree, and what each call makes of it: first what stands at paths, then which paths are one, and last
+-- the calls.
+use Rattle.std.specs.Prelude.{ℕ, ◌+◌, ◌-◌, List, [], ◌∷◌, ◌++◌, map, length, take, drop, replicate, Bool, true, false, not, ◌&&◌, ◌||◌, ◌==◌, nat_lt, Option, None, Some, is_some, is_none, option_map, unwrap_or, if◌then◌else◌}
+use Rattle.std.specs.List.{filter_map, list_any, sum_by}
+use Rattle.std.specs.FinMap.{FinMap, get, insert, remove, entries, from_entries}
+use Rattle.std.specs.FinSet as set
 use Rattle.bp_layout.specs.Directory.{Name}
 use Rattle.bp_layout.specs.Lookup.{Path, Node}
 use Rattle.bp_layout.specs.Lookup.Node.{dir, file}
-use Rattle.bp_limits.specs.Limits.{max_size, max_write}
+use Rattle.bp_limits.specs.Limits.{greatest_size, greatest_write, is_two, max_batch}
 use Rattle.bp_layout.specs.Below.{same_path, rest_below}
-use Rattle.bp_plain.specs.PlainTree.{FileTree}
+use Rattle.bp_plain.specs.PlainTree.{FileTree, Nodes, Aliases, PathMap, is_one, path_cmp}
 use Rattle.bp_layout.specs.PathText.{parse}
 use Rattle.bp_layout.specs.declared.fields.Kind.{Kind}
 use Rattle.bp_layout.specs.declared.fields.Kind.TheVariants.{File, Dir}
-use Rattle.bp_plain.specs.Calls.{Call, Refusal, Answer}
-use Rattle.bp_plain.specs.Calls.Call.{create, mkdir, unlink, rmdir, list, stat, read, write, truncate, rename}
-use Rattle.bp_plain.specs.Calls.Refusal.{bad_path, not_found, not_dir, is_dir, exists, not_empty, into_self, is_root, too_long, too_big}
-use Rattle.bp_plain.specs.Calls.Answer.{done, bytes, file_of, dir_of, names, refused}
+use Rattle.bp_plain.specs.Calls.{Call, Piece, Refusal, Answer}
+use Rattle.bp_plain.specs.Calls.Call.{create, mkdir, unlink, rmdir, list, stat, read, write, truncate, rename, link, links, upgrade, snap, unsnap, snap_list, snap_stat, snap_read, batch}
+use Rattle.bp_plain.specs.Calls.Refusal.{bad_path, not_found, not_dir, is_dir, exists, not_empty, into_self, is_root, too_long, too_big, no_snap, has_snap, old_version, past_end}
+use Rattle.bp_plain.specs.Calls.Answer.{done, bytes, file_of, dir_of, names, links_of, refused}
+use Rattle.bp_limits.specs.declared.version.Version.TheVariants.{Two}
 
 -- ---- paths
 
@@ -33,11 +36,11 @@ abbrev pub bytes_in : Option Node → List ℕ
 bytes_in (Some (file content)) = content
 bytes_in _ = []
 
-abbrev pub is_dir_at : FileTree → Path → Bool
-is_dir_at tree path = is_a_dir (get tree path)
+abbrev pub is_dir_at : Nodes → Path → Bool
+is_dir_at nodes path = is_a_dir (get nodes path)
 
-abbrev pub bytes_at : FileTree → Path → List ℕ
-bytes_at tree path = bytes_in (get tree path)
+abbrev pub bytes_at : Nodes → Path → List ℕ
+bytes_at nodes path = bytes_in (get nodes path)
 
 abbrev pub kind_of_node : Node → Kind
 kind_of_node dir = Dir
@@ -52,11 +55,11 @@ abbrev pub listed_in : Path → Path × Node → Option (Kind × Name)
 listed_in path entry = option_map (λ name. (kind_of_node entry.1, name)) (only_name (rest_below path entry.0))
 
 -- the names in a directory with their kinds, in the order of their bytes
-abbrev pub listing : FileTree → Path → List (Kind × Name)
-listing tree path = filter_map (listed_in path) (entries tree)
+abbrev pub listing : Nodes → Path → List (Kind × Name)
+listing nodes path = filter_map (listed_in path) (entries nodes)
 
-abbrev pub is_empty_dir : FileTree → Path → Bool
-is_empty_dir tree path = length (listing tree path) == 0
+abbrev pub is_empty_dir : Nodes → Path → Bool
+is_empty_dir nodes path = length (listing nodes path) == 0
 
 -- ---- refusals
 
@@ -72,18 +75,18 @@ abbrev pub is_root_path : Path → Bool
 is_root_path path = same_path path []
 
 -- the first name that is sought in a file or is missing
-abbrev pub first_refusal_from : FileTree → Path → Path → Option Refusal
-first_refusal_from tree here [] = None
-first_refusal_from tree here (name ∷ path) =
-    first (when (not (is_dir_at tree here)) not_dir ∷ when (is_none (get tree (here ++ name ∷ []))) not_found
-    ∷ first_refusal_from tree (here ++ name ∷ []) path ∷ [])
+abbrev pub first_refusal_from : Nodes → Path → Path → Option Refusal
+first_refusal_from nodes here [] = None
+first_refusal_from nodes here (name ∷ path) =
+    first (when (not (is_dir_at nodes here)) not_dir ∷ when (is_none (get nodes (here ++ name ∷ []))) not_found
+    ∷ first_refusal_from nodes (here ++ name ∷ []) path ∷ [])
 
-abbrev pub walk : FileTree → Path → Option Refusal
-walk tree path = first_refusal_from tree [] path
+abbrev pub walk : Nodes → Path → Option Refusal
+walk nodes path = first_refusal_from nodes [] path
 
 -- the same of a parent, which is to be a directory
-abbrev pub walk_parent : FileTree → Path → Option Refusal
-walk_parent tree path = first (walk tree (parent_of path) ∷ when (not (is_dir_at tree (parent_of path))) not_dir ∷ [])
+abbrev pub walk_parent : Nodes → Path → Option Refusal
+walk_parent nodes path = first (walk nodes (parent_of path) ∷ when (not (is_dir_at nodes (parent_of path))) not_dir ∷ [])
 
 abbrev pub on_parsed : Option Path → (Path → Option Refusal) → Option Refusal
 on_parsed None refusals = Some bad_path
@@ -97,70 +100,112 @@ on_path text refusals = on_parsed (parse text) refusals
 abbrev pub moves_below : Path → Path → Bool
 moves_below p q = not (same_path p q) && is_some (rest_below p q)
 
-abbrev pub moves_file_onto_dir : FileTree → Path → Path → Bool
-moves_file_onto_dir tree p q = not (is_dir_at tree p) && is_dir_at tree q
+abbrev pub moves_file_onto_dir : Nodes → Path → Path → Bool
+moves_file_onto_dir nodes p q = not (is_dir_at nodes p) && is_dir_at nodes q
 
-abbrev pub moves_dir_onto_file : FileTree → Path → Path → Bool
-moves_dir_onto_file tree p q = is_dir_at tree p && is_some (get tree q) && not (is_dir_at tree q)
+abbrev pub moves_dir_onto_file : Nodes → Path → Path → Bool
+moves_dir_onto_file nodes p q = is_dir_at nodes p && is_some (get nodes q) && not (is_dir_at nodes q)
 
 -- a directory would move to one that has names in it
-abbrev pub moves_onto_names : FileTree → Path → Path → Bool
-moves_onto_names tree p q = not (same_path p q) && is_dir_at tree p && is_dir_at tree q && not (is_empty_dir tree q)
+abbrev pub moves_onto_names : Nodes → Path → Path → Bool
+moves_onto_names nodes p q = not (same_path p q) && is_dir_at nodes p && is_dir_at nodes q && not (is_empty_dir nodes q)
 
 -- why what stands at the one path does not move to the other
-abbrev pub move_refusal : FileTree → Path → Path → Option Refusal
-move_refusal tree p q = first (
-    when (is_root_path p) is_root ∷ when (is_root_path q) is_root ∷ walk tree p ∷ walk_parent tree q
+abbrev pub move_refusal : Nodes → Path → Path → Option Refusal
+move_refusal nodes p q = first (
+    when (is_root_path p) is_root ∷ when (is_root_path q) is_root ∷ walk nodes p ∷ walk_parent nodes q
     ∷ when (moves_below p q) into_self
-    ∷ when (moves_file_onto_dir tree p q) is_dir
-    ∷ when (moves_dir_onto_file tree p q) not_dir
-    ∷ when (moves_onto_names tree p q) not_empty ∷ [])
+    ∷ when (moves_file_onto_dir nodes p q) is_dir
+    ∷ when (moves_dir_onto_file nodes p q) not_dir
+    ∷ when (moves_onto_names nodes p q) not_empty ∷ [])
 
--- the first refusal of a call in this order
-abbrev pub refusal : FileTree → Call → Option Refusal
-refusal tree (create text) = on_path text (λ p. first (when (is_root_path p) exists ∷ walk_parent tree p
-    ∷ when (is_some (get tree p)) exists ∷ []))
-refusal tree (mkdir text) = on_path text (λ p. first (when (is_root_path p) exists ∷ walk_parent tree p
-    ∷ when (is_some (get tree p)) exists ∷ []))
-refusal tree (read text off len) = on_path text (λ p. first (walk tree p ∷ when (is_dir_at tree p) is_dir ∷ []))
-refusal tree (write text off new) = on_path text (λ p. first (when (nat_lt max_write (length new)) too_long
-    ∷ walk tree p ∷ when (is_dir_at tree p) is_dir
-    ∷ when (nat_lt 0 (length new) && nat_lt max_size (off + length new)) too_big ∷ []))
-refusal tree (truncate text size) =
-    on_path text (λ p. first (walk tree p ∷ when (is_dir_at tree p) is_dir ∷ when (nat_lt max_size size) too_big ∷ []))
-refusal tree (unlink text) =
-    on_path text (λ p. first (when (is_root_path p) is_dir ∷ walk tree p ∷ when (is_dir_at tree p) is_dir ∷ []))
-refusal tree (rmdir text) = on_path text (λ p. first (when (is_root_path p) is_root ∷ walk tree p
-    ∷ when (not (is_dir_at tree p)) not_dir ∷ when (not (is_empty_dir tree p)) not_empty ∷ []))
-refusal tree (rename from to) = on_path from (λ p. on_path to (λ q. move_refusal tree p q))
-refusal tree (list text) = on_path text (λ p. first (walk tree p ∷ when (not (is_dir_at tree p)) not_dir ∷ []))
-refusal tree (stat text) = on_path text (λ p. walk tree p)
-
--- ---- trees with one path more, one fewer, or other bytes
+-- ---- nodes with one path more, one fewer, or other bytes
 
 -- this node stands at the path, whatever stood there
-abbrev pub with_node : FileTree → Path → Node → FileTree
-with_node tree path node = insert tree path node
+abbrev pub with_node : Nodes → Path → Node → Nodes
+with_node nodes path node = insert nodes path node
 
 -- nothing stands at the path
-abbrev pub with_nothing_at : FileTree → Path → FileTree
-with_nothing_at tree path = remove tree path
+abbrev pub with_nothing_at : Nodes → Path → Nodes
+with_nothing_at nodes path = remove nodes path
 
 -- a file with these bytes stands at the path
-abbrev pub with_bytes : FileTree → Path → List ℕ → FileTree
-with_bytes tree path content = with_node tree path (file content)
+abbrev pub with_bytes : Nodes → Path → List ℕ → Nodes
+with_bytes nodes path content = with_node nodes path (file content)
 
 -- where a path lies, once what is at or below the one is at or below the other
 abbrev pub moved_path : Path → Path → Path → Path
 moved_path p q path = unwrap_or (option_map (λ rest. q ++ rest) (rest_below p path)) path
 
 -- an entry that moves so, unless it stood at the other path itself
-abbrev pub moved_entry : Path → Path → Path × Node → Option (Path × Node)
+abbrev pub moved_entry : {A : Type 0} → Path → Path → Path × A → Option (Path × A)
 moved_entry p q entry = if same_path entry.0 q then None else Some (moved_path p q entry.0, entry.1)
 
 -- each path below the one moves below the other, whose own node is gone
-abbrev pub moved : Path → Path → FileTree → FileTree
-moved p q tree = from_entries (filter_map (moved_entry p q) (entries tree))
+abbrev pub moved : {A : Type 0} → Path → Path → FinMap path_cmp A → FinMap path_cmp A
+moved p q nodes = from_entries (filter_map (moved_entry p q) (entries nodes))
+
+-- a file with these bytes stands at each of the paths
+abbrev pub with_bytes_at : List Path → List ℕ → Nodes → Nodes
+with_bytes_at [] content nodes = nodes
+with_bytes_at (path ∷ paths) content nodes = with_bytes (with_bytes_at paths content nodes) path content
+
+-- ---- which paths are one
+
+-- the paths that are one with a path, itself among them
+abbrev pub paths_of : Aliases → Path → List Path
+paths_of one path = filter_map (λ pair. if same_path pair.0 path then Some pair.1 else None) (set.items one)
+
+-- how many they are
+abbrev pub path_count : Aliases → Path → ℕ
+path_count one path = set.len (set.from_list {R = path_cmp} (paths_of one path))
+
+-- the pairs of a new path with itself and with each of some others
+abbrev pub pairs_with : Path → List Path → List (Path × Path)
+pairs_with path [] = (path, path) ∷ []
+pairs_with path (other ∷ others) = (path, other) ∷ (other, path) ∷ pairs_with path others
+
+-- a path of a file of its own, and another one of the file at a path
+abbrev pub alone : Aliases → Path → Aliases
+alone one path = set.insert one (path, path)
+
+abbrev pub linked : Aliases → Path → Path → Aliases
+linked one path new = set.union one (set.from_list (pairs_with new (paths_of one path)))
+
+-- no file has the path any more
+abbrev pub without : Aliases → Path → Aliases
+without one path = set.retain one (λ pair. not (same_path pair.0 path) && not (same_path pair.1 path))
+
+-- a pair whose paths move as entries do
+abbrev pub moved_pair : Path → Path → Path × Path → Option (Path × Path)
+moved_pair p q pair = if same_path pair.0 q || same_path pair.1 q then None
+    else Some (moved_path p q pair.0, moved_path p q pair.1)
+
+abbrev pub moved_one : Path → Path → Aliases → Aliases
+moved_one p q one = set.from_list (filter_map (moved_pair p q) (set.items one))
+
+-- ---- what a call makes of both
+
+abbrev pub with_file : PathMap → Path → PathMap
+with_file map path = record { nodes = with_bytes map.nodes path []; one = alone map.one path }
+
+abbrev pub with_dir : PathMap → Path → PathMap
+with_dir map path = record { nodes = with_node map.nodes path dir; one = map.one }
+
+-- other bytes, at each path of the file
+abbrev pub with_content : PathMap → Path → List ℕ → PathMap
+with_content map path content =
+    record { nodes = with_bytes_at (paths_of map.one path) content map.nodes; one = map.one }
+
+abbrev pub with_name : PathMap → Path → Path → PathMap
+with_name map path new =
+    record { nodes = with_bytes map.nodes new (bytes_at map.nodes path); one = linked map.one path new }
+
+abbrev pub with_nothing : PathMap → Path → PathMap
+with_nothing map path = record { nodes = with_nothing_at map.nodes path; one = without map.one path }
+
+abbrev pub with_moved : PathMap → Path → Path → PathMap
+with_moved map p q = record { nodes = moved p q map.nodes; one = moved_one p q map.one }
 
 -- ---- what a call makes, where it is not refused
 
@@ -173,27 +218,90 @@ resized old size = take size (old ++ replicate (size - length old) 0)
 abbrev pub path_named : List ℕ → Path
 path_named text = unwrap_or (parse text) []
 
+abbrev pub with_written : PathMap → Path → ℕ → List ℕ → PathMap
+with_written map path off new = with_content map path (written (bytes_at map.nodes path) off new)
+
+abbrev pub with_piece : PathMap → Piece → PathMap
+with_piece map piece =
+    if nat_lt 0 (length piece.bytes) then with_written map (path_named piece.path) piece.off piece.bytes else map
+
+-- the pieces one after the other
+abbrev pub with_pieces : PathMap → List Piece → PathMap
+with_pieces map [] = map
+with_pieces map (piece ∷ pieces) = with_pieces (with_piece map piece) pieces
+
+-- ---- calls: refusals
+
+abbrev pub new_refusal : Nodes → Path → Option Refusal
+new_refusal nodes p =
+    first (when (is_root_path p) exists ∷ walk_parent nodes p ∷ when (is_some (get nodes p)) exists ∷ [])
+
+abbrev pub file_refusal : Nodes → Path → Option Refusal
+file_refusal nodes p = first (walk nodes p ∷ when (is_dir_at nodes p) is_dir ∷ [])
+
+abbrev pub dir_refusal : Nodes → Path → Option Refusal
+dir_refusal nodes p = first (walk nodes p ∷ when (not (is_dir_at nodes p)) not_dir ∷ [])
+
+-- a piece of a batch lies below the size of its file
+abbrev pub piece_refusal : Nodes → Piece → Option Refusal
+piece_refusal nodes piece = first (file_refusal nodes (path_named piece.path)
+    ∷ when (nat_lt (length (bytes_at nodes (path_named piece.path))) (piece.off + length piece.bytes)) past_end ∷ [])
+
+-- of a snapshot
+abbrev pub on_snap : Option PathMap → (Nodes → Option Refusal) → Option Refusal
+on_snap None refusals = Some no_snap
+on_snap (Some map) refusals = refusals map.nodes
+
+-- the first refusal of a call in this order
+abbrev pub refusal : FileTree → Call → Option Refusal
+refusal tree (create text) = on_path text (new_refusal tree.now.nodes)
+refusal tree (mkdir text) = on_path text (new_refusal tree.now.nodes)
+refusal tree (read text off len) = on_path text (file_refusal tree.now.nodes)
+refusal tree (write text off new) = on_path text (λ p. first (
+    when (nat_lt (greatest_write tree.version) (length new)) too_long ∷ file_refusal tree.now.nodes p
+    ∷ when (nat_lt 0 (length new) && nat_lt (greatest_size tree.version) (off + length new)) too_big ∷ []))
+refusal tree (truncate text size) = on_path text (λ p. first (
+    file_refusal tree.now.nodes p ∷ when (nat_lt (greatest_size tree.version) size) too_big ∷ []))
+refusal tree (unlink text) =
+    on_path text (λ p. first (when (is_root_path p) is_dir ∷ file_refusal tree.now.nodes p ∷ []))
+refusal tree (rmdir text) = on_path text (λ p. first (when (is_root_path p) is_root ∷ dir_refusal tree.now.nodes p
+    ∷ when (not (is_empty_dir tree.now.nodes p)) not_empty ∷ []))
+refusal tree (rename from to) = on_path from (λ p. on_path to (λ q. move_refusal tree.now.nodes p q))
+refusal tree (list text) = on_path text (dir_refusal tree.now.nodes)
+refusal tree (stat text) = on_path text (walk tree.now.nodes)
+refusal tree (link from to) = on_path from (λ p. on_path to (λ q. first (
+    file_refusal tree.now.nodes p ∷ new_refusal tree.now.nodes q ∷ [])))
+refusal tree (links text) = on_path text (file_refusal tree.now.nodes)
+refusal tree upgrade = None
+refusal tree snap = first (when (not (is_two tree.version)) old_version ∷ when (is_some tree.snap) has_snap ∷ [])
+refusal tree unsnap = when (is_none tree.snap) no_snap
+refusal tree (snap_list text) = on_path text (λ p. on_snap tree.snap (λ nodes. dir_refusal nodes p))
+refusal tree (snap_stat text) = on_path text (λ p. on_snap tree.snap (λ nodes. walk nodes p))
+refusal tree (snap_read text off len) = on_path text (λ p. on_snap tree.snap (λ nodes. file_refusal nodes p))
+refusal tree (batch pieces) = first (map (λ piece. when (is_none (parse piece.path)) bad_path) pieces
+    ++ when (nat_lt max_batch (sum_by (λ piece. length piece.bytes) pieces)) too_long
+    ∷ map (piece_refusal tree.now.nodes) pieces)
+
+-- ---- calls: the tree after one that is not refused
+
+abbrev pub with_now : FileTree → PathMap → FileTree
+with_now tree map = record tree { now = map }
+
 abbrev pub tree_after : FileTree → Call → FileTree
-tree_after tree (create text) = with_bytes tree (path_named text) []
-tree_after tree (mkdir text) = with_node tree (path_named text) dir
-tree_after tree (write text off new) =
-    with_bytes tree (path_named text) (written (bytes_at tree (path_named text)) off new)
-tree_after tree (truncate text size) =
-    with_bytes tree (path_named text) (resized (bytes_at tree (path_named text)) size)
-tree_after tree (unlink text) = with_nothing_at tree (path_named text)
-tree_after tree (rmdir text) = with_nothing_at tree (path_named text)
-tree_after tree (rename from to) = moved (path_named from) (path_named to) tree
+tree_after tree (create text) = with_now tree (with_file tree.now (path_named text))
+tree_after tree (mkdir text) = with_now tree (with_dir tree.now (path_named text))
+tree_after tree (write text off new) = with_now tree (with_written tree.now (path_named text) off new)
+tree_after tree (truncate text size) = with_now tree
+    (with_content tree.now (path_named text) (resized (bytes_at tree.now.nodes (path_named text)) size))
+tree_after tree (unlink text) = with_now tree (with_nothing tree.now (path_named text))
+tree_after tree (rmdir text) = with_now tree (with_nothing tree.now (path_named text))
+tree_after tree (rename from to) = with_now tree (with_moved tree.now (path_named from) (path_named to))
+tree_after tree (link from to) = with_now tree (with_name tree.now (path_named from) (path_named to))
+tree_after tree upgrade = record tree { version = Two }
+tree_after tree snap = record tree { snap = Some tree.now }
+tree_after tree unsnap = record tree { snap = None }
+tree_after tree (batch pieces) = with_now tree (with_pieces tree.now pieces)
 tree_after tree _ = tree
-
-abbrev pub stat_answer : FileTree → Path → Option Node → Answer
-stat_answer tree path (Some (file content)) = file_of (length content)
-stat_answer tree path _ = dir_of (length (listing tree path))
-
-abbrev pub answer : FileTree → Call → Answer
-answer tree (read text off len) = bytes (take len (drop off (bytes_at tree (path_named text))))
-answer tree (list text) = names (listing tree (path_named text))
-answer tree (stat text) = stat_answer tree (path_named text) (get tree (path_named text))
-answer tree _ = done
 
 -- whether a call that is not refused changes the tree
 abbrev pub changes : FileTree → Call → Bool
@@ -202,12 +310,44 @@ changes tree (mkdir text) = true
 changes tree (unlink text) = true
 changes tree (rmdir text) = true
 changes tree (write text off new) = nat_lt 0 (length new)
-changes tree (truncate text size) = not (size == length (bytes_at tree (path_named text)))
+changes tree (truncate text size) = not (size == length (bytes_at tree.now.nodes (path_named text)))
+-- two paths of one file stay as they are
 changes tree (rename from to) = not (same_path (path_named from) (path_named to))
+    && not (is_one tree.now.one (path_named from) (path_named to))
+changes tree (link from to) = true
+changes tree upgrade = not (is_two tree.version)
+changes tree snap = true
+changes tree unsnap = true
+changes tree (batch pieces) = list_any (λ piece. nat_lt 0 (length piece.bytes)) pieces
 changes tree _ = false
 
 abbrev pub is_changing : FileTree → Call → Bool
 is_changing tree call = is_none (refusal tree call) && changes tree call
+
+-- ---- calls: answers
+
+abbrev pub read_answer : Nodes → List ℕ → ℕ → ℕ → Answer
+read_answer nodes text off len = bytes (take len (drop off (bytes_at nodes (path_named text))))
+
+abbrev pub stat_answer : Nodes → Path → Option Node → Answer
+stat_answer nodes path (Some (file content)) = file_of (length content)
+stat_answer nodes path _ = dir_of (length (listing nodes path))
+
+-- what a snapshot has at paths, and nothing where there is none
+abbrev pub snap_nodes : Option PathMap → Nodes
+snap_nodes None = from_entries []
+snap_nodes (Some map) = map.nodes
+
+abbrev pub answer : FileTree → Call → Answer
+answer tree (read text off len) = read_answer tree.now.nodes text off len
+answer tree (list text) = names (listing tree.now.nodes (path_named text))
+answer tree (stat text) = stat_answer tree.now.nodes (path_named text) (get tree.now.nodes (path_named text))
+answer tree (links text) = links_of (path_count tree.now.one (path_named text))
+answer tree (snap_read text off len) = read_answer (snap_nodes tree.snap) text off len
+answer tree (snap_list text) = names (listing (snap_nodes tree.snap) (path_named text))
+answer tree (snap_stat text) =
+    stat_answer (snap_nodes tree.snap) (path_named text) (get (snap_nodes tree.snap) (path_named text))
+answer tree _ = done
 
 abbrev pub answer_or : FileTree → Call → Option Refusal → Answer × FileTree
 answer_or tree call (Some r) = (refused r, tree)

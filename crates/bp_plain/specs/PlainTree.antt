@@ -1,26 +1,69 @@
--- A plain file tree: what stands at each path.
-use Rattle.std.specs.Prelude.{◌≡◌, [], ◌∷◌, ◌++◌, Some}
-use Rattle.std.specs.Ordering.{nat_cmp}
+-- A plain file tree: what stands at each path, and which paths are one file.
+use Rattle.std.specs.Prelude.{◌≡◌, ℕ, List, [], ◌∷◌, ◌++◌, Bool, true, Option, None, Some}
+use Rattle.std.specs.Ordering.{nat_cmp, ordering_then}
 use Rattle.std.specs.declared.cmp.Ordering.{Ordering}
-use Rattle.std.specs.FinMap.{FinMap, get, insert, empty}
+use Rattle.std.specs.FinMap.{FinMap, get}
+use Rattle.std.specs.FinMap as finite
+use Rattle.std.specs.FinSet.{FinSet, contains}
+use Rattle.std.specs.FinSet as set
 use Rattle.std.specs.Cmp.Lexicographic.{slice_cmp}
-use Rattle.bp_layout.specs.Directory.{Name}
+use Rattle.bp_layout.specs.Directory.{IsName, Name}
 use Rattle.bp_layout.specs.Lookup.{Path, Node}
-use Rattle.bp_layout.specs.Lookup.Node.{dir}
+use Rattle.bp_layout.specs.Lookup.Node.{dir, file}
+use Rattle.bp_limits.specs.declared.version.Version.{Version}
+use Rattle.bp_limits.specs.declared.version.Version.TheVariants.{Two}
 
 -- paths by their names, and names by their bytes
 abbrev pub path_cmp : Path → Path → Ordering
 path_cmp = slice_cmp (slice_cmp nat_cmp)
 
-abbrev pub FileTree : Type 0
-FileTree = FinMap path_cmp Node
+-- pairs of paths by the first of them, and then by the second
+abbrev pub pair_cmp : Path × Path → Path × Path → Ordering
+pair_cmp a b = ordering_then (path_cmp a.0 b.0) (path_cmp a.1 b.1)
 
--- the root is a directory, and so is the parent of each other path
+-- what stands at each path
+abbrev pub Nodes : Type 0
+Nodes = FinMap path_cmp Node
+
+-- pairs of paths that are one file: each path of a file makes one with itself
+abbrev pub Aliases : Type 0
+Aliases = FinSet pair_cmp
+
+abbrev pub is_one : Aliases → Path → Path → Bool
+is_one one p q = contains one (p, q)
+
+-- both
+pub record PathMap : Type 0 where
+  pub nodes : Nodes
+  pub one : Aliases
+
+-- the version of the format; what stands at each path now; and what stood there at the snapshot, where one was
+-- made
+pub record FileTree : Type 0 where
+  pub version : Version
+  pub now : PathMap
+  pub snap : Option PathMap
+
+-- The root is a directory, and so is the parent of each other path. The pairs are those of an equivalence of the
+-- paths of files, and the paths of a pair have the same bytes.
+pub record IsPathMap (map : PathMap) : Type 0 where
+  pub root : get map.nodes [] ≡ Some dir
+  pub parents : (path : Path) (name : Name) (node : Node) → get map.nodes (path ++ name ∷ []) ≡ Some node
+      → get map.nodes path ≡ Some dir
+  pub names : (path : Path) (name : Name) (node : Node) → get map.nodes (path ++ name ∷ []) ≡ Some node → IsName name
+  pub itself : (p : Path) (bytes : List ℕ) → get map.nodes p ≡ Some (file bytes) → is_one map.one p p ≡ true
+  pub back : (p q : Path) → is_one map.one p q ≡ true → is_one map.one q p ≡ true
+  pub chain : (p q r : Path) → is_one map.one p q ≡ true → is_one map.one q r ≡ true → is_one map.one p r ≡ true
+  pub files : (p q : Path) → is_one map.one p q ≡ true → (bytes : List ℕ) × (get map.nodes p ≡ Some (file bytes))
+      × (get map.nodes q ≡ Some (file bytes))
+
 pub record IsFileTree (tree : FileTree) : Type 0 where
-  pub root : get tree [] ≡ Some dir
-  pub parents : (path : Path) (name : Name) (node : Node) → get tree (path ++ name ∷ []) ≡ Some node
-      → get tree path ≡ Some dir
+  pub now : IsPathMap tree.now
+  pub snap : (map : PathMap) → tree.snap ≡ Some map → (tree.version ≡ Two) × IsPathMap map
 
 -- the root directory alone
-abbrev pub empty_tree : FileTree
-empty_tree = insert empty [] dir
+abbrev pub empty_map : PathMap
+empty_map = record { nodes = finite.insert finite.empty [] dir; one = set.empty }
+
+abbrev pub empty_tree : Version → FileTree
+empty_tree version = record { version = version; now = empty_map; snap = None }

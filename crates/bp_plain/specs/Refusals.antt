@@ -1,7 +1,7 @@
 -- How replies tell a refusal: by a number and a word.
 use Rattle.std.specs.Prelude.{ℕ, List, codes}
 use Rattle.bp_plain.specs.Calls.{Refusal}
-use Rattle.bp_plain.specs.Calls.Refusal.{bad_path, not_found, not_dir, is_dir, exists, not_empty, into_self, is_root, too_long, too_big, no_space, no_memory}
+use Rattle.bp_plain.specs.Calls.Refusal.{bad_path, not_found, not_dir, is_dir, exists, not_empty, into_self, is_root, too_long, too_big, no_space, no_memory, no_snap, has_snap, old_version, past_end}
 
 abbrev pub refusal_number : Refusal → ℕ
 refusal_number bad_path = 1
@@ -16,6 +16,10 @@ refusal_number too_long = 9
 refusal_number too_big = 10
 refusal_number (no_space need free) = 11
 refusal_number no_memory = 12
+refusal_number no_snap = 13
+refusal_number has_snap = 14
+refusal_number old_version = 15
+refusal_number past_end = 16
 
 abbrev pub refusal_word : Refusal → List ℕ
 refusal_word bad_path = codes "badpath"
@@ -30,3 +34,7 @@ refusal_word too_long = codes "toolong"
 refusal_word too_big = codes "toobig"
 refusal_word (no_space need free) = codes "nospace"
 refusal_word no_memory = codes "memory"
+refusal_word no_snap = codes "nosnap"
+refusal_word has_snap = codes "hassnap"
+refusal_word old_version = codes "oldversion"
+refusal_word past_end = codes "pastend"

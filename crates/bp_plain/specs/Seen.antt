@@ -1,13 +1,24 @@
 -- The calls, refusals and answers of the program as those of the definitions.
-use Rattle.std.specs.Prelude.{◌≤◌}
-use Rattle.bp_limits.specs.Limits.{max_read}
+use Rattle.std.specs.Prelude.{ℕ, ◌≤◌, ◌+◌, List, length, map, slice_range}
+use Rattle.std.specs.List.{All}
+use Rattle.bp_limits.specs.Limits.{max_pieces, max_read}
 use Rattle.bp_plain.specs.declared.calls.Call.{Call as GivenCall}
 use Rattle.bp_plain.specs.declared.calls.Call.TheVariants as given
 use Rattle.bp_plain.specs.declared.errors.FsError.{FsError}
 use Rattle.bp_plain.specs.declared.errors.FsError.TheVariants as fault
-use Rattle.bp_plain.specs.Calls.{Call, Refusal}
-use Rattle.bp_plain.specs.Calls.Call.{create, mkdir, unlink, rmdir, list, stat, read, write, truncate, rename}
-use Rattle.bp_plain.specs.Calls.Refusal.{bad_path, not_found, not_dir, is_dir, exists, not_empty, into_self, is_root, too_long, too_big, no_space, no_memory}
+use Rattle.bp_plain.specs.declared.calls.Piece.{Piece as GivenPiece}
+use Rattle.bp_plain.specs.declared.calls.Span.{Span}
+use Rattle.bp_plain.specs.Calls.{Call, Piece, Refusal}
+use Rattle.bp_plain.specs.Calls.Call.{create, mkdir, unlink, rmdir, list, stat, read, write, truncate, rename, link, links, upgrade, snap, unsnap, snap_list, snap_stat, snap_read, batch}
+use Rattle.bp_plain.specs.Calls.Refusal.{bad_path, not_found, not_dir, is_dir, exists, not_empty, into_self, is_root, too_long, too_big, no_space, no_memory, no_snap, has_snap, old_version, past_end}
+
+-- a part of a text, and a piece whose parts lie in one
+abbrev pub spanned : List ℕ → Span → List ℕ
+spanned text span = slice_range text span.at (span.at + span.len)
+
+abbrev pub piece_in : List ℕ → GivenPiece → Piece
+piece_in text piece =
+    record { path = spanned text piece.path; off = piece.off; bytes = spanned text piece.bytes }
 
 abbrev pub call_of : GivenCall → Call
 call_of (given.Create path) = create path.now
@@ -20,6 +31,15 @@ call_of (given.Read path off len) = read path.now off len
 call_of (given.Write path off bytes) = write path.now off bytes.now
 call_of (given.Truncate path size) = truncate path.now size
 call_of (given.Rename from to) = rename from.now to.now
+call_of (given.Link from to) = link from.now to.now
+call_of (given.Links path) = links path.now
+call_of given.Upgrade = upgrade
+call_of given.Snap = snap
+call_of given.Unsnap = unsnap
+call_of (given.SnapList path) = snap_list path.now
+call_of (given.SnapStat path) = snap_stat path.now
+call_of (given.SnapRead path off len) = snap_read path.now off len
+call_of (given.Batch text pieces) = batch (map (piece_in text.now) pieces.now)
 
 abbrev pub refusal_of : FsError → Refusal
 refusal_of fault.BadPath = bad_path
@@ -34,8 +54,20 @@ refusal_of fault.TooLong = too_long
 refusal_of fault.TooBig = too_big
 refusal_of (fault.NoSpace need free) = no_space need free
 refusal_of fault.Memory = no_memory
+refusal_of fault.NoSnap = no_snap
+refusal_of fault.HasSnap = has_snap
+refusal_of fault.OldVersion = old_version
+refusal_of fault.PastEnd = past_end
 
--- a read asks for no more bytes than one call reads
-abbrev pub IsShortCall : Call → Type 0
-IsShortCall (read path off len) = len ≤ max_read
-IsShortCall call = Unit {0}
+-- the parts of a piece lie in a text
+pub record LiesIn (text : List ℕ) (piece : GivenPiece) : Type 0 where
+  pub path : piece.path.at + piece.path.len ≤ length text
+  pub bytes : piece.bytes.at + piece.bytes.len ≤ length text
+
+-- A read asks for no more bytes than one call reads. A batch has 1 to 16 pieces, whose parts lie in its text.
+abbrev pub CanAsk : GivenCall → Type 0
+CanAsk (given.Read path off len) = len ≤ max_read
+CanAsk (given.SnapRead path off len) = len ≤ max_read
+CanAsk (given.Batch text pieces) =
+    (1 ≤ length pieces.now) × (length pieces.now ≤ max_pieces) × All (LiesIn text.now) pieces.now
+CanAsk call = Unit {0}

@@ -1,40 +1,54 @@
 -- What contracts see of a plain tree that a program keeps.
-use Rattle.std.specs.Prelude.{◌≡◌, ◌++◌, ℕ, List, map, true, Option, None, Some, if◌then◌else◌}
+use Rattle.std.specs.Prelude.{◌≡◌, ◌++◌, ℕ, List, [], ◌∷◌, map, true, Option, None, Some, if◌then◌else◌}
 use Rattle.std.specs.List.{list_all}
 use Rattle.std.specs.Global.{Vec}
-use Rattle.std.specs.FinMap.{from_sorted}
+use Rattle.std.specs.FinMap.{from_sorted, get}
 use Rattle.std.specs.FinMap.Entries.{is_sorted}
 use Rattle.arrayvec.specs.ArrayVec.{ArrayVec}
-use Rattle.bp_layout.specs.Below.{same_path}
 use Rattle.bp_layout.specs.Directory.{Name}
 use Rattle.bp_layout.specs.Lookup.{Path, Node}
-use Rattle.bp_layout.specs.Lookup.Node.{dir, file}
+use Rattle.bp_layout.specs.Lookup.Node.{dir}
 use Rattle.bp_layout.specs.PathText.{is_name}
-use Rattle.bp_plain.specs.declared.trees.Node.{Node as Kept}
-use Rattle.bp_plain.specs.declared.trees.Node.TheVariants as kept
-use Rattle.bp_plain.specs.declared.trees.Plain.TheInside.{Inside}
+use Rattle.bp_plain.specs.declared.trees.entries.Node.{Node as Kept}
+use Rattle.bp_plain.specs.declared.trees.entries.Node.TheVariants as kept
+use Rattle.bp_plain.specs.declared.trees.entries.Files.TheInside.{Inside}
 use Rattle.bp_plain.specs.Calls.{Call, Answer}
-use Rattle.bp_plain.specs.Plain.{answer_or, moved_path, with_node}
-use Rattle.bp_plain.specs.PlainTree.{FileTree, path_cmp}
+use Rattle.bp_plain.specs.Numbered.{Numbered, NumberedFiles, plain_node}
+use Rattle.bp_plain.specs.Numbered.Numbered.{directory, numbered_file}
+use Rattle.bp_plain.specs.Plain.{answer_or}
+use Rattle.bp_plain.specs.PlainTree.{FileTree, Nodes, path_cmp}
 
 abbrev pub names_of : List (ArrayVec ℕ) → Path
 names_of names = map (λ name. name.items) names
 
+abbrev pub numbered : Kept → Numbered
+numbered kept.Dir = directory
+numbered (kept.File id content) = numbered_file id content.items
+
 abbrev pub node_seen : Kept → Node
-node_seen kept.Dir = dir
-node_seen (kept.File content) = file content.items
+node_seen node = plain_node (numbered node)
 
-abbrev pub entry_kept : Vec (ArrayVec ℕ) × Kept → Path × Node
-entry_kept entry = (names_of entry.0.items, node_seen entry.1)
+abbrev pub entry_kept : Vec (ArrayVec ℕ) × Kept → Path × Numbered
+entry_kept entry = (names_of entry.0.items, numbered entry.1)
 
-abbrev pub entries_kept : Inside → List (Path × Node)
-entries_kept tree = map entry_kept tree.nodes.entries
+abbrev pub entries_kept : Inside → List (Path × Numbered)
+entries_kept files = map entry_kept files.nodes.entries
 
-abbrev pub tree_seen : Inside → FileTree
-tree_seen tree = from_sorted (entries_kept tree)
+abbrev pub files_seen : Inside → NumberedFiles
+files_seen files = from_sorted (entries_kept files)
 
 abbrev pub AreInOrder : Inside → Type 0
-AreInOrder tree = is_sorted path_cmp (entries_kept tree) ≡ true
+AreInOrder files = is_sorted path_cmp (entries_kept files) ≡ true
+
+-- the root is a directory, and so is the parent of each other path
+pub record IsRooted (nodes : Nodes) : Type 0 where
+  pub root : get nodes [] ≡ Some dir
+  pub parents : (path : Path) (name : Name) (node : Node) → get nodes (path ++ name ∷ []) ≡ Some node
+      → get nodes path ≡ Some dir
+
+-- no path goes on from a path
+pub record HasNoneBelow (nodes : Nodes) (path : Path) : Type 0 where
+  pub none : (name : Name) → get nodes (path ++ name ∷ []) ≡ None
 
 -- what a call that is not refused answers and makes
 abbrev pub carried_out : FileTree → Call → Answer × FileTree
@@ -43,7 +57,3 @@ carried_out tree call = answer_or tree call None
 -- names behind others, where each of them is one
 abbrev pub all_names : Path → List Name → Option Path
 all_names before parts = if list_all is_name parts then Some (before ++ parts) else None
-
--- a tree with an entry of another one, where that lies after a rename
-abbrev pub with_moved : Path → Path → Path × Node → FileTree → FileTree
-with_moved p q entry tree = if same_path entry.0 q then tree else with_node tree (moved_path p q entry.0) entry.1

@@ -1,15 +1,33 @@
 -- The plain tree for which an image stands.
-use Rattle.std.specs.Prelude.{◌≡◌}
+use Rattle.std.specs.Prelude.{◌≡◌, true, false, Option, None, Some}
 use Rattle.std.specs.FinMap.{get}
 use Rattle.bp_layout.specs.Words.{Image}
-use Rattle.bp_layout.specs.Lookup.{Path, shown}
+use Rattle.bp_layout.specs.Lookup.{Path, find_one, shown}
+use Rattle.bp_layout.specs.Trees.{has_snapshot, snapshot_of}
 use Rattle.bp_layout.specs.WellFormed.{IsWellFormed}
-use Rattle.bp_plain.specs.PlainTree.{FileTree}
+use Rattle.bp_plain.specs.PlainTree.{FileTree, PathMap, is_one}
+use Rattle.bp_layout.specs.Formatted.{version_of}
 
--- the image is well formed, and the tree has at each path what the image shows there
-pub record Stands (image : Image) (tree : FileTree) : Type 0 where
+-- The first tree of the image is well formed. At each path the map has what the image shows there, and two paths are
+-- one file where they find one.
+pub record Shows (image : Image) (map : PathMap) : Type 0 where
   pub well_formed : IsWellFormed image
-  pub shows : (path : Path) → get tree path ≡ shown image path
+  pub shows : (path : Path) → get map.nodes path ≡ shown image path
+  pub one : (p q : Path) → is_one map.one p q ≡ find_one image p q
+
+-- the first tree of the image is shown by a map, and by no other
+abbrev pub ShowsOne : Image → Type 0
+ShowsOne image = (map : PathMap) × Shows image map × ((other : PathMap) → Shows image other → map ≡ other)
+
+-- the image has no snapshot, or this one
+abbrev pub ShowsSnapshot : Image → Option PathMap → Type 0
+ShowsSnapshot image None = has_snapshot image ≡ false
+ShowsSnapshot image (Some map) = (has_snapshot image ≡ true) × Shows (snapshot_of image) map
+
+pub record Stands (image : Image) (tree : FileTree) : Type 0 where
+  pub version : tree.version ≡ version_of image
+  pub now : Shows image tree.now
+  pub snap : ShowsSnapshot image tree.snap
 
 -- the image stands for a tree, and for no other
 abbrev pub StandsForOne : Image → Type 0

@@ -50,6 +50,18 @@ pub enum FsError {
     /// The program has no memory left for the answer.
     #[error("out of memory")]
     Memory,
+    /// There is no snapshot.
+    #[error("no snapshot")]
+    NoSnap,
+    /// There is a snapshot already.
+    #[error("a snapshot is there")]
+    HasSnap,
+    /// The format is of version 1, which has no snapshots.
+    #[error("old version")]
+    OldVersion,
+    /// Bytes of a batch end past the end of their file.
+    #[error("past the end")]
+    PastEnd,
 }
 
 impl FsError {
@@ -70,6 +82,10 @@ impl FsError {
             FsError::TooBig => 10,
             FsError::NoSpace { .. } => 11,
             FsError::Memory => 12,
+            FsError::NoSnap => 13,
+            FsError::HasSnap => 14,
+            FsError::OldVersion => 15,
+            FsError::PastEnd => 16,
         }
     }
 
@@ -90,6 +106,10 @@ impl FsError {
             FsError::TooBig => "toobig",
             FsError::NoSpace { .. } => "nospace",
             FsError::Memory => "memory",
+            FsError::NoSnap => "nosnap",
+            FsError::HasSnap => "hassnap",
+            FsError::OldVersion => "oldversion",
+            FsError::PastEnd => "pastend",
         }
     }
 }

@@ -133,6 +133,15 @@ pub(crate) fn joined(alloc: Global, above: &[Name], below: &[Name]) -> Result<Ve
     Ok(path)
 }
 
+/// The same names.
+pub(crate) fn copied(alloc: Global, names: &[Name]) -> Result<Vec<Name>, AllocError>
+    ensures { IfOk result (λ path. names_of path.items ≡ names_of names.now) }
+{
+    let mut path = Vec::new(alloc);
+    add_names(&mut path, names)?;
+    Ok(path)
+}
+
 fn add_names(path: &mut Vec<Name>, names: &[Name]) -> Result<(), AllocError>
     ensures { OnOk result (names_of path.new.items ≡ names_of path.old.items ++ names_of names.now) }
 {

@@ -1,7 +1,7 @@
 //! How a call was answered.
 
 ghost use Rattle.bp_limits.specs.Limits.{max_read};
-ghost use Rattle.bp_plain.specs.Calls.Answer.{bytes, dir_of, done, file_of, names, refused};
+ghost use Rattle.bp_plain.specs.Calls.Answer.{bytes, dir_of, done, file_of, links_of, names, refused};
 ghost use Rattle.bp_plain.specs.Seen.{refusal_of};
 ghost use Rattle.std.specs.Prelude.{IfOk, length, take, ◌≡◌, ◌≤◌};
 
@@ -24,6 +24,8 @@ pub enum Answer<'a> {
     DirOf(u64),
     /// The names in a directory, in the order of their bytes.
     Names(&'a Listing),
+    /// A file with so many names.
+    LinksOf(u32),
     /// The call was refused, and has changed nothing.
     Refused(FsError),
 }
@@ -36,6 +38,7 @@ enum Held {
     FileOf(u64),
     DirOf(u64),
     Names(Listing),
+    LinksOf(u32),
     Refused(FsError),
 }
 
@@ -87,6 +90,7 @@ impl Reply {
             Held::FileOf(size) => Answer::FileOf(*size),
             Held::DirOf(count) => Answer::DirOf(*count),
             Held::Names(listing) => Answer::Names(listing),
+            Held::LinksOf(count) => Answer::LinksOf(*count),
             Held::Refused(error) => Answer::Refused(*error),
         }
     }
@@ -131,6 +135,14 @@ impl Reply {
         ensures buffer { self.new.buffer ≡ self.old.buffer }
     {
         self.held = Held::Names(listing);
+    }
+
+    /// Answers how many names a file has.
+    pub fn set_links(&mut self, count: u32)
+        ensures answer { self.new.answer ≡ links_of count }
+        ensures buffer { self.new.buffer ≡ self.old.buffer }
+    {
+        self.held = Held::LinksOf(count);
     }
 
     /// Answers a refusal.

@@ -1,41 +1,35 @@
 //! The plain file tree as a program. It is slow and meant to be seen through: a volume is compared with it in tests.
 
-ghost use Rattle.bp_layout.specs.Below.{rest_below};
-ghost use Rattle.bp_layout.specs.Listing.{listed};
-ghost use Rattle.bp_limits.specs.Limits.{max_read, max_size};
-ghost use Rattle.bp_plain.specs.Calls.Answer.{bytes, done};
-ghost use Rattle.bp_plain.specs.Calls.Call.{create, list, read, rmdir, stat, truncate, unlink, write};
+ghost use Rattle.bp_limits.specs.Limits.{is_two, max_read};
+ghost use Rattle.bp_plain.specs.Calls.Call.{create, link, links, list, mkdir, read, rmdir, snap, snap_list, snap_read, snap_stat, stat, truncate, unlink, unsnap, upgrade, write};
 ghost use Rattle.bp_plain.specs.Plain as plain;
-ghost use Rattle.bp_plain.specs.Plain.{is_dir_at, listing, with_node, with_nothing_at};
 ghost use Rattle.bp_plain.specs.PlainTree.{empty_tree};
-ghost use Rattle.bp_plain.specs.Seen.{IsShortCall, call_of, refusal_of};
-ghost use Rattle.bp_plain.specs.SeenTree.{carried_out, names_of, node_seen};
-ghost use Rattle.std.specs.FinMap.{get};
-ghost use Rattle.std.specs.Prelude.{IfOk, None, OnErr, OnOk, [], ◌&&◌, ◌+◌, ◌++◌, ◌<◌, ◌^◌, ◌∷◌, ◌≡◌, ◌≤◌, drop, is_some, length, map, nat_lt, option_map, take};
+ghost use Rattle.bp_plain.specs.Seen.{CanAsk, call_of, refusal_of};
+ghost use Rattle.bp_plain.specs.SeenTree.{carried_out, names_of};
+ghost use Rattle.std.specs.Prelude.{IfOk, None, OnErr, OnOk, ◌≡◌, ◌≤◌, not, option_map};
 
+mod batches;
+mod entries;
+mod maps;
 mod moves;
 
 use crate::calls::Call;
+use crate::contents::ends_too_late;
 use crate::errors::FsError;
-use crate::paths::{first, parent_of, parse, path_of, when};
+use crate::paths::{first, parse, path_of, when};
 use crate::replies::Reply;
-use bp_layout::{Kind, Listing, Name};
-use bp_limits::{MAX_SIZE, MAX_WRITE};
+use bp_layout::Name;
+use bp_limits::Version;
+use maps::FileMap;
 use std::alloc::{AllocError, Global};
-use std::collections::BTreeMap;
 use std::marker::Model;
 
-/// What stands at a path.
-#[derive(Drop)]
-enum Node {
-    Dir,
-    File(Vec<u8>),
-}
-
-/// A file tree, with what stands at each path.
+/// A file tree: its version, with what stands at each path, now and at the snapshot.
 #[derive(Drop)]
 pub struct Plain {
-    nodes: BTreeMap<Vec<Name>, Node>,
+    version: Version,
+    current: FileMap,
+    snapshot: Option<FileMap>,
 }
 
 impl Model for Plain {
@@ -46,24 +40,49 @@ impl Model for Plain {
 
     ghost coded = { tree_code };
 
-    ghost use Rattle.bp_plain.specs.SeenTree.{AreInOrder, tree_seen};
+    ghost use Rattle.bp_plain.specs.SeenMap.{tree_seen};
 
     ghost view = { tree_seen };
-
-    ghost invariant = { AreInOrder };
 }
 
 impl Plain {
-    /// The root directory alone.
-    pub fn new(alloc: Global) -> Result<Plain, AllocError>
-        ensures { IfOk result (λ tree. tree ≡ empty_tree) }
+    /// The root directory alone, in a version.
+    pub fn of(alloc: Global, version: Version) -> Result<Plain, AllocError>
+        ensures { IfOk result (λ tree. tree ≡ empty_tree version) }
     {
-        let mut nodes = BTreeMap::new(alloc);
-        nodes.insert(Vec::new(alloc), Node::Dir)?;
-        Ok(Plain { nodes })
+        Ok(Plain {
+            version,
+            current: FileMap::root_alone(alloc)?,
+            snapshot: None,
+        })
     }
 
-    /// Does a call, and puts its answer into the reply. A read asks for at most 65,536 bytes.
+    /// Its version.
+    fn version(&self) -> Version
+        ensures { result ≡ self.now.version }
+    {
+        self.version
+    }
+
+    /// What stands at each path now.
+    fn current(&self) -> &FileMap
+        ensures { result.now ≡ self.now.now }
+    {
+        &self.current
+    }
+
+    /// What stood at each path at the snapshot.
+    fn snapshot(&self) -> Option<&FileMap>
+        ensures { option_map (λ map. map.now) result ≡ self.now.snap }
+    {
+        match &self.snapshot {
+            Some(map) => Some(map),
+            None => None,
+        }
+    }
+
+    /// Does a call, and puts its answer into the reply. A read asks for at most 65,536 bytes, and a batch has 1 to 16
+    /// pieces whose parts lie in its text.
     ///
     /// # Errors
     ///
@@ -74,7 +93,7 @@ impl Plain {
         call: &Call<'_>,
         reply: &mut Reply,
     ) -> Result<(), AllocError>
-        requires { IsShortCall (call_of call.now) }
+        requires { CanAsk call.now }
         ensures done { OnOk result ((reply.new.answer, self.new) ≡ plain.plain self.old (call_of call.now)) }
         ensures kept { OnErr result (self.new ≡ self.old) }
     {
@@ -90,6 +109,7 @@ impl Plain {
     // ---- refusals, in the order in which they are looked for
 
     fn refusal(&self, alloc: Global, call: &Call<'_>) -> Result<Option<FsError>, AllocError>
+        requires { CanAsk call.now }
         ensures { IfOk result (λ found. option_map refusal_of found ≡ plain.refusal self.now (call_of call.now)) }
     {
         match *call {
@@ -102,6 +122,15 @@ impl Plain {
             Call::Write { path, off, bytes } => self.refuses_write(alloc, path, off, bytes),
             Call::Truncate { path, size } => self.refuses_truncate(alloc, path, size),
             Call::Rename { from, to } => self.refuses_rename(alloc, from, to),
+            Call::Link { from, to } => self.refuses_link(alloc, from, to),
+            Call::Links(text) => self.refuses_links(alloc, text),
+            Call::Upgrade => Ok(None),
+            Call::Snap => Ok(self.refuses_snap()),
+            Call::Unsnap => Ok(self.refuses_unsnap()),
+            Call::SnapList(text) => self.refuses_snap_list(alloc, text),
+            Call::SnapStat(text) => self.refuses_snap_stat(alloc, text),
+            Call::SnapRead { path, off, len } => self.refuses_snap_read(alloc, path, off, len),
+            Call::Batch { text, pieces } => self.refuses_batch(alloc, text, pieces),
         }
     }
 
@@ -111,11 +140,7 @@ impl Plain {
     {
         match parse(alloc, text)? {
             None => Ok(Some(FsError::BadPath)),
-            Some(path) => Ok(first(&[
-                when(path.is_empty(), FsError::Exists),
-                self.walk_parent(&path),
-                when(self.has(&path), FsError::Exists),
-            ])),
+            Some(path) => Ok(self.current().refuses_new(&path)),
         }
     }
 
@@ -126,8 +151,7 @@ impl Plain {
             None => Ok(Some(FsError::BadPath)),
             Some(path) => Ok(first(&[
                 when(path.is_empty(), FsError::IsDir),
-                self.walk(&path),
-                when(self.is_dir(&path), FsError::IsDir),
+                self.current().refuses_file(&path),
             ])),
         }
     }
@@ -137,15 +161,7 @@ impl Plain {
     {
         match parse(alloc, text)? {
             None => Ok(Some(FsError::BadPath)),
-            Some(path) => {
-                let is_empty = self.is_empty_dir(alloc, &path)?;
-                Ok(first(&[
-                    when(path.is_empty(), FsError::IsRoot),
-                    self.walk(&path),
-                    when(!self.is_dir(&path), FsError::NotDir),
-                    when(!is_empty, FsError::NotEmpty),
-                ]))
-            }
+            Some(path) => self.current().refuses_rmdir(alloc, &path),
         }
     }
 
@@ -154,10 +170,7 @@ impl Plain {
     {
         match parse(alloc, text)? {
             None => Ok(Some(FsError::BadPath)),
-            Some(path) => Ok(first(&[
-                self.walk(&path),
-                when(!self.is_dir(&path), FsError::NotDir),
-            ])),
+            Some(path) => Ok(self.current().refuses_dir(&path)),
         }
     }
 
@@ -166,7 +179,7 @@ impl Plain {
     {
         match parse(alloc, text)? {
             None => Ok(Some(FsError::BadPath)),
-            Some(path) => Ok(self.walk(&path)),
+            Some(path) => Ok(self.current().walk(&path)),
         }
     }
 
@@ -182,7 +195,7 @@ impl Plain {
     {
         match parse(alloc, text)? {
             None => Ok(Some(FsError::BadPath)),
-            Some(path) => Ok(first(&[self.walk(&path), when(self.is_dir(&path), FsError::IsDir)])),
+            Some(path) => Ok(self.current().refuses_file(&path)),
         }
     }
 
@@ -199,10 +212,12 @@ impl Plain {
         match parse(alloc, text)? {
             None => Ok(Some(FsError::BadPath)),
             Some(path) => Ok(first(&[
-                when(new.len() > MAX_WRITE, FsError::TooLong),
-                self.walk(&path),
-                when(self.is_dir(&path), FsError::IsDir),
-                when(ends_too_late(off, new), FsError::TooBig),
+                when(
+                    new.len() > self.version().greatest_write(),
+                    FsError::TooLong,
+                ),
+                self.current().refuses_file(&path),
+                when(ends_too_late(self.version(), off, new), FsError::TooBig),
             ])),
         }
     }
@@ -218,36 +233,118 @@ impl Plain {
         match parse(alloc, text)? {
             None => Ok(Some(FsError::BadPath)),
             Some(path) => Ok(first(&[
-                self.walk(&path),
-                when(self.is_dir(&path), FsError::IsDir),
-                when(size > MAX_SIZE, FsError::TooBig),
+                self.current().refuses_file(&path),
+                when(size > self.version().greatest_size(), FsError::TooBig),
             ])),
         }
     }
 
-    /// The first name on the way that is sought in a file, or is missing.
-    fn walk(&self, path: &[Name]) -> Option<FsError>
-        ensures { option_map refusal_of result ≡ plain.walk self.now (names_of path.now) }
+    fn refuses_link(
+        &self,
+        alloc: Global,
+        from: &[u8],
+        to: &[u8],
+    ) -> Result<Option<FsError>, AllocError>
+        ensures { IfOk result (λ found. option_map refusal_of found ≡ plain.refusal self.now (link from.now to.now)) }
     {
-        for depth in 0..path.len() {
-            if !self.is_dir(&path[..depth]) {
-                return Some(FsError::NotDir);
-            }
-            if !self.has(&path[..depth + 1]) {
-                return Some(FsError::NotFound);
-            }
+        match (parse(alloc, from)?, parse(alloc, to)?) {
+            (Some(from), Some(to)) => Ok(first(&[
+                self.current().refuses_file(&from),
+                self.current().refuses_new(&to),
+            ])),
+            _ => Ok(Some(FsError::BadPath)),
         }
-        None
     }
 
-    fn walk_parent(&self, path: &[Name]) -> Option<FsError>
-        ensures { option_map refusal_of result ≡ plain.walk_parent self.now (names_of path.now) }
+    fn refuses_links(&self, alloc: Global, text: &[u8]) -> Result<Option<FsError>, AllocError>
+        ensures { IfOk result (λ found. option_map refusal_of found ≡ plain.refusal self.now (links text.now)) }
     {
-        let parent = parent_of(path);
+        match parse(alloc, text)? {
+            None => Ok(Some(FsError::BadPath)),
+            Some(path) => Ok(self.current().refuses_file(&path)),
+        }
+    }
+
+    fn refuses_snap(&self) -> Option<FsError>
+        ensures { option_map refusal_of result ≡ plain.refusal self.now snap }
+    {
         first(&[
-            self.walk(parent),
-            when(!self.is_dir(parent), FsError::NotDir),
+            when(is_old(self.version()), FsError::OldVersion),
+            when(self.snapshot().is_some(), FsError::HasSnap),
         ])
+    }
+
+    fn refuses_unsnap(&self) -> Option<FsError>
+        ensures { option_map refusal_of result ≡ plain.refusal self.now unsnap }
+    {
+        when(self.snapshot().is_none(), FsError::NoSnap)
+    }
+
+    fn refuses_snap_list(&self, alloc: Global, text: &[u8]) -> Result<Option<FsError>, AllocError>
+        ensures { IfOk result (λ found. option_map refusal_of found ≡ plain.refusal self.now (snap_list text.now)) }
+    {
+        match parse(alloc, text)? {
+            None => Ok(Some(FsError::BadPath)),
+            Some(path) => Ok(self.refuses_dir_then(&path)),
+        }
+    }
+
+    fn refuses_snap_stat(&self, alloc: Global, text: &[u8]) -> Result<Option<FsError>, AllocError>
+        ensures { IfOk result (λ found. option_map refusal_of found ≡ plain.refusal self.now (snap_stat text.now)) }
+    {
+        match parse(alloc, text)? {
+            None => Ok(Some(FsError::BadPath)),
+            Some(path) => Ok(self.refuses_walk_then(&path)),
+        }
+    }
+
+    fn refuses_snap_read(
+        &self,
+        alloc: Global,
+        text: &[u8],
+        _off: u64,
+        _len: usize,
+    ) -> Result<Option<FsError>, AllocError>
+        ensures { IfOk result (λ found.
+            option_map refusal_of found ≡ plain.refusal self.now (snap_read text.now _off _len)) }
+    {
+        match parse(alloc, text)? {
+            None => Ok(Some(FsError::BadPath)),
+            Some(path) => Ok(self.refuses_file_then(&path)),
+        }
+    }
+
+    /// Why a path is not that of a directory of the snapshot.
+    fn refuses_dir_then(&self, path: &[Name]) -> Option<FsError>
+        ensures { option_map refusal_of result
+            ≡ plain.on_snap self.now.snap (λ nodes. plain.dir_refusal nodes (names_of path.now)) }
+    {
+        match self.snapshot() {
+            None => Some(FsError::NoSnap),
+            Some(map) => map.refuses_dir(path),
+        }
+    }
+
+    /// Why a path is not one of the snapshot.
+    fn refuses_walk_then(&self, path: &[Name]) -> Option<FsError>
+        ensures { option_map refusal_of result
+            ≡ plain.on_snap self.now.snap (λ nodes. plain.walk nodes (names_of path.now)) }
+    {
+        match self.snapshot() {
+            None => Some(FsError::NoSnap),
+            Some(map) => map.walk(path),
+        }
+    }
+
+    /// Why a path is not that of a file of the snapshot.
+    fn refuses_file_then(&self, path: &[Name]) -> Option<FsError>
+        ensures { option_map refusal_of result
+            ≡ plain.on_snap self.now.snap (λ nodes. plain.file_refusal nodes (names_of path.now)) }
+    {
+        match self.snapshot() {
+            None => Some(FsError::NoSnap),
+            Some(map) => map.refuses_file(path),
+        }
     }
 
     // ---- what a call makes and answers, where it is not refused
@@ -258,50 +355,74 @@ impl Plain {
         call: &Call<'_>,
         reply: &mut Reply,
     ) -> Result<(), AllocError>
-        requires short { IsShortCall (call_of call.now) }
+        requires can { CanAsk call.now }
         requires passes { plain.refusal self.old (call_of call.now) ≡ None }
         ensures done { OnOk result ((reply.new.answer, self.new) ≡ carried_out self.old (call_of call.now)) }
         ensures kept { OnErr result (self.new ≡ self.old) }
     {
         match *call {
-            Call::Create(text) => self.make(alloc, text, Node::File(Vec::new(alloc)), reply),
-            Call::Mkdir(text) => self.make(alloc, text, Node::Dir, reply),
-            Call::Unlink(text) | Call::Rmdir(text) => self.remove(alloc, text, reply),
+            Call::Create(text) => self.create(alloc, text, reply),
+            Call::Mkdir(text) => self.mkdir(alloc, text, reply),
+            Call::Unlink(text) => self.unlink(alloc, text, reply),
+            Call::Rmdir(text) => self.rmdir(alloc, text, reply),
             Call::List(text) => self.list(alloc, text, reply),
             Call::Stat(text) => self.stat(alloc, text, reply),
             Call::Read { path, off, len } => self.read(alloc, path, off, len, reply),
             Call::Write { path, off, bytes } => self.write(alloc, path, off, bytes, reply),
             Call::Truncate { path, size } => self.truncate(alloc, path, size, reply),
             Call::Rename { from, to } => self.rename(alloc, from, to, reply),
+            Call::Link { from, to } => self.link(alloc, from, to, reply),
+            Call::Links(text) => self.links(alloc, text, reply),
+            Call::Upgrade => self.upgrade(reply),
+            Call::Snap => self.snap(alloc, reply),
+            Call::Unsnap => self.unsnap(reply),
+            Call::SnapList(text) => self.snap_list(alloc, text, reply),
+            Call::SnapStat(text) => self.snap_stat(alloc, text, reply),
+            Call::SnapRead { path, off, len } => self.snap_read(alloc, path, off, len, reply),
+            Call::Batch { text, pieces } => self.batch(alloc, text, pieces, reply),
         }
     }
 
-    /// Makes a node with nothing in it.
-    fn make(
-        &mut self,
-        alloc: Global,
-        text: &[u8],
-        node: Node,
-        reply: &mut Reply,
-    ) -> Result<(), AllocError>
-        ensures answer { OnOk result (reply.new.answer ≡ done) }
-        ensures made { OnOk result (self.new ≡ with_node self.old (plain.path_named text.now) (node_seen node)) }
+    fn create(&mut self, alloc: Global, text: &[u8], reply: &mut Reply) -> Result<(), AllocError>
+        requires { plain.refusal self.old (create text.now) ≡ None }
+        ensures done { OnOk result ((reply.new.answer, self.new) ≡ carried_out self.old (create text.now)) }
         ensures kept { OnErr result (self.new ≡ self.old) }
     {
         let path = path_of(alloc, text)?;
-        self.put(path, node)?;
+        self.current.make_file(alloc, path)?;
         reply.set_done();
         Ok(())
     }
 
-    /// Removes a file as it removes a directory, which has no names in it.
-    fn remove(&mut self, alloc: Global, text: &[u8], reply: &mut Reply) -> Result<(), AllocError>
-        ensures answer { OnOk result (reply.new.answer ≡ done) }
-        ensures removed { OnOk result (self.new ≡ with_nothing_at self.old (plain.path_named text.now)) }
+    fn mkdir(&mut self, alloc: Global, text: &[u8], reply: &mut Reply) -> Result<(), AllocError>
+        requires { plain.refusal self.old (mkdir text.now) ≡ None }
+        ensures done { OnOk result ((reply.new.answer, self.new) ≡ carried_out self.old (mkdir text.now)) }
         ensures kept { OnErr result (self.new ≡ self.old) }
     {
         let path = path_of(alloc, text)?;
-        self.take(&path);
+        self.current.make_dir(path)?;
+        reply.set_done();
+        Ok(())
+    }
+
+    fn unlink(&mut self, alloc: Global, text: &[u8], reply: &mut Reply) -> Result<(), AllocError>
+        requires { plain.refusal self.old (unlink text.now) ≡ None }
+        ensures done { OnOk result ((reply.new.answer, self.new) ≡ carried_out self.old (unlink text.now)) }
+        ensures kept { OnErr result (self.new ≡ self.old) }
+    {
+        let path = path_of(alloc, text)?;
+        self.current.remove_file(&path);
+        reply.set_done();
+        Ok(())
+    }
+
+    fn rmdir(&mut self, alloc: Global, text: &[u8], reply: &mut Reply) -> Result<(), AllocError>
+        requires { plain.refusal self.old (rmdir text.now) ≡ None }
+        ensures done { OnOk result ((reply.new.answer, self.new) ≡ carried_out self.old (rmdir text.now)) }
+        ensures kept { OnErr result (self.new ≡ self.old) }
+    {
+        let path = path_of(alloc, text)?;
+        self.current.remove_dir(&path);
         reply.set_done();
         Ok(())
     }
@@ -309,21 +430,13 @@ impl Plain {
     fn list(&self, alloc: Global, text: &[u8], reply: &mut Reply) -> Result<(), AllocError>
         ensures { OnOk result ((reply.new.answer, self.now) ≡ carried_out self.now (list text.now)) }
     {
-        let path = path_of(alloc, text)?;
-        let names = self.names(alloc, &path)?;
-        reply.set_names(Listing::of(alloc, &names)?);
-        Ok(())
+        self.current().list(alloc, text, reply)
     }
 
     fn stat(&self, alloc: Global, text: &[u8], reply: &mut Reply) -> Result<(), AllocError>
         ensures { OnOk result ((reply.new.answer, self.now) ≡ carried_out self.now (stat text.now)) }
     {
-        let path = path_of(alloc, text)?;
-        match self.node(&path) {
-            Some(Node::File(content)) => reply.set_file(content.len() as u64),
-            _ => reply.set_dir(self.names(alloc, &path)?.len() as u64),
-        }
-        Ok(())
+        self.current().stat(alloc, text, reply)
     }
 
     fn read(
@@ -337,9 +450,7 @@ impl Plain {
         requires { len ≤ max_read }
         ensures { OnOk result ((reply.new.answer, self.now) ≡ carried_out self.now (read text.now off len)) }
     {
-        let path = path_of(alloc, text)?;
-        answer_bytes(reply, part(self.bytes(&path), off, len));
-        Ok(())
+        self.current().read(alloc, text, off, len, reply)
     }
 
     fn write(
@@ -350,14 +461,12 @@ impl Plain {
         new: &[u8],
         reply: &mut Reply,
     ) -> Result<(), AllocError>
-        requires { 0 < length new.now → off + length new.now ≤ max_size }
         ensures done { OnOk result ((reply.new.answer, self.new) ≡ carried_out self.old (write text.now off new.now)) }
         ensures kept { OnErr result (self.new ≡ self.old) }
     {
         if !new.is_empty() {
             let path = path_of(alloc, text)?;
-            let content = written(alloc, self.bytes(&path), off as usize, new)?;
-            self.put(path, Node::File(content))?;
+            self.current.write(alloc, &path, off, new)?;
         }
         reply.set_done();
         Ok(())
@@ -370,172 +479,115 @@ impl Plain {
         size: u64,
         reply: &mut Reply,
     ) -> Result<(), AllocError>
-        requires { size ≤ max_size }
         ensures done { OnOk result ((reply.new.answer, self.new) ≡ carried_out self.old (truncate text.now size)) }
         ensures kept { OnErr result (self.new ≡ self.old) }
     {
         let path = path_of(alloc, text)?;
-        let content = self.bytes(&path);
-        if size != content.len() as u64 {
-            let content = resized(alloc, content, size as usize)?;
-            self.put(path, Node::File(content))?;
+        if size != self.current().bytes(&path).len() as u64 {
+            self.current.resize(alloc, &path, size)?;
         }
         reply.set_done();
         Ok(())
     }
 
-    /// This node stands at the path, whatever stood there.
-    fn put(&mut self, path: Vec<Name>, node: Node) -> Result<(), AllocError>
-        ensures put { OnOk result (self.new ≡ with_node self.old (names_of path.items) (node_seen node)) }
+    fn link(
+        &mut self,
+        alloc: Global,
+        from: &[u8],
+        to: &[u8],
+        reply: &mut Reply,
+    ) -> Result<(), AllocError>
+        requires { plain.refusal self.old (link from.now to.now) ≡ None }
+        ensures done { OnOk result ((reply.new.answer, self.new) ≡ carried_out self.old (link from.now to.now)) }
         ensures kept { OnErr result (self.new ≡ self.old) }
     {
-        self.nodes.insert(path, node)?;
+        let from = path_of(alloc, from)?;
+        let to = path_of(alloc, to)?;
+        self.current.link(&from, to)?;
+        reply.set_done();
         Ok(())
     }
 
-    /// Nothing stands at the path any more.
-    fn take(&mut self, path: &[Name])
-        ensures { self.new ≡ with_nothing_at self.old (names_of path.now) }
+    fn links(&self, alloc: Global, text: &[u8], reply: &mut Reply) -> Result<(), AllocError>
+        ensures { OnOk result ((reply.new.answer, self.now) ≡ carried_out self.now (links text.now)) }
     {
-        let _ = self.nodes.remove(path);
+        let path = path_of(alloc, text)?;
+        reply.set_links(self.current().links(&path)?);
+        Ok(())
     }
 
-    // ---- what stands at a path
-
-    fn node(&self, path: &[Name]) -> Option<&Node>
-        ensures { option_map (λ node. node_seen node.now) result ≡ get self.now (names_of path.now) }
+    fn upgrade(&mut self, reply: &mut Reply) -> Result<(), AllocError>
+        ensures done { OnOk result ((reply.new.answer, self.new) ≡ carried_out self.old upgrade) }
+        ensures kept { OnErr result (self.new ≡ self.old) }
     {
-        self.nodes.get(path)
+        self.version = Version::Two;
+        reply.set_done();
+        Ok(())
     }
 
-    fn has(&self, path: &[Name]) -> bool
-        ensures { result ≡ is_some (get self.now (names_of path.now)) }
+    fn snap(&mut self, alloc: Global, reply: &mut Reply) -> Result<(), AllocError>
+        ensures done { OnOk result ((reply.new.answer, self.new) ≡ carried_out self.old snap) }
+        ensures kept { OnErr result (self.new ≡ self.old) }
     {
-        self.node(path).is_some()
+        self.snapshot = Some(self.current.copied(alloc)?);
+        reply.set_done();
+        Ok(())
     }
 
-    fn is_dir(&self, path: &[Name]) -> bool
-        ensures { result ≡ is_dir_at self.now (names_of path.now) }
+    fn unsnap(&mut self, reply: &mut Reply) -> Result<(), AllocError>
+        ensures done { OnOk result ((reply.new.answer, self.new) ≡ carried_out self.old unsnap) }
+        ensures kept { OnErr result (self.new ≡ self.old) }
     {
-        match self.node(path) {
-            Some(Node::Dir) => true,
-            _ => false,
+        self.snapshot = None;
+        reply.set_done();
+        Ok(())
+    }
+
+    fn snap_list(&self, alloc: Global, text: &[u8], reply: &mut Reply) -> Result<(), AllocError>
+        requires { plain.refusal self.now (snap_list text.now) ≡ None }
+        ensures { OnOk result ((reply.new.answer, self.now) ≡ carried_out self.now (snap_list text.now)) }
+    {
+        match self.snapshot() {
+            Some(map) => map.list(alloc, text, reply),
+            None => unreachable!(),
         }
     }
 
-    fn is_empty_dir(&self, alloc: Global, path: &[Name]) -> Result<bool, AllocError>
-        ensures { IfOk result (λ is_empty. is_empty ≡ plain.is_empty_dir self.now (names_of path.now)) }
+    fn snap_stat(&self, alloc: Global, text: &[u8], reply: &mut Reply) -> Result<(), AllocError>
+        requires { plain.refusal self.now (snap_stat text.now) ≡ None }
+        ensures { OnOk result ((reply.new.answer, self.now) ≡ carried_out self.now (snap_stat text.now)) }
     {
-        let names = self.names(alloc, path)?;
-        Ok(names.is_empty())
-    }
-
-    fn bytes(&self, path: &[Name]) -> &[u8]
-        ensures { result.now ≡ plain.bytes_at self.now (names_of path.now) }
-    {
-        match self.node(path) {
-            Some(Node::File(content)) => content.as_slice(),
-            _ => &[],
+        match self.snapshot() {
+            Some(map) => map.stat(alloc, text, reply),
+            None => unreachable!(),
         }
     }
 
-    /// The names in a directory with their kinds, in the order of their bytes.
-    fn names(&self, alloc: Global, dir: &[Name]) -> Result<Vec<(Kind, Name)>, AllocError>
-        ensures { IfOk result (λ names. listed names.items ≡ listing self.now (names_of dir.now)) }
+    fn snap_read(
+        &self,
+        alloc: Global,
+        text: &[u8],
+        off: u64,
+        len: usize,
+        reply: &mut Reply,
+    ) -> Result<(), AllocError>
+        requires few { len ≤ max_read }
+        requires passes { plain.refusal self.now (snap_read text.now off len) ≡ None }
+        ensures { OnOk result ((reply.new.answer, self.now) ≡ carried_out self.now (snap_read text.now off len)) }
     {
-        let mut names = Vec::new(alloc);
-        for (path, node) in self.nodes.iter() {
-            if let Some(name) = name_below(dir, path.as_slice()) {
-                names.push((kind_of(node), name.clone()?))?;
-            }
+        match self.snapshot() {
+            Some(map) => map.read(alloc, text, off, len, reply),
+            None => unreachable!(),
         }
-        Ok(names)
     }
 }
 
-fn kind_of(node: &Node) -> Kind
-    ensures { result ≡ plain.kind_of_node (node_seen node.now) }
+/// Whether a version has no snapshots.
+fn is_old(version: Version) -> bool
+    ensures { result ≡ not (is_two version) }
 {
-    match node {
-        Node::Dir => Kind::Dir,
-        Node::File(_) => Kind::File,
+    match version {
+        Version::One => true,
+        Version::Two => false,
     }
-}
-
-/// The name of an entry of a directory, where a path is that of one.
-fn name_below<'a>(dir: &[Name], path: &'a [Name]) -> Option<&'a Name>
-    ensures { option_map (λ name. name.now.items) result
-        ≡ plain.only_name (rest_below (names_of dir.now) (names_of path.now)) }
-{
-    match path.strip_prefix(dir) {
-        Some(rest) => only(rest),
-        None => None,
-    }
-}
-
-fn only(path: &[Name]) -> Option<&Name>
-    ensures { option_map (λ name. name.now.items) result ≡ plain.only_name (Some (names_of path.now)) }
-{
-    match path {
-        [name] => Some(name),
-        _ => None,
-    }
-}
-
-/// At most so many bytes from an offset on.
-fn part(content: &[u8], off: u64, len: usize) -> &[u8]
-    ensures { result.now ≡ take len (drop off content.now) }
-{
-    if off >= content.len() as u64 {
-        return &[];
-    }
-    let rest = &content[off as usize..];
-    &rest[..rest.len().min(len)]
-}
-
-/// Whether there are bytes, and they end behind the greatest size.
-fn ends_too_late(off: u64, new: &[u8]) -> bool
-    ensures { result ≡ (nat_lt 0 (length new.now) && nat_lt max_size (off + length new.now)) }
-{
-    !new.is_empty() && u128::from(off) + new.len() as u128 > u128::from(MAX_SIZE)
-}
-
-/// The old bytes with the new ones laid over them, and 0 between.
-fn written(alloc: Global, old: &[u8], off: usize, new: &[u8]) -> Result<Vec<u8>, AllocError>
-    requires { off + length new.now < 2 ^ 64 }
-    ensures { IfOk result (λ content. content.items ≡ plain.written old.now off new.now) }
-{
-    let end = off + new.len();
-    let mut content = resized(alloc, old, off)?;
-    content.extend_from_slice(new)?;
-    if end < old.len() {
-        content.extend_from_slice(&old[end..])?;
-    }
-    Ok(content)
-}
-
-/// So many of the bytes, and 0 behind them.
-fn resized(alloc: Global, old: &[u8], size: usize) -> Result<Vec<u8>, AllocError>
-    ensures { IfOk result (λ content. content.items ≡ plain.resized old.now size) }
-{
-    let mut content = Vec::new(alloc);
-    content.extend_from_slice(old)?;
-    content.resize(size, 0)?;
-    Ok(content)
-}
-
-/// Answers these bytes.
-pub(crate) fn answer_bytes(reply: &mut Reply, content: &[u8])
-    requires { length content.now ≤ max_read }
-    ensures { reply.new.answer ≡ bytes content.now }
-{
-    copy_to(content, reply.buffer());
-    reply.set_bytes(content.len());
-}
-
-fn copy_to(content: &[u8], into: &mut [u8])
-    requires { length content.now ≤ length into.old }
-    ensures { into.new ≡ content.now ++ drop (length content.now) into.old }
-{
-    into[..content.len()].copy_from_slice(content);
 }

@@ -1,13 +1,13 @@
 -- Sums over one reply more.
-use Rattle.std.proofs.Common.{◌≡◌, ℕ, zero, suc, ◌+◌, ◌-◌, ◌≤◌, Bool, true, false, cond, List, [], ◌∷◌, ◌++◌, map, refl, sym, ◌∙◌, ap, ap₂, arith}
+use Rattle.std.proofs.Common.{◌≡◌, ℕ, zero, suc, ◌+◌, ◌-◌, ◌<◌, ◌≤◌, Bool, true, false, cond, List, [], ◌∷◌, ◌++◌, map, refl, sym, ◌∙◌, ap, ap₂, arith}
 use Rattle.std.specs.Prelude.{count_by, sum_by, All, slice_set, slice_index_or, if◌then◌else◌}
 use Rattle.std.proofs.lemmas.List.Elements.{All-head, All-replicate, All-set, All-tail, All-weaker}
 use Rattle.std.proofs.lemmas.List.Sums.{sum_by_push}
 use Rattle.bp_limits.specs.Limits.{log_events}
 use Rattle.bp_plain.specs.Calls.{Answer, Refusal}
-use Rattle.bp_plain.specs.Calls.Answer.{done, bytes, file_of, dir_of, refused}
+use Rattle.bp_plain.specs.Calls.Answer.{done, bytes, file_of, dir_of, links_of, refused}
 use Rattle.bp_plain.specs.Calls.Answer.{names as listed}
-use Rattle.bp_plain.specs.Calls.Refusal.{bad_path, not_found, not_dir, is_dir, exists, not_empty, into_self, is_root, too_long, too_big, no_space, no_memory}
+use Rattle.bp_plain.specs.Calls.Refusal.{bad_path, not_found, not_dir, is_dir, exists, not_empty, into_self, is_root, too_long, too_big, no_space, no_memory, no_snap, has_snap, old_version, past_end}
 use Rattle.bp_plain.specs.Refusals.{refusal_number}
 use Rattle.bp_script.specs.Texts.{LineReply}
 use Rattle.bp_script.specs.Texts.LineReply.{answered, kept_of}
@@ -74,6 +74,7 @@ none_counted (bytes content) count e = refl
 none_counted (file_of size) count e = refl
 none_counted (dir_of size) count e = refl
 none_counted (listed entries) count e = refl
+none_counted (links_of names) count e = refl
 none_counted (refused why) count e = absurd (let no : false ≡ true = e in cc)
 
 pub ok_counted : (old : Summary) (answer : Answer) → is_carried_out answer ≡ true → CountsReply old (answered answer) (summary (old.ok + 1) old.refused old.crashes old.kept old.of)
@@ -96,37 +97,75 @@ ok_counted old answer carried = record {
 
 -- ---- a refusal
 
-one_counted : (why : Refusal) (count : ℕ → ℕ) → counted (answered (refused why)) count numbers ≡ slice_set (map count numbers) (refusal_number why - 1) (slice_index_or (map count numbers) (refusal_number why - 1) 0 + 1)
-one_counted bad_path count = refl
-one_counted not_found count = refl
-one_counted not_dir count = refl
-one_counted is_dir count = refl
-one_counted exists count = refl
-one_counted not_empty count = refl
-one_counted into_self count = refl
-one_counted is_root count = refl
-one_counted too_long count = refl
-one_counted too_big count = refl
-one_counted (no_space need free) count = refl
-one_counted no_memory count = refl
+one_counted : (why : Refusal) (count : ℕ → ℕ) → refusal_number why ≤ 12 → counted (answered (refused why)) count numbers ≡ slice_set (map count numbers) (refusal_number why - 1) (slice_index_or (map count numbers) (refusal_number why - 1) 0 + 1)
+one_counted bad_path count low = refl
+one_counted not_found count low = refl
+one_counted not_dir count low = refl
+one_counted is_dir count low = refl
+one_counted exists count low = refl
+one_counted not_empty count low = refl
+one_counted into_self count low = refl
+one_counted is_root count low = refl
+one_counted too_long count low = refl
+one_counted too_big count low = refl
+one_counted (no_space need free) count low = refl
+one_counted no_memory count low = refl
+one_counted no_snap count low = absurd (omega (arith, low))
+one_counted has_snap count low = absurd (omega (arith, low))
+one_counted old_version count low = absurd (omega (arith, low))
+one_counted past_end count low = absurd (omega (arith, low))
+
+-- the others have no count
+none_of_these : (why : Refusal) (count : ℕ → ℕ) → 12 < refusal_number why → counted (answered (refused why)) count numbers ≡ map count numbers
+none_of_these bad_path count high = absurd (omega (arith, high))
+none_of_these not_found count high = absurd (omega (arith, high))
+none_of_these not_dir count high = absurd (omega (arith, high))
+none_of_these is_dir count high = absurd (omega (arith, high))
+none_of_these exists count high = absurd (omega (arith, high))
+none_of_these not_empty count high = absurd (omega (arith, high))
+none_of_these into_self count high = absurd (omega (arith, high))
+none_of_these is_root count high = absurd (omega (arith, high))
+none_of_these too_long count high = absurd (omega (arith, high))
+none_of_these too_big count high = absurd (omega (arith, high))
+none_of_these (no_space need free) count high = absurd (omega (arith, high))
+none_of_these no_memory count high = absurd (omega (arith, high))
+none_of_these no_snap count high = refl
+none_of_these has_snap count high = refl
+none_of_these old_version count high = refl
+none_of_these past_end count high = refl
 
 -- one more at an index
 abbrev one_more_at : List ℕ → ℕ → List ℕ
 one_more_at xs i = slice_set xs i (slice_index_or xs i 0 + 1)
 
-pub refusal_counted : (old : Summary) (why : Refusal) (number : ℕ) → number ≡ refusal_number why → CountsReply old (answered (refused why)) (summary old.ok (one_more_at old.refused (number - 1)) old.crashes old.kept old.of)
-refusal_counted old why number is = record {
+pub refusal_counted : (old : Summary) (why : Refusal) (number : ℕ) → number ≡ refusal_number why → number ≤ 12 → CountsReply old (answered (refused why)) (summary old.ok (one_more_at old.refused (number - 1)) old.crashes old.kept old.of)
+refusal_counted old why number is low = record {
   sums = λ replies was.
       let now : summary old.ok (one_more_at old.refused (number - 1)) old.crashes old.kept old.of ≡ summary (count_by is_ok replies) (one_more_at (map (refusals replies) numbers) (refusal_number why - 1)) (count_by is_crash replies) (sum_by kept_in replies) (sum_by total_in replies) =
       ap₂ (λ (s : Summary) (n : ℕ). summary s.ok (one_more_at s.refused (n - 1)) s.crashes s.kept s.of) was is in
       let sums_now : summary (count_by is_ok replies) (one_more_at (map (refusals replies) numbers) (refusal_number why - 1)) (count_by is_crash replies) (sum_by kept_in replies) (sum_by total_in replies)
       ≡ summary (count_by is_ok replies) (counted (answered (refused why)) (refusals replies) numbers) (count_by is_crash replies) (sum_by kept_in replies + 0) (sum_by total_in replies + 0) =
-      same_summary _ _ _ _ _ _ _ _ _ _ refl (sym (one_counted why (refusals replies))) refl (plus_nothing _) (plus_nothing _) in
+      same_summary _ _ _ _ _ _ _ _ _ _ refl (sym (one_counted why (refusals replies) (omega (arith, is, low)))) refl (plus_nothing _) (plus_nothing _) in
       now ∙ sums_now ∙ sym (sums_more replies (answered (refused why)));
   bounded = λ count bounded. record {
     ok = omega (arith, bounded.ok);
     refused =
         All-set (λ (x : ℕ). x ≤ count + 1) old.refused (number - 1) (slice_index_or old.refused (number - 1) 0 + 1) (omega (arith, get_le count old.refused (number - 1) bounded.refused)) (weaker count old.refused bounded.refused);
+    crashes = omega (arith, bounded.crashes);
+    kept = omega (arith, bounded.kept);
+    total = omega (arith, bounded.total);
+  };
+}
+
+pub refusal_uncounted : (old : Summary) (why : Refusal) → 12 < refusal_number why → CountsReply old (answered (refused why)) old
+refusal_uncounted old why high = record {
+  sums = λ replies was.
+      let same : sums replies ≡ summary (count_by is_ok replies) (counted (answered (refused why)) (refusals replies) numbers) (count_by is_crash replies) (sum_by kept_in replies + 0) (sum_by total_in replies + 0) =
+      same_summary _ _ _ _ _ _ _ _ _ _ refl (sym (none_of_these why (refusals replies) high)) refl (plus_nothing _) (plus_nothing _) in
+      was ∙ same ∙ sym (sums_more replies (answered (refused why)));
+  bounded = λ count bounded. record {
+    ok = omega (arith, bounded.ok);
+    refused = weaker count old.refused bounded.refused;
     crashes = omega (arith, bounded.crashes);
     kept = omega (arith, bounded.kept);
     total = omega (arith, bounded.total);

@@ -2,10 +2,12 @@
 
 ghost use Rattle.std.specs.Prelude.{◌≡◌, ◌≤◌, []};
 ghost use Rattle.bp_limits.specs.Limits.{log_events};
+ghost use Rattle.bp_plain.specs.Calls.Answer.{refused};
+ghost use Rattle.bp_plain.specs.Seen.{refusal_of};
 ghost use Rattle.bp_plain.specs.SeenAnswers.{answer_seen};
 ghost use Rattle.bp_script.specs.Texts.LineReply.{answered, kept_of};
 
-use bp_plain::Answer;
+use bp_plain::{Answer, FsError};
 use pm_epochs::Kept;
 
 /// What came of a play.
@@ -46,8 +48,20 @@ impl Summary {
         ensures { CountsReply self.old (answered (answer_seen answer.now)) self.new }
     {
         match answer {
-            Answer::Refused(error) => self.refused[(error.number() - 1) as usize] += 1,
+            Answer::Refused(error) => self.count_refusal(error),
             _ => self.ok += 1,
+        }
+    }
+
+    /// Counts a refusal. Those numbers that only calls on snapshots and batches answer have no count: no turn makes such a
+    /// call.
+    fn count_refusal(&mut self, error: &FsError)
+        requires { CanCount self.old }
+        ensures { CountsReply self.old (answered (refused (refusal_of error.now))) self.new }
+    {
+        let number = usize::from(error.number());
+        if number <= self.refused.len() {
+            self.refused[number - 1] += 1;
         }
     }
 

@@ -1,5 +1,5 @@
 -- A name moves behind the last entry of another directory: an entry is prepared there, and then one commit takes it in by the directory's size, and empties the old one.
-use Rattle.std.proofs.Common.{◌≡◌, ◌≢◌, ◌⊎◌, ℕ, zero, suc, ◌+◌, ◌*◌, ◌/◌, ◌<◌, ◌≤◌, [], ◌∷◌, length, None, slice_index, unwrap_or, refl, sym, ◌∙◌, ap, ap₂, subst, subst₂, arith, inl, inr}
+use Rattle.std.proofs.Common.{◌≡◌, ◌≢◌, ◌⊎◌, ℕ, zero, suc, ◌+◌, ◌*◌, ◌/◌, ◌<◌, ◌≤◌, List, [], ◌∷◌, length, None, slice_index, unwrap_or, refl, sym, ◌∙◌, ap, ap₂, subst, subst₂, arith, inl, inr}
 use Rattle.std.proofs.lemmas.Bool.{cases_eq}
 use Rattle.std.proofs.lemmas.List.{length-append}
 use Rattle.pm_region.specs.Memory.{Memory, current_words}
@@ -11,6 +11,7 @@ use Rattle.bp_free.specs.Set.{Set, has, members}
 use Rattle.bp_layout.specs.Directory.{EntryNames, IsName, empty_slot, entry_count, entry_word, inumber_at, name_at, slot_named}
 use Rattle.bp_layout.specs.Free.{AreUnheld}
 use Rattle.bp_layout.specs.Inode.{inode_count, kind_of, root_of, size_of}
+use Rattle.bp_layout.specs.Names.{AreCounts}
 use Rattle.bp_layout.specs.Need.{common_all, need}
 use Rattle.bp_layout.specs.Need.Change.{moves}
 use Rattle.bp_layout.specs.Reached.{IsReached}
@@ -26,13 +27,14 @@ use Rattle.bp_changes.specs.Effects.{CarriesEntry}
 use Rattle.bp_changes.proofs.Carry.{carried_well_formed}
 use Rattle.bp_changes.proofs.ChangesOver.{carries_over}
 use Rattle.bp_changes.proofs.Committed.{commit_carries}
+use Rattle.bp_changes.proofs.Named.{carried_counts}
 use Rattle.bp_changes.proofs.ReachedOn.{names_on, reached_on}
 use Rattle.bp_changes.proofs.SameMeaning.{well_formed-same}
 use Rattle.bp_shapes.specs.Forest.{tree_trail, IsForest}
 use Rattle.bp_shapes.specs.Sets.{AreExact, AreExactFor}
 use Rattle.bp_shapes.proofs.FreeSets.{wf_forest}
 use Rattle.bp_shapes.proofs.MovedSets.{carried_exact}
-use Rattle.bp_tree.specs.Performs.{HasRoomFor, IsOpen, Performs, most_stores, room_for}
+use Rattle.bp_commit.specs.Performs.{HasRoomFor, IsOpen, Performs, most_stores_thawed, room_for}
 use Rattle.bp_cow.specs.CanCommit.{CanCommit}
 use Rattle.bp_cow.specs.Commit.{CommitsTouched, HasRoom, commit_stores, cover_word}
 use Rattle.bp_cow.specs.Committed.{after_commit, changes_of}
@@ -49,6 +51,7 @@ use Rattle.bp_calls.proofs.AfterLaws.{slot_named_over}
 use Rattle.bp_calls.proofs.EnteredLaws.{name_same, not_named}
 use Rattle.bp_calls.proofs.PreparedSets.{live_before, prepared_exact, prepared_forest, prepared_sets, sizes_low, still_free}
 use Rattle.bp_calls.proofs.SizesWith.{size_with_here, size_with_other, sizes_with}
+use Rattle.bp_calls.proofs.Unthawed.{room_needed, unthawed}
 use Rattle.bp_rename.specs.CanRename.{CanRename, moved_inode}
 use Rattle.bp_rename.specs.RenamesEntry.{RenamesEntry, new_slot}
 use Rattle.bp_rename.specs.RenamesEntry.RenamesEntry.{across}
@@ -58,26 +61,27 @@ use Rattle.bp_rename.proofs.BehindTouched.{behind_are, behind_cover, behind_few,
 use Rattle.bp_rename.proofs.ContentWords.{AreContent, size_given, size_kept, words_can, words_fronts, words_kept, words_only, words_value}
 use Rattle.bp_rename.proofs.Outside.{below_before}
 use Rattle.bp_rename.proofs.TwoWords.{first_value, pick, second_value, two_count}
+use Rattle.bp_layout.specs.Thaw.{none_kept}
 
 -- the inode that moves is a number of 32 bits
-pub moved_few : (image : Image) (move : Move) → CanRename image move → moved_inode image move < 1048576
+pub moved_few : (image : Image) (move : Move) → CanRename image move → moved_inode image move < 4194304
 moved_few image move can = few_inode image can.well_formed (moved_inode image move) (can.well_formed.inumbers move.from_dir move.from_slot (moved_inode image move) can.source can.entry)
 
 -- the entry can be put there
 pub can_put : (memory : Memory) (move : Move) (blocks inodes : Set) (can : CanRename (current_words memory) move) (other : move.from_dir ≢ move.to_dir) (new_name : move.to_slot ≡ None) (none : empty_slot (current_words memory) move.to_dir ≡ None)
     (touched : Touched) (is : TouchesTwo touched (size_path (current_words memory) move.to_dir) (inumber_path (current_words memory) move.from_dir move.from_slot) (size_of (current_words memory) move.to_dir + 256) 0) →
-    AreExact (current_words memory) blocks inodes → need (current_words memory) (moves move.from_dir move.from_slot move.to_dir) ≤ length (members blocks) → HasRoomFor memory (moves move.from_dir move.from_slot move.to_dir) → CanPutBehind memory blocks move.to_dir move.name.now
+    AreExact (current_words memory) none_kept blocks inodes → need (current_words memory) (moves move.from_dir move.from_slot move.to_dir) ≤ length (members blocks) → HasRoomFor memory none_kept (moves move.from_dir move.from_slot move.to_dir) → CanPutBehind memory blocks move.to_dir move.name.now
 can_put memory move blocks inodes can other new_name none touched is exact enough room = record {
   lacks = record { well_formed = can.well_formed; reached = can.target; directory = can.directory; form = can.name; missing = can.slot ∙ new_name };
   none = none;
   inodes = inodes;
   exact = exact;
   enough = let needs = touched_needs (current_words memory) move can other none touched is in omega (arith, needs, enough);
-  room = let needs = touched_needs (current_words memory) move can other none touched is in omega (arith, needs, room);
+  room = let needs = touched_needs (current_words memory) move can other none touched is in let asked = room_needed memory (moves move.from_dir move.from_slot move.to_dir) room in omega (arith, needs, asked);
 }
 
 module _ (old middle : Memory) (move : Move) (blocks inodes after : Set) (can : CanRename (current_words old) move) (new_name : move.to_slot ≡ None) (other : move.from_dir ≢ move.to_dir)
-    (none : empty_slot (current_words old) move.to_dir ≡ None) (exact : AreExact (current_words old) blocks inodes) (room : HasRoomFor old (moves move.from_dir move.from_slot move.to_dir))
+    (none : empty_slot (current_words old) move.to_dir ≡ None) (exact : AreExact (current_words old) none_kept blocks inodes) (room : HasRoomFor old none_kept (moves move.from_dir move.from_slot move.to_dir))
     (puts : PutsBehind old middle (members blocks) (members after) move.to_dir (moved_inode (current_words old) move) move.name.now) (as_long : length after ≡ length blocks)
     (touched : Touched) (is : TouchesTwo touched (size_path (current_words old) move.to_dir) (inumber_path (current_words old) move.from_dir move.from_slot) (size_of (current_words old) move.to_dir + 256) 0) where
   abbrev image : Image
@@ -173,10 +177,10 @@ module _ (old middle : Memory) (move : Move) (blocks inodes after : Set) (can : 
   low : (t : ℕ) → size_of mid t ≤ sizes_with (current_words middle) touched t
   low = sizes_low old middle blocks inodes after j (size_of image j) (size_of image j + 256) puts.bytes can.well_formed exact can.target not_file past puts.prepared (sizes_with mid touched) bound_here bound_other
 
-  unheld : AreUnheld mid (IsReached mid) (sizes_with (current_words middle) touched) (has after)
+  unheld : AreUnheld mid (IsReached mid) (sizes_with (current_words middle) touched) none_kept (has after)
   unheld = prepared_exact old middle blocks inodes after j (size_of image j) (size_of image j + 256) puts.bytes can.well_formed exact can.target not_file past puts.prepared (sizes_with mid touched) bound_here bound_other
 
-  sets : AreExactFor mid (IsReached mid) (sizes_with (current_words middle) touched) after inodes
+  sets : AreExactFor mid (IsReached mid) (sizes_with (current_words middle) touched) none_kept after inodes
   sets = prepared_sets old middle blocks inodes after j (size_of image j) (size_of image j + 256) puts.bytes can.well_formed exact can.target not_file past puts.prepared (sizes_with mid touched) bound_here bound_other as_long
 
   pub behind_fits : block_count (current_words middle) ≤ length after
@@ -212,18 +216,18 @@ module _ (old middle : Memory) (move : Move) (blocks inodes after : Set) (can : 
   pub behind_room : HasRoom middle touched
   behind_room =
       enough _ _ _ _ _ _ _ (room_in-piece _ _ old middle puts.prepared.adds.part.added puts.prepared.adds.part.adds puts.prepared.adds.part.piece) (behind_whole (size_of image j) (size_of image j) (size_of image j + 256) max_height)
-      needs few_copies count room
+      needs few_copies count (room_needed old (moves move.from_dir move.from_slot move.to_dir) room)
     where
       enough : (made behind copied needed words before left : ℕ) → before ≤ left + (2 + (block_words * made + behind + 2)) → behind ≤ block_words * suc max_height → needed ≡ made + copied → copied ≤ 23 → words ≡ 2 → room_for needed ≤ before →
           (block_words + 1) * copied + words + 1 + 2 ≤ left
       enough made behind copied needed words before left a b c d e f = omega (arith, a, b, c, d, e, f)
 
   few_stores : prep_stores (size_of image j) (size_of image j) (size_of image j + 256) (need_for image j (size_of image j) (size_of image j + 256)) + commit_stores mid touched ≤
-      most_stores (need image (moves move.from_dir move.from_slot move.to_dir))
+      most_stores_thawed (need image (moves move.from_dir move.from_slot move.to_dir))
   few_stores = go _ _ _ _ _ needs (behind_whole (size_of image j) (size_of image j) (size_of image j + 256) max_height) count few_copies
     where
       go : (made copied words needed behind : ℕ) → needed ≡ made + copied → behind ≤ block_words * suc max_height → words ≡ 2 → copied ≤ 23 →
-          block_words * made + behind + 2 + ((block_words + 1) * copied + words + 1) ≤ most_stores needed
+          block_words * made + behind + 2 + ((block_words + 1) * copied + words + 1) ≤ most_stores_thawed needed
       go made copied words needed behind a b c d = omega (arith, a, b, c, d)
 
   -- ---- what the commit makes
@@ -306,14 +310,16 @@ module _ (old middle : Memory) (move : Move) (blocks inodes after : Set) (can : 
         (λ e. absurd (not_file e)) ∙ stays f few)
         ∙ spelled
 
+    carries : CarriesEntry image (current_words new) i s j (entry_count mid j) x
+    carries = carries_over image mid (current_words new) can.well_formed puts.prepared.ready.meaning puts.prepared.ready.sizes i s j (entry_count mid j) x mid_carries
+
     effect : RenamesEntry move image (current_words new)
     effect =
         across new_name other
-        (subst (λ r. CarriesEntry image (current_words new) i s j r x) slot_is
-        (carries_over image mid (current_words new) can.well_formed puts.prepared.ready.meaning puts.prepared.ready.sizes i s j (entry_count mid j) x mid_carries))
+        (subst (λ r. CarriesEntry image (current_words new) i s j r x) slot_is carries)
         (subst (λ r. name_at (current_words new) j r ≡ move.name.now) slot_is name_is)
 
-    open_cover : IsOpen mid done.taken (cover_word mid touched)
+    open_cover : IsOpen mid none_kept done.taken (cover_word mid touched)
     open_cover =
         cover_open mid behind_formed touched behind_can.shape (path_of (word_paths touched) 0) (has-word touched behind_can.shape 0 (omega (arith, count)))
         (λ d deep.
@@ -321,17 +327,24 @@ module _ (old middle : Memory) (move : Move) (blocks inodes after : Set) (can : 
         (behind_are mid behind_formed i s j (size_of image j + 256) source entry.in_size entry.directory target touched is_mid (size_of mid) (λ t. omega arith)) 0 d (omega (arith, count)) deep)
         done.taken
 
-    pub behind_performs : Performs old new (moves move.from_dir move.from_slot move.to_dir) (RenamesEntry move)
+    pub behind_performs : Performs none_kept old new (moves move.from_dir move.from_slot move.to_dir) (RenamesEntry move)
     behind_performs =
-        commit_performs_after old middle new (moves move.from_dir move.from_slot move.to_dir) (RenamesEntry move) (sizes_with mid touched) touched after last puts.prepared.taken 2
+        unthawed old new (moves move.from_dir move.from_slot move.to_dir) (RenamesEntry move)
+        (commit_performs_after old middle new (moves move.from_dir move.from_slot move.to_dir) (RenamesEntry move) (sizes_with mid touched) touched after last puts.prepared.taken 2
         (prep_stores (size_of image j) (size_of image j) (size_of image j + 256) (need_for image j (size_of image j) (size_of image j + 256))) puts.prepared.adds done
         (live_before old middle blocks inodes after j (size_of image j) (size_of image j + 256) puts.bytes can.well_formed exact can.target not_file past puts.prepared (sizes_with mid touched) bound_here bound_other)
         (still_free old middle blocks inodes after j (size_of image j) (size_of image j + 256) puts.bytes can.well_formed exact can.target not_file past puts.prepared (sizes_with mid touched) bound_here bound_other)
         (covers ∙ sym (behind_whole_cover image move can other none)) (omega arith) few_stores (omega (arith, puts.prepared.counted, needs)) open_cover
-        (carried_well_formed mid (current_words new) behind_formed i s j (entry_count mid j) x mid_carries) effect
+        (carried_well_formed mid (current_words new) behind_formed i s j (entry_count mid j) x mid_carries) effect)
 
-    pub behind_exact : length last ≡ length after → AreExact (current_words new) last inodes
+    pub behind_exact : length last ≡ length after → AreExact (current_words new) none_kept last inodes
     behind_exact same =
         carried_exact mid (current_words new) behind_formed i s j (entry_count mid j) x mid_carries
         (λ below. can.outside (below_before image mid can.well_formed puts.prepared.ready.meaning i s x can.source can.entry j below))
-        (sizes_with mid touched) sizes after last inodes sets same done.exact
+        (sizes_with mid touched) none_kept sizes after last inodes sets same done.exact
+
+    pub behind_counts : (counts : List ℕ) → AreCounts (current_words old) counts → AreCounts (current_words new) counts
+    behind_counts = carried_counts image (current_words new) can.well_formed i s j (entry_count mid j) x carries can.outside
+
+    pub behind_whole_image : length (current_words new) ≡ length (current_words old)
+    behind_whole_image = carries.trees.whole

@@ -7,7 +7,7 @@ use Rattle.bp_append.specs.Prepared.{need_for}
 use Rattle.bp_layout.specs.Directory.{empty_slot, entry_count}
 use Rattle.bp_layout.specs.Inode.{inode_count, kind_of, root_of, size_of}
 use Rattle.bp_layout.specs.Members.{Has}
-use Rattle.bp_layout.specs.Need.{Beyond, Change, beyond, common_all, content_path, copied, cover, growth, height_after, is_there_after, need, new_entry, new_inodes, preparation, prepared_for}
+use Rattle.bp_layout.specs.Need.{Beyond, beyond, common_all, content_path, copied, cover, growth, height_after, is_there_after, need, new_entry, new_inodes, preparation, prepared_for}
 use Rattle.bp_layout.specs.Need.Change.{moves}
 use Rattle.bp_layout.specs.Need as layout
 use Rattle.bp_layout.specs.Nodes.{height_with, nodes_for}

@@ -33,6 +33,7 @@ use Rattle.bp_cow.proofs.CoverLaws.{some-ends}
 use Rattle.bp_cow.proofs.RunFronts.{trail_of-take}
 use Rattle.bp_cow.proofs.RunWrites.{digits_trail, root_path_trail}
 use Rattle.bp_cow.proofs.Values.{after-others, after-word}
+use Rattle.bp_layout.specs.Thaw.{none_kept}
 
 -- Content words alone are touched: each in a reached tree below a size that counts, no root word, and no two alike.
 pub record AreContent (image : Image) (bound : ℕ → ℕ) (touched : Touched) (tree number : ℕ → ℕ) : Type 0 where
@@ -185,7 +186,7 @@ module _ (image : Image) (bound : ℕ → ℕ) (forest : IsForest image bound) (
       let deep : d < length (path_of (word_paths touched) 0) = subst (λ (p : WordPath). d < length p) first (omega (arith, long)) in
       (skeleton image bound forest wf.formatted.sized.whole).in_range _ (subst (λ p. IsTreePointer image bound (trail_of p d)) (sym first) (words_fronts 0 d (omega (arith, are.some)) deep))
 
-  module _ (sizes : (t : ℕ) → IsReached image t → size_of image t ≤ bound t) (free : ℕ → Bool) (exact : AreUnheld image (IsReached image) bound free) where
+  module _ (sizes : (t : ℕ) → IsReached image t → size_of image t ≤ bound t) (free : ℕ → Bool) (exact : AreUnheld image (IsReached image) bound none_kept free) where
     pub words_can : CanCommit image bound touched free
     words_can = record {
       shape = words_shape;

@@ -9,10 +9,10 @@ use Rattle.pm_region.specs.Memory.{Adds, Memory, current_words}
 use Rattle.pm_region.specs.Safe.{AddsMay}
 use Rattle.pm_region.proofs.MayLaws.{each_after, may_weaker}
 use Rattle.pm_region.proofs.MemoryLaws.{adds_both, current_words-adds}
-use Rattle.bp_tree.proofs.PerformsLaws.{same_equivalence}
+use Rattle.bp_commit.proofs.PerformsLaws.{same_equivalence}
 use Rattle.bp_dirs.specs.Written.{HasNameAt}
 use Rattle.bp_tree.specs.Within.{IsWithin}
-use Rattle.bp_tree.specs.Performs.{AddsTaking, IsOpen}
+use Rattle.bp_commit.specs.Performs.{AddsTaking, IsOpen}
 use Rattle.bp_layout.specs.Directory.{EntryNames, empty_slot, entry_count, inumber_at, name_at}
 use Rattle.bp_layout.specs.Inode.{ContentStandsAt, kind_of, root_of, size_of}
 use Rattle.bp_layout.specs.Reached.{IsReached}
@@ -35,6 +35,7 @@ use Rattle.bp_rename.specs.CanRename.{CanRename, moved_inode}
 use Rattle.bp_rename.specs.TouchesTwo.{TouchesTwo, inumber_path}
 use Rattle.bp_rename.specs.declared.moving.Move.{Move}
 use Rattle.bp_rename.proofs.Outside.{below_before}
+use Rattle.bp_layout.specs.Thaw.{none_kept}
 
 module _ (old third mid : Memory) (move : Move) (s entry : ℕ) (can : CanRename (current_words old) move) (new : move.to_slot ≡ None) (other : move.from_dir ≢ move.to_dir)
     (found : empty_slot (current_words old) move.to_dir ≡ Some s) (entry_at : ContentStandsAt (current_words old) move.to_dir (32 * s + 0) entry)
@@ -50,7 +51,7 @@ module _ (old third mid : Memory) (move : Move) (s entry : ℕ) (can : CanRename
   empty = (found_empty (current_words old) move.to_dir s found).1
 
   abbrev Inside : ℕ → Type 0
-  Inside p = IsSpare (current_words old) p × IsOpen (current_words old) [] p
+  Inside p = IsSpare (current_words old) p × IsOpen (current_words old) none_kept [] p
 
   name_inside : (p v : ℕ) → AnyAt (IsWithin (entry + 1) 31) p v → AnyAt Inside p v
   name_inside p v inside =
@@ -72,7 +73,7 @@ module _ (old third mid : Memory) (move : Move) (s entry : ℕ) (can : CanRename
   pub into_trees : SameTrees (current_words old) (current_words mid)
   into_trees = rw words (trees_of (current_words third) (each_after (AnyAt Inside) 0 31 old third all_inside))
 
-  pub into_taking : AddsTaking [] 1 31 old mid
+  pub into_taking : AddsTaking none_kept [] 1 31 old mid
   into_taking = record {
     part = record {
       added = all_inside.added ++ Barrier ∷ [];
@@ -86,8 +87,8 @@ module _ (old third mid : Memory) (move : Move) (s entry : ℕ) (can : CanRename
       once = tt;
       free = tt;
       stored = tt;
-      only = StoresMay-append (AnyAt (IsOpen (current_words old) [])) all_inside.added (Barrier ∷ [])
-          (StoresMay-weaker (AnyAt Inside) (AnyAt (IsOpen (current_words old) [])) (λ p v both. both.1) all_inside.added all_inside.may) tt;
+      only = StoresMay-append (AnyAt (IsOpen (current_words old) none_kept [])) all_inside.added (Barrier ∷ [])
+          (StoresMay-weaker (AnyAt Inside) (AnyAt (IsOpen (current_words old) none_kept [])) (λ p v both. both.1) all_inside.added all_inside.may) tt;
     };
   }
 

@@ -1,5 +1,5 @@
 -- A name has moved into an empty entry of another directory: that it is performed, and that the sets are exact.
-use Rattle.std.proofs.Common.{◌≡◌, ◌≢◌, ◌⊎◌, ℕ, zero, suc, ◌+◌, ◌*◌, ◌%◌, ◌<◌, ◌≤◌, [], ◌∷◌, length, None, Some, unwrap_or, refl, sym, ◌∙◌, ap, subst, arith, inl, inr}
+use Rattle.std.proofs.Common.{◌≡◌, ◌≢◌, ◌⊎◌, ℕ, zero, suc, ◌+◌, ◌*◌, ◌%◌, ◌<◌, ◌≤◌, List, [], ◌∷◌, length, None, Some, unwrap_or, refl, sym, ◌∙◌, ap, subst, arith, inl, inr}
 use Rattle.pm_epochs.specs.declared.event.Event.TheVariants.{Barrier}
 use Rattle.pm_epochs.specs.May.{AnyAt}
 use Rattle.pm_region.specs.Memory.{Adds, Memory, current_words}
@@ -7,10 +7,11 @@ use Rattle.pm_region.specs.Safe.{AddsMay}
 use Rattle.pm_region.proofs.SafeLaws.{room_after_quiet}
 use Rattle.bp_dirs.specs.Written.{HasNameAt}
 use Rattle.bp_tree.specs.Within.{IsWithin}
-use Rattle.bp_tree.specs.Performs.{HasRoomFor, Performs}
+use Rattle.bp_commit.specs.Performs.{HasRoomFor, Performs}
 use Rattle.bp_free.specs.Set.{Set, has}
 use Rattle.bp_layout.specs.Directory.{empty_slot, entry_count, name_at}
 use Rattle.bp_layout.specs.Inode.{ContentStandsAt, kind_of, root_of, size_of}
+use Rattle.bp_layout.specs.Names.{AreCounts}
 use Rattle.bp_layout.specs.Need.{common_all, cover, need}
 use Rattle.bp_layout.specs.Need.Change.{moves}
 use Rattle.bp_layout.specs.Reached.{IsReached}
@@ -23,6 +24,7 @@ use Rattle.bp_changes.specs.Effects.{CanMoveEntry, CarriesEntry, MovesEntry}
 use Rattle.bp_changes.proofs.ChangesOver.{carries_over}
 use Rattle.bp_changes.proofs.Committed.{commit_moves}
 use Rattle.bp_changes.proofs.Move.{moved_well_formed, moves_carry}
+use Rattle.bp_changes.proofs.Named.{carried_counts}
 use Rattle.bp_shapes.specs.Forest.{tree_trail}
 use Rattle.bp_shapes.specs.Sets.{AreExact}
 use Rattle.bp_shapes.proofs.FreeSets.{wf_forest}
@@ -40,6 +42,7 @@ use Rattle.bp_calls.proofs.AfterLaws.{live_before_too, size_after}
 use Rattle.bp_calls.proofs.EnteredLaws.{name_same}
 use Rattle.bp_calls.proofs.SetLaws.{exact_prepared}
 use Rattle.bp_calls.proofs.Trees.{SameTrees}
+use Rattle.bp_calls.proofs.Unthawed.{room_needed, unthawed}
 use Rattle.bp_rename.specs.CanRename.{CanRename, moved_inode}
 use Rattle.bp_rename.specs.RenamesEntry.{RenamesEntry, new_slot}
 use Rattle.bp_rename.specs.RenamesEntry.RenamesEntry.{across}
@@ -50,13 +53,14 @@ use Rattle.bp_rename.proofs.IntoDone.{into_count, into_paths, into_whole}
 use Rattle.bp_rename.proofs.IntoLaws.{into_can, into_taking, into_trees, mid_empty, mid_formed, mid_name, mid_outside, mid_touches}
 use Rattle.bp_rename.proofs.TwoWords.{first_value, has_first, no_leaves, pick, second_value, two_are, two_count}
 use Rattle.bp_rename.proofs.WholePaths.{cover-whole, pointed-directory}
+use Rattle.bp_layout.specs.Thaw.{none_kept}
 
 module _ (old third mid : Memory) (move : Move) (s entry : ℕ) (can : CanRename (current_words old) move) (new_name : move.to_slot ≡ None) (other : move.from_dir ≢ move.to_dir)
     (found : empty_slot (current_words old) move.to_dir ≡ Some s) (entry_at : ContentStandsAt (current_words old) move.to_dir (32 * s + 0) entry)
     (spells : AddsMay (AnyAt (IsWithin (entry + 1) 31)) 0 31 old third) (spelled : HasNameAt (current_words third) entry move.name.now)
     (ends : Adds third mid (Barrier ∷ [])) (touched : Touched)
     (is : TouchesTwo touched (inumber_path (current_words old) move.to_dir s) (inumber_path (current_words old) move.from_dir move.from_slot) (moved_inode (current_words old) move) 0)
-    (blocks inodes : Set) (exact : AreExact (current_words old) blocks inodes) (room : HasRoomFor old (moves move.from_dir move.from_slot move.to_dir)) where
+    (blocks inodes : Set) (exact : AreExact (current_words old) none_kept blocks inodes) (room : HasRoomFor old none_kept (moves move.from_dir move.from_slot move.to_dir)) where
   can_move : CanMoveEntry (current_words mid) move.from_dir move.from_slot move.to_dir s (moved_inode (current_words old) move)
   can_move = into_can old third mid move s entry can new_name other found entry_at spells spelled ends
 
@@ -81,7 +85,7 @@ module _ (old third mid : Memory) (move : Move) (s entry : ℕ) (can : CanRename
       no_file : (t l : ℕ) → kind_of (current_words mid) t ≡ 2 → t ≡ 0 → l % 8 ≢ 1
       no_file t l kind e = let two : kind_of (current_words mid) 0 ≡ 2 = subst (λ t. kind_of (current_words mid) t ≡ 2) e kind in absurd (omega (arith, two))
 
-  exact_mid : AreExact (current_words mid) blocks inodes
+  exact_mid : AreExact (current_words mid) none_kept blocks inodes
   exact_mid = exact_prepared (current_words old) (current_words mid) can.well_formed trees.prepared blocks inodes exact
 
   pub into_fits : block_count (current_words mid) ≤ length blocks
@@ -110,7 +114,8 @@ module _ (old third mid : Memory) (move : Move) (s entry : ℕ) (can : CanRename
   into_room =
       let few = copied_few (current_words mid) (size_of (current_words mid)) touched (has blocks) formed into_ready in
       let left = room_after_quiet Same 1 31 old mid (into_taking old third mid move s entry can new_name other found entry_at spells spelled ends).part in
-      omega (arith, few, count, leaves, into_copies, room, left)
+      let asked = room_needed old (moves move.from_dir move.from_slot move.to_dir) room in
+      omega (arith, few, count, leaves, into_copies, asked, left)
 
   module _ (new : Memory) (left : Set) (done : CommitsTouched (size_of (current_words mid)) touched mid new blocks left) (as_long : length left ≡ length blocks) where
     apart_from_file : (i : ℕ) → pick move.to_dir move.from_dir i ≡ 0 → ⊥
@@ -168,28 +173,38 @@ module _ (old third mid : Memory) (move : Move) (s entry : ℕ) (can : CanRename
         (λ f some few. mid_moves.entry move.to_dir s f can_move.target can_move.directory can_move.in_size few (λ e same. other e) (λ e same. omega (arith, same, some)))
         ∙ name
 
+    into_carries : CarriesEntry (current_words old) (current_words new) move.from_dir move.from_slot move.to_dir s (moved_inode (current_words old) move)
+    into_carries =
+        carries_over (current_words old) (current_words mid) (current_words new) can.well_formed trees.prepared.meaning (size_after (current_words old) (current_words mid) can.well_formed trees.prepared)
+        move.from_dir move.from_slot move.to_dir s (moved_inode (current_words old) move) mid_carries
+
     pub into_effect : RenamesEntry move (current_words old) (current_words new)
     into_effect =
         across new_name other
-        (subst (λ r. CarriesEntry (current_words old) (current_words new) move.from_dir move.from_slot move.to_dir r (moved_inode (current_words old) move)) slot_is
-        (carries_over (current_words old) (current_words mid) (current_words new) can.well_formed trees.prepared.meaning (size_after (current_words old) (current_words mid) can.well_formed trees.prepared)
-        move.from_dir move.from_slot move.to_dir s (moved_inode (current_words old) move) mid_carries))
+        (subst (λ r. CarriesEntry (current_words old) (current_words new) move.from_dir move.from_slot move.to_dir r (moved_inode (current_words old) move)) slot_is into_carries)
         (subst (λ r. name_at (current_words new) move.to_dir r ≡ move.name.now) slot_is name_is)
 
-    pub into_performs : Performs old new (moves move.from_dir move.from_slot move.to_dir) (RenamesEntry move)
+    pub into_performs : Performs none_kept old new (moves move.from_dir move.from_slot move.to_dir) (RenamesEntry move)
     into_performs =
-        commit_performs_after old mid new (moves move.from_dir move.from_slot move.to_dir) (RenamesEntry move) (size_of (current_words mid)) touched blocks left [] 1 31
+        unthawed old new (moves move.from_dir move.from_slot move.to_dir) (RenamesEntry move)
+        (commit_performs_after old mid new (moves move.from_dir move.from_slot move.to_dir) (RenamesEntry move) (size_of (current_words mid)) touched blocks left [] 1 31
         (into_taking old third mid move s entry can new_name other found entry_at spells spelled ends) done
         (λ b live. inl (live_before_too (current_words old) (current_words mid) can.well_formed trees.prepared b live))
         (λ b there. (exact.free_blocks.free b there, λ never. never)) covers (omega arith)
-        (let few = stores_few (current_words mid) (size_of (current_words mid)) touched (has blocks) formed into_ready (omega (arith, leaves)) in omega (arith, few, into_copies))
+        (let few = stores_few (current_words mid) (size_of (current_words mid)) touched (has blocks) formed into_ready in omega (arith, few, leaves, count, into_copies))
         (omega (arith, into_copies))
         (cover_open (current_words mid) formed touched into_ready.shape (path_of (word_paths touched) 0) (has-word touched into_ready.shape 0 (omega (arith, count)))
         (λ d low. into_ready.pointers 0 d (omega (arith, count)) low) done.taken)
         (moved_well_formed (current_words mid) (current_words new) formed move.from_dir move.from_slot move.to_dir s (moved_inode (current_words old) move) can_move mid_moves)
-        into_effect
+        into_effect)
 
-    pub into_exact : AreExact (current_words new) left inodes
+    pub into_exact : AreExact (current_words new) none_kept left inodes
     into_exact =
         carried_exact (current_words mid) (current_words new) formed move.from_dir move.from_slot move.to_dir s (moved_inode (current_words old) move) mid_carries
-        (mid_outside old third mid move s entry can new_name other found entry_at spells spelled ends) (size_of (current_words mid)) size_stays blocks left inodes exact_mid as_long done.exact
+        (mid_outside old third mid move s entry can new_name other found entry_at spells spelled ends) (size_of (current_words mid)) none_kept size_stays blocks left inodes exact_mid as_long done.exact
+
+    pub into_counts : (counts : List ℕ) → AreCounts (current_words old) counts → AreCounts (current_words new) counts
+    into_counts = carried_counts (current_words old) (current_words new) can.well_formed move.from_dir move.from_slot move.to_dir s (moved_inode (current_words old) move) into_carries can.outside
+
+    pub into_whole_image : length (current_words new) ≡ length (current_words old)
+    into_whole_image = into_carries.trees.whole

@@ -4,7 +4,9 @@ pub mod ContentWords
 pub mod WholePaths
 pub mod TwoWords
 pub mod FoundNames
+pub mod KeptCounts
 pub mod OntoLaws
+pub mod OntoNames
 pub mod OntoDone
 pub mod NameRun
 pub mod WithinLaws
@@ -16,4 +18,5 @@ pub mod IntoMoved
 pub mod BehindTouched
 pub mod BehindMoved
 pub mod Renames
+pub mod Asked
 pub mod RenamedStands

@@ -31,6 +31,7 @@ use Rattle.bp_cow.proofs.RunWrites.{digits_trail, root_path_trail}
 use Rattle.bp_cow.proofs.Values.{after-others, after-run}
 use Rattle.bp_calls.proofs.RunCommits.{IsRunOf, laid_inside, run_in, run_is}
 use Rattle.bp_rename.proofs.ContentWords.{same_word}
+use Rattle.bp_layout.specs.Thaw.{none_kept}
 
 -- ---- what is asked
 
@@ -49,7 +50,7 @@ module _ (image : Image) (wf : IsWellFormed image) (n : ℕ) (reached : IsReache
     some = omega (arith, leaves);
   }
 
-  pub run_commit : (free : ℕ → Bool) → AreFreeBlocks image free → CanCommit image (size_of image) touched free
+  pub run_commit : (free : ℕ → Bool) → AreFreeBlocks image none_kept free → CanCommit image (size_of image) touched free
   run_commit free exact = run_can image wf touched run_shape free exact run one none (run_in image wf n reached run of)
 
   -- all paths are as long, so none begins another
@@ -95,7 +96,7 @@ module _ (image : Image) (wf : IsWellFormed image) (n : ℕ) (reached : IsReache
       ∙ ap (λ (base : Trail). along base (suc run.height) k) (root_path_trail (height_of (root_of image 0)) n run.root.items of.root)
       ∙ ap (λ h. along (root_trail (height_of (word image 2)) (suc n)) (suc h) k) of.height
 
-  module _ (free : ℕ → Bool) (exact : AreFreeBlocks image free) (directory : kind_of image (suc n) ≡ 2) (new : Image) (turned : Trail → Type 0)
+  module _ (free : ℕ → Bool) (exact : AreFreeBlocks image none_kept free) (directory : kind_of image (suc n) ≡ 2) (new : Image) (turned : Trail → Type 0)
       (stage : IsCommitted image new (IsTreePointer image (size_of image)) turned (after_commit image (job_of touched))) where
     can : CanCommit image (size_of image) touched free
     can = run_commit free exact

@@ -1,5 +1,5 @@
 -- A name moves onto another one: what the commit asks, that it is performed, and what comes back.
-use Rattle.std.proofs.Common.{◌≡◌, ◌≢◌, ℕ, ◌+◌, ◌*◌, ◌%◌, ◌<◌, List, [], ◌∷◌, length, Bool, Some, refl, sym, ◌∙◌, ap, subst, arith, inl}
+use Rattle.std.proofs.Common.{◌≡◌, ◌≢◌, ℕ, ◌+◌, ◌*◌, ◌%◌, ◌<◌, List, [], ◌∷◌, length, Bool, Some, refl, sym, ◌∙◌, ap, ap₂, subst, arith, inl}
 use Rattle.bp_layout.specs.Directory.{EntryNames, inumber_at, name_at}
 use Rattle.bp_layout.specs.Free.{AreUnheld}
 use Rattle.bp_layout.specs.Inode.{kind_of, size_of}
@@ -26,6 +26,7 @@ use Rattle.bp_rename.proofs.ContentWords.{AreContent, words_apart, words_can, wo
 use Rattle.bp_rename.proofs.FoundNames.{found_entry, found_name}
 use Rattle.bp_rename.proofs.TwoWords.{has_first, pick, two_are, two_paths}
 use Rattle.bp_rename.proofs.WholePaths.{cover-whole, pointed-directory}
+use Rattle.bp_layout.specs.Thaw.{none_kept}
 
 module _ (image : Image) (move : Move) (r : ℕ) (can : CanRename image move) (onto : move.to_slot ≡ Some r) where
   abbrev wf : IsWellFormed image
@@ -34,8 +35,12 @@ module _ (image : Image) (move : Move) (r : ℕ) (can : CanRename image move) (o
   pub replaced : EntryNames image move.to_dir r (inumber_at image move.to_dir r)
   replaced = found_entry image move.to_dir r move.name.now can.directory (can.slot ∙ onto)
 
-  spelled : name_at image move.to_dir r ≡ move.name.now
+  pub spelled : name_at image move.to_dir r ≡ move.name.now
   spelled = found_name image move.to_dir r move.name.now can.directory (can.slot ∙ onto)
+
+  -- two entries that name two inodes are two
+  apart_entries : move.from_dir ≡ move.to_dir → move.from_slot ≡ r → ⊥
+  apart_entries e f = can.apart r onto (ap₂ (inumber_at image) (sym e) (sym f))
 
   pub onto_can : CanMoveEntry image move.from_dir move.from_slot move.to_dir r (moved_inode image move)
   onto_can = record {
@@ -44,7 +49,7 @@ module _ (image : Image) (move : Move) (r : ℕ) (can : CanRename image move) (o
     target = can.target;
     directory = can.directory;
     in_size = replaced.in_size;
-    apart = can.other r onto;
+    apart = apart_entries;
     alone = λ x l some n. can.alone r x l onto n;
     name = rw spelled can.name;
     new_name = λ x l n same. can.well_formed.names_once move.to_dir x r l (inumber_at image move.to_dir r) can.target n replaced same;
@@ -56,7 +61,7 @@ module _ (image : Image) (move : Move) (r : ℕ) (can : CanRename image move) (o
   pub replaced_some : inumber_at image move.to_dir r ≢ 0
   replaced_some = replaced.not_empty
 
-  pub replaced_few : inumber_at image move.to_dir r < 1048576
+  pub replaced_few : inumber_at image move.to_dir r < 4194304
   replaced_few = few_inode image can.well_formed (inumber_at image move.to_dir r) (can.well_formed.inumbers move.to_dir r (inumber_at image move.to_dir r) can.target replaced)
 
   low_source : 8 * (32 * move.from_slot + 0) < size_of image move.from_dir
@@ -83,7 +88,7 @@ module _ (image : Image) (move : Move) (r : ℕ) (can : CanRename image move) (o
     are =
         two_are image touched move.from_dir (32 * move.from_slot + 0) move.to_dir (32 * r + 0) 0 (moved_inode image move) is (size_of image) can.source can.target low_source low_target
         (no_directory move.from_dir (32 * move.from_slot + 0) can.entry.directory) (no_directory move.to_dir (32 * r + 0) can.directory)
-        (λ e f. can.other r onto e (omega (arith, f)))
+        (λ e f. apart_entries e (omega (arith, f)))
 
     pub onto_shape : IsTouched touched
     onto_shape = words_shape image (size_of image) (wf_forest image can.well_formed) touched (pick move.from_dir move.to_dir) (pick (32 * move.from_slot + 0) (32 * r + 0)) are
@@ -94,7 +99,7 @@ module _ (image : Image) (move : Move) (r : ℕ) (can : CanRename image move) (o
     pub onto_apart : NoneBegins (all_paths touched)
     onto_apart = words_apart image (size_of image) (wf_forest image can.well_formed) touched (pick move.from_dir move.to_dir) (pick (32 * move.from_slot + 0) (32 * r + 0)) are
 
-    pub onto_commit : (free : ℕ → Bool) → AreUnheld image (IsReached image) (size_of image) free → CanCommit image (size_of image) touched free
+    pub onto_commit : (free : ℕ → Bool) → AreUnheld image (IsReached image) (size_of image) none_kept free → CanCommit image (size_of image) touched free
     onto_commit free exact = words_can image (size_of image) (wf_forest image can.well_formed) touched (pick move.from_dir move.to_dir) (pick (32 * move.from_slot + 0) (32 * r + 0)) are (λ t q. omega arith) free exact
 
     all_touched : all_paths touched ≡ inumber_path image move.from_dir move.from_slot ∷ inumber_path image move.to_dir r ∷ []

@@ -53,6 +53,7 @@ module _ (image : Image) (n s j : ℕ) (name : Name) (can : CanRespell image (su
     root = is.root;
     height = is.height;
     some = omega (arith, is.count);
+    few = omega (arith, is.count, few_words);
     below = omega (arith, name_end, few_words, can.names.in_size);
   }
 

@@ -15,8 +15,7 @@ abbrev pub moved_inode : Image → Move → ℕ
 moved_inode image move = inumber_at image move.from_dir move.from_slot
 
 -- The image is well formed. The entry names an inode, and the new directory is neither that inode nor below it: so no
--- inode is lost. The entry that has the new name, where there is one, is another one, and names a file or an empty
--- directory.
+-- inode is lost. The entry that has the new name, where there is one, names another inode, a file or an empty directory.
 pub record CanRename (image : Image) (move : Move) : Type 0 where
   pub well_formed : IsWellFormed image
   pub source : IsReached image move.from_dir
@@ -26,7 +25,8 @@ pub record CanRename (image : Image) (move : Move) : Type 0 where
   pub outside : IsAtOrBelow image (inumber_at image move.from_dir move.from_slot) move.to_dir → ⊥
   pub name : IsName move.name.now
   pub slot : slot_named image move.to_dir move.name.now ≡ move.to_slot
-  pub other : (r : ℕ) → move.to_slot ≡ Some r → move.from_dir ≡ move.to_dir → move.from_slot ≡ r → ⊥
+  pub apart : (r : ℕ) → move.to_slot ≡ Some r →
+      inumber_at image move.to_dir r ≢ inumber_at image move.from_dir move.from_slot
   pub alone : (r x l : ℕ) → move.to_slot ≡ Some r → EntryNames image (inumber_at image move.to_dir r) x l → ⊥
 
 -- onto the entry that has the new name; and where none has it, within the directory or across to another one

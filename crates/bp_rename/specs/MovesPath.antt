@@ -6,26 +6,27 @@ use Rattle.bp_layout.specs.Directory.{IsName, inumber_at, name_at, slot_named}
 use Rattle.bp_layout.specs.Inode.{IsDirectory}
 use Rattle.bp_layout.specs.Lookup.{Path, lookup}
 use Rattle.bp_layout.specs.Words.{Image}
-use Rattle.bp_plain.specs.Plain.{moved}
-use Rattle.bp_plain.specs.PlainTree.{FileTree}
-use Rattle.bp_plain.specs.Stands.{Stands}
+use Rattle.bp_plain.specs.Plain.{with_moved}
+use Rattle.bp_plain.specs.PlainTree.{PathMap}
+use Rattle.bp_plain.specs.Stands.{Shows}
+use Rattle.bp_rename.specs.CanRename.{moved_inode}
 use Rattle.bp_rename.specs.declared.moving.Move.{Move}
 
--- Wherever paths find the two directories, and the second is not below the name, the second image stands for the tree
--- in which the name, with all below it, is the new name in the second directory.
+-- Wherever paths find the two directories, and the second is not below the name, the second image shows the name, with
+-- all below it, as the new name in the second directory.
 abbrev pub MovesPath : Move → Image → Image → Type 0
-MovesPath move old new = (tree : FileTree) (from to : Path) → Stands old tree →
+MovesPath move old new = (map : PathMap) (from to : Path) → Shows old map →
     lookup old from ≡ Some move.from_dir → lookup old to ≡ Some move.to_dir →
     rest_below (from ++ name_at old move.from_dir move.from_slot ∷ []) to ≡ None →
-    Stands new (moved (from ++ name_at old move.from_dir move.from_slot ∷ []) (to ++ move.name.now ∷ []) tree)
+    Shows new (with_moved map (from ++ name_at old move.from_dir move.from_slot ∷ []) (to ++ move.name.now ∷ []))
 
 -- A path finds the directory to which a name is to come, and is not below the name's own path. Where an entry has the
--- new name there, it may leave.
+-- new name there, it names another inode, and may leave.
 pub record IsFoundTarget (image : Image) (source to : Path) (move : Move) : Type 0 where
   pub found : lookup image to ≡ Some move.to_dir
   pub directory : IsDirectory image move.to_dir
   pub outside : rest_below source to ≡ None
   pub name : IsName move.name.now
   pub slot : slot_named image move.to_dir move.name.now ≡ move.to_slot
-  pub other : to ++ move.name.now ∷ [] ≢ source
+  pub apart : (r : ℕ) → move.to_slot ≡ Some r → inumber_at image move.to_dir r ≢ moved_inode image move
   pub leaves : (r : ℕ) → move.to_slot ≡ Some r → CanUnlink image move.to_dir r (inumber_at image move.to_dir r)

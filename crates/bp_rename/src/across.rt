@@ -8,17 +8,17 @@ ghost use Rattle.bp_layout.specs.Need.Change.{moves};
 ghost use Rattle.bp_rename.specs.CanRename.{CanRename, moved_inode};
 ghost use Rattle.bp_rename.specs.RenamesEntry.{RenamesEntry};
 ghost use Rattle.bp_rename.specs.TouchesTwo.{AreTwo, inumber_path};
-ghost use Rattle.bp_shapes.specs.Sets.{AreExact};
-ghost use Rattle.bp_tree.specs.Performs.{HasRoomFor, Performs};
+ghost use Rattle.bp_shapes.specs.Sets.{IsExact, kept_of};
+ghost use Rattle.bp_commit.specs.Performs.{HasRoomFor, Performs};
 ghost use Rattle.pm_region.specs.Memory.{current_words};
 
 use crate::behind::{move_behind, need_behind};
 use crate::moving::Move;
 use crate::touching::{entry_path, touched_two};
-use bp_calls::tree_of;
 use bp_cow::{commit, need_cover};
 use bp_dirs::{entry_place, inumber, put_name};
 use bp_free::Parts;
+use bp_inodes::tree_of;
 use bp_tree::Slots;
 use pm_region::Region;
 
@@ -55,14 +55,14 @@ fn move_into<R: Region>(parts: &mut Parts<R>, to_move: &Move<'_>, slot: u64)
     requires new { to_move.now.to_slot ≡ None }
     requires other { to_move.now.from_dir ≢ to_move.now.to_dir }
     requires found { empty_slot (current_words (R.memory parts.old.region)) to_move.now.to_dir ≡ Some slot }
-    requires exact { AreExact (current_words (R.memory parts.old.region)) parts.old.blocks parts.old.inodes }
+    requires exact { IsExact (current_words (R.memory parts.old.region)) parts.old }
     requires enough { need (current_words (R.memory parts.old.region))
         (moves to_move.now.from_dir to_move.now.from_slot to_move.now.to_dir) ≤ length (members parts.old.blocks) }
-    requires room { HasRoomFor (R.memory parts.old.region)
+    requires room { HasRoomFor (R.memory parts.old.region) (kept_of parts.old)
         (moves to_move.now.from_dir to_move.now.from_slot to_move.now.to_dir) }
-    ensures performs { Performs (R.memory parts.old.region) (R.memory parts.new.region)
+    ensures performs { Performs (kept_of parts.old) (R.memory parts.old.region) (R.memory parts.new.region)
         (moves to_move.now.from_dir to_move.now.from_slot to_move.now.to_dir) (RenamesEntry to_move.now) }
-    ensures exact { AreExact (current_words (R.memory parts.new.region)) parts.new.blocks parts.new.inodes }
+    ensures exact { IsExact (current_words (R.memory parts.new.region)) parts.new }
 {
     let target = tree_of(&parts.region, to_move.to_dir);
     let entry = entry_place(&parts.region, target, slot, 0);
@@ -95,14 +95,14 @@ pub(crate) fn rename_across<R: Region>(parts: &mut Parts<R>, to_move: &Move<'_>,
     requires new { to_move.now.to_slot ≡ None }
     requires other { to_move.now.from_dir ≢ to_move.now.to_dir }
     requires slot { slot ≡ empty_slot (current_words (R.memory parts.old.region)) to_move.now.to_dir }
-    requires exact { AreExact (current_words (R.memory parts.old.region)) parts.old.blocks parts.old.inodes }
+    requires exact { IsExact (current_words (R.memory parts.old.region)) parts.old }
     requires enough { need (current_words (R.memory parts.old.region))
         (moves to_move.now.from_dir to_move.now.from_slot to_move.now.to_dir) ≤ length (members parts.old.blocks) }
-    requires room { HasRoomFor (R.memory parts.old.region)
+    requires room { HasRoomFor (R.memory parts.old.region) (kept_of parts.old)
         (moves to_move.now.from_dir to_move.now.from_slot to_move.now.to_dir) }
-    ensures performs { Performs (R.memory parts.old.region) (R.memory parts.new.region)
+    ensures performs { Performs (kept_of parts.old) (R.memory parts.old.region) (R.memory parts.new.region)
         (moves to_move.now.from_dir to_move.now.from_slot to_move.now.to_dir) (RenamesEntry to_move.now) }
-    ensures exact { AreExact (current_words (R.memory parts.new.region)) parts.new.blocks parts.new.inodes }
+    ensures exact { IsExact (current_words (R.memory parts.new.region)) parts.new }
 {
     match slot {
         Some(slot) => move_into(parts, to_move, slot),

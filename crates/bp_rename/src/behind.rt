@@ -10,17 +10,18 @@ ghost use Rattle.bp_limits.specs.Limits.{entry_size};
 ghost use Rattle.bp_rename.specs.CanRename.{CanRename};
 ghost use Rattle.bp_rename.specs.RenamesEntry.{RenamesEntry};
 ghost use Rattle.bp_rename.specs.TouchesTwo.{AreTwo, inumber_path, size_path};
-ghost use Rattle.bp_shapes.specs.Sets.{AreExact};
-ghost use Rattle.bp_tree.specs.Performs.{HasRoomFor, Performs};
+ghost use Rattle.bp_shapes.specs.Sets.{IsExact, kept_of};
+ghost use Rattle.bp_commit.specs.Performs.{HasRoomFor, Performs};
 ghost use Rattle.pm_region.specs.Memory.{current_words};
 
 use crate::moving::Move;
 use crate::touching::{entry_path, touched_two};
 use bp_append::need_prep;
-use bp_calls::{put_behind, size_path, tree_of};
+use bp_calls::put_behind;
 use bp_cow::{commit, need_cover};
 use bp_dirs::inumber;
 use bp_free::Parts;
+use bp_inodes::{size_path, tree_of};
 use bp_limits::ENTRY_SIZE;
 use bp_tree::Slots;
 use pm_region::Region;
@@ -60,14 +61,14 @@ pub(crate) fn move_behind<R: Region>(parts: &mut Parts<R>, to_move: &Move<'_>)
     requires new { to_move.now.to_slot ≡ None }
     requires other { to_move.now.from_dir ≢ to_move.now.to_dir }
     requires none { empty_slot (current_words (R.memory parts.old.region)) to_move.now.to_dir ≡ None }
-    requires exact { AreExact (current_words (R.memory parts.old.region)) parts.old.blocks parts.old.inodes }
+    requires exact { IsExact (current_words (R.memory parts.old.region)) parts.old }
     requires enough { need (current_words (R.memory parts.old.region))
         (moves to_move.now.from_dir to_move.now.from_slot to_move.now.to_dir) ≤ length (members parts.old.blocks) }
-    requires room { HasRoomFor (R.memory parts.old.region)
+    requires room { HasRoomFor (R.memory parts.old.region) (kept_of parts.old)
         (moves to_move.now.from_dir to_move.now.from_slot to_move.now.to_dir) }
-    ensures performs { Performs (R.memory parts.old.region) (R.memory parts.new.region)
+    ensures performs { Performs (kept_of parts.old) (R.memory parts.old.region) (R.memory parts.new.region)
         (moves to_move.now.from_dir to_move.now.from_slot to_move.now.to_dir) (RenamesEntry to_move.now) }
-    ensures exact { AreExact (current_words (R.memory parts.new.region)) parts.new.blocks parts.new.inodes }
+    ensures exact { IsExact (current_words (R.memory parts.new.region)) parts.new }
 {
     let source = tree_of(&parts.region, to_move.from_dir);
     let inode = inumber(&parts.region, source, to_move.from_slot) as u32;

@@ -19,7 +19,7 @@ pub fn renamed_names_move(old: &[u64], new: &[u64], to_move: &Move<'_>)
 {}
 
 /// A name that a path finds may move into a directory that is not below it, where no entry has the new name there, or
-/// one has it that may leave.
+/// one has it that names another inode and may leave.
 pub fn found_names_may_move(image: &[u64], to_move: &Move<'_>)
     requires { IsWellFormed image.now }
     ensures { (from to : Path) (name : Name) (j : ℕ) →

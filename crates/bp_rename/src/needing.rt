@@ -9,8 +9,8 @@ use crate::across::need_across;
 use crate::moving::Move;
 use crate::onto::need_onto;
 use crate::within::need_within;
-use bp_calls::tree_of;
 use bp_dirs::free_slot;
+use bp_inodes::tree_of;
 use pm_region::Region;
 
 /// The least empty slot of the new directory. It is sought only where the name moves across, and is new there.

@@ -6,18 +6,18 @@ ghost use Rattle.bp_layout.specs.Need.{need};
 ghost use Rattle.bp_layout.specs.Need.Change.{replaces};
 ghost use Rattle.bp_rename.specs.CanRename.{CanRename, moved_inode};
 ghost use Rattle.bp_changes.specs.Effects.{MovesEntry};
-ghost use Rattle.bp_shapes.specs.Sets.{AreExact};
-ghost use Rattle.bp_tree.specs.Performs.{HasRoomFor, Performs};
+ghost use Rattle.bp_shapes.specs.Sets.{IsExact, kept_of};
+ghost use Rattle.bp_commit.specs.Performs.{HasRoomFor, Performs};
 ghost use Rattle.pm_region.specs.Memory.{current_words};
 ghost use Rattle.bp_rename.specs.TouchesTwo.{AreTwo, inumber_path};
 
 use crate::moving::Move;
 use crate::touching::{entry_path, touched_two};
-use bp_calls::{give_back, tree_of};
+use bp_calls::give_back;
 use bp_cow::{commit, need_cover};
 use bp_dirs::inumber;
 use bp_free::Parts;
-use bp_inodes::get;
+use bp_inodes::{get, tree_of};
 use bp_tree::{Slots, Tree};
 use pm_region::Region;
 
@@ -47,28 +47,33 @@ pub(crate) fn need_onto<R: Region>(region: &R, to_move: &Move<'_>, slot: u64) ->
     need_cover(region, &touched_two(&words_onto(region, to_move, slot)))
 }
 
-/// Moves a name onto another one, by one commit of both inumbers. What had that name comes back: its blocks and its
-/// inode.
+/// Moves a name onto another one, by one commit of both inumbers. What had that name has a name less. Where that was its
+/// last one, its blocks and its inode come back.
 pub(crate) fn rename_onto<R: Region>(parts: &mut Parts<R>, to_move: &Move<'_>, slot: u64)
     requires can { CanRename (current_words (R.memory parts.old.region)) to_move.now }
     requires onto { to_move.now.to_slot ≡ Some slot }
-    requires exact { AreExact (current_words (R.memory parts.old.region)) parts.old.blocks parts.old.inodes }
+    requires exact { IsExact (current_words (R.memory parts.old.region)) parts.old }
     requires enough { need (current_words (R.memory parts.old.region))
         (replaces to_move.now.from_dir to_move.now.from_slot to_move.now.to_dir slot)
         ≤ length (members parts.old.blocks) }
-    requires room { HasRoomFor (R.memory parts.old.region)
+    requires room { HasRoomFor (R.memory parts.old.region) (kept_of parts.old)
         (replaces to_move.now.from_dir to_move.now.from_slot to_move.now.to_dir slot) }
-    ensures performs { Performs (R.memory parts.old.region) (R.memory parts.new.region)
+    ensures performs { Performs (kept_of parts.old) (R.memory parts.old.region) (R.memory parts.new.region)
         (replaces to_move.now.from_dir to_move.now.from_slot to_move.now.to_dir slot)
         (λ image after. MovesEntry image after to_move.now.from_dir to_move.now.from_slot to_move.now.to_dir slot
         (moved_inode image to_move.now)) }
-    ensures exact { AreExact (current_words (R.memory parts.new.region)) parts.new.blocks parts.new.inodes }
+    ensures exact { IsExact (current_words (R.memory parts.new.region)) parts.new }
 {
     let target = tree_of(&parts.region, to_move.to_dir);
     let replaced = inumber(&parts.region, target, slot) as u32;
     let words = words_onto(&parts.region, to_move, slot);
     let touched = touched_two(&words);
+    let names = parts.counts.names(replaced) - 1;
+    parts.counts.set(replaced, names);
     commit(parts, &touched);
+    if names > 0 {
+        return;
+    }
     // Nobody reaches the inode any more, but its words still lead to its blocks.
     let inode = get(&parts.region, replaced);
     let tree = Tree {

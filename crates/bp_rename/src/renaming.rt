@@ -4,8 +4,8 @@ ghost use Rattle.std.specs.Prelude.{◌≡◌, IfErr, OnErr, OnOk};
 ghost use Rattle.bp_calls.specs.Space.{HasRoomWhereFree, LacksSpace};
 ghost use Rattle.bp_rename.specs.CanRename.{CanRename, IsSlotAcross, change_of};
 ghost use Rattle.bp_rename.specs.RenamesEntry.{RenamesEntry};
-ghost use Rattle.bp_shapes.specs.Sets.{AreExact};
-ghost use Rattle.bp_tree.specs.Performs.{Performs};
+ghost use Rattle.bp_shapes.specs.Sets.{IsExact, kept_of};
+ghost use Rattle.bp_commit.specs.Performs.{Performs};
 ghost use Rattle.pm_region.specs.Memory.{current_words};
 
 use crate::across::rename_across;
@@ -29,12 +29,13 @@ pub fn rename_in<R: Region>(
 ) -> Result<(), NoSpace>
     requires can { CanRename (current_words (R.memory parts.old.region)) to_move.now }
     requires empty { IsSlotAcross (current_words (R.memory parts.old.region)) to_move.now empty }
-    requires exact { AreExact (current_words (R.memory parts.old.region)) parts.old.blocks parts.old.inodes }
-    requires room { HasRoomWhereFree (R.memory parts.old.region) parts.old.blocks (change_of to_move.now) }
-    ensures performs { OnOk result (Performs (R.memory parts.old.region) (R.memory parts.new.region)
+    requires exact { IsExact (current_words (R.memory parts.old.region)) parts.old }
+    requires room { HasRoomWhereFree (R.memory parts.old.region) (kept_of parts.old) parts.old.blocks (change_of to_move.now) }
+    ensures performs { OnOk result (Performs (kept_of parts.old) (R.memory parts.old.region) (R.memory parts.new.region)
         (change_of to_move.now) (RenamesEntry to_move.now)) }
-    ensures exact { AreExact (current_words (R.memory parts.new.region)) parts.new.blocks parts.new.inodes }
-    ensures refused { IfErr result (LacksSpace (current_words (R.memory parts.old.region)) (change_of to_move.now)) }
+    ensures exact { IsExact (current_words (R.memory parts.new.region)) parts.new }
+    ensures refused { IfErr result (LacksSpace (current_words (R.memory parts.old.region)) (kept_of parts.old)
+        (change_of to_move.now)) }
     ensures same { OnErr result (parts.new ≡ parts.old) }
 {
     let need = need_with(&parts.region, to_move, empty);
@@ -50,20 +51,21 @@ pub fn rename_in<R: Region>(
     Ok(())
 }
 
-/// Moves a name, by one store alone in its epoch. Where the new name stood, in place of a file or an empty directory, the
-/// blocks and the inode of that one come back.
+/// Moves a name, by one store alone in its epoch. Where the new name stood, that file or empty directory has a name less,
+/// and its blocks and its inode come back where it has none left.
 ///
 /// # Errors
 ///
 /// Where fewer blocks are free than are needed.
 pub fn rename<R: Region>(parts: &mut Parts<R>, to_move: &Move<'_>) -> Result<(), NoSpace>
     requires can { CanRename (current_words (R.memory parts.old.region)) to_move.now }
-    requires exact { AreExact (current_words (R.memory parts.old.region)) parts.old.blocks parts.old.inodes }
-    requires room { HasRoomWhereFree (R.memory parts.old.region) parts.old.blocks (change_of to_move.now) }
-    ensures performs { OnOk result (Performs (R.memory parts.old.region) (R.memory parts.new.region)
+    requires exact { IsExact (current_words (R.memory parts.old.region)) parts.old }
+    requires room { HasRoomWhereFree (R.memory parts.old.region) (kept_of parts.old) parts.old.blocks (change_of to_move.now) }
+    ensures performs { OnOk result (Performs (kept_of parts.old) (R.memory parts.old.region) (R.memory parts.new.region)
         (change_of to_move.now) (RenamesEntry to_move.now)) }
-    ensures exact { AreExact (current_words (R.memory parts.new.region)) parts.new.blocks parts.new.inodes }
-    ensures refused { IfErr result (LacksSpace (current_words (R.memory parts.old.region)) (change_of to_move.now)) }
+    ensures exact { IsExact (current_words (R.memory parts.new.region)) parts.new }
+    ensures refused { IfErr result (LacksSpace (current_words (R.memory parts.old.region)) (kept_of parts.old)
+        (change_of to_move.now)) }
     ensures same { OnErr result (parts.new ≡ parts.old) }
 {
     let empty = slot_across(&parts.region, to_move);

@@ -10,8 +10,8 @@ ghost use Rattle.bp_layout.specs.WordPaths.{tree_path};
 ghost use Rattle.bp_layout.specs.Words.{height_of};
 ghost use Rattle.pm_region.specs.Memory.{current_words};
 
-use bp_calls::{root_path, tree_of};
 use bp_cow::Touched;
+use bp_inodes::{root_path, tree_of};
 use bp_limits::ENTRY_SIZE;
 use bp_tree::{Slots, word_path};
 use pm_region::Region;

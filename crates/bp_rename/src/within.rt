@@ -8,14 +8,14 @@ ghost use Rattle.bp_limits.specs.Limits.{max_name};
 ghost use Rattle.bp_rename.specs.CanRename.{CanRename};
 ghost use Rattle.bp_rename.specs.RenamesEntry.{RenamesEntry};
 ghost use Rattle.bp_rename.specs.Respelled.{IsRespelled, TouchesName, respelled_byte};
-ghost use Rattle.bp_shapes.specs.Sets.{AreExact};
-ghost use Rattle.bp_tree.specs.Performs.{HasRoomFor, Performs};
+ghost use Rattle.bp_shapes.specs.Sets.{IsExact, kept_of};
+ghost use Rattle.bp_commit.specs.Performs.{HasRoomFor, Performs};
 ghost use Rattle.pm_region.specs.Memory.{current_words};
 
 use crate::moving::Move;
-use bp_calls::{root_path, tree_of};
 use bp_cow::{Run, Touched, commit, need_cover};
 use bp_free::Parts;
+use bp_inodes::{root_path, tree_of};
 use bp_limits::{ENTRY_SIZE, MAX_NAME};
 use pm_region::Region;
 
@@ -87,15 +87,15 @@ pub(crate) fn rename_within<R: Region>(parts: &mut Parts<R>, to_move: &Move<'_>)
     requires can { CanRename (current_words (R.memory parts.old.region)) to_move.now }
     requires new { to_move.now.to_slot ≡ None }
     requires here { to_move.now.from_dir ≡ to_move.now.to_dir }
-    requires exact { AreExact (current_words (R.memory parts.old.region)) parts.old.blocks parts.old.inodes }
+    requires exact { IsExact (current_words (R.memory parts.old.region)) parts.old }
     requires enough { need (current_words (R.memory parts.old.region))
         (respells to_move.now.from_dir to_move.now.from_slot (length to_move.now.name.now))
         ≤ length (members parts.old.blocks) }
-    requires room { HasRoomFor (R.memory parts.old.region)
+    requires room { HasRoomFor (R.memory parts.old.region) (kept_of parts.old)
         (respells to_move.now.from_dir to_move.now.from_slot (length to_move.now.name.now)) }
-    ensures performs { Performs (R.memory parts.old.region) (R.memory parts.new.region)
+    ensures performs { Performs (kept_of parts.old) (R.memory parts.old.region) (R.memory parts.new.region)
         (respells to_move.now.from_dir to_move.now.from_slot (length to_move.now.name.now)) (RenamesEntry to_move.now) }
-    ensures exact { AreExact (current_words (R.memory parts.new.region)) parts.new.blocks parts.new.inodes }
+    ensures exact { IsExact (current_words (R.memory parts.new.region)) parts.new }
 {
     let bytes = respelled(to_move.name);
     let touched = touched_name(&parts.region, to_move, &bytes);

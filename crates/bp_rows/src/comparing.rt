@@ -1,13 +1,13 @@
 //! The replies of a run beside those of the plain, slow program.
 
 ghost use Rattle.bp_limits.specs.Limits.{max_line};
-ghost use Rattle.bp_plain.specs.Seen.{IsShortCall, call_of};
+ghost use Rattle.bp_plain.specs.Seen.{CanAsk};
 ghost use Rattle.bp_script.specs.Lines.{decoded_room};
 ghost use Rattle.bp_script.specs.Sayings.{FitsReply};
 ghost use Rattle.std.specs.Prelude.{true, ◌≡◌, ◌≤◌};
 
 use crate::showing::put_short;
-use bp_limits::{MAX_LINE, MAX_READ, MAX_TEXT};
+use bp_limits::{MAX_LINE, MAX_READ, MAX_TEXT, Version};
 use bp_plain::{Answer, Call, Plain, Reply};
 use bp_script::{Decoded, Line, Said, Syntax, say};
 use std::alloc::{AllocError, Global};
@@ -26,15 +26,16 @@ pub struct Comparison<'a> {
     ghost decodes: { max_line ≤ decoded_room decoded },
 }
 
-/// Writes whether the replies to a script are those of the plain program, or else the first line at which they differ. A line for
-/// which the volume lacks blocks or memory is told, and the plain program does not do it either.
+/// Writes whether the replies to a script are those of the plain program, which begins with the empty tree of a version, or else the
+/// first line at which they differ. A line for which the volume lacks blocks or memory is told, and the plain program does not do it either.
 pub fn compare(
     alloc: Global,
+    version: Version,
     script: &str,
     replies: &str,
     report: &mut String,
 ) -> Result<(), AllocError> {
-    let mut comparison = Comparison::new(alloc, replies)?;
+    let mut comparison = Comparison::new(alloc, version, replies)?;
     for line in script.lines() {
         if !comparison.take(alloc, line, report)? {
             return Ok(());
@@ -49,10 +50,14 @@ fn first_line(text: &str) -> (&str, &str) {
 }
 
 impl<'a> Comparison<'a> {
-    /// An empty tree, beside these replies.
-    pub fn new(alloc: Global, replies: &'a str) -> Result<Comparison<'a>, AllocError> {
+    /// An empty tree of a version, beside these replies.
+    pub fn new(
+        alloc: Global,
+        version: Version,
+        replies: &'a str,
+    ) -> Result<Comparison<'a>, AllocError> {
         Ok(Comparison {
-            tree: Plain::new(alloc)?,
+            tree: Plain::of(alloc, version)?,
             decoded: Decoded::new(alloc, MAX_LINE)?,
             reply: Reply::new(alloc)?,
             replies,
@@ -117,7 +122,7 @@ impl<'a> Comparison<'a> {
             return Ok(true);
         }
         match self.decoded.line(line.as_bytes()) {
-            Ok(Line::Call(call)) if is_short(&call) => {
+            Ok(Line::Call(call)) if can_ask(&call) => {
                 self.tree.apply(alloc, &call, &mut self.reply)?;
                 put_answer(alloc, &self.reply, told)?;
             }
@@ -134,12 +139,14 @@ fn is_own(reply: &str) -> bool {
     OWN_REPLIES.iter().any(|front| reply.starts_with(*front))
 }
 
-/// Whether a read asks for no more bytes than one call reads.
-fn is_short(call: &Call<'_>) -> bool
-    ensures { result ≡ true → IsShortCall (call_of call.now) }
+/// Whether the plain program can be asked: a read is for no more bytes than one call reads. No line of a script is a batch.
+fn can_ask(call: &Call<'_>) -> bool
+    ensures { result ≡ true → CanAsk call.now }
 {
     match *call {
         Call::Read { len, .. } => len <= MAX_READ,
+        Call::SnapRead { len, .. } => len <= MAX_READ,
+        Call::Batch { .. } => false,
         _ => true,
     }
 }

@@ -1,9 +1,10 @@
 //! Power cuts all over a script: what each leaves is mounted, and asked beside the plain, slow program.
 
 use crate::comparing::Comparison;
+use crate::row::Row;
 use crate::showing::put_short;
 use bp_io::{FairSource, MemFiles, MemSink, NullSink, Sink};
-use bp_limits::LOG_EVENTS;
+use bp_limits::{LOG_EVENTS, Version};
 use bp_session::{Work, serve};
 use bp_shell::open;
 use bp_volume::Volume;
@@ -45,6 +46,7 @@ impl Mask {
 #[derive(Drop)]
 struct Cuts<'a> {
     alloc: Global,
+    version: Version,
     image: &'a [u8],
     script: &'a str,
     asks: &'a str,
@@ -55,21 +57,21 @@ struct Cuts<'a> {
     kept: u64,
 }
 
-/// Cuts the power of a run of the script over FILE's image: at each moment beside a barrier or a mark and at every 64th, with each epoch,
+/// Cuts the power of a run of a row's script over an image: at each moment beside a barrier or a mark and at every 64th, with each epoch,
 /// and none, all, the odd and the even stores of it. Writes which numbers of calls were kept, or else the first cut whose
 /// answers are not those of the plain tree after the calls that it keeps.
 pub fn cut_all_over(
     alloc: Global,
+    row: &Row,
     image: &[u8],
-    script: &str,
-    asks: &str,
     report: &mut String,
 ) -> Result<(), AllocError> {
     let mut cuts = Cuts {
         alloc,
+        version: row.version,
         image,
-        script,
-        asks,
+        script: row.script.as_str(),
+        asks: row.asks.as_str(),
         work: Work::new(alloc)?,
         choice: Choice::new(alloc, LOG_EVENTS)?,
         events: Vec::new(alloc),
@@ -231,7 +233,7 @@ impl Cuts<'_> {
 
     /// What the plain tree answers after the first calls of the script.
     fn expected(&self, calls: usize) -> Result<String, AllocError> {
-        let mut tree = Comparison::new(self.alloc, "")?;
+        let mut tree = Comparison::new(self.alloc, self.version, "")?;
         let mut unused = String::new(self.alloc);
         for line in self.script.lines().take(calls) {
             tree.answer(self.alloc, line, &mut unused)?;

@@ -28,6 +28,25 @@ impl Device {
     }
 }
 
+/// The versions of the format in which a row runs.
+#[derive(Clone, Copy)]
+pub enum Versions {
+    First,
+    Second,
+    Both,
+}
+
+impl Versions {
+    fn named(text: &str) -> Option<Versions> {
+        match text {
+            "1" => Some(Versions::First),
+            "2" => Some(Versions::Second),
+            "1 2" => Some(Versions::Both),
+            _ => None,
+        }
+    }
+}
+
 /// A line of the input. Numbers that are still text are read where they are used.
 #[derive(Clone, Copy)]
 pub enum InputLine<'a> {
@@ -35,6 +54,8 @@ pub enum InputLine<'a> {
     Nothing,
     /// A row of this name begins: FILE is missing, the script empty, and no device fails.
     Row(&'a str),
+    /// The row runs in these versions, each over images of its own. It runs in the first one where nothing is said.
+    Versions(Versions),
     /// FILE is a format of so many blocks.
     Format(&'a str),
     /// FILE is so many bytes of zeros.
@@ -95,6 +116,7 @@ pub fn read(line: &str) -> Option<InputLine<'_>> {
     Some(match word {
         "" | "#" => InputLine::Nothing,
         "row" => InputLine::Row(rest),
+        "versions" => InputLine::Versions(Versions::named(rest)?),
         "format" => InputLine::Format(rest),
         "zeros" => InputLine::Zeros(number(rest)?),
         "missing" => InputLine::Missing,

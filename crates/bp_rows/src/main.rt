@@ -13,6 +13,7 @@ mod row;
 mod rows;
 mod script;
 mod showing;
+mod side;
 mod stage;
 
 use rows::Rows;

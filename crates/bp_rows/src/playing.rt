@@ -2,6 +2,7 @@
 
 use crate::row::Row;
 use bp_io::{FairSource, MemFiles, MemSink, MemSource};
+use bp_limits::Version;
 use bp_shell::run;
 use std::alloc::{AllocError, Global};
 
@@ -25,9 +26,25 @@ fn image_of(alloc: Global, files: &MemFiles<'_>) -> Result<Option<Vec<u8>>, Allo
     }
 }
 
-/// The bytes of a format of so many blocks, `None` where the program refuses the number.
-pub fn formatted(alloc: Global, blocks: &str) -> Result<Option<Vec<u8>>, AllocError> {
-    let words = ["bpfs", "format", "f", "--blocks", blocks];
+/// The bytes of a format of so many blocks and of a version, `None` where the program refuses the number.
+pub fn formatted(
+    alloc: Global,
+    blocks: &str,
+    version: Version,
+) -> Result<Option<Vec<u8>>, AllocError> {
+    let number = match version {
+        Version::One => "1",
+        Version::Two => "2",
+    };
+    let words = [
+        "bpfs",
+        "format",
+        "f",
+        "--blocks",
+        blocks,
+        "--version",
+        number,
+    ];
     let mut files = MemFiles::new(alloc, None, &[])?;
     let mut source = FairSource::new(b"");
     let mut sink = MemSink::new(alloc, ROOM, &[])?;

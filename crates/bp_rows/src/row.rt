@@ -1,10 +1,10 @@
-//! A row: what FILE is, the script, what is run, and which calls fail.
+//! A row in one version: what FILE is, the script, what is run, and which calls fail.
 
 use crate::image::set_word;
 use crate::line::{Device, InputLine, number};
 use crate::playing::formatted;
 use crate::script::expand;
-use bp_limits::{BLOCK_SIZE, MAX_BLOCKS};
+use bp_limits::{BLOCK_SIZE, MAX_BLOCKS, Version};
 use std::alloc::{AllocError, Global};
 
 /// The most bytes of zeros that FILE is made of: a block more than an image has.
@@ -45,6 +45,8 @@ impl Failing {
 /// What is run.
 #[derive(Drop)]
 pub struct Row {
+    /// The version of the formats that are made for it, and of the plain tree beside it.
+    pub version: Version,
     /// FILE, where there is one.
     pub file: Option<Vec<u8>>,
     pub words: String,
@@ -58,8 +60,9 @@ pub struct Row {
 
 impl Row {
     /// `run` over a file that is missing, with no script, and no call fails.
-    pub fn new(alloc: Global) -> Result<Row, AllocError> {
+    pub fn new(alloc: Global, version: Version) -> Result<Row, AllocError> {
         Ok(Row {
+            version,
             file: None,
             words: String::from_str(alloc, "bpfs run f")?,
             script: String::new(alloc),
@@ -71,7 +74,7 @@ impl Row {
 
     /// The next run of the row: over what FILE holds, with an empty script.
     pub fn go_on(&mut self, alloc: Global, file: Option<Vec<u8>>) -> Result<(), AllocError> {
-        let fresh = Row::new(alloc)?;
+        let fresh = Row::new(alloc, self.version)?;
         *self = Row { file, ..fresh };
         Ok(())
     }
@@ -80,7 +83,7 @@ impl Row {
     pub fn set(&mut self, alloc: Global, line: InputLine<'_>) -> Result<bool, AllocError> {
         match line {
             InputLine::Format(blocks) => {
-                self.file = formatted(alloc, blocks)?;
+                self.file = formatted(alloc, blocks, self.version)?;
                 return Ok(self.file.is_some());
             }
             InputLine::Zeros(count) => return self.set_zeros(alloc, count),
@@ -97,8 +100,9 @@ impl Row {
             }
             InputLine::Part(text) => return expand(text, &mut self.script),
             InputLine::Ask(text) => {
-                self.asks.push_str(text)?;
+                let is_whole = expand(text, &mut self.asks)?;
                 self.asks.push_str("\n")?;
+                return Ok(is_whole);
             }
             _ => {}
         }

@@ -1,28 +1,19 @@
 //! Rows, one line after another, and the report on their runs.
 
-use crate::comparing::compare;
-use crate::cutting::cut_all_over;
-use crate::line::{Device, InputLine, read};
+use crate::line::{InputLine, Versions, read};
 use crate::parts::serve_parts;
-use crate::playing::{formatted, play};
-use crate::row::{Failing, Row};
-use crate::showing::{show, show_short};
+use crate::side::{Side, refuse};
+use bp_limits::Version;
 use std::alloc::{AllocError, Global};
 
-/// The row that is being read, the image that is kept for later ones, and the report on the runs so far.
+/// The row that is being read, in each version of the format, and the report on the runs so far.
 #[derive(Drop)]
 pub struct Rows {
     alloc: Global,
-    row: Row,
-    kept: Option<Vec<u8>>,
+    versions: Versions,
+    first: Side,
+    second: Side,
     report: String,
-}
-
-fn copy_of(alloc: Global, file: &Option<Vec<u8>>) -> Result<Option<Vec<u8>>, AllocError> {
-    match file {
-        Some(bytes) => Ok(Some(Vec::from_slice(alloc, bytes)?)),
-        None => Ok(None),
-    }
 }
 
 impl Rows {
@@ -30,8 +21,9 @@ impl Rows {
     pub fn new(alloc: Global) -> Result<Rows, AllocError> {
         Ok(Rows {
             alloc,
-            row: Row::new(alloc)?,
-            kept: None,
+            versions: Versions::First,
+            first: Side::new(alloc, Version::One)?,
+            second: Side::new(alloc, Version::Two)?,
             report: String::new(alloc),
         })
     }
@@ -44,83 +36,48 @@ impl Rows {
     /// Does what a line says. One that is no line of a row is told, and the next one is read.
     pub fn take(&mut self, text: &str) -> Result<(), AllocError> {
         let Some(line) = read(text) else {
-            return self.refuse(text);
+            return refuse(text, &mut self.report);
         };
         match line {
             InputLine::Row(name) => self.begin(name),
-            InputLine::Keep => {
-                self.kept = copy_of(self.alloc, &self.row.file)?;
+            InputLine::Versions(versions) => {
+                self.versions = versions;
                 Ok(())
             }
-            InputLine::Kept => {
-                self.row.file = copy_of(self.alloc, &self.kept)?;
-                Ok(())
-            }
-            InputLine::Go => self.go(),
-            InputLine::Plain(blocks) => self.plain(text, blocks),
-            InputLine::Cuts(blocks) => self.cut(text, blocks),
             InputLine::Parts => serve_parts(self.alloc, &mut self.report),
-            InputLine::Sweep(device, count) => self.sweep(device, count),
-            _ => {
-                if self.row.set(self.alloc, line)? {
-                    Ok(())
-                } else {
-                    self.refuse(text)
-                }
-            }
+            _ => self.take_in_versions(text, line),
         }
-    }
-
-    fn refuse(&mut self, text: &str) -> Result<(), AllocError> {
-        writeln!(self.report, "bad row: {text}")
     }
 
     fn begin(&mut self, name: &str) -> Result<(), AllocError> {
-        self.row = Row::new(self.alloc)?;
+        self.versions = Versions::First;
+        self.first.begin()?;
+        self.second.begin()?;
         writeln!(self.report, "== {name}")
     }
 
-    fn go(&mut self) -> Result<(), AllocError> {
-        let ran = play(self.alloc, &self.row)?;
-        show(&mut self.report, self.row.file.as_deref(), &ran)?;
-        self.row.go_on(self.alloc, ran.file)
-    }
-
-    fn plain(&mut self, text: &str, blocks: &str) -> Result<(), AllocError> {
-        self.row.file = formatted(self.alloc, blocks)?;
-        if self.row.file.is_none() {
-            return self.refuse(text);
+    fn take_in_versions(&mut self, text: &str, line: InputLine<'_>) -> Result<(), AllocError> {
+        match self.versions {
+            Versions::First => self.first.take(text, line, &mut self.report),
+            Versions::Second => self.second.take(text, line, &mut self.report),
+            Versions::Both => self.take_in_both(text, line),
         }
-        let ran = play(self.alloc, &self.row)?;
-        let told = str::from_utf8(&ran.told).unwrap_or("");
-        compare(self.alloc, self.row.script.as_str(), told, &mut self.report)?;
-        self.row.go_on(self.alloc, ran.file)
     }
 
-    fn cut(&mut self, text: &str, blocks: &str) -> Result<(), AllocError> {
-        let Some(image) = formatted(self.alloc, blocks)? else {
-            return self.refuse(text);
-        };
-        let script = self.row.script.as_str();
-        cut_all_over(
-            self.alloc,
-            &image,
-            script,
-            self.row.asks.as_str(),
-            &mut self.report,
-        )
-    }
-
-    fn sweep(&mut self, device: Device, count: u64) -> Result<(), AllocError> {
-        let name = device.name();
-        for call in 0..count {
-            self.row.failing = Failing::none(self.alloc);
-            self.row.failing.add(device, call)?;
-            let ran = play(self.alloc, &self.row)?;
-            write!(self.report, "  {name} {call}: ")?;
-            show_short(&mut self.report, self.row.file.as_deref(), &ran)?;
+    /// Does what a line says in both versions. What is the same in both is told once.
+    fn take_in_both(&mut self, text: &str, line: InputLine<'_>) -> Result<(), AllocError> {
+        let mut first = String::new(self.alloc);
+        self.first.take(text, line, &mut first)?;
+        let mut second = String::new(self.alloc);
+        self.second.take(text, line, &mut second)?;
+        self.report.push_str(first.as_str())?;
+        if first.as_str() != second.as_str() {
+            self.report.push_str("version 2\n")?;
+            self.report.push_str(second.as_str())
+        } else if second.is_empty() {
+            Ok(())
+        } else {
+            self.report.push_str("version 2 alike\n")
         }
-        self.row.failing = Failing::none(self.alloc);
-        Ok(())
     }
 }

@@ -2,6 +2,7 @@
 use Rattle.std.proofs.Common.{◌≡◌, ℕ, ◌/◌, ◌*◌, ◌<◌, ◌∙◌, sym, ap, arith}
 use Rattle.bp_layout.specs.WellFormed.{IsWellFormed}
 use Rattle.bp_layout.specs.Words.{block_count, word}
+use Rattle.bp_limits.specs.declared.version.Version.TheVariants.{One}
 use Rattle.bp_layout.proofs.Format.{HasFormat, format_well_formed}
 use Rattle.bp_layout.proofs.LastValue.{AllWithinImage, last_value}
 use Rattle.bp_samples.specs.Laid.{laid_image}
@@ -14,12 +15,14 @@ empty_word place low = let within : AllWithinImage 4096 EMPTY = omega arith in w
 empty_blocks : block_count (laid_image EMPTY) ≡ 8
 empty_blocks = ap (λ n. n / 512) (length-laid EMPTY)
 
-empty_has_format : HasFormat (laid_image EMPTY)
+empty_has_format : HasFormat (laid_image EMPTY) One
 empty_has_format = record {
   marked = empty_word 0 (omega arith);
   counted = empty_word 1 (omega arith) ∙ sym empty_blocks;
   root = empty_word 2 (omega arith);
   size = empty_word 3 (omega arith);
+  no_second_root = λ two. absurd (cc);
+  no_second_size = λ two. absurd (cc);
   root_kind = empty_word 520 (omega arith);
   root_root = empty_word 521 (omega arith);
   root_size = empty_word 522 (omega arith);
@@ -27,4 +30,4 @@ empty_has_format = record {
 
 pub empty_well_formed : IsWellFormed (laid_image EMPTY)
 empty_well_formed =
-    format_well_formed (laid_image EMPTY) empty_has_format (length-laid EMPTY ∙ sym (ap (λ n. 512 * n) empty_blocks)) (omega (arith, empty_blocks)) (omega (arith, empty_blocks))
+    format_well_formed (laid_image EMPTY) One empty_has_format (length-laid EMPTY ∙ sym (ap (λ n. 512 * n) empty_blocks)) (omega (arith, empty_blocks)) (omega (arith, empty_blocks))

@@ -1,4 +1,3 @@
 pub mod LaidLaws
 pub mod EmptyImage
 pub mod TwoLeaves
-pub mod TwoEntries

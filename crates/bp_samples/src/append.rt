@@ -2,6 +2,7 @@
 
 use crate::images::laid;
 use bp_append::need_prep;
+use bp_limits::MAX_SIZE;
 use bp_tree::Tree;
 use pm_region::ListRegion;
 use std::test::Fail;
@@ -18,9 +19,9 @@ fn needs_of_an_empty_tree(rt: HostRuntime) -> Result<(), Fail> {
     assert_eq!(rt; need_prep(&region, tree, 0, 16_384), 5);
     assert_eq!(rt; need_prep(&region, tree, 0, 20_480), 6);
     assert_eq!(rt; need_prep(&region, tree, 2_097_151, 2_097_153), 5);
-    assert_eq!(rt;
-        need_prep(&region, tree, 549_755_813_888, 549_755_813_888),
-        0
-    );
+    for (size, nodes) in [(549_755_813_888, 4), (MAX_SIZE, 6)] {
+        assert_eq!(rt; need_prep(&region, tree, size - 1, size), nodes);
+        assert_eq!(rt; need_prep(&region, tree, size, size), 0);
+    }
     Ok(())
 }

@@ -1,6 +1,7 @@
 //! Words that the command takes, and words that it refuses.
 
 use bp_command::{Program, WordsFault, mistake_line, read_words};
+use bp_limits::Version;
 use std::alloc::Global;
 
 #[test]
@@ -20,13 +21,15 @@ fn takes_words(rt: HostRuntime) {
             Program::Format {
                 name: "f",
                 blocks: 8,
+                version: Version::One,
             },
         ),
         (
-            ["bpfs", "format", "--blocks=16384", "f"].as_slice(),
+            ["bpfs", "format", "--blocks=65536", "f"].as_slice(),
             Program::Format {
                 name: "f",
-                blocks: 16_384,
+                blocks: 65_536,
+                version: Version::One,
             },
         ),
         (
@@ -34,6 +37,31 @@ fn takes_words(rt: HostRuntime) {
             Program::Format {
                 name: "f",
                 blocks: 8,
+                version: Version::One,
+            },
+        ),
+        (
+            ["bpfs", "format", "f", "--blocks", "8", "--version", "1"].as_slice(),
+            Program::Format {
+                name: "f",
+                blocks: 8,
+                version: Version::One,
+            },
+        ),
+        (
+            ["bpfs", "format", "f", "--blocks", "8", "--version", "2"].as_slice(),
+            Program::Format {
+                name: "f",
+                blocks: 8,
+                version: Version::Two,
+            },
+        ),
+        (
+            ["bpfs", "format", "--version=2", "f", "--blocks=9"].as_slice(),
+            Program::Format {
+                name: "f",
+                blocks: 9,
+                version: Version::Two,
             },
         ),
     ];
@@ -79,15 +107,23 @@ fn refuses_words(rt: HostRuntime) {
         ),
         (
             ["bpfs", "format", "f", "--blocks", "7"].as_slice(),
-            "invalid value '7' for '--blocks <blocks>': 7 is not in 8..=16384",
+            "invalid value '7' for '--blocks <blocks>': 7 is not in 8..=65536",
         ),
         (
-            ["bpfs", "format", "f", "--blocks", "16385"].as_slice(),
-            "invalid value '16385' for '--blocks <blocks>': 16385 is not in 8..=16384",
+            ["bpfs", "format", "f", "--blocks", "65537"].as_slice(),
+            "invalid value '65537' for '--blocks <blocks>': 65537 is not in 8..=65536",
         ),
         (
             ["bpfs", "format", "f", "--blocks", "eight"].as_slice(),
             "invalid value 'eight' for '--blocks <blocks>': invalid digit found in string",
+        ),
+        (
+            ["bpfs", "format", "f", "--blocks", "8", "--version", "3"].as_slice(),
+            "invalid value '3' for '--version <version>': 3 is not in 1..=2",
+        ),
+        (
+            ["bpfs", "run", "f", "--version", "2"].as_slice(),
+            "unexpected argument '--version' found",
         ),
         (["bpfs", "a\nb"].as_slice(), "unrecognized subcommand 'a b'"),
     ];

@@ -1,9 +1,9 @@
-//! Sets of free numbers: each call once, and the numbers at the ends of words.
+//! Sets of free numbers and counts of names: each call once, and the numbers at the ends of words.
 
 ghost use Rattle.std.specs.Prelude.{◌≡◌, ◌+◌, ◌<◌, ◌≤◌, length};
 ghost use Rattle.bp_limits.specs.Limits.{max_blocks};
 
-use bp_free::{Blocks, Inodes, Steps};
+use bp_free::{Blocks, Counts, Inodes, Steps};
 use bp_limits::MAX_BLOCKS;
 use std::marker::Brand;
 use std::sync::ledger::{Blank, Ledger};
@@ -44,10 +44,19 @@ fn inodes_are_filled_and_cleared(rt: HostRuntime) -> Result<(), Fail> {
     Ok(())
 }
 
-/// A search of 16,384 numbers has five steps at most.
-fn take_in_five<L: Ledger>(blocks: &mut Blocks, steps: &mut Steps<L>) -> Option<u32>
+#[test]
+fn names_are_counted(rt: HostRuntime) -> Result<(), Fail> {
+    let mut counts = Counts::new(rt.alloc(), 64)?;
+    counts.set(2, 3);
+    assert_eq!(rt; [counts.names(1), counts.names(2)], [0, 3]);
+    assert_eq!(rt; counts.names(63), 0);
+    Ok(())
+}
+
+/// A search of 65,536 numbers has seventeen steps at most.
+fn take_in_seventeen<L: Ledger>(blocks: &mut Blocks, steps: &mut Steps<L>) -> Option<u32>
     requires { length blocks.old ≡ max_blocks }
-    ensures { steps.new ≤ steps.old + 5 }
+    ensures { steps.new ≤ steps.old + 17 }
 {
     blocks.take_counted(steps)
 }
@@ -59,11 +68,11 @@ fn take_counting<L: Ledger>(blocks: &mut Blocks, blank: Blank) -> Option<u32>
     requires room { length blocks.old ≡ max_blocks }
 {
     let mut steps = Steps::<L>::new(blank);
-    take_in_five(blocks, &mut steps)
+    take_in_seventeen(blocks, &mut steps)
 }
 
 #[test]
-fn blocks_are_found_in_five_steps(rt: HostRuntime) -> Result<(), Fail> {
+fn blocks_are_found_in_seventeen_steps(rt: HostRuntime) -> Result<(), Fail> {
     let mut blocks = Blocks::new(rt.alloc(), MAX_BLOCKS)?;
     assert_eq!(rt; blocks.room(), MAX_BLOCKS);
     let none = take_counting::<Brand>(&mut blocks, Blank::new(1));
@@ -72,12 +81,12 @@ fn blocks_are_found_in_five_steps(rt: HostRuntime) -> Result<(), Fail> {
     blocks.fill(MAX_BLOCKS - 1, MAX_BLOCKS);
     assert_eq!(rt; blocks.room(), MAX_BLOCKS);
     let last = take_counting::<Brand>(&mut blocks, Blank::new(1));
-    assert_eq!(rt; last, Some(16_383));
+    assert_eq!(rt; last, Some(65_535));
     assert_eq!(rt; blocks.room(), MAX_BLOCKS);
     blocks.fill(0, MAX_BLOCKS);
     assert_eq!(rt; blocks.room(), MAX_BLOCKS);
     let first = take_counting::<Brand>(&mut blocks, Blank::new(1));
     assert_eq!(rt; first, Some(0));
-    assert_eq!(rt; blocks.count(), 16_383);
+    assert_eq!(rt; blocks.count(), 65_535);
     Ok(())
 }

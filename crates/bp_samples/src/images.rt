@@ -6,7 +6,7 @@ ghost use Rattle.bp_layout.specs.Stores.{after_stores};
 ghost use Rattle.bp_samples.specs.Laid.{laid_image};
 
 use bp_limits::{
-    BLOCK_SIZE, BLOCK_WORDS, MAGIC, MIN_BLOCKS, SUPER_BLOCKS, SUPER_MAGIC, SUPER_ROOT, SUPER_SIZE,
+    BLOCK_SIZE, BLOCK_WORDS, MIN_BLOCKS, SUPER_BLOCKS, SUPER_MAGIC, SUPER_ROOT, SUPER_SIZE,
 };
 use std::alloc::{AllocError, Global};
 
@@ -16,14 +16,23 @@ pub type Stores<'a> = &'a [(usize, u64)];
 /// The words of an image of 8 blocks.
 const WORDS: usize = MIN_BLOCKS as usize * BLOCK_WORDS as usize;
 
-/// A file system of 8 blocks: the inodes in block 1, and a root directory without an entry.
+/// The mark of the first version, `BPFSRS01`.
+const MARK: u64 = 0x3130_5352_5346_5042;
+
+/// The mark of the second version, `BPFSRS02`.
+const SECOND_MARK: u64 = 0x3230_5352_5346_5042;
+
+/// A file system of 8 blocks in the first version: the inodes in block 1, and a root directory without an entry.
 pub const EMPTY: [(usize, u64); 5] = [
-    (SUPER_MAGIC as usize, MAGIC),
+    (SUPER_MAGIC as usize, MARK),
     (SUPER_BLOCKS as usize, MIN_BLOCKS as u64),
     (SUPER_ROOT as usize, 0x1000),
     (SUPER_SIZE as usize, BLOCK_SIZE),
     (520, 2),
 ];
+
+/// On top of any of these: the mark of the second version.
+pub const SECOND: (usize, u64) = (SUPER_MAGIC as usize, SECOND_MARK);
 
 /// On top of [`EMPTY`]: in block 2 a root directory of two entries, which are empty.
 pub const TWO_ENTRIES: [(usize, u64); 2] = [(521, 0x2000), (522, 512)];

@@ -4,16 +4,31 @@ use bp_layout::{
     BadPointer, Entry, Inode, Kind, Listing, Name, RootWord, Super, name_word, pointer,
     pointer_word,
 };
+use bp_limits::Version;
 use std::test::Fail;
 
 #[test]
-fn mark_spells_its_bytes(rt: HostRuntime) {
-    assert_eq!(rt; pm_words::write_word(bp_limits::MAGIC), *b"BPFSRS01");
+fn marks_spell_their_bytes(rt: HostRuntime) {
+    for (number, version, mark) in [
+        (1, Version::One, *b"BPFSRS01"),
+        (2, Version::Two, *b"BPFSRS02"),
+    ] {
+        assert_eq!(rt; pm_words::write_word(version.magic()), mark);
+        assert_eq!(rt; Version::at(version.magic()), version);
+        assert_eq!(rt; Version::numbered(number), version);
+    }
 }
 
 #[test]
 fn limits_agree(rt: HostRuntime) {
-    assert_eq!(rt; bp_limits::MAX_SIZE, pm_words::span(bp_limits::MAX_HEIGHT));
+    for (version, size, write) in [
+        (Version::One, 549_755_813_888, 65_536),
+        (Version::Two, 144_115_188_075_855_872, 1_048_576),
+    ] {
+        assert_eq!(rt; version.greatest_size(), size);
+        assert_eq!(rt; pm_words::span(version.greatest_height()), size);
+        assert_eq!(rt; version.greatest_write(), write);
+    }
 }
 
 #[test]
@@ -23,9 +38,16 @@ fn pointers_are_read_and_written(rt: HostRuntime) {
         block: 5,
     };
     assert_eq!(rt; root.word(), 0x5003);
-    assert_eq!(rt; RootWord::read(0x5003), Ok(root));
-    assert_eq!(rt; RootWord::read(0x5004), Err(BadPointer));
-    assert_eq!(rt; RootWord::read(0x5008), Err(BadPointer));
+    for (word, top, want) in [
+        (0x5003, 3, Ok(root)),
+        (0x5003, 5, Ok(root)),
+        (0x5003, 2, Err(BadPointer)),
+        (0x5004, 3, Err(BadPointer)),
+        (0x5006, 5, Err(BadPointer)),
+        (0x5008, 5, Err(BadPointer)),
+    ] {
+        assert_eq!(rt; RootWord::read(word, top), want, "{word} up to {top}");
+    }
     assert_eq!(rt; pointer_word(7), 0x7000);
     assert_eq!(rt; pointer(0x7000), Ok(7));
     assert_eq!(rt; pointer(0x7001), Err(BadPointer));
@@ -34,7 +56,7 @@ fn pointers_are_read_and_written(rt: HostRuntime) {
 #[test]
 fn records_are_read_and_written(rt: HostRuntime) {
     let block = Super {
-        magic: bp_limits::MAGIC,
+        magic: Version::One.magic(),
         blocks: 8,
         root: 0x1000,
         size: 4096,

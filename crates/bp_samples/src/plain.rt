@@ -1,5 +1,6 @@
 //! The plain tree: each call once, and the numbers and words of refusals.
 
+use bp_limits::Version;
 use bp_plain::{Answer, Call, FsError, Plain, Reply};
 use std::test::Fail;
 
@@ -19,6 +20,10 @@ fn refusals(rt: HostRuntime) {
         (FsError::TooBig, 10, "toobig"),
         (full, 11, "nospace"),
         (FsError::Memory, 12, "memory"),
+        (FsError::NoSnap, 13, "nosnap"),
+        (FsError::HasSnap, 14, "hassnap"),
+        (FsError::OldVersion, 15, "oldversion"),
+        (FsError::PastEnd, 16, "pastend"),
     ];
     for (error, number, word) in rows {
         assert_eq!(rt; error.number(), number);
@@ -34,6 +39,8 @@ fn answers(rt: HostRuntime) -> Result<(), Fail> {
     assert!(rt; matches!(reply.answer(), Answer::FileOf(7)));
     reply.set_dir(2);
     assert!(rt; matches!(reply.answer(), Answer::DirOf(2)));
+    reply.set_links(3);
+    assert!(rt; matches!(reply.answer(), Answer::LinksOf(3)));
     reply.buffer()[..3].copy_from_slice(b"abc");
     reply.set_bytes(3);
     assert!(rt; matches!(reply.answer(), Answer::Bytes(b"abc")));
@@ -55,7 +62,7 @@ fn answers(rt: HostRuntime) -> Result<(), Fail> {
 #[test]
 fn a_plain_tree_tells_names(rt: HostRuntime) -> Result<(), Fail> {
     let alloc = rt.alloc();
-    let mut tree = Plain::new(alloc)?;
+    let mut tree = Plain::of(alloc, Version::One)?;
     let mut reply = Reply::new(alloc)?;
     tree.apply(alloc, &Call::Create(b"/a"), &mut reply)?;
     tree.apply(alloc, &Call::Create(b"/a/x"), &mut reply)?;
@@ -68,7 +75,7 @@ fn a_plain_tree_tells_names(rt: HostRuntime) -> Result<(), Fail> {
 #[test]
 fn a_plain_tree_keeps_bytes(rt: HostRuntime) -> Result<(), Fail> {
     let alloc = rt.alloc();
-    let mut tree = Plain::new(alloc)?;
+    let mut tree = Plain::of(alloc, Version::One)?;
     let mut reply = Reply::new(alloc)?;
     let calls = [
         Call::Create(b"/a"),
@@ -101,5 +108,42 @@ fn a_plain_tree_keeps_bytes(rt: HostRuntime) -> Result<(), Fail> {
     };
     tree.apply(alloc, &call, &mut reply)?;
     assert!(rt; matches!(reply.answer(), Answer::Bytes(b"\0\0h")));
+    Ok(())
+}
+
+#[test]
+fn a_plain_tree_counts_names(rt: HostRuntime) -> Result<(), Fail> {
+    let alloc = rt.alloc();
+    let mut tree = Plain::of(alloc, Version::One)?;
+    let mut reply = Reply::new(alloc)?;
+    let calls = [
+        Call::Create(b"/a"),
+        Call::Link {
+            from: b"/a",
+            to: b"/b",
+        },
+        Call::Upgrade,
+        Call::Write {
+            path: b"/a",
+            off: 0,
+            bytes: b"hi",
+        },
+    ];
+    for call in calls {
+        tree.apply(alloc, &call, &mut reply)?;
+        assert!(rt; matches!(reply.answer(), Answer::Done));
+    }
+    let call = Call::Read {
+        path: b"/b",
+        off: 0,
+        len: 9,
+    };
+    tree.apply(alloc, &call, &mut reply)?;
+    assert!(rt; matches!(reply.answer(), Answer::Bytes(b"hi")));
+    tree.apply(alloc, &Call::Links(b"/b"), &mut reply)?;
+    assert!(rt; matches!(reply.answer(), Answer::LinksOf(2)));
+    tree.apply(alloc, &Call::Unlink(b"/a"), &mut reply)?;
+    tree.apply(alloc, &Call::Links(b"/b"), &mut reply)?;
+    assert!(rt; matches!(reply.answer(), Answer::LinksOf(1)));
     Ok(())
 }

@@ -3,13 +3,12 @@
 ghost use Rattle.std.specs.Prelude.{◌*◌, ◌≡◌, IfOk, length, vec_len};
 ghost use Rattle.bp_limits.specs.Limits.{block_words, min_blocks};
 
-use crate::images::{EMPTY, TWO_ENTRIES, TWO_NAMES, laid, put};
-use bp_free::{Blocks, Inodes};
+use crate::images::{EMPTY, SECOND, TWO_ENTRIES, TWO_NAMES, laid, put};
+use bp_free::{Blocks, Counts, Inodes};
 use bp_layout::Check;
 use bp_scan::{MountFault, Pending, Totals, image_length, scan};
 use pm_region::ListRegion;
 use std::alloc::{AllocError, Global};
-use std::process::Abort;
 use std::test::Fail;
 
 const BLOCKS: u32 = 8;
@@ -26,7 +25,7 @@ const TOTALS: Totals = Totals {
 /// Stores over the base image, the check that then fails, and the word at which it does.
 type Damage = (&'static [(usize, u64)], Check, u32);
 
-const DAMAGES: [Damage; 21] = [
+const DAMAGES: [Damage; 24] = [
     (&[(529, 0x3004), (530, 1)], Check::Height, 529),
     (&[(529, 0x3008), (530, 1)], Check::PointerBits, 529),
     (
@@ -49,7 +48,7 @@ const DAMAGES: [Damage; 21] = [
     (&[(3, 4000)], Check::InodeFileSize, 3),
     (&[(1024, 64)], Check::Inumber, 1024),
     (&[(1056, 1)], Check::InodeTwice, 1056),
-    (&[(1056, 2)], Check::InodeTwice, 1056),
+    (&[(528, 2), (1056, 2)], Check::InodeTwice, 1056),
     (&[(528, 3)], Check::Kind, 528),
     (&[(520, 1)], Check::Kind, 520),
     (&[(522, 500)], Check::DirectorySize, 522),
@@ -60,7 +59,21 @@ const DAMAGES: [Damage; 21] = [
     (&[(1026, 0x2f)], Check::NameForm, 1025),
     (&[(1026, 0x2e)], Check::NameForm, 1025),
     (&[(1058, 0x61)], Check::NameTwice, 1056),
+    (&[SECOND, (529, 0x3006), (530, 1)], Check::Height, 529),
+    (&[SECOND, (4, 0x1000)], Check::SecondFile, 4),
+    (&[SECOND, (5, 4096)], Check::SecondFile, 5),
 ];
+
+/// What a scan answers; how many blocks and how many inodes are free then; and how many names the inodes 1 to 3 have.
+type Found = (Result<Totals, MountFault>, (u32, u32), [u32; 3]);
+
+/// The base image.
+const BASE: Found = (Ok(TOTALS), (5, 60), [0, 1, 1]);
+
+/// What a fault leaves.
+fn refused(fault: MountFault) -> Found {
+    (Err(fault), (0, 0), [0, 0, 0])
+}
 
 fn base(alloc: Global) -> Result<Vec<u64>, AllocError>
     ensures { IfOk result (λ words. vec_len words ≡ min_blocks * block_words) }
@@ -83,29 +96,46 @@ fn full_sets(alloc: Global) -> Result<(Blocks, Inodes), AllocError>
     Ok((blocks, inodes))
 }
 
-/// Scans an image. Its free blocks and inodes are those of the base image, or none where it is refused.
-fn scanned(
-    rt: &(impl Abort + AllocGlobal),
-    words: Vec<u64>,
-) -> Result<Result<Totals, MountFault>, Fail>
+/// Scans an image, with sets and counts that have something before.
+fn scanned(alloc: Global, words: Vec<u64>) -> Result<Found, AllocError>
     requires { vec_len words ≡ min_blocks * block_words }
 {
-    let region = ListRegion::new(rt.alloc(), words, 0)?;
-    let (mut blocks, mut inodes) = full_sets(rt.alloc())?;
-    let mut pending = Pending::new(rt.alloc(), INODES)?;
-    let answer = scan(&region, &mut blocks, &mut inodes, &mut pending);
-    let free = if answer.is_ok() { (5, 60) } else { (0, 0) };
-    assert_eq!(rt; (blocks.count(), inodes.count()), free);
-    Ok(answer)
+    let region = ListRegion::new(alloc, words, 0)?;
+    let (mut blocks, mut inodes) = full_sets(alloc)?;
+    let mut counts = Counts::new(alloc, INODES)?;
+    counts.set(1, 7);
+    let mut pending = Pending::new(alloc, INODES)?;
+    let answer = scan(&region, &mut blocks, &mut inodes, &mut pending, &mut counts);
+    let names = [counts.names(1), counts.names(2), counts.names(3)];
+    Ok((answer, (blocks.count(), inodes.count()), names))
 }
 
 #[test]
 fn an_image_is_scanned(rt: HostRuntime) -> Result<(), Fail> {
     let words = base(rt.alloc())?;
-    assert_eq!(rt; scanned(&rt, words)?, Ok(TOTALS));
+    assert_eq!(rt; scanned(rt.alloc(), words)?, BASE);
+    let mut words = base(rt.alloc())?;
+    put(&mut words, &[SECOND]);
+    assert_eq!(rt; scanned(rt.alloc(), words)?, BASE);
     let mut words = base(rt.alloc())?;
     put(&mut words, &[(0, 0)]);
-    assert_eq!(rt; scanned(&rt, words)?, Err(MountFault::NotFormatted));
+    assert_eq!(rt;
+        scanned(rt.alloc(), words)?,
+        refused(MountFault::NotFormatted)
+    );
+    Ok(())
+}
+
+/// Both entries name inode 2, so that inode 3 is free.
+#[test]
+fn a_file_has_two_names(rt: HostRuntime) -> Result<(), Fail> {
+    let mut words = base(rt.alloc())?;
+    put(&mut words, &[(1056, 2)]);
+    let totals = Totals { files: 1, ..TOTALS };
+    assert_eq!(rt;
+        scanned(rt.alloc(), words)?,
+        (Ok(totals), (5, 61), [0, 2, 0])
+    );
     Ok(())
 }
 
@@ -118,7 +148,7 @@ fn each_check_fails_at_its_word(rt: HostRuntime) -> Result<(), Fail> {
             check: *check,
             place: *place,
         };
-        assert_eq!(rt; scanned(&rt, words)?, Err(fault));
+        assert_eq!(rt; scanned(rt.alloc(), words)?, refused(fault));
     }
     Ok(())
 }
@@ -129,14 +159,15 @@ fn lengths(rt: HostRuntime) {
         (0, 32_768),
         (32_767, 32_768),
         (32_769, 36_864),
-        (67_108_865, 67_108_864),
+        (67_108_865, 67_112_960),
+        (268_435_457, 268_435_456),
     ] {
         assert_eq!(rt;
             image_length(found),
             Err(MountFault::BadSize { found, wanted })
         );
     }
-    for (found, blocks) in [(32_768, 8), (67_108_864, 16_384)] {
+    for (found, blocks) in [(32_768, 8), (67_108_864, 16_384), (268_435_456, 65_536)] {
         assert_eq!(rt; image_length(found), Ok(blocks));
     }
 }

@@ -18,7 +18,7 @@ fn asks(rt: &impl Abort, decoded: &mut Decoded, bytes: &[u8], want: Result<Line<
 #[test]
 fn lines_of_the_table(rt: HostRuntime) -> Result<(), Fail> {
     let mut decoded = Decoded::new(rt.alloc(), 64)?;
-    let calls: [(&[u8], Call<'static>); 18] = [
+    let calls: [(&[u8], Call<'static>); 22] = [
         (b"create /a", Call::Create(b"/a")),
         (b"mkdir /a", Call::Mkdir(b"/a")),
         (b"unlink /a%20", Call::Unlink(b"/a ")),
@@ -63,6 +63,16 @@ fn lines_of_the_table(rt: HostRuntime) -> Result<(), Fail> {
                 to: b"c\0",
             },
         ),
+        (
+            b"link /a%20b c%2F",
+            Call::Link {
+                from: b"/a b",
+                to: b"c\0",
+            },
+        ),
+        (b"links /%61", Call::Links(b"/a")),
+        (b"links upgrade", Call::Links(b"upgrade")),
+        (b"upgrade", Call::Upgrade),
     ];
     for (bytes, call) in calls {
         asks(&rt, &mut decoded, bytes, Ok(Line::Call(call)));
@@ -114,7 +124,7 @@ fn lines_of_reads(rt: HostRuntime) -> Result<(), Fail> {
 #[test]
 fn lines_outside_the_table(rt: HostRuntime) -> Result<(), Fail> {
     let mut decoded = Decoded::new(rt.alloc(), 64)?;
-    let lines: [&[u8]; 26] = [
+    let lines: [&[u8]; 34] = [
         b"write /a 0 0",
         b"write /a 0 0g",
         b"write /a 0 --",
@@ -122,6 +132,14 @@ fn lines_outside_the_table(rt: HostRuntime) -> Result<(), Fail> {
         b"write /a 0",
         b"rename /a",
         b"rename /a /b /c",
+        b"link /a",
+        b"link /a /b /c",
+        b"link  /a",
+        b"links",
+        b"links /a /b",
+        b"upgrade ",
+        b"upgrade 2",
+        b"upgrades",
         b"truncate /a",
         b"truncate /a -",
         b"truncate /a 18446744073709551616",
@@ -189,6 +207,8 @@ fn answer_texts(rt: HostRuntime) -> Result<(), Fail> {
         b"file 549755813888\n",
     );
     answers(&rt, Answer::DirOf(0), into, b"dir 0\n");
+    answers(&rt, Answer::LinksOf(2), into, b"links 2\n");
+    answers(&rt, Answer::LinksOf(u32::MAX), into, b"links 4294967295\n");
     answers(
         &rt,
         Answer::Bytes(&[0, 10, 255, 0xab]),
@@ -292,7 +312,7 @@ fn notices(rt: HostRuntime) {
         (Notice::NoFile, b"err 34 nofile\n"),
         (
             Notice::Usage,
-            b"usage: bpfs format FILE --blocks N / run FILE / check FILE / play FILE --seed S --count C\n",
+            b"usage: bpfs format FILE --blocks N [--version V] / run FILE / check FILE / play FILE --seed S --count C\n",
         ),
     ];
     for (notice, want) in rows {

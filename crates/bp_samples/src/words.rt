@@ -5,6 +5,7 @@ use pm_words::{MAX_LEVEL, block_of, digit, read_word, span, write_word};
 #[test]
 fn words_and_bytes(rt: HostRuntime) {
     assert_eq!(rt; read_word(b"BPFSRS01"), 0x3130_5352_5346_5042);
+    assert_eq!(rt; read_word(b"BPFSRS02"), 0x3230_5352_5346_5042);
     assert_eq!(rt; write_word(0x0102_0304_0506_0708), [8, 7, 6, 5, 4, 3, 2, 1]);
 }
 
@@ -20,7 +21,8 @@ fn blocks_and_digits(rt: HostRuntime) {
     ] {
         assert_eq!(rt; span(level), want, "at {level}");
     }
-    for (level, want) in [(0, 5), (1, 3), (2, 1)] {
-        assert_eq!(rt; digit(512 * 512 + 3 * 512 + 5, level), want, "at {level}");
+    let leaf = (2 << 36) + (7 << 27) + (1 << 18) + (3 << 9) + 5;
+    for (level, want) in [(0, 5), (1, 3), (2, 1), (3, 7), (4, 2)] {
+        assert_eq!(rt; digit(leaf, level), want, "at {level}");
     }
 }

@@ -5,12 +5,14 @@ use Rattle.bp_free.specs.Set.{has}
 use Rattle.bp_layout.specs.Words.{Image}
 use Rattle.bp_layout.specs.Inode.{inode_count}
 use Rattle.bp_layout.specs.Free.{AreFreeBlocks, AreFreeInodes}
+use Rattle.bp_layout.specs.Names.{AreCounts}
 use Rattle.bp_layout.specs.Reached.{IsReached}
 use Rattle.bp_layout.specs.WellFormed.{IsWellFormed}
 use Rattle.bp_layout.proofs.ChecksLaws.{found_reached}
 use Rattle.bp_scan.specs.Reading.{IsReading}
 use Rattle.bp_scan.specs.declared.work.Scan.{Scan}
-use Rattle.bp_scan.proofs.Ending.{end_well_formed, end_blocks, end_inodes}
+use Rattle.bp_scan.proofs.Ending.{end_well_formed, end_blocks, end_inodes, end_counts}
+use Rattle.bp_layout.specs.Thaw.{none_kept}
 
 -- what follows from two clauses of an answer
 pub on_ok_both : {T E : Type 0} {A B C : Type 0} (r : Result T E) → (A → B → C) → OnOk r A → OnOk r B → OnOk r C
@@ -21,11 +23,15 @@ module _ (image : Image) (work : Scan) (reading : IsReading image work 0 0) (non
   pub all_well_formed : IsWellFormed image
   all_well_formed = end_well_formed image work.blocks work.inodes work.todo reading.ready.formatted reading.ready.inode_blocks reading.ready.some_inodes reading.root_kind reading.range reading.midway none
 
-  pub all_free_blocks : AreFreeBlocks image (has work.blocks)
+  pub all_free_blocks : AreFreeBlocks image none_kept (has work.blocks)
   all_free_blocks = end_blocks image work.blocks work.inodes work.todo reading.ready.formatted reading.ready.inode_blocks reading.ready.some_inodes reading.root_kind reading.range reading.midway none
 
   pub all_free_inodes : AreFreeInodes image (has work.inodes)
   all_free_inodes = end_inodes image work.blocks work.inodes work.todo reading.ready.formatted reading.ready.inode_blocks reading.ready.some_inodes reading.root_kind reading.range reading.midway none
+
+  pub all_counts : AreCounts image work.counts
+  all_counts =
+      end_counts image work.blocks work.inodes work.todo reading.ready.formatted reading.ready.inode_blocks reading.ready.some_inodes reading.root_kind reading.range reading.midway none work.counts reading.counts
 
   pub all_reached : (i : ℕ) → i < inode_count image → has work.inodes i ≡ false → IsReached image i
   all_reached i low gone = found_reached image i (reading.midway.under_way.scanned.found i (low, gone))

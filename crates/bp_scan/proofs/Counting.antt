@@ -21,6 +21,7 @@ use Rattle.bp_walk.proofs.TakenLaws.{clash, known}
 use Rattle.bp_scan.specs.Counted.{HasCounted, used_below}
 use Rattle.bp_scan.specs.Totals.{AreReached, HasLive, HasTotals, of_kind, file_bytes}
 use Rattle.bp_scan.specs.declared.totals.Totals.{Totals}
+use Rattle.bp_layout.specs.Thaw.{none_kept}
 
 -- ---- one inode more
 
@@ -143,7 +144,7 @@ are_reached image free wf are reached = record {
 -- ---- the blocks
 
 -- two tests of the free blocks are one
-same_blocks : (image : Image) (p q : ℕ → Bool) → AreFreeBlocks image p → AreFreeBlocks image q → (b : ℕ) → p b ≡ q b
+same_blocks : (image : Image) (p q : ℕ → Bool) → AreFreeBlocks image none_kept p → AreFreeBlocks image none_kept q → (b : ℕ) → p b ≡ q b
 same_blocks image p q one other b = go (known (p b)) (known (q b))
   where
     go : (p b ≡ true) ⊎ (p b ≡ false) → (q b ≡ true) ⊎ (q b ≡ false) → p b ≡ q b
@@ -153,21 +154,21 @@ same_blocks image p q one other b = go (known (p b)) (known (q b))
     go (inr x) (inr y) = x ∙ sym y
 
 -- block 0 is not free, so fewer blocks are free than there are
-pub few_free : (image : Image) (free : Set) → AreFreeBlocks image (has free) → 0 < length free → length (members free) < length free
+pub few_free : (image : Image) (free : Set) → AreFreeBlocks image none_kept (has free) → 0 < length free → length (members free) < length free
 few_free image free are some = count_less free 0 some (go (known (has free 0)))
   where
     go : (has free 0 ≡ true) ⊎ (has free 0 ≡ false) → has free 0 ≡ false
     go (inl there) = absurd (omega (arith, (are.free 0 there).low))
     go (inr gone) = gone
 
-pub has_live : (image : Image) (free : Set) (live : ℕ) → AreFreeBlocks image (has free) → length free ≡ block_count image → live + length (members free) + 1 ≡ block_count image → HasLive image live
+pub has_live : (image : Image) (free : Set) (live : ℕ) → AreFreeBlocks image none_kept (has free) → length free ≡ block_count image → live + length (members free) + 1 ≡ block_count image → HasLive image live
 has_live image free live are room sum count other =
     let here : length (members free) ≡ length (filter (has free) (range_with_len 0 (block_count image))) = ap (λ n. length (filter (has free) (range_with_len 0 n))) room in
     let same : length (filter (has free) (range_with_len 0 (block_count image))) ≡ length (filter other.set (range_with_len 0 (block_count image))) =
     ap length (filter_same (has free) other.set 0 (block_count image) (λ b _ _. same_blocks image (has free) other.set are other.are b)) in
     omega (arith, sum, here, same, other.number)
 
-pub has_totals : (image : Image) (blocks inodes : Set) (totals : Totals) → IsWellFormed image → AreFreeBlocks image (has blocks) → AreFreeInodes image (has inodes) →
+pub has_totals : (image : Image) (blocks inodes : Set) (totals : Totals) → IsWellFormed image → AreFreeBlocks image none_kept (has blocks) → AreFreeInodes image (has inodes) →
     ((i : ℕ) → 1 ≤ i → i < inode_count image → has inodes i ≡ false → IsReached image i) → length blocks ≡ block_count image → totals.live + length (members blocks) + 1 ≡ block_count image →
     HasCounted image inodes (inode_count image) totals → HasTotals image totals
 has_totals image blocks inodes totals wf free_blocks free_inodes reached room live counted = record {

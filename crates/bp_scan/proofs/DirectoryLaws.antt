@@ -13,7 +13,7 @@ use Rattle.bp_scan.specs.Misspelled.{FailsNames}
 use Rattle.bp_scan.specs.Reading.{IsReading, IsAtHand, IsInside, steps}
 use Rattle.bp_scan.specs.declared.directories.Directory.{Directory}
 use Rattle.bp_scan.specs.declared.work.Scan.{Scan}
-use Rattle.bp_scan.proofs.ProgressLaws.{begin, finish}
+use Rattle.bp_scan.proofs.ProgressLaws.{begin, begin_counts, finish, finish_counts}
 use Rattle.bp_scan.proofs.Inside.{here_sound, here_full, here_few, names_fail}
 use Rattle.bp_scan.proofs.EntryLaws.{along}
 
@@ -23,21 +23,22 @@ not_file image (suc i) kind = omega arith
 
 -- the work with other directories to do
 abbrev pub to_do : Scan → Set → Scan
-to_do work todo = record { blocks = work.blocks; inodes = work.inodes; todo = todo; entries = work.entries }
+to_do work todo = record { blocks = work.blocks; inodes = work.inodes; todo = todo; counts = work.counts; entries = work.entries }
 
 -- a directory that was to do is at hand
 taken_up : (image : Image) (work : Scan) (current : ℕ) → current < length work.todo → has work.todo current ≡ true → IsReading image work 0 0 → IsAtHand image (to_do work (without work.todo current)) current 0
 taken_up image work current low there reading = record {
   reading = record {
     ready = reading.ready;
-    room = record { blocks = reading.room.blocks; inodes = reading.room.inodes; todo = length_without work.todo current ∙ reading.room.todo; entries = reading.room.entries };
+    room = record { blocks = reading.room.blocks; inodes = reading.room.inodes; todo = length_without work.todo current ∙ reading.room.todo; counts = reading.room.counts; entries = reading.room.entries };
     range = reading.range;
     root_kind = reading.root_kind;
     midway = record {
       all = reading.midway.all;
       whole = reading.midway.whole;
-      under_way = begin image reading.midway.all work.blocks work.inodes work.todo current low there reading.midway.under_way;
+      under_way = begin image work.inodes work.todo current low there reading.midway.all work.blocks reading.midway.under_way;
     };
+    counts = begin_counts image work.inodes work.todo current low there work.counts reading.counts;
   };
   entered = (reading.midway.under_way.todo_entered current there).0;
   kind = (reading.midway.under_way.todo_entered current there).1;
@@ -73,9 +74,12 @@ finished image work directory inside = record {
     all = inside.at.reading.midway.all;
     whole = inside.at.reading.midway.whole;
     under_way =
-        finish image inside.at.reading.midway.all work.blocks work.inodes work.todo directory.inode (directory.tree.size / 256) (ap (λ (x : ℕ). x / 256) (sym inside.size)) inside.at.entered inside.at.kind inside.at.out
-        inside.at.reading.midway.under_way;
+        finish image work.inodes work.todo directory.inode (directory.tree.size / 256) (ap (λ (x : ℕ). x / 256) (sym inside.size)) inside.at.entered inside.at.kind inside.at.out
+        inside.at.reading.midway.all work.blocks inside.at.reading.midway.under_way;
   };
+  counts =
+      finish_counts image work.inodes work.todo directory.inode (directory.tree.size / 256) (ap (λ (x : ℕ). x / 256) (sym inside.size)) inside.at.entered inside.at.kind inside.at.out
+      work.counts inside.at.reading.counts;
 }
 
 -- no member is left

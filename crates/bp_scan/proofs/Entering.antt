@@ -221,7 +221,7 @@ nothing_seen image all = record {
 -- the facts of one more entry, over trees that include the one that it names
 pub pass_entry : (image : Image) (E : ℕ → Type 0) (D : ℕ → ℕ → Type 0) (all left : Set) (i s : ℕ) → IsScanned image E D all left →
     ((j : ℕ) → EntryNames image i s j → (j < inode_count image) × (j ≢ 1) × IsName (name_at image i s) × E j) →
-    ((k r j : ℕ) → D k r → EntryNames image i s j → EntryNames image k r j → entry_place image i s 0 ≡ entry_place image k r 0) →
+    ((k r j : ℕ) → D k r → EntryNames image i s j → EntryNames image k r j → kind_of image j ≡ 2 → entry_place image i s 0 ≡ entry_place image k r 0) →
     ((r j k : ℕ) → D i r → EntryNames image i s j → EntryNames image i r k → name_at image i s ≡ name_at image i r → s ≡ r) →
     IsScanned image E (λ k r. D k r ⊎ ((k ≡ i) × (r ≡ s))) all left
 pass_entry image E D all left i s scanned entry once names = record {
@@ -234,7 +234,7 @@ pass_entry image E D all left i s scanned entry once names = record {
   not_root = λ k r j d n. not_one k r j d n;
   forms = λ k r j d n. form k r j d n;
   enters = λ k r j d n. into k r j d n;
-  named_once = λ k r l q j d e n m. named k r l q j d e n m;
+  named_once = λ k r l q j d e n m kind. named k r l q j d e n m kind;
   names_once = λ k r q j l d e n m same. name k r q j l d e n m same;
 }
   where
@@ -260,11 +260,11 @@ pass_entry image E D all left i s scanned entry once names = record {
     place : (k r : ℕ) → (k ≡ i) × (r ≡ s) → entry_place image k r 0 ≡ entry_place image i s 0
     place k r at = ap (λ (x : ℕ). entry_place image x r 0) at.0 ∙ ap (λ (x : ℕ). entry_place image i x 0) at.1
 
-    named : (k r l q j : ℕ) → D k r ⊎ ((k ≡ i) × (r ≡ s)) → D l q ⊎ ((l ≡ i) × (q ≡ s)) → EntryNames image k r j → EntryNames image l q j → entry_place image k r 0 ≡ entry_place image l q 0
-    named k r l q j (inl d) (inl e) n m = scanned.named_once k r l q j d e n m
-    named k r l q j (inr at) (inl e) n m = place k r at ∙ once l q j e (moved k r j at n) m
-    named k r l q j (inl d) (inr at) n m = sym (place l q at ∙ once k r j d (moved l q j at m) n)
-    named k r l q j (inr at) (inr also) n m = place k r at ∙ sym (place l q also)
+    named : (k r l q j : ℕ) → D k r ⊎ ((k ≡ i) × (r ≡ s)) → D l q ⊎ ((l ≡ i) × (q ≡ s)) → EntryNames image k r j → EntryNames image l q j → kind_of image j ≡ 2 → entry_place image k r 0 ≡ entry_place image l q 0
+    named k r l q j (inl d) (inl e) n m kind = scanned.named_once k r l q j d e n m kind
+    named k r l q j (inr at) (inl e) n m kind = place k r at ∙ once l q j e (moved k r j at n) m kind
+    named k r l q j (inl d) (inr at) n m kind = sym (place l q at ∙ once k r j d (moved l q j at m) n kind)
+    named k r l q j (inr at) (inr also) n m kind = place k r at ∙ sym (place l q also)
 
     name : (k r q j l : ℕ) → D k r ⊎ ((k ≡ i) × (r ≡ s)) → D k q ⊎ ((k ≡ i) × (q ≡ s)) → EntryNames image k r j → EntryNames image k q l → name_at image k r ≡ name_at image k q → r ≡ q
     name k r q j l (inl d) (inl e) n m same = scanned.names_once k r q j l d e n m same

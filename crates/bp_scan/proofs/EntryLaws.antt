@@ -1,6 +1,8 @@
 -- The entry at hand.
-use Rattle.std.proofs.Common.{◌≡◌, ◌≢◌, ◌⊎◌, ℕ, ◌+◌, ◌*◌, ◌/◌, ◌%◌, ◌<◌, ◌≤◌, true, false, length, sym, ◌∙◌, ap, subst, arith, inl, inr}
+use Rattle.std.proofs.Common.{◌≡◌, ◌≢◌, ◌⊎◌, ℕ, ◌+◌, ◌*◌, ◌/◌, ◌%◌, ◌<◌, ◌≤◌, List, true, false, length, set, sym, ◌∙◌, ap, subst, arith, inl, inr}
 use Rattle.std.proofs.lemmas.Bool.{cases_eq}
+use Rattle.std.proofs.lemmas.List.{length-set}
+use Rattle.std.specs.List.{slice_index}
 use Rattle.bp_free.specs.Set.{Set, has, without, members}
 use Rattle.bp_free.proofs.Members.{has_with_same, has_with_other, count_with, count_without}
 use Rattle.bp_layout.specs.Words.{Image, height_of}
@@ -12,19 +14,25 @@ use Rattle.bp_layout.specs.declared.check.Check.{Check}
 use Rattle.bp_layout.specs.declared.check.Check.TheVariants.{InodeTwice, Inumber}
 use Rattle.bp_spelling.specs.Names.{AreNames, IsUsed}
 use Rattle.bp_walk.proofs.TakenLaws.{known, clash, has_less}
-use Rattle.bp_scan.specs.Progress.{IsEntered, IsUnderWay}
+use Rattle.bp_scan.specs.Named.{CountsAmong}
+use Rattle.bp_scan.specs.Progress.{IsDone, IsEntered, IsUnderWay}
 use Rattle.bp_scan.specs.Inodes.{EntersInode, FailsInode}
 use Rattle.bp_scan.specs.Reading.{IsReading, IsInside, steps}
-use Rattle.bp_scan.specs.Room.{HasRoom}
+use Rattle.bp_scan.specs.Room.{HasScanMemory}
 use Rattle.bp_scan.specs.declared.directories.Directory.{Directory}
 use Rattle.bp_scan.specs.declared.work.Scan.{Scan}
-use Rattle.bp_scan.proofs.ProgressLaws.{empty_step, entered_more}
-use Rattle.bp_scan.proofs.EntryStep.{AddsDirectory, entry_step}
+use Rattle.bp_scan.proofs.Named.{among_few}
+use Rattle.bp_scan.proofs.ProgressLaws.{empty_counts, empty_step, entered_more}
+use Rattle.bp_scan.proofs.EntryStep.{AddsDirectory, again_counts, again_step, entry_counts, entry_step}
 use Rattle.bp_scan.proofs.InodeFaults.{inode_of}
-use Rattle.bp_scan.proofs.Inside.{first, inodes_few, here_sound, here_full, here_found, too_high, not_new, inode_fails, new_not_to_do}
+use Rattle.bp_scan.proofs.Inside.{first, inodes_few, kind_in, here_sound, here_full, here_found, too_high, not_new, inode_fails, new_not_to_do}
 
 pub along : (P : ℕ → ℕ → Type 0) (a b x y : ℕ) → a ≡ x → b ≡ y → P a b → P x y
 along P a b x y e f h = subst (λ (v : ℕ). P x v) f (subst (λ (u : ℕ). P u b) e h)
+
+-- the work with other counts
+abbrev pub counting : Scan → List ℕ → Scan
+counting work counts = record { blocks = work.blocks; inodes = work.inodes; todo = work.todo; counts = counts; entries = work.entries }
 
 module _ (image : Image) (work : Scan) (directory : Directory) (slot : ℕ) (inside : IsInside image work directory slot) where
   abbrev d : ℕ
@@ -63,7 +71,8 @@ module _ (image : Image) (work : Scan) (directory : Directory) (slot : ℕ) (ins
           room = reading.room;
           range = reading.range;
           root_kind = reading.root_kind;
-          midway = record { all = reading.midway.all; whole = reading.midway.whole; under_way = empty_step image reading.midway.all work.blocks work.inodes work.todo d slot (here ∙ none) reading.midway.under_way };
+          midway = record { all = reading.midway.all; whole = reading.midway.whole; under_way = empty_step image work.inodes work.todo d slot (here ∙ none) reading.midway.all work.blocks reading.midway.under_way };
+          counts = empty_counts image work.inodes work.todo d slot (here ∙ none) work.counts reading.counts;
         };
         entered = inside.at.entered;
         kind = inside.at.kind;
@@ -82,15 +91,75 @@ module _ (image : Image) (work : Scan) (directory : Directory) (slot : ℕ) (ins
         pub in_room : j < length work.inodes
         in_room = let few : inode_count image ≤ length work.inodes = inodes_few image work d slot reading in omega (arith, few, low)
 
-        pub fails_again : (p : ℕ) → p ≡ 512 * node image directory.tree.root (height_of directory.tree.root) ((32 * slot + 0) / 512) + (32 * slot + 0) % 512 → has work.inodes j ≡ false → Fails image InodeTwice p
-        fails_again p at gone = not_new image work d slot reading inside.at.entered inside.at.kind j p (entry_names some) (stands p at) low gone
+        pub fails_again : (p : ℕ) → p ≡ 512 * node image directory.tree.root (height_of directory.tree.root) ((32 * slot + 0) / 512) + (32 * slot + 0) % 512 → has work.inodes j ≡ false → kind_of image j ≡ 2 → Fails image InodeTwice p
+        fails_again p at gone kind = not_new image work d slot reading inside.at.entered inside.at.kind j p (entry_names some) (stands p at) low gone kind
+
+        -- an inode that was entered has a kind
+        pub right_kind : has work.inodes j ≡ false → (1 ≤ kind_of image j) × (kind_of image j ≤ 2)
+        right_kind gone = kind_in image work d slot reading j (omega (arith, some)) (low, gone)
+
+        pub in_counts : j < length work.counts
+        in_counts = omega (arith, in_room, reading.room.inodes, reading.room.counts)
+
+        -- no inode has more names than an image has words
+        pub names_few : slice_index work.counts j ≤ length image
+        names_few =
+            among_few image (IsEntered image work.inodes) (IsDone image work.inodes work.todo d slot) reading.midway.all work.blocks reading.ready.some_inodes (first image work d slot reading) reading.midway.under_way.scanned
+            (λ i s done. entered i done) j (slice_index work.counts j) (reading.counts.each j in_counts)
+          where
+            entered : (i : ℕ) {s : ℕ} → IsDone image work.inodes work.todo d slot i s → IsEntered image work.inodes i
+            entered i (inl done) = done.0
+            entered i (inr at) = subst (IsEntered image work.inodes) (sym at.0) inside.at.entered
+
+        -- a file has one more name
+        pub passes_again : has work.inodes j ≡ false → kind_of image j ≡ 1 → (later : List ℕ) → later ≡ set work.counts j (slice_index work.counts j + 1) → IsInside image (counting work later) directory (slot + 1)
+        passes_again gone file later later_is = record {
+          at = record {
+            reading = record {
+              ready = reading.ready;
+              room = record {
+                blocks = reading.room.blocks;
+                inodes = reading.room.inodes;
+                todo = reading.room.todo;
+                counts = ap (λ (ns : List ℕ). length ns) later_is ∙ length-set work.counts j (slice_index work.counts j + 1) ∙ reading.room.counts;
+                entries = reading.room.entries;
+              };
+              range = reading.range;
+              root_kind = reading.root_kind;
+              midway = record {
+                all = reading.midway.all;
+                whole = reading.midway.whole;
+                under_way = again_step image reading.midway.all work.blocks work.inodes work.todo d slot j reading.midway.under_way (entry_names some) (low, gone) two file (names.forms slot (used slot j (entry_names some)))
+                    (λ r k before n same. names.differ slot r (used slot j (entry_names some)) (used r k n) same);
+              };
+              counts = subst (CountsAmong image (IsDone image work.inodes work.todo d (slot + 1))) (sym later_is)
+                  (again_counts image reading.midway.all work.blocks work.inodes work.todo d slot j reading.midway.under_way (entry_names some) (low, gone) two file (names.forms slot (used slot j (entry_names some)))
+                  (λ r k before n same. names.differ slot r (used slot j (entry_names some)) (used r k n) same) work.counts reading.counts);
+            };
+            entered = inside.at.entered;
+            kind = inside.at.kind;
+            out = inside.at.out;
+          };
+          root = inside.root;
+          size = inside.size;
+          names = inside.names;
+        }
+          where
+            no_root : j ≢ 1
+            no_root one = let two : kind_of image j ≡ 2 = ap (kind_of image) one ∙ reading.root_kind in omega (arith, two, file)
+
+            two : 2 ≤ j
+            two = omega (arith, some, no_root)
+
+            used : (r k : ℕ) → EntryNames image d r k → IsUsed image (root_of image d) (size_of image d) r
+            used r k n = record { live = n.in_size; some = λ null. n.not_empty (sym n.inumber ∙ null) }
 
         pub fails_in_inode : has work.inodes j ≡ true → (c : Check) (p : ℕ) → FailsInode image j work.blocks c p → Fails image c p
         fails_in_inode new c p fails =
             inode_fails image work d slot reading j c p (omega (arith, some)) (here_found image work d slot reading inside.at.entered inside.at.kind slot j (entry_names some) low) new fails
 
-        module _ (new : has work.inodes j ≡ true) (rest : Set) (claimed : rest ≡ without work.inodes j) (after : Scan) (room : HasRoom image after)
-            (enters : EntersInode image j (record { blocks = work.blocks; inodes = rest; todo = work.todo; entries = work.entries }) after) where
+        module _ (new : has work.inodes j ≡ true) (rest : Set) (claimed : rest ≡ without work.inodes j) (marked : List ℕ) (first_name : marked ≡ set work.counts j 1) (after : Scan) (room : HasScanMemory image after)
+            (enters : EntersInode image j (record { blocks = work.blocks; inodes = rest; todo = work.todo; counts = marked; entries = work.entries }) after) where
           now_is : after.inodes ≡ without work.inodes j
           now_is = enters.inodes ∙ claimed
 
@@ -130,6 +199,11 @@ module _ (image : Image) (work : Scan) (directory : Directory) (slot : ℕ) (ins
               inside.at.entered (entry_names some) low in_room new (reading.range j new).0 (names.forms slot (used slot j (entry_names some)))
               (λ r k before n same. names.differ slot r (used slot j (entry_names some)) (used r k n) same) (inode_of image j enters.right) which enters.tree adds
 
+          counts_step : CountsAmong image (IsDone image (without work.inodes j) after.todo d (slot + 1)) (set work.counts j 1)
+          counts_step = entry_counts image reading.midway.all work.blocks after.blocks work.inodes work.todo after.todo d slot j enters.holes reading.midway.under_way reading.ready.some_inodes (first image work d slot reading)
+              inside.at.entered (entry_names some) low in_room new (reading.range j new).0 (names.forms slot (used slot j (entry_names some)))
+              (λ r k before n same. names.differ slot r (used slot j (entry_names some)) (used r k n) same) (inode_of image j enters.right) which enters.tree adds work.counts reading.counts
+
           range : (i : ℕ) → has (without work.inodes j) i ≡ true → (has work.inodes i ≡ true) ⊎ (has work.inodes i ≡ false) → (2 ≤ i) × (i < inode_count image)
           range i still (inl there) = reading.range i there
           range i still (inr gone) = absurd (clash still (has_less work.inodes j i in_room gone))
@@ -150,6 +224,8 @@ module _ (image : Image) (work : Scan) (directory : Directory) (slot : ℕ) (ins
                   whole = reading.midway.whole;
                   under_way = subst (λ (s : Set). IsUnderWay image reading.midway.all after.blocks s after.todo d (slot + 1)) (sym now_is) step;
                 };
+                counts = subst (CountsAmong image (IsDone image after.inodes after.todo d (slot + 1))) (sym (enters.counts ∙ first_name))
+                    (subst (λ (s : Set). CountsAmong image (IsDone image s after.todo d (slot + 1)) (set work.counts j 1)) (sym now_is) counts_step);
               };
               entered = subst (λ (s : Set). IsEntered image s d) (sym now_is) (entered_more image work.inodes j d in_room low (inl inside.at.entered));
               kind = inside.at.kind;

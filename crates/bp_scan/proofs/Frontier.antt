@@ -10,7 +10,8 @@ use Rattle.bp_layout.specs.Checks.Fails.{height, root_bits, pointer_bits, range,
 use Rattle.bp_layout.specs.declared.check.Check.{Check}
 use Rattle.bp_layout.proofs.ChecksLaws.{same_entry, found_reached}
 use Rattle.bp_layout.specs.Checks.{NoneFails}
-use Rattle.bp_layout.specs.Formatted.{IsFormatted}
+use Rattle.bp_limits.proofs.Versions.{height_most}
+use Rattle.bp_layout.specs.Formatted.{IsFormatted, version_of}
 use Rattle.bp_layout.specs.Free.{IsFreeInode, AreFreeBlocks, AreFreeInodes}
 use Rattle.bp_layout.proofs.ChecksSuffice.{checks_suffice, found_all as reached_found, pointer_at as pointer_found}
 use Rattle.bp_layout.specs.WellFormed.{IsWellFormed}
@@ -22,6 +23,7 @@ use Rattle.bp_walk.specs.Taken.{block_at, NamesBlock}
 use Rattle.bp_scan.specs.Scanned.{IsSeen, IsScanned, IsAll, HasAllBlocks, HasRest}
 use Rattle.std.proofs.lemmas.List.{get_or_past}
 use Rattle.bp_walk.proofs.Places.{pointer_word}
+use Rattle.bp_layout.specs.Thaw.{none_kept}
 
 module _ (image : Image) (E : ℕ → Type 0) (D : ℕ → ℕ → Type 0) (start left : Set) (scanned : IsScanned image E D start left) (done : IsAll image E D) where
   found_entered : (t : ℕ) → IsFound image t → E t
@@ -43,8 +45,8 @@ module _ (image : Image) (E : ℕ → Type 0) (D : ℕ → ℕ → Type 0) (star
       scanned.takes.once p q (seen t d k p at) (seen u e l q also) (λ null. present (sym here ∙ null)) (here ∙ same ∙ sym there)
 
   none : (c : Check) (p : ℕ) → Fails image c p → ⊥
-  none _ _ (height {t = t} {p = p} at high) = let low : Passes image (root_of image t) 0 0 = passes t 0 0 p at in omega (arith, low.0, high)
-  none _ _ (root_bits {t = t} {p = p} at bits) = let low : Passes image (root_of image t) 0 0 = passes t 0 0 p at in omega (arith, low.0, bits)
+  none _ _ (height {t = t} {p = p} at high) = let low : Passes image (root_of image t) 0 0 = passes t 0 0 p at in omega (arith, low.0, high, height_most (version_of image))
+  none _ _ (root_bits {t = t} {p = p} at bits) = let low : Passes image (root_of image t) 0 0 = passes t 0 0 p at in omega (arith, low.0, bits, height_most (version_of image))
   none _ _ (pointer_bits {t = t} {d = d} {k = k} {p = p} at bits) = bits (passes t (suc d) k p at).0
   none _ _ (range {t = t} {d = d} {k = k} {p = p} at high) = in_range t d k p at high (passes t d k p at)
     where
@@ -58,8 +60,8 @@ module _ (image : Image) (E : ℕ → Type 0) (D : ℕ → ℕ → Type 0) (star
   none _ _ (inumber {i = i} {s = s} {j = j} at high) =
       let low : j < inode_count image = scanned.inumbers i s j (done.slots i s j (found_entered i at.found) at.names) at.names in omega (arith, low, high)
   none _ _ (root_named {i = i} {s = s} at) = scanned.not_root i s 1 (done.slots i s 1 (found_entered i at.found) at.names) at.names refl
-  none _ _ (inode_twice {i = i} {s = s} {j = j} {k = k} {r = r} at also other) =
-      other (sym at.at ∙ scanned.named_once i s k r j (done.slots i s j (found_entered i at.found) at.names) (done.slots k r j (found_entered k also.found) also.names) at.names also.names ∙ also.at)
+  none _ _ (inode_twice {i = i} {s = s} {j = j} {k = k} {r = r} at also other found directory) =
+      other (sym at.at ∙ scanned.named_once i s k r j (done.slots i s j (found_entered i at.found) at.names) (done.slots k r j (found_entered k also.found) also.names) at.names also.names directory ∙ also.at)
   none _ _ (kind {i = i} found not_file not_directory at) =
       let both : (1 ≤ kind_of image (suc i)) × (kind_of image (suc i) ≤ 2) = scanned.kinds i (found_entered (suc i) found) in
       omega (arith, both.0, both.1, not_file, not_directory)
@@ -80,12 +82,13 @@ module _ (image : Image) (E : ℕ → Type 0) (D : ℕ → ℕ → Type 0) (star
   pub reached_entered : (t : ℕ) → IsReached image t → E t
   reached_entered t reached = found_entered t (reached_found image nothing_fails t reached)
 
-  pub free_blocks : 8 ≤ block_count image → HasAllBlocks image start → AreFreeBlocks image (has left)
+  pub free_blocks : 8 ≤ block_count image → HasAllBlocks image start → AreFreeBlocks image none_kept (has left)
   free_blocks least all = record {
     free = λ b left_in. record {
       low = not_zero b left_in;
       high = in_range b left_in;
       free = λ live. taken b left_in live;
+      loose = refl;
     };
     all = λ b free. still b free (known (has left b));
   }
@@ -119,7 +122,7 @@ module _ (image : Image) (E : ℕ → Type 0) (D : ℕ → ℕ → Type 0) (star
           let here : block_at image (pointer_place image live.tree h.depth h.index) ≡ b = ap block_of (pointer_word image live.tree h.depth h.index _ at) ∙ h.named in
           clash left_in (ap (has left) (sym here) ∙ scanned.takes.gone _ (seen live.tree h.depth h.index _ at) (λ null. h.not_null (sym here ∙ null)))
 
-      still : (b : ℕ) → IsFreeBlock image b → (has left b ≡ true) ⊎ (has left b ≡ false) → has left b ≡ true
+      still : (b : ℕ) → IsFreeBlock image none_kept b → (has left b ≡ true) ⊎ (has left b ≡ false) → has left b ≡ true
       still b free (inl there) = there
       still b free (inr gone) =
           let n : NamesBlock image (IsSeen image E) b = scanned.takes.named b (all.all b free.low free.high) gone in

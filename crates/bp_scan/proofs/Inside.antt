@@ -51,6 +51,11 @@ module _ (image : Image) (work : Scan) (current slot : ℕ) (reading : IsReading
       let few : inode_count image ≤ 64 * block_count image = few_inodes image (root_of image 0) (size_of image 0) inodes_sound inodes_full (omega (arith, reading.ready.formatted.sized.at_least)) reading.ready.inode_blocks in
       omega (arith, few, reading.room.inodes)
 
+  -- an inode that was entered has a kind
+  pub kind_in : (j : ℕ) → 1 ≤ j → IsEntered image work.inodes j → (1 ≤ kind_of image j) × (kind_of image j ≤ 2)
+  kind_in zero some entered = absurd (omega (arith, some))
+  kind_in (suc j) some entered = scanned.kinds j entered
+
   -- an inode in the set is not to do
   pub new_not_to_do : (j : ℕ) → has work.inodes j ≡ true → has work.todo j ≡ false
   new_not_to_do j new = go (known (has work.todo j))
@@ -82,19 +87,19 @@ module _ (image : Image) (work : Scan) (current slot : ℕ) (reading : IsReading
     too_high r j p names at high = inumber (here_entry r j p names at) high
 
     -- another entry named it, or it is the root
-    pub not_new : (j p : ℕ) → EntryNames image current slot j → entry_place image current slot 0 ≡ p → j < inode_count image → has work.inodes j ≡ false → Fails image InodeTwice p
-    not_new zero p names at low gone = absurd (names.not_empty refl)
-    not_new (suc zero) p names at low gone = root_named (here_entry slot 1 p names at)
-    not_new (suc (suc j)) p names at low gone = subst (Fails image InodeTwice) at (by (reading.midway.under_way.named (suc (suc j)) (omega arith) (low, gone)))
+    pub not_new : (j p : ℕ) → EntryNames image current slot j → entry_place image current slot 0 ≡ p → j < inode_count image → has work.inodes j ≡ false → kind_of image j ≡ 2 → Fails image InodeTwice p
+    not_new zero p names at low gone kind_is = absurd (names.not_empty refl)
+    not_new (suc zero) p names at low gone kind_is = root_named (here_entry slot 1 p names at)
+    not_new (suc (suc j)) p names at low gone kind_is = subst (Fails image InodeTwice) at (by (reading.midway.under_way.named (suc (suc j)) (omega arith) (low, gone)))
       where
         by : NamedBy image work.inodes work.todo current slot (suc (suc j)) → Fails image InodeTwice (entry_place image current slot 0)
         by n = go n.done
           where
             go : IsDone image work.inodes work.todo current slot n.directory n.entry → Fails image InodeTwice (entry_place image current slot 0)
             go (inl d) =
-                named_before image E D reading.midway.all work.blocks reading.ready.some_inodes first scanned current slot n.directory n.entry (suc (suc j)) entered d.0 names n.names (λ same other. d.3 (sym same))
+                named_before image E D reading.midway.all work.blocks reading.ready.some_inodes first scanned current slot n.directory n.entry (suc (suc j)) entered d.0 names n.names (scanned.found (suc (suc j)) (low, gone)) kind_is (λ same other. d.3 (sym same))
             go (inr d) =
-                named_before image E D reading.midway.all work.blocks reading.ready.some_inodes first scanned current slot n.directory n.entry (suc (suc j)) entered (subst (IsEntered image work.inodes) (sym d.0) entered) names n.names
+                named_before image E D reading.midway.all work.blocks reading.ready.some_inodes first scanned current slot n.directory n.entry (suc (suc j)) entered (subst (IsEntered image work.inodes) (sym d.0) entered) names n.names (scanned.found (suc (suc j)) (low, gone)) kind_is
                 (λ same other. omega (arith, other, d.1))
 
     used_names : (r : ℕ) → IsUsed image (root_of image current) (size_of image current) r → EntryNames image current r (inumber_at image current r)

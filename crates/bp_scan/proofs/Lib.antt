@@ -1,5 +1,6 @@
 pub mod Entering
 pub mod Readable
+pub mod Named
 pub mod ProgressLaws
 pub mod EntryStep
 pub mod Frontier
@@ -14,3 +15,4 @@ pub mod Inside
 pub mod EntryLaws
 pub mod DirectoryLaws
 pub mod Closing
+pub mod SecondFile

@@ -1,6 +1,8 @@
 -- In the middle of a scan the inode file and each directory that was entered can be read: they are sound and have no null.
 use Rattle.std.proofs.Common.{◌≡◌, ◌≢◌, ◌⊎◌, ℕ, zero, suc, ◌+◌, ◌*◌, ◌/◌, ◌%◌, ◌<◌, ◌≤◌, refl, arith, inl, inr}
 use Rattle.bp_free.specs.Set.{Set}
+use Rattle.bp_limits.proofs.Versions.{height_most}
+use Rattle.bp_layout.specs.Formatted.{version_of}
 use Rattle.bp_layout.specs.Words.{Image, block_count, height_of}
 use Rattle.bp_layout.specs.Tree.{node, IsLivePointer, IsSound, IsFull}
 use Rattle.bp_layout.specs.Inode.{kind_of, root_of, size_of, inode_count}
@@ -38,8 +40,8 @@ module _ (image : Image) (E : ℕ → Type 0) (D : ℕ → ℕ → Type 0) (all 
 
   pub is_sound : IsSound image (root_of image t) (size_of image t)
   is_sound = record {
-    low = λ some. let p : Passes image (root_of image t) 0 0 = passes 0 0 (top some) in omega (arith, p.0);
-    root_bits = λ some. let p : Passes image (root_of image t) 0 0 = passes 0 0 (top some) in omega (arith, p.0);
+    low = λ some. let p : Passes image (root_of image t) 0 0 = passes 0 0 (top some) in omega (arith, p.0, height_most (version_of image));
+    root_bits = λ some. let p : Passes image (root_of image t) 0 0 = passes 0 0 (top some) in omega (arith, p.0, height_most (version_of image));
     pointer_bits = λ d k live. (passes (suc d) k live).0;
     in_range = λ d k live. in_range d k (passes d k live);
     once = λ d k e l live also present same.
@@ -110,7 +112,7 @@ one_entry image E D all left some first scanned i s j k r h entered also n m pla
 
 -- the check InodeTwice at the entry at hand, where another entry named the inode
 pub named_before : (image : Image) (E : ℕ → Type 0) (D : ℕ → ℕ → Type 0) (all left : Set) → 4096 ≤ size_of image 0 → E 0 → IsScanned image E D all left → (i s k r j : ℕ) → E i → E k →
-    EntryNames image i s j → EntryNames image k r j → ((i ≡ k) → (s ≡ r) → ⊥) → Fails image InodeTwice (entry_place image i s 0)
-named_before image E D all left some first scanned i s k r j entered also n m other =
+    EntryNames image i s j → EntryNames image k r j → IsFound image j → kind_of image j ≡ 2 → ((i ≡ k) → (s ≡ r) → ⊥) → Fails image InodeTwice (entry_place image i s 0)
+named_before image E D all left some first scanned i s k r j entered also n m found kind other =
     inode_twice (entry_seen image E D all left some first scanned i s j entered n) (entry_seen image E D all left some first scanned k r j also m)
-    (λ same. let both : (i ≡ k) × (s ≡ r) = one_entry image E D all left some first scanned i s j k r j entered also n m same in other both.0 both.1)
+    (λ same. let both : (i ≡ k) × (s ≡ r) = one_entry image E D all left some first scanned i s j k r j entered also n m same in other both.0 both.1) found kind

@@ -1,5 +1,5 @@
 -- The start of a scan: the inode file is entered, and then the root directory.
-use Rattle.std.proofs.Common.{◌≡◌, ◌≢◌, ◌⊎◌, ℕ, ◌*◌, ◌/◌, ◌%◌, ◌<◌, ◌≤◌, true, false, length, refl, sym, ◌∙◌, ap, subst, arith, inl, inr}
+use Rattle.std.proofs.Common.{◌≡◌, ◌≢◌, ◌⊎◌, ℕ, ◌*◌, ◌/◌, ◌%◌, ◌<◌, ◌≤◌, true, false, length, replicate, refl, sym, ◌∙◌, ap, subst, arith, inl, inr}
 use Rattle.std.proofs.lemmas.Bool.{cases_lt}
 use Rattle.std.proofs.lemmas.List.{length-replicate}
 use Rattle.bp_free.specs.Set.{Set, has, with, empty, Fills}
@@ -17,13 +17,14 @@ use Rattle.bp_walk.specs.Walk.{TakesTree, FailsTree}
 use Rattle.bp_walk.proofs.TakenLaws.{clash}
 use Rattle.bp_scan.specs.Scanned.{HasAllBlocks}
 use Rattle.bp_scan.specs.Inodes.{EntersInode, FailsInode}
-use Rattle.bp_scan.specs.Progress.{IsUnderWay}
+use Rattle.bp_scan.specs.Named.{CountsAmong}
+use Rattle.bp_scan.specs.Progress.{IsDone, IsUnderWay}
 use Rattle.bp_scan.specs.Reading.{HasWholeInodes, HasInodeFile, IsReading}
-use Rattle.bp_scan.specs.Room.{HasRoom}
+use Rattle.bp_scan.specs.Room.{HasScanMemory}
 use Rattle.bp_scan.specs.declared.work.Scan.{Scan}
 use Rattle.bp_scan.proofs.Entering.{enter, fails_tree, nothing_seen}
 use Rattle.bp_scan.proofs.Readable.{is_sound, is_full, content_followed}
-use Rattle.bp_scan.proofs.ProgressLaws.{started}
+use Rattle.bp_scan.proofs.ProgressLaws.{started, started_counts}
 use Rattle.bp_layout.proofs.FewLeaves.{few_inodes}
 use Rattle.bp_scan.proofs.InodePlaces.{moved}
 use Rattle.bp_scan.proofs.InodeFaults.{fails_inode, inode_of}
@@ -77,9 +78,9 @@ module _ (image : Image) (ready : HasWholeInodes image) (all left : Set) (whole 
   pub root_fails : (c : Check) (p : ℕ) → FailsInode image 1 left c p → Fails image c p
   root_fails c p fails = fails_inode image File NoEntry all left whole ready.some_inodes (inr refl) file 1 (omega arith) root_found not_root c p fails
 
-  pub reading_starts : (none : Set) (before after : Scan) → HasRoom image after → none ≡ empty (64 * block_count image) → Fills 2 (inode_count image) none before.inodes →
-      before.todo ≡ empty (64 * block_count image) → left ≡ before.blocks → EntersInode image 1 before after → IsReading image after 0 0
-  reading_starts none before after room none_is fills todo_is left_is enters = record {
+  pub reading_starts : (none : Set) (before after : Scan) → HasScanMemory image after → none ≡ empty (64 * block_count image) → Fills 2 (inode_count image) none before.inodes →
+      before.todo ≡ empty (64 * block_count image) → before.counts ≡ replicate (64 * block_count image) 0 → left ≡ before.blocks → EntersInode image 1 before after → IsReading image after 0 0
+  reading_starts none before after room none_is fills todo_is counts_are left_is enters = record {
     ready = ready;
     room = room;
     range = λ i there. in_range i (ap (λ (s : Set). has s i) (sym enters.inodes) ∙ there) (cases_lt i 2) (cases_lt i (inode_count image));
@@ -91,6 +92,9 @@ module _ (image : Image) (ready : HasWholeInodes image) (all left : Set) (whole 
           (started image all after.blocks before.inodes after.todo ready.some_inodes kind (λ t two low. fills.inside t two low) (λ t low. fills.below t low ∙ none_has t) listed alone
           (enter image File NoEntry all left after.blocks 1 enters.holes file root_found (inode_of image 1 enters.right) which tree));
     };
+    counts = subst (CountsAmong image (IsDone image after.inodes after.todo 0 0)) (sym (enters.counts ∙ counts_are))
+        (subst (λ (s : Set). CountsAmong image (IsDone image s after.todo 0 0) (replicate (64 * block_count image) 0)) (sym enters.inodes)
+        (started_counts image before.inodes after.todo (64 * block_count image) (λ t two low. fills.inside t two low) listed));
   }
     where
       kind : kind_of image 1 ≡ 2

@@ -1,5 +1,6 @@
 pub mod Scanned
 pub mod Progress
+pub mod Named
 pub mod Faults
 pub mod Totals
 pub mod Length

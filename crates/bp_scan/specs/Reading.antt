@@ -1,5 +1,5 @@
 -- What holds while the trees of an image are read.
-use Rattle.std.specs.Prelude.{length, true, false, ◌≡◌, ◌⊎◌, ℕ, ◌+◌, ◌*◌, ◌%◌, ◌<◌, ◌≤◌}
+use Rattle.std.specs.Prelude.{length, replicate, true, false, ◌≡◌, ◌⊎◌, ℕ, ◌+◌, ◌*◌, ◌%◌, ◌<◌, ◌≤◌}
 use Rattle.bp_free.specs.Set.{Set, has, members, empty}
 use Rattle.bp_limits.specs.Limits.{block_size, block_inodes, root_inumber}
 use Rattle.bp_layout.specs.Words.{Image, block_count}
@@ -7,8 +7,9 @@ use Rattle.bp_layout.specs.Inode.{IsDirectory, inode_count, root_of, size_of}
 use Rattle.bp_layout.specs.Formatted.{IsFormatted}
 use Rattle.bp_spelling.specs.Names.{AreNames}
 use Rattle.bp_scan.specs.Scanned.{IsScanned}
-use Rattle.bp_scan.specs.Progress.{IsEntered, IsMidway}
-use Rattle.bp_scan.specs.Room.{HasRoom}
+use Rattle.bp_scan.specs.Progress.{IsDone, IsEntered, IsMidway}
+use Rattle.bp_scan.specs.Named.{CountsAmong}
+use Rattle.bp_scan.specs.Room.{HasScanMemory}
 use Rattle.bp_scan.specs.declared.directories.Directory.{Directory}
 use Rattle.bp_scan.specs.declared.work.Scan.{Scan}
 
@@ -22,20 +23,22 @@ pub record HasWholeInodes (image : Image) : Type 0 where
 abbrev pub HasInodeFile : Image → Set → Set → Type 0
 HasInodeFile image all left = IsScanned image (λ t. ⊥ ⊎ (t ≡ 0)) (λ i s. ⊥) all left
 
--- nothing was entered: the sets are empty
+-- nothing was entered: the sets are empty, and no name is counted
 pub record IsUnread (image : Image) (work : Scan) : Type 0 where
-  pub room : HasRoom image work
+  pub room : HasScanMemory image work
   pub blocks : work.blocks ≡ empty (block_count image)
   pub inodes : work.inodes ≡ empty (block_inodes * block_count image)
   pub todo : work.todo ≡ empty (block_inodes * block_count image)
+  pub counts : work.counts ≡ replicate (block_inodes * block_count image) 0
 
 -- the work in the middle of a scan; the directory at hand is 0 between directories
 pub record IsReading (image : Image) (work : Scan) (current slot : ℕ) : Type 0 where
   pub ready : HasWholeInodes image
-  pub room : HasRoom image work
+  pub room : HasScanMemory image work
   pub range : (i : ℕ) → has work.inodes i ≡ true → (2 ≤ i) × (i < inode_count image)
   pub root_kind : IsDirectory image root_inumber
   pub midway : IsMidway image work.blocks work.inodes work.todo current slot
+  pub counts : CountsAmong image (IsDone image work.inodes work.todo current slot) work.counts
 
 -- a directory is at hand
 pub record IsAtHand (image : Image) (work : Scan) (current slot : ℕ) : Type 0 where

@@ -5,12 +5,13 @@ use Rattle.bp_layout.specs.Words.{Image, block_count}
 use Rattle.bp_scan.specs.declared.pending.Pending.TheInside.{Inside}
 use Rattle.bp_scan.specs.declared.work.Scan.{Scan}
 
--- a flag for each block, two for each inode, and memory reserved for as many entries as a directory may have: to a
+-- a flag for each block, two and a count for each inode, and memory reserved for as many entries as a directory may have: to a
 -- block 64 inodes and 16 entries
-pub record HasRoom (image : Image) (work : Scan) : Type 0 where
+pub record HasScanMemory (image : Image) (work : Scan) : Type 0 where
   pub blocks : length work.blocks ≡ block_count image
   pub inodes : length work.inodes ≡ block_inodes * block_count image
   pub todo : length work.todo ≡ block_inodes * block_count image
+  pub counts : length work.counts ≡ block_inodes * block_count image
   pub entries : block_entries * block_count image ≤ vec_capacity work.entries
 
 -- the same between scans, but for the sets that are lent

@@ -39,7 +39,7 @@ pub record IsScanned (image : Image) (E : ℕ → Type 0) (D : ℕ → ℕ → T
   pub forms : (i s j : ℕ) → D i s → EntryNames image i s j → IsName (name_at image i s)
   pub enters : (i s j : ℕ) → D i s → EntryNames image i s j → E j
   pub named_once : (i s k r j : ℕ) → D i s → D k r → EntryNames image i s j → EntryNames image k r j
-      → entry_place image i s 0 ≡ entry_place image k r 0
+      → IsDirectory image j → entry_place image i s 0 ≡ entry_place image k r 0
   pub names_once : (i s r j k : ℕ) → D i s → D i r → EntryNames image i s j → EntryNames image i r k
       → name_at image i s ≡ name_at image i r → s ≡ r
 

@@ -8,6 +8,7 @@ use Rattle.bp_layout.specs.Free.{HasFree}
 use Rattle.bp_layout.specs.Inode.{kind_of, size_of}
 use Rattle.bp_layout.specs.Reached.{IsReached}
 use Rattle.bp_scan.specs.declared.totals.Totals.{Totals}
+use Rattle.bp_layout.specs.Thaw.{none_kept}
 
 -- the inodes that the root directory reaches, itself among them, rising
 pub record AreReached (image : Image) (inodes : List ℕ) : Type 0 where
@@ -25,7 +26,7 @@ file_bytes image i = if kind_of image i == file_kind then size_of image i else 0
 
 -- so many blocks are live: all but the first and the free ones
 abbrev pub HasLive : Image → ℕ → Type 0
-HasLive image live = (free : ℕ) → HasFree image free → live + free + 1 ≡ block_count image
+HasLive image live = (free : ℕ) → HasFree image none_kept free → live + free + 1 ≡ block_count image
 
 -- How many files and directories there are, the root directory among them, the bytes of all files, and the live blocks.
 pub record HasTotals (image : Image) (totals : Totals) : Type 0 where

@@ -1,12 +1,14 @@
 //! The directories of an image, one after the other.
 
-ghost use Rattle.std.specs.Prelude.{◌≡◌, ◌+◌, ◌*◌, ◌/◌, ◌%◌, ◌<◌, ◌≤◌, min, vec_capacity, OnOk, IfErr};
+ghost use Rattle.std.specs.Prelude.{◌≡◌, ◌≢◌, false, ◌+◌, ◌*◌, ◌/◌, ◌%◌, ◌<◌, ◌≤◌, min, vec_capacity, OnOk, IfErr};
+ghost use Rattle.bp_free.specs.Set.{has};
 ghost use Rattle.bp_layout.specs.Checks.{Fails};
+ghost use Rattle.bp_layout.specs.Inode.{inode_count};
 ghost use Rattle.bp_layout.specs.Directory.{inumber_in};
 ghost use Rattle.bp_layout.specs.Tree.{IsFull, IsSound};
 ghost use Rattle.bp_limits.specs.Limits.{block_entries, entry_size};
 ghost use Rattle.bp_scan.specs.Reading.{IsReading, IsAtHand, IsInside, steps};
-ghost use Rattle.bp_scan.specs.Room.{HasRoom};
+ghost use Rattle.bp_scan.specs.Room.{HasScanMemory};
 ghost use Rattle.bp_scan.specs.Misspelled.{FailsNames};
 ghost use Rattle.bp_spelling.specs.Names.{AreNames, entry_place_in};
 ghost use Rattle.pm_region.specs.Memory.{current_words};
@@ -15,7 +17,7 @@ use crate::trees::enter;
 use crate::work::{Scan, make_room};
 use bp_dirs::entry_place;
 use bp_inodes::{get, inode_file};
-use bp_layout::Check;
+use bp_layout::{Check, Kind};
 use bp_limits::{BLOCK_ENTRIES, ENTRY_SIZE, ENTRY_WORDS, INODE_SIZE};
 use bp_spelling::{NameFault, Spelled, check_names, named_in_row};
 use bp_tree::Tree;
@@ -42,6 +44,39 @@ pub(crate) struct Slot {
     pub named: u64,
 }
 
+/// Reads an entry that names an inode which was entered before: a file may have more names than one.
+fn read_again<R: Region>(
+    region: &R,
+    directory: Directory,
+    slot: Slot,
+    work: &mut Scan,
+) -> Result<(), CheckFault>
+    requires inside { IsInside (current_words (R.memory region.now)) work.old directory slot.number }
+    requires live { slot.number < directory.tree.size / entry_size }
+    requires place { slot.place ≡ entry_place_in (current_words (R.memory region.now)) directory.tree.root slot.number }
+    requires named { slot.named ≡ inumber_in (current_words (R.memory region.now)) directory.tree.root slot.number }
+    requires some { slot.named ≢ 0 }
+    requires there { slot.named < inode_count (current_words (R.memory region.now)) }
+    requires entered { has work.old.inodes slot.named ≡ false }
+    ensures inside { OnOk result (IsInside (current_words (R.memory region.now)) work.new directory (slot.number + 1)) }
+    ensures steps { OnOk result (steps work.new ≤ steps work.old) }
+    ensures fault { IfErr result (λ f. Fails (current_words (R.memory region.now)) f.check f.place) }
+    ensures room { HasScanMemory (current_words (R.memory region.now)) work.new }
+{
+    let inode = slot.named as u32;
+    match get(region, inode).kind {
+        Kind::File => {
+            let names = work.counts.names(inode);
+            work.counts.set(inode, names + 1);
+            Ok(())
+        }
+        Kind::Dir => Err(CheckFault {
+            check: Check::InodeTwice,
+            place: slot.place,
+        }),
+    }
+}
+
 /// Reads an entry, and enters the inode that it names.
 fn read_entry<R: Region>(
     region: &R,
@@ -56,7 +91,7 @@ fn read_entry<R: Region>(
     ensures inside { OnOk result (IsInside (current_words (R.memory region.now)) work.new directory (slot.number + 1)) }
     ensures steps { OnOk result (steps work.new ≤ steps work.old) }
     ensures fault { IfErr result (λ f. Fails (current_words (R.memory region.now)) f.check f.place) }
-    ensures room { HasRoom (current_words (R.memory region.now)) work.new }
+    ensures room { HasScanMemory (current_words (R.memory region.now)) work.new }
 {
     let named = slot.named;
     if named == 0 {
@@ -71,12 +106,10 @@ fn read_entry<R: Region>(
     }
     let inode = named as u32;
     if !work.inodes.is_free(inode) {
-        return Err(CheckFault {
-            check: Check::InodeTwice,
-            place,
-        });
+        return read_again(region, directory, slot, work);
     }
     work.inodes.claim(inode);
+    work.counts.set(inode, 1);
     enter(region, inode, work)
 }
 
@@ -95,7 +128,7 @@ fn read_leaf<R: Region>(
         OnOk result (IsInside words work.new directory end) }
     ensures steps { OnOk result (steps work.new ≤ steps work.old) }
     ensures fault { IfErr result (λ f. Fails (current_words (R.memory region.now)) f.check f.place) }
-    ensures room { HasRoom (current_words (R.memory region.now)) work.new }
+    ensures room { HasScanMemory (current_words (R.memory region.now)) work.new }
 {
     let place = entry_place(region, directory.tree, first, 0);
     let count = (directory.tree.size / ENTRY_SIZE - first).min(BLOCK_ENTRIES) as u32;
@@ -122,7 +155,7 @@ fn read_entries<R: Region>(
         OnOk result (IsInside words work.new directory (directory.tree.size / entry_size)) }
     ensures steps { OnOk result (steps work.new ≤ steps work.old) }
     ensures fault { IfErr result (λ f. Fails (current_words (R.memory region.now)) f.check f.place) }
-    ensures room { HasRoom (current_words (R.memory region.now)) work.new }
+    ensures room { HasScanMemory (current_words (R.memory region.now)) work.new }
 {
     for leaf in 0..(directory.tree.size / ENTRY_SIZE).div_ceil(BLOCK_ENTRIES) {
         read_leaf(region, directory, BLOCK_ENTRIES * leaf, work)?;
@@ -168,7 +201,7 @@ pub(crate) fn read_directory<R: Region>(
     ensures done { OnOk result (IsReading (current_words (R.memory region.now)) work.new 0 0) }
     ensures steps { OnOk result (steps work.new ≤ steps work.old) }
     ensures fault { IfErr result (λ f. Fails (current_words (R.memory region.now)) f.check f.place) }
-    ensures room { HasRoom (current_words (R.memory region.now)) work.new }
+    ensures room { HasScanMemory (current_words (R.memory region.now)) work.new }
 {
     let words = get(region, inode);
     let tree = Tree::of(&words);

@@ -11,6 +11,7 @@ ghost use Rattle.bp_layout.specs.Inode.{IsDirectory, inode_count, root_of, size_
 ghost use Rattle.bp_layout.specs.WellFormed.{IsWellFormed};
 ghost use Rattle.bp_walk.specs.Walk.{FailsTree};
 ghost use Rattle.bp_scan.specs.Progress.{IsMidway};
+ghost use Rattle.bp_layout.specs.Thaw.{none_kept};
 
 use bp_free::{Blocks, Inodes};
 
@@ -25,7 +26,7 @@ pub fn nothing_is_left(image: &[u64], blocks: &Blocks, inodes: &Inodes, todo: &I
     requires midway { IsMidway image.now blocks.now inodes.now todo.now 0 0 }
     requires none_left { (i : ℕ) → has todo.now i ≡ false }
     ensures well_formed { IsWellFormed image.now }
-    ensures blocks { AreFreeBlocks image.now (has blocks.now) }
+    ensures blocks { AreFreeBlocks image.now none_kept (has blocks.now) }
     ensures inodes { AreFreeInodes image.now (has inodes.now) }
 {}
 

@@ -1,9 +1,9 @@
-//! The scan of an image at mount: whether it is a file system, what is wrong where it is none, and which blocks and
-//! inodes are free.
+//! The scan of an image at mount: whether it is a file system, what is wrong where it is none, which blocks and inodes
+//! are free, and how many names each inode has.
 //!
 //! A scan starts with the set of all blocks but the first and of all inodes from 2 on. It takes the blocks of each tree
 //! that it enters out of the first set, each inode that an entry names out of the second, and keeps the directories
-//! that are still to be read in a third.
+//! that are still to be read in a third. With each entry it counts one name more of the inode that the entry names.
 #![tactic(auto)]
 
 mod directories;

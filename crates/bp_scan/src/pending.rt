@@ -3,7 +3,7 @@
 ghost use Rattle.std.specs.Prelude.{◌≡◌, IfOk};
 
 use crate::work::{SPARE, Scan};
-use bp_free::{Blocks, Inodes};
+use bp_free::{Blocks, Counts, Inodes};
 use std::alloc::{AllocError, Global};
 use std::marker::Model;
 
@@ -11,7 +11,7 @@ use std::marker::Model;
 /// the number of inodes that it was made for.
 #[derive(Drop)]
 pub struct Pending {
-    /// Its sets of blocks and inodes have no room of their own: a scan lends it those that it fills.
+    /// Its sets of blocks and inodes and its counts have no room of their own: a scan lends it those that it fills.
     pub(crate) work: Scan,
     inodes: u32,
 }
@@ -36,6 +36,7 @@ impl Pending {
             blocks: Blocks::new(alloc, 0)?,
             inodes: Inodes::new(alloc, 0)?,
             todo: Inodes::new(alloc, inodes)?,
+            counts: Counts::new(alloc, 0)?,
             entries: Vec::with_capacity(alloc, 3 * (inodes as usize / 4) + SPARE)?,
         };
         Ok(Pending { work, inodes })

@@ -1,16 +1,18 @@
 //! The scan of an image.
 
-ghost use Rattle.std.specs.Prelude.{◌≡◌, ◌*◌, ◌≤◌, ◌↔◌, length, IsOk, OnOk, OnErr, IfOk, IfErr};
+ghost use Rattle.std.specs.Prelude.{◌≡◌, ◌*◌, ◌≤◌, ◌↔◌, length, replicate, IsOk, OnOk, OnErr, IfOk, IfErr};
 ghost use Rattle.bp_free.specs.Set.{has, empty};
 ghost use Rattle.bp_layout.specs.Formatted.{IsFormatted, IsSized};
 ghost use Rattle.bp_layout.specs.Free.{AreFreeBlocks, AreFreeInodes};
-ghost use Rattle.bp_layout.specs.WellFormed.{IsWellFormed};
+ghost use Rattle.bp_layout.specs.Names.{AreCounts};
+ghost use Rattle.bp_layout.specs.Whole.{IsFileSystem};
 ghost use Rattle.bp_layout.specs.Words.{block_count, word};
 ghost use Rattle.bp_limits.specs.Limits.{block_inodes, block_words, super_blocks, super_magic, super_root, super_size};
 ghost use Rattle.bp_scan.specs.Faults.{IsFault};
-ghost use Rattle.bp_scan.specs.Room.{HasRoom};
+ghost use Rattle.bp_scan.specs.Room.{HasScanMemory};
 ghost use Rattle.bp_scan.specs.Totals.{HasTotals};
 ghost use Rattle.pm_region.specs.Memory.{current_words};
+ghost use Rattle.bp_layout.specs.Thaw.{none_kept};
 
 use crate::fault::MountFault;
 use crate::pending::Pending;
@@ -18,10 +20,10 @@ use crate::reading::read_trees;
 use crate::totalling::all_totals;
 use crate::totals::Totals;
 use crate::work::Scan;
-use bp_free::{Blocks, Inodes};
+use bp_free::{Blocks, Counts, Inodes};
 use bp_layout::Super;
 use bp_limits::{
-    BLOCK_SIZE, BLOCK_WORDS, MAGIC, SUPER_BLOCKS, SUPER_MAGIC, SUPER_ROOT, SUPER_SIZE,
+    BLOCK_SIZE, BLOCK_WORDS, SUPER_BLOCKS, SUPER_MAGIC, SUPER_ROOT, SUPER_SIZE, Version,
 };
 use pm_region::Region;
 use std::mem;
@@ -42,19 +44,20 @@ fn read_superblock<R: Region>(region: &R) -> Super
     ])
 }
 
-/// Whether an image begins with the mark of a format, and was formatted for the blocks that it has.
+/// Whether an image begins with the mark of a version, and was formatted for the blocks that it has.
 ///
 /// # Errors
 ///
-/// `NotFormatted` exactly where word 0 is not the mark; `BadSize` exactly where it is, and word 1 is not the number of
-/// blocks.
+/// `NotFormatted` exactly where word 0 is the mark of none; `BadSize` exactly where it is, and word 1 is not the number
+/// of blocks.
 fn check_superblock<R: Region>(region: &R) -> Result<(), MountFault>
     requires sized { IsSized (current_words (R.memory region.now)) }
     ensures formatted { OnOk result (IsFormatted (current_words (R.memory region.now))) }
     ensures fault { IfErr result (IsFault (current_words (R.memory region.now))) }
 {
     let superblock = read_superblock(region);
-    if superblock.magic != MAGIC {
+    let mark = Version::at(superblock.magic).magic();
+    if superblock.magic != mark {
         return Err(MountFault::NotFormatted);
     }
     let blocks = u64::from(region.words() / BLOCK_WORDS);
@@ -67,18 +70,20 @@ fn check_superblock<R: Region>(region: &R) -> Result<(), MountFault>
     Ok(())
 }
 
-/// Does what [`scan`] does, with the two sets in the work.
+/// Does what [`scan`] does, with the two sets and the counts in the work.
 fn scan_with<R: Region>(region: &R, work: &mut Scan) -> Result<Totals, MountFault>
     requires sized { IsSized (current_words (R.memory region.now)) }
-    requires room { HasRoom (current_words (R.memory region.now)) work.old }
-    ensures well_formed { IsOk result ↔ IsWellFormed (current_words (R.memory region.now)) }
-    ensures blocks { OnOk result (AreFreeBlocks (current_words (R.memory region.now)) (has work.new.blocks)) }
+    requires room { HasScanMemory (current_words (R.memory region.now)) work.old }
+    ensures well_formed { IsOk result ↔ IsFileSystem (current_words (R.memory region.now)) }
+    ensures blocks { OnOk result (AreFreeBlocks (current_words (R.memory region.now)) none_kept (has work.new.blocks)) }
     ensures inodes { OnOk result (AreFreeInodes (current_words (R.memory region.now)) (has work.new.inodes)) }
+    ensures counts { OnOk result (AreCounts (current_words (R.memory region.now)) work.new.counts) }
     ensures totals { IfOk result (HasTotals (current_words (R.memory region.now))) }
     ensures fault { IfErr result (IsFault (current_words (R.memory region.now))) }
     ensures no_blocks { OnErr result (work.new.blocks ≡ empty (length work.old.blocks)) }
     ensures no_inodes { OnErr result (work.new.inodes ≡ empty (length work.old.inodes)) }
-    ensures room { HasRoom (current_words (R.memory region.now)) work.new }
+    ensures no_counts { OnErr result (work.new.counts ≡ replicate (length work.old.counts) 0) }
+    ensures room { HasScanMemory (current_words (R.memory region.now)) work.new }
 {
     work.clear();
     check_superblock(region)?;
@@ -94,41 +99,49 @@ fn scan_with<R: Region>(region: &R, work: &mut Scan) -> Result<Totals, MountFaul
     }
 }
 
-/// Reads the whole image in a region of 8 to 16,384 blocks of 512 words: puts the free blocks and the free inodes into
-/// the sets, whatever they had, and tells what the image holds in all. It takes time linear in the words that are in
-/// use but for the sort of each directory's names.
+/// Reads the whole image in a region of 8 to 65,536 blocks of 512 words: puts the free blocks and the free inodes into
+/// the sets and the number of names of each inode into the counts, whatever they had, and tells what the image holds in
+/// all. It takes time linear in the words that are in use and in the room of sets and counts, but for the sort of each
+/// directory's names.
 ///
 /// # Errors
 ///
-/// `NotFormatted` exactly where word 0 is not the mark of a format; `BadSize` exactly where it is, and word 1 is not the
+/// `NotFormatted` exactly where word 0 is the mark of no version; `BadSize` exactly where it is, and word 1 is not the
 /// number of blocks; `Damaged` exactly where both are right and a check of the format fails, with one that fails and
-/// where. The sets are then empty. It is never `Memory`.
+/// where. The sets are then empty, and each count is 0. It is never `Memory`.
 pub fn scan<R: Region>(
     region: &R,
     blocks: &mut Blocks,
     inodes: &mut Inodes,
     pending: &mut Pending,
+    counts: &mut Counts,
 ) -> Result<Totals, MountFault>
     requires sized { IsSized (current_words (R.memory region.now)) }
     requires blocks { length blocks.old ≡ block_count (current_words (R.memory region.now)) }
     requires inodes { length inodes.old ≡ block_inodes * block_count (current_words (R.memory region.now)) }
     requires pending { pending.old ≡ block_inodes * block_count (current_words (R.memory region.now)) }
-    ensures well_formed { IsOk result ↔ IsWellFormed (current_words (R.memory region.now)) }
-    ensures blocks { OnOk result (AreFreeBlocks (current_words (R.memory region.now)) (has blocks.new)) }
+    requires counts { length counts.old ≡ block_inodes * block_count (current_words (R.memory region.now)) }
+    ensures well_formed { IsOk result ↔ IsFileSystem (current_words (R.memory region.now)) }
+    ensures blocks { OnOk result (AreFreeBlocks (current_words (R.memory region.now)) none_kept (has blocks.new)) }
     ensures inodes { OnOk result (AreFreeInodes (current_words (R.memory region.now)) (has inodes.new)) }
+    ensures counts { OnOk result (AreCounts (current_words (R.memory region.now)) counts.new) }
     ensures totals { IfOk result (HasTotals (current_words (R.memory region.now))) }
     ensures fault { IfErr result (IsFault (current_words (R.memory region.now))) }
     ensures no_blocks { OnErr result (blocks.new ≡ empty (length blocks.old)) }
     ensures no_inodes { OnErr result (inodes.new ≡ empty (length inodes.old)) }
+    ensures no_counts { OnErr result (counts.new ≡ replicate (length counts.old) 0) }
     ensures block_room { length blocks.new ≡ length blocks.old }
     ensures inode_room { length inodes.new ≡ length inodes.old }
+    ensures count_room { length counts.new ≡ length counts.old }
     ensures pending { pending.new ≡ pending.old }
 {
-    // The sets of a volume stand behind a reference, so they are lent: the work's own have no room.
+    // The sets and counts of a volume stand behind a reference, so they are lent: the work's own have no room.
     mem::swap(blocks, &mut pending.work.blocks);
     mem::swap(inodes, &mut pending.work.inodes);
+    mem::swap(counts, &mut pending.work.counts);
     let told = scan_with(region, &mut pending.work);
     mem::swap(blocks, &mut pending.work.blocks);
     mem::swap(inodes, &mut pending.work.inodes);
+    mem::swap(counts, &mut pending.work.counts);
     told
 }

@@ -11,6 +11,7 @@ ghost use Rattle.bp_layout.specs.Words.{block_count};
 ghost use Rattle.bp_scan.specs.Counted.{HasCounted};
 ghost use Rattle.bp_scan.specs.Totals.{HasTotals};
 ghost use Rattle.pm_region.specs.Memory.{current_words};
+ghost use Rattle.bp_layout.specs.Thaw.{none_kept};
 
 use crate::totals::Totals;
 use bp_free::{Blocks, Inodes};
@@ -50,7 +51,7 @@ fn count_inode<R: Region>(region: &R, inodes: &Inodes, i: u32, totals: Totals) -
 /// The totals, in a pass over the inodes that are not free.
 pub(crate) fn all_totals<R: Region>(region: &R, blocks: &Blocks, inodes: &Inodes) -> Totals
     requires well_formed { IsWellFormed (current_words (R.memory region.now)) }
-    requires blocks { AreFreeBlocks (current_words (R.memory region.now)) (has blocks.now) }
+    requires blocks { AreFreeBlocks (current_words (R.memory region.now)) none_kept (has blocks.now) }
     requires inodes { AreFreeInodes (current_words (R.memory region.now)) (has inodes.now) }
     requires reached { let words = current_words (R.memory region.now) in
         (i : ℕ) → 1 ≤ i → i < inode_count words → has inodes.now i ≡ false → IsReached words i }

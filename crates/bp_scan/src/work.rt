@@ -1,15 +1,16 @@
 //! What a scan works with.
 
-ghost use Rattle.std.specs.Prelude.{◌≡◌, ◌≤◌, length, vec_capacity, vec_len};
+ghost use Rattle.std.specs.Prelude.{◌≡◌, ◌≤◌, length, replicate, vec_capacity, vec_len};
 ghost use Rattle.bp_free.specs.Set.{empty};
 
-use bp_free::{Blocks, Inodes};
+use bp_free::{Blocks, Counts, Inodes};
 use bp_spelling::Spelled;
 
 /// How many cells are left over where the entries of the greatest directory have three each.
 pub(crate) const SPARE: usize = 256;
 
-/// What a scan works with. At its end the sets of blocks and of inodes have just those that are free.
+/// What a scan works with. At its end the sets of blocks and of inodes have just those that are free, and the counts
+/// tell how many names each inode has.
 #[derive(Drop)]
 pub(crate) struct Scan {
     /// The blocks of no tree that was entered.
@@ -18,21 +19,25 @@ pub(crate) struct Scan {
     pub inodes: Inodes,
     /// The directories that are still to be read.
     pub todo: Inodes,
+    /// How many of the entries that were read name each inode.
+    pub counts: Counts,
     /// Memory for the entries of the directory at hand.
     pub entries: Vec<Spelled>,
 }
 
 impl Scan {
-    /// Empties the sets.
+    /// Empties the sets, and sets the counts to 0.
     pub fn clear(&mut self)
         ensures blocks { self.new.blocks ≡ empty (length self.old.blocks) }
         ensures inodes { self.new.inodes ≡ empty (length self.old.inodes) }
         ensures todo { self.new.todo ≡ empty (length self.old.todo) }
+        ensures counts { self.new.counts ≡ replicate (length self.old.counts) 0 }
         ensures entries { self.new.entries ≡ self.old.entries }
     {
         self.blocks.clear();
         self.inodes.clear();
         self.todo.clear();
+        self.counts.clear();
     }
 }
 

@@ -8,5 +8,6 @@ pub mod NameText
 pub mod Numbers
 pub mod PlainPath
 pub mod Rows
+pub mod ServedLines
 pub mod Splitting
 pub mod WrittenPieces

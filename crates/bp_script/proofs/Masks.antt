@@ -9,68 +9,44 @@ use Rattle.hex.specs.declared.error.FromHexError.{FromHexError}
 use Rattle.hex.proofs.HexLemmas.{decode_of-ok}
 use Rattle.bp_limits.specs.Limits.{max_read}
 use Rattle.bp_script.specs.Commands.{Command, asked_by, bare_command, bytes_spelled, command_by_words, decoded, in_grammar, is_empty_word, mask_in, masked_crash, number_spelled, pair_command, path_command, read_command, storm_command, truncate_command, whole_crash, word_command, words_of, write_command}
-use Rattle.bp_plain.specs.Calls.Call.{read, rename}
 use Rattle.bp_replay.specs.Wanted.Wanted.{all, nothing}
 use Rattle.bp_script.specs.Commands.Command.{file_call, sync, space, crash, log, bad_syntax}
-use Rattle.bp_plain.specs.Calls.Call.{create, mkdir, unlink, rmdir, list, stat}
+use Rattle.bp_plain.specs.Calls.Call.{create, mkdir, unlink, rmdir, list, stat, read, rename, link, links, upgrade}
 use Rattle.bp_script.proofs.Rows.{parts_within}
 
 -- ---- most commands have none
 
-bare_none : (verb : List ℕ) → mask_in (bare_command verb) ≡ []
-bare_none verb = go (bytes_eq verb (codes "sync")) (bytes_eq verb (codes "space")) (bytes_eq verb (codes "log"))
-  where
-    go : (a b c : Bool) → mask_in (if a then sync else if b then space else if c then log else bad_syntax) ≡ []
-    go true b c = refl
-    go false true c = refl
-    go false false true = refl
-    go false false false = refl
+none_either : (test : Bool) (x y : Command) → mask_in x ≡ [] → mask_in y ≡ [] → mask_in (if test then x else y) ≡ []
+none_either true x y p q = p
+none_either false x y p q = q
 
--- a row of a word and a path, by which word it is
-abbrev row_of : (a b c d e f : Bool) → List ℕ → Command
-row_of a b c d e f path =
-    if a then file_call (create path)
-    else if b then file_call (mkdir path)
-    else if c then file_call (unlink path)
-    else if d then file_call (rmdir path)
-    else if e then file_call (list path)
-    else if f then file_call (stat path)
-    else bad_syntax
+bare_none : (verb : List ℕ) → mask_in (bare_command verb) ≡ []
+bare_none verb =
+    none_either (bytes_eq verb (codes "sync")) sync _ refl
+    (none_either (bytes_eq verb (codes "space")) space _ refl
+    (none_either (bytes_eq verb (codes "log")) log _ refl (none_either (bytes_eq verb (codes "upgrade")) (file_call upgrade) bad_syntax refl refl)))
 
 path_none : (verb path : List ℕ) → mask_in (path_command verb path) ≡ []
 path_none verb path =
-    go (bytes_eq verb (codes "create")) (bytes_eq verb (codes "mkdir")) (bytes_eq verb (codes "unlink")) (bytes_eq verb (codes "rmdir")) (bytes_eq verb (codes "list")) (bytes_eq verb (codes "stat"))
-  where
-    go : (a b c d e f : Bool) → mask_in (row_of a b c d e f path) ≡ []
-    go true b c d e f = refl
-    go false true c d e f = refl
-    go false false true d e f = refl
-    go false false false true e f = refl
-    go false false false false true f = refl
-    go false false false false false true = refl
-    go false false false false false false = refl
+    none_either (bytes_eq verb (codes "create")) (file_call (create path)) _ refl
+    (none_either (bytes_eq verb (codes "mkdir")) (file_call (mkdir path)) _ refl
+    (none_either (bytes_eq verb (codes "unlink")) (file_call (unlink path)) _ refl
+    (none_either (bytes_eq verb (codes "rmdir")) (file_call (rmdir path)) _ refl
+    (none_either (bytes_eq verb (codes "list")) (file_call (list path)) _ refl
+    (none_either (bytes_eq verb (codes "stat")) (file_call (stat path)) _ refl
+    (none_either (bytes_eq verb (codes "links")) (file_call (links path)) bad_syntax refl refl))))))
 
 whole_none : (word : List ℕ) → mask_in (whole_crash word) ≡ []
-whole_none word = go (bytes_eq word (codes "all")) (bytes_eq word (codes "none"))
-  where
-    go : (a b : Bool) → mask_in (if a then crash all else if b then crash nothing else bad_syntax) ≡ []
-    go true b = refl
-    go false true = refl
-    go false false = refl
+whole_none word = none_either (bytes_eq word (codes "all")) (crash all) _ refl (none_either (bytes_eq word (codes "none")) (crash nothing) bad_syntax refl refl)
 
 storm_none : (seed : Option ℕ) → mask_in (storm_command seed) ≡ []
 storm_none None = refl
 storm_none (Some seed) = refl
 
-one_of : (a b : Bool) (x y z : Command) → mask_in x ≡ [] → mask_in y ≡ [] → mask_in z ≡ [] → mask_in (if a then x else if b then y else z) ≡ []
-one_of true b x y z p q r = p
-one_of false true x y z p q r = q
-one_of false false x y z p q r = r
-
 word_none : (verb word : List ℕ) → mask_in (word_command verb word) ≡ []
 word_none verb word =
-    one_of (bytes_eq verb (codes "crash")) (bytes_eq verb (codes "storm")) (whole_crash word) (storm_command (number_spelled word)) (path_command verb word)
-    (whole_none word) (storm_none (number_spelled word)) (path_none verb word)
+    none_either (bytes_eq verb (codes "crash")) (whole_crash word) _ (whole_none word)
+    (none_either (bytes_eq verb (codes "storm")) (storm_command (number_spelled word)) _ (storm_none (number_spelled word)) (path_none verb word))
 
 truncate_none : (path : List ℕ) (size : Option ℕ) → mask_in (truncate_command path size) ≡ []
 truncate_none path None = refl
@@ -78,8 +54,9 @@ truncate_none path (Some size) = refl
 
 pair_none : (verb first second : List ℕ) → mask_in (pair_command verb first second) ≡ []
 pair_none verb first second =
-    one_of (bytes_eq verb (codes "truncate")) (bytes_eq verb (codes "rename")) (truncate_command first (number_spelled second)) (file_call (rename first second)) bad_syntax
-    (truncate_none first (number_spelled second)) refl refl
+    none_either (bytes_eq verb (codes "truncate")) (truncate_command first (number_spelled second)) _ (truncate_none first (number_spelled second))
+    (none_either (bytes_eq verb (codes "rename")) (file_call (rename first second)) _ refl
+    (none_either (bytes_eq verb (codes "link")) (file_call (link first second)) bad_syntax refl refl))
 
 read_none : (path : List ℕ) (off len : Option ℕ) → mask_in (read_command path off len) ≡ []
 read_none path None len = refl

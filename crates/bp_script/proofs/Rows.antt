@@ -12,8 +12,9 @@ use Rattle.std.specs.Str.Parse.{digits_value}
 use Rattle.hex.specs.Hex.{decode_of, is_hex_digit}
 use Rattle.hex.specs.declared.error.FromHexError.{FromHexError}
 use Rattle.hex.proofs.HexLemmas.{decode_of-ok}
-use Rattle.bp_script.specs.Commands.{asked_by, bare_command, bytes_spelled, decoded, is_empty_word, long_command, masked_crash, number_spelled, path_bytes, read_command, truncate_command, words_of, write_command}
-use Rattle.bp_script.specs.Commands.Command.{bad_syntax, log, space, sync}
+use Rattle.bp_plain.specs.Calls.Call.{upgrade}
+use Rattle.bp_script.specs.Commands.{Command, asked_by, bare_command, bytes_spelled, decoded, is_empty_word, long_command, masked_crash, number_spelled, path_bytes, read_command, words_of, write_command}
+use Rattle.bp_script.specs.Commands.Command.{bad_syntax, file_call, log, space, sync}
 use Rattle.bp_script.specs.Lines.{path_row}
 use Rattle.bp_script.specs.declared.lines.PathVerb.{PathVerb}
 use Rattle.bp_script.specs.declared.lines.PathVerb.TheVariants as verb
@@ -145,19 +146,17 @@ decoded-path verb.Unlink path = refl
 decoded-path verb.Rmdir path = refl
 decoded-path verb.List path = refl
 decoded-path verb.Stat path = refl
+decoded-path verb.Links path = refl
+
+decoded_either : (test : Bool) (x y : Command) → x ≡ decoded x → y ≡ decoded y → (if test then x else y) ≡ decoded (if test then x else y)
+decoded_either true x y p q = p
+decoded_either false x y p q = q
 
 decoded-bare : (verb : List ℕ) → bare_command verb ≡ decoded (bare_command verb)
-decoded-bare verb = go (bytes_eq verb (codes "sync")) (bytes_eq verb (codes "space")) (bytes_eq verb (codes "log"))
-  where
-    go : (a b c : Bool) → (if a then sync else if b then space else if c then log else bad_syntax) ≡ decoded (if a then sync else if b then space else if c then log else bad_syntax)
-    go true b c = refl
-    go false true c = refl
-    go false false true = refl
-    go false false false = refl
+decoded-bare verb =
+    decoded_either (bytes_eq verb (codes "sync")) sync _ refl
+    (decoded_either (bytes_eq verb (codes "space")) space _ refl
+    (decoded_either (bytes_eq verb (codes "log")) log _ refl (decoded_either (bytes_eq verb (codes "upgrade")) (file_call upgrade) bad_syntax refl refl)))
 
 pub bare_asked : (verb : List ℕ) → bare_command verb ≡ decoded (asked_by (verb ∷ []))
 bare_asked verb = decoded-bare verb ∙ ap decoded (sym (asked_one verb))
-
-pub decoded-truncate : (path : List ℕ) (size : Option ℕ) → truncate_command (path_bytes path) size ≡ decoded (truncate_command path size)
-decoded-truncate path None = refl
-decoded-truncate path (Some size) = refl

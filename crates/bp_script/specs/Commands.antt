@@ -8,7 +8,8 @@ use Rattle.hex.specs.Hex.{decode_of}
 use Rattle.percent_encoding.specs.Percent.{percent_decode}
 use Rattle.bp_limits.specs.Limits.{max_line, max_read}
 use Rattle.bp_plain.specs.Calls.{Call}
-use Rattle.bp_plain.specs.Calls.Call.{create, mkdir, unlink, rmdir, list, stat, read, write, truncate, rename}
+use Rattle.bp_plain.specs.Served.{IsServed}
+use Rattle.bp_plain.specs.Calls.Call.{create, mkdir, unlink, rmdir, list, stat, read, write, truncate, rename, link, links, upgrade}
 use Rattle.bp_replay.specs.Wanted.{Wanted}
 use Rattle.bp_replay.specs.Wanted.Wanted.{all, nothing, at}
 
@@ -97,6 +98,7 @@ bare_command verb =
     if bytes_eq verb (codes "sync") then sync
     else if bytes_eq verb (codes "space") then space
     else if bytes_eq verb (codes "log") then log
+    else if bytes_eq verb (codes "upgrade") then file_call upgrade
     else bad_syntax
 
 abbrev pub path_command : List ℕ → List ℕ → Command
@@ -107,6 +109,7 @@ path_command verb path =
     else if bytes_eq verb (codes "rmdir") then file_call (rmdir path)
     else if bytes_eq verb (codes "list") then file_call (list path)
     else if bytes_eq verb (codes "stat") then file_call (stat path)
+    else if bytes_eq verb (codes "links") then file_call (links path)
     else bad_syntax
 
 -- a second word that is a path, but behind `crash` and `storm`
@@ -120,6 +123,7 @@ abbrev pub pair_command : List ℕ → List ℕ → List ℕ → Command
 pair_command verb first second =
     if bytes_eq verb (codes "truncate") then truncate_command first (number_spelled second)
     else if bytes_eq verb (codes "rename") then file_call (rename first second)
+    else if bytes_eq verb (codes "link") then file_call (link first second)
     else bad_syntax
 
 abbrev pub long_command : List ℕ → List ℕ → List ℕ → List ℕ → Command
@@ -134,7 +138,7 @@ long_command verb first second third =
 --     sync      space      log
 --     create PATH      mkdir PATH      unlink PATH      rmdir PATH      list PATH      stat PATH
 --     read PATH OFF LEN      write PATH OFF HEX      truncate PATH SIZE
---     rename PATH PATH
+--     rename PATH PATH      link PATH PATH      links PATH      upgrade
 --     crash all      crash none      crash MOMENT EPOCH MASK      storm SEED
 abbrev pub command_by_words : List (List ℕ) → Command
 command_by_words (verb ∷ []) = bare_command verb
@@ -173,6 +177,10 @@ decoded_call (read path off len) = read (path_bytes path) off len
 decoded_call (write path off new) = write (path_bytes path) off new
 decoded_call (truncate path size) = truncate (path_bytes path) size
 decoded_call (rename from to) = rename (path_bytes from) (path_bytes to)
+decoded_call (link from to) = link (path_bytes from) (path_bytes to)
+decoded_call (links path) = links (path_bytes path)
+-- the others have no line
+decoded_call call = call
 
 abbrev pub decoded : Command → Command
 decoded (file_call call) = file_call (decoded_call call)
@@ -181,6 +189,11 @@ decoded command = command
 -- what a line of the table asks for
 abbrev pub in_grammar : List ℕ → Command
 in_grammar line = decoded (written_command line)
+
+-- that a volume carries out the call of a command, where it has one
+abbrev pub IsServedCommand : Command → Type 0
+IsServedCommand (file_call call) = IsServed call
+IsServedCommand command = Unit {0}
 
 -- what any line asks for
 abbrev pub command_of : List ℕ → Command

@@ -50,4 +50,4 @@ notice_text (notice.Damaged check place) = pair_text (codes "err 32 damaged ") c
 notice_text (notice.Clean files dirs bytes live free) = clean_text files dirs bytes live free
 notice_text notice.NoFile = codes "err 34 nofile\n"
 notice_text notice.Usage =
-    codes "usage: bpfs format FILE --blocks N / run FILE / check FILE / play FILE --seed S --count C\n"
+    codes "usage: bpfs format FILE --blocks N [--version V] / run FILE / check FILE / play FILE --seed S --count C\n"

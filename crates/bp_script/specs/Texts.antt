@@ -6,7 +6,7 @@ use Rattle.bp_layout.specs.Directory.{Name}
 use Rattle.bp_layout.specs.declared.fields.Kind.{Kind}
 use Rattle.bp_layout.specs.declared.fields.Kind.TheVariants.{File, Dir}
 use Rattle.bp_plain.specs.Calls.{Answer, Refusal}
-use Rattle.bp_plain.specs.Calls.Answer.{done, bytes, file_of, dir_of, names, refused}
+use Rattle.bp_plain.specs.Calls.Answer.{done, bytes, file_of, dir_of, names, links_of, refused}
 use Rattle.bp_plain.specs.Calls.Refusal.{no_space}
 use Rattle.bp_plain.specs.Refusals.{refusal_number, refusal_word}
 
@@ -48,6 +48,9 @@ file_text size = codes "file " ++ decimal size ++ codes "\n"
 
 abbrev pub dir_text : ℕ → List ℕ
 dir_text count = codes "dir " ++ decimal count ++ codes "\n"
+
+abbrev pub links_text : ℕ → List ℕ
+links_text count = codes "links " ++ decimal count ++ codes "\n"
 
 -- a line of two numbers
 abbrev pub pair_text : List ℕ → ℕ → ℕ → List ℕ
@@ -109,6 +112,7 @@ answer_text (bytes content) = data_text content
 answer_text (file_of size) = file_text size
 answer_text (dir_of count) = dir_text count
 answer_text (names entries) = listing_text entries
+answer_text (links_of count) = links_text count
 answer_text (refused refusal) = refusal_text refusal
 
 abbrev pub reply_text : LineReply → List ℕ

@@ -1,10 +1,10 @@
 //! The lines of a script.
 
-ghost use Rattle.bp_plain.specs.Calls.Call.{rename, write};
+ghost use Rattle.bp_plain.specs.Calls.Call.{link, rename, write};
 ghost use Rattle.bp_replay.specs.Wanted.Wanted.{at};
 ghost use Rattle.bp_script.specs.Commands.Command.{bad_syntax, crash, file_call};
-ghost use Rattle.bp_script.specs.Commands.{asked_by, bare_command, bytes_spelled, decoded, in_grammar, long_command, mask_in, masked_crash, number_spelled, pair_command, part_bytes, path_bytes, read_command, storm_command, truncate_command, unslashed, whole_crash, word_command, words_of, write_command};
-ghost use Rattle.bp_script.specs.Lines.{KeepsRoom, decoded_room, first_held, line_asks, path_row, second_held, word_row};
+ghost use Rattle.bp_script.specs.Commands.{IsServedCommand, asked_by, bare_command, bytes_spelled, decoded, in_grammar, long_command, mask_in, masked_crash, number_spelled, pair_command, part_bytes, path_bytes, read_command, storm_command, truncate_command, unslashed, whole_crash, word_command, words_of, write_command};
+ghost use Rattle.bp_script.specs.Lines.{KeepsRoom, decoded_room, first_held, line_asks, pair_row, path_row, second_held, word_row};
 ghost use Rattle.std.specs.Borrow.{sem};
 ghost use Rattle.std.specs.List.{slice_split};
 ghost use Rattle.std.specs.Option.{option_map_or};
@@ -71,7 +71,7 @@ impl Decoded {
     }
 
     /// What a line of a script asks for. Its paths, its bytes and its mask are decoded, and lie in this memory. A mask has at most
-    /// half as many bytes as the line.
+    /// half as many bytes as the line. A call is one that a volume carries out.
     ///
     /// # Errors
     ///
@@ -81,6 +81,7 @@ impl Decoded {
         ensures* keeps_room { sem 𝓛 (KeepsRoom self.entry) }
         ensures meaning { line_asks result ≡ in_grammar bytes.now }
         ensures mask { 2 * length (mask_in (line_asks result)) ≤ length bytes.now }
+        ensures served { IsServedCommand (line_asks result) }
     {
         let (verb, rest) = split_once(bytes, b' ');
         match rest {
@@ -153,10 +154,11 @@ impl Decoded {
         ensures* keeps_room { sem 𝓛 (KeepsRoom self.entry) }
         ensures meaning { line_asks result ≡ decoded (pair_command verb.now path.now last.now) }
     {
-        match verb {
-            b"truncate" => truncate(self.path_of(path), number(last)),
-            b"rename" => Ok(self.rename(path, last)),
-            _ => Err(Syntax),
+        match pair_verb(verb) {
+            Some(PairVerb::Truncate) => truncate(self.path_of(path), number(last)),
+            Some(PairVerb::Rename) => Ok(self.rename(path, last)),
+            Some(PairVerb::Link) => Ok(self.link(path, last)),
+            None => Err(Syntax),
         }
     }
 
@@ -176,6 +178,27 @@ impl Decoded {
         ensures { line_asks (Ok result) ≡ file_call (rename (first_held self.now) (second_held self.now)) }
     {
         Line::Call(Call::Rename {
+            from: self.first.as_slice(),
+            to: self.second.as_slice(),
+        })
+    }
+
+    /// The line of one more name.
+    fn link(&mut self, from: &[u8], to: &[u8]) -> Line<'_>
+        requires from { length from.now ≤ decoded_room self.old }
+        requires to { length to.now ≤ decoded_room self.old }
+        ensures* keeps_room { sem 𝓛 (KeepsRoom self.entry) }
+        ensures meaning { line_asks (Ok result) ≡ file_call (link (path_bytes from.now) (path_bytes to.now)) }
+    {
+        self.pair(from, to);
+        self.link_held()
+    }
+
+    /// The line of one more name with the paths that are held.
+    fn link_held(&self) -> Line<'_>
+        ensures { line_asks (Ok result) ≡ file_call (link (first_held self.now) (second_held self.now)) }
+    {
+        Line::Call(Call::Link {
             from: self.first.as_slice(),
             to: self.second.as_slice(),
         })
@@ -425,6 +448,7 @@ fn bare(verb: &[u8]) -> Result<Line<'static>, Syntax>
         b"sync" => Ok(Line::Sync),
         b"space" => Ok(Line::Space),
         b"log" => Ok(Line::Log),
+        b"upgrade" => Ok(Line::Call(Call::Upgrade)),
         _ => Err(Syntax),
     }
 }
@@ -468,6 +492,7 @@ enum PathVerb {
     Rmdir,
     List,
     Stat,
+    Links,
 }
 
 /// The verb that a word spells.
@@ -483,6 +508,27 @@ fn word_verb(verb: &[u8]) -> Option<WordVerb>
         b"rmdir" => Some(WordVerb::Path(PathVerb::Rmdir)),
         b"list" => Some(WordVerb::Path(PathVerb::List)),
         b"stat" => Some(WordVerb::Path(PathVerb::Stat)),
+        b"links" => Some(WordVerb::Path(PathVerb::Links)),
+        _ => None,
+    }
+}
+
+/// The first word of a line that has a path and one word more.
+#[derive(Clone, Copy)]
+enum PairVerb {
+    Truncate,
+    Rename,
+    Link,
+}
+
+/// The verb of a path and a last word that a word spells.
+fn pair_verb(verb: &[u8]) -> Option<PairVerb>
+    ensures { (path last : List ℕ) → pair_command verb.now path last ≡ pair_row result path last }
+{
+    match verb {
+        b"truncate" => Some(PairVerb::Truncate),
+        b"rename" => Some(PairVerb::Rename),
+        b"link" => Some(PairVerb::Link),
         _ => None,
     }
 }
@@ -498,6 +544,7 @@ fn path_line(verb: PathVerb, path: &[u8]) -> Line<'_>
         PathVerb::Rmdir => Call::Rmdir(path),
         PathVerb::List => Call::List(path),
         PathVerb::Stat => Call::Stat(path),
+        PathVerb::Links => Call::Links(path),
     })
 }
 

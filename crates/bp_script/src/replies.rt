@@ -151,6 +151,10 @@ fn say_answer(answer: Answer<'_>, into: &mut [u8]) -> usize
             write_pieces(into, &[b"dir ", digits.format(count).as_bytes(), b"\n"])
         }
         Answer::Names(_) => unreachable!(),
+        Answer::LinksOf(count) => {
+            let mut digits = itoa::Buffer::new();
+            write_pieces(into, &[b"links ", digits.format(count).as_bytes(), b"\n"])
+        }
         Answer::Refused(error) => say_refused(error, into),
     }
 }

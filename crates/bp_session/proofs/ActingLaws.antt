@@ -9,19 +9,20 @@ use Rattle.pm_epochs.specs.Replay.{PowerCut, kept_calls, kept_stores}
 use Rattle.pm_region.specs.Memory.{Memory, crashed, current_words, drained, with_room, room_in}
 use Rattle.bp_layout.specs.Words.{Image}
 use Rattle.bp_layout.specs.Bytes.{image_bytes}
-use Rattle.bp_layout.specs.Free.{HasFree}
 use Rattle.bp_scan.specs.Totals.{HasLive}
 use Rattle.bp_io.specs.Files.{View}
 use Rattle.bp_plain.specs.Calls.{Call, Answer, Refusal}
-use Rattle.bp_plain.specs.Calls.Call.{create, mkdir, unlink, rmdir, list, stat, read, write, truncate, rename}
+use Rattle.bp_plain.specs.Calls.Call.{create, mkdir, unlink, rmdir, list, stat, read, write, truncate, rename, link, links, upgrade, snap, unsnap, snap_list, snap_stat, snap_read, batch}
 use Rattle.bp_plain.specs.Calls.Answer.{done as carried_out}
 use Rattle.bp_plain.specs.Plain.{answer as plain_answer, changes, is_changing, plain, refusal}
 use Rattle.bp_plain.specs.PlainTree.{FileTree}
 use Rattle.bp_plain.proofs.Existence.{stands_for, tree_of}
-use Rattle.bp_layout.specs.Same.{Same}
+use Rattle.bp_layout.specs.Trees.{has_snapshot, snapshot_of}
+use Rattle.bp_layout.specs.WellFormed.{IsWellFormed}
+use Rattle.bp_layout.specs.Whole.{HasSpace, SameFiles}
 use Rattle.pm_region.specs.Safe.{IsSafe}
 use Rattle.bp_volume.specs.Step.{StepFor}
-use Rattle.bp_volume.specs.Step.StepFor.{no_room, no_listing, unchanged, changed}
+use Rattle.bp_volume.specs.Step.StepFor.{no_room, no_listing, no_snap_listing, unchanged, changed}
 use Rattle.bp_limits.specs.Limits.{call_room, max_line, max_mask}
 use Rattle.bp_volume.specs.FileCall.{FileCall, has_changed}
 use Rattle.std.proofs.lemmas.Bool.{le-ltb, lt-ltb}
@@ -77,6 +78,15 @@ done_changes tree (read text off len) e = absurd (let no : false ≡ true = e in
 done_changes tree (write text off new) e = refl
 done_changes tree (truncate text size) e = refl
 done_changes tree (rename from to) e = refl
+done_changes tree (link from to) e = refl
+done_changes tree (links text) e = absurd (let no : false ≡ true = e in cc)
+done_changes tree upgrade e = refl
+done_changes tree snap e = refl
+done_changes tree unsnap e = refl
+done_changes tree (snap_list text) e = absurd (let no : false ≡ true = e in cc)
+done_changes tree (snap_stat text) e = absurd (let no : false ≡ true = e in cc)
+done_changes tree (snap_read text off len) e = absurd (let no : false ≡ true = e in cc)
+done_changes tree (batch pieces) e = refl
 
 done_changing : (tree : FileTree) (call : Call) → is_changing tree call ≡ true → (plain tree call).0 ≡ carried_out
 done_changing tree call e = go (refusal tree call) refl
@@ -85,13 +95,14 @@ done_changing tree call e = go (refusal tree call) refl
     go None is = rw is (done_changes tree call (let both : (is_none (refusal tree call) && changes tree call) ≡ true = e in rw is at both))
     go (Some why) is = absurd (let both : (is_none (refusal tree call) && changes tree call) ≡ true = e in let no : false ≡ true = rw is at both in cc)
 
+and_false : (b : Bool) → (b && false) ≡ false
+and_false true = refl
+and_false false = refl
+
 not_changed : (image new : Image) (tree : FileTree) (call : Call) (told : Answer) → is_done told ≡ false → StepFor image tree call told new → has_changed tree call told ≡ false
 not_changed image new tree call told other (no_room changing needs less) = rw changing refl
 not_changed image new tree call told other (no_listing allowed) = and_false _
-  where
-    and_false : (b : Bool) → (b && false) ≡ false
-    and_false true = refl
-    and_false false = refl
+not_changed image new tree call told other (no_snap_listing allowed) = and_false _
 not_changed image new tree call told other (unchanged still) = rw still refl
 not_changed image new tree call told other (changed changing fits stands) = absurd (let no : true ≡ false = rw (done_changing tree call changing) at other in cc)
 
@@ -101,18 +112,19 @@ words-marked memory = words_after-append memory.base memory.events (Mark ∷ [])
 words-with_room : (wanted : ℕ) (memory : Memory) → current_words (with_room wanted memory) ≡ current_words memory
 words-with_room wanted memory = elim (nat_lt (room_in memory) wanted) as (λ full. current_words (if full then drained memory else memory) ≡ current_words memory) [ true ↦ refl | false ↦ refl ]
 
-pub words-call : (old new : Memory) (call : Call) (told : Answer) → IsSafe Same old → FileCall old call told new → is_done told ≡ false → current_words new ≡ current_words old
+pub words-call : (old new : Memory) (call : Call) (told : Answer) → IsSafe SameFiles old → FileCall old call told new → is_done told ≡ false → current_words new ≡ current_words old
 words-call old new call told safe does other =
-    let well = safe.well.new_well_formed in
-    let tree = tree_of (current_words old) well in
-    let stands = stands_for (current_words old) well in
+    let first = safe.well.first.new_well_formed in
+    let second : has_snapshot (current_words old) ≡ true → IsWellFormed (snapshot_of (current_words old)) = λ there. (safe.well.second.same there).new_well_formed in
+    let tree = tree_of (current_words old) first second in
+    let stands = stands_for (current_words old) first second in
     let none = does.silent tree stands (not_changed _ _ tree call told other (does.step tree stands)) in
     let adds : new ≡ record (with_room call_room old) { events = (with_room call_room old).events ++ Mark ∷ [] } = rw none at does.adds in
     ap current_words adds ∙ words-marked (with_room call_room old) ∙ words-with_room call_room old
 
 -- ---- what a line did
 
-pub does_call : (old new : Memory) (call : Call) (answer : Answer) → IsSafe Same old → FileCall old call answer new → Does old (file_call call) Answered answer new
+pub does_call : (old new : Memory) (call : Call) (answer : Answer) → IsSafe SameFiles old → FileCall old call answer new → Does old (file_call call) Answered answer new
 does_call old new call answer safe done = record {
   line = λ saved. record { answer = answer; told = refl; does = done; saved = refl };
   size = size-file_call old call answer new done;
@@ -134,7 +146,7 @@ does_sync old new answer done = record {
   words = λ _. ap current_words done;
 }
 
-pub does_space : (memory : Memory) (free live : ℕ) (answer : Answer) → HasFree (current_words memory) free → HasLive (current_words memory) live → Does memory space (Counted free live) answer memory
+pub does_space : (memory : Memory) (free live : ℕ) (answer : Answer) → HasSpace (current_words memory) free → HasLive (current_words memory) live → Does memory space (Counted free live) answer memory
 does_space memory free live answer has_free has_live = record {
   line = λ saved. record { free = free; live = live; told = refl; has_free = has_free; has_live = has_live; same = refl };
   size = refl;
@@ -290,8 +302,8 @@ holds_image files name image file = record { attached = file.attached; size = om
 
 -- ---- commands
 
-pub command_short : (line : List ℕ) (command : Command) → length line ≤ 140000 → command ≡ in_grammar line → command ≡ command_of line
-command_short line command low is = rw (le-ltb 140000 (length line) low) is
+pub command_short : (line : List ℕ) (command : Command) → length line ≤ max_line → command ≡ in_grammar line → command ≡ command_of line
+command_short line command low is = rw (le-ltb max_line (length line) low) is
 
-pub command_long : (line : List ℕ) → 140000 < length line → command_of line ≡ too_long
-command_long line high = rw (lt-ltb 140000 (length line) high) refl
+pub command_long : (line : List ℕ) → max_line < length line → command_of line ≡ too_long
+command_long line high = rw (lt-ltb max_line (length line) high) refl

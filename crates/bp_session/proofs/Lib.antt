@@ -5,7 +5,6 @@ pub mod Pieces
 pub mod SavingLaws
 pub mod BlockLaws
 pub mod TellingLaws
-pub mod ShortReads
 pub mod OutcomeLaws
 pub mod GatheringLaws
 pub mod AheadLaws

@@ -10,9 +10,11 @@ use Rattle.pm_epochs.specs.Log.{words_after}
 use Rattle.pm_epochs.proofs.Deciding.{kept_calls-le}
 use Rattle.pm_epochs.proofs.CrashLaws.{up_to_mark-append, marks-append}
 use Rattle.pm_region.specs.Memory.{Memory, crashed, current_words, with_room, drained, room_in, Adds}
-use Rattle.bp_plain.specs.PlainTree.{FileTree}
+use Rattle.bp_plain.specs.PlainTree.{FileTree, PathMap}
 use Rattle.bp_layout.specs.Same.{Same}
-use Rattle.bp_plain.specs.Stands.{Stands}
+use Rattle.bp_layout.specs.Trees.{has_snapshot, snapshot_of}
+use Rattle.bp_layout.specs.Whole.{SameFiles, SameSnapshot}
+use Rattle.bp_plain.specs.Stands.{Shows, ShowsSnapshot, Stands}
 use Rattle.bp_plain.proofs.Uniqueness.{stands_once}
 use Rattle.bp_replay.specs.Wanted.{cut_for}
 use Rattle.bp_replay.specs.Wanted.Wanted.{all, nothing, at}
@@ -20,7 +22,7 @@ use Rattle.bp_replay.proofs.Ends.{kept_calls_all, right_all}
 use Rattle.bp_layout.specs.Words.{Image}
 use Rattle.bp_plain.specs.Calls.{Call, Answer}
 use Rattle.bp_volume.specs.Step.{StepFor}
-use Rattle.bp_volume.specs.Step.StepFor.{no_room, no_listing, unchanged, changed}
+use Rattle.bp_volume.specs.Step.StepFor.{no_room, no_listing, no_snap_listing, unchanged, changed}
 use Rattle.bp_plain.specs.Plain.{plain, is_changing, refusal, changes}
 use Rattle.bp_session.specs.Session.{State, Crashes, SessionLine, RefusesCut, Session}
 use Rattle.bp_script.specs.Commands.{Command}
@@ -34,7 +36,7 @@ use Rattle.std.specs.Prelude.{Option, Some, None, is_none, ◌&&◌, ◌⊎◌, 
 use Rattle.std.proofs.lemmas.Bool.{leb-true, leb-false}
 use Rattle.bp_session.specs.PlainSession.{PlainSession, PlainLine, PlainState, PlainCall, latest, tree_at, tree_now, after_crash, with_call, fresh, Follows, FollowsTree, IsPlainly, PlainCrashes}
 use Rattle.bp_session.proofs.ServingLaws.{session_split}
-use Rattle.bp_session.specs.PlainSession.PlainCall.{plainly, no_room as finds_no_room, no_listing as finds_no_memory}
+use Rattle.bp_session.specs.PlainSession.PlainCall.{plainly, no_room as finds_no_room, no_listing as finds_no_memory, no_snap_listing as snap_finds_no_memory}
 
 -- ---- trees
 
@@ -55,11 +57,51 @@ pub record PlainStep (tree : FileTree) (call : Call) (answer : Answer) (new : Im
 pub plain_step : (old : Image) (tree : FileTree) (call : Call) (answer : Answer) (new : Image) → Stands old tree → StepFor old tree call answer new → PlainStep tree call answer new
 plain_step old tree call answer new stands (no_room change need few) = record { after = tree; does = finds_no_room change; stands = stands }
 plain_step old tree call answer new stands (no_listing none) = record { after = tree; does = finds_no_memory none; stands = stands }
+plain_step old tree call answer new stands (no_snap_listing none) = record { after = tree; does = snap_finds_no_memory none; stands = stands }
 plain_step old tree call answer new stands (unchanged same) = record { after = (plain tree call).1; does = plainly; stands = rw (plain-unchanged tree call same) stands }
 plain_step old tree call answer new stands (changed change fits shown) = record { after = (plain tree call).1; does = plainly; stands = shown }
 
-pub stands_by_same : (first second : Image) (tree : FileTree) → Same first second → Stands second tree → Stands first tree
-stands_by_same first second tree same stands = record { well_formed = same.old_well_formed; shows = λ path. stands.shows path ∙ same.shows path }
+-- images that mean the same
+
+shows_by_same : (first second : Image) (map : PathMap) → Same first second → Shows second map → Shows first map
+shows_by_same first second map same shown = record {
+  well_formed = same.old_well_formed;
+  shows = λ path. shown.shows path ∙ same.shows path;
+  one = λ p q. shown.one p q ∙ same.one p q;
+}
+
+snapshot_by_same : (first second : Image) (snap : Option PathMap) → SameSnapshot first second → ShowsSnapshot second snap → ShowsSnapshot first snap
+snapshot_by_same first second None same none = sym same.there ∙ none
+snapshot_by_same first second (Some map) same shown =
+    let there : has_snapshot first ≡ true = sym same.there ∙ shown.0 in
+    (there, shows_by_same (snapshot_of first) (snapshot_of second) map (same.same there) shown.1)
+
+pub stands_by_same : (first second : Image) (tree : FileTree) → SameFiles first second → Stands second tree → Stands first tree
+stands_by_same first second tree same stands = record {
+  version = stands.version ∙ same.first.version;
+  now = shows_by_same first second tree.now same.first stands.now;
+  snap = snapshot_by_same first second tree.snap same.second stands.snap;
+}
+
+same_by_shows : (image : Image) (map : PathMap) → Shows image map → Same image image
+same_by_shows image map shown = record {
+  old_well_formed = shown.well_formed;
+  new_well_formed = shown.well_formed;
+  version = refl;
+  shows = λ path. refl;
+  one = λ p q. refl;
+}
+
+same_by_snapshot : (image : Image) (snap : Option PathMap) → ShowsSnapshot image snap → SameSnapshot image image
+same_by_snapshot image None none = record { there = refl; same = λ there. absurd (let no : true ≡ false = sym there ∙ none in cc) }
+same_by_snapshot image (Some map) shown = record { there = refl; same = λ there. same_by_shows (snapshot_of image) map shown.1 }
+
+-- an image that stands for a tree means what it means
+same_by_stands : (image : Image) (tree : FileTree) → Stands image tree → SameFiles image image
+same_by_stands image tree stands = record {
+  first = same_by_shows image tree.now stands.now;
+  second = same_by_snapshot image tree.snap stands.snap;
+}
 
 -- ---- logs and trees after so many calls
 
@@ -117,7 +159,7 @@ nothing_stored words (Mark ∷ events) (suc count) low = nothing_stored words ev
 -- ---- what follows
 
 follows : (memory : Memory) (p : PlainState) → Stands (current_words memory) (tree_now p) → marks memory.events ≡ length p.since
-    → ((count : ℕ) → Stands (after_calls memory.base memory.events count) (after_crash p count)) → CrashRight Same memory.base memory.events → Follows memory p
+    → ((count : ℕ) → Stands (after_calls memory.base memory.events count) (after_crash p count)) → CrashRight SameFiles memory.base memory.events → Follows memory p
 follows memory p now calls after right = record {
   now = now;
   calls = calls;
@@ -125,19 +167,16 @@ follows memory p now calls after right = record {
   crash = λ cut is_right. stands_by_same _ _ _ (right.each cut is_right) (after (kept_calls memory.events cut));
 }
 
-same_by_stands : (image : Image) (tree : FileTree) → Stands image tree → Same image image
-same_by_stands image tree stands = record { old_well_formed = stands.well_formed; new_well_formed = stands.well_formed; shows = λ path. refl }
-
 -- with an empty log
 pub follows_fresh : (memory : Memory) (tree : FileTree) → memory.events ≡ [] → Stands memory.base tree → Follows memory (fresh tree)
 follows_fresh memory tree empty stands = follows memory (fresh tree)
     (rw empty stands)
     (rw empty refl)
     (λ count. rw (empty, nothing_logged memory.base count, nothing_since tree count) stands)
-    (rw empty (crash_right_none Same memory.base (same_by_stands memory.base tree stands)))
+    (rw empty (crash_right_none SameFiles memory.base (same_by_stands memory.base tree stands)))
 
 -- one more call
-follows_more : (old new : Memory) (p : PlainState) (added : List Event) (tree : FileTree) → Follows old p → marks added ≡ 0 → Adds old new (added ++ Mark ∷ []) → CrashRight Same new.base new.events
+follows_more : (old new : Memory) (p : PlainState) (added : List Event) (tree : FileTree) → Follows old p → marks added ≡ 0 → Adds old new (added ++ Mark ∷ []) → CrashRight SameFiles new.base new.events
     → Stands (current_words new) tree → Follows new (with_call p tree)
 follows_more old new p added tree before none adds right stands =
     let base : new.base ≡ old.base = ap (λ (m : Memory). m.base) adds in

@@ -3,6 +3,7 @@ use Rattle.std.proofs.Common.{refl, sym, subst, ◌∙◌, ap, arith, ◌≡◌,
 use Rattle.std.proofs.lemmas.List.{get_or-take}
 use Rattle.std.proofs.Math.Seq.{take-add}
 use Rattle.std.specs.Prelude.{Some, None}
+use Rattle.bp_limits.specs.Limits.{max_line}
 use Rattle.memchr.specs.Find.{IsFirst, IsFirstByte, Nowhere, Passes, is_byte}
 use Rattle.bp_session.specs.Lines.{commands_from}
 use Rattle.bp_script.specs.Commands.{command_of}
@@ -46,7 +47,7 @@ module _ (xs : List ℕ) (from to : ℕ) where
 
     -- what a part with no newline adds to a line
     pub commands_of_part : (held rest : List ℕ) → Nowhere (Passes (is_byte 10) xs) from to
-        → commands_from held (take (to - from) (drop from xs) ++ rest) ≡ commands_from (take 140001 (held ++ take (to - from) (drop from xs))) rest
+        → commands_from held (take (to - from) (drop from xs) ++ rest) ≡ commands_from (take (max_line + 1) (held ++ take (to - from) (drop from xs))) rest
     commands_of_part held rest nowhere = commands_at_run held (take (to - from) (drop from xs)) rest quiet ∙ commands_kept (held ++ take (to - from) (drop from xs)) rest
       where
         quiet : (k : ℕ) → k < length (take (to - from) (drop from xs)) → nat_eq (get_or (take (to - from) (drop from xs)) k 0) 10 ≡ false

@@ -7,6 +7,7 @@ use Rattle.std.proofs.Math.Seq.{take-suc}
 use Rattle.std.proofs.KnownBytes.{Appends-trans}
 use Rattle.std.specs.Prelude.{Option, Some, None}
 use Rattle.std.specs.Io.KnownBytes.{Appends, Consumes, Keeps}
+use Rattle.bp_limits.specs.Limits.{max_line}
 use Rattle.pm_region.specs.Memory.{Memory}
 use Rattle.bp_layout.specs.Words.{Image}
 use Rattle.bp_script.specs.Commands.{Command, command_of}
@@ -65,11 +66,11 @@ pub commands_at_byte : (held rest : List ℕ) (b : ℕ) → nat_eq b 10 ≡ fals
 unfolding commands_from
 commands_at_byte held rest b e = rw e refl
 
-long_command : (a : List ℕ) → 140000 < length a → nat_lt 140000 (length a) ≡ true
-long_command a p = lt-ltb 140000 (length a) p
+long_command : (a : List ℕ) → max_line < length a → nat_lt max_line (length a) ≡ true
+long_command a p = lt-ltb max_line (length a) p
 
 -- of a line that is too long, no byte matters
-pub commands_too_long : (a b rest : List ℕ) → 140000 < length a → 140000 < length b → commands_from a rest ≡ commands_from b rest
+pub commands_too_long : (a b rest : List ℕ) → max_line < length a → max_line < length b → commands_from a rest ≡ commands_from b rest
 unfolding commands_from
 commands_too_long [] b rest p q = absurd (omega arith)
 commands_too_long (x ∷ a) [] rest p q = absurd (omega arith)
@@ -93,12 +94,12 @@ commands_at_run held (b ∷ run) rest quiet =
     commands_at_byte held (run ++ rest) b (quiet 0 (omega arith)) ∙ commands_at_run (held ++ b ∷ []) run rest (λ k low. quiet (suc k) (omega (arith, low))) ∙ ap (λ l. commands_from l rest) (append_assoc held (b ∷ []) run)
 
 -- .. of which the line keeps only its first bytes
-pub commands_kept : (line rest : List ℕ) → commands_from line rest ≡ commands_from (take 140001 line) rest
-commands_kept line rest = go (nat_lt 140000 (length line)) refl
+pub commands_kept : (line rest : List ℕ) → commands_from line rest ≡ commands_from (take (max_line + 1) line) rest
+commands_kept line rest = go (nat_lt max_line (length line)) refl
   where
-    go : (long : Bool) → nat_lt 140000 (length line) ≡ long → commands_from line rest ≡ commands_from (take 140001 line) rest
-    go true e = let low = ltb-true 140000 (length line) e in commands_too_long line (take 140001 line) rest low (omega (arith, low, length_taken line 140001 (omega (arith, low))))
-    go false e = let high = ltb-false 140000 (length line) e in ap (λ l. commands_from l rest) (sym (take_all 140001 line (omega (arith, high))))
+    go : (long : Bool) → nat_lt max_line (length line) ≡ long → commands_from line rest ≡ commands_from (take (max_line + 1) line) rest
+    go true e = let low = ltb-true max_line (length line) e in commands_too_long line (take (max_line + 1) line) rest low (omega (arith, low, length_taken line (max_line + 1) (omega (arith, low))))
+    go false e = let high = ltb-false max_line (length line) e in ap (λ l. commands_from l rest) (sym (take_all (max_line + 1) line (omega (arith, high))))
 
 pub commands_at_end : (x : ℕ) (held : List ℕ) → commands_from (x ∷ held) [] ≡ command_of (x ∷ held) ∷ []
 unfolding commands_from

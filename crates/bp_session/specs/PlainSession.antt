@@ -3,7 +3,7 @@ use Rattle.std.specs.Prelude.{◌≡◌, ◌≤◌, ℕ, ◌⊎◌, List, [], �
 use Rattle.bp_plain.specs.PlainTree.{FileTree}
 use Rattle.bp_plain.specs.Stands.{Stands}
 use Rattle.bp_plain.specs.Calls.{Call, Answer}
-use Rattle.bp_plain.specs.Calls.Call.{list}
+use Rattle.bp_plain.specs.Calls.Call.{list, snap_list}
 use Rattle.bp_plain.specs.Calls.Answer.{refused}
 use Rattle.bp_plain.specs.Calls.Refusal.{no_space, no_memory}
 use Rattle.bp_plain.specs.Plain.{plain, is_changing, refusal}
@@ -19,12 +19,14 @@ use Rattle.bp_script.specs.Texts.{LineReply}
 use Rattle.bp_script.specs.Texts.LineReply.{answered, synced, space_of, kept_of, log_of, bad_choice, syntax, long}
 
 -- A call on a plain tree. Besides the tree's own answer there are two: a call that changes the tree may find no room,
--- and a listing may find no memory; neither does anything.
+-- and a listing, of the tree or its snapshot, may find no memory; neither does anything.
 pub data PlainCall (tree : FileTree) : Call → Answer → FileTree → Type 0 where
   plainly : {call : Call} → PlainCall tree call (plain tree call).0 (plain tree call).1
   no_room : {call : Call} {needed free : ℕ} → is_changing tree call ≡ true
       → PlainCall tree call (refused (no_space needed free)) tree
   no_listing : {text : List ℕ} → refusal tree (list text) ≡ None → PlainCall tree (list text) (refused no_memory) tree
+  no_snap_listing : {text : List ℕ} → refusal tree (snap_list text) ≡ None
+      → PlainCall tree (snap_list text) (refused no_memory) tree
 
 -- The tree that is certain, and the trees after each call since, the last one last.
 pub record PlainState : Type 0 where

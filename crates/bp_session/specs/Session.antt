@@ -6,7 +6,7 @@ use Rattle.pm_region.specs.Memory.{Memory, crashed, current_words, drained}
 use Rattle.bp_replay.specs.Wanted.{cut_for}
 use Rattle.bp_replay.specs.Storm.{storm_cut}
 use Rattle.bp_layout.specs.Words.{Image}
-use Rattle.bp_layout.specs.Free.{HasFree}
+use Rattle.bp_layout.specs.Whole.{HasSpace}
 use Rattle.bp_scan.specs.Totals.{HasLive}
 use Rattle.bp_plain.specs.Calls.{Call, Answer}
 use Rattle.bp_volume.specs.FileCall.{FileCall}
@@ -50,7 +50,7 @@ pub record TellsSpace (old : State) (reply : LineReply) (new : State) : Type 0 w
   pub free : ℕ
   pub live : ℕ
   pub told : reply ≡ space_of free live
-  pub has_free : HasFree (current_words old.memory) free
+  pub has_free : HasSpace (current_words old.memory) free
   pub has_live : HasLive (current_words old.memory) live
   pub same : new ≡ old
 

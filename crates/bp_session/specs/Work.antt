@@ -6,7 +6,7 @@ use Rattle.bp_session.specs.Gathering.{waiting}
 use Rattle.bp_session.specs.declared.work.LineBuffers.{LineBuffers}
 use Rattle.bp_session.specs.declared.work.Work.{Work}
 
--- the line, or the first 140,001 bytes of one that is longer
+-- the line, or the first 2,200,001 bytes of one that is longer
 abbrev pub line_in : LineBuffers → List ℕ
 line_in buffers = buffers.line.items
 

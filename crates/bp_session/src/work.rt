@@ -36,7 +36,7 @@ impl LineBuffers {
     ghost use Rattle.bp_session.specs.Work.{answer_in, line_in, line_of, waiting_in};
     ghost use Rattle.std.specs.Prelude.{◌++◌, take, option_map};
 
-    /// Room for lines of 140,000 bytes, with the empty line in it. It fails for want of memory alone.
+    /// Room for lines of 2,200,000 bytes, with the empty line in it. It fails for want of memory alone.
     pub fn new(alloc: Global) -> Result<Self, AllocError>
         ensures { IfOk result (λ buffers. line_in buffers ≡ []) }
     {
@@ -102,7 +102,7 @@ impl Work {
     ghost use Rattle.bp_session.specs.Work.{held_line, line_of};
     ghost use Rattle.std.specs.Prelude.{take, option_map};
 
-    /// Room for lines of 140,000 bytes, with the empty line in it. It fails for want of memory alone.
+    /// Room for lines of 2,200,000 bytes, with the empty line in it. It fails for want of memory alone.
     pub fn new(alloc: Global) -> Result<Self, AllocError>
         ensures { IfOk result (λ work. held_line work ≡ []) }
     {

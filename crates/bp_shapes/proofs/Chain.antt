@@ -1,5 +1,8 @@
 -- A chain of new blocks over an old root, before and after a subtree was hung below it.
-use Rattle.std.proofs.Common.{◌≡◌, ◌≢◌, ℕ, suc, List, [], ◌∷◌, refl, sym, ◌∙◌, subst, arith, inl, inr}
+use Rattle.std.proofs.Common.{◌≡◌, ◌≢◌, ℕ, suc, ◌≤◌, List, [], ◌∷◌, refl, sym, ◌∙◌, subst, arith, inl, inr}
+use Rattle.bp_limits.specs.Limits.{greatest_height, max_height}
+use Rattle.bp_limits.proofs.Versions.{height_most}
+use Rattle.bp_layout.specs.Formatted.{version_of}
 use Rattle.bp_layout.specs.Words.{Image, block_of, height_of}
 use Rattle.bp_layout.specs.Tree.{HasBlock, IsSound}
 use Rattle.bp_changes.specs.SameContent.{ReadsAs}
@@ -9,15 +12,16 @@ use Rattle.bp_shapes.proofs.Roots.{CanRaise, raised_reads, raised_block, reads_s
 
 pub chain_reads : (ByWords : Type 0) (image : Image) (size root : ℕ) (blocks : List ℕ) → IsSound image root size → IsChain image root blocks →
     ((b : ℕ) → HasBlock image root size b → Each (λ c. c ≢ b) blocks) → ReadsAs ByWords image size root (raised_by root blocks)
-chain_reads ByWords image size root [] sound chain fresh = reads_self ByWords image size root sound
+chain_reads ByWords image size root [] sound chain fresh = reads_self ByWords image size root sound (λ some. omega (arith, chain.low))
 chain_reads ByWords image size root (block ∷ blocks) sound chain fresh =
-    let height : height_of (raised root block) ≡ suc (height_of root) = omega (arith, chain.low) in
-    let named : block_of (raised root block) ≡ block = omega (arith, chain.low) in
+    let most : greatest_height (version_of image) ≤ max_height = height_most (version_of image) in
+    let height : height_of (raised root block) ≡ suc (height_of root) = omega (arith, chain.low, most) in
+    let named : block_of (raised root block) ≡ block = omega (arith, chain.low, most) in
     let can : CanRaise image size root (raised root block) = record {
       sound = sound;
       taller = height;
       low = omega (arith, chain.low);
-      bits = omega (arith, chain.low);
+      bits = omega (arith, chain.low, most);
       in_range = rw named chain.in_range.0;
       not_null = rw named chain.not_null.0;
       free = rw named chain.free.0;

@@ -19,6 +19,7 @@ wf_forest image wf =
       some = omega (arith, some);
       in_file = λ i reached. let low : suc i < inode_count image = reached-in_file image wf (suc i) reached in omega (arith, low);
       sound = wf.sound;
+      low = wf.low;
       apart = wf.apart;
     }
 

@@ -7,7 +7,7 @@ use Rattle.bp_layout.specs.Inode.{root_of, size_of, inode_count, ContentStandsAt
 use Rattle.bp_layout.specs.Free.{AreFreeBlocks, AreFreeInodes, IsFreeInode}
 use Rattle.bp_layout.specs.Reached.{IsReached, IsLiveBlock, IsFreeBlock}
 use Rattle.bp_layout.specs.WellFormed.{IsWellFormed}
-use Rattle.bp_changes.specs.Effects.{ChangesFile, CanUnlink, RemovesEntry, KeepsBlocks}
+use Rattle.bp_changes.specs.Effects.{ChangesFile, CanUnlink, IsLastName, RemovesEntry, KeepsBlocks}
 use Rattle.bp_changes.proofs.ChangesFile as changed
 use Rattle.bp_changes.proofs.LinkInPlace.{store_removes, store_blocks}
 use Rattle.bp_changes.proofs.Resize.{CanResize, resize_changes, size_here, block_of_file, block_of_other, block_on_file, block_on_other}
@@ -126,17 +126,17 @@ module _ (old new : Image) (wf : IsWellFormed old) (i s j : ℕ) (can : CanUnlin
   j_reached : IsReached old j
   j_reached = IsReached.named s can.reached can.entry
 
-  other : (t : ℕ) → IsReached new t → t ≡ j → ⊥
-  other t reached e = not_reached old new wf i s j can removes (subst (IsReached new) e reached)
+  other : IsLastName old i s j → (t : ℕ) → IsReached new t → t ≡ j → ⊥
+  other last t reached e = not_reached old new wf i s j can removes last (subst (IsReached new) e reached)
 
-  pub removed_frees : KeepsBlocks old new → FreesBlocks old new (HasBlock old (root_of old j) (size_of old j))
-  removed_frees blocks = record {
+  pub removed_frees : IsLastName old i s j → KeepsBlocks old new → FreesBlocks old new (HasBlock old (root_of old j) (size_of old j))
+  removed_frees last blocks = record {
     were = λ b gone. record { tree = j; reached = j_reached; has = gone };
     back = λ b live. let was : IsReached old live.tree = reached_back old new wf i s j can removes live.tree live.reached in
         record { tree = live.tree; reached = was; has = blocks.back live.tree b was live.has };
     gone = λ b gone live.
         let was : IsReached old live.tree = reached_back old new wf i s j can removes live.tree live.reached in
-        other live.tree live.reached (wf.apart live.tree j b was j_reached (blocks.back live.tree b was live.has) gone);
+        other last live.tree live.reached (wf.apart live.tree j b was j_reached (blocks.back live.tree b was live.has) gone);
     stay = λ b live kept. record {
       tree = live.tree;
       reached = reached_stays old new wf i s j can removes live.tree live.reached (λ e. kept (subst (λ t. HasBlock old (root_of old t) (size_of old t) b) e live.has));
@@ -145,43 +145,44 @@ module _ (old new : Image) (wf : IsWellFormed old) (i s j : ℕ) (can : CanUnlin
   }
 
   -- its number is free
-  pub removed_inode : (free after : ℕ → Bool) → AreFreeInodes old free → after j ≡ true → ((t : ℕ) → (t ≡ j → ⊥) → after t ≡ free t) → AreFreeInodes new after
-  removed_inode =
-      free_inodes_but old new j (removes.size 0 (omega (arith, wf.some_inodes))) (reached_back old new wf i s j can removes) (reached_stays old new wf i s j can removes) other
+  pub removed_inode : IsLastName old i s j → (free after : ℕ → Bool) → AreFreeInodes old free → after j ≡ true → ((t : ℕ) → (t ≡ j → ⊥) → after t ≡ free t) → AreFreeInodes new after
+  removed_inode last =
+      free_inodes_but old new j (removes.size 0 (omega (arith, wf.some_inodes))) (reached_back old new wf i s j can removes) (reached_stays old new wf i s j can removes) (other last)
       (record { low = omega (arith, can.entry.not_empty, wf.not_root i s j can.reached can.entry); high = wf.inumbers i s j can.reached can.entry })
 
 -- the same by one store of 0 to the inumber
-pub remove_frees : (old : Image) (wf : IsWellFormed old) (i s j place : ℕ) → CanUnlink old i s j → ContentStandsAt old i (32 * s + 0) place →
+pub remove_frees : (old : Image) (wf : IsWellFormed old) (i s j place : ℕ) → CanUnlink old i s j → IsLastName old i s j → ContentStandsAt old i (32 * s + 0) place →
     FreesBlocks old (set old place 0) (HasBlock old (root_of old j) (size_of old j))
-remove_frees old wf i s j place can stands =
-    removed_frees old (set old place 0) wf i s j can (store_removes old wf i s j place can stands)
+remove_frees old wf i s j place can last stands =
+    removed_frees old (set old place 0) wf i s j can (store_removes old wf i s j place can stands) last
     (store_blocks old wf i s 0 place can.reached can.entry.directory can.entry.in_size stands)
 
 -- ---- the set of free blocks
 
 -- it gets just the blocks that are gone
-pub freed_blocks : (old new : Image) → IsWellFormed old → length new ≡ length old → (Gone : ℕ → Type 0) → FreesBlocks old new Gone → (free after : ℕ → Bool) → AreFreeBlocks old free →
-    ((b : ℕ) → after b ≡ true → (free b ≡ true) ⊎ Gone b) → ((b : ℕ) → free b ≡ true → after b ≡ true) → ((b : ℕ) → Gone b → after b ≡ true) → AreFreeBlocks new after
-freed_blocks old new wf whole Gone frees free after are only still given = record { free = λ b is. free_now b (only b is); all = λ b open_block. all_now b open_block (after b) refl }
+pub freed_blocks : (old new : Image) → IsWellFormed old → length new ≡ length old → (Gone : ℕ → Type 0) → FreesBlocks old new Gone → (kept free after : ℕ → Bool) → AreFreeBlocks old kept free →
+    ((b : ℕ) → after b ≡ true → (free b ≡ true) ⊎ (Gone b × (kept b ≡ false))) → ((b : ℕ) → free b ≡ true → after b ≡ true) → ((b : ℕ) → Gone b → kept b ≡ false → after b ≡ true) → AreFreeBlocks new kept after
+freed_blocks old new wf whole Gone frees kept free after are only still given = record { free = λ b is. free_now b (only b is); all = λ b open_block. all_now b open_block (after b) refl }
   where
-    free_now : (b : ℕ) → (free b ≡ true) ⊎ Gone b → IsFreeBlock new b
+    free_now : (b : ℕ) → (free b ≡ true) ⊎ (Gone b × (kept b ≡ false)) → IsFreeBlock new kept b
     free_now b (inl was) =
-        let open_block : IsFreeBlock old b = are.free b was in
-        record { low = open_block.low; high = rw whole open_block.high; free = λ live. open_block.free (frees.back b live) }
-    free_now b (inr gone) =
+        let open_block : IsFreeBlock old kept b = are.free b was in
+        record { low = open_block.low; high = rw whole open_block.high; free = λ live. open_block.free (frees.back b live); loose = open_block.loose }
+    free_now b (inr (gone, loose)) =
         let live : IsLiveBlock old b = frees.were b gone in
         let present : b ≢ 0 = live.has.not_null in
         record {
           low = omega (arith, present);
           high = rw whole (subst (λ c. c < block_count old) live.has.named ((wf.sound live.tree live.reached).in_range live.has.depth live.has.index live.has.pointer));
           free = frees.gone b gone;
+          loose = loose;
         }
 
-    all_now : (b : ℕ) → IsFreeBlock new b → (is : Bool) → after b ≡ is → after b ≡ true
+    all_now : (b : ℕ) → IsFreeBlock new kept b → (is : Bool) → after b ≡ is → after b ≡ true
     all_now b open_block true e = e
     all_now b open_block false e =
-        let not_gone : Gone b → ⊥ = λ gone. clash (sym e ∙ given b gone) in
-        let was : IsFreeBlock old b = record { low = open_block.low; high = rw whole at open_block.high; free = λ live. open_block.free (frees.stay b live not_gone) } in
+        let not_gone : Gone b → ⊥ = λ gone. clash (sym e ∙ given b gone open_block.loose) in
+        let was : IsFreeBlock old kept b = record { low = open_block.low; high = rw whole at open_block.high; free = λ live. open_block.free (frees.stay b live not_gone); loose = open_block.loose } in
         still b (are.all b was)
       where
         clash : ◌≡◌ {A = Bool} false true → ⊥

@@ -275,6 +275,7 @@ module _ (old : Image) (wf : IsWellFormed old) (t d k place block : ℕ) (hang :
     here = same_root;
     others = λ u e l reached other live away. elsewhere u e l reached live (λ x y z. other (sym x));
     content = same_content;
+    low = wf.low t hang.reached;
     sound = record {
       low = (wf.sound t hang.reached).low;
       root_bits = (wf.sound t hang.reached).root_bits;

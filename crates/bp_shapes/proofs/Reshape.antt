@@ -1,7 +1,8 @@
 -- One tree of an image gets another shape and holds the same: every other tree stays, and the image means the same.
 use Rattle.std.proofs.Common.{le_of_eq, ◌≡◌, ◌≢◌, ◌⊎◌, ℕ, zero, suc, ◌+◌, ◌*◌, ◌/◌, ◌%◌, ◌<◌, ◌≤◌, length, refl, sym, ◌∙◌, ap, subst, subst₂, arith, inl, inr}
 use Rattle.std.proofs.lemmas.Bool.{cases_eq}
-use Rattle.bp_limits.specs.Limits.{super_magic, super_blocks, super_root, super_size}
+use Rattle.bp_limits.specs.Limits.{greatest_height, super_blocks, super_magic, super_root, super_size}
+use Rattle.bp_layout.specs.Formatted.{version_of}
 use Rattle.bp_layout.specs.Words.{Image, word, height_of, slot_word, byte_of}
 use Rattle.bp_layout.specs.Tree.{node, content_word, byte, IsLiveWord, HasBlock, IsSound, IsFull}
 use Rattle.bp_layout.specs.Inode.{inode_word, kind_of, root_of, size_of, inode_count}
@@ -13,6 +14,7 @@ use Rattle.bp_layout.proofs.TreeLaws.{KeepsPointers, content-kept, word_at-suc, 
 use Rattle.bp_layout.proofs.Reached.{reached-in_file}
 use Rattle.bp_changes.specs.SameContent.{SameContent, IsReadByWords}
 use Rattle.bp_changes.specs.SameMeaning.{SameMeaning}
+use Rattle.bp_changes.proofs.Formatted.{low_stays}
 use Rattle.bp_changes.proofs.SameMeaning.{same-by_meaning}
 
 -- tree t has this root word in the new image
@@ -30,6 +32,7 @@ pub record Reshapes (old new : Image) (t root : ℕ) : Type 0 where
       slot_word new (node old (root_of old u) e (l / 512)) (l % 512) ≡ slot_word old (node old (root_of old u) e (l / 512)) (l % 512)
   pub content : SameContent (IsReadByWords old t) old new (size_of old t) (root_of old t) root
   pub sound : IsSound new root (size_of old t)
+  pub low : 0 < size_of old t → height_of root ≤ greatest_height (version_of old)
   pub blocks : (b : ℕ) → HasBlock new root (size_of old t) b → HasBlock old (root_of old t) (size_of old t) b ⊎ (IsLiveBlock old b → ⊥)
   pub full : IsFull old (root_of old t) (size_of old t) → IsFull new root (size_of old t)
 
@@ -137,12 +140,18 @@ module _ (old new : Image) (wf : IsWellFormed old) (t root : ℕ) (reshapes : Re
       (λ e. reshapes.full (subst (λ x. IsFull old (root_of old x) (size_of old x)) e full))
       (λ other. full-kept old new (root_of old u) (size_of old u) (keeps u reached other) full)
 
+  low-same : (u : ℕ) → IsReached old u → 0 < size_of new u → height_of (root_of new u) ≤ greatest_height (version_of new)
+  low-same u reached = by_tree (λ r s. 0 < s → height_of r ≤ greatest_height (version_of new)) u reached
+      (λ e. low_stays old new reshapes.marked root root (size_of old t) (λ _. refl) reshapes.low)
+      (λ other. low_stays old new reshapes.marked (root_of old u) (root_of old u) (size_of old u) (λ _. refl) (wf.low u reached))
+
   pub reshaped_meaning : SameMeaning old new
   reshaped_meaning = record {
     trees = record {
       whole = reshapes.whole;
       marked = reshapes.marked;
       counted = reshapes.counted;
+      low = low-same;
       sound = sound-same;
       apart = apart-same;
       full_inode_file = full-same 0 inode_file wf.full_inode_file;

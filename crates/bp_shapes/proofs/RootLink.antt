@@ -118,6 +118,7 @@ module _ (old : Image) (wf : IsWellFormed old) (t place other : ℕ) (reached : 
       words = λ exact k below. new_word k (omega (arith, below)) ∙ reads.content.words exact k below;
       bytes = λ o below. ap (λ w. byte_of w (o % 8)) (new_word (o / 8) (omega (arith, below))) ∙ reads.content.bytes o below;
     };
+    low = reads.low;
     sound = sound-kept old (set old place other) other (size_of old t) keeps_new (length-set old place other) reads.sound;
     blocks = λ b has. reads.blocks b (has_block-kept old (set old place other) other (size_of old t) keeps_new b has);
     full = λ full. full-kept old (set old place other) other (size_of old t) keeps_new (reads.full full);

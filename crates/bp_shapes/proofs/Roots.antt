@@ -1,5 +1,8 @@
 -- Root words that read as the old one: a higher root, a null root of another height, any root at size 0.
-use Rattle.std.proofs.Common.{◌≡◌, ◌≢◌, ◌⊎◌, ℕ, zero, suc, ◌*◌, ◌/◌, ◌%◌, ◌<◌, ◌≤◌, refl, sym, ◌∙◌, ap, subst, arith, inl, inr, pow-suc}
+use Rattle.std.proofs.Common.{◌≡◌, ◌≢◌, ◌⊎◌, ℕ, zero, suc, ◌*◌, ◌/◌, ◌%◌, ◌<◌, ◌≤◌, refl, sym, ◌∙◌, ap, subst, arith, inl, inr, le_trans, pow-suc}
+use Rattle.bp_limits.specs.Limits.{greatest_height}
+use Rattle.bp_limits.proofs.Versions.{height_most}
+use Rattle.bp_layout.specs.Formatted.{version_of}
 use Rattle.bp_layout.specs.Words.{Image, block_count, block_of, height_of, slot_word, byte_of}
 use Rattle.bp_layout.specs.Tree.{word_at, node, covered, IsLivePointer, HasBlock, IsSound, IsFull}
 use Rattle.bp_layout.specs.Reached.{IsLiveBlock}
@@ -8,12 +11,13 @@ use Rattle.bp_shapes.proofs.Raising.{Raises, node-raised, content-raised, live_l
 use Rattle.bp_layout.proofs.TreeLaws.{first_index}
 use Rattle.bp_changes.specs.SameContent.{ReadsAs}
 
-pub reads_self : (ByWords : Type 0) (image : Image) (size root : ℕ) → IsSound image root size → ReadsAs ByWords image size root root
-reads_self ByWords image size root sound = record { sound = sound; content = record { words = λ exact k below. refl; bytes = λ o below. refl }; blocks = λ b has. inl has; full = λ full. full }
+pub reads_self : (ByWords : Type 0) (image : Image) (size root : ℕ) → IsSound image root size → (0 < size → height_of root ≤ greatest_height (version_of image)) → ReadsAs ByWords image size root root
+reads_self ByWords image size root sound low = record { sound = sound; low = low; content = record { words = λ exact k below. refl; bytes = λ o below. refl }; blocks = λ b has. inl has; full = λ full. full }
 
 pub reads_on : (ByWords : Type 0) (image : Image) (size first second third : ℕ) → ReadsAs ByWords image size first second → ReadsAs ByWords image size second third → ReadsAs ByWords image size first third
 reads_on ByWords image size first second third one two = record {
   sound = two.sound;
+  low = two.low;
   content = record { words = λ exact k below. two.content.words exact k below ∙ one.content.words exact k below; bytes = λ o below. two.content.bytes o below ∙ one.content.bytes o below };
   blocks = λ b has. elim (two.blocks b has) [ inl before ↦ one.blocks b before | inr free ↦ inr free ];
   full = λ full. two.full (one.full full);
@@ -23,7 +27,7 @@ reads_on ByWords image size first second third one two = record {
 pub record CanRaise (image : Image) (size root other : ℕ) : Type 0 where
   pub sound : IsSound image root size
   pub taller : height_of other ≡ suc (height_of root)
-  pub low : height_of root ≤ 2
+  pub low : suc (height_of root) ≤ greatest_height (version_of image)
   pub bits : other / 8 % 512 ≡ 0
   pub in_range : block_of other < block_count image
   pub not_null : block_of other ≢ 0
@@ -106,13 +110,14 @@ module _ (ByWords : Type 0) (image : Image) (size root other : ℕ) (can : CanRa
   pub raised_reads : ReadsAs ByWords image size root other
   raised_reads = record {
     sound = record {
-      low = λ some. omega (arith, can.taller, can.low);
+      low = λ some. le_trans (omega (arith, can.taller, can.low)) (height_most (version_of image));
       root_bits = λ some. can.bits;
       pointer_bits = pointer_bits;
       in_range = in_range;
       once = once;
       fits = wide;
     };
+    low = λ some. omega (arith, can.taller, can.low);
     content = record {
       words = λ exact k below. content-raised image image root other size raises k (omega (arith, below));
       bytes = λ o below. ap (λ w. byte_of w (o % 8)) (content-raised image image root other size raises (o / 8) (omega (arith, below)));

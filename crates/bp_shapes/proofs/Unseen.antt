@@ -1,4 +1,4 @@
--- Words of blocks to which no pointer leads may be any.
+-- Words of free blocks may be any.
 use Rattle.std.proofs.Common.{◌≡◌, ◌⊎◌, ℕ, ◌+◌, ◌*◌, ◌/◌, ◌%◌, ◌<◌, ◌≤◌, length, Bool, true, false, refl, sym, ◌∙◌, subst, arith, inl, inr, lt_of_lt_of_le}
 use Rattle.std.proofs.lemmas.Bool.{cases_lt}
 use Rattle.std.proofs.Math.ListN.{get_or-eq_default}
@@ -13,7 +13,7 @@ use Rattle.bp_layout.proofs.SameLaws.{same_symmetric}
 use Rattle.bp_changes.proofs.Stores.{harmless_here}
 use Rattle.bp_changes.proofs.Separation.{free-harmless}
 use Rattle.bp_shapes.specs.Trail.{LeadsTo}
-use Rattle.bp_shapes.specs.Forest.{IsExactSet, IsForest, IsTreePointer, IsUnseen}
+use Rattle.bp_shapes.specs.Forest.{IsExactSet, IsForest, IsTreePointer}
 use Rattle.bp_shapes.proofs.ForestLaws.{block-tree}
 
 pub live_leads : (old : Image) (bound : ℕ → ℕ) → IsForest old bound → ((t : ℕ) → IsReached old t → size_of old t ≤ bound t) → (b : ℕ) → IsLiveBlock old b → LeadsTo old (IsTreePointer old bound) b
@@ -31,9 +31,9 @@ live_leads old bound forest sizes b one = record {
   not_null = one.has.not_null;
 }
 
-pub same_unseen : (old : Image) (bound : ℕ → ℕ) (free : ℕ → Bool) → IsWellFormed old → IsForest old bound → ((t : ℕ) → IsReached old t → size_of old t ≤ bound t) →
-    IsExactSet old (IsTreePointer old bound) free → (image : Image) → length image ≡ length old → ((place : ℕ) → (IsUnseen old bound place → ⊥) → word image place ≡ word old place) → Same image old
-same_unseen old bound free wf forest sizes exact image size others =
+pub same_unseen : (old : Image) (bound : ℕ → ℕ) (kept free : ℕ → Bool) → IsWellFormed old → IsForest old bound → ((t : ℕ) → IsReached old t → size_of old t ≤ bound t) →
+    IsExactSet old (IsTreePointer old bound) kept free → (image : Image) → length image ≡ length old → ((place : ℕ) → free (place / 512) ≡ false → word image place ≡ word old place) → Same image old
+same_unseen old bound kept free wf forest sizes exact image size others =
     let same : Same old image = same-by_agreement old image wf (record { whole = size; each = λ place. each place (free (place / 512)) refl }) in
     same_symmetric old image same
   where
@@ -47,13 +47,4 @@ same_unseen old bound free wf forest sizes exact image size others =
         subst (λ p. IsHarmless old p (word image place)) at
         (free-harmless old wf (place / 512) (place % 512) (word image place) range.0 (omega arith)
         (λ live. let used : free (place / 512) ≡ false = exact.live (place / 512) (live_leads old bound forest sizes (place / 512) live) in absurd (cc)))
-    each place false is = still place (go (cases_lt place (length old)))
-      where
-        go : (place < length old) ⊎ (length old ≤ place) → word image place ≡ word old place
-        go (inl low) =
-            others place (λ unseen.
-            let small : 512 ≤ place = unseen.low in
-            let whole : length old ≡ 512 * block_count old = wf.formatted.sized.whole in
-            let open_block : free (place / 512) ≡ true = exact.dead (place / 512) (omega (arith, small)) (omega (arith, low, whole)) unseen.dead in
-            absurd (cc))
-        go (inr past) = get_or-eq_default image 0 (subst (λ n. n ≤ place) (sym size) past) ∙ sym (get_or-eq_default old 0 past)
+    each place false is = still place (others place is)

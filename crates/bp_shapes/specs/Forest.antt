@@ -1,6 +1,7 @@
 -- The trees of an image on their trails.
 use Rattle.std.specs.Prelude.{◌≡◌, ℕ, zero, suc, ◌+◌, ◌*◌, ◌/◌, ◌%◌, ◌<◌, ◌≤◌, [], ◌∷◌, Bool, true, false}
-use Rattle.bp_limits.specs.Limits.{block_words, inode_size, inode_words, super_root}
+use Rattle.bp_limits.specs.Limits.{block_words, greatest_height, inode_size, inode_words, super_root}
+use Rattle.bp_layout.specs.Formatted.{version_of}
 use Rattle.bp_layout.specs.Words.{Image, word, block_count, height_of}
 use Rattle.bp_layout.specs.Tree.{IsLivePointer, HasBlock, IsSound}
 use Rattle.bp_layout.specs.Inode.{root_of}
@@ -20,11 +21,13 @@ root_trail height (suc i) = along [] (suc height) (inode_words * suc i + 1)
 abbrev pub tree_trail : ℕ → ℕ → ℕ → ℕ → Trail
 tree_trail height t depth index = along (root_trail height t) depth index
 
--- the reached trees under other sizes: each is sound, and no block is in two
+-- the reached trees under other sizes: each is sound and not too high, and no block is in two
 pub record IsForest (image : Image) (bound : ℕ → ℕ) : Type 0 where
   pub some : 0 < bound 0
   pub in_file : (i : ℕ) → IsReached image (suc i) → inode_size * suc i + inode_size ≤ bound 0
   pub sound : (t : ℕ) → IsReached image t → IsSound image (root_of image t) (bound t)
+  pub low : (t : ℕ) → IsReached image t → 0 < bound t
+      → height_of (root_of image t) ≤ greatest_height (version_of image)
   pub apart : (t u b : ℕ) → IsReached image t → IsReached image u →
       HasBlock image (root_of image t) (bound t) b → HasBlock image (root_of image u) (bound u) b → t ≡ u
 
@@ -37,13 +40,9 @@ pub record IsTreePointer (image : Image) (bound : ℕ → ℕ) (p : Trail) : Typ
   pub live : IsLivePointer (root_of image tree) (bound tree) depth index
   pub named : tree_trail (height_of (word image super_root)) tree depth index ≡ p
 
--- a word of a block to which no pointer leads
-pub record IsUnseen (image : Image) (bound : ℕ → ℕ) (place : ℕ) : Type 0 where
-  pub low : block_words ≤ place
-  pub dead : LeadsTo image (IsTreePointer image bound) (place / block_words) → ⊥
-
--- the set has just the blocks to which no pointer of these trails leads
-pub record IsExactSet (image : Image) (Pointer : Trail → Type 0) (free : ℕ → Bool) : Type 0 where
+-- the set has just the blocks to which no pointer of these trails leads and that are not kept
+pub record IsExactSet (image : Image) (Pointer : Trail → Type 0) (kept free : ℕ → Bool) : Type 0 where
   pub live : (b : ℕ) → LeadsTo image Pointer b → free b ≡ false
-  pub dead : (b : ℕ) → 1 ≤ b → b < block_count image → (LeadsTo image Pointer b → ⊥) → free b ≡ true
+  pub dead : (b : ℕ) → 1 ≤ b → b < block_count image → (LeadsTo image Pointer b → ⊥) → kept b ≡ false → free b ≡ true
   pub in_range : (b : ℕ) → free b ≡ true → (1 ≤ b) × (b < block_count image)
+  pub loose : (b : ℕ) → free b ≡ true → kept b ≡ false

@@ -1,10 +1,11 @@
 -- The two links of a preparation: a root word that reads as the old one, and a subtree in place of a null.
 use Rattle.std.specs.Prelude.{◌≡◌, ◌≢◌, ℕ, suc, ◌+◌, ◌*◌, ◌/◌, ◌%◌, ◌<◌, ◌≤◌, List, [], ◌∷◌, length}
+use Rattle.bp_layout.specs.Formatted.{version_of}
 use Rattle.bp_layout.specs.Words.{Image, block_count, block_of, height_of, slot_word, byte_of}
 use Rattle.bp_layout.specs.Tree.{word_at, node, IsLivePointer}
 use Rattle.bp_layout.specs.Inode.{root_of, size_of, StandsAt}
 use Rattle.bp_layout.specs.Reached.{IsReached, IsLiveBlock}
-use Rattle.bp_limits.specs.Limits.{block_size, block_words, max_height}
+use Rattle.bp_limits.specs.Limits.{block_size, block_words, greatest_height}
 use Rattle.bp_layout.specs.Members.{Each, AreApart}
 
 -- word l at depth e stands at or under word k at depth d + 1, so many deeper
@@ -48,9 +49,9 @@ LeadDown image root [] = Unit {0}
 LeadDown image root (block ∷ blocks) =
     (slot_word image block 0 ≡ block_size * block_of root) × LeadDown image (raised root block) blocks
 
--- free blocks that lead down to the root's block
+-- free blocks that lead down to the root's block, no more than the image's version allows
 pub record IsChain (image : Image) (root : ℕ) (blocks : List ℕ) : Type 0 where
-  pub low : height_of root + length blocks ≤ max_height
+  pub low : height_of root + length blocks ≤ greatest_height (version_of image)
   pub in_range : Each (λ b. b < block_count image) blocks
   pub not_null : Each (λ b. b ≢ 0) blocks
   pub free : Each (λ b. IsLiveBlock image b → ⊥) blocks

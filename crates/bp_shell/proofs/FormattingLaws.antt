@@ -5,16 +5,23 @@ use Rattle.std.specs.Io.KnownBytes.{Appends}
 use Rattle.std.proofs.Math.Seq.{take-length}
 use Rattle.std.proofs.lemmas.List.{length-replicate}
 use Rattle.pm_region.specs.Memory.{Memory, current_words}
+use Rattle.bp_layout.specs.Format.{format_stores}
 use Rattle.bp_layout.specs.Words.{Image}
+use Rattle.bp_layout.proofs.LastValue.{length-after_stores}
+use Rattle.bp_limits.specs.declared.version.Version.{Version}
 use Rattle.bp_io.specs.Causes.{HasCause}
 use Rattle.bp_io.specs.Files.{Known, Stays, StaysOrIsMade, Becomes, Attaches, block_bytes, resized_file}
 use Rattle.bp_session.specs.Files.{HasBytes, HasBlocksOf}
-use Rattle.bp_shell.specs.Formatting.{IsPartlyFormatted, HasPartly, bytes_there}
+use Rattle.bp_shell.specs.Formatting.{IsPartlyFormatted, HasPartly, bytes_there, new_image}
 use Rattle.bp_session.specs.Outside.{Prints}
 
 pub prints : {T E : Type 0} (r : Result T E) (text : List ℕ) (t u : Option (List ℕ)) (m n : ℕ) → OnOk r (Appends t u text) → OnErr r ((count : ℕ) × (count < length text) × Appends t u (take count text)) → HasCause m n r → Prints text t u m n
 prints (Ok x) text t u m n ok err cause = record { some = (length text, rw (take-length text) ok); all = λ _. ok }
 prints (Err e) text t u m n ok err cause = record { some = (err.0, err.2); all = λ calm. absurd (calm cause.failed) }
+
+-- the words of a format are as many as the zeros over which it is made
+pub length-new_image : (version : Version) (blocks : ℕ) → length (new_image version blocks) ≡ 512 * blocks
+length-new_image version blocks = length-after_stores (replicate (512 * blocks) 0) (format_stores version blocks) ∙ length-replicate (512 * blocks) 0
 
 -- ---- zeros behind bytes
 

@@ -8,7 +8,10 @@ use Rattle.bp_session.proofs.OthersLaws.{stays_same, stays_stays}
 use Rattle.bp_session.proofs.SavingLaws.{stays_attached, still_attached}
 use Rattle.bp_layout.specs.Bytes.{image_bytes}
 use Rattle.bp_free.specs.Set.{Set, has, members}
-use Rattle.bp_layout.specs.Free.{AreFreeBlocks, HasFree, numbers_below}
+use Rattle.bp_layout.specs.Free.{AreFreeBlocks, numbers_below}
+use Rattle.bp_layout.specs.Thaw.{none_kept}
+use Rattle.bp_layout.specs.Whole.{HasNoSecond, HasSpace}
+use Rattle.bp_layout.proofs.NoSecond.{none_frozen}
 use Rattle.bp_layout.specs.Checks.{number_of}
 use Rattle.bp_layout.specs.Words.{Image, block_count}
 use Rattle.bp_scan.specs.Faults.{IsFault}
@@ -174,9 +177,13 @@ pub if_memory : (stop : Stop) → stop ≡ Memory → stop ≡ Outside → ⊥
 if_memory stop is e = let no : ◌≡◌ {A = Stop} Memory Outside = sym is ∙ e in cc
 
 -- the blocks of a set of a scan, counted
-pub counted : (image : Image) (set : Set) (count : ℕ) → AreFreeBlocks image (has set) → length set ≡ block_count image → count ≡ length (members set) → HasFree image count
-counted image set count are size is = record {
-  set = has set;
-  are = are;
-  number = ap (λ n. length (numbers_below n (has set))) (sym size) ∙ sym is;
+pub counted : (image : Image) (set : Set) (count : ℕ) → HasNoSecond image → AreFreeBlocks image none_kept (has set) → length set ≡ block_count image → count ≡ length (members set) → HasSpace image count
+counted image set count none are size is = record {
+  kept = none_kept;
+  are = none_frozen image none;
+  free = record {
+    set = has set;
+    are = are;
+    number = ap (λ n. length (numbers_below n (has set))) (sym size) ∙ sym is;
+  };
 }

@@ -11,6 +11,7 @@ use Rattle.bp_session.specs.Files.{HasBlocksOf, HasBytes, Holds, HoldsAs}
 use Rattle.bp_shell.specs.Formatting.{HasPartly, new_image}
 use Rattle.bp_shell.specs.Opening.{HoldsFileSystem, start}
 use Rattle.bp_session.specs.Outside.{IsIdle, IsUntouched, Outside, counts, outside}
+use Rattle.bp_limits.specs.declared.version.Version.{Version}
 use Rattle.bp_shell.specs.Running.{FormatOutcome, RunOutcome, Runs, RunsBroken, RunsLong, RunsPart, RunsStopped, RunsUnsaved, format_text}
 use Rattle.bp_session.specs.Pieces.{gathered_size}
 use Rattle.bp_session.specs.Serving.{Carries, CarriesPartly, HoldsAt, Input, Moment, ServeOutcome}
@@ -169,8 +170,8 @@ module _ (i j : Input) (files : View) (a b : Moment) (name : List ℕ) (image : 
 
 -- ---- `format`
 
-module _ (blocks : ℕ) (before after : Outside) (left : after.left ≡ before.left) (source : after.faults.source ≡ before.faults.source) where
-  pub format_done : HasBytes after.file (image_bytes (new_image blocks)) → Appends before.taken after.taken (format_text blocks) → after.is_flushed ≡ true → after.faults.sink ≡ before.faults.sink → after.faults.files ≡ before.faults.files → FormatOutcome 0 blocks before after
+module _ (version : Version) (blocks : ℕ) (before after : Outside) (left : after.left ≡ before.left) (source : after.faults.source ≡ before.faults.source) where
+  pub format_done : HasBytes after.file (image_bytes (new_image version blocks)) → Appends before.taken after.taken (format_text blocks) → after.is_flushed ≡ true → after.faults.sink ≡ before.faults.sink → after.faults.files ≡ before.faults.files → FormatOutcome 0 version blocks before after
   format_done saved told flushed sink files = record {
     whole = λ _. (saved, told);
     sink = λ e. absurd (omega (arith, e));
@@ -182,8 +183,8 @@ module _ (blocks : ℕ) (before after : Outside) (left : after.left ≡ before.l
     one_of = inl refl;
   }
 
-  pub format_broken : HasBytes after.file (image_bytes (new_image blocks)) → (count : ℕ) × (count < length (format_text blocks)) × Appends before.taken after.taken (take count (format_text blocks)) → after.is_flushed ≡ true → Rose before.faults.sink after.faults.sink
-      → after.faults.files ≡ before.faults.files → FormatOutcome 4 blocks before after
+  pub format_broken : HasBytes after.file (image_bytes (new_image version blocks)) → (count : ℕ) × (count < length (format_text blocks)) × Appends before.taken after.taken (take count (format_text blocks)) → after.is_flushed ≡ true → Rose before.faults.sink after.faults.sink
+      → after.faults.files ≡ before.faults.files → FormatOutcome 4 version blocks before after
   format_broken saved broken flushed rose files = record {
     whole = λ e. absurd (omega (arith, e));
     sink = λ _. (saved, broken);
@@ -195,7 +196,7 @@ module _ (blocks : ℕ) (before after : Outside) (left : after.left ≡ before.l
     one_of = inr (inl refl);
   }
 
-  pub format_failed : HasPartly before.file (image_bytes (new_image blocks)) after.file → after.taken ≡ before.taken → after.faults.sink ≡ before.faults.sink → Rose before.faults.files after.faults.files → FormatOutcome 5 blocks before after
+  pub format_failed : HasPartly before.file (image_bytes (new_image version blocks)) after.file → after.taken ≡ before.taken → after.faults.sink ≡ before.faults.sink → Rose before.faults.files after.faults.files → FormatOutcome 5 version blocks before after
   format_failed partly taken sink rose = record {
     whole = λ e. absurd (omega (arith, e));
     sink = λ e. absurd (omega (arith, e));
@@ -207,7 +208,7 @@ module _ (blocks : ℕ) (before after : Outside) (left : after.left ≡ before.l
     one_of = inr (inr (inl refl));
   }
 
-  pub format_memory : after.file ≡ before.file → after.taken ≡ before.taken → after.faults.sink ≡ before.faults.sink → after.faults.files ≡ before.faults.files → FormatOutcome 8 blocks before after
+  pub format_memory : after.file ≡ before.file → after.taken ≡ before.taken → after.faults.sink ≡ before.faults.sink → after.faults.files ≡ before.faults.files → FormatOutcome 8 version blocks before after
   format_memory file taken sink files = record {
     whole = λ e. absurd (omega (arith, e));
     sink = λ e. absurd (omega (arith, e));

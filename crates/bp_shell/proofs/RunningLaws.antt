@@ -3,14 +3,15 @@ use Rattle.std.proofs.Common.{refl, sym, ◌∙◌, ap, arith, ◌≡◌, ℕ, �
 use Rattle.std.specs.Prelude.{Some, ◌⊎◌}
 use Rattle.std.specs.Io.KnownBytes.{Consumes, IsAtEnd}
 use Rattle.pm_region.specs.Memory.{Memory, current_words, drained}
+use Rattle.bp_layout.specs.Formatted.{version_of}
 use Rattle.bp_layout.specs.Words.{Image}
 use Rattle.bp_layout.specs.Bytes.{image_bytes}
 use Rattle.bp_plain.proofs.Existence.{stands_for, tree_of}
 use Rattle.bp_script.specs.Commands.{Command}
 use Rattle.bp_script.specs.Texts.{LineReply}
 use Rattle.bp_script.specs.declared.notices.Notice.{Notice}
-use Rattle.bp_layout.specs.WellFormed.{IsWellFormed}
-use Rattle.bp_layout.proofs.ChecksLaws.{none_fails}
+use Rattle.bp_layout.specs.Whole.{IsFileSystem}
+use Rattle.bp_layout.proofs.NoSecond.{none_fails_whole}
 use Rattle.bp_scan.specs.Length.{wanted_length}
 use Rattle.bp_session.specs.Acting.{state}
 use Rattle.bp_session.specs.Files.{AreWordsOf64Bits, IsAbsent}
@@ -32,10 +33,10 @@ use Rattle.bp_session.proofs.ServingLaws.{breaks_as, not_long, serves_as, sessio
 
 module _ (before after : Outside) (image : Image) (memory new : Memory) (found : HoldsFileSystem before.file image) (same : memory ≡ (start image).memory) where
   abbrev begins : (input : List ℕ) → Consumes before.left after.left input → BeginsRun before after
-  begins input read = record { image = image; found = found; tree = tree_of image found.well_formed; stands = stands_for image found.well_formed; input = input; read = read }
+  begins input read = record { image = image; found = found; tree = tree_of image found.well_formed.first found.well_formed.second; stands = stands_for image found.well_formed.first found.well_formed.second; input = input; read = read }
 
-  plainly : (commands : List Command) (replies : List LineReply) (end : State) → Session (start image) commands replies end → FollowsTree (tree_of image found.well_formed) (start image) commands replies end
-  plainly commands replies end session = follows_tree (start image) (tree_of image found.well_formed) commands replies end refl (stands_for image found.well_formed) session
+  plainly : (commands : List Command) (replies : List LineReply) (end : State) → Session (start image) commands replies end → FollowsTree (tree_of image found.well_formed.first found.well_formed.second) (start image) commands replies end
+  plainly commands replies end session = follows_tree (start image) (tree_of image found.well_formed.first found.well_formed.second) commands replies end refl (stands_for image found.well_formed.first found.well_formed.second) session
 
   pub runs_whole : (input : List ℕ) (holds : Image → Type 0) → Consumes before.left after.left input → IsAtEnd after.left → length input ≤ 1073741824
       → ServesAll (state memory image) new holds (commands_from [] input) before.taken after.taken → Saves after (current_words new) → after.is_flushed ≡ true → Runs before after
@@ -77,7 +78,7 @@ module _ (before after : Outside) (image : Image) (memory new : Memory) (found :
       }
 
   breaks_plainly : (holds : Image → Type 0) → ((i : Image) → holds i → Saves after i) → (commands : List Command) → BreaksOff gathered_size (state memory image) new holds commands before.taken after.taken
-      → BreaksOffPlainly image (tree_of image found.well_formed) new before after commands
+      → BreaksOffPlainly image (tree_of image found.well_formed.first found.well_formed.second) new before after commands
   breaks_plainly holds f commands breaks =
       let told : BreaksOff gathered_size (start image) new (Saves after) commands before.taken after.taken =
       breaks_as (start image) new before.taken after.taken holds (Saves after) f gathered_size gathered_size commands (λ e. e) (rw same at breaks) in
@@ -99,7 +100,7 @@ module _ (before after : Outside) (image : Image) (memory new : Memory) (found :
   }
 
   stops_plainly : (partly : Image → Image → Type 0) → ((i j : Image) → partly i j → SavesPartly after i j) → (commands : List Command) → StopsAtSave (state memory image) new partly commands before.taken after.taken
-      → StopsPlainly image (tree_of image found.well_formed) new before after commands
+      → StopsPlainly image (tree_of image found.well_formed.first found.well_formed.second) new before after commands
   stops_plainly partly f commands stops =
       let told : StopsAtSave (start image) new (SavesPartly after) commands before.taken after.taken = stops_as (start image) new before.taken after.taken partly (SavesPartly after) f commands (rw same at stops) in
       record { stops = told; plainly = plainly _ _ _ told.told.session }
@@ -131,20 +132,20 @@ module _ (before after : Outside) (image : Image) (memory new : Memory) (found :
         plainly = plainly _ _ _ told.session;
       }
 
-wanted_whole : (n : ℕ) → 8 ≤ n → n ≤ 16384 → wanted_length (4096 * n) ≡ 4096 * n
+wanted_whole : (n : ℕ) → 8 ≤ n → n ≤ 65536 → wanted_length (4096 * n) ≡ 4096 * n
 wanted_whole n least most = omega arith
 
 -- ---- completeness
 
-not_refused : (image : Image) (notice : Notice) → AreWordsOf64Bits image → IsWellFormed image → RefusesFile (Some (Some (image_bytes image))) notice → ⊥
+not_refused : (image : Image) (notice : Notice) → AreWordsOf64Bits image → IsFileSystem image → RefusesFile (Some (Some (image_bytes image))) notice → ⊥
 not_refused image line words well (by_length {len = len} has wrong) =
-    let size : len ≡ 4096 * (length image / 512) = omega (arith, has, length-image_bytes image, well.formatted.sized.whole) in
-    wrong (size ∙ sym (wanted_whole (length image / 512) well.formatted.sized.at_least well.formatted.sized.at_most) ∙ ap wanted_length (sym size))
-not_refused image line words well (not_formatted {image = other} has wrong) = let same = image_once image other words has.has.words has.has.bytes in wrong (rw (← same) well.formatted.marked)
-not_refused image line words well (by_count {image = other} has marked wrong) = let same = image_once image other words has.has.words has.has.bytes in wrong (rw (← same) well.formatted.counted)
+    let size : len ≡ 4096 * (length image / 512) = omega (arith, has, length-image_bytes image, well.first.formatted.sized.whole) in
+    wrong (size ∙ sym (wanted_whole (length image / 512) well.first.formatted.sized.at_least well.first.formatted.sized.at_most) ∙ ap wanted_length (sym size))
+not_refused image line words well (not_formatted {image = other} has wrong) = let same = image_once image other words has.has.words has.has.bytes in wrong (version_of other) (rw (← same) well.first.formatted.marked)
+not_refused image line words well (by_count {image = other} has marked wrong) = let same = image_once image other words has.has.words has.has.bytes in wrong (rw (← same) well.first.formatted.counted)
 not_refused image line words well (damaged {image = other} {check = check} {place = place} has marked counted wrong) =
     let same = image_once image other words has.has.words has.has.bytes in
-    none_fails image well check place (rw same wrong)
+    none_fails_whole image well check place (rw same wrong)
 
 pub complete : (status : ℕ) (before after : Outside) → (status ≡ 1 → IsAbsent before.file) → (status ≡ 3 → SourceFailed before after) → (status ≡ 4 → SinkFailed before after) → (status ≡ 5 → FilesFailed before after)
     → (status ≡ 6 → RunsLong before after) → (status ≡ 7 → (notice : Notice) × RefusesFile before.file notice)

@@ -1,7 +1,7 @@
 -- What `check FILE` answers, and when.
 use Rattle.std.specs.Prelude.{◌≡◌, ℕ, List}
 use Rattle.bp_io.specs.Files.{Known}
-use Rattle.bp_layout.specs.Free.{HasFree}
+use Rattle.bp_layout.specs.Whole.{HasSpace}
 use Rattle.bp_layout.specs.Words.{Image}
 use Rattle.bp_scan.specs.Totals.{HasTotals}
 use Rattle.bp_scan.specs.declared.totals.Totals.{Totals}
@@ -17,10 +17,10 @@ pub record IsClean (image : Image) (notice : Notice) : Type 0 where
   pub totals : Totals
   pub free : ℕ
   pub holds : HasTotals image totals
-  pub leaves : HasFree image free
+  pub leaves : HasSpace image free
   pub line : notice ≡ Clean totals.files totals.dirs totals.bytes totals.live free
 
--- FILE holds a well-formed image, of which this line tells.
+-- FILE holds a file system, of which this line tells.
 pub record Checks (known : Known) (notice : Notice) : Type 0 where
   pub image : Image
   pub found : HoldsFileSystem known image

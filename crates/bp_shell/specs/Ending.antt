@@ -2,7 +2,7 @@
 use Rattle.std.specs.Prelude.{Some, ◌≡◌, ◌⊎◌, ℕ, List, Option}
 use Rattle.std.specs.Io.KnownBytes.{Appends}
 use Rattle.bp_layout.specs.Bytes.{image_bytes}
-use Rattle.bp_layout.specs.WellFormed.{IsWellFormed}
+use Rattle.bp_layout.specs.Whole.{IsFileSystem}
 use Rattle.bp_layout.specs.Words.{Image}
 use Rattle.bp_script.specs.Sayings.{notice_text}
 use Rattle.bp_script.specs.declared.notices.Notice.{Notice}
@@ -45,12 +45,12 @@ pub record StopOutcome (status : ℕ) (before after : Outside) : Type 0 where
 
 -- ---- a program that reads FILE alone
 
--- Where FILE is told to have the bytes of a well-formed image, and nothing fails, the status is 0, or 8 for want of
+-- Where FILE is told to have the bytes of a file system, and nothing fails, the status is 0, or 8 for want of
 -- memory.
 abbrev pub IsReadComplete : ℕ → Outside → Outside → Type 0
 IsReadComplete status before after =
     (image : Image) → before.file ≡ Some (Some (image_bytes image)) → AreWordsOf64Bits image
-    → IsWellFormed image → ¬ SinkFailed before after → ¬ FilesFailed before after → (status ≡ 0) ⊎ (status ≡ 8)
+    → IsFileSystem image → ¬ SinkFailed before after → ¬ FilesFailed before after → (status ≡ 0) ⊎ (status ≡ 8)
 
 -- What `check` and `play` answer, and when: they tell a text of this kind. They read no input, and FILE stays as it is.
 pub record ReadOutcome (Tells : List ℕ → Type 0) (status : ℕ) (before after : Outside) : Type 0 where

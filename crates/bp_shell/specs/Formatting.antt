@@ -1,13 +1,14 @@
 -- What a format makes of a file.
 use Rattle.std.specs.Prelude.{◌≡◌, ◌⊎◌, ℕ, ◌*◌, ◌<◌, List, [], length, replicate, Option, None, Some, true, false}
 use Rattle.bp_limits.specs.Limits.{block_size, block_words}
+use Rattle.bp_limits.specs.declared.version.Version.{Version}
 use Rattle.bp_io.specs.Files.{Known, Stays, StaysAttached, View, block_bytes, resized_file}
 use Rattle.bp_layout.specs.Words.{Image}
 use Rattle.bp_layout.specs.Format.{formatted}
 
--- the image of a format over zeros
-abbrev pub new_image : ℕ → Image
-new_image blocks = formatted (replicate (block_words * blocks) 0) blocks
+-- the image of a format of a version over zeros
+abbrev pub new_image : Version → ℕ → Image
+new_image version blocks = formatted (replicate (block_words * blocks) 0) version blocks
 
 -- The file has its old length or the wanted one, and each of its blocks is the old file's, or that one filled up with
 -- zeros, or that of the wanted bytes.

@@ -3,12 +3,13 @@ use Rattle.std.specs.Prelude.{◌≡◌, ◌≢◌, ◌⊎◌, ◌≤◌, ℕ, �
 use Rattle.bp_io.specs.Files.{KeepsFiles, Known, StaysAttached, View, may_change}
 use Rattle.bp_io.specs.declared.access.Access.{Access}
 use Rattle.bp_io.specs.declared.access.Access.TheVariants.{Read}
-use Rattle.bp_layout.specs.Formatted.{IsSized}
+use Rattle.bp_layout.specs.Formatted.{IsSized, version_of}
 use Rattle.bp_layout.specs.Words.{Image, word, block_count}
 use Rattle.bp_limits.specs.Limits.{block_size, block_words, log_events, magic, max_blocks, min_blocks, super_blocks, super_magic}
-use Rattle.bp_layout.specs.Checks.{Fails, number_of}
+use Rattle.bp_limits.specs.declared.version.Version.{Version}
+use Rattle.bp_layout.specs.Checks.{number_of}
 use Rattle.bp_layout.specs.declared.check.Check.{Check}
-use Rattle.bp_layout.specs.WellFormed.{IsWellFormed}
+use Rattle.bp_layout.specs.Whole.{FailsWhole, IsFileSystem}
 use Rattle.bp_scan.specs.Length.{wanted_length}
 use Rattle.bp_script.specs.declared.notices.Notice.{Notice}
 use Rattle.bp_script.specs.declared.notices.Notice.TheVariants.{NotFormatted, BadSize, Damaged}
@@ -19,7 +20,7 @@ use Rattle.pm_raw.specs.Part.{Part}
 -- The file holds this image, which is a file system.
 pub record HoldsFileSystem (known : Known) (image : Image) : Type 0 where
   pub has : HasImage known image
-  pub well_formed : IsWellFormed image
+  pub well_formed : IsFileSystem image
 
 -- The file has the bytes of an image of a length that an image may have.
 pub record HasSized (known : Known) (image : Image) : Type 0 where
@@ -51,21 +52,20 @@ pub record HasLoaded (files : View) (count : ℕ) (part : Part) : Type 0 where
   pub long : length part.words ≡ block_words * count
   pub size : part.size ≡ block_words * files.blocks
 
--- Why a file is refused, by the line that says so: it has no image's length; or it has one, and word 0 is not the mark
--- of a file system, word 1 is not its number of blocks, or both are right and the check with this number fails at this
--- word.
+-- Why a file is refused, by the line that says so: it has no image's length; or it has one, and word 0 is the mark of no
+-- version, word 1 is not its number of blocks, or both are right and the check with this number fails at this word.
 pub data RefusesFile (known : Known) : Notice → Type 0 where
   by_length : {len : ℕ} → HasLength known len → len ≢ wanted_length len
       → RefusesFile known (BadSize len (wanted_length len))
-  not_formatted : {image : Image} → HasSized known image → word image super_magic ≢ magic
-      → RefusesFile known NotFormatted
-  by_count : {image : Image} → HasSized known image → word image super_magic ≡ magic
+  not_formatted : {image : Image} → HasSized known image
+      → ((version : Version) → word image super_magic ≢ magic version) → RefusesFile known NotFormatted
+  by_count : {image : Image} → HasSized known image → word image super_magic ≡ magic (version_of image)
       → word image super_blocks ≢ block_count image →
       RefusesFile known (BadSize (block_size * block_count image)
       (min (block_size * word image super_blocks) (2 ^ 64 - 1)))
-  damaged : {image : Image} {check : Check} {place : ℕ} → HasSized known image → word image super_magic ≡ magic
-      → word image super_blocks ≡ block_count image →
-      Fails image check place → RefusesFile known (Damaged (number_of check) place)
+  damaged : {image : Image} {check : Check} {place : ℕ} → HasSized known image
+      → word image super_magic ≡ magic (version_of image) → word image super_blocks ≡ block_count image →
+      FailsWhole image check place → RefusesFile known (Damaged (number_of check) place)
 
 -- the state with which a run begins
 abbrev pub start : Image → State

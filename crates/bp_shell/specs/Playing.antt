@@ -2,7 +2,7 @@
 use Rattle.std.specs.Prelude.{◌≡◌, ◌++◌, ℕ, List, codes, decimal, flat_map}
 use Rattle.pm_region.specs.Memory.{Memory, current_words}
 use Rattle.bp_io.specs.Files.{Known}
-use Rattle.bp_layout.specs.Free.{HasFree}
+use Rattle.bp_layout.specs.Whole.{HasSpace}
 use Rattle.bp_layout.specs.Words.{Image}
 use Rattle.bp_plain.specs.PlainTree.{FileTree}
 use Rattle.bp_plain.specs.Stands.{Stands}
@@ -49,7 +49,7 @@ pub record EndsPlay (old : Memory) (seed count : ℕ) (summary : Summary) (total
   pub new : Memory
   pub plays : Plays old new seed count summary
   pub holds : HasTotals (current_words new) totals
-  pub leaves : HasFree (current_words new) free
+  pub leaves : HasSpace (current_words new) free
 
 -- FILE holds a file system, a play over a region of its words came to this text, and its replies are a plain tree's.
 pub record PlaysFile (known : Known) (seed count : ℕ) (text : List ℕ) : Type 0 where

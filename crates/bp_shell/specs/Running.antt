@@ -8,7 +8,8 @@ use Rattle.bp_layout.specs.Words.{Image}
 use Rattle.bp_layout.specs.Bytes.{image_bytes}
 use Rattle.bp_plain.specs.PlainTree.{FileTree}
 use Rattle.bp_plain.specs.Stands.{Stands}
-use Rattle.bp_layout.specs.WellFormed.{IsWellFormed}
+use Rattle.bp_layout.specs.Whole.{IsFileSystem}
+use Rattle.bp_limits.specs.declared.version.Version.{Version}
 use Rattle.bp_command.specs.Programs.{Program, Requests}
 use Rattle.bp_command.specs.Programs.Program.{formats, runs, checks, plays}
 use Rattle.bp_script.specs.Commands.{Command}
@@ -120,12 +121,12 @@ pub record RunsUnsaved (before after : Outside) : Type 0 where
   pub fails : SyncFails middle memory (SavesPartly after) sync
   pub plainly : FollowsTree begins.tree (start begins.image) (commands_from [] begins.input) told.replies middle
 
--- Where FILE is told to have the bytes of a well-formed image, the source has no more than the most bytes, and nothing
+-- Where FILE is told to have the bytes of a file system, the source has no more than the most bytes, and nothing
 -- fails, the status is 0, or 8 for want of memory.
 abbrev pub IsComplete : ℕ → Outside → Outside → Type 0
 IsComplete status before after =
     (image : Image) (input : List ℕ) → before.file ≡ Some (Some (image_bytes image)) → AreWordsOf64Bits image
-    → IsWellFormed image → before.left ≡ Some input → length input ≤ max_input
+    → IsFileSystem image → before.left ≡ Some input → length input ≤ max_input
     → ¬ SourceFailed before after → ¬ SinkFailed before after → ¬ FilesFailed before after → (status ≡ 0) ⊎ (status ≡ 8)
 
 -- What `run FILE` answers, and when.
@@ -151,18 +152,18 @@ pub record ChangesAlone (name : List ℕ) (old new : View) : Type 0 where
 abbrev pub OnlyWrites : List ℕ → View → View → Type 0
 OnlyWrites name old new = ChangesAlone name old new ⊎ StaysAttached old new × KeepsFiles old new
 
--- ---- `format FILE --blocks N`
+-- ---- `format FILE --blocks N --version V`
 
 -- the line that tells of a new file system
 abbrev pub format_text : ℕ → List ℕ
 format_text blocks = notice_text (Formatted blocks (blocks - 2))
 
--- What `format FILE --blocks N` answers, and when. It reads no input.
-pub record FormatOutcome (status blocks : ℕ) (before after : Outside) : Type 0 where
-  pub whole : status ≡ 0 → Saves after (new_image blocks) × Appends before.taken after.taken (format_text blocks)
-  pub sink : status ≡ 4 → Saves after (new_image blocks) × TakesPart (format_text blocks) before.taken after.taken
+-- What `format FILE --blocks N --version V` answers, and when. It reads no input.
+pub record FormatOutcome (status : ℕ) (version : Version) (blocks : ℕ) (before after : Outside) : Type 0 where
+  pub whole : status ≡ 0 → Saves after (new_image version blocks) × Appends before.taken after.taken (format_text blocks)
+  pub sink : status ≡ 4 → Saves after (new_image version blocks) × TakesPart (format_text blocks) before.taken after.taken
   pub flushed : (status ≡ 0) ⊎ (status ≡ 4) → after.is_flushed ≡ true
-  pub files : status ≡ 5 → HasPartly before.file (image_bytes (new_image blocks)) after.file
+  pub files : status ≡ 5 → HasPartly before.file (image_bytes (new_image version blocks)) after.file
       × (after.taken ≡ before.taken)
   pub memory : status ≡ 8 → (after.file ≡ before.file) × (after.taken ≡ before.taken)
   pub unread : after.left ≡ before.left
@@ -173,21 +174,21 @@ pub record FormatOutcome (status blocks : ℕ) (before after : Outside) : Type 0
 
 -- the name of FILE
 abbrev pub file_name : Program → List ℕ
-file_name (formats name blocks) = name
+file_name (formats name blocks version) = name
 file_name (runs name) = name
 file_name (checks name) = name
 file_name (plays name seed count) = name
 
 -- What a program answers, and when.
 abbrev pub ProgramOutcome : Program → ℕ → Outside → Outside → Type 0
-ProgramOutcome (formats name blocks) status before after = FormatOutcome status blocks before after
+ProgramOutcome (formats name blocks version) status before after = FormatOutcome status version blocks before after
 ProgramOutcome (runs name) status before after = RunOutcome status before after
 ProgramOutcome (checks name) status before after = CheckOutcome status before after
 ProgramOutcome (plays name seed count) status before after = PlayOutcome status seed count before after
 
 -- What a program leaves of the files, FILE and others, by what is told of them before and after.
 abbrev pub LeavesFiles : Program → View → View → Type 0
-LeavesFiles (formats name blocks) old new = OnlyMakes name old new
+LeavesFiles (formats name blocks version) old new = OnlyMakes name old new
 LeavesFiles (runs name) old new = OnlyWrites name old new
 LeavesFiles (checks name) old new = OnlyReads name old new
 LeavesFiles (plays name seed count) old new = OnlyReads name old new

@@ -2,7 +2,7 @@
 
 ghost use Rattle.bp_io.specs.Files.{Known};
 ghost use Rattle.bp_layout.specs.Formatted.{IsSized};
-ghost use Rattle.bp_layout.specs.WellFormed.{IsWellFormed};
+ghost use Rattle.bp_layout.specs.Whole.{IsFileSystem};
 ghost use Rattle.bp_layout.specs.Words.{block_count};
 ghost use Rattle.bp_limits.specs.Limits.{block_inodes};
 ghost use Rattle.bp_script.specs.declared.notices.Notice.{Notice};
@@ -34,8 +34,9 @@ fn survey_with(region: &RawRegion, sets: &mut Sets) -> Result<Notice, Stop>
     requires sized { IsSized region.now.base }
     requires blocks { length sets.old.blocks ≡ block_count region.now.base }
     requires inodes { length sets.old.inodes ≡ block_inodes * block_count region.now.base }
+    requires counts { length sets.old.counts ≡ block_inodes * block_count region.now.base }
     requires pending { sets.old.pending ≡ block_inodes * block_count region.now.base }
-    ensures well_formed { OnOk result (IsWellFormed region.now.base) }
+    ensures well_formed { OnOk result (IsFileSystem region.now.base) }
     ensures clean { IfOk result (λ notice. IsClean region.now.base notice) }
     ensures refused { IfErr result (λ stop. (known : Known) (notice : Notice) → HasImage known region.now.base →
         stop ≡ Refused notice → RefusesFile known notice) }
@@ -44,9 +45,11 @@ fn survey_with(region: &RawRegion, sets: &mut Sets) -> Result<Notice, Stop>
     let Sets {
         blocks,
         inodes,
+        counts,
         pending,
+        ..
     } = sets;
-    match scan(region, blocks, inodes, pending) {
+    match scan(region, blocks, inodes, pending, counts) {
         Ok(totals) => Ok(Notice::Clean {
             files: totals.files,
             dirs: totals.dirs,
@@ -62,7 +65,7 @@ fn survey_with(region: &RawRegion, sets: &mut Sets) -> Result<Notice, Stop>
 fn survey(alloc: Global, region: &RawRegion) -> Result<Notice, Stop>
     requires fresh { region.now.events ≡ [] }
     requires sized { IsSized region.now.base }
-    ensures well_formed { OnOk result (IsWellFormed region.now.base) }
+    ensures well_formed { OnOk result (IsFileSystem region.now.base) }
     ensures clean { IfOk result (λ notice. IsClean region.now.base notice) }
     ensures refused { IfErr result (λ stop. (known : Known) (notice : Notice) → HasImage known region.now.base →
         stop ≡ Refused notice → RefusesFile known notice) }

@@ -14,7 +14,7 @@ ghost use Rattle.std.specs.Prelude.{◌*◌, ◌≡◌, ◌≤◌, [], true, ℕ
 use crate::printing::print;
 use crate::status::Status;
 use bp_io::{Access, Failed, Files, Sink};
-use bp_limits::{BLOCK_WORDS, CALL_ROOM, MAX_BLOCKS, MIN_BLOCKS};
+use bp_limits::{BLOCK_WORDS, CALL_ROOM, MAX_BLOCKS, MIN_BLOCKS, Version};
 use bp_script::Notice;
 use bp_session::saving::save;
 use bp_volume::Volume;
@@ -38,18 +38,18 @@ fn empty_region(alloc: Global, blocks: u32) -> Option<ListRegion>
     }
 }
 
-/// A new file system of so many blocks; none for want of memory.
-fn new_volume(alloc: Global, blocks: u32) -> Option<Volume<ListRegion>>
+/// A new file system of so many blocks and of a version; none for want of memory.
+fn new_volume(alloc: Global, blocks: u32, version: Version) -> Option<Volume<ListRegion>>
     requires least { MIN_BLOCKS ≤ blocks }
     requires most { blocks ≤ MAX_BLOCKS }
-    ensures image { IfSome result (λ volume. volume.base ≡ new_image blocks) }
+    ensures image { IfSome result (λ volume. volume.base ≡ new_image version blocks) }
     ensures drained { IfSome result (λ volume. volume.events ≡ []) }
 {
     let region = match empty_region(alloc, blocks) {
         Some(region) => region,
         None => return None,
     };
-    match Volume::format(alloc, region) {
+    match Volume::format_as(alloc, region, version) {
         Ok(volume) => Some(volume),
         Err(_) => None,
     }
@@ -81,24 +81,25 @@ fn write_image<R: Region, F: Files>(
     Ok(())
 }
 
-/// Makes the file of a name a file system of so many blocks, and says so. It answers how that ended: `Done`,
-/// `SinkFailed`, `FilesFailed` or `Memory`.
+/// Makes the file of a name a file system of so many blocks and of a version, and says so. It answers how that ended:
+/// `Done`, `SinkFailed`, `FilesFailed` or `Memory`.
 pub(crate) fn format_file<K: Sink, F: Files>(
     alloc: Global,
     name: &str,
     blocks: u32,
+    version: Version,
     out: &mut K,
     files: &mut F,
 ) -> Status
     requires least { MIN_BLOCKS ≤ blocks }
     requires most { blocks ≤ MAX_BLOCKS }
     // Whatever a source has left.
-    ensures outcome { (left : Option (List ℕ)) (reads : ℕ) → FormatOutcome (code_of result) blocks
+    ensures outcome { (left : Option (List ℕ)) (reads : ℕ) → FormatOutcome (code_of result) version blocks
         (outside left reads (K.taken out.old) (K.faults out.old) (F.view files.old) name.now)
         (outside left reads (K.taken out.new) (K.faults out.new) (F.view files.new) name.now) }
     ensures makes { OnlyMakes name.now (F.view files.old) (F.view files.new) }
 {
-    let volume = match new_volume(alloc, blocks) {
+    let volume = match new_volume(alloc, blocks, version) {
         Some(volume) => volume,
         None => return Status::Memory,
     };

@@ -4,7 +4,7 @@ ghost use Rattle.std.specs.Prelude.{◌≡◌, ◌<◌, ◌≤◌, ◌+◌, ◌*
 ghost use Rattle.bp_io.specs.Files.{KeepsFiles, Known, Reads, block_bytes, makes, may_change};
 ghost use Rattle.bp_layout.specs.Formatted.{IsSized};
 ghost use Rattle.bp_layout.specs.Bytes.{image_bytes};
-ghost use Rattle.bp_layout.specs.WellFormed.{IsWellFormed};
+ghost use Rattle.bp_layout.specs.Whole.{IsFileSystem};
 ghost use Rattle.bp_layout.specs.Words.{Image};
 ghost use Rattle.bp_limits.specs.Limits.{block_size, block_words, log_events};
 ghost use Rattle.bp_script.specs.declared.notices.Notice.{Notice};
@@ -191,7 +191,7 @@ fn mount(alloc: Global, region: RawRegion) -> Result<Volume<RawRegion>, Stop>
     requires starts { region ≡ (start region.base).memory }
     requires sized { IsSized region.base }
     ensures same { IfOk result (λ volume. volume ≡ region) }
-    ensures well_formed { OnOk result (IsWellFormed region.base) }
+    ensures well_formed { OnOk result (IsFileSystem region.base) }
     ensures refused { IfErr result (λ stop. (known : Known) (notice : Notice) → HasImage known region.base →
         stop ≡ Refused notice → RefusesFile known notice) }
     ensures kinds { IfErr result (λ stop. ((notice : Notice) × (stop ≡ Refused notice)) ⊎ (stop ≡ Memory)) }

@@ -85,7 +85,11 @@ fn run_program<S: Source, K: Sink, F: Files>(
     ensures files { LeavesFiles (program_of program.now) (F.view files.old) (F.view files.new) }
 {
     match *program {
-        Program::Format { name, blocks } => format_file(alloc, name, blocks, out, files),
+        Program::Format {
+            name,
+            blocks,
+            version,
+        } => format_file(alloc, name, blocks, version, out, files),
         Program::Run { name } => run_file(alloc, name, src, out, files),
         Program::Check { name } => check_file(alloc, name, out, files),
         Program::Play { name, seed, count } => play_file(alloc, name, seed, count, out, files),

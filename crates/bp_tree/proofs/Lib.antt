@@ -6,7 +6,6 @@ pub mod ExistingPaths
 pub mod LoadedWords
 pub mod NextSlot
 pub mod PathLaws
-pub mod PerformsLaws
 pub mod Ranges
 pub mod NullLeaves
 pub mod RegionWords

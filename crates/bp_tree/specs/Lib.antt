@@ -2,5 +2,4 @@ pub mod Bytes
 pub mod Counts
 pub mod Nulls
 pub mod Paths
-pub mod Performs
 pub mod Within

@@ -6,8 +6,7 @@
 
 pub mod counts;
 mod descent;
-pub mod laws;
-pub mod likeness;
+pub mod marks;
 pub mod nulls;
 pub mod paths;
 pub mod reading;
@@ -15,8 +14,9 @@ mod subtrees;
 pub mod tree;
 
 pub use counts::count_live;
-pub use likeness::SameTree;
+pub use marks::version;
 pub use nulls::first_null;
 pub use paths::{Slots, address, word_path};
 pub use reading::{leaf_words, read, unpack};
+pub use subtrees::child;
 pub use tree::{Tree, content_place, content_word, leaf_block, load_slot, node};

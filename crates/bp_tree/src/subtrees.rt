@@ -24,7 +24,7 @@ pub(crate) fn live_slots(tree: Tree) -> u64
 }
 
 /// The tree below a live slot of a tree's topmost block, one lower.
-pub(crate) fn child<R: Region>(region: &R, tree: Tree, slot: u64) -> Tree
+pub fn child<R: Region>(region: &R, tree: Tree, slot: u64) -> Tree
     requires sound { IsSound (current_words (R.memory region.now)) tree.root tree.size }
     requires least { 1 ≤ height_of tree.root }
     requires present { block_of tree.root ≢ 0 }

@@ -8,6 +8,7 @@ use Rattle.bp_layout.specs.Words.{Image}
 use Rattle.bp_layout.specs.Tree.{content}
 use Rattle.bp_layout.specs.Inode.{kind_of, root_of, size_of}
 use Rattle.bp_layout.specs.Directory.{Name}
+use Rattle.bp_layout.specs.Names.{HasNames}
 use Rattle.bp_layout.specs.Reached.{IsReached}
 use Rattle.bp_layout.specs.Lookup.{Path, lookup}
 use Rattle.bp_layout.specs.Lookup.Node.{dir, file}
@@ -18,16 +19,17 @@ use Rattle.bp_plain.specs.Seen.{refusal_of}
 use Rattle.bp_plain.specs.PlainTree.{FileTree}
 use Rattle.bp_plain.specs.Stands.{Stands}
 use Rattle.bp_plain.specs.Calls.{Answer, Refusal}
-use Rattle.bp_plain.specs.Calls.Call.{list, read, stat}
+use Rattle.bp_plain.specs.Calls.Call.{links, list, read, stat}
 use Rattle.bp_plain.specs.Calls.Refusal.{not_dir, is_dir, no_memory}
-use Rattle.bp_plain.specs.Calls.Answer.{refused, bytes, names, file_of, dir_of}
-use Rattle.bp_plain.specs.Plain.{walk, refusal, on_parsed, first, when, listing, stat_answer, path_named, bytes_in, bytes_at}
+use Rattle.bp_plain.specs.Calls.Answer.{refused, bytes, names, file_of, dir_of, links_of}
+use Rattle.bp_plain.specs.Plain.{walk, refusal, file_refusal, on_parsed, on_path, first, when, listing, stat_answer, path_count, path_named, bytes_in, bytes_at}
 use Rattle.bp_layout.specs.WellFormed.{IsWellFormed}
 use Rattle.bp_dirs.specs.Names.{name_count}
 use Rattle.bp_volume.specs.Step.{PathFinds}
 use Rattle.bp_volume.specs.Told.{Tells, StopsAtFile, StopsWalk}
 use Rattle.bp_volume.proofs.WalkLaws.{some_inode, reached_at, node_at, dir_at, walk-found}
 use Rattle.bp_volume.proofs.EntryLaws.{length-entries}
+use Rattle.bp_volume.proofs.LinksLaws.{counts_paths}
 use Rattle.bp_calls.specs.Asked.{stat_of}
 use Rattle.bp_calls.proofs.ReadingLaws.{IsInode, inode_reached, length-seen}
 use Rattle.bp_volume.specs.Seen.{list_answer_of, stat_seen}
@@ -47,23 +49,23 @@ module _ (image : Image) (wf : IsWellFormed image) where
 -- ---- what there is to tell of an inode
 
 module _ (image : Image) (i : ℕ) (tree : FileTree) (here : Path) (stands : Stands image tree) (at : lookup image here ≡ Some i) where
-  pub stat-file : kind_of image i ≡ 1 → stat_answer tree here (get tree here) ≡ file_of (size_of image i)
+  pub stat-file : kind_of image i ≡ 1 → stat_answer tree.now.nodes here (get tree.now.nodes here) ≡ file_of (size_of image i)
   stat-file kind =
-      ap (stat_answer tree here) (node_at image tree stands here i at ∙ ap (λ b. Some (if b then file (content image (root_of image i) (size_of image i)) else dir)) (ap (λ k. k == 1) kind))
+      ap (stat_answer tree.now.nodes here) (node_at image tree stands here i at ∙ ap (λ b. Some (if b then file (content image (root_of image i) (size_of image i)) else dir)) (ap (λ k. k == 1) kind))
       ∙ ap file_of (length-map-range_with_len _ 0 (size_of image i))
 
-  pub stat-dir : kind_of image i ≡ 2 → stat_answer tree here (get tree here) ≡ dir_of (name_count image (root_of image i) (size_of image i))
+  pub stat-dir : kind_of image i ≡ 2 → stat_answer tree.now.nodes here (get tree.now.nodes here) ≡ dir_of (name_count image (root_of image i) (size_of image i))
   stat-dir kind =
-      ap (stat_answer tree here) (node_at image tree stands here i at ∙ ap (λ b. Some (if b then file (content image (root_of image i) (size_of image i)) else dir)) (ap (λ k. k == 1) kind))
+      ap (stat_answer tree.now.nodes here) (node_at image tree stands here i at ∙ ap (λ b. Some (if b then file (content image (root_of image i) (size_of image i)) else dir)) (ap (λ k. k == 1) kind))
       ∙ ap dir_of (length-entries image tree stands here i at kind ∙ length-seen image i)
 
-  pub stat_says : 1 ≤ i → stat_answer tree here (get tree here) ≡ stat_seen (stat_of image i)
+  pub stat_says : 1 ≤ i → stat_answer tree.now.nodes here (get tree.now.nodes here) ≡ stat_seen (stat_of image i)
   stat_says low = go (kind_of image i == 1) refl
     where
-      inode : IsInode image stands.well_formed i
-      inode = inode_reached image stands.well_formed i (reached_at image stands.well_formed here i at) low
+      inode : IsInode image stands.now.well_formed i
+      inode = inode_reached image stands.now.well_formed i (reached_at image stands.now.well_formed here i at) low
 
-      go : (b : Bool) → (kind_of image i == 1) ≡ b → stat_answer tree here (get tree here) ≡ stat_seen (stat_of image i)
+      go : (b : Bool) → (kind_of image i == 1) ≡ b → stat_answer tree.now.nodes here (get tree.now.nodes here) ≡ stat_seen (stat_of image i)
       go true is = rw is (stat-file (eqb-true _ _ is))
       go false is =
           let other : kind_of image i ≢ 1 = eqb-false _ _ is in
@@ -81,14 +83,17 @@ module _ (image : Image) (text : List ℕ) where
   pub read_stops : (off len : ℕ) (why : Refusal) → StopsAtFile image text why → Tells image (read text off len) (refused why)
   read_stops off len why stops tree stands = refused_steps image tree (read text off len) why (stops tree stands)
 
+  pub links_stops : (why : Refusal) → StopsAtFile image text why → Tells image (links text) (refused why)
+  links_stops why stops tree stands = refused_steps image tree (links text) why (stops tree stands)
+
   module _ (i : ℕ) (at : PathFinds image text i) where
     path_is : path_named text ≡ at.path
     path_is = ap (λ (o : Option Path). unwrap_or o []) at.parsed
 
-    pub stat_tells : (told : Answer) → ((tree : FileTree) (here : Path) → Stands image tree → lookup image here ≡ Some i → stat_answer tree here (get tree here) ≡ told) → Tells image (stat text) told
+    pub stat_tells : (told : Answer) → ((tree : FileTree) (here : Path) → Stands image tree → lookup image here ≡ Some i → stat_answer tree.now.nodes here (get tree.now.nodes here) ≡ told) → Tells image (stat text) told
     stat_tells told says tree stands =
-        answer_steps image tree (stat text) told (ap (λ o. on_parsed o (walk tree)) at.parsed ∙ walk-found image tree stands at.path i at.inode) refl
-        (ap (λ p. stat_answer tree p (get tree p)) path_is ∙ says tree at.path stands at.inode)
+        answer_steps image tree (stat text) told (ap (λ o. on_parsed o (walk tree.now.nodes)) at.parsed ∙ walk-found image tree stands at.path i at.inode) refl
+        (ap (λ p. stat_answer tree.now.nodes p (get tree.now.nodes p)) path_is ∙ says tree at.path stands at.inode)
 
     refusal_there : (tree : FileTree) → Stands image tree → refusal tree (list text) ≡ first (when (not (kind_of image i == 2)) not_dir ∷ [])
     refusal_there tree stands =
@@ -104,24 +109,32 @@ module _ (image : Image) (text : List ℕ) where
     pub list_memory : kind_of image i ≡ 2 → Tells image (list text) (refused no_memory)
     list_memory kind tree stands = memory_steps image tree text (none_refused kind tree stands)
 
-    pub list_tells : kind_of image i ≡ 2 → (told : List (Kind × Name)) → ((tree : FileTree) (here : Path) → Stands image tree → lookup image here ≡ Some i → told ≡ listing tree here) → Tells image (list text) (names told)
+    pub list_tells : kind_of image i ≡ 2 → (told : List (Kind × Name)) → ((tree : FileTree) (here : Path) → Stands image tree → lookup image here ≡ Some i → told ≡ listing tree.now.nodes here) → Tells image (list text) (names told)
     list_tells kind told says tree stands =
         answer_steps image tree (list text) (names told) (none_refused kind tree stands) refl
-        (ap (λ p. names (listing tree p)) path_is ∙ ap names (sym (says tree at.path stands at.inode)))
+        (ap (λ p. names (listing tree.now.nodes p)) path_is ∙ ap names (sym (says tree at.path stands at.inode)))
 
-    -- a read
+    -- a call on a file
 
-    refusal_of_read : (off len : ℕ) (tree : FileTree) → Stands image tree → refusal tree (read text off len) ≡ first (when (kind_of image i == 2) is_dir ∷ [])
-    refusal_of_read off len tree stands =
-        refusal-read_walked tree text off len at.path at.parsed (walk-found image tree stands at.path i at.inode)
+    refusal_of_file_there : (tree : FileTree) → Stands image tree → on_path text (file_refusal tree.now.nodes) ≡ first (when (kind_of image i == 2) is_dir ∷ [])
+    refusal_of_file_there tree stands =
+        refusal-read_walked tree text 0 0 at.path at.parsed (walk-found image tree stands at.path i at.inode)
         ∙ ap (λ b. first (when b is_dir ∷ [])) (dir_at image tree stands at.path i at.inode)
+
+    file_allowed : kind_of image i ≡ 1 → (tree : FileTree) → Stands image tree → on_path text (file_refusal tree.now.nodes) ≡ None
+    file_allowed kind tree stands = refusal_of_file_there tree stands ∙ ap (λ k. first (when (k == 2) is_dir ∷ [])) kind
 
     pub read_tells : (off len : ℕ) (told : List ℕ) → kind_of image i ≡ 1 → told ≡ take len (drop off (content image (root_of image i) (size_of image i))) → Tells image (read text off len) (bytes told)
     read_tells off len told kind says tree stands =
-        let node : get tree at.path ≡ Some (file (content image (root_of image i) (size_of image i))) =
+        let node : get tree.now.nodes at.path ≡ Some (file (content image (root_of image i) (size_of image i))) =
         node_at image tree stands at.path i at.inode ∙ ap (λ k. Some (if k == 1 then file (content image (root_of image i) (size_of image i)) else dir)) kind in
-        answer_steps image tree (read text off len) (bytes told) (refusal_of_read off len tree stands ∙ ap (λ k. first (when (k == 2) is_dir ∷ [])) kind) refl
-        (ap (λ p. bytes (take len (drop off (bytes_at tree p)))) path_is ∙ ap (λ o. bytes (take len (drop off (bytes_in o)))) node ∙ ap bytes (sym says))
+        answer_steps image tree (read text off len) (bytes told) (file_allowed kind tree stands) refl
+        (ap (λ p. bytes (take len (drop off (bytes_at tree.now.nodes p)))) path_is ∙ ap (λ o. bytes (take len (drop off (bytes_in o)))) node ∙ ap bytes (sym says))
+
+    pub links_tells : (count : ℕ) → kind_of image i ≡ 1 → HasNames image i count → Tells image (links text) (links_of count)
+    links_tells count kind has tree stands =
+        answer_steps image tree (links text) (links_of count) (file_allowed kind tree stands) refl
+        (ap (λ p. links_of (path_count tree.now.one p)) path_is ∙ ap links_of (counts_paths image i kind tree stands at.path at.inode count has))
 
 -- the names that were listed, with a lack of memory told as a refusal
 pub listed_or_full : {E : Type 0} (image : Image) (text : List ℕ) (inner : Result (List (Kind × Name)) E) (outer : Result (List (Kind × Name)) FsError) →

@@ -1,21 +1,24 @@
 -- A call that changes the tree, from the change that it makes.
-use Rattle.std.proofs.Common.{◌≡◌, ℕ, ◌<◌, ◌≤◌, true, true≢false, ◌∙◌, sym, ap, subst, arith, None}
+use Rattle.std.proofs.Common.{◌≡◌, ℕ, ◌<◌, ◌≤◌, Bool, true, false, true≢false, length, refl, ◌∙◌, sym, ap, ap₂, subst, arith, None}
 use Rattle.std.specs.Prelude.{◌&&◌, is_none, if◌then◌else◌, is_err, Result, Ok, Err, IsErrAnd, MatchResult, IfErr, OnErr, OnOk}
 use Rattle.pm_region.specs.Memory.{Memory, current_words, room_in}
 use Rattle.bp_free.specs.declared.parts.NoSpace.{NoSpace}
 use Rattle.bp_layout.specs.Words.{Image}
 use Rattle.bp_layout.specs.Free.{HasFree}
-use Rattle.bp_layout.specs.Need.{Change, need}
+use Rattle.bp_layout.specs.Need.{Change}
+use Rattle.bp_layout.specs.Thaw.{full_need}
+use Rattle.bp_layout.specs.Trees.{AreFrozen}
+use Rattle.bp_layout.specs.Whole.{IsFileSystem}
 use Rattle.bp_plain.specs.declared.errors.FsError.{FsError}
 use Rattle.bp_plain.specs.PlainTree.{FileTree}
-use Rattle.bp_plain.specs.Stands.{Stands}
+use Rattle.bp_plain.specs.Stands.{Shows, Stands}
 use Rattle.bp_plain.specs.Calls.{Call}
 use Rattle.bp_plain.specs.Calls.Refusal.{no_space}
 use Rattle.bp_plain.specs.Calls.Answer.{done, refused}
-use Rattle.bp_plain.specs.Plain.{plain, is_changing, refusal, changes, answer, answer_or, tree_after}
+use Rattle.bp_plain.specs.Plain.{plain, is_changing, refusal, changes, answer, answer_or, tree_after, with_now}
 use Rattle.bp_plain.specs.Seen.{refusal_of}
-use Rattle.bp_tree.specs.Performs.{Performs}
-use Rattle.bp_tree.proofs.PerformsLaws.{performs_as, performs_fits}
+use Rattle.bp_commit.specs.Performs.{Performs}
+use Rattle.bp_commit.proofs.PerformsLaws.{performs_as, performs_fits}
 use Rattle.bp_calls.specs.Space.{LacksSpace}
 use Rattle.bp_volume.specs.Step.{StepFor, IsChange, Fits}
 use Rattle.bp_volume.specs.Step.StepFor.{changed}
@@ -24,27 +27,44 @@ use Rattle.bp_volume.specs.Carried.{CarriesOut, ChangesTree, PerformsCall}
 use Rattle.bp_volume.specs.Carried.CarriesOut.{changed as carried, unchanged}
 use Rattle.bp_volume.specs.Seen.{unit_answer}
 use Rattle.bp_volume.proofs.StepLaws.{no_space_steps}
+use Rattle.bp_volume.proofs.WholeLaws.{whole_stands}
 
--- The change is the one that the call makes of an image, and no tree for which that stands refuses the call.
+-- The blocks of a snapshot are told in one way.
+pub frozen_once : (image : Image) (one other : ℕ → Bool) → AreFrozen image one → AreFrozen image other → one ≡ other
+frozen_once image one other are also = λ i b. at b (one b) refl (other b) refl i
+  where
+    at : (b : ℕ) (x : Bool) → one b ≡ x → (y : Bool) → other b ≡ y → one b ≡ other b
+    at b true e y f = e ∙ sym (also.all b (are.are b e))
+    at b false e true f = are.all b (also.are b f) ∙ sym f
+    at b false e false f = e ∙ sym f
+
+-- The change is the one that the call makes of an image, and no tree for which that stands refuses the call. Of the tree
+-- the call changes no more than what it has now.
 pub record MakesChange (image : Image) (call : Call) (change : Change) : Type 0 where
   pub is : IsChange image call change
-  pub alike : (other : Change) → IsChange image call other → need image other ≡ need image change
+  pub alike : (other : Change) → IsChange image call other → other ≡ change
   pub allowed : (tree : FileTree) → Stands image tree → refusal tree call ≡ None
   pub changing : (tree : FileTree) → Stands image tree → changes tree call ≡ true
   pub says : (tree : FileTree) → answer tree call ≡ done
+  pub stays : (tree : FileTree) → tree_after tree call ≡ with_now tree (tree_after tree call).now
 
-module _ (image : Image) (call : Call) (change : Change) (makes : MakesChange image call change) where
+module _ (image : Image) (call : Call) (change : Change) (makes : MakesChange image call change) (kept : ℕ → Bool) (frozen : AreFrozen image kept) where
   changes_now : (tree : FileTree) → Stands image tree → is_changing tree call ≡ true
   changes_now tree stands = ap (λ o. is_none o && changes tree call) (makes.allowed tree stands) ∙ makes.changing tree stands
 
   -- where fewer blocks are free than it needs, it is refused
-  pub lacks_space : (lacks : NoSpace) → LacksSpace image change lacks → Tells image call (refused (no_space lacks.need lacks.free))
+  pub lacks_space : (lacks : NoSpace) → LacksSpace image kept change lacks → Tells image call (refused (no_space lacks.need lacks.free))
   lacks_space lacks lack tree stands =
-      no_space_steps image tree call lacks.need lacks.free (changes_now tree stands) (record { change = change; is = makes.is; needs = lack.needed; has = lack.free }) lack.fewer
+      no_space_steps image tree call lacks.need lacks.free (changes_now tree stands)
+      (record { change = change; is = makes.is; kept = kept; frozen = frozen; needs = lack.needed; has = lack.free }) lack.fewer
 
-  module _ (room : (free : ℕ) → HasFree image free → need image change ≤ free) where
+  module _ (room : (free : ℕ) → HasFree image kept free → full_need image kept change ≤ free) where
     fits : Fits image call
-    fits needed free has = omega (arith, makes.alike has.change has.is, has.needs, room free has.has)
+    fits needed free has =
+        let same : has.kept ≡ kept = frozen_once image has.kept kept has.frozen frozen in
+        let needs : full_need image kept change ≡ needed = ap₂ (full_need image) (sym same) (sym (makes.alike has.change has.is)) ∙ has.needs in
+        let enough : full_need image kept change ≤ free = room free (subst (λ k. HasFree image k free) same has.has) in
+        omega (arith, needs, enough)
 
     -- the new image stands for the tree that the call makes
     changed_steps : (new : Image) → ((tree : FileTree) → Stands image tree → Stands new (tree_after tree call)) → ChangesTree call done image new
@@ -57,15 +77,25 @@ module _ (image : Image) (call : Call) (change : Change) (makes : MakesChange im
         )
 
 -- a change that is performed, with what it makes of the plain tree
-pub performs_call : (old new : Memory) (call : Call) (change : Change) (Effect : Image → Image → Type 0) → MakesChange (current_words old) call change → Performs old new change Effect →
-    (Effect (current_words old) (current_words new) → (tree : FileTree) → Stands (current_words old) tree → Stands (current_words new) (tree_after tree call)) → 0 < room_in new → PerformsCall old call done new
-performs_call old new call change Effect makes performs becomes room = record {
+pub performs_call : (kept : ℕ → Bool) (old new : Memory) (call : Call) (change : Change) (Effect : Image → Image → Type 0) → IsFileSystem (current_words old) → AreFrozen (current_words old) kept →
+    MakesChange (current_words old) call change → Performs kept old new change Effect →
+    (Effect (current_words old) (current_words new) → (tree : FileTree) → Stands (current_words old) tree → Shows (current_words new) (tree_after tree call).now) → 0 < room_in new → PerformsCall old call done new
+performs_call kept old new call change Effect is frozen makes performs shows room = record {
   change = change;
   is = makes.is;
-  performs = performs_as old new change Effect performs (ChangesTree call done)
-      (λ effect. changed_steps (current_words old) call change makes (performs_fits old new change Effect performs) (current_words new) (becomes effect));
+  kept = kept;
+  frozen = frozen;
+  performs = performs_as kept old new change Effect performs (ChangesTree call done)
+      (λ effect. changed_steps (current_words old) call change makes kept frozen (performs_fits kept old new change Effect performs) (current_words new) (becomes effect));
   room = room;
 }
+  where
+    long : 4 ≤ length (current_words old)
+    long = omega (arith, is.first.formatted.sized.whole, is.first.formatted.sized.at_least)
+
+    becomes : Effect (current_words old) (current_words new) → (tree : FileTree) → Stands (current_words old) tree → Stands (current_words new) (tree_after tree call)
+    becomes effect tree stands = subst (Stands (current_words new)) (sym (makes.stays tree))
+        (whole_stands kept old new change Effect performs long is frozen tree (tree_after tree call).now stands (shows effect tree stands))
 
 -- A call on inodes, and its result with the refusal told as that of a call with a path: it is performed, or it lacks space and has changed nothing.
 pub carried_or_lacks : (old new : Memory) (call : Call) (inner : Result (Unit {0}) NoSpace) (outer : Result (Unit {0}) FsError) →

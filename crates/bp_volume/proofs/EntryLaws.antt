@@ -103,11 +103,11 @@ module _ (image : Image) (wf : IsWellFormed image) (i : ℕ) (reached : IsReache
 
 module _ (image : Image) (tree : FileTree) (stands : Stands image tree) (here : Path) (i : ℕ) (at : lookup image here ≡ Some i) (kind : kind_of image i ≡ 2) where
   seen_once : NamesDiffer (map by_name (entries_seen image i (entry_count image i)))
-  seen_once = apart_from image stands.well_formed i (reached_at image stands.well_formed here i at) kind 0 (entry_count image i) (omega arith)
+  seen_once = apart_from image stands.now.well_formed i (reached_at image stands.now.well_formed here i at) kind 0 (entry_count image i) (omega arith)
 
-  seen_found : (name : Name) → find by_bytes name (map by_name (entries_seen image i (entry_count image i))) ≡ option_map kind_of_node (get tree (here ++ name ∷ []))
+  seen_found : (name : Name) → find by_bytes name (map by_name (entries_seen image i (entry_count image i))) ≡ option_map kind_of_node (get tree.now.nodes (here ++ name ∷ []))
   seen_found name =
-      find-seen image stands.well_formed i (reached_at image stands.well_formed here i at) kind name 0 (entry_count image i)
+      find-seen image stands.now.well_formed i (reached_at image stands.now.well_formed here i at) kind name 0 (entry_count image i)
       ∙ go (slot_named image i name)
       ∙ ap (λ o. option_map kind_of_node (option_map (node_of image) o)) (ap (λ b. if b then option_map (inumber_at image i) (slot_named image i name) else None) (sym (ap (λ k. k == 2) kind)))
       ∙ ap (option_map kind_of_node) (sym (get-next image tree stands here i name at))
@@ -117,20 +117,20 @@ module _ (image : Image) (tree : FileTree) (stands : Stands image tree) (here : 
       go (Some slot) = ap Some (sym (kind_of_node-is (kind_of image (inumber_at image i slot)) _))
 
   -- the plain listing has as many
-  pub length-entries : length (listing tree here) ≡ length (entries_seen image i (entry_count image i))
-  length-entries = length-listing (λ e. e) tree here (entries_seen image i (entry_count image i)) seen_once seen_found
+  pub length-entries : length (listing tree.now.nodes here) ≡ length (entries_seen image i (entry_count image i))
+  length-entries = length-listing (λ e. e) tree.now.nodes here (entries_seen image i (entry_count image i)) seen_once seen_found
 
   -- once they are sorted by their names, they are the plain listing
   pub listing-entries : {Item : Type 0} (seen : Item → Kind × Name) (before done : List Item) → map seen before ≡ entries_seen image i (entry_count image i) → IsPermutation before done → IsSortedBy (comes_before seen) done →
-      map seen done ≡ listing tree here
+      map seen done ≡ listing tree.now.nodes here
   listing-entries {Item} seen before done are moved up =
       let same : map (keyed seen) before ≡ map by_name (entries_seen image i (entry_count image i)) = keyed_seen before ∙ ap (map by_name) are in
-      sorted-listing seen tree here before (rw same seen_once) (λ name. rw same (seen_found name)) done moved up
+      sorted-listing seen tree.now.nodes here before (rw same seen_once) (λ name. rw same (seen_found name)) done moved up
     where
       keyed_seen : (items : List Item) → map (keyed seen) items ≡ map by_name (map seen items)
       keyed_seen [] = refl
       keyed_seen (x ∷ xs) = ap (λ ys. by_name (seen x) ∷ ys) (keyed_seen xs)
 
   -- what a directory is told to have is the plain listing
-  pub listing-names : (names : List (Kind × Name)) → ListsNames image i names → names ≡ listing tree here
+  pub listing-names : (names : List (Kind × Name)) → ListsNames image i names → names ≡ listing tree.now.nodes here
   listing-names names lists = sym (map-id names) ∙ listing-entries (λ e. e) (entries_seen image i (entry_count image i)) names (map-id (entries_seen image i (entry_count image i))) lists.all lists.sorted

@@ -1,5 +1,5 @@
 -- A call needs few blocks, so that a log with room for a call keeps room for the mark.
-use Rattle.std.proofs.Common.{◌≡◌, ◌⊎◌, ℕ, zero, suc, ◌+◌, ◌-◌, ◌*◌, ◌/◌, ◌%◌, ◌<◌, ◌≤◌, List, [], ◌∷◌, ◌++◌, length, take, map, filter, Bool, true, false, Option, None, Some, not, ◌||◌, ◌==◌, refl, sym, ◌∙◌, ap, inl, inr, arith, append_assoc}
+use Rattle.std.proofs.Common.{◌≡◌, ◌⊎◌, ℕ, zero, suc, ◌+◌, ◌-◌, ◌*◌, ◌/◌, ◌%◌, ◌<◌, ◌≤◌, List, [], ◌∷◌, ◌++◌, length, take, map, filter, Bool, true, false, Option, None, Some, not, ◌||◌, ◌==◌, refl, sym, ◌∙◌, ap, subst, inl, inr, arith, append_assoc}
 use Rattle.std.specs.Prelude.{bytes_eq, if◌then◌else◌, flat_map, fold, nat_lt, min, max}
 use Rattle.std.specs.List.{range_with_len, list_any}
 use Rattle.std.proofs.lemmas.Bool.{cases_eq, cases_lt, le-ltb, ltb-true}
@@ -10,20 +10,23 @@ use Rattle.pm_region.proofs.SafeLaws.{room_after_commit}
 use Rattle.bp_limits.specs.Limits.{block_size, call_room, entry_size, max_height, max_write}
 use Rattle.bp_layout.specs.Directory.{empty_slot, entry_count, inumber_at}
 use Rattle.bp_layout.specs.Inode.{root_of, size_of}
-use Rattle.bp_layout.specs.Need.{Beyond, Change, beyond, prepared_for, new_inodes, height_after, touched, content_path, entered, entry_path, inode_word_path, new_entry, is_prefix, prefixes_from, prefixes_of, cover_of, is_there_after, need}
+use Rattle.bp_layout.specs.Need.{Beyond, Change, Entrant, beyond, prepared_for, new_inodes, height_after, touched, content_path, entered, entry_path, inode_word_path, new_entry, is_prefix, prefixes_from, prefixes_of, cover_of, is_there_after, need}
+use Rattle.bp_layout.specs.Need.Entrant.{taken, grown, linked}
 use Rattle.bp_layout.specs.Need.Change.{writes, resizes, enters, leaves}
 use Rattle.bp_layout.specs.Nodes.{TreeNode, height_with, nodes_for}
 use Rattle.bp_layout.specs.Reached.{IsReached}
 use Rattle.bp_layout.specs.Reached.IsReached.{inode_file}
 use Rattle.bp_layout.specs.Same.{Same}
+use Rattle.bp_layout.specs.Thaw.{full_need, none_kept}
 use Rattle.bp_layout.specs.WellFormed.{IsWellFormed}
 use Rattle.bp_layout.specs.WordPaths.{WordPath, digits}
 use Rattle.bp_layout.specs.Words.{Image, height_of}
 use Rattle.bp_layout.proofs.Below.{bytes_eq_self}
 use Rattle.bp_layout.proofs.Finding.{Finds, find-passes}
+use Rattle.bp_layout.proofs.ThawLaws.{full_need-none}
 use Rattle.bp_append.proofs.FewNeeded.{few_needed}
 use Rattle.bp_append.proofs.NeedLaws.{tall_low}
-use Rattle.bp_tree.specs.Performs.{HasRoomFor, Performs, most_stores}
+use Rattle.bp_commit.specs.Performs.{HasRoomFor, Performs, most_barriers, most_stores, room_for}
 use Rattle.bp_tree.proofs.Digits.{length-digits}
 
 -- ---- copies
@@ -80,6 +83,28 @@ module _ (front rest other : WordPath) (earlier : List WordPath) where
 
 -- ---- a run of paths
 
+-- what a run up to a word copies of its own at most, besides what the first of its paths does
+abbrev pub charge : ℕ → ℕ
+charge k = k / 512 + 4 * (k / 512 / 512)
+
+pub charge_rises : (from count : ℕ) → charge (from + count) ≤ charge from + count / 512 + 1 + 4 * (count / 512 / 512 + 1)
+charge_rises from count = omega arith
+
+two_digits : (base : WordPath) (height k : ℕ) → base ++ digits (suc (suc height)) k ≡ (base ++ digits height (k / 512 / 512)) ++ k / 512 % 512 ∷ k % 512 ∷ []
+two_digits base height k =
+    ap (λ slots. base ++ slots) (append_assoc (digits height (k / 512 / 512)) (k / 512 % 512 ∷ []) (k % 512 ∷ []))
+    ∙ sym (append_assoc base (digits height (k / 512 / 512)) (k / 512 % 512 ∷ k % 512 ∷ []))
+
+-- where two words lie below one node of the level above the leaves, the second copies no more than its leaf
+beside : (height : ℕ) (base : WordPath) (shortest k : ℕ) → suc k / 512 / 512 ≡ k / 512 / 512 → (earlier : List WordPath) →
+    length (filter (λ prefix. not (list_any (is_prefix prefix) ((base ++ digits (suc height) k) ∷ earlier))) (prefixes_from shortest (base ++ digits (suc height) (suc k)))) ≤ 1
+beside zero base shortest k same earlier = omega (arith, next_few base (digits 1 (suc k)) (digits 1 k) earlier shortest, length-digits 1 (suc k))
+beside (suc height) base shortest k same earlier =
+    let one = two_digits base height k in
+    let two : base ++ digits (suc (suc height)) (suc k) ≡ (base ++ digits height (k / 512 / 512)) ++ suc k / 512 % 512 ∷ suc k % 512 ∷ [] =
+    two_digits base height (suc k) ∙ ap (λ q. (base ++ digits height q) ++ suc k / 512 % 512 ∷ suc k % 512 ∷ []) same in
+    rw (one, two) (next_few (base ++ digits height (k / 512 / 512)) (suc k / 512 % 512 ∷ suc k % 512 ∷ []) (k / 512 % 512 ∷ k % 512 ∷ []) earlier shortest)
+
 module _ (base : WordPath) (height : ℕ) (low : height ≤ max_height) (shortest : ℕ) where
   abbrev path : ℕ → WordPath
   path k = base ++ digits (suc height) k
@@ -91,25 +116,28 @@ module _ (base : WordPath) (height : ℕ) (low : height ≤ max_height) (shortes
       ap (λ q. base ++ (digits height q ++ suc k % 512 ∷ [])) same ∙ sym (append_assoc base (digits height (k / 512)) (suc k % 512 ∷ [])) in
       rw (one, two) (next_few (base ++ digits height (k / 512)) (suc k % 512 ∷ []) (k % 512 ∷ []) earlier shortest)
 
-  step : (k : ℕ) (earlier : List WordPath) → length (filter (λ prefix. not (list_any (is_prefix prefix) (path k ∷ earlier))) (prefixes_from shortest (path (suc k)))) ≤ 3 * (suc k / 512 - k / 512)
-  step k earlier = go (cases_eq (suc k / 512) (k / 512))
+  step : (k : ℕ) (earlier : List WordPath) → length (filter (λ prefix. not (list_any (is_prefix prefix) (path k ∷ earlier))) (prefixes_from shortest (path (suc k)))) + charge k ≤ charge (suc k)
+  step k earlier = go (cases_eq (suc k / 512) (k / 512)) (cases_eq (suc k / 512 / 512) (k / 512 / 512))
     where
-      go : (suc k / 512 ≡ k / 512) ⊎ (suc k / 512 ≡ k / 512 → ⊥) → length (filter (λ prefix. not (list_any (is_prefix prefix) (path k ∷ earlier))) (prefixes_from shortest (path (suc k)))) ≤ 3 * (suc k / 512 - k / 512)
-      go (inl same) = omega (arith, near k same earlier)
-      go (inr other) = omega (arith, next_few base (digits (suc height) (suc k)) (digits (suc height) k) earlier shortest, length-digits (suc height) (suc k), low, other)
+      go : (suc k / 512 ≡ k / 512) ⊎ (suc k / 512 ≡ k / 512 → ⊥) → (suc k / 512 / 512 ≡ k / 512 / 512) ⊎ (suc k / 512 / 512 ≡ k / 512 / 512 → ⊥) →
+          length (filter (λ prefix. not (list_any (is_prefix prefix) (path k ∷ earlier))) (prefixes_from shortest (path (suc k)))) + charge k ≤ charge (suc k)
+      go (inl same) _ = omega (arith, near k same earlier)
+      go (inr other) (inl same) = omega (arith, beside height base shortest k same earlier, other, same)
+      go (inr other) (inr far) = omega (arith, next_few base (digits (suc height) (suc k)) (digits (suc height) k) earlier shortest, length-digits (suc height) (suc k), low, other, far)
 
   module _ (rest : List WordPath) (most : ℕ) (few : (earlier : List WordPath) → length (prefixes_of shortest earlier rest) ≤ most) where
-    run_behind : (n k : ℕ) (earlier : List WordPath) → length (prefixes_of shortest (path k ∷ earlier) (map path (range_with_len (k + 1) n) ++ rest)) ≤ 3 * ((k + n) / 512 - k / 512) + most
+    run_behind : (n k : ℕ) (earlier : List WordPath) → length (prefixes_of shortest (path k ∷ earlier) (map path (range_with_len (k + 1) n) ++ rest)) + charge k ≤ charge (k + n) + most
     run_behind zero k earlier = omega (arith, few (path k ∷ earlier))
     run_behind (suc n) k earlier =
         let next : k + 1 ≡ suc k = omega arith in
-        let behind : length (prefixes_of shortest (path (k + 1) ∷ path k ∷ earlier) (map path (range_with_len (k + 1 + 1) n) ++ rest)) ≤ 3 * ((k + 1 + n) / 512 - (k + 1) / 512) + most = run_behind n (k + 1) (path k ∷ earlier) in
-        let here : length (filter (λ prefix. not (list_any (is_prefix prefix) (path k ∷ earlier))) (prefixes_from shortest (path (k + 1)))) ≤ 3 * ((k + 1) / 512 - k / 512) = rw next (step k earlier) in
+        let end : k + 1 + n ≡ k + suc n = omega arith in
+        let behind : length (prefixes_of shortest (path (k + 1) ∷ path k ∷ earlier) (map path (range_with_len (k + 1 + 1) n) ++ rest)) + charge (k + 1) ≤ charge (k + suc n) + most = rw end at (run_behind n (k + 1) (path k ∷ earlier)) in
+        let here : length (filter (λ prefix. not (list_any (is_prefix prefix) (path k ∷ earlier))) (prefixes_from shortest (path (k + 1)))) + charge k ≤ charge (k + 1) = rw next (step k earlier) in
         let both = length-append (filter (λ prefix. not (list_any (is_prefix prefix) (path k ∷ earlier))) (prefixes_from shortest (path (k + 1)))) (prefixes_of shortest (path (k + 1) ∷ path k ∷ earlier) (map path (range_with_len (k + 1 + 1) n) ++ rest)) in
         omega (arith, behind, here, both)
 
     -- a run of paths copies few blocks besides those of the first
-    pub run_few : (n k : ℕ) → length (prefixes_of shortest [] (map path (range_with_len k n) ++ rest)) ≤ length (path k) + 3 * ((k + n) / 512 - k / 512) + most
+    pub run_few : (n k : ℕ) → length (prefixes_of shortest [] (map path (range_with_len k n) ++ rest)) + charge k ≤ length (path k) + charge (k + n) + most
     run_few zero k = omega (arith, few [])
     run_few (suc n) k =
         let behind = run_behind n k [] in
@@ -136,16 +164,16 @@ module _ (image : Image) where
       go true = tall_low (root_of image t) (size_of image t) b.to low
       go false = fits
 
-  -- the blocks of the bytes of one call behind a size
-  prepared_few : (b : Beyond) → size_of image b.tree ≤ b.from → b.to ≤ b.from + max_write → (0 < size_of image b.tree → height_of (root_of image b.tree) ≤ max_height) → (is : Bool) →
-      length (flat_map (prepared_for image) (if is then b ∷ [] else [])) ≤ 27
-  prepared_few b behind close low false = omega arith
-  prepared_few b behind close low true =
-      let few = few_needed image (root_of image b.tree) (size_of image b.tree) b.from b.to close behind low in
+  -- the blocks of the bytes of one call behind a size, by the leaves that those fill
+  prepared_few : (b : Beyond) (many : ℕ) → many ≤ 512 → b.to ≤ b.from + many * 4096 → size_of image b.tree ≤ b.from → (0 < size_of image b.tree → height_of (root_of image b.tree) ≤ max_height) → (is : Bool) →
+      length (flat_map (prepared_for image) (if is then b ∷ [] else [])) ≤ many + 2 + 3 * max_height
+  prepared_few b many few near behind low false = omega arith
+  prepared_few b many few near behind low true =
+      let needed = few_needed image (root_of image b.tree) (size_of image b.tree) b.from b.to many few near behind low in
       let with_tree : TreeNode → ℕ × TreeNode = λ n. (b.tree, n) in
       let same = length-map (nodes_for image (root_of image b.tree) (size_of image b.tree) b.from b.to) with_tree in
       let end = length-append (prepared_for image b) [] in
-      omega (arith, few, same, end)
+      omega (arith, needed, same, end)
 
   module _ (wf : IsWellFormed image) (change : Change) where
     top_low : height_after image change 0 ≤ max_height
@@ -156,31 +184,31 @@ module _ (image : Image) where
     pub height_low : (i : ℕ) → IsReached image i → 0 < size_of image i → height_after image change i ≤ max_height
     height_low i reached some = heights_low i (wf.sound i reached).low (beyond image change ++ new_inodes image change) (height_of (root_of image i)) ((wf.sound i reached).low some)
 
-    pub inode_slots : (i f : ℕ) → length (inode_word_path image change i f) ≤ 4
+    pub inode_slots : (i f : ℕ) → length (inode_word_path image change i f) ≤ suc max_height
     inode_slots i f = omega (arith, length-digits (suc (height_after image change 0)) (8 * i + f), top_low)
 
     -- the size word, where it is touched
-    size_few : (i shortest : ℕ) (earlier : List WordPath) (is : Bool) → length (prefixes_of shortest earlier (if is then inode_word_path image change i 2 ∷ [] else [])) ≤ 4
+    size_few : (i shortest : ℕ) (earlier : List WordPath) (is : Bool) → length (prefixes_of shortest earlier (if is then inode_word_path image change i 2 ∷ [] else [])) ≤ suc max_height
     size_few i shortest earlier false = omega arith
     size_few i shortest earlier true = omega (arith, alone_few shortest earlier (inode_word_path image change i 2), inode_slots i 2)
 
 -- ---- changes
 
--- so many blocks leave room for a mark, where each takes as many stores as it has words
+-- so many blocks leave room for a mark, where each takes a store more than it has words
 abbrev pub IsFew : ℕ → Type 0
-IsFew needed = needed ≤ 121
+IsFew needed = needed ≤ 448
 
 module _ (image : Image) (wf : IsWellFormed image) (i : ℕ) (reached : IsReached image i) where
   -- a file of another size
   pub few_resized : (size : ℕ) → IsFew (need image (resizes i size))
   few_resized size = go (cases_lt (size_of image i) size)
     where
-      copies : length (prefixes_of (length (cover_of (is_there_after image (resizes i size)) (touched image (resizes i size)))) [] (touched image (resizes i size))) ≤ 4
+      copies : length (prefixes_of (length (cover_of (is_there_after image (resizes i size)) (touched image (resizes i size)))) [] (touched image (resizes i size))) ≤ suc max_height
       copies = omega (arith, alone_few (length (cover_of (is_there_after image (resizes i size)) (touched image (resizes i size)))) [] (inode_word_path image (resizes i size) i 2), inode_slots image wf (resizes i size) i 2)
 
       go : (size_of image i < size) ⊎ (size ≤ size_of image i) → IsFew (need image (resizes i size))
       go (inl longer) =
-          let prepares = prepared_few image (record { tree = i; from = size; to = size }) (omega (arith, longer)) (omega arith) (wf.sound i reached).low (nat_lt (size_of image i) size) in
+          let prepares = prepared_few image (record { tree = i; from = size; to = size }) 0 (omega arith) (omega arith) (omega (arith, longer)) (wf.sound i reached).low (nat_lt (size_of image i) size) in
           omega (arith, prepares, copies)
       go (inr no_longer) =
           let none : length (flat_map (prepared_for image) (if nat_lt (size_of image i) size then record { tree = i; from = size; to = size } ∷ [] else [])) ≡ 0 = rw (le-ltb (size_of image i) size no_longer) refl in
@@ -193,25 +221,38 @@ module _ (image : Image) (wf : IsWellFormed image) (n : ℕ) (reached : IsReache
   abbrev last : ℕ
   last = min (off + len) (size_of image (suc n)) - 1
 
+  -- the bytes below the size, and those past it
+  abbrev bytes_below : ℕ
+  bytes_below = min (off + len) (size_of image (suc n)) - off
+
+  abbrev bytes_past : ℕ
+  bytes_past = off + len - max off (size_of image (suc n))
+
+  -- one leaf more than the bytes fill, one more where they begin and end in the midst of one, and two ways
   copied_few : (shortest : ℕ) (below above : Bool) → nat_lt off (size_of image (suc n)) ≡ below →
-      length (prefixes_of shortest [] (map (content_path image change (suc n)) (if below then range_with_len (off / 8) (suc (last / 8 - off / 8)) else []) ++ (if above then inode_word_path image change (suc n) 2 ∷ [] else []))) ≤ 63
+      length (prefixes_of shortest [] (map (content_path image change (suc n)) (if below then range_with_len (off / 8) (suc (last / 8 - off / 8)) else []) ++ (if above then inode_word_path image change (suc n) 2 ∷ [] else []))) ≤ bytes_below / 4096 + 24
   copied_few shortest false above at = omega (arith, size_few image wf change (suc n) shortest [] above)
   copied_few shortest true above at =
-      let inside : off < size_of image (suc n) = ltb-true off (size_of image (suc n)) at in
-      let low : height_after image change (suc n) ≤ max_height = height_low image wf change (suc n) reached (omega (arith, inside)) in
-      let run = run_few (inode_word_path image change (suc n) 1) (height_after image change (suc n)) low shortest (if above then inode_word_path image change (suc n) 2 ∷ [] else []) 4
+      let starts : off < size_of image (suc n) = ltb-true off (size_of image (suc n)) at in
+      let low : height_after image change (suc n) ≤ max_height = height_low image wf change (suc n) reached (omega (arith, starts)) in
+      let run = run_few (inode_word_path image change (suc n) 1) (height_after image change (suc n)) low shortest (if above then inode_word_path image change (suc n) 2 ∷ [] else []) (suc max_height)
       (λ earlier. size_few image wf change (suc n) shortest earlier above) (suc (last / 8 - off / 8)) (off / 8) in
       let first : length (inode_word_path image change (suc n) 1 ++ digits (suc (height_after image change (suc n))) (off / 8)) ≡ length (inode_word_path image change (suc n) 1) + length (digits (suc (height_after image change (suc n))) (off / 8)) =
       length-append (inode_word_path image change (suc n) 1) (digits (suc (height_after image change (suc n))) (off / 8)) in
-      let near : (off / 8 + suc (last / 8 - off / 8)) / 512 - off / 8 / 512 ≤ 17 = omega (arith, short, inside) in
-      omega (arith, run, first, near, low, inode_slots image wf change (suc n) 1, length-digits (suc (height_after image change (suc n))) (off / 8))
+      let words : suc (last / 8 - off / 8) ≤ bytes_below / 8 + 2 = omega (arith, starts) in
+      let within : bytes_below ≤ max_write = omega (arith, short) in
+      let leaves : suc (last / 8 - off / 8) / 512 ≤ bytes_below / 4096 + 1 = omega (arith, words) in
+      let nodes : suc (last / 8 - off / 8) / 512 / 512 ≤ 0 = omega (arith, leaves, within) in
+      omega (arith, run, first, leaves, nodes, charge_rises (off / 8) (suc (last / 8 - off / 8)), low, inode_slots image wf change (suc n) 1, length-digits (suc (height_after image change (suc n))) (off / 8))
 
-  -- the bytes of one write
+  -- The bytes of one write. The leaves that are made for those past the size and the leaves that are copied for those
+  -- below it are those of one write together.
   few_written : IsFew (need image (writes (suc n) off len))
   few_written =
-      let prepares = prepared_few image (record { tree = suc n; from = max off (size_of image (suc n)); to = off + len }) (omega arith) (omega (arith, short)) (wf.sound (suc n) reached).low (nat_lt (size_of image (suc n)) (off + len)) in
+      let bytes : bytes_below + bytes_past ≤ len = omega arith in
+      let prepares = prepared_few image (record { tree = suc n; from = max off (size_of image (suc n)); to = off + len }) (bytes_past / 4096 + 1) (omega (arith, bytes, short)) (omega arith) (omega arith) (wf.sound (suc n) reached).low (nat_lt (size_of image (suc n)) (off + len)) in
       let copies = copied_few (length (cover_of (is_there_after image change) (touched image change))) (nat_lt off (size_of image (suc n))) (nat_lt (size_of image (suc n)) (off + len)) refl in
-      omega (arith, prepares, copies)
+      omega (arith, prepares, copies, bytes, short)
 
 -- the same for any file
 pub few_writes : (image : Image) → IsWellFormed image → (i : ℕ) → 1 ≤ i → IsReached image i → (off len : ℕ) → len ≤ max_write → IsFew (need image (writes i off len))
@@ -219,7 +260,7 @@ few_writes image wf zero low reached off len short = absurd (omega (arith, low))
 few_writes image wf (suc n) low reached off len short = few_written image wf n reached off len short
 
 -- a path of a content word
-pub content_slots : (image : Image) (wf : IsWellFormed image) (change : Change) (i index : ℕ) → IsReached image i → 0 < size_of image i → length (content_path image change i index) ≤ 8
+pub content_slots : (image : Image) (wf : IsWellFormed image) (change : Change) (i index : ℕ) → IsReached image i → 0 < size_of image i → length (content_path image change i index) ≤ 2 * suc max_height
 content_slots image wf change zero index reached some = omega (arith, length-digits (suc (height_after image change 0)) index, top_low image wf change)
 content_slots image wf change (suc n) index reached some =
     omega (arith, length-append (inode_word_path image change (suc n) 1) (digits (suc (height_after image change (suc n))) index), inode_slots image wf change (suc n) 1, length-digits (suc (height_after image change (suc n))) index, height_low image wf change (suc n) reached some)
@@ -230,32 +271,45 @@ few_left image wf i s reached some =
     omega (arith, alone_few (length (cover_of (is_there_after image (leaves i s)) (touched image (leaves i s)))) [] (entry_path image (leaves i s) i s 0), content_slots image wf (leaves i s) i (32 * s + 0) reached some)
 
 -- an entry behind the last one, where none is empty
-pub new_entry_few : (image : Image) → IsWellFormed image → (i : ℕ) → IsReached image i → (slot : Option ℕ) → length (flat_map (prepared_for image) (new_entry image i slot)) ≤ 27
-new_entry_few image wf i reached None = prepared_few image (record { tree = i; from = size_of image i; to = size_of image i + entry_size }) (omega arith) (omega arith) (wf.sound i reached).low true
+pub new_entry_few : (image : Image) → IsWellFormed image → (i : ℕ) → IsReached image i → (slot : Option ℕ) → length (flat_map (prepared_for image) (new_entry image i slot)) ≤ 3 + 3 * max_height
+new_entry_few image wf i reached None = prepared_few image (record { tree = i; from = size_of image i; to = size_of image i + entry_size }) 1 (omega arith) (omega arith) (omega arith) (wf.sound i reached).low true
 new_entry_few image wf i reached (Some slot) = omega arith
 
 -- one name more
-module _ (image : Image) (wf : IsWellFormed image) (i : ℕ) (reached : IsReached image i) (free : Bool) where
-  enters_alone : (slot : Option ℕ) → empty_slot image i ≡ slot → (shortest : ℕ) → length (prefixes_of shortest [] (entered image (enters i free) i slot ∷ [])) ≤ 8
-  enters_alone None at shortest = omega (arith, alone_few shortest [] (inode_word_path image (enters i free) i 2), inode_slots image wf (enters i free) i 2)
+module _ (image : Image) (wf : IsWellFormed image) (i : ℕ) (reached : IsReached image i) (entrant : Entrant) where
+  enters_alone : (slot : Option ℕ) → empty_slot image i ≡ slot → (shortest : ℕ) → length (prefixes_of shortest [] (entered image (enters i entrant) i slot ∷ [])) ≤ 2 * suc max_height
+  enters_alone None at shortest = omega (arith, alone_few shortest [] (inode_word_path image (enters i entrant) i 2), inode_slots image wf (enters i entrant) i 2)
   enters_alone (Some slot) at shortest =
       let found : Finds (λ s. inumber_at image i s == 0) 0 (entry_count image i) slot = find-passes (λ s. inumber_at image i s == 0) 0 (entry_count image i) slot at in
-      omega (arith, alone_few shortest [] (entry_path image (enters i free) i slot 0), content_slots image wf (enters i free) i (32 * slot + 0) reached (omega (arith, found.high)))
+      omega (arith, alone_few shortest [] (entry_path image (enters i entrant) i slot 0), content_slots image wf (enters i entrant) i (32 * slot + 0) reached (omega (arith, found.high)))
 
-  inodes_few : (some : Bool) → length (flat_map (prepared_for image) (new_inodes image (enters i some))) ≤ 27
-  inodes_few true = omega arith
-  inodes_few false = prepared_few image (record { tree = 0; from = size_of image 0; to = size_of image 0 + block_size }) (omega arith) (omega arith) (wf.sound 0 inode_file).low true
+  inodes_few : (named : Entrant) → length (flat_map (prepared_for image) (new_inodes image (enters i named))) ≤ 3 + 3 * max_height
+  inodes_few (taken inode) = omega arith
+  inodes_few grown = prepared_few image (record { tree = 0; from = size_of image 0; to = size_of image 0 + block_size }) 1 (omega arith) (omega arith) (omega arith) (wf.sound 0 inode_file).low true
+  inodes_few linked = omega arith
 
-  pub few_entered : IsFew (need image (enters i free))
+  pub few_entered : IsFew (need image (enters i entrant))
   few_entered =
-      omega (arith, new_entry_few image wf i reached (empty_slot image i), inodes_few free, enters_alone (empty_slot image i) refl (length (cover_of (is_there_after image (enters i free)) (touched image (enters i free)))))
+      omega (arith, new_entry_few image wf i reached (empty_slot image i), inodes_few entrant, enters_alone (empty_slot image i) refl (length (cover_of (is_there_after image (enters i entrant)) (touched image (enters i entrant)))))
+
+-- ---- room, where no block is kept
+
+few_in_all : (image : Image) (change : Change) → IsFew (need image change) → IsFew (full_need image none_kept change)
+few_in_all image change few = subst IsFew (sym (full_need-none image change)) few
+
+room_enough : (needed room : ℕ) → IsFew needed → call_room ≤ room → room_for needed ≤ room
+room_enough needed room few enough = omega (arith, few, enough)
+
+room_is_left : (needed room left : ℕ) → IsFew needed → call_room ≤ room → room ≤ left + (most_barriers + most_stores needed) → 0 < left
+room_is_left needed room left few enough took = omega (arith, few, enough, took)
 
 -- a log with room for a call has room for a change that needs few blocks
-pub few_room : (memory : Memory) (change : Change) → IsFew (need (current_words memory) change) → call_room ≤ room_in memory → HasRoomFor memory change
-few_room memory change few room = omega (arith, few, room)
+pub few_room : (memory : Memory) (change : Change) → IsFew (need (current_words memory) change) → call_room ≤ room_in memory → HasRoomFor memory none_kept change
+few_room memory change few room =
+    room_enough (full_need (current_words memory) none_kept change) (room_in memory) (few_in_all (current_words memory) change few) room
 
 -- few blocks leave room
-pub performs_room : (old new : Memory) (change : Change) (Effect : Image → Image → Type 0) → Performs old new change Effect → IsFew (need (current_words old) change) → call_room ≤ room_in old → 0 < room_in new
+pub performs_room : (old new : Memory) (change : Change) (Effect : Image → Image → Type 0) → Performs none_kept old new change Effect → IsFew (need (current_words old) change) → call_room ≤ room_in old → 0 < room_in new
 performs_room old new change Effect performs few room =
-    let left = room_after_commit Same _ performs.value 8 (most_stores (need (current_words old) change)) old new performs.commit in
-    omega (arith, left, few, room)
+    room_is_left (full_need (current_words old) none_kept change) (room_in old) (room_in new) (few_in_all (current_words old) change few) room
+    (room_after_commit Same _ performs.value most_barriers (most_stores (full_need (current_words old) none_kept change)) old new performs.commit)

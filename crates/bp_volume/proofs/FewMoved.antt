@@ -1,5 +1,5 @@
 -- A rename needs few blocks.
-use Rattle.std.proofs.Common.{◌≡◌, ℕ, zero, suc, ◌+◌, ◌-◌, ◌*◌, ◌/◌, ◌<◌, ◌≤◌, [], ◌∷◌, ◌++◌, length, map, Bool, true, false, ◌==◌, Option, None, Some, filter, not, refl, sym, ◌∙◌, ap, subst, arith, ◌≢◌}
+use Rattle.std.proofs.Common.{◌≡◌, ℕ, zero, suc, ◌+◌, ◌*◌, ◌/◌, ◌<◌, ◌≤◌, [], ◌∷◌, ◌++◌, length, map, Bool, true, false, ◌==◌, Option, None, Some, filter, not, refl, sym, ◌∙◌, ap, subst, arith, ◌≢◌}
 use Rattle.std.specs.Prelude.{if◌then◌else◌}
 use Rattle.std.specs.List.{range_with_len, list_any}
 use Rattle.std.proofs.lemmas.List.{append-nil, length-append}
@@ -15,7 +15,7 @@ use Rattle.bp_layout.proofs.Finding.{Finds, find-passes}
 use Rattle.bp_limits.specs.Limits.{max_height, max_name}
 use Rattle.bp_rename.specs.CanRename.{change_to}
 use Rattle.bp_tree.proofs.Digits.{length-digits}
-use Rattle.bp_volume.proofs.FewBlocks.{IsFew, alone_few, content_slots, height_low, inode_slots, new_entry_few, one_few, run_few}
+use Rattle.bp_volume.proofs.FewBlocks.{IsFew, alone_few, charge, charge_rises, content_slots, height_low, inode_slots, new_entry_few, one_few, run_few}
 
 -- two paths
 two_few : (shortest : ℕ) (one two : WordPath) → length (prefixes_of shortest [] (one ∷ two ∷ [])) ≤ length one + length two
@@ -41,7 +41,7 @@ module _ (image : Image) (wf : IsWellFormed image) (i : ℕ) (reached : IsReache
       )
 
   module _ (s j : ℕ) (target : IsReached image j) where
-    entered_slots : (slot : Option ℕ) → empty_slot image j ≡ slot → length (entered image (moves i s j) j slot) ≤ 8
+    entered_slots : (slot : Option ℕ) → empty_slot image j ≡ slot → length (entered image (moves i s j) j slot) ≤ 2 * suc max_height
     entered_slots None at = omega (arith, inode_slots image wf (moves i s j) j 2)
     entered_slots (Some slot) at =
         let found : Finds (λ s. inumber_at image j s == 0) 0 (entry_count image j) slot = find-passes (λ s. inumber_at image j s == 0) 0 (entry_count image j) slot at in
@@ -64,18 +64,18 @@ module _ (image : Image) (wf : IsWellFormed image) (n s len : ℕ) (reached : Is
   abbrev words : ℕ
   words = suc ((len + 7) / 8)
 
-  respelled_few : (shortest : ℕ) → length (prefixes_of shortest [] (map (entry_path image change (suc n) s) (range_with_len 1 words))) ≤ 11
+  respelled_few : (shortest : ℕ) → length (prefixes_of shortest [] (map (entry_path image change (suc n) s) (range_with_len 1 words))) ≤ 17
   respelled_few shortest =
       let low : height_after image change (suc n) ≤ max_height = height_low image wf change (suc n) reached some in
       let run = run_few (inode_word_path image change (suc n) 1) (height_after image change (suc n)) low shortest [] 0 (λ earlier. omega arith) words (32 * s + 1) in
       let first : length (inode_word_path image change (suc n) 1 ++ digits (suc (height_after image change (suc n))) (32 * s + 1)) ≡ length (inode_word_path image change (suc n) 1) + length (digits (suc (height_after image change (suc n))) (32 * s + 1)) =
       length-append (inode_word_path image change (suc n) 1) (digits (suc (height_after image change (suc n))) (32 * s + 1)) in
-      let near : (32 * s + 1 + words) / 512 - (32 * s + 1) / 512 ≤ 1 = omega (arith, short) in
-      let bound : length (prefixes_of shortest [] (map (content_path image change (suc n)) (range_with_len (32 * s + 1) words) ++ [])) ≤ 11 =
+      let near : charge (32 * s + 1 + words) ≤ charge (32 * s + 1) + 5 = omega (arith, short, charge_rises (32 * s + 1) words) in
+      let bound : length (prefixes_of shortest [] (map (content_path image change (suc n)) (range_with_len (32 * s + 1) words) ++ [])) ≤ 17 =
       omega (arith, run, first, near, low, inode_slots image wf change (suc n) 1, length-digits (suc (height_after image change (suc n))) (32 * s + 1)) in
       let same : map (content_path image change (suc n)) (range_with_len (32 * s + 1) words) ++ [] ≡ map (entry_path image change (suc n) s) (range_with_len 1 words) =
       append-nil _ ∙ sym (from_first (32 * s) (content_path image change (suc n)) words 1) in
-      subst (λ paths. length (prefixes_of shortest [] paths) ≤ 11) same bound
+      subst (λ paths. length (prefixes_of shortest [] paths) ≤ 17) same bound
 
   few_spelled : IsFew (need image change)
   few_spelled = omega (arith, respelled_few (length (cover_of (is_there_after image change) (touched image change))))

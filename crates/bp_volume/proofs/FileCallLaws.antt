@@ -1,37 +1,54 @@
 -- A call on a file, from its parts.
 use Rattle.std.proofs.Common.{◌≡◌, ℕ, [], ◌∷◌, ◌++◌, true, false, refl, sym, ◌∙◌, ap, subst}
 use Rattle.pm_epochs.specs.declared.event.Event.TheVariants.{Mark}
-use Rattle.bp_tree.specs.Performs.{IsShort}
-use Rattle.bp_tree.proofs.PerformsLaws.{performed, performs_adds, performs_safe, performs_short, performs_unmarked, same_equivalence}
+use Rattle.bp_commit.specs.Performs.{IsShort}
+use Rattle.bp_commit.proofs.PerformsLaws.{performed, performs_adds, performs_short, performs_unmarked}
 use Rattle.pm_region.specs.Memory.{Memory, current_words, with_room, Adds}
 use Rattle.pm_region.specs.Safe.{IsSafe}
 use Rattle.pm_region.proofs.MemoryLaws.{adds_both, current_words-adds, capacity-adds, current_words-with_room}
 use Rattle.pm_region.proofs.SafeLaws.{safe_mark}
-use Rattle.bp_free.specs.Set.{Set}
-use Rattle.bp_layout.specs.Same.{Same}
+use Rattle.bp_free.specs.declared.parts.Parts.{Parts}
+use Rattle.bp_layout.specs.Trees.{AreFrozen}
+use Rattle.bp_layout.specs.Whole.{IsFileSystem, SameFiles}
+use Rattle.bp_layout.specs.Words.{Image}
 use Rattle.bp_plain.specs.Calls.{Call, Answer}
+use Rattle.bp_shapes.specs.Sets.{IsExact}
 use Rattle.bp_volume.specs.Carried.{ChangesTree, PerformsCall}
 use Rattle.bp_volume.specs.Step.{IsChange}
 use Rattle.bp_limits.specs.Limits.{call_room}
 use Rattle.bp_volume.specs.FileCall.{FileCall}
+use Rattle.bp_volume.specs.FileCall.IsCheap.{changes}
 use Rattle.bp_volume.specs.Told.{Tells}
-use Rattle.bp_volume.specs.Volume.{IsVolume}
+use Rattle.bp_volume.specs.Volume.{HaveNoSecond, IsVolume}
+use Rattle.bp_volume.proofs.SafeLaws.{alone_equivalence, whole_safe}
+use Rattle.bp_volume.proofs.WholeLaws.{whole_equivalence}
 
-pub volume-marked : (old new : Memory) (blocks inodes : Set) (pending : ℕ) → IsVolume old blocks inodes pending → Adds old new (Mark ∷ []) → IsVolume new blocks inodes pending
-volume-marked old new blocks inodes pending volume adds =
+-- the sets and counts of parts do not hang on their region
+pub exact_parts : {R : Type 0} (image : Image) (parts : Parts R) (region : R) → IsExact image parts → IsExact image (record parts { region = region })
+exact_parts image parts region exact = record {
+  sets = exact.sets;
+  counts = exact.counts;
+  count_room = exact.count_room;
+  frozen_room = exact.frozen_room;
+}
+
+pub volume-marked : {R : Type 0} (old new : Memory) (parts : Parts R) (region : R) (pending : ℕ) → IsVolume old parts pending → Adds old new (Mark ∷ []) → IsVolume new (record parts { region = region }) pending
+volume-marked old new parts region pending volume adds =
     let words : current_words new ≡ current_words old = current_words-adds old new (Mark ∷ []) adds in
     record {
-      safe = safe_mark Same same_equivalence old new volume.safe adds;
+      safe = safe_mark SameFiles whole_equivalence old new volume.safe adds;
+      alone = safe_mark HaveNoSecond alone_equivalence old new volume.alone adds;
       roomy = rw (capacity-adds old new (Mark ∷ []) adds) volume.roomy;
       well_formed = rw words volume.well_formed;
-      exact = rw words volume.exact;
+      frozen = rw words volume.frozen;
+      exact = rw words (exact_parts (current_words old) parts region volume.exact);
       scans = rw words volume.scans;
     }
 
 -- ---- calls, from the memory behind the room that they made
 
 -- a call that changes nothing: its mark is all that it adds
-pub file_call_unchanged : (old middle new : Memory) (call : Call) (answer : Answer) → middle ≡ with_room call_room old → IsSafe Same middle → Adds middle new (Mark ∷ []) →
+pub file_call_unchanged : (old middle new : Memory) (call : Call) (answer : Answer) → middle ≡ with_room call_room old → IsSafe SameFiles middle → Adds middle new (Mark ∷ []) →
     Tells (current_words middle) call answer → FileCall old call answer new
 file_call_unchanged old middle new call answer room safe adds tells =
     let before : current_words middle ≡ current_words old = ap current_words room ∙ current_words-with_room call_room old in
@@ -44,26 +61,28 @@ file_call_unchanged old middle new call answer room safe adds tells =
       step = λ tree stands. rw words (told tree stands).1;
       silent = λ tree stands none. refl;
       short = λ tree stands changed. absurd (let both : true ≡ false = sym changed ∙ (told tree stands).0 in cc);
-      safe = safe_mark Same same_equivalence middle new safe adds;
+      safe = safe_mark SameFiles whole_equivalence middle new safe adds;
     }
 
 -- a call that changes the tree: a preparation, one store alone in its epoch, and its mark
-pub file_call_changed : (old middle committed new : Memory) (call : Call) (answer : Answer) → middle ≡ with_room call_room old → IsSafe Same middle → PerformsCall middle call answer committed →
-    Adds committed new (Mark ∷ []) → FileCall old call answer new
-file_call_changed old middle committed new call answer room safe does ends =
-    let events = performed middle committed does.change (ChangesTree call answer) does.performs in
+pub file_call_changed : (old middle committed new : Memory) (call : Call) (answer : Answer) → middle ≡ with_room call_room old → IsSafe SameFiles middle → IsFileSystem (current_words middle) →
+    PerformsCall middle call answer committed → Adds committed new (Mark ∷ []) → FileCall old call answer new
+file_call_changed old middle committed new call answer room safe is does ends =
+    let events = performed does.kept middle committed does.change (ChangesTree call answer) does.performs in
     let before : current_words middle ≡ current_words old = ap current_words room ∙ current_words-with_room call_room old in
     let words : current_words new ≡ current_words committed = current_words-adds committed new (Mark ∷ []) ends in
     let told : ChangesTree call answer (current_words old) (current_words committed) = rw before at does.performs.effect in
     let change : IsChange (current_words old) call does.change = rw before at does.is in
-    let short : IsShort (current_words old) (current_words committed) does.change events =
-    subst (λ w. IsShort w (current_words committed) does.change events) before (performs_short middle committed does.change (ChangesTree call answer) does.performs) in
+    let frozen : AreFrozen (current_words old) does.kept = rw before at does.frozen in
+    let short : IsShort (current_words old) (current_words committed) does.kept does.change events =
+    subst (λ w. IsShort w (current_words committed) does.kept does.change events) before (performs_short does.kept middle committed does.change (ChangesTree call answer) does.performs) in
     record {
       added = events;
-      unmarked = performs_unmarked middle committed does.change (ChangesTree call answer) does.performs;
-      adds = subst (λ memory. Adds memory new (events ++ Mark ∷ [])) room (adds_both middle committed new events (Mark ∷ []) (performs_adds middle committed does.change (ChangesTree call answer) does.performs) ends);
+      unmarked = performs_unmarked does.kept middle committed does.change (ChangesTree call answer) does.performs;
+      adds = subst (λ memory. Adds memory new (events ++ Mark ∷ [])) room
+          (adds_both middle committed new events (Mark ∷ []) (performs_adds does.kept middle committed does.change (ChangesTree call answer) does.performs) ends);
       step = λ tree stands. rw words (told tree stands).1;
       silent = λ tree stands none. absurd (let both : true ≡ false = sym (told tree stands).0 ∙ none in cc);
-      short = λ tree stands changed. record { change = does.change; is = change; short = rw words short };
-      safe = performs_safe middle committed does.change (ChangesTree call answer) does.performs new safe ends;
+      short = λ tree stands changed. changes change frozen (rw words short);
+      safe = whole_safe does.kept middle committed does.change (ChangesTree call answer) does.performs is does.frozen new ends safe;
     }

@@ -11,6 +11,8 @@ use Rattle.pm_epochs.proofs.MayLaws.{EachMay-stored, StoresMay-stores_of, same_w
 use Rattle.bp_layout.specs.Words.{Image, word}
 use Rattle.bp_layout.specs.Format.{empty_words}
 use Rattle.bp_limits.specs.Limits.{magic, super_magic}
+use Rattle.bp_limits.specs.declared.version.Version.{Version}
+use Rattle.bp_limits.specs.declared.version.Version.TheVariants.{One, Two}
 use Rattle.bp_plain.specs.PlainTree.{empty_tree}
 use Rattle.bp_plain.specs.Stands.{Stands}
 use Rattle.bp_plain.proofs.FormatStands.{format_stands}
@@ -36,31 +38,46 @@ word_stays base events place may image found =
     (same_where_none (AnyAt (λ p. p ≢ place)) base (words_after base (stores_of found.cut.epoch found.cut.mask events))
     (EachMay-stored (AnyAt (λ p. p ≢ place)) base (stores_of found.cut.epoch found.cut.mask events) (StoresMay-stores_of (AnyAt (λ p. p ≢ place)) events found.cut.epoch found.cut.mask may)) place (λ value other. other refl))
 
-module _ (base : Image) (blocks : ℕ) (whole : length base ≡ 512 * blocks) (least : 8 ≤ blocks) (most : blocks ≤ 16384) where
+module _ (base : Image) (version : Version) (blocks : ℕ) (whole : length base ≡ 512 * blocks) (least : 8 ≤ blocks) (most : blocks ≤ 65536) where
   abbrev unmarking : List Event
   unmarking = stores_epoch ((super_magic, 0) ∷ [])
 
   abbrev filling : List Event
-  filling = stores_epoch (empty_words blocks)
+  filling = stores_epoch (empty_words version blocks)
 
   abbrev marking : List Event
-  marking = stores_epoch ((super_magic, magic) ∷ [])
+  marking = stores_epoch ((super_magic, magic version) ∷ [])
 
   cleared : word (set base 0 0) 0 ≡ 0
   cleared = get_or-set_same base 0 0 0 (omega (arith, whole, least))
 
   filling_apart : StoresMay (AnyAt (λ p. p ≢ 0)) filling
-  filling_apart = (λ e. omega (arith, e), (λ e. omega (arith, e), (λ e. omega (arith, e), (λ e. omega (arith, e), (λ e. omega (arith, e), (λ e. omega (arith, e), tt))))))
+  filling_apart = go version
+    where
+      go : (version : Version) → StoresMay (AnyAt (λ p. p ≢ 0)) (stores_epoch (empty_words version blocks))
+      go One = (λ e. omega (arith, e), (λ e. omega (arith, e), (λ e. omega (arith, e), (λ e. omega (arith, e), (λ e. omega (arith, e), (λ e. omega (arith, e), tt))))))
+      go Two = (λ e. omega (arith, e), (λ e. omega (arith, e), (λ e. omega (arith, e), (λ e. omega (arith, e), (λ e. omega (arith, e), (λ e. omega (arith, e), (λ e. omega (arith, e), (λ e. omega (arith, e), tt))))))))
 
   filling_closed : IsClosed filling
-  filling_closed = (omega arith, (omega arith, (omega arith, (omega arith, (omega arith, (omega arith, tt))))))
+  filling_closed = go version
+    where
+      go : (version : Version) → IsClosed (stores_epoch (empty_words version blocks))
+      go One = (omega arith, (omega arith, (omega arith, (omega arith, (omega arith, (omega arith, tt))))))
+      go Two = (omega arith, (omega arith, (omega arith, (omega arith, (omega arith, (omega arith, (omega arith, (omega arith, tt))))))))
 
   filled : word (words_after (set base 0 0) filling) 0 ≡ 0
   filled =
       same_where_none (AnyAt (λ p. p ≢ 0)) (set base 0 0) (words_after (set base 0 0) filling)
       (EachMay-stored (AnyAt (λ p. p ≢ 0)) (set base 0 0) filling filling_apart) 0 (λ value other. other refl) ∙ cleared
 
-  pub left_by_format : (image : List ℕ) → IsReplay base (format_events blocks) image → IsLeftByFormat base image
+  stands_made : Stands (set (words_after (set base 0 0) filling) 0 (magic version)) (empty_tree version)
+  stands_made = go version
+    where
+      go : (version : Version) → Stands (set (words_after (set base 0 0) (stores_epoch (empty_words version blocks))) 0 (magic version)) (empty_tree version)
+      go One = format_stands base One blocks whole least most
+      go Two = format_stands base Two blocks whole least most
+
+  pub left_by_format : (image : List ℕ) → IsReplay base (format_events version blocks) image → IsLeftByFormat version base image
   left_by_format image found = elim (joined_replays base unmarking (filling ++ marking) (omega arith, tt) image found) [
     | inl early ↦ at_first early
     | inr late ↦ elim (joined_replays (set base 0 0) filling marking filling_closed image late) [
@@ -69,14 +86,14 @@ module _ (base : Image) (blocks : ℕ) (whole : length base ≡ 512 * blocks) (l
     ]
   ]
     where
-      at_first : IsReplay base unmarking image → IsLeftByFormat base image
+      at_first : IsReplay base unmarking image → IsLeftByFormat version base image
       at_first early = elim (one_store base 0 0 early.cut.epoch early.cut.mask) [
         | inl same ↦ untouched (sym (replayed base unmarking image early) ∙ same)
         | inr done ↦ unmarked (ap (λ w. word w 0) (sym (replayed base unmarking image early) ∙ done) ∙ cleared)
       ]
 
-      at_last : IsReplay (words_after (set base 0 0) filling) marking image → IsLeftByFormat base image
-      at_last end = elim (one_store (words_after (set base 0 0) filling) 0 magic end.cut.epoch end.cut.mask) [
+      at_last : IsReplay (words_after (set base 0 0) filling) marking image → IsLeftByFormat version base image
+      at_last end = elim (one_store (words_after (set base 0 0) filling) 0 (magic version) end.cut.epoch end.cut.mask) [
         | inl same ↦ unmarked (ap (λ w. word w 0) (sym (replayed (words_after (set base 0 0) filling) marking image end) ∙ same) ∙ filled)
-        | inr done ↦ empty (subst (λ w. Stands w empty_tree) (sym (sym (replayed (words_after (set base 0 0) filling) marking image end) ∙ done)) (format_stands base blocks whole least most))
+        | inr done ↦ empty (subst (λ w. Stands w (empty_tree version)) (sym (sym (replayed (words_after (set base 0 0) filling) marking image end) ∙ done)) stands_made)
       ]

@@ -15,9 +15,16 @@ pub mod FewMoved
 pub mod MovingLaws
 pub mod CarriedLaws
 pub mod LaidLaws
+pub mod LinksLaws
+pub mod BesideExact
+pub mod SafeLaws
+pub mod ScannedLaws
+pub mod UpgradeLaws
 pub mod WalkingLaws
 pub mod TargetLaws
 pub mod SpaceLaws
 pub mod ReplyLaws
 pub mod HalfFormat
 pub mod CrashedLaws
+pub mod WholeLaws
+pub mod SharingLaws

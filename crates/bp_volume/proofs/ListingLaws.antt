@@ -18,10 +18,10 @@ use Rattle.bp_layout.specs.Lookup.{Path, Node}
 use Rattle.bp_layout.specs.Below.{rest_below}
 use Rattle.bp_layout.specs.declared.fields.Kind.{Kind}
 use Rattle.bp_layout.proofs.Below.{rest_below-append, rest_below-is}
-use Rattle.bp_plain.specs.PlainTree.{FileTree, path_cmp}
+use Rattle.bp_plain.specs.PlainTree.{Nodes, path_cmp}
 use Rattle.bp_plain.specs.Plain.{kind_of_node, listed_in, only_name, listing}
 use Rattle.bp_plain.proofs.Kept.{left_holds, right_holds}
-use Rattle.bp_plain.proofs.Uniqueness.{same_path_from}
+use Rattle.bp_plain.proofs.PathOrder.{same_path_from}
 
 abbrev pub by_bytes : Name → Name → Ordering
 by_bytes = slice_cmp nat_cmp
@@ -112,11 +112,11 @@ module _ (here : Path) where
           rw at (both _ _ (below_listed name es below) rest)
 
 -- what a listing has under a name, and that it is sorted
-pub find-listing : (tree : FileTree) (here : Path) (name : Name) → find by_bytes name (map by_name (listing tree here)) ≡ option_map kind_of_node (get tree (here ++ name ∷ []))
-find-listing tree here name = find-listed here (entries tree) name ∙ ap (option_map kind_of_node) (sym (get-entries tree (here ++ name ∷ [])))
+pub find-listing : (nodes : Nodes) (here : Path) (name : Name) → find by_bytes name (map by_name (listing nodes here)) ≡ option_map kind_of_node (get nodes (here ++ name ∷ []))
+find-listing nodes here name = find-listed here (entries nodes) name ∙ ap (option_map kind_of_node) (sym (get-entries nodes (here ++ name ∷ [])))
 
-pub sorted_listing : (tree : FileTree) (here : Path) → T (is_sorted by_bytes (map by_name (listing tree here)))
-sorted_listing tree here = sorted_listed here (entries tree) (entries_sorted tree)
+pub sorted_listing : (nodes : Nodes) (here : Path) → T (is_sorted by_bytes (map by_name (listing nodes here)))
+sorted_listing nodes here = sorted_listed here (entries nodes) (entries_sorted nodes)
 
 -- ---- entries of which no two have one name
 
@@ -226,19 +226,19 @@ module _ {Item : Type 0} (seen : Item → Kind × Name) where
   seen_back [] = refl
   seen_back (x ∷ xs) = ap (λ ys. seen x ∷ ys) (seen_back xs)
 
-  module _ (tree : FileTree) (here : Path) (items : List Item) (apart : NamesDiffer (map keyed items))
-      (finds : (name : Name) → find by_bytes name (map keyed items) ≡ option_map kind_of_node (get tree (here ++ name ∷ []))) where
+  module _ (nodes : Nodes) (here : Path) (items : List Item) (apart : NamesDiffer (map keyed items))
+      (finds : (name : Name) → find by_bytes name (map keyed items) ≡ option_map kind_of_node (get nodes (here ++ name ∷ []))) where
     -- there are as many as the listing has
-    pub length-listing : length (listing tree here) ≡ length items
+    pub length-listing : length (listing nodes here) ≡ length items
     length-listing =
         let made : FinMap by_bytes Kind = from_entries (map keyed items) in
-        let same : entries made ≡ map by_name (listing tree here) =
-        same_entries by_bytes nat_list_cmp_total by_bytes-IsAntisymmetric (entries made) (map by_name (listing tree here)) (entries_sorted made) (sorted_listing tree here)
-        (λ name. sym (get-entries made name) ∙ get-from_entries nat_list_cmp_total (map keyed items) name ∙ finds name ∙ sym (find-listing tree here name)) in
-        omega (arith, length-map (listing tree here) by_name, ap length same, len-entries made, len-from_apart (map keyed items) apart, length-map items keyed)
+        let same : entries made ≡ map by_name (listing nodes here) =
+        same_entries by_bytes nat_list_cmp_total by_bytes-IsAntisymmetric (entries made) (map by_name (listing nodes here)) (entries_sorted made) (sorted_listing nodes here)
+        (λ name. sym (get-entries made name) ∙ get-from_entries nat_list_cmp_total (map keyed items) name ∙ finds name ∙ sym (find-listing nodes here name)) in
+        omega (arith, length-map (listing nodes here) by_name, ap length same, len-entries made, len-from_apart (map keyed items) apart, length-map items keyed)
 
     -- once they are sorted by their names, they are the listing
-    pub sorted-listing : (done : List Item) → IsPermutation items done → IsSortedBy comes_before done → map seen done ≡ listing tree here
+    pub sorted-listing : (done : List Item) → IsPermutation items done → IsSortedBy comes_before done → map seen done ≡ listing nodes here
     sorted-listing done moved up =
         let moved_keys : IsPermutation (map keyed items) (map keyed done) = IsPermutation-map keyed items done moved in
         let still : NamesDiffer (map keyed done) =
@@ -247,10 +247,10 @@ module _ {Item : Type 0} (seen : Item → Kind × Name) where
         let found : (name : Name) → find by_bytes name (map keyed done) ≡ find by_bytes name (map keyed items) =
         find-same_members (map keyed done) (map keyed items) still apart
         (λ x c. Contains-permutation _ _ x (IsPermutation-sym _ _ moved_keys) c) (λ x c. Contains-permutation _ _ x moved_keys c) in
-        let same : map keyed done ≡ map by_name (listing tree here) =
-        same_entries by_bytes nat_list_cmp_total by_bytes-IsAntisymmetric (map keyed done) (map by_name (listing tree here)) (sorted_items done up still) (sorted_listing tree here)
-        (λ name. found name ∙ finds name ∙ sym (find-listing tree here name)) in
-        sym (seen_back done) ∙ ap (map (λ (e : Name × Kind). (e.1, e.0))) same ∙ listed_back (listing tree here)
+        let same : map keyed done ≡ map by_name (listing nodes here) =
+        same_entries by_bytes nat_list_cmp_total by_bytes-IsAntisymmetric (map keyed done) (map by_name (listing nodes here)) (sorted_items done up still) (sorted_listing nodes here)
+        (λ name. found name ∙ finds name ∙ sym (find-listing nodes here name)) in
+        sym (seen_back done) ∙ ap (map (λ (e : Name × Kind). (e.1, e.0))) same ∙ listed_back (listing nodes here)
       where
         listed_back : (es : List (Kind × Name)) → map (λ (e : Name × Kind). (e.1, e.0)) (map by_name es) ≡ es
         listed_back [] = refl

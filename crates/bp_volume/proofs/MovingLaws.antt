@@ -2,9 +2,9 @@
 use Rattle.std.proofs.Common.{◌≡◌, ◌≢◌, ◌⊎◌, ◌&&◌, ℕ, ◌<◌, ◌≤◌, ◌==◌, List, [], ◌∷◌, ◌++◌, length, false, inl, inr, refl, sym, ◌∙◌, ap, ap₂, subst, Option, None, Some, not, arith, append_assoc, true≢false}
 use Rattle.std.specs.Prelude.{if◌then◌else◌, is_some}
 use Rattle.std.specs.Option.{option_map}
-use Rattle.std.proofs.lemmas.Bool.{cases_eq, eq-eqb, ne_eqb}
+use Rattle.std.proofs.lemmas.Bool.{cases_eq, eq-eqb, eqb-false, ne_eqb}
 use Rattle.bp_calls.specs.Removed.{IsFoundAt}
-use Rattle.bp_calls.proofs.MayLeave.{found_spelled}
+use Rattle.bp_calls.proofs.MayLeave.{found_inumber, found_spelled}
 use Rattle.bp_changes.specs.Effects.{CanUnlink}
 use Rattle.bp_layout.specs.Below.{rest_below}
 use Rattle.bp_layout.specs.Directory.{Name, inumber_at, name_at, slot_named}
@@ -18,14 +18,14 @@ use Rattle.bp_layout.specs.Words.{Image}
 use Rattle.bp_layout.proofs.Below.{rest_below-append, rest_below-is}
 use Rattle.bp_path.specs.declared.steps.FoundEntry.{FoundEntry}
 use Rattle.bp_plain.specs.Calls.Call.{rename}
-use Rattle.bp_plain.specs.Plain.{moved, moves_below, parent_of, path_named, tree_after}
+use Rattle.bp_plain.specs.Plain.{moves_below, parent_of, path_named, tree_after, with_moved}
 use Rattle.bp_plain.specs.PlainTree.{FileTree}
-use Rattle.bp_plain.specs.Stands.{Stands}
-use Rattle.bp_rename.specs.CanRename.{CanRename, change_of, change_to}
+use Rattle.bp_plain.specs.Stands.{Shows, Stands}
+use Rattle.bp_rename.specs.CanRename.{CanRename, change_of, change_to, moved_inode}
 use Rattle.bp_rename.specs.MovesPath.{IsFoundTarget, MovesPath}
 use Rattle.bp_rename.specs.declared.moving.Move.{Move}
 use Rattle.bp_rename.proofs.RenamedStands.{found_can_rename}
-use Rattle.bp_volume.specs.Renaming.{FindsEnds, IsMoveOf, MayMove}
+use Rattle.bp_volume.specs.Renaming.{FindsEnds, IsMoveOf, MayMove, is_inode}
 use Rattle.bp_volume.specs.Step.{FindsEntry, IsChange, FindsNew, StandsIn, last_of}
 use Rattle.bp_volume.specs.Step.IsChange.{onto, across, within}
 use Rattle.bp_volume.specs.declared.renaming.Ends.{Ends}
@@ -34,7 +34,7 @@ use Rattle.bp_volume.proofs.CreateLaws.{by_parent}
 use Rattle.bp_volume.proofs.FewBlocks.{IsFew}
 use Rattle.bp_volume.proofs.FewMoved.{few_moved}
 use Rattle.bp_volume.proofs.LeavingLaws.{is_found, same_entry, stands_in}
-use Rattle.bp_volume.proofs.RenameLaws.{changes_then, other_ends, other_path, source_is, target_is}
+use Rattle.bp_volume.proofs.RenameLaws.{changes_then, other_ends, other_path, source_is, target_entry, target_is}
 use Rattle.bp_volume.proofs.WalkLaws.{some_inode}
 
 -- a path that does not lie at or below another one, whose parent does not
@@ -142,10 +142,11 @@ module _ (image : Image) (from to : List ℕ) (ends : Ends) (may : MayMove image
   rename_makes : MakesChange image (rename from to) change
   rename_makes = record {
     is = is_change (slot_named image j name) refl;
-    alike = λ made is. ap (need image) (change_is made is);
+    alike = change_is;
     allowed = may.allowed;
-    changing = λ tree stands. changes_then image from to ends found may.other tree;
+    changing = changes_then image from to ends found may.other;
     says = λ tree. refl;
+    stays = λ tree. refl;
   }
 
   -- ---- the move
@@ -180,10 +181,22 @@ module _ (image : Image) (from to : List ℕ) (ends : Ends) (may : MayMove image
       outside = ap (λ a. rest_below a (parent_of q)) whole_source ∙ (parent_outside p q found.are.target.below other found.are.outside);
       name = rw is.name found.are.target.form;
       slot = ap₂ (slot_named image) is.to_dir is.name ∙ slot;
-      other = λ e. other (sym whole_source ∙ sym e ∙ ap (λ n. parent_of q ++ n ∷ []) is.name ∙ whole_target);
+      apart = λ r has. apart r (sym is.to_slot ∙ has) ends.target.there refl;
       leaves = λ r has. subst (λ d. CanUnlink image d r (inumber_at image d r)) (sym is.to_dir) (may_leave r (sym is.to_slot ∙ has) ends.target.there refl);
     }
       where
+        -- what has the new name is another inode
+        apart : (r : ℕ) → option_map (λ entry. entry.slot) ends.target.there ≡ Some r → (there : Option FoundEntry) → ends.target.there ≡ there → inumber_at image move.to_dir r ≢ moved_inode image move
+        apart r has None at = let none : ◌≡◌ {A = Option ℕ} None (Some r) = rw at at has in absurd (cc)
+        apart r has (Some entry) at =
+            let slots : ◌≡◌ {A = Option ℕ} (Some entry.slot) (Some r) = rw at at has in
+            let slot : entry.slot ≡ r = cc in
+            let entry_is : FindsEntry image to j entry.slot entry.inumber = target_entry image from to ends found entry at in
+            let named : inumber_at image j entry.slot ≡ entry.inumber = found_inumber image _ _ j entry.slot entry.inumber (is_found image to j entry.slot entry.inumber entry_is) in
+            let target : inumber_at image move.to_dir r ≡ entry.inumber = ap₂ (inumber_at image) is.to_dir (sym slot) ∙ named in
+            let source : moved_inode image move ≡ ends.source.inumber = found_inumber image (parent_of p) (last_of p) move.from_dir move.from_slot ends.source.inumber source_found in
+            λ same. eqb-false entry.inumber ends.source.inumber (sym (ap (is_inode ends.source.inumber) at) ∙ may.other) (sym target ∙ same ∙ source)
+
         may_leave : (r : ℕ) → option_map (λ entry. entry.slot) ends.target.there ≡ Some r → (there : Option FoundEntry) → ends.target.there ≡ there → CanUnlink image j r (inumber_at image j r)
         may_leave r has None at = let none : ◌≡◌ {A = Option ℕ} None (Some r) = rw at at has in absurd (cc)
         may_leave r has (Some entry) at =
@@ -194,12 +207,12 @@ module _ (image : Image) (from to : List ℕ) (ends : Ends) (may : MayMove image
     pub may_rename : CanRename image move
     may_rename = found_can_rename image wf move (parent_of p) (parent_of q) (last_of p) ends.source.inumber source_found target_found
 
-    pub moving_becomes : (after : Image) → MovesPath move image after → (tree : FileTree) → Stands image tree → Stands after (tree_after tree (rename from to))
-    moving_becomes after renames tree stands =
-        subst (λ a. Stands after (moved (path_named from) a tree)) (sym (target_is image from to ends found))
-        (subst (λ a. Stands after (moved a q tree)) (sym (source_is image from to ends found))
-        (subst (λ a. Stands after (moved p a tree)) whole (subst (λ a. Stands after (moved a (parent_of q ++ move.name.now ∷ []) tree)) named
-        (renames tree (parent_of p) (parent_of q) stands (found.are.source.parent ∙ ap Some (sym is.from_dir)) (found.are.target.parent ∙ ap Some (sym is.to_dir))
+    pub moving_shows : (after : Image) → MovesPath move image after → (tree : FileTree) → Stands image tree → Shows after (tree_after tree (rename from to)).now
+    moving_shows after renames tree stands =
+        subst (λ a. Shows after (with_moved tree.now (path_named from) a)) (sym (target_is image from to ends found))
+        (subst (λ a. Shows after (with_moved tree.now a q)) (sym (source_is image from to ends found))
+        (subst (λ a. Shows after (with_moved tree.now p a)) whole (subst (λ a. Shows after (with_moved tree.now a (parent_of q ++ move.name.now ∷ []))) named
+        (renames tree.now (parent_of p) (parent_of q) stands.now (found.are.source.parent ∙ ap Some (sym is.from_dir)) (found.are.target.parent ∙ ap Some (sym is.to_dir))
         (ap (λ a. rest_below a (parent_of q)) named ∙ parent_outside p q found.are.target.below other found.are.outside)))))
       where
         named : parent_of p ++ name_at image move.from_dir move.from_slot ∷ [] ≡ p

@@ -1,15 +1,15 @@
 -- Why a rename is refused.
-use Rattle.std.proofs.Common.{◌≡◌, ◌≢◌, ◌==◌, ◌&&◌, List, [], ◌∷◌, Bool, true, false, ℕ, not, refl, sym, ◌∙◌, ap, ap₂, Option, None, Some, true≢false}
-use Rattle.std.specs.Prelude.{is_some, unwrap_or}
+use Rattle.std.proofs.Common.{◌≡◌, ◌≢◌, ◌⊎◌, ◌≤◌, ◌==◌, ◌&&◌, List, [], ◌∷◌, Bool, true, false, ℕ, not, refl, sym, ◌∙◌, ap, ap₂, arith, inl, inr, Option, None, Some, option_and_then, true≢false}
+use Rattle.std.specs.Prelude.{if◌then◌else◌, is_some, unwrap_or}
 use Rattle.std.specs.FinMap.{get}
 use Rattle.std.specs.Option.{option_map}
-use Rattle.std.proofs.lemmas.Bool.{eq-eqb, ne_eqb, eqb-true, eqb-false}
+use Rattle.std.proofs.lemmas.Bool.{cases_eq, eq-eqb, ne_eqb, eqb-true, eqb-false}
 use Rattle.bp_calls.proofs.ReadingLaws.{length-seen}
 use Rattle.bp_dirs.specs.Names.{name_count}
 use Rattle.bp_layout.specs.Below.{same_path}
 use Rattle.bp_layout.specs.Directory.{inumber_at, slot_named}
 use Rattle.bp_layout.specs.Inode.{kind_of, root_of, size_of}
-use Rattle.bp_layout.specs.Lookup.{Path, lookup, node_of}
+use Rattle.bp_layout.specs.Lookup.{Path, are_one, file_at, find_one, if_file, lookup, node_of}
 use Rattle.bp_layout.specs.PathText.{parse}
 use Rattle.bp_layout.specs.WellFormed.{IsWellFormed}
 use Rattle.bp_layout.specs.Words.{Image}
@@ -22,17 +22,18 @@ use Rattle.bp_plain.specs.Calls.Answer.{done}
 use Rattle.bp_plain.specs.Calls.Call.{rename}
 use Rattle.bp_plain.specs.Calls.Refusal.{bad_path, into_self, is_dir, is_root, not_dir, not_empty}
 use Rattle.bp_plain.specs.Plain.{changes, first, is_a_dir, is_dir_at, is_empty_dir, move_refusal, moves_below, moves_dir_onto_file, moves_file_onto_dir, moves_onto_names, on_parsed, on_path, parent_of, path_named, refusal, walk, walk_parent, when}
-use Rattle.bp_plain.specs.PlainTree.{FileTree}
+use Rattle.bp_plain.specs.PlainTree.{FileTree, is_one}
 use Rattle.bp_plain.specs.Stands.{Stands}
+use Rattle.bp_volume.specs.FileCall.{has_changed}
 use Rattle.bp_volume.specs.Renaming.{Allows, AreEnds, FindsEnds, IsTarget, MayMove, are_same, is_inode}
-use Rattle.bp_volume.specs.Step.{FindsEntry, IsEntryOn, last_of}
+use Rattle.bp_volume.specs.Step.{FindsEntry, IsEntryOn, StepFor, last_of}
 use Rattle.bp_volume.specs.Told.{Refuses, RefusesEntry, RefusesParent, RefusesRename, Tells}
 use Rattle.bp_volume.specs.declared.renaming.Ends.{Ends}
 use Rattle.bp_volume.specs.declared.walking.Target.{Target}
-use Rattle.bp_volume.proofs.CreateLaws.{get-name, not_root, parent_goes}
+use Rattle.bp_volume.proofs.CreateLaws.{get-name, lookup-name, not_root, parent_goes}
 use Rattle.bp_volume.proofs.EntryLaws.{length-entries}
 use Rattle.bp_volume.proofs.StepLaws.{answer_steps}
-use Rattle.bp_volume.proofs.WalkLaws.{dir_at, node_at, walk-found}
+use Rattle.bp_volume.proofs.WalkLaws.{dir_at, kind_at, node_at, walk-found}
 
 pub other_path : (p q : Path) → p ≢ q → same_path p q ≡ false
 other_path p q other = go (same_path p q) refl
@@ -70,19 +71,19 @@ kinds-same false empty = refl
 module _ (image : Image) (p q : Path) where
   abbrev at_kinds : FileTree → List (Option Refusal)
   at_kinds tree =
-      when (moves_file_onto_dir tree p q) is_dir ∷ when (moves_dir_onto_file tree p q) not_dir ∷ when (moves_onto_names tree p q) not_empty ∷ []
+      when (moves_file_onto_dir tree.now.nodes p q) is_dir ∷ when (moves_dir_onto_file tree.now.nodes p q) not_dir ∷ when (moves_onto_names tree.now.nodes p q) not_empty ∷ []
 
   abbrev behind : FileTree → List (Option Refusal)
   behind tree = when (moves_below p q) into_self ∷ at_kinds tree
 
   module _ (below : p ≢ []) (target_below : q ≢ []) where
-    past_roots : (tree : FileTree) → move_refusal tree p q ≡ first (walk tree p ∷ walk_parent tree q ∷ behind tree)
-    past_roots tree = ap₂ (λ a b. first (when a is_root ∷ when b is_root ∷ walk tree p ∷ walk_parent tree q ∷ behind tree)) (not_root p below) (not_root q target_below)
+    past_roots : (tree : FileTree) → move_refusal tree.now.nodes p q ≡ first (walk tree.now.nodes p ∷ walk_parent tree.now.nodes q ∷ behind tree)
+    past_roots tree = ap₂ (λ a b. first (when a is_root ∷ when b is_root ∷ walk tree.now.nodes p ∷ walk_parent tree.now.nodes q ∷ behind tree)) (not_root p below) (not_root q target_below)
 
     pub source_stops : (why : Refusal) → RefusesEntry image p is_root why → RefusesRename image p q why
     source_stops why stops tree stands =
-        let walked : walk tree p ≡ Some why = sym (first_one (walk tree p)) ∙ sym (ap (λ b. first (when b is_root ∷ walk tree p ∷ [])) (not_root p below)) ∙ stops tree stands in
-        past_roots tree ∙ ap (λ o. first (o ∷ walk_parent tree q ∷ behind tree)) walked
+        let walked : walk tree.now.nodes p ≡ Some why = sym (first_one (walk tree.now.nodes p)) ∙ sym (ap (λ b. first (when b is_root ∷ walk tree.now.nodes p ∷ [])) (not_root p below)) ∙ stops tree stands in
+        past_roots tree ∙ ap (λ o. first (o ∷ walk_parent tree.now.nodes q ∷ behind tree)) walked
 
     module _ (i s x : ℕ) (source : IsEntryOn image p i s x) where
       pub target_stops : (why : Refusal) → RefusesParent image q why → RefusesRename image p q why
@@ -90,7 +91,7 @@ module _ (image : Image) (p q : Path) where
           past_roots tree ∙ ap₂ (λ a b. first (a ∷ b ∷ behind tree)) (walk-found image tree stands p x source.inode) (stops tree stands)
 
       module _ (target : Target) (is : IsTarget image q target) where
-        pub past_walks : (tree : FileTree) → Stands image tree → move_refusal tree p q ≡ first (behind tree)
+        pub past_walks : (tree : FileTree) → Stands image tree → move_refusal tree.now.nodes p q ≡ first (behind tree)
         past_walks tree stands =
             past_roots tree
             ∙ ap₂ (λ a b. first (a ∷ b ∷ behind tree)) (walk-found image tree stands p x source.inode)
@@ -101,41 +102,49 @@ module _ (image : Image) (p q : Path) where
 
 -- ---- ends that are found
 
+-- the paths are two, and not two of one file
+abbrev are_apart : FileTree → Path → Path → Bool
+are_apart tree p q = not (same_path p q) && not (is_one tree.now.one p q)
+
+-- the file that a path finds
+file_found : (image : Image) (path : Path) (i : ℕ) → lookup image path ≡ Some i → kind_of image i ≡ 1 → file_at image path ≡ Some i
+file_found image path i at kind = ap (option_and_then (if_file image)) at ∙ ap (λ k. if k == 1 then Some i else None) kind
+
 module _ (image : Image) (p q : Path) (ends : Ends) (are : AreEnds image p q ends) where
-  past_all : (tree : FileTree) → Stands image tree → move_refusal tree p q ≡ by_kinds (is_dir_at tree p) (is_dir_at tree q) (is_some (get tree q)) (same_path p q) (is_empty_dir tree q)
+  past_all : (tree : FileTree) → Stands image tree → move_refusal tree.now.nodes p q ≡ by_kinds (is_dir_at tree.now.nodes p) (is_dir_at tree.now.nodes q) (is_some (get tree.now.nodes q)) (same_path p q) (is_empty_dir tree.now.nodes q)
   past_all tree stands =
       past_walks image p q are.source.below are.target.below ends.source.dir ends.source.slot ends.source.inumber are.source ends.target are.target tree stands
       ∙ ap (λ b. first (when b into_self ∷ at_kinds image p q tree)) are.outside
 
-  source_kind : (tree : FileTree) → Stands image tree → (kind : ℕ) → kind_of image ends.source.inumber ≡ kind → is_dir_at tree p ≡ (kind == 2)
+  source_kind : (tree : FileTree) → Stands image tree → (kind : ℕ) → kind_of image ends.source.inumber ≡ kind → is_dir_at tree.now.nodes p ≡ (kind == 2)
   source_kind tree stands kind is = dir_at image tree stands p ends.source.inumber are.source.inode ∙ ap (λ k. k == 2) is
 
   -- nothing has the new name
-  pub new_goes : ends.target.there ≡ None → (tree : FileTree) → Stands image tree → move_refusal tree p q ≡ None
+  pub new_goes : ends.target.there ≡ None → (tree : FileTree) → Stands image tree → move_refusal tree.now.nodes p q ≡ None
   new_goes none tree stands =
-      let missing : get tree q ≡ None =
+      let missing : get tree.now.nodes q ≡ None =
       get-name image q are.target.below ends.target.dir are.target.parent are.target.directory ends.target.name.now are.target.last tree stands
       ∙ ap (λ o. option_map (node_of image) (option_map (inumber_at image ends.target.dir) o)) (are.target.new none) in
       past_all tree stands
-      ∙ ap (λ o. by_kinds (is_dir_at tree p) (is_a_dir o) (is_some o) (same_path p q) (is_empty_dir tree q)) missing
-      ∙ kinds-new (is_dir_at tree p) (same_path p q) (is_empty_dir tree q)
+      ∙ ap (λ o. by_kinds (is_dir_at tree.now.nodes p) (is_a_dir o) (is_some o) (same_path p q) (is_empty_dir tree.now.nodes q)) missing
+      ∙ kinds-new (is_dir_at tree.now.nodes p) (same_path p q) (is_empty_dir tree.now.nodes q)
 
   module _ (there : FoundEntry) (at : ends.target.there ≡ Some there) where
     has : IsEntryOn image q ends.target.dir there.slot there.inumber
     has = are.target.there there at
 
-    target_kind : (tree : FileTree) → Stands image tree → (kind : ℕ) → kind_of image there.inumber ≡ kind → is_dir_at tree q ≡ (kind == 2)
+    target_kind : (tree : FileTree) → Stands image tree → (kind : ℕ) → kind_of image there.inumber ≡ kind → is_dir_at tree.now.nodes q ≡ (kind == 2)
     target_kind tree stands kind is = dir_at image tree stands q there.inumber has.inode ∙ ap (λ k. k == 2) is
 
     by_both : (tree : FileTree) → Stands image tree → (kind target_is : ℕ) → kind_of image ends.source.inumber ≡ kind → kind_of image there.inumber ≡ target_is →
-        move_refusal tree p q ≡ by_kinds (kind == 2) (target_is == 2) true (same_path p q) (is_empty_dir tree q)
+        move_refusal tree.now.nodes p q ≡ by_kinds (kind == 2) (target_is == 2) true (same_path p q) (is_empty_dir tree.now.nodes q)
     by_both tree stands kind target_is is target_has =
         past_all tree stands
-        ∙ ap₂ (λ a b. by_kinds a b (is_some (get tree q)) (same_path p q) (is_empty_dir tree q)) (source_kind tree stands kind is) (target_kind tree stands target_is target_has)
-        ∙ ap (λ o. by_kinds (kind == 2) (target_is == 2) (is_some o) (same_path p q) (is_empty_dir tree q)) (node_at image tree stands q there.inumber has.inode)
+        ∙ ap₂ (λ a b. by_kinds a b (is_some (get tree.now.nodes q)) (same_path p q) (is_empty_dir tree.now.nodes q)) (source_kind tree stands kind is) (target_kind tree stands target_is target_has)
+        ∙ ap (λ o. by_kinds (kind == 2) (target_is == 2) (is_some o) (same_path p q) (is_empty_dir tree.now.nodes q)) (node_at image tree stands q there.inumber has.inode)
 
-    pub files_go : kind_of image ends.source.inumber ≡ 1 → kind_of image there.inumber ≡ 1 → (tree : FileTree) → Stands image tree → move_refusal tree p q ≡ None
-    files_go is target_is tree stands = by_both tree stands 1 1 is target_is ∙ kinds-files (same_path p q) (is_empty_dir tree q)
+    pub files_go : kind_of image ends.source.inumber ≡ 1 → kind_of image there.inumber ≡ 1 → (tree : FileTree) → Stands image tree → move_refusal tree.now.nodes p q ≡ None
+    files_go is target_is tree stands = by_both tree stands 1 1 is target_is ∙ kinds-files (same_path p q) (is_empty_dir tree.now.nodes q)
 
     pub onto_file : kind_of image ends.source.inumber ≡ 2 → kind_of image there.inumber ≡ 1 → RefusesRename image p q not_dir
     onto_file is target_is tree stands = by_both tree stands 2 1 is target_is
@@ -143,11 +152,11 @@ module _ (image : Image) (p q : Path) (ends : Ends) (are : AreEnds image p q end
     pub onto_directory : kind_of image ends.source.inumber ≡ 1 → kind_of image there.inumber ≡ 2 → RefusesRename image p q is_dir
     onto_directory is target_is tree stands = by_both tree stands 1 2 is target_is
 
-    counts : kind_of image there.inumber ≡ 2 → (tree : FileTree) → Stands image tree → is_empty_dir tree q ≡ (name_count image (root_of image there.inumber) (size_of image there.inumber) == 0)
+    counts : kind_of image there.inumber ≡ 2 → (tree : FileTree) → Stands image tree → is_empty_dir tree.now.nodes q ≡ (name_count image (root_of image there.inumber) (size_of image there.inumber) == 0)
     counts target_is tree stands = ap (λ n. n == 0) (length-entries image tree stands q there.inumber has.inode target_is ∙ length-seen image there.inumber)
 
     pub empty_goes : kind_of image ends.source.inumber ≡ 2 → kind_of image there.inumber ≡ 2 → name_count image (root_of image there.inumber) (size_of image there.inumber) ≡ 0 →
-        (tree : FileTree) → Stands image tree → move_refusal tree p q ≡ None
+        (tree : FileTree) → Stands image tree → move_refusal tree.now.nodes p q ≡ None
     empty_goes is target_is none tree stands =
         by_both tree stands 2 2 is target_is
         ∙ ap (by_kinds true true true (same_path p q)) (counts target_is tree stands ∙ eq-eqb (name_count image (root_of image there.inumber) (size_of image there.inumber)) 0 none)
@@ -159,20 +168,50 @@ module _ (image : Image) (p q : Path) (ends : Ends) (are : AreEnds image p q end
         ∙ ap₂ (by_kinds true true true) (other_path p q other) (counts target_is tree stands ∙ ne_eqb (name_count image (root_of image there.inumber) (size_of image there.inumber)) 0 some)
 
   -- a path onto itself
-  pub same_goes : p ≡ q → (tree : FileTree) → Stands image tree → move_refusal tree p q ≡ None
+  pub same_goes : p ≡ q → (tree : FileTree) → Stands image tree → move_refusal tree.now.nodes p q ≡ None
   same_goes same tree stands =
       past_all tree stands
-      ∙ ap (λ r. by_kinds (is_dir_at tree p) (is_dir_at tree r) (is_some (get tree r)) (same_path p r) (is_empty_dir tree r)) (sym same)
-      ∙ ap₂ (λ o b. by_kinds (is_dir_at tree p) (is_dir_at tree p) (is_some o) b (is_empty_dir tree p)) (node_at image tree stands p ends.source.inumber are.source.inode) (same_path-self p)
-      ∙ kinds-same (is_dir_at tree p) (is_empty_dir tree p)
+      ∙ ap (λ r. by_kinds (is_dir_at tree.now.nodes p) (is_dir_at tree.now.nodes r) (is_some (get tree.now.nodes r)) (same_path p r) (is_empty_dir tree.now.nodes r)) (sym same)
+      ∙ ap₂ (λ o b. by_kinds (is_dir_at tree.now.nodes p) (is_dir_at tree.now.nodes p) (is_some o) b (is_empty_dir tree.now.nodes p)) (node_at image tree stands p ends.source.inumber are.source.inode) (same_path-self p)
+      ∙ kinds-same (is_dir_at tree.now.nodes p) (is_empty_dir tree.now.nodes p)
 
-  -- an inode has one path
-  pub same_ends : IsWellFormed image → are_same ends ≡ true → p ≡ q
-  same_ends wf same = go ends.target.there refl same
+  -- the inode at the second path is that at the first, where both ends are one
+  same_inode : (there : FoundEntry) → ends.target.there ≡ Some there → are_same ends ≡ true → there.inumber ≡ ends.source.inumber
+  same_inode there at same = eqb-true there.inumber ends.source.inumber (sym (ap (is_inode ends.source.inumber) at) ∙ same)
+
+  -- a directory has one path, and two paths of a file may be renamed to each other
+  pub one_goes : IsWellFormed image → (there : FoundEntry) → ends.target.there ≡ Some there → there.inumber ≡ ends.source.inumber → (tree : FileTree) → Stands image tree → move_refusal tree.now.nodes p q ≡ None
+  one_goes wf there at one tree stands = go (cases_eq (kind_of image ends.source.inumber) 2)
     where
-      go : (o : Option FoundEntry) → ends.target.there ≡ o → is_inode ends.source.inumber o ≡ true → p ≡ q
-      go None at e = absurd (true≢false (sym e))
-      go (Some there) at e = path_once image wf p q ends.source.inumber are.source.inode ((are.target.there there at).inode ∙ ap Some (eqb-true there.inumber ends.source.inumber e))
+      kinds : (1 ≤ kind_of image ends.source.inumber) × (kind_of image ends.source.inumber ≤ 2)
+      kinds = kind_at image wf p ends.source.inumber are.source.inode
+
+      go : (kind_of image ends.source.inumber ≡ 2) ⊎ (kind_of image ends.source.inumber ≡ 2 → ⊥) → move_refusal tree.now.nodes p q ≡ None
+      go (inl directory) = same_goes (path_once image wf p q ends.source.inumber are.source.inode ((are.target.there there at).inode ∙ ap Some one) directory) tree stands
+      go (inr other) =
+          let file : kind_of image ends.source.inumber ≡ 1 = omega (arith, kinds.0, kinds.1, other) in
+          files_go there at file (ap (kind_of image) one ∙ file) tree stands
+
+  one_path : IsWellFormed image → (there : FoundEntry) → ends.target.there ≡ Some there → there.inumber ≡ ends.source.inumber → (tree : FileTree) → Stands image tree → are_apart tree p q ≡ false
+  one_path wf there at one tree stands = go (cases_eq (kind_of image ends.source.inumber) 2)
+    where
+      kinds : (1 ≤ kind_of image ends.source.inumber) × (kind_of image ends.source.inumber ≤ 2)
+      kinds = kind_at image wf p ends.source.inumber are.source.inode
+
+      with_false : (b : Bool) → (b && false) ≡ false
+      with_false true = refl
+      with_false false = refl
+
+      go : (kind_of image ends.source.inumber ≡ 2) ⊎ (kind_of image ends.source.inumber ≡ 2 → ⊥) → are_apart tree p q ≡ false
+      go (inl directory) =
+          let same : p ≡ q = path_once image wf p q ends.source.inumber are.source.inode ((are.target.there there at).inode ∙ ap Some one) directory in
+          ap (λ r. not (same_path p r) && not (is_one tree.now.one p r)) (sym same) ∙ ap (λ b. not b && not (is_one tree.now.one p p)) (same_path-self p)
+      go (inr other) =
+          let file : kind_of image ends.source.inumber ≡ 1 = omega (arith, kinds.0, kinds.1, other) in
+          let first : file_at image p ≡ Some ends.source.inumber = file_found image p ends.source.inumber are.source.inode file in
+          let second : file_at image q ≡ Some ends.source.inumber = file_found image q ends.source.inumber ((are.target.there there at).inode ∙ ap Some one) file in
+          let found : is_one tree.now.one p q ≡ true = stands.now.one p q ∙ ap₂ are_one first second ∙ eq-eqb ends.source.inumber ends.source.inumber refl in
+          ap (λ b. not (same_path p q) && not b) found ∙ with_false (not (same_path p q))
 
   pub other_ends : are_same ends ≡ false → p ≢ q
   other_ends other same = go ends.target.there refl other
@@ -189,19 +228,45 @@ module _ (image : Image) (p q : Path) (ends : Ends) (are : AreEnds image p q end
           let one : there.inumber ≡ ends.source.inumber = cc in
           eqb-false there.inumber ends.source.inumber e one
 
+  -- and no file is at both
+  other_files : are_same ends ≡ false → find_one image p q ≡ false
+  other_files other = ap (λ a. are_one (option_and_then (if_file image) a) (file_at image q)) are.source.inode ∙ go ends.target.there refl other
+    where
+      apart : (x y : ℕ) → (a b : Bool) → (y == x) ≡ false → are_one (if a then Some x else None) (if b then Some y else None) ≡ false
+      apart x y false b e = refl
+      apart x y true false e = refl
+      apart x y true true e = ne_eqb x y (λ same. eqb-false y x e (sym same))
+
+      with_none : (o : Option ℕ) → are_one o None ≡ false
+      with_none None = refl
+      with_none (Some x) = refl
+
+      go : (o : Option FoundEntry) → ends.target.there ≡ o → is_inode ends.source.inumber o ≡ false → are_one (if_file image ends.source.inumber) (file_at image q) ≡ false
+      go None at e =
+          let nothing : lookup image q ≡ None =
+          lookup-name image q are.target.below ends.target.dir are.target.parent are.target.directory ends.target.name.now are.target.last
+          ∙ ap (option_map (inumber_at image ends.target.dir)) (are.target.new at) in
+          ap (λ l. are_one (if_file image ends.source.inumber) (option_and_then (if_file image) l)) nothing ∙ with_none (if_file image ends.source.inumber)
+      go (Some there) at e =
+          ap (λ l. are_one (if_file image ends.source.inumber) (option_and_then (if_file image) l)) (are.target.there there at).inode
+          ∙ apart ends.source.inumber there.inumber (kind_of image ends.source.inumber == 1) (kind_of image there.inumber == 1) e
+
+  pub two_paths : are_same ends ≡ false → (tree : FileTree) → Stands image tree → are_apart tree p q ≡ true
+  two_paths other tree stands = ap₂ (λ a b. not a && not b) (other_path p q (other_ends other)) (stands.now.one p q ∙ other_files other)
+
 -- ---- paths that texts spell
 
 module _ (image : Image) (from to : List ℕ) where
   pub no_source : parse from ≡ None → Refuses image (rename from to) bad_path
-  no_source none tree stands = ap (λ o. on_parsed o (λ p. on_path to (move_refusal tree p))) none
+  no_source none tree stands = ap (λ o. on_parsed o (λ p. on_path to (move_refusal tree.now.nodes p))) none
 
   module _ (p : Path) (parsed : parse from ≡ Some p) where
     pub no_target : parse to ≡ None → Refuses image (rename from to) bad_path
-    no_target none tree stands = ap₂ (λ o u. on_parsed o (λ p. on_parsed u (move_refusal tree p))) parsed none
+    no_target none tree stands = ap₂ (λ o u. on_parsed o (λ p. on_parsed u (move_refusal tree.now.nodes p))) parsed none
 
     module _ (q : Path) (target_parsed : parse to ≡ Some q) where
-      pub spelled : (tree : FileTree) → refusal tree (rename from to) ≡ move_refusal tree p q
-      spelled tree = ap₂ (λ o u. on_parsed o (λ p. on_parsed u (move_refusal tree p))) parsed target_parsed
+      pub spelled : (tree : FileTree) → refusal tree (rename from to) ≡ move_refusal tree.now.nodes p q
+      spelled tree = ap₂ (λ o u. on_parsed o (λ p. on_parsed u (move_refusal tree.now.nodes p))) parsed target_parsed
 
       pub rename_stops : (why : Refusal) → RefusesRename image p q why → Refuses image (rename from to) why
       rename_stops why stops tree stands = spelled tree ∙ stops tree stands
@@ -210,7 +275,7 @@ module _ (image : Image) (from to : List ℕ) (ends : Ends) (found : FindsEnds i
   pub found_stops : (why : Refusal) → RefusesRename image found.source_path found.target_path why → Refuses image (rename from to) why
   found_stops = rename_stops image from to found.source_path found.source_parsed found.target_path found.target_parsed
 
-  pub found_goes : ((tree : FileTree) → Stands image tree → move_refusal tree found.source_path found.target_path ≡ None) → Allows image (rename from to)
+  pub found_goes : ((tree : FileTree) → Stands image tree → move_refusal tree.now.nodes found.source_path found.target_path ≡ None) → Allows image (rename from to)
   found_goes goes tree stands = spelled image from to found.source_path found.source_parsed found.target_path found.target_parsed tree ∙ goes tree stands
 
   pub source_is : path_named from ≡ found.source_path
@@ -219,16 +284,23 @@ module _ (image : Image) (from to : List ℕ) (ends : Ends) (found : FindsEnds i
   pub target_is : path_named to ≡ found.target_path
   target_is = ap (λ (o : Option Path). unwrap_or o []) found.target_parsed
 
-  -- a name that is to move onto itself
-  pub same_stays : IsWellFormed image → are_same ends ≡ true → Tells image (rename from to) done
-  same_stays wf same tree stands =
-      let one : found.source_path ≡ found.target_path = same_ends image found.source_path found.target_path ends found.are wf same in
-      answer_steps image tree (rename from to) done (found_goes (same_goes image found.source_path found.target_path ends found.are one) tree stands)
-      (ap₂ (λ a b. not (same_path a b)) source_is (target_is ∙ sym one) ∙ ap not (same_path-self found.source_path)) refl
+  changes_are : (tree : FileTree) → changes tree (rename from to) ≡ are_apart tree found.source_path found.target_path
+  changes_are tree = ap₂ (λ a b. not (same_path a b) && not (is_one tree.now.one a b)) source_is target_is
 
-  -- two entries have two paths
-  pub changes_then : are_same ends ≡ false → (tree : FileTree) → changes tree (rename from to) ≡ true
-  changes_then other tree = ap₂ (λ a b. not (same_path a b)) source_is target_is ∙ ap not (other_path found.source_path found.target_path (other_ends image found.source_path found.target_path ends found.are other))
+  -- a name that is to move onto itself, or onto another name of its file
+  pub same_stays : IsWellFormed image → are_same ends ≡ true → Tells image (rename from to) done
+  same_stays wf same tree stands = go ends.target.there refl
+    where
+      go : (o : Option FoundEntry) → ends.target.there ≡ o → (has_changed tree (rename from to) done ≡ false) × StepFor image tree (rename from to) done image
+      go None at = let nothing : false ≡ true = sym (ap (is_inode ends.source.inumber) at) ∙ same in absurd (true≢false (sym nothing))
+      go (Some there) at =
+          let one = same_inode image found.source_path found.target_path ends found.are there at same in
+          answer_steps image tree (rename from to) done (found_goes (one_goes image found.source_path found.target_path ends found.are wf there at one) tree stands)
+          (changes_are tree ∙ one_path image found.source_path found.target_path ends found.are wf there at one tree stands) refl
+
+  -- two entries of two inodes are two paths
+  pub changes_then : are_same ends ≡ false → (tree : FileTree) → Stands image tree → changes tree (rename from to) ≡ true
+  changes_then other tree stands = changes_are tree ∙ two_paths image found.source_path found.target_path ends found.are other tree stands
 
   -- the entry that has the new name
   pub target_entry : (entry : FoundEntry) → ends.target.there ≡ Some entry → FindsEntry image to ends.target.dir entry.slot entry.inumber

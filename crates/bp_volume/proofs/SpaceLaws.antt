@@ -8,13 +8,14 @@ use Rattle.bp_shapes.specs.Sets.{AreExact}
 use Rattle.bp_calls.proofs.FreeCounts.{free_members, free_once}
 use Rattle.bp_free.specs.Set.{Set, has, members}
 use Rattle.bp_layout.specs.Free.{HasFree}
+use Rattle.bp_layout.specs.Thaw.{none_kept}
 use Rattle.bp_layout.specs.WellFormed.{IsWellFormed}
 use Rattle.bp_layout.specs.Words.{Image}
 use Rattle.bp_scan.specs.Totals.{HasLive}
 
-module _ (image : Image) (wf : IsWellFormed image) (blocks inodes : Set) (exact : AreExact image blocks inodes) where
-  pub free_counted : HasFree image (length (members blocks))
-  free_counted = free_members image blocks exact.free_blocks exact.block_room
+module _ (image : Image) (wf : IsWellFormed image) (blocks inodes : Set) (exact : AreExact image none_kept blocks inodes) where
+  pub free_counted : HasFree image none_kept (length (members blocks))
+  free_counted = free_members image none_kept blocks exact.free_blocks exact.block_room
 
   -- the first block is not free
   pub some_live : length (members blocks) + 1 ≤ length blocks
@@ -36,5 +37,5 @@ module _ (image : Image) (wf : IsWellFormed image) (blocks inodes : Set) (exact 
 
   pub live_counted : (live : ℕ) → live + length (members blocks) + 1 ≡ length blocks → HasLive image live
   live_counted live sum free is =
-      let same : free ≡ length (members blocks) = free_once image free (length (members blocks)) is free_counted in
+      let same : free ≡ length (members blocks) = free_once image none_kept free (length (members blocks)) is free_counted in
       omega (arith, sum, same, exact.block_room)

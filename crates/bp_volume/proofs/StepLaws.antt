@@ -48,24 +48,24 @@ first_two None None rest why e = absurd (cc)
 
 module _ (tree : FileTree) (text : List ℕ) where
   -- the refusal of the walk comes before others
-  walk_first : (others : Path → List (Option Refusal)) (why : Refusal) → on_path text (walk tree) ≡ Some why → on_path text (λ p. first (walk tree p ∷ others p)) ≡ Some why
+  walk_first : (others : Path → List (Option Refusal)) (why : Refusal) → on_path text (walk tree.now.nodes) ≡ Some why → on_path text (λ p. first (walk tree.now.nodes p ∷ others p)) ≡ Some why
   walk_first others why stops = go (parse text) refl
     where
-      go : (o : Option Path) → parse text ≡ o → on_path text (λ p. first (walk tree p ∷ others p)) ≡ Some why
+      go : (o : Option Path) → parse text ≡ o → on_path text (λ p. first (walk tree.now.nodes p ∷ others p)) ≡ Some why
       go None at = rw at (rw at at stops)
       go (Some path) at = rw at (rw (rw at at stops) refl)
 
   -- so does that of a listing, and then that of a file
-  pub refusal-list_stopped : (why : Refusal) → on_path text (walk tree) ≡ Some why → refusal tree (list text) ≡ Some why
-  refusal-list_stopped why stops = walk_first (λ p. when (not (is_dir_at tree p)) not_dir ∷ []) why stops
+  pub refusal-list_stopped : (why : Refusal) → on_path text (walk tree.now.nodes) ≡ Some why → refusal tree (list text) ≡ Some why
+  refusal-list_stopped why stops = walk_first (λ p. when (not (is_dir_at tree.now.nodes p)) not_dir ∷ []) why stops
 
-  pub refusal-list_walked : (path : Path) → parse text ≡ Some path → walk tree path ≡ None → refusal tree (list text) ≡ first (when (not (is_dir_at tree path)) not_dir ∷ [])
+  pub refusal-list_walked : (path : Path) → parse text ≡ Some path → walk tree.now.nodes path ≡ None → refusal tree (list text) ≡ first (when (not (is_dir_at tree.now.nodes path)) not_dir ∷ [])
   refusal-list_walked path parsed walked =
-      ap (λ o. on_parsed o (λ p. first (walk tree p ∷ when (not (is_dir_at tree p)) not_dir ∷ []))) parsed
-      ∙ ap (λ o. first (o ∷ when (not (is_dir_at tree path)) not_dir ∷ [])) walked
+      ap (λ o. on_parsed o (λ p. first (walk tree.now.nodes p ∷ when (not (is_dir_at tree.now.nodes p)) not_dir ∷ []))) parsed
+      ∙ ap (λ o. first (o ∷ when (not (is_dir_at tree.now.nodes path)) not_dir ∷ [])) walked
 
   -- that of a directory, behind the walk of a read
-  pub refusal-read_walked : (off len : ℕ) (path : Path) → parse text ≡ Some path → walk tree path ≡ None → refusal tree (read text off len) ≡ first (when (is_dir_at tree path) is_dir ∷ [])
+  pub refusal-read_walked : (off len : ℕ) (path : Path) → parse text ≡ Some path → walk tree.now.nodes path ≡ None → refusal tree (read text off len) ≡ first (when (is_dir_at tree.now.nodes path) is_dir ∷ [])
   refusal-read_walked off len path parsed walked =
-      ap (λ o. on_parsed o (λ p. first (walk tree p ∷ when (is_dir_at tree p) is_dir ∷ []))) parsed
-      ∙ ap (λ o. first (o ∷ when (is_dir_at tree path) is_dir ∷ [])) walked
+      ap (λ o. on_parsed o (λ p. first (walk tree.now.nodes p ∷ when (is_dir_at tree.now.nodes p) is_dir ∷ []))) parsed
+      ∙ ap (λ o. first (o ∷ when (is_dir_at tree.now.nodes path) is_dir ∷ [])) walked

@@ -91,14 +91,14 @@ walk_found image path (Err fault) (Err error) below is_entry found maps = tt
 
 pub entry_ends : (image : Image) (path : Path) (root why : Refusal) → path ≢ [] → RefusesWalk image path why → RefusesEntry image path root why
 entry_ends image path root why below ends tree stands =
-    ap (λ b. first (when b root ∷ walk tree path ∷ [])) (not_root path below) ∙ first_one (walk tree path) ∙ ends tree stands
+    ap (λ b. first (when b root ∷ walk tree.now.nodes path ∷ [])) (not_root path below) ∙ first_one (walk tree.now.nodes path) ∙ ends tree stands
 
 -- ---- the file at a path
 
 -- a directory stands where a file is wanted
 pub no_file : (image : Image) (path : Path) (i : ℕ) → lookup image path ≡ Some i → kind_of image i ≡ 2 → RefusesFileAt image path is_dir
 no_file image path i found kind tree stands =
-    ap (λ o. first (o ∷ when (is_dir_at tree path) is_dir ∷ [])) (walk-found image tree stands path i found)
+    ap (λ o. first (o ∷ when (is_dir_at tree.now.nodes path) is_dir ∷ [])) (walk-found image tree stands path i found)
     ∙ ap (λ b. first (when b is_dir ∷ [])) (dir_at image tree stands path i found ∙ ap (λ k. k == 2) kind)
 
 pub parent_stops : (image : Image) (path : Path) (walked : Walked) (why : Refusal) → path ≢ [] → walked ≡ in_directory image (walk_from image 1 (parent_of path)) → refusal_of_walk walked ≡ Some why → RefusesNew image path why

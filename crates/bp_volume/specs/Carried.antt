@@ -1,7 +1,8 @@
 -- What a call does to a region before its mark.
-use Rattle.std.specs.Prelude.{◌≡◌, ℕ, ◌<◌, List, true}
+use Rattle.std.specs.Prelude.{◌≡◌, ℕ, ◌<◌, List, Bool, true}
 use Rattle.pm_region.specs.Memory.{Memory, current_words, room_in}
 use Rattle.bp_layout.specs.Need.{Change}
+use Rattle.bp_layout.specs.Trees.{AreFrozen}
 use Rattle.bp_layout.specs.Words.{Image}
 use Rattle.bp_layout.specs.declared.fields.Kind.{Kind}
 use Rattle.bp_layout.specs.declared.fields.Kind.TheVariants.{File, Dir}
@@ -9,7 +10,7 @@ use Rattle.bp_plain.specs.PlainTree.{FileTree}
 use Rattle.bp_plain.specs.Stands.{Stands}
 use Rattle.bp_plain.specs.Calls.{Call, Answer}
 use Rattle.bp_plain.specs.Calls.Call.{create, mkdir}
-use Rattle.bp_tree.specs.Performs.{Performs}
+use Rattle.bp_commit.specs.Performs.{Performs}
 use Rattle.bp_volume.specs.Step.{StepFor, IsChange}
 use Rattle.bp_volume.specs.FileCall.{has_changed}
 use Rattle.bp_volume.specs.Told.{Tells}
@@ -24,11 +25,14 @@ abbrev pub ChangesTree : Call → Answer → Image → Image → Type 0
 ChangesTree call answer image new = (tree : FileTree) → Stands image tree →
     (has_changed tree call answer ≡ true) × StepFor image tree call answer new
 
--- the call makes one change of the image, is that step by it, and leaves room for its mark
+-- The call makes one change of the image, is that step by it, and leaves room for its mark. The blocks of the snapshot
+-- are kept.
 pub record PerformsCall (old : Memory) (call : Call) (answer : Answer) (new : Memory) : Type 0 where
   pub change : Change
   pub is : IsChange (current_words old) call change
-  pub performs : Performs old new change (ChangesTree call answer)
+  pub kept : ℕ → Bool
+  pub frozen : AreFrozen (current_words old) kept
+  pub performs : Performs kept old new change (ChangesTree call answer)
   pub room : 0 < room_in new
 
 -- The call is carried out up to its mark: it changes the tree so, or it changes nothing and this may be its answer.

@@ -7,26 +7,27 @@ use Rattle.bp_layout.specs.Format.{format_epochs, formatted}
 use Rattle.bp_plain.specs.PlainTree.{empty_tree}
 use Rattle.bp_plain.specs.Stands.{Stands}
 use Rattle.bp_limits.specs.Limits.{super_magic}
+use Rattle.bp_limits.specs.declared.version.Version.{Version}
 use Rattle.bp_layout.specs.Words.{Image, word, block_count}
 
 -- these stores in an epoch of their own
 abbrev pub stores_epoch : List (ℕ × ℕ) → List Event
 stores_epoch stores = map (λ store. Store store.0 store.1) stores ++ Barrier ∷ []
 
-abbrev pub format_events : ℕ → List Event
-format_events blocks = flat_map stores_epoch (format_epochs blocks)
+abbrev pub format_events : Version → ℕ → List Event
+format_events version blocks = flat_map stores_epoch (format_epochs version blocks)
 
 -- What a crash in the middle of a format leaves: the words as they were, words without the mark, or an empty file
 -- system.
-pub data IsLeftByFormat (old image : Image) : Type 0 where
-  untouched : image ≡ old → IsLeftByFormat old image
-  unmarked : word image super_magic ≡ 0 → IsLeftByFormat old image
-  empty : Stands image empty_tree → IsLeftByFormat old image
+pub data IsLeftByFormat (version : Version) (old image : Image) : Type 0 where
+  untouched : image ≡ old → IsLeftByFormat version old image
+  unmarked : word image super_magic ≡ 0 → IsLeftByFormat version old image
+  empty : Stands image (empty_tree version) → IsLeftByFormat version old image
 
 -- a memory that was formatted and drained, which has its last drain's words alone
-abbrev pub formatted_memory : Memory → Memory
-formatted_memory memory = record {
-  base = formatted memory.base (block_count memory.base);
+abbrev pub formatted_memory : Version → Memory → Memory
+formatted_memory version memory = record {
+  base = formatted memory.base version (block_count memory.base);
   events = [];
   capacity = memory.capacity;
   drains = min (memory.drains + 1) (2 ^ 64 - 1);

@@ -3,6 +3,7 @@ pub mod FileCall
 pub mod Volume
 pub mod Told
 pub mod Laid
+pub mod Upgraded
 pub mod Seen
 pub mod Carried
 pub mod Renaming

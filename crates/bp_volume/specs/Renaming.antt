@@ -49,7 +49,7 @@ abbrev pub is_inode : ℕ → Option FoundEntry → Bool
 is_inode i None = false
 is_inode i (Some entry) = entry.inumber == i
 
--- both ends are one entry
+-- both ends are one entry, or two entries that name one file
 abbrev pub are_same : Ends → Bool
 are_same ends = is_inode ends.source.inumber ends.target.there
 
@@ -57,7 +57,7 @@ are_same ends = is_inode ends.source.inumber ends.target.there
 abbrev pub Allows : Image → Call → Type 0
 Allows image call = (tree : FileTree) → Stands image tree → refusal tree call ≡ None
 
--- The ends are two entries, or the second is new. What has the new name may leave, and nothing refuses the rename.
+-- The ends are entries of two inodes, or the second is new. What has the new name may leave, and nothing refuses the rename.
 pub record MayMove (image : Image) (from to : List ℕ) (ends : Ends) : Type 0 where
   pub found : FindsEnds image from to ends
   pub other : are_same ends ≡ false

@@ -1,5 +1,5 @@
 -- What a call may make of an image.
-use Rattle.std.specs.Prelude.{◌≡◌, ◌≢◌, ℕ, ◌<◌, ◌≤◌, List, [], ◌∷◌, length, Bool, true, false, None, Some}
+use Rattle.std.specs.Prelude.{◌≡◌, ◌≢◌, ℕ, ◌<◌, ◌≤◌, List, [], ◌∷◌, length, Bool, true, false, Option, None, Some}
 use Rattle.bp_layout.specs.Words.{Image}
 use Rattle.bp_layout.specs.Directory.{Name, IsName, slot_named}
 use Rattle.bp_layout.specs.Inode.{IsDirectory}
@@ -7,14 +7,18 @@ use Rattle.bp_layout.specs.Lookup.{Path, lookup}
 use Rattle.bp_plain.specs.PlainTree.{FileTree}
 use Rattle.bp_plain.specs.Stands.{Stands}
 use Rattle.bp_layout.specs.PathText.{parse}
-use Rattle.bp_plain.specs.Calls.{Call, Answer}
-use Rattle.bp_plain.specs.Calls.Call.{create, mkdir, unlink, rmdir, list, write, truncate, rename}
+use Rattle.bp_plain.specs.Calls.{Call, Piece, Answer}
+use Rattle.bp_plain.specs.Calls.Call.{create, mkdir, unlink, rmdir, list, write, truncate, rename, link, snap_list, batch}
 use Rattle.bp_plain.specs.Calls.Refusal.{no_space, no_memory}
 use Rattle.bp_plain.specs.Calls.Answer.{refused}
 use Rattle.bp_plain.specs.Plain.{plain, is_changing, refusal, parent_of}
-use Rattle.bp_layout.specs.Need.{Change, need}
-use Rattle.bp_layout.specs.Need.Change.{writes, resizes, enters, leaves, replaces, moves, respells}
-use Rattle.bp_layout.specs.Free.{HasFree, TellsFreeInode}
+use Rattle.bp_layout.specs.Need.{Change, Stretch}
+use Rattle.bp_layout.specs.Need.Change.{writes, resizes, enters, leaves, replaces, moves, respells, overwrites}
+use Rattle.bp_layout.specs.Need.Entrant.{linked}
+use Rattle.bp_layout.specs.Free.{HasFree, IsLeastFree}
+use Rattle.bp_layout.specs.Thaw.{full_need}
+use Rattle.bp_layout.specs.Trees.{AreFrozen}
+use Rattle.bp_calls.specs.Entrant.{entrant_of}
 
 abbrev pub last_of : Path → Name
 last_of [] = []
@@ -62,12 +66,24 @@ pub record PathFinds (image : Image) (text : List ℕ) (i : ℕ) : Type 0 where
   pub parsed : parse text ≡ Some path
   pub inode : lookup image path ≡ Some i
 
+-- the pieces of a batch by the inodes of their files
+pub data AreStretches (image : Image) : List Piece → List Stretch → Type 0 where
+  none : AreStretches image [] []
+  more : {piece : Piece} {pieces : List Piece} {stretches : List Stretch} {i : ℕ} → PathFinds image piece.path i →
+      AreStretches image pieces stretches →
+      AreStretches image (piece ∷ pieces)
+      (record { inode = i; off = piece.off; len = length piece.bytes } ∷ stretches)
+
 -- what a changing call changes
 pub data IsChange (image : Image) : Call → Change → Type 0 where
-  by_create : {text : List ℕ} {name : Name} {i : ℕ} {free : Bool} → FindsNew image text i name →
-      TellsFreeInode image free → IsChange image (create text) (enters i free)
-  by_mkdir : {text : List ℕ} {name : Name} {i : ℕ} {free : Bool} → FindsNew image text i name →
-      TellsFreeInode image free → IsChange image (mkdir text) (enters i free)
+  by_create : {text : List ℕ} {name : Name} {i : ℕ} {free : Option ℕ} → FindsNew image text i name →
+      IsLeastFree image free → IsChange image (create text) (enters i (entrant_of free))
+  by_mkdir : {text : List ℕ} {name : Name} {i : ℕ} {free : Option ℕ} → FindsNew image text i name →
+      IsLeastFree image free → IsChange image (mkdir text) (enters i (entrant_of free))
+  by_link : {from to : List ℕ} {name : Name} {i j : ℕ} → PathFinds image from j → FindsNew image to i name →
+      IsChange image (link from to) (enters i linked)
+  by_batch : {pieces : List Piece} {stretches : List Stretch} → AreStretches image pieces stretches →
+      IsChange image (batch pieces) (overwrites stretches)
   by_write : {text new : List ℕ} {i off : ℕ} → PathFinds image text i →
       IsChange image (write text off new) (writes i off (length new))
   by_truncate : {text : List ℕ} {i size : ℕ} → PathFinds image text i →
@@ -81,12 +97,14 @@ pub data IsChange (image : Image) : Call → Change → Type 0 where
   within : {from to : List ℕ} {i s : ℕ} {name : Name} → StandsIn image from i s → FindsNew image to i name →
       IsChange image (rename from to) (respells i s (length name))
 
--- a changing call, the blocks that it needs, and those that are free
+-- a changing call, the blocks that it needs, and those that are free: in neither tree
 pub record HasNeed (image : Image) (call : Call) (needed free : ℕ) : Type 0 where
   pub change : Change
   pub is : IsChange image call change
-  pub needs : need image change ≡ needed
-  pub has : HasFree image free
+  pub kept : ℕ → Bool
+  pub frozen : AreFrozen image kept
+  pub needs : full_need image kept change ≡ needed
+  pub has : HasFree image kept free
 
 -- the call needs no more blocks than are free
 abbrev pub Fits : Image → Call → Type 0
@@ -99,6 +117,8 @@ pub data StepFor (image : Image) (tree : FileTree) : Call → Answer → Image �
       free < needed → StepFor image tree call (refused (no_space needed free)) image
   no_listing : {text : List ℕ} → refusal tree (list text) ≡ None →
       StepFor image tree (list text) (refused no_memory) image
+  no_snap_listing : {text : List ℕ} → refusal tree (snap_list text) ≡ None →
+      StepFor image tree (snap_list text) (refused no_memory) image
   unchanged : {call : Call} → is_changing tree call ≡ false → StepFor image tree call (plain tree call).0 image
   changed : {call : Call} {new : Image} → is_changing tree call ≡ true → Fits image call →
       Stands new (plain tree call).1 → StepFor image tree call (plain tree call).0 new

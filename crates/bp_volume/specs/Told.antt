@@ -1,13 +1,12 @@
 -- Calls that change nothing, as images tell them.
-use Rattle.std.specs.Prelude.{◌≡◌, ℕ, List, [], ◌∷◌, false, Option, None, Some, is_some}
+use Rattle.std.specs.Prelude.{◌≡◌, ℕ, List, [], ◌∷◌, false, Option, None, Some}
 use Rattle.bp_layout.specs.Words.{Image}
-use Rattle.std.specs.FinMap.{get}
 use Rattle.bp_layout.specs.Lookup.{Path}
 use Rattle.bp_plain.specs.PlainTree.{FileTree}
 use Rattle.bp_plain.specs.Stands.{Stands}
 use Rattle.bp_plain.specs.Calls.{Call, Answer, Refusal}
-use Rattle.bp_plain.specs.Plain.{on_path, refusal, walk, walk_parent, first, when, is_dir_at, is_root_path, move_refusal}
-use Rattle.bp_plain.specs.Calls.Refusal.{not_found, not_dir, is_dir, exists}
+use Rattle.bp_plain.specs.Plain.{on_path, refusal, walk, walk_parent, first, when, file_refusal, is_root_path, move_refusal, new_refusal}
+use Rattle.bp_plain.specs.Calls.Refusal.{not_found, not_dir}
 use Rattle.bp_path.specs.Walk.{Walked}
 use Rattle.bp_path.specs.Walk.Walked.{found, missing, in_file}
 use Rattle.bp_volume.specs.Step.{StepFor}
@@ -26,7 +25,7 @@ refusal_of_walk in_file = Some not_dir
 
 -- the text is no path, or the walk to it ends so
 abbrev pub StopsWalk : Image → List ℕ → Refusal → Type 0
-StopsWalk image text why = (tree : FileTree) → Stands image tree → on_path text (walk tree) ≡ Some why
+StopsWalk image text why = (tree : FileTree) → Stands image tree → on_path text (walk tree.now.nodes) ≡ Some why
 
 -- the plain call is refused so
 abbrev pub Refuses : Image → Call → Refusal → Type 0
@@ -34,11 +33,11 @@ Refuses image call why = (tree : FileTree) → Stands image tree → refusal tre
 
 -- the walk to the path ends so
 abbrev pub RefusesWalk : Image → Path → Refusal → Type 0
-RefusesWalk image path why = (tree : FileTree) → Stands image tree → walk tree path ≡ Some why
+RefusesWalk image path why = (tree : FileTree) → Stands image tree → walk tree.now.nodes path ≡ Some why
 
 -- the refusals that a call on a file at a path may meet, in order
 abbrev pub refusal_of_file : FileTree → Path → Option Refusal
-refusal_of_file tree path = first (walk tree path ∷ when (is_dir_at tree path) is_dir ∷ [])
+refusal_of_file tree = file_refusal tree.now.nodes
 
 -- a call on a file at the path is refused so
 abbrev pub RefusesFileAt : Image → Path → Refusal → Type 0
@@ -50,8 +49,7 @@ StopsAtFile image text why = (tree : FileTree) → Stands image tree → on_path
 
 -- the refusals that a new file at a path may meet, in order
 abbrev pub refusal_of_new : FileTree → Path → Option Refusal
-refusal_of_new tree path =
-    first (when (is_root_path path) exists ∷ walk_parent tree path ∷ when (is_some (get tree path)) exists ∷ [])
+refusal_of_new tree = new_refusal tree.now.nodes
 
 -- the text is no path, or a new file there is refused so
 abbrev pub StopsAtNew : Image → List ℕ → Refusal → Type 0
@@ -59,7 +57,7 @@ StopsAtNew image text why = (tree : FileTree) → Stands image tree → on_path 
 
 -- the refusals before the entry of a path is found, where the root directory has its own
 abbrev pub refusal_of_entry : Refusal → FileTree → Path → Option Refusal
-refusal_of_entry root tree path = first (when (is_root_path path) root ∷ walk tree path ∷ [])
+refusal_of_entry root tree path = first (when (is_root_path path) root ∷ walk tree.now.nodes path ∷ [])
 
 -- no entry is found at the path, and so the refusal
 abbrev pub RefusesEntry : Image → Path → Refusal → Refusal → Type 0
@@ -76,8 +74,8 @@ RefusesNew image path why = (tree : FileTree) → Stands image tree → refusal_
 
 -- the walk to the path's parent ends so
 abbrev pub RefusesParent : Image → Path → Refusal → Type 0
-RefusesParent image path why = (tree : FileTree) → Stands image tree → walk_parent tree path ≡ Some why
+RefusesParent image path why = (tree : FileTree) → Stands image tree → walk_parent tree.now.nodes path ≡ Some why
 
 -- a rename of the first path to the second is refused so
 abbrev pub RefusesRename : Image → Path → Path → Refusal → Type 0
-RefusesRename image p q why = (tree : FileTree) → Stands image tree → move_refusal tree p q ≡ Some why
+RefusesRename image p q why = (tree : FileTree) → Stands image tree → move_refusal tree.now.nodes p q ≡ Some why

@@ -2,18 +2,26 @@
 use Rattle.std.specs.Prelude.{◌≡◌, ◌≤◌, ℕ, ◌*◌}
 use Rattle.pm_region.specs.Memory.{Memory, current_words}
 use Rattle.pm_region.specs.Safe.{IsSafe}
-use Rattle.bp_shapes.specs.Sets.{AreExact}
-use Rattle.bp_free.specs.Set.{Set}
-use Rattle.bp_layout.specs.Same.{Same}
-use Rattle.bp_layout.specs.WellFormed.{IsWellFormed}
-use Rattle.bp_layout.specs.Words.{block_count}
+use Rattle.bp_shapes.specs.Sets.{IsExact, kept_of}
+use Rattle.bp_free.specs.declared.parts.Parts.{Parts}
+use Rattle.bp_layout.specs.Trees.{AreFrozen}
+use Rattle.bp_layout.specs.Whole.{HasNoSecond, IsFileSystem, SameFiles}
+use Rattle.bp_layout.specs.Words.{Image, block_count}
 use Rattle.bp_limits.specs.Limits.{block_inodes, call_room}
 
--- A crash at any moment leaves what some calls left, a call has its room, the words are a file system, the sets have
--- just its free blocks and its free inodes, and a scan has its memory.
-pub record IsVolume (memory : Memory) (blocks inodes : Set) (pending : ℕ) : Type 0 where
-  pub safe : IsSafe Same memory
+-- neither image has a second tree
+pub record HaveNoSecond (old new : Image) : Type 0 where
+  pub old_none : HasNoSecond old
+  pub new_none : HasNoSecond new
+
+-- A crash at any moment leaves what some calls left, and no second tree. A call has its room, the words are a file
+-- system, the sets have just its free blocks and inodes and the blocks of its snapshot, the counts are those of its
+-- names, and a scan has its memory.
+pub record IsVolume {R : Type 0} (memory : Memory) (parts : Parts R) (pending : ℕ) : Type 0 where
+  pub safe : IsSafe SameFiles memory
+  pub alone : IsSafe HaveNoSecond memory
   pub roomy : call_room ≤ memory.capacity
-  pub well_formed : IsWellFormed (current_words memory)
-  pub exact : AreExact (current_words memory) blocks inodes
+  pub well_formed : IsFileSystem (current_words memory)
+  pub frozen : AreFrozen (current_words memory) (kept_of parts)
+  pub exact : IsExact (current_words memory) parts
   pub scans : pending ≡ block_inodes * block_count (current_words memory)

@@ -1,15 +1,17 @@
 //! Calls that change nothing.
 
 ghost use Rattle.std.specs.Prelude.{◌≡◌, ◌≤◌, IfOk, OnErr, drop, length};
-ghost use Rattle.bp_plain.specs.Calls.Call.{list, read, stat};
+ghost use Rattle.bp_plain.specs.Calls.Call.{links, list, read, stat};
 ghost use Rattle.bp_layout.specs.WellFormed.{IsWellFormed};
-ghost use Rattle.bp_volume.specs.Seen.{list_answer_of, read_answer, stat_answer_of};
+ghost use Rattle.bp_shapes.specs.Sets.{IsExact};
+ghost use Rattle.bp_volume.specs.Seen.{links_answer, list_answer_of, read_answer, stat_answer_of};
 ghost use Rattle.bp_volume.specs.Step.{PathFinds};
 ghost use Rattle.bp_volume.specs.Told.{Tells};
 ghost use Rattle.pm_region.specs.Memory.{current_words};
 
 use crate::walking::{file_at, inode_at};
-use bp_calls::{list, read, stat};
+use bp_calls::{links, list, read, stat};
+use bp_free::Parts;
 use bp_inodes::get;
 use bp_layout::{Kind, Listing, Stat};
 use bp_plain::FsError;
@@ -23,6 +25,16 @@ pub(crate) fn stat_at<R: Region>(region: &R, text: &[u8]) -> Result<Stat, FsErro
 {
     let i = inode_at(region, text)?;
     Ok(stat(region, i))
+}
+
+/// What `links` answers.
+pub(crate) fn links_at<R: Region>(parts: &Parts<R>, text: &[u8]) -> Result<u32, FsError>
+    requires well_formed { IsWellFormed (current_words (R.memory parts.now.region)) }
+    requires exact { IsExact (current_words (R.memory parts.now.region)) parts.now }
+    ensures { Tells (current_words (R.memory parts.now.region)) (links text.now) (links_answer result) }
+{
+    let file = file_at(&parts.region, text)?;
+    Ok(links(parts, file.inumber))
 }
 
 /// The refusal of a call for which there is no memory.

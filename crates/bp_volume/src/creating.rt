@@ -2,9 +2,9 @@
 
 ghost use Rattle.std.specs.Prelude.{◌≡◌, ◌≤◌};
 ghost use Rattle.bp_layout.specs.Directory.{empty_slot};
-ghost use Rattle.bp_layout.specs.WellFormed.{IsWellFormed};
+ghost use Rattle.bp_layout.specs.Whole.{IsFileSystem};
 ghost use Rattle.bp_limits.specs.Limits.{call_room};
-ghost use Rattle.bp_shapes.specs.Sets.{AreExact};
+ghost use Rattle.bp_shapes.specs.Sets.{IsExact};
 ghost use Rattle.bp_volume.specs.Carried.{CarriesOut, making};
 ghost use Rattle.bp_volume.specs.Seen.{unit_answer};
 ghost use Rattle.bp_volume.specs.Step.{FindsNew};
@@ -25,14 +25,14 @@ fn create_new<R: Region>(
     new: NewName<'_>,
     kind: Kind,
 ) -> Result<(), FsError>
-    requires well_formed { IsWellFormed (current_words (R.memory parts.old.region)) }
-    requires exact { AreExact (current_words (R.memory parts.old.region)) parts.old.blocks parts.old.inodes }
+    requires well_formed { IsFileSystem (current_words (R.memory parts.old.region)) }
+    requires exact { IsExact (current_words (R.memory parts.old.region)) parts.old }
     requires new { FindsNew (current_words (R.memory parts.old.region)) text.now new.dir new.name.now }
     requires slot { new.slot ≡ empty_slot (current_words (R.memory parts.old.region)) new.dir }
     requires room { call_room ≤ room_in (R.memory parts.old.region) }
     ensures called { CarriesOut (R.memory parts.old.region) (making kind text.now) (unit_answer result)
         (R.memory parts.new.region) }
-    ensures exact { AreExact (current_words (R.memory parts.new.region)) parts.new.blocks parts.new.inodes }
+    ensures exact { IsExact (current_words (R.memory parts.new.region)) parts.new }
 {
     create_in(parts, new.dir, new.slot, new.name, kind).map_err(no_space)
 }
@@ -43,12 +43,12 @@ pub(crate) fn create_at<R: Region>(
     text: &[u8],
     kind: Kind,
 ) -> Result<(), FsError>
-    requires well_formed { IsWellFormed (current_words (R.memory parts.old.region)) }
-    requires exact { AreExact (current_words (R.memory parts.old.region)) parts.old.blocks parts.old.inodes }
+    requires well_formed { IsFileSystem (current_words (R.memory parts.old.region)) }
+    requires exact { IsExact (current_words (R.memory parts.old.region)) parts.old }
     requires room { call_room ≤ room_in (R.memory parts.old.region) }
     ensures called { CarriesOut (R.memory parts.old.region) (making kind text.now) (unit_answer result)
         (R.memory parts.new.region) }
-    ensures exact { AreExact (current_words (R.memory parts.new.region)) parts.new.blocks parts.new.inodes }
+    ensures exact { IsExact (current_words (R.memory parts.new.region)) parts.new }
 {
     let new = new_name(&parts.region, text)?;
     create_new(parts, text, new, kind)

@@ -8,20 +8,21 @@ ghost use Rattle.pm_epochs.specs.Replay.{IsReplay};
 ghost use Rattle.pm_region.specs.Memory.{Adds, room_in};
 
 use bp_limits::{
-    BLOCK_SIZE, BLOCK_WORDS, MAGIC, SUPER_BLOCKS, SUPER_MAGIC, SUPER_ROOT, SUPER_SIZE,
+    BLOCK_SIZE, BLOCK_WORDS, SUPER_BLOCKS, SUPER_MAGIC, SUPER_ROOT, SUPER_SECOND_ROOT,
+    SUPER_SECOND_SIZE, SUPER_SIZE, Version,
 };
 use pm_region::Region;
 
-/// Makes an empty file system of a region of 8 to 16,384 blocks of 512 words. Its stores are not written back until
-/// the region is drained: up to then a crash may leave the old words, or words without the mark.
-pub fn lay_out<R: Region>(region: &mut R)
+/// Makes an empty file system of a version of a region of 8 to 65,536 blocks of 512 words. Its stores are not written back
+/// until the region is drained: up to then a crash may leave the old words, or words without the mark.
+pub fn lay_out<R: Region>(region: &mut R, version: Version)
     requires sized { IsSized (R.memory region.old).base }
     requires fresh { (R.memory region.old).events ≡ [] }
     requires room { 16 ≤ room_in (R.memory region.old) }
     ensures stores { Adds (R.memory region.old) (R.memory region.new)
-        (format_events (block_count (R.memory region.old).base)) }
+        (format_events version (block_count (R.memory region.old).base)) }
     ensures left { (image : Image) → IsReplay (R.memory region.new).base (R.memory region.new).events image
-        → IsLeftByFormat (R.memory region.old).base image }
+        → IsLeftByFormat version (R.memory region.old).base image }
 {
     let blocks = region.words() / BLOCK_WORDS;
     // The mark is gone before any other word changes, and comes back once all of them are written back.
@@ -30,10 +31,14 @@ pub fn lay_out<R: Region>(region: &mut R)
     region.store(SUPER_BLOCKS, blocks as u64);
     region.store(SUPER_ROOT, BLOCK_SIZE);
     region.store(SUPER_SIZE, BLOCK_SIZE);
+    if version == Version::Two {
+        region.store(SUPER_SECOND_ROOT, 0);
+        region.store(SUPER_SECOND_SIZE, 0);
+    }
     region.store(520, 2);
     region.store(521, 0);
     region.store(522, 0);
     region.barrier();
-    region.store(SUPER_MAGIC, MAGIC);
+    region.store(SUPER_MAGIC, version.magic());
     region.barrier();
 }

@@ -4,10 +4,11 @@ ghost use Rattle.std.specs.Prelude.{◌≡◌, ◌≢◌, ◌≤◌, IfErr, IfOk
 ghost use Rattle.bp_changes.specs.Effects.{CanUnlink};
 ghost use Rattle.bp_layout.specs.Directory.{inumber_at};
 ghost use Rattle.bp_layout.specs.WellFormed.{IsWellFormed};
+ghost use Rattle.bp_layout.specs.Whole.{IsFileSystem};
 ghost use Rattle.bp_limits.specs.Limits.{call_room};
 ghost use Rattle.bp_plain.specs.Calls.Call.{rename};
 ghost use Rattle.bp_plain.specs.Seen.{refusal_of};
-ghost use Rattle.bp_shapes.specs.Sets.{AreExact};
+ghost use Rattle.bp_shapes.specs.Sets.{IsExact};
 ghost use Rattle.bp_volume.specs.Carried.{CarriesOut};
 ghost use Rattle.bp_volume.specs.Renaming.{Allows, AreEnds, FindsEnds, IsMoveOf, MayMove, are_same};
 ghost use Rattle.bp_volume.specs.Seen.{unit_answer};
@@ -142,7 +143,7 @@ fn may_move<R: Region>(region: &R, from: &[u8], to: &[u8], ends: &Ends<'_>) -> R
     }
 }
 
-/// Whether both ends are one entry. An inode has one name.
+/// Whether both ends are one entry, or two names of one file.
 fn are_same(ends: &Ends<'_>) -> bool
     ensures { result ≡ are_same ends.now }
 {
@@ -182,32 +183,33 @@ fn move_name<R: Region>(
     to: &[u8],
     ends: &Ends<'_>,
 ) -> Result<(), FsError>
-    requires well_formed { IsWellFormed (current_words (R.memory parts.old.region)) }
-    requires exact { AreExact (current_words (R.memory parts.old.region)) parts.old.blocks parts.old.inodes }
+    requires well_formed { IsFileSystem (current_words (R.memory parts.old.region)) }
+    requires exact { IsExact (current_words (R.memory parts.old.region)) parts.old }
     requires may { MayMove (current_words (R.memory parts.old.region)) from.now to.now ends.now }
     requires room { call_room ≤ room_in (R.memory parts.old.region) }
     ensures called { CarriesOut (R.memory parts.old.region) (rename from.now to.now) (unit_answer result)
         (R.memory parts.new.region) }
-    ensures exact { AreExact (current_words (R.memory parts.new.region)) parts.new.blocks parts.new.inodes }
+    ensures exact { IsExact (current_words (R.memory parts.new.region)) parts.new }
 {
     let to_move = move_of(ends);
     rename_in(parts, &to_move, ends.target.empty).map_err(no_space)
 }
 
-/// Moves a name between the ends that were found. A name that is to move onto itself stays.
+/// Moves a name between the ends that were found. A name that is to move onto itself stays, and so does one that is to
+/// move onto another name of its file.
 fn rename_found<R: Region>(
     parts: &mut Parts<R>,
     from: &[u8],
     to: &[u8],
     ends: &Ends<'_>,
 ) -> Result<(), FsError>
-    requires well_formed { IsWellFormed (current_words (R.memory parts.old.region)) }
-    requires exact { AreExact (current_words (R.memory parts.old.region)) parts.old.blocks parts.old.inodes }
+    requires well_formed { IsFileSystem (current_words (R.memory parts.old.region)) }
+    requires exact { IsExact (current_words (R.memory parts.old.region)) parts.old }
     requires found { FindsEnds (current_words (R.memory parts.old.region)) from.now to.now ends.now }
     requires room { call_room ≤ room_in (R.memory parts.old.region) }
     ensures called { CarriesOut (R.memory parts.old.region) (rename from.now to.now) (unit_answer result)
         (R.memory parts.new.region) }
-    ensures exact { AreExact (current_words (R.memory parts.new.region)) parts.new.blocks parts.new.inodes }
+    ensures exact { IsExact (current_words (R.memory parts.new.region)) parts.new }
 {
     if are_same(ends) {
         return Ok(());
@@ -222,12 +224,12 @@ pub(crate) fn rename_at<R: Region>(
     from: &[u8],
     to: &[u8],
 ) -> Result<(), FsError>
-    requires well_formed { IsWellFormed (current_words (R.memory parts.old.region)) }
-    requires exact { AreExact (current_words (R.memory parts.old.region)) parts.old.blocks parts.old.inodes }
+    requires well_formed { IsFileSystem (current_words (R.memory parts.old.region)) }
+    requires exact { IsExact (current_words (R.memory parts.old.region)) parts.old }
     requires room { call_room ≤ room_in (R.memory parts.old.region) }
     ensures called { CarriesOut (R.memory parts.old.region) (rename from.now to.now) (unit_answer result)
         (R.memory parts.new.region) }
-    ensures exact { AreExact (current_words (R.memory parts.new.region)) parts.new.blocks parts.new.inodes }
+    ensures exact { IsExact (current_words (R.memory parts.new.region)) parts.new }
 {
     let ends = ends_at(&parts.region, from, to)?;
     rename_found(parts, from, to, &ends)

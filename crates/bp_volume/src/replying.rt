@@ -2,7 +2,7 @@
 
 ghost use Rattle.std.specs.Prelude.{◌≡◌, ◌≤◌, IfOk};
 ghost use Rattle.bp_limits.specs.Limits.{max_read};
-ghost use Rattle.bp_volume.specs.Seen.{list_answer_of, read_answer, stat_answer_of, unit_answer};
+ghost use Rattle.bp_volume.specs.Seen.{links_answer, list_answer_of, read_answer, stat_answer_of, unit_answer};
 
 use bp_layout::{Listing, Stat};
 use bp_plain::{FsError, Reply};
@@ -24,6 +24,16 @@ pub(crate) fn tell_stat(reply: &mut Reply, outcome: Result<Stat, FsError>)
     match outcome {
         Ok(Stat::File { size }) => reply.set_file(size),
         Ok(Stat::Dir { count }) => reply.set_dir(count),
+        Err(error) => reply.set_refused(error),
+    }
+}
+
+/// Tells the result of `links`.
+pub(crate) fn tell_links(reply: &mut Reply, outcome: Result<u32, FsError>)
+    ensures { reply.new.answer ≡ links_answer outcome }
+{
+    match outcome {
+        Ok(count) => reply.set_links(count),
         Err(error) => reply.set_refused(error),
     }
 }

@@ -2,29 +2,37 @@
 
 ghost use Rattle.std.specs.Prelude.{◌*◌, ◌≡◌, length};
 ghost use Rattle.bp_limits.specs.Limits.{block_inodes};
-ghost use Rattle.bp_layout.specs.WellFormed.{IsWellFormed};
+ghost use Rattle.bp_layout.specs.Whole.{IsFileSystem};
 ghost use Rattle.bp_layout.specs.Words.{block_count};
 ghost use Rattle.bp_scan.specs.Totals.{HasTotals};
-ghost use Rattle.bp_shapes.specs.Sets.{AreExact};
+ghost use Rattle.bp_shapes.specs.Sets.{IsExact};
 ghost use Rattle.pm_region.specs.Memory.{current_words};
 
 use bp_free::Parts;
 use bp_scan::{Pending, Totals, scan};
 use pm_region::Region;
 
-/// Makes the sets those of the words, which are a file system, whatever they had, and tells what it holds. It takes no
-/// memory but that of the sets and of `pending`.
+/// Makes the sets and counts those of the words, which are a file system, whatever they had, and tells what it holds. It
+/// takes no memory but theirs and that of `pending`.
 pub(crate) fn rescan<R: Region>(parts: &mut Parts<R>, pending: &mut Pending) -> Totals
-    requires well_formed { IsWellFormed (current_words (R.memory parts.old.region)) }
+    requires well_formed { IsFileSystem (current_words (R.memory parts.old.region)) }
     requires blocks { length parts.old.blocks ≡ block_count (current_words (R.memory parts.old.region)) }
     requires inodes { length parts.old.inodes ≡ block_inodes * block_count (current_words (R.memory parts.old.region)) }
+    requires counts { length parts.old.counts ≡ block_inodes * block_count (current_words (R.memory parts.old.region)) }
+    requires frozen { length parts.old.frozen ≡ block_count (current_words (R.memory parts.old.region)) }
     requires pending { pending.old ≡ block_inodes * block_count (current_words (R.memory parts.old.region)) }
     ensures region { parts.new.region ≡ parts.old.region }
-    ensures exact { AreExact (current_words (R.memory parts.new.region)) parts.new.blocks parts.new.inodes }
+    ensures exact { IsExact (current_words (R.memory parts.new.region)) parts.new }
     ensures totals { HasTotals (current_words (R.memory parts.old.region)) result }
     ensures pending { pending.new ≡ pending.old }
 {
-    match scan(&parts.region, &mut parts.blocks, &mut parts.inodes, pending) {
+    match scan(
+        &parts.region,
+        &mut parts.blocks,
+        &mut parts.inodes,
+        pending,
+        &mut parts.counts,
+    ) {
         Ok(totals) => totals,
         // No check fails in a file system.
         Err(_) => unreachable!(),

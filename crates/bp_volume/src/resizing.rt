@@ -2,10 +2,10 @@
 
 ghost use Rattle.std.specs.Prelude.{◌≡◌, ◌≤◌};
 ghost use Rattle.bp_layout.specs.Inode.{IsFile, size_of};
-ghost use Rattle.bp_layout.specs.WellFormed.{IsWellFormed};
+ghost use Rattle.bp_layout.specs.Whole.{IsFileSystem};
 ghost use Rattle.bp_limits.specs.Limits.{call_room};
 ghost use Rattle.bp_plain.specs.Calls.Call.{truncate};
-ghost use Rattle.bp_shapes.specs.Sets.{AreExact};
+ghost use Rattle.bp_shapes.specs.Sets.{IsExact};
 ghost use Rattle.bp_volume.specs.Carried.{CarriesOut};
 ghost use Rattle.bp_volume.specs.Seen.{unit_answer};
 ghost use Rattle.bp_volume.specs.Step.{PathFinds};
@@ -14,28 +14,28 @@ ghost use Rattle.pm_region.specs.Memory.{current_words, room_in};
 use crate::refusing::no_space;
 use crate::walking::{FoundFile, file_at};
 use bp_free::Parts;
-use bp_limits::MAX_SIZE;
 use bp_plain::FsError;
+use bp_tree::version;
 use pm_region::Region;
 
-/// Gives the file that a path text finds another size.
+/// Gives the file that a path text finds another size, as large as the version allows at most.
 fn resize<R: Region>(
     parts: &mut Parts<R>,
     text: &[u8],
     file: FoundFile,
     size: u64,
 ) -> Result<(), FsError>
-    requires well_formed { IsWellFormed (current_words (R.memory parts.old.region)) }
-    requires exact { AreExact (current_words (R.memory parts.old.region)) parts.old.blocks parts.old.inodes }
+    requires well_formed { IsFileSystem (current_words (R.memory parts.old.region)) }
+    requires exact { IsExact (current_words (R.memory parts.old.region)) parts.old }
     requires at { PathFinds (current_words (R.memory parts.old.region)) text.now file.inumber }
     requires kind { IsFile (current_words (R.memory parts.old.region)) file.inumber }
     requires size { file.size ≡ size_of (current_words (R.memory parts.old.region)) file.inumber }
     requires room { call_room ≤ room_in (R.memory parts.old.region) }
     ensures called { CarriesOut (R.memory parts.old.region) (truncate text.now size) (unit_answer result)
         (R.memory parts.new.region) }
-    ensures exact { AreExact (current_words (R.memory parts.new.region)) parts.new.blocks parts.new.inodes }
+    ensures exact { IsExact (current_words (R.memory parts.new.region)) parts.new }
 {
-    if size > MAX_SIZE {
+    if size > version(&parts.region).greatest_size() {
         return Err(FsError::TooBig);
     }
     if size == file.size {
@@ -50,12 +50,12 @@ pub(crate) fn truncate_at<R: Region>(
     text: &[u8],
     size: u64,
 ) -> Result<(), FsError>
-    requires well_formed { IsWellFormed (current_words (R.memory parts.old.region)) }
-    requires exact { AreExact (current_words (R.memory parts.old.region)) parts.old.blocks parts.old.inodes }
+    requires well_formed { IsFileSystem (current_words (R.memory parts.old.region)) }
+    requires exact { IsExact (current_words (R.memory parts.old.region)) parts.old }
     requires room { call_room ≤ room_in (R.memory parts.old.region) }
     ensures called { CarriesOut (R.memory parts.old.region) (truncate text.now size) (unit_answer result)
         (R.memory parts.new.region) }
-    ensures exact { AreExact (current_words (R.memory parts.new.region)) parts.new.blocks parts.new.inodes }
+    ensures exact { IsExact (current_words (R.memory parts.new.region)) parts.new }
 {
     let file = file_at(&parts.region, text)?;
     resize(parts, text, file, size)

@@ -2,40 +2,42 @@
 
 ghost use Rattle.std.specs.Prelude.{[], ◌*◌, ◌≡◌, ◌⊎◌, ◌≤◌, ◌↔◌, IfErr, IfOk, IsOk, OnErr, OnOk, drop, length};
 ghost use Rattle.bp_layout.specs.Formatted.{IsSized};
-ghost use Rattle.bp_layout.specs.Free.{HasFree};
-ghost use Rattle.bp_layout.specs.Same.{Same};
-ghost use Rattle.bp_layout.specs.WellFormed.{IsWellFormed};
+ghost use Rattle.bp_layout.specs.Whole.{HasSpace, IsFileSystem, SameFiles};
 ghost use Rattle.bp_layout.specs.Words.{block_count};
-ghost use Rattle.bp_limits.specs.Limits.{block_inodes, call_room};
+ghost use Rattle.bp_limits.specs.Limits.{block_inodes, call_room, max_read};
 ghost use Rattle.pm_epochs.specs.Log.{marks};
 ghost use Rattle.pm_epochs.specs.Replay.{IsRight, after_calls, kept_calls};
 ghost use Rattle.pm_region.specs.Memory.{crashed, current_words, drained, room_in, with_room};
 ghost use Rattle.pm_region.specs.Safe.{IsSafe};
-ghost use Rattle.bp_limits.specs.Limits.{max_read};
-ghost use Rattle.bp_plain.specs.Calls.Call.{create, list, mkdir, read, rename, rmdir, stat, truncate, unlink, write};
+ghost use Rattle.bp_limits.specs.declared.version.Version.TheVariants.{One};
+ghost use Rattle.bp_plain.specs.Calls.Answer.{done};
+ghost use Rattle.bp_plain.specs.Calls.Call.{create, link, links, list, mkdir, read, rename, rmdir, stat, truncate, unlink, upgrade, write};
 ghost use Rattle.bp_plain.specs.PlainTree.{empty_tree};
-ghost use Rattle.bp_plain.specs.Seen.{IsShortCall, call_of};
+ghost use Rattle.bp_plain.specs.Seen.{call_of};
+ghost use Rattle.bp_plain.specs.Served.{IsServed};
 ghost use Rattle.bp_plain.specs.Stands.{Stands};
 ghost use Rattle.bp_scan.specs.Faults.{IsFault};
 ghost use Rattle.bp_scan.specs.Totals.{HasLive, HasTotals};
 ghost use Rattle.bp_volume.specs.FileCall.{FileCall};
 ghost use Rattle.bp_volume.specs.Laid.{formatted_memory};
-ghost use Rattle.bp_volume.specs.Seen.{list_answer_of, read_answer, stat_answer_of, unit_answer};
+ghost use Rattle.bp_volume.specs.Seen.{links_answer, list_answer_of, read_answer, stat_answer_of, unit_answer};
 
-use crate::asking::{list_at, read_at, stat_at};
+use crate::asking::{links_at, list_at, read_at, stat_at};
 use crate::creating::create_at;
 use crate::laying::lay_out;
+use crate::linking::link_at;
 use crate::removing::{rmdir_at, unlink_at};
 use crate::renaming::rename_at;
-use crate::replying::{tell_done, tell_list, tell_read, tell_stat};
+use crate::replying::{tell_done, tell_links, tell_list, tell_read, tell_stat};
 use crate::rescanning::rescan;
 use crate::resizing::truncate_at;
 use crate::sets::Sets;
 use crate::space::Space;
+use crate::upgrading::upgrade_region;
 use crate::writing::write_at;
 use bp_free::Parts;
 use bp_layout::{Kind, Listing, Stat};
-use bp_limits::{BLOCK_WORDS, CALL_ROOM};
+use bp_limits::{BLOCK_WORDS, CALL_ROOM, Version};
 use bp_plain::{Call, FsError, Reply};
 use bp_scan::{MountFault, Pending, Totals, scan};
 use pm_epochs::{BadChoice, Choice, Kept};
@@ -58,11 +60,12 @@ impl<R: Region> Model for Volume<R> {
 
     ghost view = { λ v. R.memory v.parts.region };
 
-    ghost invariant = { λ v. IsVolume (R.memory v.parts.region) v.parts.blocks v.parts.inodes v.pending };
+    ghost invariant = { λ v. IsVolume (R.memory v.parts.region) v.parts v.pending };
 }
 
 impl<R: Region> Volume<R> {
-    /// Makes a volume with an empty root directory of a region of 8 to 16,384 blocks of 512 words, whatever they hold.
+    /// Makes a volume of version 1 with an empty root directory of a region of 8 to 65,536 blocks of 512 words, whatever
+    /// they hold.
     ///
     /// # Errors
     ///
@@ -71,9 +74,31 @@ impl<R: Region> Volume<R> {
         requires sized { IsSized (R.memory region).base }
         requires fresh { (R.memory region).events ≡ [] }
         requires roomy { call_room ≤ (R.memory region).capacity }
-        ensures made { IfOk result (λ volume. volume ≡ formatted_memory (R.memory region)) }
-        ensures empty { IfOk result (λ volume. Stands (current_words volume) empty_tree) }
-        ensures safe { IfOk result (IsSafe Same) }
+        ensures made { IfOk result (λ volume. volume ≡ formatted_memory One (R.memory region)) }
+        ensures empty { IfOk result (λ volume. Stands (current_words volume) (empty_tree One)) }
+        ensures safe { IfOk result (IsSafe SameFiles) }
+        ensures handed_back { IfErr result (λ e. e.0 ≡ region) }
+        ensures memory { IfErr result (λ e. e.1 ≡ MountFault.Memory) }
+    {
+        Volume::format_as(alloc, region, Version::One)
+    }
+
+    /// The same of a version.
+    ///
+    /// # Errors
+    ///
+    /// As those of [`Volume::format`].
+    pub fn format_as(
+        alloc: Global,
+        region: R,
+        version: Version,
+    ) -> Result<Volume<R>, (R, MountFault)>
+        requires sized { IsSized (R.memory region).base }
+        requires fresh { (R.memory region).events ≡ [] }
+        requires roomy { call_room ≤ (R.memory region).capacity }
+        ensures made { IfOk result (λ volume. volume ≡ formatted_memory version (R.memory region)) }
+        ensures empty { IfOk result (λ volume. Stands (current_words volume) (empty_tree version)) }
+        ensures safe { IfOk result (IsSafe SameFiles) }
         ensures handed_back { IfErr result (λ e. e.0 ≡ region) }
         ensures memory { IfErr result (λ e. e.1 ≡ MountFault.Memory) }
     {
@@ -81,7 +106,7 @@ impl<R: Region> Volume<R> {
             return Err((region, MountFault::Memory));
         };
         let mut region = region;
-        lay_out(&mut region);
+        lay_out(&mut region, version);
         region.drain();
         match Volume::scanned(region, sets) {
             Ok(volume) => Ok(volume),
@@ -90,7 +115,7 @@ impl<R: Region> Volume<R> {
         }
     }
 
-    /// Makes a volume of a region that was formatted, of 8 to 16,384 blocks of 512 words.
+    /// Makes a volume of a region that was formatted, of 8 to 65,536 blocks of 512 words.
     ///
     /// # Errors
     ///
@@ -102,11 +127,11 @@ impl<R: Region> Volume<R> {
         requires fresh { (R.memory region).events ≡ [] }
         requires roomy { call_room ≤ (R.memory region).capacity }
         ensures same { IfOk result (λ volume. volume ≡ R.memory region) }
-        ensures well_formed { OnOk result (IsWellFormed (R.memory region).base) }
-        ensures safe { IfOk result (IsSafe Same) }
+        ensures well_formed { OnOk result (IsFileSystem (R.memory region).base) }
+        ensures safe { IfOk result (IsSafe SameFiles) }
         ensures handed_back { IfErr result (λ e. e.0 ≡ region) }
         ensures fault { IfErr result (λ e. (e.1 ≡ MountFault.Memory) ⊎ IsFault (R.memory region).base e.1) }
-        ensures exact { IsWellFormed (R.memory region).base → IfErr result (λ e. e.1 ≡ MountFault.Memory) }
+        ensures exact { IsFileSystem (R.memory region).base → IfErr result (λ e. e.1 ≡ MountFault.Memory) }
     {
         match Sets::new(alloc, region.words() / BLOCK_WORDS) {
             Ok(sets) => Volume::scanned(region, sets),
@@ -117,7 +142,7 @@ impl<R: Region> Volume<R> {
     /// The region under the volume. Its words are a file system, and a crash at any moment leaves what some calls left.
     pub fn region(&self) -> &R
         ensures memory { R.memory result.now ≡ self.now }
-        ensures safe { IsSafe Same self.now }
+        ensures safe { IsSafe SameFiles self.now }
     {
         &self.parts.region
     }
@@ -125,7 +150,7 @@ impl<R: Region> Volume<R> {
     /// Waits until all that the calls so far have done is written back, and empties the log.
     pub fn sync(&mut self)
         ensures drained { self.new ≡ drained self.old }
-        ensures safe { IsSafe Same self.new }
+        ensures safe { IsSafe SameFiles self.new }
     {
         self.parts.region.drain();
     }
@@ -142,8 +167,8 @@ impl<R: Region> Volume<R> {
         ensures kept { IfOk result (λ kept. kept.c ≡ kept_calls self.old.events choice.now.cut) }
         ensures of { IfOk result (λ kept. kept.n ≡ marks self.old.events) }
         ensures shows { IfOk result
-            (λ kept. Same (current_words self.new) (after_calls self.old.base self.old.events kept.c)) }
-        ensures safe { IsSafe Same self.new }
+            (λ kept. SameFiles (current_words self.new) (after_calls self.old.base self.old.events kept.c)) }
+        ensures safe { IsSafe SameFiles self.new }
         ensures err { OnErr result (self.new ≡ self.old) }
     {
         let kept = self.parts.region.crash_to(choice)?;
@@ -162,7 +187,7 @@ impl<R: Region> Volume<R> {
 
     /// How many blocks are free, and how many are live.
     pub fn space(&self) -> Space
-        ensures free { HasFree (current_words self.now) result.free }
+        ensures free { HasSpace (current_words self.now) result.free }
         ensures live { HasLive (current_words self.now) result.live }
     {
         let free = self.parts.blocks.count();
@@ -253,15 +278,33 @@ impl<R: Region> Volume<R> {
         made
     }
 
+    /// Gives the file at a path one more name: the second path, with the same bytes from then on.
+    ///
+    /// # Errors
+    ///
+    /// `BadPath` where a text is no path; `NotFound` or `NotDir` at the first name on the way to the first path that is
+    /// missing, or is sought in a file; `IsDir` where a directory stands there; then of the second path `Exists` at the
+    /// root directory, `NotFound` or `NotDir` on the way to its directory, and `Exists` where the name is there; and
+    /// last `NoSpace` where fewer blocks are free than the name needs. Nothing has changed then.
+    pub fn link(&mut self, from: &[u8], to: &[u8]) -> Result<(), FsError>
+        ensures { FileCall self.old (link from.now to.now) (unit_answer result) self.new }
+    {
+        self.make_room();
+        let made = link_at(&mut self.parts, from, to);
+        self.parts.region.mark();
+        made
+    }
+
     /// Writes bytes into the file at a path, from byte `off` on. Between its end and `off` it gets zeros. With no
     /// bytes the file stays as it is, whatever `off` is.
     ///
     /// # Errors
     ///
-    /// `BadPath` where the text is no path; `TooLong` where there are more than 65,536 bytes; `NotFound` or `NotDir`
-    /// at the first name on the way that is missing, or is sought in a file; `IsDir` where a directory stands there;
-    /// `TooBig` where there are bytes, and the last would lie past the greatest size of a file; and last `NoSpace`
-    /// where fewer blocks are free than the write needs. Nothing has changed then.
+    /// `BadPath` where the text is no path; `TooLong` where there are more than 65,536 bytes, in version 2 more than
+    /// 1,048,576; `NotFound` or `NotDir` at the first name on the way that is missing, or is sought in a file; `IsDir`
+    /// where a directory stands there; `TooBig` where there are bytes, and the last would lie past the greatest size of
+    /// a file, which its version tells; and last `NoSpace` where fewer blocks are free than the write needs. Nothing has
+    /// changed then.
     pub fn write(&mut self, path: &[u8], off: u64, bytes: &[u8]) -> Result<(), FsError>
         ensures { FileCall self.old (write path.now off bytes.now) (unit_answer result) self.new }
     {
@@ -322,6 +365,20 @@ impl<R: Region> Volume<R> {
         told
     }
 
+    /// How many names the file at a path has.
+    ///
+    /// # Errors
+    ///
+    /// Those of `stat`; and then `IsDir` where a directory stands there.
+    pub fn links(&mut self, path: &[u8]) -> Result<u32, FsError>
+        ensures { FileCall self.old (links path.now) (links_answer result) self.new }
+    {
+        self.make_room();
+        let told = links_at(&self.parts, path);
+        self.parts.region.mark();
+        told
+    }
+
     /// The names in the directory at a path, in the order of their bytes.
     ///
     /// # Errors
@@ -336,9 +393,20 @@ impl<R: Region> Volume<R> {
         told
     }
 
-    /// Makes a call, and tells its result in the reply. A read may ask for 65,536 bytes at most.
+    /// Makes the format version 2, with the same files and directories, whose limits are larger. On version 2 it changes
+    /// nothing. It needs no block.
+    pub fn upgrade(&mut self)
+        ensures { FileCall self.old upgrade done self.new }
+    {
+        self.make_room();
+        upgrade_region(&mut self.parts.region);
+        self.parts.region.mark();
+    }
+
+    /// Makes a call, and tells its result in the reply. A read may ask for 65,536 bytes at most. Snapshots and batches are
+    /// not carried out yet.
     pub fn apply(&mut self, alloc: Global, call: &Call, reply: &mut Reply)
-        requires { IsShortCall (call_of call.now) }
+        requires { IsServed (call_of call.now) }
         ensures { FileCall self.old (call_of call.now) reply.new.answer self.new }
     {
         match call {
@@ -352,7 +420,24 @@ impl<R: Region> Volume<R> {
             Call::Write { path, off, bytes } => tell_done(reply, self.write(path, *off, bytes)),
             Call::Truncate { path, size } => tell_done(reply, self.truncate(path, *size)),
             Call::Rename { from, to } => tell_done(reply, self.rename(from, to)),
+            Call::Link { from, to } => tell_done(reply, self.link(from, to)),
+            Call::Links(path) => tell_links(reply, self.links(path)),
+            Call::Upgrade => self.apply_upgrade(reply),
+            Call::Snap
+            | Call::Unsnap
+            | Call::SnapList(_)
+            | Call::SnapStat(_)
+            | Call::SnapRead { .. }
+            | Call::Batch { .. } => unreachable!(),
         }
+    }
+
+    /// Makes the format version 2, and tells so.
+    fn apply_upgrade(&mut self, reply: &mut Reply)
+        ensures { FileCall self.old upgrade reply.new.answer self.new }
+    {
+        self.upgrade();
+        reply.set_done();
     }
 
     /// Lists the names in a directory in a reply, which gives the memory of its last listing back before.
@@ -394,23 +479,29 @@ impl<R: Region> Volume<R> {
         requires roomy { call_room ≤ (R.memory region).capacity }
         requires blocks { length sets.blocks ≡ block_count (R.memory region).base }
         requires inodes { length sets.inodes ≡ block_inodes * block_count (R.memory region).base }
+        requires counts { length sets.counts ≡ block_inodes * block_count (R.memory region).base }
+        requires frozen { length sets.frozen ≡ block_count (R.memory region).base }
         requires pending { sets.pending ≡ block_inodes * block_count (R.memory region).base }
         ensures same { IfOk result (λ volume. volume ≡ R.memory region) }
-        ensures well_formed { IsOk result ↔ IsWellFormed (R.memory region).base }
+        ensures well_formed { IsOk result ↔ IsFileSystem (R.memory region).base }
         ensures handed_back { IfErr result (λ e. e.0 ≡ region) }
         ensures fault { IfErr result (λ e. IsFault (R.memory region).base e.1) }
     {
         let Sets {
             mut blocks,
             mut inodes,
+            mut counts,
+            frozen,
             mut pending,
         } = sets;
-        match scan(&region, &mut blocks, &mut inodes, &mut pending) {
+        match scan(&region, &mut blocks, &mut inodes, &mut pending, &mut counts) {
             Ok(_) => Ok(Volume {
                 parts: Parts {
                     region,
                     blocks,
                     inodes,
+                    counts,
+                    frozen,
                 },
                 pending,
             }),

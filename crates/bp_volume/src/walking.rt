@@ -17,9 +17,8 @@ ghost use Rattle.bp_volume.specs.Told.{RefusesEntry, RefusesFileAt, RefusesNew, 
 ghost use Rattle.bp_volume.specs.Told.{StopsAtEntry, StopsAtFile, StopsAtNew, StopsWalk};
 ghost use Rattle.pm_region.specs.Memory.{current_words};
 
-use bp_calls::tree_of;
 use bp_dirs::{Spot, find_or_free, inumber};
-use bp_inodes::get;
+use bp_inodes::{get, tree_of};
 use bp_layout::Kind;
 use bp_path::{BadPath, FoundEntry, Path, WalkFault, parse, walk, walk_parent};
 use bp_plain::FsError;

@@ -2,11 +2,13 @@
 
 ghost use Rattle.std.specs.Prelude.{◌≤◌, ℕ, IfErr, IfOk, OnOk, length};
 ghost use Rattle.bp_layout.specs.Inode.{IsFile};
+ghost use Rattle.bp_layout.specs.Formatted.{version_of};
 ghost use Rattle.bp_layout.specs.WellFormed.{IsWellFormed};
-ghost use Rattle.bp_limits.specs.Limits.{call_room, max_write};
+ghost use Rattle.bp_layout.specs.Whole.{IsFileSystem};
+ghost use Rattle.bp_limits.specs.Limits.{call_room, greatest_write};
 ghost use Rattle.bp_plain.specs.Calls.Call.{write};
 ghost use Rattle.bp_plain.specs.Seen.{refusal_of};
-ghost use Rattle.bp_shapes.specs.Sets.{AreExact};
+ghost use Rattle.bp_shapes.specs.Sets.{IsExact};
 ghost use Rattle.bp_volume.specs.Carried.{CarriesOut};
 ghost use Rattle.bp_volume.specs.Seen.{unit_answer};
 ghost use Rattle.bp_volume.specs.Step.{PathFinds};
@@ -16,23 +18,23 @@ ghost use Rattle.pm_region.specs.Memory.{current_words, room_in};
 use crate::refusing::no_space;
 use crate::walking::{bad_path, file_on};
 use bp_free::Parts;
-use bp_limits::{MAX_SIZE, MAX_WRITE};
 use bp_path::parse;
 use bp_plain::FsError;
+use bp_tree::version;
 use pm_region::Region;
 
-/// The inode of the file at a path text, into which bytes are to be written. More than 65,536 of them are too many
-/// whatever stands there.
+/// The inode of the file at a path text, into which bytes are to be written. More of them than the version writes at once
+/// are too many whatever stands there.
 fn file_for<R: Region>(region: &R, text: &[u8], bytes: &[u8]) -> Result<u32, FsError>
     requires { IsWellFormed (current_words (R.memory region.now)) }
     ensures found { IfOk result (λ i. PathFinds (current_words (R.memory region.now)) text.now i) }
     ensures kind { IfOk result (λ i. IsFile (current_words (R.memory region.now)) i) }
-    ensures short { OnOk result (length bytes.now ≤ max_write) }
+    ensures short { OnOk result (length bytes.now ≤ greatest_write (version_of (current_words (R.memory region.now)))) }
     ensures refused { IfErr result (λ e. (off : ℕ) → Refuses (current_words (R.memory region.now))
         (write text.now off bytes.now) (refusal_of e)) }
 {
     let path = parse(text).map_err(bad_path)?;
-    if bytes.len() > MAX_WRITE {
+    if bytes.len() > version(region).greatest_write() {
         return Err(FsError::TooLong);
     }
     let file = file_on(region, &path)?;
@@ -47,20 +49,20 @@ fn write_into<R: Region>(
     off: u64,
     bytes: &[u8],
 ) -> Result<(), FsError>
-    requires well_formed { IsWellFormed (current_words (R.memory parts.old.region)) }
-    requires exact { AreExact (current_words (R.memory parts.old.region)) parts.old.blocks parts.old.inodes }
+    requires well_formed { IsFileSystem (current_words (R.memory parts.old.region)) }
+    requires exact { IsExact (current_words (R.memory parts.old.region)) parts.old }
     requires at { PathFinds (current_words (R.memory parts.old.region)) text.now i }
     requires kind { IsFile (current_words (R.memory parts.old.region)) i }
-    requires short { length bytes.now ≤ max_write }
+    requires short { length bytes.now ≤ greatest_write (version_of (current_words (R.memory parts.old.region))) }
     requires room { call_room ≤ room_in (R.memory parts.old.region) }
     ensures called { CarriesOut (R.memory parts.old.region) (write text.now off bytes.now) (unit_answer result)
         (R.memory parts.new.region) }
-    ensures exact { AreExact (current_words (R.memory parts.new.region)) parts.new.blocks parts.new.inodes }
+    ensures exact { IsExact (current_words (R.memory parts.new.region)) parts.new }
 {
     if bytes.is_empty() {
         return Ok(());
     }
-    if off > MAX_SIZE - bytes.len() as u64 {
+    if off > version(&parts.region).greatest_size() - bytes.len() as u64 {
         return Err(FsError::TooBig);
     }
     bp_calls::write(parts, i, off, bytes).map_err(no_space)
@@ -73,12 +75,12 @@ pub(crate) fn write_at<R: Region>(
     off: u64,
     bytes: &[u8],
 ) -> Result<(), FsError>
-    requires well_formed { IsWellFormed (current_words (R.memory parts.old.region)) }
-    requires exact { AreExact (current_words (R.memory parts.old.region)) parts.old.blocks parts.old.inodes }
+    requires well_formed { IsFileSystem (current_words (R.memory parts.old.region)) }
+    requires exact { IsExact (current_words (R.memory parts.old.region)) parts.old }
     requires room { call_room ≤ room_in (R.memory parts.old.region) }
     ensures called { CarriesOut (R.memory parts.old.region) (write text.now off bytes.now) (unit_answer result)
         (R.memory parts.new.region) }
-    ensures exact { AreExact (current_words (R.memory parts.new.region)) parts.new.blocks parts.new.inodes }
+    ensures exact { IsExact (current_words (R.memory parts.new.region)) parts.new }
 {
     let i = file_for(&parts.region, text, bytes)?;
     write_into(parts, text, i, off, bytes)

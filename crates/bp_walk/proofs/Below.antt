@@ -1,5 +1,6 @@
 -- A step of a walk below a node.
 use Rattle.std.proofs.Common.{◌≡◌, ◌≢◌, ◌⊎◌, ℕ, zero, suc, ◌+◌, ◌*◌, ◌/◌, ◌%◌, ◌<◌, ◌≤◌, Bool, true, false, length, refl, sym, ◌∙◌, ap, subst, arith, inl, inr, ⊎_elim}
+use Rattle.bp_limits.specs.Limits.{max_height, max_size}
 use Rattle.std.proofs.lemmas.Bool.{cases_eq, cases_lt}
 use Rattle.std.proofs.Math.Nat.{mul-le-mul_right}
 use Rattle.bp_free.specs.Set.{Set, has, without}
@@ -291,13 +292,15 @@ small_number number step size some live =
     let more : 1 * number ≤ step * number = mul-le-mul_right number (omega (arith, some)) in
     omega (arith, more, live)
 
-pub covered_most : (rank : ℕ) → rank ≤ 4 → covered rank ≤ 549755813888
+pub covered_most : (rank : ℕ) → rank ≤ suc max_height → covered rank ≤ max_size
 covered_most zero low = omega arith
 covered_most (suc zero) low = omega arith
 covered_most (suc (suc zero)) low = omega arith
 covered_most (suc (suc (suc zero))) low = omega arith
 covered_most (suc (suc (suc (suc zero)))) low = omega arith
-covered_most (suc (suc (suc (suc (suc n))))) low = absurd (omega (arith, low))
+covered_most (suc (suc (suc (suc (suc zero))))) low = omega arith
+covered_most (suc (suc (suc (suc (suc (suc zero)))))) low = omega arith
+covered_most (suc (suc (suc (suc (suc (suc (suc n))))))) low = absurd (omega (arith, low))
 
 pub child_word : (image : Image) (at root size d k p : ℕ) → IsPlace image at root size (suc d) k p → word image p ≡ word_at image root (suc d) k
 child_word image at root size d k p is = ap (word image) (sym is.stands) ∙ word_below image at root d k is.followed.3

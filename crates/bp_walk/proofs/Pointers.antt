@@ -1,5 +1,7 @@
 -- A walk over one more pointer: it names a block that leaves the set, or it is null.
 use Rattle.std.proofs.Common.{◌≡◌, ◌≢◌, ◌⊎◌, ℕ, zero, suc, ◌+◌, ◌*◌, ◌%◌, ◌<◌, ◌≤◌, Bool, true, false, length, refl, sym, ◌∙◌, ap, subst, arith, inl, inr, Result, Ok, Err}
+use Rattle.bp_layout.specs.Formatted.{version_of}
+use Rattle.bp_limits.specs.Limits.{greatest_height}
 use Rattle.std.proofs.lemmas.Bool.{cases_eq, cases_lt}
 use Rattle.std.specs.Result.{OnOk, IfErr}
 use Rattle.bp_free.specs.Set.{Set, has, without}
@@ -121,11 +123,11 @@ module _ (image : Image) (root size : ℕ) (holes : Bool) (d k b : ℕ) (old now
       (nulls (s + n) (omega arith) (omega arith)))
 
 -- the root word has no form
-pub unformed_root : (image : Image) (at root size : ℕ) (holes : Bool) (old : Set) (check : Check) → 0 < size → (IsRootWord root → ⊥) → (3 < height_of root → check ≡ Height) →
-    (height_of root ≤ 3 → check ≡ PointerBits) → FailsTree image at root size holes old check at
-unformed_root image at root size holes old check some unformed high low = go (cases_lt 3 (height_of root))
+pub unformed_root : (image : Image) (at root size : ℕ) (holes : Bool) (old : Set) (check : Check) → 0 < size → (IsRootWord (greatest_height (version_of image)) root → ⊥) → (greatest_height (version_of image) < height_of root → check ≡ Height) →
+    (height_of root ≤ greatest_height (version_of image) → check ≡ PointerBits) → FailsTree image at root size holes old check at
+unformed_root image at root size holes old check some unformed high low = go (cases_lt (greatest_height (version_of image)) (height_of root))
   where
-    go : (3 < height_of root) ⊎ (height_of root ≤ 3) → FailsTree image at root size holes old check at
+    go : (greatest_height (version_of image) < height_of root) ⊎ (height_of root ≤ greatest_height (version_of image)) → FailsTree image at root size holes old check at
     go (inl above) = subst (λ c. FailsTree image at root size holes old c at) (sym (high above)) (height some above)
     go (inr within) = subst (λ c. FailsTree image at root size holes old c at) (sym (low within)) (root_bits some (λ even. unformed (within, even)))
 

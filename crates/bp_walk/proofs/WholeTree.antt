@@ -1,5 +1,7 @@
 -- A walk over a whole tree.
 use Rattle.std.proofs.Common.{◌≡◌, ◌≢◌, ◌⊎◌, ℕ, zero, suc, ◌+◌, ◌*◌, ◌/◌, ◌%◌, ◌<◌, ◌≤◌, Bool, false, length, sym, ◌∙◌, ap, subst, arith, inl, inr}
+use Rattle.bp_layout.specs.Formatted.{version_of}
+use Rattle.bp_limits.specs.Limits.{greatest_height}
 use Rattle.bp_free.specs.Set.{Set}
 use Rattle.bp_layout.specs.Words.{Image, word, block_count, block_of, height_of}
 use Rattle.bp_layout.specs.Tree.{word_at, node, place_of, covered, IsLivePointer}
@@ -29,7 +31,7 @@ to_zero image at root size n _ l p (under u) is = record { live = is.live; follo
 pub root_live : (root size : ℕ) → 0 < size → IsLivePointer root size 0 0
 root_live root size some = record { level = height_of root; height = omega arith; live = omega (arith, some) }
 
-pub root_passes : (image : Image) (root : ℕ) → height_of root ≤ 3 → root / 8 % 512 ≡ 0 → block_of root < block_count image → Passes image root 0 0
+pub root_passes : (image : Image) (root : ℕ) → height_of root ≤ greatest_height (version_of image) → root / 8 % 512 ≡ 0 → block_of root < block_count image → Passes image root 0 0
 unfolding word_at
 root_passes image root low bits in_range = (omega (arith, low, bits), in_range)
 
@@ -72,7 +74,7 @@ whole_tree image at root size holes old mid new rooted fits some passes full one
 
 -- the same where the root word was claimed as any pointer is
 pub claimed_tree : (image : Image) (at root size : ℕ) (holes : Bool) (old mid new : Set) (block : ℕ) → word image at ≡ root → size ≤ covered (suc (height_of root)) → 0 < size →
-    height_of root ≤ 3 → root / 8 % 512 ≡ 0 → length old ≡ block_count image → block_of root ≡ block → ClaimsPointed block holes old mid → WalksBelow image 0 root size holes 0 0 512 mid new →
+    height_of root ≤ greatest_height (version_of image) → root / 8 % 512 ≡ 0 → length old ≡ block_count image → block_of root ≡ block → ClaimsPointed block holes old mid → WalksBelow image 0 root size holes 0 0 512 mid new →
     TakesTree image at root size holes old new
 claimed_tree image at root size holes old mid new block rooted fits some low bits room named claims walks =
     whole_tree image at root size holes old mid new rooted fits some (root_passes image root low bits (omega (arith, named, room, claims.in_range)))

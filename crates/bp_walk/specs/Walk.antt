@@ -1,7 +1,8 @@
 -- What a walk over the pointers of one tree finds.
 use Rattle.std.specs.Prelude.{◌≡◌, ◌≢◌, ◌⊎◌, ℕ, suc, ◌+◌, ◌*◌, ◌/◌, ◌%◌, ◌<◌, ◌≤◌, Bool, true, false}
 use Rattle.bp_free.specs.Set.{Set, has, without}
-use Rattle.bp_limits.specs.Limits.{block_size, block_words}
+use Rattle.bp_limits.specs.Limits.{block_size, block_words, greatest_height}
+use Rattle.bp_layout.specs.Formatted.{version_of}
 use Rattle.bp_layout.specs.Words.{Image, block_count, block_of, height_of}
 use Rattle.bp_layout.specs.Tree.{word_at, node, place_of, covered, IsLivePointer}
 use Rattle.bp_layout.specs.Checks.{IsFollowed, Passes}
@@ -74,7 +75,8 @@ pub record TakesTree (image : Image) (at root size : ℕ) (holes : Bool) (old ne
 
 -- a check that fails in the tree
 pub data FailsTree (image : Image) (at root size : ℕ) (holes : Bool) (old : Set) : Check → ℕ → Type 0 where
-  height : 0 < size → 3 < height_of root → FailsTree image at root size holes old Height at
+  height : 0 < size → greatest_height (version_of image) < height_of root
+      → FailsTree image at root size holes old Height at
   root_bits : 0 < size → root / 8 % 512 ≢ 0 → FailsTree image at root size holes old PointerBits at
   root_range : 0 < size → block_count image ≤ block_of root → FailsTree image at root size holes old Range at
   root_hole : 0 < size → holes ≡ false → block_of root ≡ 0 → FailsTree image at root size holes old Hole at

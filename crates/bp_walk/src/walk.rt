@@ -13,8 +13,8 @@ ghost use Rattle.bp_walk.specs.Walk.{WalksBelow, FailsBelow, TakesTree, FailsTre
 
 use bp_free::Blocks;
 use bp_layout::{Check, RootWord};
-use bp_limits::{BLOCK_WORDS, MAX_HEIGHT};
-use bp_tree::Tree;
+use bp_limits::BLOCK_WORDS;
+use bp_tree::{Tree, version};
 use pm_region::Region;
 
 /// How many pointers are looked at in one go where there may be nulls: a line of a processor's cache.
@@ -30,7 +30,7 @@ pub struct CheckFault {
 }
 
 /// The bytes below a pointer that stands `level` levels above the content words.
-fn span(level: u32) -> u64
+fn covered_bytes(level: u32) -> u64
     requires least { 1 ≤ level }
     requires most { level ≤ suc max_height }
     ensures { result ≡ covered level }
@@ -103,8 +103,8 @@ fn live_slots(size: u64, top: Pointer) -> u32
     ensures all { (slot : ℕ) → slot < block_words → (block_words * top.index + slot) * covered top.level < size
         → slot < result }
 {
-    let rest = size - top.index * span(top.level + 1);
-    ((rest - 1) / span(top.level) + 1).min(BLOCK_WORDS as u64) as u32
+    let rest = size - top.index * covered_bytes(top.level + 1);
+    ((rest - 1) / covered_bytes(top.level) + 1).min(BLOCK_WORDS as u64) as u32
 }
 
 /// Whether all of these pointers are null. It looks at each, which takes less time than to stop at the first that
@@ -198,14 +198,14 @@ fn take_below<R: Region>(
     Ok(())
 }
 
-/// The check that fails at the root word of a tree where it has no form: that of the height where it is too great, else
+/// The check that fails at the root word of a tree where it has no form: that of the height where it is above `top`, else
 /// that of the bits.
-fn root_fault(tree: Tree, place: u32) -> CheckFault
-    ensures high { max_height < height_of tree.root → result.check ≡ Height }
-    ensures low { height_of tree.root ≤ max_height → result.check ≡ PointerBits }
+fn root_fault(tree: Tree, top: u32, place: u32) -> CheckFault
+    ensures high { top < height_of tree.root → result.check ≡ Height }
+    ensures low { height_of tree.root ≤ top → result.check ≡ PointerBits }
     ensures place { result.place ≡ place }
 {
-    let check = if tree.height() > MAX_HEIGHT {
+    let check = if tree.height() > top {
         Check::Height
     } else {
         Check::PointerBits
@@ -240,10 +240,12 @@ pub fn take_tree<R: Region>(
     if tree.size == 0 {
         return Ok(());
     }
-    let Ok(root) = RootWord::read(tree.root) else {
-        return Err(root_fault(tree, at));
+    let version = version(region);
+    let top = version.greatest_height();
+    let Ok(root) = RootWord::read(tree.root, top) else {
+        return Err(root_fault(tree, top, at));
     };
-    if tree.size > span(root.height + 1) {
+    if tree.size > covered_bytes(root.height + 1) {
         return Err(CheckFault {
             check: Check::Capacity,
             place: at + 1,

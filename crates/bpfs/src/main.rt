@@ -1,5 +1,6 @@
-//! `bpfs format FILE --blocks N` makes FILE a file system of N blocks; `bpfs run FILE` serves the script of standard input over
-//! it, and writes the replies to standard output; `bpfs check FILE` says whether FILE is a file system, and what it holds.
+//! `bpfs format FILE --blocks N` makes FILE a file system of N blocks, of version 1 or that of `--version V`; `bpfs run FILE`
+//! serves the script of standard input over it, and writes the replies to standard output; `bpfs check FILE` says whether FILE
+//! is a file system, and what it holds.
 #![tactic(auto)]
 
 ghost use Rattle.std.specs.Prelude.{◌≡◌, IfOk, map, string_bytes};
@@ -36,7 +37,13 @@ fn texts(alloc: Global, words: &[String]) -> Result<Vec<&str>, AllocError>
 /// The name of the file that the words speak of.
 fn file_name<'a>(alloc: Global, words: &'a [&'a str]) -> &'a str {
     match read_words(alloc, words) {
-        Ok(Program::Format { name, blocks: _ }) => name,
+        Ok(
+            Program::Format {
+                name,
+                blocks: _,
+                version: _,
+            },
+        ) => name,
         Ok(Program::Run { name }) => name,
         Ok(Program::Check { name }) => name,
         Ok(

@@ -8,15 +8,14 @@ ghost use Rattle.bp_calls.specs.TouchedAcross.{IsSizeWord, TouchesAcross};
 ghost use Rattle.bp_calls.specs.WritesFile.{WritesFile};
 ghost use Rattle.bp_layout.specs.Inode.{root_of, size_of};
 ghost use Rattle.bp_layout.specs.Need.Change.{writes};
-ghost use Rattle.bp_shapes.specs.Sets.{AreExact};
-ghost use Rattle.bp_tree.specs.Performs.{Performs};
+ghost use Rattle.bp_shapes.specs.Sets.{IsExact, kept_of};
+ghost use Rattle.bp_commit.specs.Performs.{Performs};
 ghost use Rattle.pm_region.specs.Memory.{current_words};
 
-use crate::entering::tree_of;
-use crate::writing::{root_path, size_path};
 use bp_append::{height_with, need_prep, prep};
 use bp_cow::{Run, Touched, commit, need_cover};
 use bp_free::{NoSpace, Parts};
+use bp_inodes::{root_path, size_path, tree_of};
 use bp_tree::{Slots, Tree};
 use pm_region::Region;
 
@@ -62,12 +61,13 @@ pub(crate) fn write_across<R: Region>(
     bytes: &[u8],
 ) -> Result<(), NoSpace>
     requires can { CanWrite (R.memory parts.old.region) parts.old.blocks parts.old.inodes i off bytes.now }
+    requires exact { IsExact (current_words (R.memory parts.old.region)) parts.old }
     requires below { off < size_of (current_words (R.memory parts.old.region)) i }
     requires past { size_of (current_words (R.memory parts.old.region)) i < off + length bytes.now }
-    ensures performs { OnOk result (Performs (R.memory parts.old.region) (R.memory parts.new.region)
+    ensures performs { OnOk result (Performs (kept_of parts.old) (R.memory parts.old.region) (R.memory parts.new.region)
         (writes i off (length bytes.now)) (WritesFile i off bytes.now)) }
-    ensures exact { AreExact (current_words (R.memory parts.new.region)) parts.new.blocks parts.new.inodes }
-    ensures refused { IfErr result (LacksSpace (current_words (R.memory parts.old.region))
+    ensures exact { IsExact (current_words (R.memory parts.new.region)) parts.new }
+    ensures refused { IfErr result (LacksSpace (current_words (R.memory parts.old.region)) (kept_of parts.old)
         (writes i off (length bytes.now))) }
     ensures same { OnErr result (parts.new ≡ parts.old) }
 {

@@ -4,17 +4,16 @@ ghost use Rattle.bp_layout.specs.Below.{rest_below};
 ghost use Rattle.bp_plain.specs.Calls.Call.{rename};
 ghost use Rattle.bp_plain.specs.Plain as plain;
 ghost use Rattle.bp_plain.specs.Seen.{refusal_of};
-ghost use Rattle.bp_plain.specs.SeenTree.{carried_out, names_of, node_seen, with_moved};
-ghost use Rattle.std.specs.FinMap.{empty};
-ghost use Rattle.std.specs.Prelude.{IfOk, OnErr, OnOk, ◌++◌, ◌≡◌, is_some, option_map};
+ghost use Rattle.bp_plain.specs.SeenTree.{carried_out, names_of};
+ghost use Rattle.std.specs.Prelude.{IfOk, None, OnErr, OnOk, ◌≡◌, is_some, option_map};
 
-use super::{Node, Plain};
+use super::Plain;
+use super::maps::FileMap;
 use crate::errors::FsError;
-use crate::paths::{first, is_same, joined, parse, path_of, when};
+use crate::paths::{first, is_same, parse, path_of, when};
 use crate::replies::Reply;
 use bp_layout::Name;
 use std::alloc::{AllocError, Global};
-use std::collections::BTreeMap;
 
 impl Plain {
     // ---- refusals
@@ -29,11 +28,35 @@ impl Plain {
             option_map refusal_of found ≡ plain.refusal self.now (rename from.now to.now)) }
     {
         match (parse(alloc, from)?, parse(alloc, to)?) {
-            (Some(from), Some(to)) => self.refuses_move(alloc, &from, &to),
+            (Some(from), Some(to)) => self.current().refuses_move(alloc, &from, &to),
             _ => Ok(Some(FsError::BadPath)),
         }
     }
 
+    // ---- what a rename makes
+
+    pub(super) fn rename(
+        &mut self,
+        alloc: Global,
+        from: &[u8],
+        to: &[u8],
+        reply: &mut Reply,
+    ) -> Result<(), AllocError>
+        requires { plain.refusal self.old (rename from.now to.now) ≡ None }
+        ensures done { OnOk result ((reply.new.answer, self.new) ≡ carried_out self.old (rename from.now to.now)) }
+        ensures kept { OnErr result (self.new ≡ self.old) }
+    {
+        let from = path_of(alloc, from)?;
+        let to = path_of(alloc, to)?;
+        if !is_same(&from, &to) && !self.current().is_one(&from, &to) {
+            self.current.move_to(alloc, &from, &to)?;
+        }
+        reply.set_done();
+        Ok(())
+    }
+}
+
+impl FileMap {
     /// The same of two paths that are spelled.
     fn refuses_move(
         &self,
@@ -42,7 +65,7 @@ impl Plain {
         to: &[Name],
     ) -> Result<Option<FsError>, AllocError>
         ensures { IfOk result (λ found.
-            option_map refusal_of found ≡ plain.move_refusal self.now (names_of from.now) (names_of to.now)) }
+            option_map refusal_of found ≡ plain.move_refusal self.now.nodes (names_of from.now) (names_of to.now)) }
     {
         let onto_names = self.moves_onto_names(alloc, from, to)?;
         Ok(first(&[
@@ -58,13 +81,13 @@ impl Plain {
     }
 
     fn moves_file_onto_dir(&self, from: &[Name], to: &[Name]) -> bool
-        ensures { result ≡ plain.moves_file_onto_dir self.now (names_of from.now) (names_of to.now) }
+        ensures { result ≡ plain.moves_file_onto_dir self.now.nodes (names_of from.now) (names_of to.now) }
     {
         !self.is_dir(from) && self.is_dir(to)
     }
 
     fn moves_dir_onto_file(&self, from: &[Name], to: &[Name]) -> bool
-        ensures { result ≡ plain.moves_dir_onto_file self.now (names_of from.now) (names_of to.now) }
+        ensures { result ≡ plain.moves_dir_onto_file self.now.nodes (names_of from.now) (names_of to.now) }
     {
         self.is_dir(from) && self.has(to) && !self.is_dir(to)
     }
@@ -76,69 +99,10 @@ impl Plain {
         to: &[Name],
     ) -> Result<bool, AllocError>
         ensures { IfOk result (λ holds.
-            holds ≡ plain.moves_onto_names self.now (names_of from.now) (names_of to.now)) }
+            holds ≡ plain.moves_onto_names self.now.nodes (names_of from.now) (names_of to.now)) }
     {
         let is_empty = self.is_empty_dir(alloc, to)?;
         Ok(!is_same(from, to) && self.is_dir(from) && self.is_dir(to) && !is_empty)
-    }
-
-    // ---- what a rename makes
-
-    pub(super) fn rename(
-        &mut self,
-        alloc: Global,
-        from: &[u8],
-        to: &[u8],
-        reply: &mut Reply,
-    ) -> Result<(), AllocError>
-        ensures done { OnOk result ((reply.new.answer, self.new) ≡ carried_out self.old (rename from.now to.now)) }
-        ensures kept { OnErr result (self.new ≡ self.old) }
-    {
-        let from = path_of(alloc, from)?;
-        let to = path_of(alloc, to)?;
-        if !is_same(&from, &to) {
-            *self = self.moved(alloc, &from, &to)?;
-        }
-        reply.set_done();
-        Ok(())
-    }
-
-    /// A tree in which each path below the one lies below the other, whose own node is gone.
-    fn moved(&self, alloc: Global, from: &[Name], to: &[Name]) -> Result<Plain, AllocError>
-        ensures { IfOk result (λ tree. tree ≡ plain.moved (names_of from.now) (names_of to.now) self.now) }
-    {
-        let mut tree = Plain::with_nothing(alloc);
-        for (path, node) in self.nodes.iter().rev() {
-            tree.put_moved(alloc, from, to, path.as_slice(), node)?;
-        }
-        Ok(tree)
-    }
-
-    /// Not even a root directory.
-    fn with_nothing(alloc: Global) -> Plain
-        ensures { result ≡ empty }
-    {
-        Plain {
-            nodes: BTreeMap::new(alloc),
-        }
-    }
-
-    /// Puts in a copy of what stands at a path of another tree, where it lies after a rename.
-    fn put_moved(
-        &mut self,
-        alloc: Global,
-        from: &[Name],
-        to: &[Name],
-        path: &[Name],
-        node: &Node,
-    ) -> Result<(), AllocError>
-        ensures { OnOk result (self.new
-            ≡ with_moved (names_of from.now) (names_of to.now) (names_of path.now, node_seen node.now) self.old) }
-    {
-        if is_same(path, to) {
-            return Ok(());
-        }
-        self.put(moved_path(alloc, from, to, path)?, copy(node)?)
     }
 }
 
@@ -153,29 +117,4 @@ fn is_below(above: &[Name], path: &[Name]) -> bool
     ensures { result ≡ is_some (rest_below (names_of above.now) (names_of path.now)) }
 {
     path.starts_with(above)
-}
-
-/// Where a path lies, once what is at or below the one is at or below the other.
-fn moved_path(
-    alloc: Global,
-    from: &[Name],
-    to: &[Name],
-    path: &[Name],
-) -> Result<Vec<Name>, AllocError>
-    ensures { IfOk result (λ moved.
-        names_of moved.items ≡ plain.moved_path (names_of from.now) (names_of to.now) (names_of path.now)) }
-{
-    match path.strip_prefix(from) {
-        Some(rest) => joined(alloc, to, rest),
-        None => joined(alloc, path, &[]),
-    }
-}
-
-fn copy(node: &Node) -> Result<Node, AllocError>
-    ensures { IfOk result (λ copied. node_seen copied ≡ node_seen node.now) }
-{
-    match node {
-        Node::Dir => Ok(Node::Dir),
-        Node::File(content) => Ok(Node::File(content.clone()?)),
-    }
 }

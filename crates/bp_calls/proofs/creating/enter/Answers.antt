@@ -1,10 +1,24 @@
-use Rattle.std.proofs.Common.{sym, ◌∙◌}
+use Rattle.std.proofs.Common.{refl, sym, ◌∙◌, subst, arith}
+use Rattle.std.proofs.lemmas.List.{length-set}
+use Rattle.bp_layout.specs.Need.Change.{enters}
+use Rattle.bp_layout.specs.Thaw.{none_kept}
+use Rattle.bp_commit.specs.Performs.{PerformsWithin}
+use Rattle.pm_region.specs.Memory.{current_words}
+use Rattle.bp_calls.specs.Created.{EntersName}
+use Rattle.bp_calls.specs.Entrant.{entrant_of}
+use Rattle.bp_calls.specs.Growth.{stores_behind_growth}
+use Rattle.bp_calls.specs.Steps.{name_need}
+use Rattle.bp_calls.proofs.CountLaws.{exact_with}
 use Rattle.bp_calls.proofs.NewNames.{can_enter_behind, can_name}
+use Rattle.bp_calls.proofs.Refusals.{is_least}
 use Rattle.bp_calls.proofs.creating.enter.Goals as goal
+
+pub set-requires : goal.set-requires
+set-requires g c = omega (arith, c.take_least-inode.ensures.least.low, c.requires.exact.sets.inode_room, c.requires.exact.count_room)
 
 pub enter_slot-requires-clause-can : goal.enter_slot-requires-clause-can
 enter_slot-requires-clause-can g c =
-    can_name (g.R.Region.memory c.args.parts.now.region) c.args.parts.now.blocks c.args.parts.now.inodes c.args.dir c.take-inode.result c.args.name.now c.requires.can c.take-inode.ensures.least
+    can_name (g.R.Region.memory c.args.parts.now.region) c.args.parts.now.blocks c.args.parts.now.inodes c.args.dir c.take_least-inode.result c.args.name.now c.requires.can c.take_least-inode.ensures.least
 
 pub enter_slot-requires-clause-found : goal.enter_slot-requires-clause-found
 enter_slot-requires-clause-found g c = sym c.requires.slot ∙ c.in-Some.is
@@ -12,12 +26,36 @@ enter_slot-requires-clause-found g c = sym c.requires.slot ∙ c.in-Some.is
 pub enter_behind-requires : goal.enter_behind-requires
 enter_behind-requires g c =
     record {
-      can = can_enter_behind (g.R.Region.memory c.args.parts.now.region) c.args.parts.now.blocks c.args.parts.now.inodes c.args.dir c.take-inode.result c.args.name.now c.requires.can c.take-inode.ensures.least
+      can = can_enter_behind (g.R.Region.memory c.args.parts.now.region) c.args.parts.now.blocks c.args.parts.now.inodes c.args.dir c.take_least-inode.result c.args.name.now c.requires.can c.take_least-inode.ensures.least
           (sym c.requires.slot ∙ c.in-None.is);
     }
 
-pub returns-in-Some-clause-exact : goal.returns-in-Some-clause-exact
-returns-in-Some-clause-exact g c = rw c.take-inode.ensures.rest (c.enter_slot.ensures.exact c.args.parts.now.blocks c.args.parts.now.inodes c.requires.can.exact)
+pub returns-in-Some : goal.returns-in-Some
+returns-in-Some g c =
+    let old = g.R.Region.memory c.args.parts.now.region in
+    let new = g.R.Region.memory c.enter_slot.new.region in
+    let needed = name_need (current_words old) c.args.dir in
+    record {
+      performs = λ free least.
+          subst (λ o. PerformsWithin none_kept needed 5 (stores_behind_growth needed) old new (enters c.args.dir (entrant_of o)) (EntersName c.args.dir c.args.name.now c.args.kind))
+          (sym (is_least (current_words old) c.args.parts.now.blocks c.args.parts.now.inodes c.requires.can.exact c.take_least-inode.result c.take_least-inode.ensures.least free least)) c.enter_slot.ensures.performs;
+      exact = exact_with (current_words old) (current_words new) c.args.parts.now _ c.requires.exact
+          (rw c.take_least-inode.ensures.rest (c.enter_slot.ensures.exact c.args.parts.now.blocks c.args.parts.now.inodes c.requires.can.exact)) refl
+          c.enter_slot.ensures.performs.effect.adds.trees.whole (rw c.set.ensures (length-set c.args.parts.now.counts c.take_least-inode.result 1))
+          (rw c.set.ensures (c.enter_slot.ensures.counts c.args.parts.now.counts c.requires.exact.counts));
+    }
 
-pub returns-in-None-clause-exact : goal.returns-in-None-clause-exact
-returns-in-None-clause-exact g c = rw (c.enter_behind.ensures.inodes, c.take-inode.ensures.rest) (c.enter_behind.ensures.exact c.args.parts.now.inodes c.requires.can.exact)
+pub returns-in-None : goal.returns-in-None
+returns-in-None g c =
+    let old = g.R.Region.memory c.args.parts.now.region in
+    let new = g.R.Region.memory c.enter_behind.new.parts.region in
+    let needed = name_need (current_words old) c.args.dir in
+    record {
+      performs = λ free least.
+          subst (λ o. PerformsWithin none_kept needed 5 (stores_behind_growth needed) old new (enters c.args.dir (entrant_of o)) (EntersName c.args.dir c.args.name.now c.args.kind))
+          (sym (is_least (current_words old) c.args.parts.now.blocks c.args.parts.now.inodes c.requires.can.exact c.take_least-inode.result c.take_least-inode.ensures.least free least)) c.enter_behind.ensures.performs;
+      exact = exact_with (current_words old) (current_words new) c.args.parts.now _ c.requires.exact
+          (rw (c.enter_behind.ensures.inodes, c.take_least-inode.ensures.rest) (c.enter_behind.ensures.exact c.args.parts.now.inodes c.requires.can.exact)) c.enter_behind.ensures.frozen
+          c.enter_behind.ensures.performs.effect.adds.trees.whole (rw (c.enter_behind.ensures.counted, c.set.ensures) (length-set c.args.parts.now.counts c.take_least-inode.result 1))
+          (rw (c.enter_behind.ensures.counted, c.set.ensures) (c.enter_behind.ensures.counts c.args.parts.now.counts c.requires.exact.counts));
+    }

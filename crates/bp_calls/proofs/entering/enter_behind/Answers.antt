@@ -6,7 +6,8 @@ use Rattle.bp_layout.specs.Reached.IsReached.{inode_file}
 use Rattle.bp_layout.proofs.Reached.{reached-in_file}
 use Rattle.bp_tree.specs.Within.{IsWithin}
 use Rattle.bp_calls.proofs.EnteredLaws.{directory_inode}
-use Rattle.bp_calls.proofs.InBehind.{behind_performs, behind_exact, put_base, put_room, put_free, put_well_formed_behind}
+use Rattle.bp_calls.proofs.BehindStores.{put_base, put_room, put_well_formed_behind}
+use Rattle.bp_calls.proofs.InBehind.{behind_counts, behind_performs, behind_exact, put_free}
 use Rattle.bp_calls.proofs.PutsLaws.{small_directory}
 use Rattle.bp_calls.proofs.Rooms.{base_after, room_after}
 use Rattle.bp_calls.proofs.entering.enter_behind.Goals as goal
@@ -27,7 +28,7 @@ place-size_place-requires-clause-there g c =
 pub fill-requires-clause-well_formed : goal.fill-requires-clause-well_formed
 fill-requires-clause-well_formed g c =
     let memory = g.R.Region.memory in
-    put_well_formed_behind (memory c.args.parts.now.region) (memory c.put_behind.new.parts.region) c.args.parts.now.blocks c.put_behind.new.parts.blocks c.args.dir c.args.inode c.args.name.now c.requires.can c.put_behind.ensures.puts
+    put_well_formed_behind (memory c.args.parts.now.region) (memory c.put_behind.new.parts.region) c.args.parts.now.blocks c.put_behind.new.parts.blocks c.args.dir c.args.inode c.args.name.now c.requires.can.can c.put_behind.ensures.puts
 
 pub fill-requires-clause-free : goal.fill-requires-clause-free
 fill-requires-clause-free g c =
@@ -37,7 +38,7 @@ fill-requires-clause-free g c =
 pub fill-requires-clause-room : goal.fill-requires-clause-room
 fill-requires-clause-room g c =
     let memory = g.R.Region.memory in
-    let left = put_room (memory c.args.parts.now.region) (memory c.put_behind.new.parts.region) c.args.parts.now.blocks c.put_behind.new.parts.blocks c.args.dir c.args.inode c.args.name.now c.requires.can c.put_behind.ensures.puts in
+    let left = put_room (memory c.args.parts.now.region) (memory c.put_behind.new.parts.region) c.args.parts.now.blocks c.put_behind.new.parts.blocks c.args.dir c.args.inode c.args.name.now c.requires.can.can c.put_behind.ensures.puts in
     omega (arith, left)
 
 pub overflow_add-tree : goal.overflow_add-tree
@@ -49,14 +50,14 @@ overflow_add-tree g c =
 pub commit_word-requires-clause-in_range : goal.commit_word-requires-clause-in_range
 commit_word-requires-clause-in_range g c =
     let memory = g.R.Region.memory in
-    let first = put_base (memory c.args.parts.now.region) (memory c.put_behind.new.parts.region) c.args.parts.now.blocks c.put_behind.new.parts.blocks c.args.dir c.args.inode c.args.name.now c.requires.can c.put_behind.ensures.puts in
+    let first = put_base (memory c.args.parts.now.region) (memory c.put_behind.new.parts.region) c.args.parts.now.blocks c.put_behind.new.parts.blocks c.args.dir c.args.inode c.args.name.now c.requires.can.can c.put_behind.ensures.puts in
     let same = base_after (AnyAt (IsWithin c.fill.ensures.place 3)) 3 (memory c.put_behind.new.parts.region) (memory c.fill.new.region) c.fill.ensures.stores in
     omega (arith, c.place-size_place.ensures.in_range, length-current_words (memory c.args.parts.now.region), first, same)
 
 pub commit_word-requires-clause-room : goal.commit_word-requires-clause-room
 commit_word-requires-clause-room g c =
     let memory = g.R.Region.memory in
-    let left = put_room (memory c.args.parts.now.region) (memory c.put_behind.new.parts.region) c.args.parts.now.blocks c.put_behind.new.parts.blocks c.args.dir c.args.inode c.args.name.now c.requires.can c.put_behind.ensures.puts in
+    let left = put_room (memory c.args.parts.now.region) (memory c.put_behind.new.parts.region) c.args.parts.now.blocks c.put_behind.new.parts.blocks c.args.dir c.args.inode c.args.name.now c.requires.can.can c.put_behind.ensures.puts in
     let less = room_after (AnyAt (IsWithin c.fill.ensures.place 3)) 3 (memory c.put_behind.new.parts.region) (memory c.fill.new.region) c.fill.ensures.stores in
     omega (arith, left, less)
 
@@ -73,3 +74,10 @@ returns-clause-exact g c =
     behind_exact (memory c.args.parts.now.region) (memory c.put_behind.new.parts.region) (memory c.fill.new.region) (memory c.commit_word.new.region) c.args.parts.now.blocks c.put_behind.new.parts.blocks
     c.args.dir c.args.inode c.place-size_place.result c.args.name.now c.args.kind c.requires.can c.put_behind.ensures.puts c.fill.ensures c.place-size_place.ensures.place
     (rw c.tree_of-tree.ensures.size at c.commit_word.ensures) c.put_behind.ensures.blocks
+
+pub returns-clause-counts : goal.returns-clause-counts
+returns-clause-counts g c =
+    let memory = g.R.Region.memory in
+    behind_counts (memory c.args.parts.now.region) (memory c.put_behind.new.parts.region) (memory c.fill.new.region) (memory c.commit_word.new.region) c.args.parts.now.blocks c.put_behind.new.parts.blocks
+    c.args.dir c.args.inode c.place-size_place.result c.args.name.now c.args.kind c.requires.can c.put_behind.ensures.puts c.fill.ensures c.place-size_place.ensures.place
+    (rw c.tree_of-tree.ensures.size at c.commit_word.ensures)

@@ -2,7 +2,7 @@ use Rattle.std.proofs.Common.{◌+◌, ◌*◌, arith}
 use Rattle.pm_epochs.specs.May.{AnyAt}
 use Rattle.pm_region.specs.Memory.{current_words}
 use Rattle.bp_tree.specs.Within.{IsWithin}
-use Rattle.bp_calls.proofs.InSlot.{slot_performs, slot_exact, entry_stands}
+use Rattle.bp_calls.proofs.InSlot.{slot_performs, slot_counts, slot_exact, entry_stands}
 use Rattle.bp_calls.proofs.Refusals.{found_empty}
 use Rattle.bp_calls.proofs.Rooms.{base_after, room_after, row_in_range}
 use Rattle.bp_calls.proofs.entering.enter_slot.Goals as goal
@@ -54,6 +54,14 @@ pub returns-clause-exact : goal.returns-clause-exact
 returns-clause-exact g c =
     let memory = g.R.Region.memory in
     slot_exact (memory c.args.region.now) (memory c.fill.new.region) (memory c.put_name.new.region) (memory c.commit_word.new.region) c.args.dir c.args.slot c.args.inode c.entry_place-entry.result c.args.name.now c.args.kind
+    c.requires.can c.requires.found
+    (entry_stands (current_words (memory c.args.region.now)) c.args.dir c.args.slot c.entry_place-entry.result c.tree_of-tree.result.root c.tree_of-tree.ensures.root c.entry_place-entry.ensures.place c.entry_place-entry.ensures.present)
+    c.fill.ensures c.put_name.ensures.stores c.put_name.ensures.name (rw c.from.ensures at c.commit_word.ensures)
+
+pub returns-clause-counts : goal.returns-clause-counts
+returns-clause-counts g c =
+    let memory = g.R.Region.memory in
+    slot_counts (memory c.args.region.now) (memory c.fill.new.region) (memory c.put_name.new.region) (memory c.commit_word.new.region) c.args.dir c.args.slot c.args.inode c.entry_place-entry.result c.args.name.now c.args.kind
     c.requires.can c.requires.found
     (entry_stands (current_words (memory c.args.region.now)) c.args.dir c.args.slot c.entry_place-entry.result c.tree_of-tree.result.root c.tree_of-tree.ensures.root c.entry_place-entry.ensures.place c.entry_place-entry.ensures.present)
     c.fill.ensures c.put_name.ensures.stores c.put_name.ensures.name (rw c.from.ensures at c.commit_word.ensures)

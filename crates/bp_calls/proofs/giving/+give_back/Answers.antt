@@ -8,7 +8,6 @@ use Rattle.bp_tree.proofs.RegionWords.{length_now}
 use Rattle.bp_append.proofs.TallyLaws.{span-positive}
 use Rattle.bp_calls.proofs.GivenUpLaws.{null_given_up, gives_none, leaf_gives, top_in_range, top_block, slots_begin, slots_step, slots_end, not_yet, child_is_sound, child_is_lower, slot_live, slots_order}
 use Rattle.bp_calls.proofs.giving.+give_back.Goals as goal
-use Rattle.bp_calls.proofs.giving.+give_back.Goals.{in-Some, in-None}
 
 pub overflow_cast-top : goal.overflow_cast-top
 overflow_cast-top g t c =
@@ -60,15 +59,15 @@ give_back-requires g t c κs within =
     let high : height_of c.args.tree.root ≡ suc (height_of c.args.tree.root - 1) = omega (arith, c.height-height.ensures, c.if-height-eq0.false) in
     let live : c.loop-slot.slot * span (height_of c.args.tree.root - 1) < c.args.tree.size =
     slot_live image c.args.tree.root c.args.tree.size (height_of c.args.tree.root - 1) c.args.shorter c.requires.sound c.if-tree-shorter.false (rw c.block-top.ensures at c.if-top-eq0.false) high c.loop-slot.slot (rw is at c.loop-slot-test.true) in
-    let lower : height_of c.in-Some.below.root ≡ height_of c.args.tree.root - 1 = ap height_of c.in-Some.ensures.root ∙ child_is_lower image c.args.tree.root c.args.tree.size (height_of c.args.tree.root - 1) c.args.shorter c.requires.sound c.if-tree-shorter.false (rw c.block-top.ensures at c.if-top-eq0.false) high c.loop-slot.slot live in (
+    let lower : height_of c.child-below.result.root ≡ height_of c.args.tree.root - 1 = ap height_of c.child-below.ensures.root ∙ child_is_lower image c.args.tree.root c.args.tree.size (height_of c.args.tree.root - 1) c.args.shorter c.requires.sound c.if-tree-shorter.false (rw c.block-top.ensures at c.if-top-eq0.false) high c.loop-slot.slot live in (
       omega (arith, c.decreases, lower, high),
       (
         within,
         (
-          rw (c.in-Some.ensures.root, c.in-Some.ensures.size) (child_is_sound image c.args.tree.root c.args.tree.size (height_of c.args.tree.root - 1) c.args.shorter c.requires.sound c.if-tree-shorter.false (rw c.block-top.ensures at c.if-top-eq0.false) high c.loop-slot.slot live),
+          rw (c.child-below.ensures.root, c.child-below.ensures.size) (child_is_sound image c.args.tree.root c.args.tree.size (height_of c.args.tree.root - 1) c.args.shorter c.requires.sound c.if-tree-shorter.false (rw c.block-top.ensures at c.if-top-eq0.false) high c.loop-slot.slot live),
           (
             c.loop-slot.invariant.room ∙ c.requires.room,
-            rw (c.in-Some.ensures.root, c.in-Some.ensures.size) (not_yet image c.args.tree.root c.args.tree.size (height_of c.args.tree.root - 1) c.args.shorter c.requires.sound c.if-tree-shorter.false (rw c.block-top.ensures at c.if-top-eq0.false) high c.loop-slot.slot c.args.blocks.now c.loop-slot.blocks live c.requires.taken c.loop-slot.invariant),
+            rw (c.child-below.ensures.root, c.child-below.ensures.size) (not_yet image c.args.tree.root c.args.tree.size (height_of c.args.tree.root - 1) c.args.shorter c.requires.sound c.if-tree-shorter.false (rw c.block-top.ensures at c.if-top-eq0.false) high c.loop-slot.slot c.args.blocks.now c.loop-slot.blocks live c.requires.taken c.loop-slot.invariant),
           ),
         ),
       ),
@@ -81,20 +80,9 @@ loop-slot-preserved g t c =
     let high : height_of c.args.tree.root ≡ suc (height_of c.args.tree.root - 1) = omega (arith, c.height-height.ensures, c.if-height-eq0.false) in
     let live : c.loop-slot.slot * span (height_of c.args.tree.root - 1) < c.args.tree.size =
     slot_live image c.args.tree.root c.args.tree.size (height_of c.args.tree.root - 1) c.args.shorter c.requires.sound c.if-tree-shorter.false (rw c.block-top.ensures at c.if-top-eq0.false) high c.loop-slot.slot (rw is at c.loop-slot-test.true) in
-    elim c.match-subtree.branch [
-      | in-Some w ↦
-          let shorter : w.saturating_sub.result ≡ c.args.shorter - c.loop-slot.slot * span (height_of c.args.tree.root - 1) = w.saturating_sub.ensures ∙ ap (λ s. c.args.shorter - c.loop-slot.slot * s) is in
-          rw w.blocks-is
-          (slots_step image c.args.tree.root c.args.tree.size (height_of c.args.tree.root - 1) c.args.shorter c.requires.sound c.if-tree-shorter.false (rw c.block-top.ensures at c.if-top-eq0.false) high c.loop-slot.slot c.args.blocks.now c.loop-slot.blocks w.give_back.new.blocks live c.loop-slot.invariant
-          (rw (w.in-Some.ensures.root, w.in-Some.ensures.size, shorter) at w.give_back.ensures))
-      | in-None w ↦
-          let low : height_of c.args.tree.root - 1 < 4096 = omega arith in
-          let null : block_of (child image (block_of c.args.tree.root) (height_of c.args.tree.root - 1) c.loop-slot.slot) ≡ 0 = omega (arith, low, w.in-None.ensures.none) in
-          rw w.blocks-is
-          (slots_step image c.args.tree.root c.args.tree.size (height_of c.args.tree.root - 1) c.args.shorter c.requires.sound c.if-tree-shorter.false (rw c.block-top.ensures at c.if-top-eq0.false) high c.loop-slot.slot c.args.blocks.now c.loop-slot.blocks c.loop-slot.blocks live c.loop-slot.invariant
-          (gives_none _ c.loop-slot.blocks (λ b. null_given_up image (child image (block_of c.args.tree.root) (height_of c.args.tree.root - 1) c.loop-slot.slot) (piece c.args.tree.size (height_of c.args.tree.root - 1) c.loop-slot.slot)
-          (c.args.shorter - c.loop-slot.slot * span (height_of c.args.tree.root - 1)) b null)))
-    ]
+    let shorter : c.saturating_sub.result ≡ c.args.shorter - c.loop-slot.slot * span (height_of c.args.tree.root - 1) = c.saturating_sub.ensures ∙ ap (λ s. c.args.shorter - c.loop-slot.slot * s) is in
+    slots_step image c.args.tree.root c.args.tree.size (height_of c.args.tree.root - 1) c.args.shorter c.requires.sound c.if-tree-shorter.false (rw c.block-top.ensures at c.if-top-eq0.false) high c.loop-slot.slot c.args.blocks.now c.loop-slot.blocks c.give_back.new.blocks live c.loop-slot.invariant
+    (rw (c.child-below.ensures.root, c.child-below.ensures.size, shorter) at c.give_back.ensures)
 
 pub returns : goal.returns
 returns g t c =

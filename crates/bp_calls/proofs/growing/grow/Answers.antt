@@ -3,6 +3,7 @@ use Rattle.pm_region.proofs.MemoryLaws.{adds_both, room_in-adds}
 use Rattle.pm_region.specs.Memory.{current_words}
 use Rattle.bp_calls.proofs.GrowthRoom.{inodes_end_fits, can_prepare_at, last_fits, last_low, base_prepared, room_prepared, grew, exact_behind, left_behind}
 use Rattle.bp_calls.proofs.growing.grow.Goals as goal
+use Rattle.bp_calls.proofs.CountLaws.{exact_meaning}
 
 pub overflow_add-end : goal.overflow_add-end
 overflow_add-end g c =
@@ -45,8 +46,11 @@ returns g c =
     let is = c.inode_file-size.ensures.size in
     let prepares = c.prep.ensures.prepares 0 in
     let stored = adds_both middle (g.R.Region.memory c.store.new.self) new _ _ c.store.ensures c.barrier.ensures in
+    let grows = grew old blocks inodes c.new.result.items size c.requires.can c.new.ensures is middle after prepares new stored in
     record {
-      grows = grew old blocks inodes c.new.result.items size c.requires.can c.new.ensures is middle after prepares new stored;
-      exact = exact_behind old blocks inodes c.new.result.items size c.requires.can c.new.ensures is middle after prepares new stored c.fill.new.self c.prep.ensures.room (rw c.prep.ensures.inodes at c.fill.ensures);
+      grows = grows;
+      exact = exact_meaning (current_words old) (current_words new) c.args.parts.now _ c.requires.exact
+          (exact_behind old blocks inodes c.new.result.items size c.requires.can c.new.ensures is middle after prepares new stored c.fill.new.self c.prep.ensures.room (rw c.prep.ensures.inodes at c.fill.ensures))
+          c.prep.ensures.frozen c.prep.ensures.counts c.requires.can.well_formed grows.grown.meaning;
       left = left_behind old blocks inodes c.new.result.items size c.requires.can c.new.ensures is middle after prepares;
     }

@@ -20,4 +20,4 @@ returns-clause-few g c =
     let words = current_words (g.R.Region.memory c.args.region.now) in
     let inodes = c.inode_file-inodes in
     let sound : IsSound words inodes.result.root inodes.result.size = rw (inodes.ensures.root, inodes.ensures.size) (c.requires.sound 0 inode_file) in
-    omega (arith, c.need_prep.ensures, few_needed words inodes.result.root inodes.result.size inodes.result.size (inodes.result.size + 4096) (omega arith) (omega arith) sound.low)
+    omega (arith, c.need_prep.ensures, few_needed words inodes.result.root inodes.result.size inodes.result.size (inodes.result.size + 4096) 1 (omega arith) (omega arith) (omega arith) sound.low)

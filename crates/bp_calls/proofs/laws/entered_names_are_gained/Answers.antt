@@ -1,4 +1,4 @@
-use Rattle.bp_calls.proofs.StandsLaws.{entered_gains}
+use Rattle.bp_calls.proofs.EnteredStands.{entered_gains}
 use Rattle.bp_calls.proofs.laws.entered_names_are_gained.Goals as goal
 
 pub returns : goal.returns

@@ -8,6 +8,7 @@ use Rattle.pm_region.specs.Memory.{current_words}
 use Rattle.pm_region.proofs.MemoryLaws.{length-current_words}
 use Rattle.bp_calls.proofs.Longer.{refused, prepares, room_behind, grew}
 use Rattle.bp_calls.proofs.resizing.grow_file.Goals as goal
+use Rattle.bp_calls.proofs.CountLaws.{exact_file}
 
 pub returns-then-free-need-clause-refused : goal.returns-then-free-need-clause-refused
 returns-then-free-need-clause-refused g c =
@@ -48,4 +49,10 @@ returns g c =
       room = c.prep.ensures.room;
       stored = c.commit_word.ensures;
     }) in
-    record { performs = done.0; exact = rw c.prep.ensures.inodes done.1; refused = tt; same = tt }
+    record {
+      performs = done.0;
+      exact = exact_file _ _ c.args.parts.now _ c.requires.exact (rw c.prep.ensures.inodes done.1) c.prep.ensures.frozen c.prep.ensures.counts c.args.i
+          c.requires.can.well_formed done.0.effect.changes;
+      refused = tt;
+      same = tt;
+    }

@@ -1,10 +1,11 @@
-use Rattle.std.proofs.Common.{arith}
+use Rattle.std.proofs.Common.{refl, arith}
 use Rattle.bp_layout.specs.Reached.IsReached.{inode_file}
 use Rattle.bp_layout.proofs.Reached.{reached-in_file}
 use Rattle.pm_region.specs.Memory.{current_words}
 use Rattle.pm_region.proofs.MemoryLaws.{length-current_words}
 use Rattle.bp_calls.proofs.Shorter.{Shrinks, can_give_back, shrunk}
 use Rattle.bp_calls.proofs.resizing.shrink_file.Goals as goal
+use Rattle.bp_calls.proofs.CountLaws.{exact_file}
 
 pub place-size_place-requires-clause-sound : goal.place-size_place-requires-clause-sound
 place-size_place-requires-clause-sound g c = c.requires.well_formed.sound 0 inode_file
@@ -20,7 +21,7 @@ give_back-requires g c =
     let memory = g.R.Region.memory in
     let shrinks : Shrinks (current_words (memory c.args.parts.now.region)) c.args.parts.now.blocks c.args.parts.now.inodes c.args.i c.args.size c.place-size_place.result = record {
       well_formed = c.requires.well_formed;
-      exact = c.requires.exact;
+      exact = c.requires.exact.sets;
       reached = c.requires.reached;
       is_file = c.requires.file;
       smaller = rw (← c.requires.size) c.requires.smaller;
@@ -35,7 +36,7 @@ returns g c =
     let memory = g.R.Region.memory in
     let shrinks : Shrinks (current_words (memory c.args.parts.now.region)) c.args.parts.now.blocks c.args.parts.now.inodes c.args.i c.args.size c.place-size_place.result = record {
       well_formed = c.requires.well_formed;
-      exact = c.requires.exact;
+      exact = c.requires.exact.sets;
       reached = c.requires.reached;
       is_file = c.requires.file;
       smaller = rw (← c.requires.size) c.requires.smaller;
@@ -43,4 +44,4 @@ returns g c =
     } in
     let done = shrunk (memory c.args.parts.now.region) (memory c.commit_word.new.region) c.args.parts.now.blocks c.give_back.new.blocks c.args.parts.now.inodes c.args.i c.args.size c.place-size_place.result c.args.tree.root c.args.tree.size
     c.requires.root c.requires.size shrinks c.commit_word.ensures c.give_back.ensures in
-    record { performs = done.0; exact = done.1 }
+    record { performs = done.0; exact = exact_file _ _ c.args.parts.now _ c.requires.exact done.1 refl refl c.args.i c.requires.well_formed done.0.effect.changes }

@@ -7,6 +7,7 @@ use Rattle.bp_layout.proofs.Reached.{reached-in_file}
 use Rattle.bp_append.specs.Prepared.{CanPrepare}
 use Rattle.bp_calls.proofs.WriteBehind.{behind_lacks, behind_can, prepared_base, prepared_room, behind_performs_at, behind_exact_at}
 use Rattle.bp_calls.proofs.writing.write_behind.Goals as goal
+use Rattle.bp_calls.proofs.CountLaws.{exact_file}
 
 pub returns-then-free-need-clause-refused : goal.returns-then-free-need-clause-refused
 returns-then-free-need-clause-refused g c =
@@ -70,6 +71,9 @@ returns-clause-exact g c =
     let prepares : CanPrepare (memory c.args.parts.now.region) (members c.args.parts.now.blocks) c.args.i c.root_path-root.result.items c.args.off (c.args.off + length c.args.bytes.now) =
     behind_can (memory c.args.parts.now.region) c.args.parts.now.blocks c.args.parts.now.inodes c.args.off c.args.bytes.now c.args.i _ _ c.need_prep-need.result c.root_path-root.result.items c.requires.can c.requires.behind
     c.tree_of-tree.ensures.root c.tree_of-tree.ensures.size c.need_prep-need.ensures enough c.root_path-root.ensures in
-    rw c.prep.ensures.inodes
+    let done = returns-clause-performs g c in
+    exact_file _ _ c.args.parts.now _ c.requires.exact
+    (rw c.prep.ensures.inodes
     (behind_exact_at (memory c.args.parts.now.region) c.args.parts.now.blocks c.args.parts.now.inodes c.args.off c.args.bytes.now (memory c.prep.new.parts.region) c.prep.new.parts.blocks (memory c.commit_word.new.region)
-    c.root_path-root.result.items c.place-size_place.result c.args.i c.requires.can c.requires.behind prepares c.place-size_place.ensures.place (c.prep.ensures.prepares c.args.i prepares) c.commit_word.ensures c.prep.ensures.room)
+    c.root_path-root.result.items c.place-size_place.result c.args.i c.requires.can c.requires.behind prepares c.place-size_place.ensures.place (c.prep.ensures.prepares c.args.i prepares) c.commit_word.ensures c.prep.ensures.room))
+    c.prep.ensures.frozen c.prep.ensures.counts c.args.i c.requires.can.well_formed done.effect.changes

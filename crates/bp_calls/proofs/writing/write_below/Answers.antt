@@ -16,6 +16,7 @@ use Rattle.bp_cow.proofs.JobLaws.{first-range}
 use Rattle.bp_calls.proofs.WriteBelow.{write_can, write_room, write_lacks, write_performs, write_exact}
 use Rattle.bp_calls.specs.TouchedBelow.{WritesBelow}
 use Rattle.bp_calls.proofs.writing.write_below.Goals as goal
+use Rattle.bp_calls.proofs.CountLaws.{exact_file}
 
 pub touched_below-touched-requires-clause-some : goal.touched_below-touched-requires-clause-some
 touched_below-touched-requires-clause-some g c = omega (arith, c.requires.can.well_formed.formatted.sized.whole, c.requires.can.well_formed.formatted.sized.at_least)
@@ -74,9 +75,12 @@ returns g c =
     let touched = c.touched_below-touched.result in
     let write : WritesBelow old blocks inodes c.args.i c.args.off c.args.bytes.now touched = record { can = c.requires.can; below = c.requires.below; touches = c.touched_below-touched.ensures } in
     let small : (k : ℕ) → slice_index c.args.bytes.now k < 256 = λ k. omega (arith, c.type_inv.bytes k) in
+    let done = write_performs old blocks inodes c.args.i c.args.off c.args.bytes.now touched write new c.commit_at.new.parts.blocks small c.commit_at.ensures.commits in
     record {
-      performs = write_performs old blocks inodes c.args.i c.args.off c.args.bytes.now touched write new c.commit_at.new.parts.blocks small c.commit_at.ensures.commits;
-      exact = rw c.commit_at.ensures.inodes (write_exact old blocks inodes c.args.i c.args.off c.args.bytes.now touched write new c.commit_at.new.parts.blocks small c.commit_at.ensures.commits c.commit_at.ensures.size);
+      performs = done;
+      exact = exact_file (current_words old) (current_words new) c.args.parts.now _ c.requires.exact
+          (rw c.commit_at.ensures.inodes (write_exact old blocks inodes c.args.i c.args.off c.args.bytes.now touched write new c.commit_at.new.parts.blocks small c.commit_at.ensures.commits c.commit_at.ensures.size))
+          c.commit_at.ensures.frozen c.commit_at.ensures.counts c.args.i c.requires.can.well_formed done.effect.changes;
       refused = tt;
       same = tt;
     }

@@ -11,5 +11,5 @@ ghost-commit_copies g a = record {
   job = job_of a.touched.now;
   place = a.place;
   top = 0;
-  taken = has a.blocks.now;
+  free_after = has a.blocks.now;
 }

@@ -1,11 +1,10 @@
 use Rattle.std.proofs.Common.{◌≡◌, ℕ, List, ◌<◌, ◌∙◌, ap, sym, subst, arith, length, Bool}
-use Rattle.bp_free.specs.Set.{has}
+use Rattle.bp_free.specs.Set.{TakesNumber, has}
 use Rattle.pm_region.specs.Memory.{current_words}
 use Rattle.bp_layout.specs.Words.{block_count}
 use Rattle.bp_shapes.specs.Trail.{block_on, IsSkeleton}
 use Rattle.bp_shapes.specs.Forest.{IsTreePointer}
 use Rattle.bp_shapes.proofs.ForestLaws.{skeleton}
-use Rattle.bp_cow.specs.Copies.{TakesBlock}
 use Rattle.bp_cow.specs.Job.{ways, front}
 use Rattle.bp_cow.specs.Plan.{planned}
 use Rattle.bp_cow.specs.Return.{IsBack, CanGive}
@@ -22,21 +21,21 @@ give-requires-clause-in_range g c =
 
 pub give-requires-clause-used : goal.give-requires-clause-used
 give-requires-clause-used g c =
-    ap (λ (f : ℕ → Bool). f c.args.top) (sym c.requires.1.1.1.0) ∙ ap g.plan.taken c.requires.1.1.1.1.0 ∙ cover_used (planned g.plan c.args.touched.now) c.args.from g.plan.taken (current_words (g.R.Region.memory c.args.region.now)) c.requires.1.1.0 (λ null. c.if-top-ne0.true (c.requires.1.1.1.1.0 ∙ null))
+    ap (λ (f : ℕ → Bool). f c.args.top) (sym c.requires.1.1.1.0) ∙ ap g.plan.free_after c.requires.1.1.1.1.0 ∙ cover_used (planned g.plan c.args.touched.now) c.args.from g.plan.free_after (current_words (g.R.Region.memory c.args.region.now)) c.requires.1.1.0 (λ null. c.if-top-ne0.true (c.requires.1.1.1.1.0 ∙ null))
 
 pub loop-i-init : goal.loop-i-init
 loop-i-init g c =
-    let taken : g.plan.taken ≡ has c.args.blocks.now = c.requires.1.1.1.0 in
+    let taken : g.plan.free_after ≡ has c.args.blocks.now = c.requires.1.1.1.0 in
     elim c.if-top-ne0.branch [
       | then-top-ne0 w ↦ record {
-        back = subst (λ (bs : List Bool). IsBack (planned g.plan c.args.touched.now) c.args.from 0 c.args.from g.plan.taken (has bs)) (sym w.blocks-is)
-            (back_cover (planned g.plan c.args.touched.now) c.args.from g.plan.taken (current_words (g.R.Region.memory c.args.region.now)) c.requires.1.1.0 (λ null. w.if-top-ne0.true (c.requires.1.1.1.1.0 ∙ null)) (has w.give.new.blocks)
-            (subst (TakesBlock (has w.give.new.blocks) g.plan.taken) c.requires.1.1.1.1.0 (subst (λ (f : ℕ → Bool). TakesBlock (has w.give.new.blocks) f c.args.top) (sym taken) w.give.ensures.given)));
+        back = subst (λ (bs : List Bool). IsBack (planned g.plan c.args.touched.now) c.args.from 0 c.args.from g.plan.free_after (has bs)) (sym w.blocks-is)
+            (back_cover (planned g.plan c.args.touched.now) c.args.from g.plan.free_after (current_words (g.R.Region.memory c.args.region.now)) c.requires.1.1.0 (λ null. w.if-top-ne0.true (c.requires.1.1.1.1.0 ∙ null)) (has w.give.new.blocks)
+            (subst (TakesNumber (has w.give.new.blocks) g.plan.free_after) c.requires.1.1.1.1.0 (subst (λ (f : ℕ → Bool). TakesNumber (has w.give.new.blocks) f c.args.top) (sym taken) w.give.ensures.given)));
         size = ap (λ (bs : List Bool). length bs) w.blocks-is ∙ w.give.ensures.size;
       }
       | else-top-ne0 w ↦ record {
-        back = subst (λ (bs : List Bool). IsBack (planned g.plan c.args.touched.now) c.args.from 0 c.args.from g.plan.taken (has bs)) (sym w.blocks-is)
-            (subst (λ (f : ℕ → Bool). IsBack (planned g.plan c.args.touched.now) c.args.from 0 c.args.from g.plan.taken f) taken (back_null (planned g.plan c.args.touched.now) c.args.from g.plan.taken (current_words (g.R.Region.memory c.args.region.now)) c.requires.1.1.0 (sym c.requires.1.1.1.1.0 ∙ w.if-top-ne0.false)));
+        back = subst (λ (bs : List Bool). IsBack (planned g.plan c.args.touched.now) c.args.from 0 c.args.from g.plan.free_after (has bs)) (sym w.blocks-is)
+            (subst (λ (f : ℕ → Bool). IsBack (planned g.plan c.args.touched.now) c.args.from 0 c.args.from g.plan.free_after f) taken (back_null (planned g.plan c.args.touched.now) c.args.from g.plan.free_after (current_words (g.R.Region.memory c.args.region.now)) c.requires.1.1.0 (sym c.requires.1.1.1.1.0 ∙ w.if-top-ne0.false)));
         size = ap (λ (bs : List Bool). length bs) w.blocks-is;
       }
     ]
@@ -59,4 +58,4 @@ loop-i-preserved g c =
 pub returns-clause-back : goal.returns-clause-back
 returns-clause-back g c =
     let end : c.loop-i.i ≡ ways (job_of c.args.touched.now) = omega (arith, c.loop-i-test.false, c.loop-i.auto.i-end, c.ways-ways.ensures) in
-    subst (λ n. IsBack (planned g.plan c.args.touched.now) c.args.from n c.args.from g.plan.taken (has c.loop-i.blocks)) end c.loop-i.invariant.back
+    subst (λ n. IsBack (planned g.plan c.args.touched.now) c.args.from n c.args.from g.plan.free_after (has c.loop-i.blocks)) end c.loop-i.invariant.back

@@ -35,4 +35,4 @@ pub returns-clause-back : goal.returns-clause-back
 returns-clause-back g c =
     let high : c.args.from ≤ (length ((job_of c.args.touched.now).way c.args.i)) = c.requires.1.1.0.way.high in
     let end : c.loop-depth.depth ≡ (length ((job_of c.args.touched.now).way c.args.i)) = omega (arith, high, c.way_len-end.ensures, c.loop-depth.auto.depth-end (omega (arith, high, c.way_len-end.ensures)), c.loop-depth-test.false) in
-    back_word (planned g.plan c.args.touched.now) c.args.from c.args.i c.loop-depth.depth g.plan.taken (has c.loop-depth.blocks) c.requires.1.1.0.way.can c.requires.1.1.0.way.here end c.loop-depth.auto.depth c.loop-depth.invariant.back
+    back_word (planned g.plan c.args.touched.now) c.args.from c.args.i c.loop-depth.depth g.plan.free_after (has c.loop-depth.blocks) c.requires.1.1.0.way.can c.requires.1.1.0.way.here end c.loop-depth.auto.depth c.loop-depth.invariant.back

@@ -7,7 +7,8 @@ use Rattle.bp_calls.proofs.Refusals.{found_empty}
 use Rattle.bp_calls.proofs.Rooms.{room_after, row_in_range}
 use Rattle.bp_rename.proofs.EntryPaths.{directory_some}
 use Rattle.bp_rename.proofs.IntoLaws.{mid_formed}
-use Rattle.bp_rename.proofs.IntoMoved.{into_copies, into_exact, into_fits, into_performs, into_ready, into_room}
+use Rattle.bp_rename.proofs.IntoMoved.{into_copies, into_counts, into_exact, into_fits, into_performs, into_ready, into_room, into_whole_image}
+use Rattle.bp_rename.proofs.KeptCounts.{exact_kept}
 use Rattle.bp_rename.proofs.TwoWords.{touches_two}
 use Rattle.bp_rename.proofs.across.move_into.Goals as goal
 
@@ -60,14 +61,14 @@ commit-requires g c κs inside =
     let move = c.args.to_move.now in
     let stands = entry_stands (current_words old) move.to_dir c.args.slot c.entry_place-entry.result c.tree_of-target.result.root c.tree_of-target.ensures.root c.entry_place-entry.ensures.place c.entry_place-entry.ensures.present in
     let ready = into_ready old third mid move c.args.slot c.entry_place-entry.result c.requires.can c.requires.new c.requires.other c.requires.found stands c.put_name.ensures.stores c.put_name.ensures.name c.barrier.ensures
-    c.touched_two-touched.result touches c.args.parts.now.blocks c.args.parts.now.inodes c.requires.exact c.requires.room in
+    c.touched_two-touched.result touches c.args.parts.now.blocks c.args.parts.now.inodes c.requires.exact.sets c.requires.room in
     let room = into_room old third mid move c.args.slot c.entry_place-entry.result c.requires.can c.requires.new c.requires.other c.requires.found stands c.put_name.ensures.stores c.put_name.ensures.name c.barrier.ensures
-    c.touched_two-touched.result touches c.args.parts.now.blocks c.args.parts.now.inodes c.requires.exact c.requires.room in
+    c.touched_two-touched.result touches c.args.parts.now.blocks c.args.parts.now.inodes c.requires.exact.sets c.requires.room in
     let count = into_copies old third mid move c.args.slot c.entry_place-entry.result c.requires.can c.requires.new c.requires.other c.requires.found stands c.put_name.ensures.stores c.put_name.ensures.name c.barrier.ensures
-    c.touched_two-touched.result touches c.args.parts.now.blocks c.args.parts.now.inodes c.requires.exact c.requires.room in
+    c.touched_two-touched.result touches c.args.parts.now.blocks c.args.parts.now.inodes c.requires.exact.sets c.requires.room in
     let formed = mid_formed old third mid move c.args.slot c.entry_place-entry.result c.requires.can c.requires.new c.requires.other c.requires.found stands c.put_name.ensures.stores c.put_name.ensures.name c.barrier.ensures in
     let fits = into_fits old third mid move c.args.slot c.entry_place-entry.result c.requires.can c.requires.new c.requires.other c.requires.found stands c.put_name.ensures.stores c.put_name.ensures.name c.barrier.ensures
-    c.touched_two-touched.result touches c.args.parts.now.blocks c.args.parts.now.inodes c.requires.exact c.requires.room in
+    c.touched_two-touched.result touches c.args.parts.now.blocks c.args.parts.now.inodes c.requires.exact.sets c.requires.room in
     (inside, record { well_formed = formed; can = ready; fits = fits; some = omega (arith, count, c.requires.enough); room = room })
 
 pub returns-clause-performs : goal.returns-clause-performs
@@ -80,7 +81,7 @@ returns-clause-performs g c =
     let move = c.args.to_move.now in
     let stands = entry_stands (current_words old) move.to_dir c.args.slot c.entry_place-entry.result c.tree_of-target.result.root c.tree_of-target.ensures.root c.entry_place-entry.ensures.place c.entry_place-entry.ensures.present in
     into_performs old third mid move c.args.slot c.entry_place-entry.result c.requires.can c.requires.new c.requires.other c.requires.found stands c.put_name.ensures.stores c.put_name.ensures.name c.barrier.ensures
-    c.touched_two-touched.result touches c.args.parts.now.blocks c.args.parts.now.inodes c.requires.exact c.requires.room
+    c.touched_two-touched.result touches c.args.parts.now.blocks c.args.parts.now.inodes c.requires.exact.sets c.requires.room
     new c.commit.new.parts.blocks c.commit.ensures.commits c.commit.ensures.size
 
 pub returns-clause-exact : goal.returns-clause-exact
@@ -92,7 +93,15 @@ returns-clause-exact g c =
     let new : Memory = g.R.Region.memory c.commit.new.parts.region in
     let move = c.args.to_move.now in
     let stands = entry_stands (current_words old) move.to_dir c.args.slot c.entry_place-entry.result c.tree_of-target.result.root c.tree_of-target.ensures.root c.entry_place-entry.ensures.place c.entry_place-entry.ensures.present in
-    rw c.commit.ensures.inodes
+    exact_kept _ _ c.args.parts.now _ c.requires.exact
+    (rw c.commit.ensures.inodes
     (into_exact old third mid move c.args.slot c.entry_place-entry.result c.requires.can c.requires.new c.requires.other c.requires.found stands c.put_name.ensures.stores c.put_name.ensures.name c.barrier.ensures
-    c.touched_two-touched.result touches c.args.parts.now.blocks c.args.parts.now.inodes c.requires.exact c.requires.room
+    c.touched_two-touched.result touches c.args.parts.now.blocks c.args.parts.now.inodes c.requires.exact.sets c.requires.room
+    new c.commit.new.parts.blocks c.commit.ensures.commits c.commit.ensures.size))
+    c.commit.ensures.frozen c.commit.ensures.counts
+    (into_whole_image old third mid move c.args.slot c.entry_place-entry.result c.requires.can c.requires.new c.requires.other c.requires.found stands c.put_name.ensures.stores c.put_name.ensures.name c.barrier.ensures
+    c.touched_two-touched.result touches c.args.parts.now.blocks c.args.parts.now.inodes c.requires.exact.sets c.requires.room
     new c.commit.new.parts.blocks c.commit.ensures.commits c.commit.ensures.size)
+    (into_counts old third mid move c.args.slot c.entry_place-entry.result c.requires.can c.requires.new c.requires.other c.requires.found stands c.put_name.ensures.stores c.put_name.ensures.name c.barrier.ensures
+    c.touched_two-touched.result touches c.args.parts.now.blocks c.args.parts.now.inodes c.requires.exact.sets c.requires.room
+    new c.commit.new.parts.blocks c.commit.ensures.commits c.commit.ensures.size c.args.parts.now.counts c.requires.exact.counts)

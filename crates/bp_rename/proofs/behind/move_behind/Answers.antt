@@ -4,7 +4,8 @@ use Rattle.bp_layout.specs.Directory.{inumber_in}
 use Rattle.pm_region.specs.Memory.{Memory, current_words}
 use Rattle.bp_calls.specs.Entries.{PutsBehind}
 use Rattle.bp_rename.specs.CanRename.{moved_inode}
-use Rattle.bp_rename.proofs.BehindMoved.{behind_can, behind_exact, behind_fits, behind_formed, behind_performs, behind_room, behind_some, can_put, moved_few}
+use Rattle.bp_rename.proofs.BehindMoved.{behind_can, behind_counts, behind_exact, behind_fits, behind_formed, behind_performs, behind_room, behind_some, behind_whole_image, can_put, moved_few}
+use Rattle.bp_rename.proofs.KeptCounts.{exact_kept}
 use Rattle.bp_rename.proofs.TwoWords.{touches_two}
 use Rattle.bp_rename.proofs.behind.move_behind.Goals as goal
 
@@ -24,7 +25,7 @@ pub put_behind-requires-clause-can : goal.put_behind-requires-clause-can
 put_behind-requires-clause-can g c =
     let touches = touches_two c.touched_two-touched.result c.words_behind-words.result c.touched_two-touched.ensures.words c.touched_two-touched.ensures.none c.words_behind-words.ensures in
     can_put (g.R.Region.memory c.args.parts.now.region) c.args.to_move.now c.args.parts.now.blocks c.args.parts.now.inodes c.requires.can c.requires.other c.requires.new c.requires.none
-    c.touched_two-touched.result touches c.requires.exact c.requires.enough c.requires.room
+    c.touched_two-touched.result touches c.requires.exact.sets c.requires.enough c.requires.room
 
 pub commit-requires : goal.commit-requires
 commit-requires g c κs inside =
@@ -35,15 +36,15 @@ commit-requires g c κs inside =
     let named : c.inumber-inode.result ≡ moved_inode (current_words old) move =
     c.inumber-inode.ensures ∙ ap (λ root. inumber_in (current_words old) root move.from_slot) c.tree_of-source.ensures.root in
     let puts = subst (λ x. PutsBehind old mid (members c.args.parts.now.blocks) (members c.put_behind.new.parts.blocks) move.to_dir x move.name.now) named c.put_behind.ensures.puts in
-    let formed = behind_formed old mid move c.args.parts.now.blocks c.args.parts.now.inodes c.put_behind.new.parts.blocks c.requires.can c.requires.new c.requires.other c.requires.none c.requires.exact c.requires.room puts c.put_behind.ensures.blocks
+    let formed = behind_formed old mid move c.args.parts.now.blocks c.args.parts.now.inodes c.put_behind.new.parts.blocks c.requires.can c.requires.new c.requires.other c.requires.none c.requires.exact.sets c.requires.room puts c.put_behind.ensures.blocks
     c.touched_two-touched.result touches in
-    let can = behind_can old mid move c.args.parts.now.blocks c.args.parts.now.inodes c.put_behind.new.parts.blocks c.requires.can c.requires.new c.requires.other c.requires.none c.requires.exact c.requires.room puts c.put_behind.ensures.blocks
+    let can = behind_can old mid move c.args.parts.now.blocks c.args.parts.now.inodes c.put_behind.new.parts.blocks c.requires.can c.requires.new c.requires.other c.requires.none c.requires.exact.sets c.requires.room puts c.put_behind.ensures.blocks
     c.touched_two-touched.result touches in
-    let fits = behind_fits old mid move c.args.parts.now.blocks c.args.parts.now.inodes c.put_behind.new.parts.blocks c.requires.can c.requires.new c.requires.other c.requires.none c.requires.exact c.requires.room puts c.put_behind.ensures.blocks
+    let fits = behind_fits old mid move c.args.parts.now.blocks c.args.parts.now.inodes c.put_behind.new.parts.blocks c.requires.can c.requires.new c.requires.other c.requires.none c.requires.exact.sets c.requires.room puts c.put_behind.ensures.blocks
     c.touched_two-touched.result touches in
-    let some = behind_some old mid move c.args.parts.now.blocks c.args.parts.now.inodes c.put_behind.new.parts.blocks c.requires.can c.requires.new c.requires.other c.requires.none c.requires.exact c.requires.room puts c.put_behind.ensures.blocks
+    let some = behind_some old mid move c.args.parts.now.blocks c.args.parts.now.inodes c.put_behind.new.parts.blocks c.requires.can c.requires.new c.requires.other c.requires.none c.requires.exact.sets c.requires.room puts c.put_behind.ensures.blocks
     c.touched_two-touched.result touches c.requires.enough in
-    let room = behind_room old mid move c.args.parts.now.blocks c.args.parts.now.inodes c.put_behind.new.parts.blocks c.requires.can c.requires.new c.requires.other c.requires.none c.requires.exact c.requires.room puts c.put_behind.ensures.blocks
+    let room = behind_room old mid move c.args.parts.now.blocks c.args.parts.now.inodes c.put_behind.new.parts.blocks c.requires.can c.requires.new c.requires.other c.requires.none c.requires.exact.sets c.requires.room puts c.put_behind.ensures.blocks
     c.touched_two-touched.result touches in
     (inside, record { well_formed = formed; can = can; fits = fits; some = some; room = room })
 
@@ -56,7 +57,7 @@ returns-clause-performs g c =
     let named : c.inumber-inode.result ≡ moved_inode (current_words old) move =
     c.inumber-inode.ensures ∙ ap (λ root. inumber_in (current_words old) root move.from_slot) c.tree_of-source.ensures.root in
     let puts = subst (λ x. PutsBehind old mid (members c.args.parts.now.blocks) (members c.put_behind.new.parts.blocks) move.to_dir x move.name.now) named c.put_behind.ensures.puts in
-    behind_performs old mid move c.args.parts.now.blocks c.args.parts.now.inodes c.put_behind.new.parts.blocks c.requires.can c.requires.new c.requires.other c.requires.none c.requires.exact c.requires.room puts c.put_behind.ensures.blocks
+    behind_performs old mid move c.args.parts.now.blocks c.args.parts.now.inodes c.put_behind.new.parts.blocks c.requires.can c.requires.new c.requires.other c.requires.none c.requires.exact.sets c.requires.room puts c.put_behind.ensures.blocks
     c.touched_two-touched.result touches
     (g.R.Region.memory c.commit.new.parts.region) c.commit.new.parts.blocks c.commit.ensures.commits
 
@@ -69,7 +70,15 @@ returns-clause-exact g c =
     let named : c.inumber-inode.result ≡ moved_inode (current_words old) move =
     c.inumber-inode.ensures ∙ ap (λ root. inumber_in (current_words old) root move.from_slot) c.tree_of-source.ensures.root in
     let puts = subst (λ x. PutsBehind old mid (members c.args.parts.now.blocks) (members c.put_behind.new.parts.blocks) move.to_dir x move.name.now) named c.put_behind.ensures.puts in
-    rw (c.commit.ensures.inodes, c.put_behind.ensures.inodes)
-    (behind_exact old mid move c.args.parts.now.blocks c.args.parts.now.inodes c.put_behind.new.parts.blocks c.requires.can c.requires.new c.requires.other c.requires.none c.requires.exact c.requires.room puts c.put_behind.ensures.blocks
+    exact_kept _ _ c.args.parts.now _ c.requires.exact
+    (rw (c.commit.ensures.inodes, c.put_behind.ensures.inodes)
+    (behind_exact old mid move c.args.parts.now.blocks c.args.parts.now.inodes c.put_behind.new.parts.blocks c.requires.can c.requires.new c.requires.other c.requires.none c.requires.exact.sets c.requires.room puts c.put_behind.ensures.blocks
     c.touched_two-touched.result touches
-    (g.R.Region.memory c.commit.new.parts.region) c.commit.new.parts.blocks c.commit.ensures.commits c.commit.ensures.size)
+    (g.R.Region.memory c.commit.new.parts.region) c.commit.new.parts.blocks c.commit.ensures.commits c.commit.ensures.size))
+    (c.commit.ensures.frozen ∙ c.put_behind.ensures.frozen) (c.commit.ensures.counts ∙ c.put_behind.ensures.counts)
+    (behind_whole_image old mid move c.args.parts.now.blocks c.args.parts.now.inodes c.put_behind.new.parts.blocks c.requires.can c.requires.new c.requires.other c.requires.none c.requires.exact.sets c.requires.room puts c.put_behind.ensures.blocks
+    c.touched_two-touched.result touches
+    (g.R.Region.memory c.commit.new.parts.region) c.commit.new.parts.blocks c.commit.ensures.commits)
+    (behind_counts old mid move c.args.parts.now.blocks c.args.parts.now.inodes c.put_behind.new.parts.blocks c.requires.can c.requires.new c.requires.other c.requires.none c.requires.exact.sets c.requires.room puts c.put_behind.ensures.blocks
+    c.touched_two-touched.result touches
+    (g.R.Region.memory c.commit.new.parts.region) c.commit.new.parts.blocks c.commit.ensures.commits c.args.parts.now.counts c.requires.exact.counts)

@@ -1,10 +1,13 @@
-use Rattle.std.proofs.Common.{◌≡◌, ◌∙◌, ap, arith}
+use Rattle.std.proofs.Common.{◌≡◌, ◌-◌, slice_index, ◌∙◌, ap, arith}
+use Rattle.std.proofs.lemmas.List.{length-set}
 use Rattle.bp_layout.specs.Directory.{inumber_at, inumber_in}
 use Rattle.pm_region.specs.Memory.{Memory, current_words}
-use Rattle.bp_rename.proofs.OntoDone.{has_room, inode_in_room, inode_taken, inode_there, kind_some, onto_exact, onto_gives, onto_performs, onto_well_formed, ready}
+use Rattle.bp_rename.proofs.OntoDone.{has_room, inode_in_room, inode_taken, inode_there, kind_some, named_exact, onto_counts, onto_exact, onto_gives, onto_performs, onto_well_formed, onto_whole, ready}
+use Rattle.bp_rename.proofs.OntoNames.{onto_counted, onto_last, onto_named, onto_other}
 use Rattle.bp_rename.proofs.OntoLaws.{onto_need, replaced, replaced_few, replaced_some}
 use Rattle.bp_layout.specs.Reached.IsReached.{inode_file}
 use Rattle.bp_rename.proofs.TwoWords.{touches_two}
+use Rattle.bp_calls.proofs.CountLaws.{exact_with}
 use Rattle.bp_rename.proofs.onto.rename_onto.Goals as goal
 
 pub inumber-replaced-requires-clause-live : goal.inumber-replaced-requires-clause-live
@@ -25,12 +28,12 @@ commit-requires g c κs within =
     let touches = touches_two c.touched_two-touched.result c.words_onto-words.result c.touched_two-touched.ensures.words c.touched_two-touched.ensures.none c.words_onto-words.ensures in
     let old : Memory = g.R.Region.memory c.args.parts.now.region in
     let can = ready old c.args.to_move.now c.args.slot c.requires.can c.requires.onto
-    c.touched_two-touched.result touches c.args.parts.now.blocks c.args.parts.now.inodes c.requires.exact c.requires.room in
+    c.touched_two-touched.result touches c.args.parts.now.blocks c.args.parts.now.inodes c.requires.exact.sets c.requires.room in
     let room = has_room old c.args.to_move.now c.args.slot c.requires.can c.requires.onto
-    c.touched_two-touched.result touches c.args.parts.now.blocks c.args.parts.now.inodes c.requires.exact c.requires.room in
+    c.touched_two-touched.result touches c.args.parts.now.blocks c.args.parts.now.inodes c.requires.exact.sets c.requires.room in
     let count = onto_need (current_words old) c.args.to_move.now c.args.slot c.requires.can c.requires.onto
     c.touched_two-touched.result touches in
-    (within, record { well_formed = c.requires.can.well_formed; can = can; fits = omega (arith, c.requires.exact.block_room); some = omega (arith, count, c.requires.enough); room = room })
+    (within, record { well_formed = c.requires.can.well_formed; can = can; fits = omega (arith, c.requires.exact.sets.block_room); some = omega (arith, count, c.requires.enough); room = room })
 
 pub get-inode-requires-clause-sound : goal.get-inode-requires-clause-sound
 get-inode-requires-clause-sound g c =
@@ -38,7 +41,7 @@ get-inode-requires-clause-sound g c =
     let old : Memory = g.R.Region.memory c.args.parts.now.region in
     let new : Memory = g.R.Region.memory c.commit.new.parts.region in
     let formed = onto_well_formed old new c.args.to_move.now c.args.slot c.requires.can c.requires.onto
-    c.touched_two-touched.result touches c.args.parts.now.blocks c.args.parts.now.inodes c.commit.new.parts.blocks c.requires.exact c.requires.room c.commit.ensures.commits c.commit.ensures.size in
+    c.touched_two-touched.result touches c.args.parts.now.blocks c.args.parts.now.inodes c.commit.new.parts.blocks c.requires.exact.sets c.requires.room c.commit.ensures.commits c.commit.ensures.size in
     formed.sound 0 inode_file
 
 pub get-inode-requires-clause-some : goal.get-inode-requires-clause-some
@@ -57,7 +60,7 @@ get-inode-requires-clause-there g c =
     let named : c.inumber-replaced.result ≡ inumber_at (current_words old) c.args.to_move.now.to_dir c.args.slot =
     c.inumber-replaced.ensures ∙ ap (λ root. inumber_in (current_words old) root c.args.slot) c.tree_of-target.ensures.root in
     rw named (inode_there old new c.args.to_move.now c.args.slot c.requires.can c.requires.onto
-    c.touched_two-touched.result touches c.args.parts.now.blocks c.args.parts.now.inodes c.commit.new.parts.blocks c.requires.exact c.requires.room c.commit.ensures.commits c.commit.ensures.size)
+    c.touched_two-touched.result touches c.args.parts.now.blocks c.args.parts.now.inodes c.commit.new.parts.blocks c.requires.exact.sets c.requires.room c.commit.ensures.commits c.commit.ensures.size)
 
 pub get-inode-requires-clause-least : goal.get-inode-requires-clause-least
 get-inode-requires-clause-least g c =
@@ -67,7 +70,7 @@ get-inode-requires-clause-least g c =
     let named : c.inumber-replaced.result ≡ inumber_at (current_words old) c.args.to_move.now.to_dir c.args.slot =
     c.inumber-replaced.ensures ∙ ap (λ root. inumber_in (current_words old) root c.args.slot) c.tree_of-target.ensures.root in
     rw named (kind_some old new c.args.to_move.now c.args.slot c.requires.can c.requires.onto
-    c.touched_two-touched.result touches c.args.parts.now.blocks c.args.parts.now.inodes c.commit.new.parts.blocks c.requires.exact c.requires.room c.commit.ensures.commits c.commit.ensures.size).0
+    c.touched_two-touched.result touches c.args.parts.now.blocks c.args.parts.now.inodes c.commit.new.parts.blocks c.requires.exact.sets c.requires.room c.commit.ensures.commits c.commit.ensures.size).0
 
 pub get-inode-requires-clause-most : goal.get-inode-requires-clause-most
 get-inode-requires-clause-most g c =
@@ -77,7 +80,7 @@ get-inode-requires-clause-most g c =
     let named : c.inumber-replaced.result ≡ inumber_at (current_words old) c.args.to_move.now.to_dir c.args.slot =
     c.inumber-replaced.ensures ∙ ap (λ root. inumber_in (current_words old) root c.args.slot) c.tree_of-target.ensures.root in
     rw named (kind_some old new c.args.to_move.now c.args.slot c.requires.can c.requires.onto
-    c.touched_two-touched.result touches c.args.parts.now.blocks c.args.parts.now.inodes c.commit.new.parts.blocks c.requires.exact c.requires.room c.commit.ensures.commits c.commit.ensures.size).1
+    c.touched_two-touched.result touches c.args.parts.now.blocks c.args.parts.now.inodes c.commit.new.parts.blocks c.requires.exact.sets c.requires.room c.commit.ensures.commits c.commit.ensures.size).1
 
 pub give_back-requires-clause-sound : goal.give_back-requires-clause-sound
 give_back-requires-clause-sound g c =
@@ -87,7 +90,7 @@ give_back-requires-clause-sound g c =
     let named : c.inumber-replaced.result ≡ inumber_at (current_words old) c.args.to_move.now.to_dir c.args.slot =
     c.inumber-replaced.ensures ∙ ap (λ root. inumber_in (current_words old) root c.args.slot) c.tree_of-target.ensures.root in
     rw (c.get-inode.ensures.root, c.get-inode.ensures.size, named) (onto_gives old new c.args.to_move.now c.args.slot c.requires.can c.requires.onto
-    c.touched_two-touched.result touches c.args.parts.now.blocks c.args.parts.now.inodes c.commit.new.parts.blocks c.requires.exact c.requires.room c.commit.ensures.commits c.commit.ensures.size).sound
+    c.touched_two-touched.result touches c.args.parts.now.blocks c.args.parts.now.inodes c.commit.new.parts.blocks c.requires.exact.sets c.requires.room c.commit.ensures.commits c.commit.ensures.size).sound
 
 pub give_back-requires-clause-taken : goal.give_back-requires-clause-taken
 give_back-requires-clause-taken g c =
@@ -97,7 +100,7 @@ give_back-requires-clause-taken g c =
     let named : c.inumber-replaced.result ≡ inumber_at (current_words old) c.args.to_move.now.to_dir c.args.slot =
     c.inumber-replaced.ensures ∙ ap (λ root. inumber_in (current_words old) root c.args.slot) c.tree_of-target.ensures.root in
     rw (c.get-inode.ensures.root, c.get-inode.ensures.size, named) (onto_gives old new c.args.to_move.now c.args.slot c.requires.can c.requires.onto
-    c.touched_two-touched.result touches c.args.parts.now.blocks c.args.parts.now.inodes c.commit.new.parts.blocks c.requires.exact c.requires.room c.commit.ensures.commits c.commit.ensures.size).taken
+    c.touched_two-touched.result touches c.args.parts.now.blocks c.args.parts.now.inodes c.commit.new.parts.blocks c.requires.exact.sets c.requires.room c.commit.ensures.commits c.commit.ensures.size).taken
 
 pub give-requires-clause-in_range : goal.give-requires-clause-in_range
 give-requires-clause-in_range g c =
@@ -107,7 +110,7 @@ give-requires-clause-in_range g c =
     c.inumber-replaced.ensures ∙ ap (λ root. inumber_in (current_words old) root c.args.slot) c.tree_of-target.ensures.root in
     let new : Memory = g.R.Region.memory c.commit.new.parts.region in
     rw (c.commit.ensures.inodes, named) (inode_in_room old new c.args.to_move.now c.args.slot c.requires.can c.requires.onto
-    c.touched_two-touched.result touches c.args.parts.now.blocks c.args.parts.now.inodes c.commit.new.parts.blocks c.requires.exact c.requires.room c.commit.ensures.commits c.commit.ensures.size)
+    c.touched_two-touched.result touches c.args.parts.now.blocks c.args.parts.now.inodes c.commit.new.parts.blocks c.requires.exact.sets c.requires.room c.commit.ensures.commits c.commit.ensures.size)
 
 pub give-requires-clause-taken : goal.give-requires-clause-taken
 give-requires-clause-taken g c =
@@ -117,24 +120,86 @@ give-requires-clause-taken g c =
     c.inumber-replaced.ensures ∙ ap (λ root. inumber_in (current_words old) root c.args.slot) c.tree_of-target.ensures.root in
     let new : Memory = g.R.Region.memory c.commit.new.parts.region in
     rw (c.commit.ensures.inodes, named) (inode_taken old new c.args.to_move.now c.args.slot c.requires.can c.requires.onto
-    c.touched_two-touched.result touches c.args.parts.now.blocks c.args.parts.now.inodes c.commit.new.parts.blocks c.requires.exact c.requires.room c.commit.ensures.commits c.commit.ensures.size)
+    c.touched_two-touched.result touches c.args.parts.now.blocks c.args.parts.now.inodes c.commit.new.parts.blocks c.requires.exact.sets c.requires.room c.commit.ensures.commits c.commit.ensures.size)
 
-pub returns-clause-performs : goal.returns-clause-performs
-returns-clause-performs g c =
-    let touches = touches_two c.touched_two-touched.result c.words_onto-words.result c.touched_two-touched.ensures.words c.touched_two-touched.ensures.none c.words_onto-words.ensures in
+-- ---- the count of names
+
+pub names-names-requires : goal.names-names-requires
+names-names-requires g c =
     let old : Memory = g.R.Region.memory c.args.parts.now.region in
-    let new : Memory = g.R.Region.memory c.commit.new.parts.region in
-    onto_performs old new c.args.to_move.now c.args.slot c.requires.can c.requires.onto
-    c.touched_two-touched.result touches c.args.parts.now.blocks c.args.parts.now.inodes c.commit.new.parts.blocks c.requires.exact c.requires.room c.commit.ensures.commits c.commit.ensures.size
+    let named : c.inumber-replaced.result ≡ inumber_at (current_words old) c.args.to_move.now.to_dir c.args.slot =
+    c.inumber-replaced.ensures ∙ ap (λ root. inumber_in (current_words old) root c.args.slot) c.tree_of-target.ensures.root in
+    let low = onto_counted (current_words old) c.args.to_move.now c.args.slot c.requires.can c.requires.onto c.args.parts.now c.requires.exact in
+    omega (arith, named, low)
 
-pub returns-clause-exact : goal.returns-clause-exact
-returns-clause-exact g c =
+pub overflow_sub-names : goal.overflow_sub-names
+overflow_sub-names g c =
+    let old : Memory = g.R.Region.memory c.args.parts.now.region in
+    let named : c.inumber-replaced.result ≡ inumber_at (current_words old) c.args.to_move.now.to_dir c.args.slot =
+    c.inumber-replaced.ensures ∙ ap (λ root. inumber_in (current_words old) root c.args.slot) c.tree_of-target.ensures.root in
+    let read : c.names-names.result ≡ slice_index c.args.parts.now.counts (inumber_at (current_words old) c.args.to_move.now.to_dir c.args.slot) =
+    c.names-names.ensures ∙ ap (λ i. slice_index c.args.parts.now.counts i) named in
+    let some = onto_named (current_words old) c.args.to_move.now c.args.slot c.requires.can c.requires.onto c.args.parts.now c.requires.exact in
+    omega (arith, some, read)
+
+pub set-requires : goal.set-requires
+set-requires g c =
+    let old : Memory = g.R.Region.memory c.args.parts.now.region in
+    let named : c.inumber-replaced.result ≡ inumber_at (current_words old) c.args.to_move.now.to_dir c.args.slot =
+    c.inumber-replaced.ensures ∙ ap (λ root. inumber_in (current_words old) root c.args.slot) c.tree_of-target.ensures.root in
+    let low = onto_counted (current_words old) c.args.to_move.now c.args.slot c.requires.can c.requires.onto c.args.parts.now c.requires.exact in
+    omega (arith, named, low)
+
+-- what had the name has another one
+pub returns-then-names-gt0 : goal.returns-then-names-gt0
+returns-then-names-gt0 g c =
     let touches = touches_two c.touched_two-touched.result c.words_onto-words.result c.touched_two-touched.ensures.words c.touched_two-touched.ensures.none c.words_onto-words.ensures in
     let old : Memory = g.R.Region.memory c.args.parts.now.region in
     let new : Memory = g.R.Region.memory c.commit.new.parts.region in
     let named : c.inumber-replaced.result ≡ inumber_at (current_words old) c.args.to_move.now.to_dir c.args.slot =
     c.inumber-replaced.ensures ∙ ap (λ root. inumber_in (current_words old) root c.args.slot) c.tree_of-target.ensures.root in
-    rw (c.give.ensures, c.commit.ensures.inodes, named)
-    (onto_exact old new c.args.to_move.now c.args.slot c.requires.can c.requires.onto
-    c.touched_two-touched.result touches c.args.parts.now.blocks c.args.parts.now.inodes c.commit.new.parts.blocks c.requires.exact c.requires.room c.commit.ensures.commits c.commit.ensures.size c.give_back.new.blocks
-    (rw (c.get-inode.ensures.root, c.get-inode.ensures.size, named) at c.give_back.ensures))
+    let low = onto_counted (current_words old) c.args.to_move.now c.args.slot c.requires.can c.requires.onto c.args.parts.now c.requires.exact in
+    let read : c.names-names.result ≡ slice_index c.args.parts.now.counts (inumber_at (current_words old) c.args.to_move.now.to_dir c.args.slot) =
+    c.names-names.ensures ∙ ap (λ i. slice_index c.args.parts.now.counts i) named in
+    let some = onto_named (current_words old) c.args.to_move.now c.args.slot c.requires.can c.requires.onto c.args.parts.now c.requires.exact in
+    let more = onto_other (current_words old) c.args.to_move.now c.args.slot c.requires.can c.requires.onto c.args.parts.now c.requires.exact (omega (arith, some, read, c.if-names-gt0.true)) in
+    record {
+      performs = onto_performs old new c.args.to_move.now c.args.slot c.requires.can c.requires.onto
+          c.touched_two-touched.result touches c.args.parts.now.blocks c.args.parts.now.inodes c.commit.new.parts.blocks c.requires.exact.sets c.requires.room c.commit.ensures.commits c.commit.ensures.size;
+      exact = exact_with _ _ c.args.parts.now _ c.requires.exact
+          (rw c.commit.ensures.inodes (named_exact old new c.args.to_move.now c.args.slot c.requires.can c.requires.onto
+          c.touched_two-touched.result touches c.args.parts.now.blocks c.args.parts.now.inodes c.commit.new.parts.blocks c.requires.exact.sets c.requires.room c.commit.ensures.commits c.commit.ensures.size more)) c.commit.ensures.frozen
+          (onto_whole old new c.args.to_move.now c.args.slot c.requires.can c.requires.onto
+          c.touched_two-touched.result touches c.args.parts.now.blocks c.args.parts.now.inodes c.commit.new.parts.blocks c.requires.exact.sets c.requires.room c.commit.ensures.commits c.commit.ensures.size)
+          (rw (c.commit.ensures.counts, c.set.ensures) (length-set _ _ _))
+          (rw (c.commit.ensures.counts, c.set.ensures, named) (onto_counts old new c.args.to_move.now c.args.slot c.requires.can c.requires.onto
+          c.touched_two-touched.result touches c.args.parts.now.blocks c.args.parts.now.inodes c.commit.new.parts.blocks c.requires.exact.sets c.requires.room c.commit.ensures.commits c.commit.ensures.size c.args.parts.now.counts c.requires.exact.counts low (c.names-names.result - 1) (omega (arith, some, read))));
+    }
+
+-- the name was its last
+pub returns : goal.returns
+returns g c =
+    let touches = touches_two c.touched_two-touched.result c.words_onto-words.result c.touched_two-touched.ensures.words c.touched_two-touched.ensures.none c.words_onto-words.ensures in
+    let old : Memory = g.R.Region.memory c.args.parts.now.region in
+    let new : Memory = g.R.Region.memory c.commit.new.parts.region in
+    let named : c.inumber-replaced.result ≡ inumber_at (current_words old) c.args.to_move.now.to_dir c.args.slot =
+    c.inumber-replaced.ensures ∙ ap (λ root. inumber_in (current_words old) root c.args.slot) c.tree_of-target.ensures.root in
+    let low = onto_counted (current_words old) c.args.to_move.now c.args.slot c.requires.can c.requires.onto c.args.parts.now c.requires.exact in
+    let read : c.names-names.result ≡ slice_index c.args.parts.now.counts (inumber_at (current_words old) c.args.to_move.now.to_dir c.args.slot) =
+    c.names-names.ensures ∙ ap (λ i. slice_index c.args.parts.now.counts i) named in
+    let some = onto_named (current_words old) c.args.to_move.now c.args.slot c.requires.can c.requires.onto c.args.parts.now c.requires.exact in
+    let last = onto_last (current_words old) c.args.to_move.now c.args.slot c.requires.can c.requires.onto c.args.parts.now c.requires.exact (omega (arith, some, read, c.if-names-gt0.false)) in
+    record {
+      performs = onto_performs old new c.args.to_move.now c.args.slot c.requires.can c.requires.onto
+          c.touched_two-touched.result touches c.args.parts.now.blocks c.args.parts.now.inodes c.commit.new.parts.blocks c.requires.exact.sets c.requires.room c.commit.ensures.commits c.commit.ensures.size;
+      exact = exact_with _ _ c.args.parts.now _ c.requires.exact
+          (rw (c.give.ensures, c.commit.ensures.inodes, named)
+          (onto_exact old new c.args.to_move.now c.args.slot c.requires.can c.requires.onto
+          c.touched_two-touched.result touches c.args.parts.now.blocks c.args.parts.now.inodes c.commit.new.parts.blocks c.requires.exact.sets c.requires.room c.commit.ensures.commits c.commit.ensures.size c.give_back.new.blocks
+          (rw (c.get-inode.ensures.root, c.get-inode.ensures.size, named) at c.give_back.ensures) last)) c.commit.ensures.frozen
+          (onto_whole old new c.args.to_move.now c.args.slot c.requires.can c.requires.onto
+          c.touched_two-touched.result touches c.args.parts.now.blocks c.args.parts.now.inodes c.commit.new.parts.blocks c.requires.exact.sets c.requires.room c.commit.ensures.commits c.commit.ensures.size)
+          (rw (c.commit.ensures.counts, c.set.ensures) (length-set _ _ _))
+          (rw (c.commit.ensures.counts, c.set.ensures, named) (onto_counts old new c.args.to_move.now c.args.slot c.requires.can c.requires.onto
+          c.touched_two-touched.result touches c.args.parts.now.blocks c.args.parts.now.inodes c.commit.new.parts.blocks c.requires.exact.sets c.requires.room c.commit.ensures.commits c.commit.ensures.size c.args.parts.now.counts c.requires.exact.counts low (c.names-names.result - 1) (omega (arith, some, read))));
+    }

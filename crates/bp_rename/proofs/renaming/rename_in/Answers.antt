@@ -1,5 +1,5 @@
-use Rattle.std.proofs.Common.{arith, subst}
-use Rattle.bp_tree.specs.Performs.{HasRoomFor}
+use Rattle.std.proofs.Common.{arith}
+use Rattle.bp_rename.proofs.Asked.{lacks_blocks, room_as}
 use Rattle.bp_rename.proofs.Renames.{across_change, across_renames, onto_change, onto_renames, within_change}
 use Rattle.bp_rename.proofs.renaming.rename_in.Goals as goal
 
@@ -16,15 +16,20 @@ rename_across-requires-clause-slot g c = c.requires.empty c.in-None-2.is c.if-to
 
 pub rename_onto-requires-clause-room : goal.rename_onto-requires-clause-room
 rename_onto-requires-clause-room g c =
-    subst (HasRoomFor (g.R.Region.memory c.args.parts.now.region)) (onto_change c.args.to_move.now c.in-Some.slot c.in-Some.is)
-    (c.requires.room (omega (arith, c.need_with-need.ensures, c.count-free.ensures, c.if-free-need.false)))
+    room_as (g.R.Region.memory c.args.parts.now.region) c.args.parts.now.blocks _ _ (onto_change c.args.to_move.now c.in-Some.slot c.in-Some.is)
+    c.requires.room (omega (arith, c.need_with-need.ensures, c.count-free.ensures, c.if-free-need.false))
 
 pub rename_within-requires-clause-room : goal.rename_within-requires-clause-room
 rename_within-requires-clause-room g c =
-    subst (HasRoomFor (g.R.Region.memory c.args.parts.now.region)) (within_change c.args.to_move.now c.in-None.is c.if-to_move.true)
-    (c.requires.room (omega (arith, c.need_with-need.ensures, c.count-free.ensures, c.if-free-need.false)))
+    room_as (g.R.Region.memory c.args.parts.now.region) c.args.parts.now.blocks _ _ (within_change c.args.to_move.now c.in-None.is c.if-to_move.true)
+    c.requires.room (omega (arith, c.need_with-need.ensures, c.count-free.ensures, c.if-free-need.false))
 
 pub rename_across-requires-clause-room : goal.rename_across-requires-clause-room
 rename_across-requires-clause-room g c =
-    subst (HasRoomFor (g.R.Region.memory c.args.parts.now.region)) (across_change c.args.to_move.now c.in-None-2.is c.if-to_move.false)
-    (c.requires.room (omega (arith, c.need_with-need.ensures, c.count-free.ensures, c.if-free-need.false)))
+    room_as (g.R.Region.memory c.args.parts.now.region) c.args.parts.now.blocks _ _ (across_change c.args.to_move.now c.in-None-2.is c.if-to_move.false)
+    c.requires.room (omega (arith, c.need_with-need.ensures, c.count-free.ensures, c.if-free-need.false))
+
+pub returns-then-free-need-clause-refused : goal.returns-then-free-need-clause-refused
+returns-then-free-need-clause-refused g c =
+    lacks_blocks (g.R.Region.memory c.args.parts.now.region) c.args.parts.now.blocks _ c.args.parts.now.inodes c.requires.exact.sets
+    c.need_with-need.result c.count-free.result c.need_with-need.ensures c.count-free.ensures c.if-free-need.true

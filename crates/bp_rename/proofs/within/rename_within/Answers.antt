@@ -3,7 +3,8 @@ use Rattle.pm_region.specs.Memory.{Memory, current_words}
 use Rattle.bp_rename.specs.CanRename.{moved_inode}
 use Rattle.bp_rename.specs.RenamesEntry.{RenamesEntry}
 use Rattle.bp_rename.specs.RenamesEntry.RenamesEntry.{within}
-use Rattle.bp_rename.proofs.WithinDone.{within_exact_at, within_performs_at, within_ready_at, within_room_at}
+use Rattle.bp_rename.proofs.KeptCounts.{exact_kept}
+use Rattle.bp_rename.proofs.WithinDone.{within_counts_at, within_exact_at, within_performs_at, within_ready_at, within_room_at, within_whole_at}
 use Rattle.bp_rename.proofs.WithinLaws.{respells_can, within_need_at}
 use Rattle.bp_rename.proofs.within.rename_within.Goals as goal
 
@@ -13,10 +14,10 @@ commit-requires g c κs inside =
     let move = c.args.to_move.now in
     let j = moved_inode (current_words old) move in
     let can = respells_can (current_words old) move c.requires.can c.requires.new c.requires.here in
-    let ready = within_ready_at old move.from_slot j move.name.now c.touched_name-touched.result c.args.parts.now.blocks c.args.parts.now.inodes c.requires.exact move.from_dir c.requires.room can c.touched_name-touched.ensures in
-    let room = within_room_at old move.from_slot j move.name.now c.touched_name-touched.result c.args.parts.now.blocks c.args.parts.now.inodes c.requires.exact move.from_dir c.requires.room can c.touched_name-touched.ensures in
+    let ready = within_ready_at old move.from_slot j move.name.now c.touched_name-touched.result c.args.parts.now.blocks c.args.parts.now.inodes c.requires.exact.sets move.from_dir c.requires.room can c.touched_name-touched.ensures in
+    let room = within_room_at old move.from_slot j move.name.now c.touched_name-touched.result c.args.parts.now.blocks c.args.parts.now.inodes c.requires.exact.sets move.from_dir c.requires.room can c.touched_name-touched.ensures in
     let count = within_need_at (current_words old) move.from_slot j move.name.now c.touched_name-touched.result move.from_dir can c.touched_name-touched.ensures in
-    (inside, record { well_formed = c.requires.can.well_formed; can = ready; fits = omega (arith, c.requires.exact.block_room); some = omega (arith, count, c.requires.enough); room = room })
+    (inside, record { well_formed = c.requires.can.well_formed; can = ready; fits = omega (arith, c.requires.exact.sets.block_room); some = omega (arith, count, c.requires.enough); room = room })
 
 pub returns-clause-performs : goal.returns-clause-performs
 returns-clause-performs g c =
@@ -25,7 +26,7 @@ returns-clause-performs g c =
     let move = c.args.to_move.now in
     let j = moved_inode (current_words old) move in
     let can = respells_can (current_words old) move c.requires.can c.requires.new c.requires.here in
-    within_performs_at old move.from_slot j move.name.now c.touched_name-touched.result c.args.parts.now.blocks c.args.parts.now.inodes c.requires.exact
+    within_performs_at old move.from_slot j move.name.now c.touched_name-touched.result c.args.parts.now.blocks c.args.parts.now.inodes c.requires.exact.sets
     new c.commit.new.parts.blocks c.commit.ensures.commits c.commit.ensures.size move.from_dir c.requires.room can c.touched_name-touched.ensures (RenamesEntry move)
     (λ spells spelled. within c.requires.new c.requires.here spells spelled)
 
@@ -36,6 +37,12 @@ returns-clause-exact g c =
     let move = c.args.to_move.now in
     let j = moved_inode (current_words old) move in
     let can = respells_can (current_words old) move c.requires.can c.requires.new c.requires.here in
-    rw c.commit.ensures.inodes
-    (within_exact_at old move.from_slot j move.name.now c.touched_name-touched.result c.args.parts.now.blocks c.args.parts.now.inodes c.requires.exact
+    exact_kept _ _ c.args.parts.now _ c.requires.exact
+    (rw c.commit.ensures.inodes
+    (within_exact_at old move.from_slot j move.name.now c.touched_name-touched.result c.args.parts.now.blocks c.args.parts.now.inodes c.requires.exact.sets
+    new c.commit.new.parts.blocks c.commit.ensures.commits c.commit.ensures.size move.from_dir c.requires.room can c.touched_name-touched.ensures))
+    c.commit.ensures.frozen c.commit.ensures.counts
+    (within_whole_at old move.from_slot j move.name.now c.touched_name-touched.result c.args.parts.now.blocks c.args.parts.now.inodes c.requires.exact.sets
     new c.commit.new.parts.blocks c.commit.ensures.commits c.commit.ensures.size move.from_dir c.requires.room can c.touched_name-touched.ensures)
+    (within_counts_at old move.from_slot j move.name.now c.touched_name-touched.result c.args.parts.now.blocks c.args.parts.now.inodes c.requires.exact.sets
+    new c.commit.new.parts.blocks c.commit.ensures.commits c.commit.ensures.size move.from_dir c.requires.room can c.touched_name-touched.ensures c.args.parts.now.counts c.requires.exact.counts)

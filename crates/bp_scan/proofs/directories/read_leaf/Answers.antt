@@ -54,3 +54,11 @@ returns-clause-inside g c =
     let end : c.args.first + c.loop-k.k ≡ min (c.args.first + 16) (c.args.directory.tree.size / 256) =
     omega (arith, c.min-count.ensures, c.loop-k.auto.k-end, c.loop-k-test.false, c.requires.live) in
     subst (λ (n : ℕ). IsInside (current_words (g.R.Region.memory c.args.region.now)) c.loop-k.work c.args.directory n) end c.loop-k.invariant.inside
+
+pub loop-k-init : goal.loop-k-init
+loop-k-init g c =
+    let none : c.args.first ≡ c.args.first + 0 = omega arith in
+    record {
+      inside = subst (λ (n : ℕ). IsInside (current_words (g.R.Region.memory c.args.region.now)) c.args.work.now c.args.directory n) none c.requires.inside;
+      less = omega arith;
+    }

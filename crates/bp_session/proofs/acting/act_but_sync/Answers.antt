@@ -3,11 +3,10 @@ use Rattle.bp_script.specs.Commands.{in_grammar}
 use Rattle.bp_script.specs.Commands.Command.{log, space, sync}
 use Rattle.bp_session.proofs.ActingLaws.{command_long, command_short, does_call, does_crash, does_log, does_long, does_space, does_storm, mask_fits, crash_not_left, no_sync_log, no_sync_storm, not_left}
 use Rattle.bp_session.specs.Work.{answer_in}
-use Rattle.bp_session.proofs.ShortReads.{short_call}
 use Rattle.bp_session.proofs.acting.act_but_sync.Goals as goal
 
 pub apply-requires : goal.apply-requires
-apply-requires g c = short_call c.deref.result.now _ (rw c.in-Ok-Call.field-0-is at c.in-Ok-Call.ensures.meaning)
+apply-requires g c = rw c.in-Ok-Call.field-0-is at c.in-Ok-Call.ensures.served
 
 pub returns-then-len-gt-MAX_LINE-clause-does : goal.returns-then-len-gt-MAX_LINE-clause-does
 returns-then-len-gt-MAX_LINE-clause-does g c = λ _. rw (command_long c.args.buffers.now.line.items (omega arith)) (does_long c.args.volume.now _)

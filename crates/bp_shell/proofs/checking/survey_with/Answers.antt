@@ -1,4 +1,5 @@
 use Rattle.std.proofs.Common.{refl, ◌≡◌, ◌∙◌, sym}
+use Rattle.bp_layout.specs.Whole.{IsFileSystem}
 use Rattle.bp_scan.specs.Faults.{IsFault}
 use Rattle.bp_shell.specs.Stops.{stop_by}
 use Rattle.bp_shell.specs.declared.stop.Stop.TheVariants.{Refused}
@@ -16,11 +17,12 @@ returns-in-Err-clause-kinds c = rw c.stop_of.ensures (stop_kinds c.in-Err.fault)
 
 pub returns-in-Ok-clause-clean : goal.returns-in-Ok-clause-clean
 returns-in-Ok-clause-clean c =
+    let is : IsFileSystem c.args.region.now.base = rw c.requires.fresh at (c.in-Ok.ensures.well_formed.0 refl) in
     record {
       totals = c.in-Ok.totals;
       free = c.count.result;
       holds = rw c.requires.fresh at c.in-Ok.ensures.totals;
-      leaves = counted c.args.region.now.base c.scan.new.blocks c.count.result (rw c.requires.fresh at c.in-Ok.ensures.blocks)
+      leaves = counted c.args.region.now.base c.scan.new.blocks c.count.result is.no_second (rw c.requires.fresh at c.in-Ok.ensures.blocks)
           (c.in-Ok.ensures.block_room ∙ c.requires.blocks) c.count.ensures;
       line = refl;
     }

@@ -5,7 +5,7 @@ use Rattle.bp_shell.proofs.playing.perform.Goals as goal
 
 pub play_over-requires : goal.play_over-requires
 play_over-requires g c =
-    let capacity : c.in_ok-volume.volume.capacity ≡ 131072 = ap (λ (m : Memory). m.capacity) c.in_ok-volume.ensures.opened.2 in
+    let capacity : c.in_ok-volume.volume.capacity ≡ 524288 = ap (λ (m : Memory). m.capacity) c.in_ok-volume.ensures.opened.2 in
     record { few = c.requires; roomy = omega (arith, capacity) }
 
 pub returns-in-Ok-text_of-clause-plays : goal.returns-in-Ok-text_of-clause-plays

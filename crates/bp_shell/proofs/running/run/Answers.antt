@@ -13,7 +13,7 @@ use Rattle.bp_shell.proofs.running.run.Goals.{in-Ok, in-Err-Usage, in-Err-Memory
 
 -- want of memory before the words are read
 without_memory : (program : Program) (outside : Outside) → ProgramOutcome program 8 outside outside
-without_memory (formats name blocks) outside = format_memory blocks outside outside refl refl refl refl refl refl
+without_memory (formats name blocks version) outside = format_memory version blocks outside outside refl refl refl refl refl refl
 without_memory (runs name) outside = run_memory outside outside (record { left = refl; file = refl }) refl refl refl refl refl
 without_memory (checks name) outside =
     read_stopped _ outside outside (record { left = refl; file = refl }) refl refl stop.Memory status.Memory (memory_reason outside.file) (λ e. absurd (if_memory _ refl e)) (λ _. refl) (refl, (refl, refl))

@@ -1,33 +1,42 @@
 use Rattle.std.proofs.Common.{ap}
 use Rattle.std.proofs.lemmas.Result.{MatchResult-weaker, on_err_weaker, on_ok_weaker}
-use Rattle.bp_calls.proofs.StandsLaws.{entered_gains}
+use Rattle.bp_calls.specs.Entrant.{entrant_of}
+use Rattle.bp_calls.proofs.EnteredStands.{entered_gains}
+use Rattle.bp_calls.proofs.Refusals.{tells}
 use Rattle.bp_free.specs.declared.parts.Parts.{Parts}
 use Rattle.bp_layout.specs.Need.Change.{enters as change_of}
+use Rattle.bp_layout.specs.Thaw.{none_kept}
+use Rattle.bp_layout.proofs.NoSecond.{none_frozen}
 use Rattle.bp_volume.proofs.ChangeLaws.{carried_or_lacks, lacks_space, performs_call}
-use Rattle.bp_volume.proofs.CreateLaws.{making_becomes, making_makes, tells_free}
+use Rattle.bp_volume.proofs.CreateLaws.{making_makes, making_shows}
 use Rattle.bp_volume.proofs.FewBlocks.{few_entered, few_room, performs_room}
 use Rattle.bp_volume.proofs.WalkLaws.{reached_at}
 use Rattle.bp_volume.proofs.creating.create_new.Goals as goal
 
+pub create_in-requires-clause-well_formed : goal.create_in-requires-clause-well_formed
+create_in-requires-clause-well_formed g c = c.requires.well_formed.first
+
 pub create_in-requires-clause-reached : goal.create_in-requires-clause-reached
-create_in-requires-clause-reached g c = reached_at _ c.requires.well_formed _ c.args.new.dir c.requires.new.new.parent
+create_in-requires-clause-reached g c = reached_at _ c.requires.well_formed.first _ c.args.new.dir c.requires.new.new.parent
 
 pub create_in-requires-clause-room : goal.create_in-requires-clause-room
-create_in-requires-clause-room g c = λ free tells enough.
-    few_room (g.R.Region.memory c.args.parts.now.region) (change_of c.args.new.dir free) (few_entered _ c.requires.well_formed c.args.new.dir (reached_at _ c.requires.well_formed _ c.args.new.dir c.requires.new.new.parent) free) c.requires.room
+create_in-requires-clause-room g c = λ free least enough.
+    few_room (g.R.Region.memory c.args.parts.now.region) (change_of c.args.new.dir (entrant_of free))
+    (few_entered _ c.requires.well_formed.first c.args.new.dir (reached_at _ c.requires.well_formed.first _ c.args.new.dir c.requires.new.new.parent) (entrant_of free)) c.requires.room
 
 pub returns-clause-called : goal.returns-clause-called
 returns-clause-called g c =
-    let told = tells_free _ _ _ c.requires.exact in
+    let told = tells _ _ _ c.requires.exact.sets in
     let makes = making_makes _ c.args.text.now c.args.new.dir c.args.new.name.now c.requires.new told.0 told.1 c.args.kind in
+    let frozen = none_frozen _ c.requires.well_formed.no_second in
     carried_or_lacks _ _ _ c.create_in.result c.map_err.result c.map_err.ensures.cases
     (on_ok_weaker c.create_in.result (λ performs.
     let done = performs told.0 told.1 in
-    performs_call _ _ _ (change_of c.args.new.dir told.0) _ makes done
-    (λ enters. making_becomes _ c.args.text.now c.args.new.dir c.args.new.name.now c.requires.new c.args.kind _ (entered_gains _ _ c.requires.well_formed c.args.new.dir c.args.new.name.now c.args.kind enters))
+    performs_call none_kept _ _ _ (change_of c.args.new.dir (entrant_of told.0)) _ c.requires.well_formed frozen makes done
+    (λ enters. making_shows _ c.args.text.now c.args.new.dir c.args.new.name.now c.requires.new c.args.kind _ (entered_gains _ _ c.requires.well_formed.first c.args.new.dir c.args.new.name.now c.args.kind enters))
     (performs_room _ _ _ _ done
-    (few_entered _ c.requires.well_formed c.args.new.dir (reached_at _ c.requires.well_formed _ c.args.new.dir c.requires.new.new.parent) told.0) c.requires.room))
+    (few_entered _ c.requires.well_formed.first c.args.new.dir (reached_at _ c.requires.well_formed.first _ c.args.new.dir c.requires.new.new.parent) (entrant_of told.0)) c.requires.room))
     c.create_in.ensures.performs)
     (on_err_weaker c.create_in.result (ap (λ (parts : Parts g.row.R.Denot). g.R.Region.memory parts.region)) c.create_in.ensures.same)
     (MatchResult-weaker c.create_in.result c.create_in.ensures.refused (λ _ nothing. nothing)
-    (λ lacks refused. lacks_space _ _ (change_of c.args.new.dir told.0) makes lacks (refused told.0 told.1)))
+    (λ lacks refused. lacks_space _ _ (change_of c.args.new.dir (entrant_of told.0)) makes none_kept frozen lacks (refused told.0 told.1)))

@@ -3,8 +3,8 @@ use Rattle.bp_volume.proofs.laws.calls_in_place_need_no_space.Goals as goal
 
 pub returns : goal.returns
 returns c = record {
-  unlink = λ tree text stands. unlink_plainly c.args.image.now tree stands text;
-  rmdir = λ tree text stands. rmdir_plainly c.args.image.now tree stands text;
-  truncate = λ tree text size stands. truncate_plainly c.args.image.now tree stands text size;
-  write = λ tree text new i off stands. write_plainly c.args.image.now tree stands text new i off;
+  unlink = λ tree text stands alone. unlink_plainly c.args.image.now tree stands alone text;
+  rmdir = λ tree text stands alone. rmdir_plainly c.args.image.now tree stands alone text;
+  truncate = λ tree text size stands alone. truncate_plainly c.args.image.now tree stands alone text size;
+  write = λ tree text new i off stands alone. write_plainly c.args.image.now tree stands alone text new i off;
 }

@@ -1,7 +1,9 @@
 use Rattle.std.proofs.Common.{refl}
 use Rattle.std.proofs.lemmas.Result.{err_from_is_err_and}
 use Rattle.bp_layout.specs.Need.Change.{leaves}
-use Rattle.bp_stands.proofs.NameStands.{unlink_stands}
+use Rattle.bp_layout.specs.Thaw.{none_kept}
+use Rattle.bp_layout.proofs.NoSecond.{none_frozen}
+use Rattle.bp_stands.proofs.UnlinkStands.{unlink_shows}
 use Rattle.bp_volume.specs.Carried.CarriesOut.{changed, unchanged}
 use Rattle.bp_volume.proofs.ChangeLaws.{performs_call}
 use Rattle.bp_volume.proofs.FewBlocks.{performs_room}
@@ -9,15 +11,22 @@ use Rattle.bp_volume.proofs.LeavingLaws.{directory_leaves, leaves_few, name_lost
 use Rattle.bp_volume.proofs.StepLaws.{refused_steps}
 use Rattle.bp_volume.proofs.removing.rmdir_at.Goals as goal
 
+pub empty_entry-requires : goal.empty_entry-requires
+empty_entry-requires g c = c.requires.well_formed.first
+
+pub remove-requires-clause-well_formed : goal.remove-requires-clause-well_formed
+remove-requires-clause-well_formed g c = c.requires.well_formed.first
+
 pub remove-requires-clause-can : goal.remove-requires-clause-can
 remove-requires-clause-can g c = directory_leaves _ c.args.text.now _ _ _ c.in_ok-entry.ensures.found c.in_ok-entry.ensures.empty
 
 pub returns-clause-called : goal.returns-clause-called
 returns-clause-called g c =
     let can = directory_leaves _ c.args.text.now _ _ _ c.in_ok-entry.ensures.found c.in_ok-entry.ensures.empty in
-    changed (performs_call _ _ _ (leaves c.in_ok-entry.entry.dir c.in_ok-entry.entry.slot) _ (rmdir_makes _ c.args.text.now _ _ _ c.in_ok-entry.ensures.found c.in_ok-entry.ensures.directory c.in_ok-entry.ensures.empty) c.remove.ensures.performs
-    (λ removes. name_lost _ c.args.text.now _ _ _ c.in_ok-entry.ensures.found _ (λ tree here stands at. unlink_stands _ _ c.requires.well_formed _ _ _ can removes here at tree stands))
-    (performs_room _ _ _ _ c.remove.ensures.performs (leaves_few _ c.args.text.now _ _ _ c.in_ok-entry.ensures.found c.requires.well_formed can) c.requires.room))
+    changed (performs_call none_kept _ _ _ (leaves c.in_ok-entry.entry.dir c.in_ok-entry.entry.slot) _ c.requires.well_formed (none_frozen _ c.requires.well_formed.no_second)
+    (rmdir_makes _ c.args.text.now _ _ _ c.in_ok-entry.ensures.found c.in_ok-entry.ensures.directory c.in_ok-entry.ensures.empty) c.remove.ensures.performs
+    (λ removes. name_lost _ c.args.text.now _ _ _ c.in_ok-entry.ensures.found _ (λ map here shows at. unlink_shows _ _ c.requires.well_formed.first _ _ _ can removes here at map shows))
+    (performs_room _ _ _ _ c.remove.ensures.performs (leaves_few _ c.args.text.now _ _ _ c.in_ok-entry.ensures.found c.requires.well_formed.first can) c.requires.room))
 
 pub returns-in_err-entry-clause-called : goal.returns-in_err-entry-clause-called
 returns-in_err-entry-clause-called g c =

@@ -4,6 +4,9 @@ use Rattle.bp_volume.specs.Carried.CarriesOut.{unchanged}
 use Rattle.bp_volume.proofs.StepLaws.{refused_steps}
 use Rattle.bp_volume.proofs.renaming.rename_at.Goals as goal
 
+pub ends_at-requires : goal.ends_at-requires
+ends_at-requires g c = c.requires.well_formed.first
+
 pub returns-in_err-ends-clause-called : goal.returns-in_err-ends-clause-called
 returns-in_err-ends-clause-called g c =
     let p = err_from_is_err_and c.from_residual.result c.from_residual.ensures.1 in

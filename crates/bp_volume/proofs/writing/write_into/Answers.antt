@@ -1,54 +1,58 @@
-use Rattle.std.proofs.Common.{◌∙◌, ◌≢◌, ◌≤◌, ◌+◌, length, refl, sym, ap, arith}
+use Rattle.std.proofs.Common.{◌≡◌, ◌∙◌, ◌≢◌, length, refl, sym, ap, arith}
 use Rattle.std.proofs.lemmas.Bool.{eqb-true, eqb-false}
 use Rattle.std.proofs.lemmas.Result.{MatchResult-weaker, on_err_weaker, on_ok_weaker}
 use Rattle.bp_calls.proofs.WrittenStands.{written_gets}
 use Rattle.bp_free.specs.declared.parts.Parts.{Parts}
+use Rattle.bp_layout.specs.Formatted.{version_of}
 use Rattle.bp_layout.specs.Need.Change.{writes}
-use Rattle.bp_limits.specs.Limits.{max_size}
+use Rattle.bp_layout.specs.Thaw.{none_kept}
+use Rattle.bp_layout.proofs.NoSecond.{none_frozen}
+use Rattle.bp_limits.specs.Limits.{greatest_size}
+use Rattle.pm_region.specs.Memory.{current_words}
 use Rattle.bp_volume.specs.Carried.CarriesOut.{unchanged}
 use Rattle.bp_volume.proofs.AskingLaws.{at_low, at_reached}
 use Rattle.bp_volume.proofs.ChangeLaws.{carried_or_lacks, lacks_space, performs_call}
 use Rattle.bp_volume.proofs.FewBlocks.{few_room, few_writes, performs_room}
-use Rattle.bp_volume.proofs.FileLaws.{write_becomes, write_makes, write_nothing, write_too_big}
+use Rattle.bp_volume.proofs.FileLaws.{short_enough, short_of_size, write_makes, write_nothing, write_shows, write_too_big}
 use Rattle.bp_volume.proofs.writing.write_into.Goals as goal
 
 pub returns-then-is_empty-clause-called : goal.returns-then-is_empty-clause-called
 returns-then-is_empty-clause-called g c =
     unchanged refl (write_nothing _ c.args.text.now c.args.i c.requires.at c.requires.kind c.args.off c.args.bytes.now c.requires.short (omega (arith, eqb-true _ _ (sym c.is_empty.ensures ∙ c.if-is_empty.true))))
 
-pub returns-then-off-bytes-clause-called : goal.returns-then-off-bytes-clause-called
-returns-then-off-bytes-clause-called g c =
+pub returns-then-off-greatest_size-clause-called : goal.returns-then-off-greatest_size-clause-called
+returns-then-off-greatest_size-clause-called g c =
     let some : length c.args.bytes.now ≢ 0 = eqb-false _ _ (sym c.is_empty.ensures ∙ c.if-is_empty.false) in
-    unchanged refl (write_too_big _ c.args.text.now c.args.i c.requires.at c.requires.kind c.args.off c.args.bytes.now c.requires.short (omega (arith, some)) (omega arith))
+    let limit : c.greatest_size.result ≡ greatest_size (version_of (current_words (g.R.Region.memory c.args.parts.now.region))) = c.greatest_size.ensures.size ∙ ap greatest_size c.version.ensures in
+    unchanged refl (write_too_big _ c.args.text.now c.args.i c.requires.at c.requires.kind c.args.off c.args.bytes.now c.requires.short (omega (arith, some)) (omega (arith, limit)))
 
-pub write-requires : goal.write-requires
-write-requires g c =
+pub write-requires-clause-can : goal.write-requires-clause-can
+write-requires-clause-can g c =
     let some : length c.args.bytes.now ≢ 0 = eqb-false _ _ (sym c.is_empty.ensures ∙ c.if-is_empty.false) in
+    let limit : c.greatest_size.result ≡ greatest_size (version_of (current_words (g.R.Region.memory c.args.parts.now.region))) = c.greatest_size.ensures.size ∙ ap greatest_size c.version.ensures in
     record {
-      can = record {
-        well_formed = c.requires.well_formed;
-        exact = c.requires.exact;
-        reached = at_reached _ c.requires.well_formed c.args.text.now c.args.i c.requires.at;
-        file = c.requires.kind;
-        some = omega (arith, some);
-        short = c.requires.short;
-        fits = omega (arith, c.requires.short);
-        room = λ enough. few_room (g.R.Region.memory c.args.parts.now.region) (writes c.args.i c.args.off (length c.args.bytes.now))
-            (few_writes _ c.requires.well_formed c.args.i (at_low _ c.requires.well_formed c.args.text.now c.args.i c.requires.at) (at_reached _ c.requires.well_formed c.args.text.now c.args.i c.requires.at) c.args.off (length c.args.bytes.now) c.requires.short)
-            c.requires.room;
-      };
+      well_formed = c.requires.well_formed.first;
+      exact = c.requires.exact.sets;
+      reached = at_reached _ c.requires.well_formed.first c.args.text.now c.args.i c.requires.at;
+      file = c.requires.kind;
+      some = omega (arith, some);
+      short = short_enough _ _ c.requires.short;
+      fits = omega (arith, limit, short_of_size _ _ c.requires.short);
+      room = λ enough. few_room (g.R.Region.memory c.args.parts.now.region) (writes c.args.i c.args.off (length c.args.bytes.now))
+          (few_writes _ c.requires.well_formed.first c.args.i (at_low _ c.requires.well_formed.first c.args.text.now c.args.i c.requires.at) (at_reached _ c.requires.well_formed.first c.args.text.now c.args.i c.requires.at) c.args.off (length c.args.bytes.now) (short_enough _ _ c.requires.short)) c.requires.room;
     }
 
 pub returns-clause-called : goal.returns-clause-called
 returns-clause-called g c =
     let some : length c.args.bytes.now ≢ 0 = eqb-false _ _ (sym c.is_empty.ensures ∙ c.if-is_empty.false) in
-    let fits : c.args.off + length c.args.bytes.now ≤ max_size = omega (arith, c.requires.short) in
-    let makes = write_makes _ c.args.text.now c.args.i c.requires.at c.requires.kind c.args.off c.args.bytes.now c.requires.short (omega (arith, some)) fits in
+    let limit : c.greatest_size.result ≡ greatest_size (version_of (current_words (g.R.Region.memory c.args.parts.now.region))) = c.greatest_size.ensures.size ∙ ap greatest_size c.version.ensures in
+    let makes = write_makes _ c.args.text.now c.args.i c.requires.at c.requires.kind c.args.off c.args.bytes.now c.requires.short (omega (arith, some)) (omega (arith, limit, short_of_size _ _ c.requires.short)) in
+    let frozen = none_frozen _ c.requires.well_formed.no_second in
     carried_or_lacks _ _ _ c.write.result c.map_err.result c.map_err.ensures.cases
-    (on_ok_weaker c.write.result (λ performs. performs_call _ _ _ (writes c.args.i c.args.off (length c.args.bytes.now)) _ makes performs
-    (λ writes_file. write_becomes _ c.args.text.now c.args.i c.requires.at c.requires.kind c.args.off c.args.bytes.now _ (written_gets _ _ c.requires.well_formed c.args.i c.args.off c.args.bytes.now writes_file))
+    (on_ok_weaker c.write.result (λ performs. performs_call none_kept _ _ _ (writes c.args.i c.args.off (length c.args.bytes.now)) _ c.requires.well_formed frozen makes performs
+    (λ writes_file. write_shows _ c.args.text.now c.args.i c.requires.at c.requires.kind c.args.off c.args.bytes.now _ (written_gets _ _ c.requires.well_formed.first c.args.i c.args.off c.args.bytes.now writes_file))
     (performs_room _ _ _ _ performs
-    (few_writes _ c.requires.well_formed c.args.i (at_low _ c.requires.well_formed c.args.text.now c.args.i c.requires.at) (at_reached _ c.requires.well_formed c.args.text.now c.args.i c.requires.at) c.args.off (length c.args.bytes.now) c.requires.short) c.requires.room))
+    (few_writes _ c.requires.well_formed.first c.args.i (at_low _ c.requires.well_formed.first c.args.text.now c.args.i c.requires.at) (at_reached _ c.requires.well_formed.first c.args.text.now c.args.i c.requires.at) c.args.off (length c.args.bytes.now) (short_enough _ _ c.requires.short)) c.requires.room))
     c.write.ensures.performs)
     (on_err_weaker c.write.result (ap (λ (parts : Parts g.row.R.Denot). g.R.Region.memory parts.region)) c.write.ensures.same)
-    (MatchResult-weaker c.write.result c.write.ensures.refused (λ _ nothing. nothing) (lacks_space _ _ (writes c.args.i c.args.off (length c.args.bytes.now)) makes))
+    (MatchResult-weaker c.write.result c.write.ensures.refused (λ _ nothing. nothing) (lacks_space _ _ (writes c.args.i c.args.off (length c.args.bytes.now)) makes none_kept frozen))

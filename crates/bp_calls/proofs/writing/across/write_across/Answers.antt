@@ -1,10 +1,11 @@
-use Rattle.std.proofs.Common.{◌+◌, ◌≤◌, length, arith}
+use Rattle.std.proofs.Common.{◌+◌, ◌≤◌, length, ◌∙◌, arith}
 use Rattle.pm_region.specs.Memory.{current_words}
 use Rattle.bp_free.specs.Set.{members}
 use Rattle.bp_cow.specs.Cover.{copied_count}
 use Rattle.bp_calls.specs.TouchedAcross.{WritesAcross}
 use Rattle.bp_calls.proofs.AcrossCalls.{at_apart, at_commit, at_done, at_few, at_inside, at_lacks, at_prepare, at_prepared, at_shape, splits_at}
 use Rattle.bp_calls.proofs.writing.across.write_across.Goals as goal
+use Rattle.bp_calls.proofs.CountLaws.{exact_file}
 
 pub need_cover-requires-clause-touched : goal.need_cover-requires-clause-touched
 need_cover-requires-clause-touched g c =
@@ -101,4 +102,5 @@ returns-clause-exact g c =
     c.tree_of-tree.result.root _ c.need_prep-behind.result c.root_path-root.result.items across c.tree_of-tree.ensures.root c.tree_of-tree.ensures.size c.need_prep-behind.ensures (omega (arith, enough)) c.root_path-root.ensures)) c.tree_of-tree.ensures.size c.split_at.ensures.back in
     let done = at_done (g.R.Region.memory c.args.parts.now.region) c.args.parts.now.blocks c.args.parts.now.inodes c.args.off c.args.bytes.now c.touched_across-touched.result (g.R.Region.memory c.prep.new.parts.region) c.prep.new.parts.blocks
     (g.R.Region.memory c.commit.new.parts.region) c.commit.new.parts.blocks c.args.i across prepared (λ k. omega (arith, c.type_inv.bytes k)) c.commit.ensures.commits c.commit.ensures.size c.prep.ensures.room in
-    rw (c.commit.ensures.inodes, c.prep.ensures.inodes) done.1
+    exact_file _ _ c.args.parts.now _ c.requires.exact (rw (c.commit.ensures.inodes, c.prep.ensures.inodes) done.1)
+    (c.commit.ensures.frozen ∙ c.prep.ensures.frozen) (c.commit.ensures.counts ∙ c.prep.ensures.counts) c.args.i c.requires.can.well_formed done.0.effect.changes

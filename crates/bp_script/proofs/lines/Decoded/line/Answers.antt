@@ -3,6 +3,7 @@ use Rattle.bp_script.specs.Commands.{in_grammar}
 use Rattle.bp_script.specs.Lines.{line_asks}
 use Rattle.bp_script.proofs.Masks.{mask_short}
 use Rattle.bp_script.proofs.Rows.{bare_asked}
+use Rattle.bp_script.proofs.ServedLines.{served_line}
 use Rattle.bp_script.proofs.lines.Decoded.line.Goals as goal
 
 pub returns-in-Some : goal.returns-in-Some
@@ -14,6 +15,7 @@ returns-in-Some c =
         keeps_room = tt;
         meaning = asked;
         mask = rw asked (mask_short c.args.bytes.now);
+        served = rw asked (served_line c.args.bytes.now);
       },
     )
 
@@ -26,5 +28,6 @@ returns-in-None c =
         keeps_room = tt;
         meaning = asked;
         mask = rw asked (mask_short c.args.bytes.now);
+        served = rw asked (served_line c.args.bytes.now);
       },
     )

@@ -3,7 +3,7 @@ use Rattle.bp_volume.proofs.FileCallLaws.{volume-marked, file_call_unchanged}
 use Rattle.bp_volume.proofs.volume.Volume.read.Goals as goal
 
 pub invariant_of-self : goal.invariant_of-self
-invariant_of-self g c = volume-marked (g.R.Region.memory c.self.inside.parts.region) (g.R.Region.memory c.mark.new.self) _ _ _ c.self.invariant c.mark.ensures
+invariant_of-self g c = volume-marked (g.R.Region.memory c.self.inside.parts.region) (g.R.Region.memory c.mark.new.self) c.self.inside.parts c.mark.new.self _ c.self.invariant c.mark.ensures
 
 pub returns-clause-called : goal.returns-clause-called
 returns-clause-called g c = file_call_unchanged c.args.self.now (g.R.Region.memory c.self.inside.parts.region) (g.R.Region.memory c.mark.new.self) _ _

@@ -1,0 +1,55 @@
+use Rattle.std.proofs.Common.{refl, sym, ◌∙◌, arith}
+use Rattle.std.proofs.lemmas.List.{length-set}
+use Rattle.pm_region.specs.Memory.{current_words}
+use Rattle.bp_calls.proofs.CountLaws.{exact_with, reached_counted}
+use Rattle.bp_calls.proofs.FewNames.{few_names}
+use Rattle.bp_calls.proofs.ShareLaws.{can_link_behind}
+use Rattle.bp_calls.proofs.linking.share.Goals as goal
+
+pub names-names-requires : goal.names-names-requires
+names-names-requires g c =
+    reached_counted (current_words (g.R.Region.memory c.args.parts.now.region)) c.args.parts.now c.requires.exact c.requires.can.link.lacks.well_formed c.args.i c.requires.can.link.there
+
+pub overflow_add-names : goal.overflow_add-names
+overflow_add-names g c =
+    let image = current_words (g.R.Region.memory c.args.parts.now.region) in
+    let low = reached_counted image c.args.parts.now c.requires.exact c.requires.can.link.lacks.well_formed c.args.i c.requires.can.link.there in
+    let few = few_names image c.requires.can.link.lacks.well_formed c.args.i _ (c.requires.exact.counts.each c.args.i low) in
+    omega (arith, few, c.names-names.ensures, c.requires.can.link.lacks.well_formed.formatted.sized.at_most, c.requires.can.link.lacks.well_formed.formatted.sized.whole)
+
+pub set-requires : goal.set-requires
+set-requires g c =
+    reached_counted (current_words (g.R.Region.memory c.args.parts.now.region)) c.args.parts.now c.requires.exact c.requires.can.link.lacks.well_formed c.args.i c.requires.can.link.there
+
+pub link_slot-requires-clause-found : goal.link_slot-requires-clause-found
+link_slot-requires-clause-found g c = sym c.requires.slot ∙ c.in-Some.is
+
+pub link_behind-requires : goal.link_behind-requires
+link_behind-requires g c =
+    record {
+      can = can_link_behind (g.R.Region.memory c.args.parts.now.region) c.args.parts.now.blocks c.args.parts.now.inodes c.args.dir c.args.i c.args.name.now c.requires.can (sym c.requires.slot ∙ c.in-None.is);
+    }
+
+pub returns-in-Some : goal.returns-in-Some
+returns-in-Some g c =
+    let old = g.R.Region.memory c.args.parts.now.region in
+    let new = g.R.Region.memory c.link_slot.new.region in
+    let low = reached_counted (current_words old) c.args.parts.now c.requires.exact c.requires.can.link.lacks.well_formed c.args.i c.requires.can.link.there in
+    record {
+      performs = c.link_slot.ensures.performs;
+      exact = exact_with (current_words old) (current_words new) c.args.parts.now _ c.requires.exact (c.link_slot.ensures.exact c.args.parts.now.blocks c.args.parts.now.inodes c.requires.can.exact) refl
+          c.link_slot.ensures.performs.effect.adds.trees.whole (rw c.set.ensures (length-set c.args.parts.now.counts c.args.i _))
+          (rw (c.set.ensures, c.names-names.ensures) (c.link_slot.ensures.counts c.args.parts.now.counts low c.requires.exact.counts));
+    }
+
+pub returns-in-None : goal.returns-in-None
+returns-in-None g c =
+    let old = g.R.Region.memory c.args.parts.now.region in
+    let new = g.R.Region.memory c.link_behind.new.parts.region in
+    let low = reached_counted (current_words old) c.args.parts.now c.requires.exact c.requires.can.link.lacks.well_formed c.args.i c.requires.can.link.there in
+    record {
+      performs = c.link_behind.ensures.performs;
+      exact = exact_with (current_words old) (current_words new) c.args.parts.now _ c.requires.exact (rw c.link_behind.ensures.inodes (c.link_behind.ensures.exact c.args.parts.now.inodes c.requires.can.exact)) c.link_behind.ensures.frozen
+          c.link_behind.ensures.performs.effect.adds.trees.whole (rw (c.link_behind.ensures.counted, c.set.ensures) (length-set c.args.parts.now.counts c.args.i _))
+          (rw (c.link_behind.ensures.counted, c.set.ensures, c.names-names.ensures) (c.link_behind.ensures.counts c.args.parts.now.counts low c.requires.exact.counts));
+    }

@@ -1,0 +1,43 @@
+-- What calls make of the plain tree, at each path that finds the directory or the file that they change.
+use Rattle.std.specs.Prelude.{◌≡◌, ℕ, List, [], ◌∷◌, ◌++◌, Some}
+use Rattle.bp_layout.specs.Directory.{Name, name_at}
+use Rattle.bp_layout.specs.Lookup.{Path, lookup}
+use Rattle.bp_layout.specs.Words.{Image}
+use Rattle.bp_layout.specs.declared.fields.Kind.{Kind}
+use Rattle.bp_layout.specs.declared.fields.Kind.TheVariants.{File, Dir}
+use Rattle.bp_plain.specs.Plain.{bytes_at, resized, with_content, with_dir, with_file, with_name, with_nothing, written}
+use Rattle.bp_plain.specs.PlainTree.{PathMap}
+use Rattle.bp_plain.specs.Stands.{Shows}
+
+-- a file without bytes at the path, or a directory without names
+abbrev pub with_new : Kind → PathMap → Path → PathMap
+with_new File map path = with_file map path
+with_new Dir map path = with_dir map path
+
+-- The directory gains the name: wherever a path finds it, the second image shows an empty file or directory there.
+abbrev pub GainsName : ℕ → Name → Kind → Image → Image → Type 0
+GainsName i name kind old new = (map : PathMap) (here : Path) → Shows old map → lookup old here ≡ Some i →
+    Shows new (with_new kind map (here ++ name ∷ []))
+
+-- File j has the name besides those that it has: wherever a path finds the directory, the second image shows the file
+-- there too, as one with that at each path that finds it.
+abbrev pub SharesName : ℕ → Name → ℕ → Image → Image → Type 0
+SharesName i name j old new = (map : PathMap) (from here : Path) → Shows old map → lookup old from ≡ Some j →
+    lookup old here ≡ Some i → Shows new (with_name map from (here ++ name ∷ []))
+
+-- wherever a path finds directory i, the second image shows nothing at the name that slot s had
+abbrev pub LosesName : ℕ → ℕ → Image → Image → Type 0
+LosesName i s old new = (map : PathMap) (here : Path) → Shows old map → lookup old here ≡ Some i →
+    Shows new (with_nothing map (here ++ name_at old i s ∷ []))
+
+-- Wherever a path finds file i, the second image shows it with this size at each of its paths: the front of its bytes,
+-- filled up with zeros.
+abbrev pub GetsSize : ℕ → ℕ → Image → Image → Type 0
+GetsSize i size old new = (map : PathMap) (here : Path) → Shows old map → lookup old here ≡ Some i →
+    Shows new (with_content map here (resized (bytes_at map.nodes here) size))
+
+-- wherever a path finds file i, the second image shows it with these bytes from an offset on at each of its paths,
+-- behind zeros where it ended before
+abbrev pub GetsBytes : ℕ → ℕ → List ℕ → Image → Image → Type 0
+GetsBytes i off bytes old new = (map : PathMap) (here : Path) → Shows old map → lookup old here ≡ Some i →
+    Shows new (with_content map here (written (bytes_at map.nodes here) off bytes))

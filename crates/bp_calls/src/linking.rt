@@ -1,0 +1,125 @@
+//! Names more for files.
+
+ghost use Rattle.std.specs.Prelude.{Some, ◌≡◌, ◌≤◌, Option, None, IfErr, OnErr, OnOk};
+ghost use Rattle.bp_calls.specs.Created.{CountsMore, LinksEntry};
+ghost use Rattle.bp_calls.specs.Growth.{stores_behind_growth};
+ghost use Rattle.bp_calls.specs.Space.{HasRoomWhereFree, LacksSpace};
+ghost use Rattle.bp_calls.specs.Steps.{CanLink, CanLinkBehind, CanShare, entering_room, name_need};
+ghost use Rattle.bp_free.specs.Set.{Set};
+ghost use Rattle.bp_layout.specs.Directory.{IsName, empty_slot, slot_named};
+ghost use Rattle.bp_layout.specs.Inode.{IsDirectory, IsFile};
+ghost use Rattle.bp_layout.specs.Need.Change.{enters};
+ghost use Rattle.bp_layout.specs.Need.Entrant.{linked};
+ghost use Rattle.bp_layout.specs.Reached.{IsReached};
+ghost use Rattle.bp_layout.specs.Thaw.{none_kept};
+ghost use Rattle.bp_layout.specs.WellFormed.{IsWellFormed};
+ghost use Rattle.bp_shapes.specs.Sets.{AreExact, IsExact, kept_of};
+ghost use Rattle.bp_commit.specs.Performs.{Performs, PerformsWithin};
+ghost use Rattle.pm_region.specs.Memory.{current_words, room_in};
+
+use crate::creating::entry_need;
+use crate::entering::put_behind;
+use bp_dirs::{entry_place, put_name};
+use bp_free::{NoSpace, Parts};
+use bp_inodes::{place, tree_of};
+use bp_inplace::commit_word;
+use bp_limits::{ENTRY_SIZE, SIZE_FIELD};
+use pm_region::Region;
+
+/// Names a file in an empty entry of a directory.
+fn link_slot<R: Region>(region: &mut R, dir: u32, slot: u64, i: u32, name: &[u8])
+    requires can { CanLink (current_words (R.memory region.old)) dir i name.now }
+    requires found { empty_slot (current_words (R.memory region.old)) dir ≡ Some slot }
+    requires room { entering_room (name_need (current_words (R.memory region.old)) dir)
+        ≤ room_in (R.memory region.old) }
+    ensures performs { PerformsWithin none_kept (name_need (current_words (R.memory region.old)) dir) 5
+        (stores_behind_growth (name_need (current_words (R.memory region.old)) dir))
+        (R.memory region.old) (R.memory region.new) (enters dir linked) (LinksEntry dir name.now i) }
+    ensures exact { (blocks inodes : Set) → AreExact (current_words (R.memory region.old)) none_kept blocks inodes
+        → AreExact (current_words (R.memory region.new)) none_kept blocks inodes }
+    ensures counts { CountsMore (current_words (R.memory region.old)) (current_words (R.memory region.new)) i }
+{
+    let tree = tree_of(region, dir);
+    let entry = entry_place(region, tree, slot, 0);
+    put_name(region, entry, name);
+    commit_word(region, entry, u64::from(i));
+}
+
+/// Names a file in an entry behind the last one of a directory, whose size then takes it in.
+fn link_behind<R: Region>(parts: &mut Parts<R>, dir: u32, i: u32, name: &[u8])
+    requires can { CanLinkBehind (R.memory parts.old.region) parts.old.blocks dir i name.now }
+    ensures performs { PerformsWithin none_kept (name_need (current_words (R.memory parts.old.region)) dir) 5
+        (stores_behind_growth (name_need (current_words (R.memory parts.old.region)) dir))
+        (R.memory parts.old.region) (R.memory parts.new.region) (enters dir linked) (LinksEntry dir name.now i) }
+    ensures exact { (inodes : Set)
+        → AreExact (current_words (R.memory parts.old.region)) none_kept parts.old.blocks inodes
+        → AreExact (current_words (R.memory parts.new.region)) none_kept parts.new.blocks inodes }
+    ensures counts { CountsMore (current_words (R.memory parts.old.region))
+        (current_words (R.memory parts.new.region)) i }
+    ensures inodes { parts.new.inodes ≡ parts.old.inodes }
+    ensures counted { parts.new.counts ≡ parts.old.counts }
+    ensures frozen { parts.new.frozen ≡ parts.old.frozen }
+{
+    let tree = tree_of(&parts.region, dir);
+    let size_place = place(&parts.region, dir, SIZE_FIELD);
+    put_behind(parts, dir, tree, i, name);
+    commit_word(&mut parts.region, size_place, tree.size + ENTRY_SIZE);
+}
+
+/// Gives a file one more name, in a directory's least empty slot or behind its last entry.
+fn share<R: Region>(parts: &mut Parts<R>, dir: u32, slot: Option<u64>, name: &[u8], i: u32)
+    requires can { CanShare (R.memory parts.old.region) parts.old.blocks parts.old.inodes dir i name.now }
+    requires exact { IsExact (current_words (R.memory parts.old.region)) parts.old }
+    requires slot { slot ≡ empty_slot (current_words (R.memory parts.old.region)) dir }
+    ensures performs { PerformsWithin (kept_of parts.old) (name_need (current_words (R.memory parts.old.region)) dir) 5
+        (stores_behind_growth (name_need (current_words (R.memory parts.old.region)) dir))
+        (R.memory parts.old.region) (R.memory parts.new.region) (enters dir linked) (LinksEntry dir name.now i) }
+    ensures exact { IsExact (current_words (R.memory parts.new.region)) parts.new }
+{
+    let names = parts.counts.names(i);
+    parts.counts.set(i, names + 1);
+    match slot {
+        Some(slot) => link_slot(&mut parts.region, dir, slot, i, name),
+        None => link_behind(parts, dir, i, name),
+    }
+}
+
+/// Gives file `i` one more name, which directory `dir` doesn't have, by one store alone in its epoch, for a caller that
+/// has found the directory's least empty slot, None where no entry is empty.
+///
+/// # Errors
+///
+/// `NoSpace` exactly where fewer blocks are free than the directory lacks for one entry more, where no entry is empty.
+pub fn link_in<R: Region>(
+    parts: &mut Parts<R>,
+    dir: u32,
+    slot: Option<u64>,
+    name: &[u8],
+    i: u32,
+) -> Result<(), NoSpace>
+    requires well_formed { IsWellFormed (current_words (R.memory parts.old.region)) }
+    requires exact { IsExact (current_words (R.memory parts.old.region)) parts.old }
+    requires reached { IsReached (current_words (R.memory parts.old.region)) dir }
+    requires directory { IsDirectory (current_words (R.memory parts.old.region)) dir }
+    requires name { IsName name.now }
+    requires slot { slot ≡ empty_slot (current_words (R.memory parts.old.region)) dir }
+    requires new { slot_named (current_words (R.memory parts.old.region)) dir name.now ≡ None }
+    requires there { IsReached (current_words (R.memory parts.old.region)) i }
+    requires file { IsFile (current_words (R.memory parts.old.region)) i }
+    requires room { HasRoomWhereFree (R.memory parts.old.region) (kept_of parts.old) parts.old.blocks (enters dir linked) }
+    ensures performs { OnOk result (Performs (kept_of parts.old) (R.memory parts.old.region) (R.memory parts.new.region)
+        (enters dir linked) (LinksEntry dir name.now i)) }
+    ensures exact { IsExact (current_words (R.memory parts.new.region)) parts.new }
+    ensures refused { IfErr result (λ lacks. LacksSpace (current_words (R.memory parts.old.region)) (kept_of parts.old)
+        (enters dir linked) lacks) }
+    ensures same { OnErr result (parts.new ≡ parts.old) }
+{
+    let tree = tree_of(&parts.region, dir);
+    let need = entry_need(&parts.region, dir, tree, slot);
+    let free = parts.blocks.count();
+    if free < need {
+        return Err(NoSpace { need, free });
+    }
+    share(parts, dir, slot, name, i);
+    Ok(())
+}

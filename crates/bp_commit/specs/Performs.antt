@@ -1,0 +1,109 @@
+-- What a changing call does before its mark, and what that may cost.
+use Rattle.std.specs.Prelude.{◌≡◌, ◌≢◌, ℕ, ◌+◌, ◌*◌, ◌/◌, ◌<◌, ◌≤◌, List, length, Bool, true, false, Some}
+use Rattle.pm_epochs.specs.declared.event.Event.{Event}
+use Rattle.pm_epochs.specs.Log.{StoresTo, IsStoredIn, stores, barriers, last_stored}
+use Rattle.pm_epochs.specs.May.{AnyAt, StoresMay}
+use Rattle.pm_region.specs.Memory.{Memory, current_words, room_in}
+use Rattle.pm_region.specs.Safe.{AddsQuiet, AddsCommit}
+use Rattle.bp_limits.specs.Limits.{block_words, super_root, super_size}
+use Rattle.bp_layout.specs.Members.{Has, Each, AreApart}
+use Rattle.bp_layout.specs.Need.{Change, cover, need}
+use Rattle.bp_layout.specs.Thaw.{full_need}
+use Rattle.bp_layout.specs.Reached.{IsLiveBlock, IsFreeBlock}
+use Rattle.bp_layout.specs.Same.{Same}
+use Rattle.bp_layout.specs.WellFormed.{IsWellFormed}
+use Rattle.bp_layout.specs.WordPaths.{address}
+use Rattle.bp_layout.specs.Words.{Image}
+
+-- a word of a block
+abbrev pub InBlock : ℕ → ℕ → Type 0
+InBlock block word = word / block_words ≡ block
+
+-- Where a call that takes these blocks may store: into them, into blocks that are live and not kept, and at the two
+-- words of the superblock that tell of the inode file.
+pub data IsOpen (image : Image) (kept : ℕ → Bool) (taken : List ℕ) (word : ℕ) : Type 0 where
+  in_taken : Has taken (word / block_words) → IsOpen image kept taken word
+  in_live : IsLiveBlock image (word / block_words) → kept (word / block_words) ≡ false → IsOpen image kept taken word
+  at_root : word ≡ super_root → IsOpen image kept taken word
+  at_size : word ≡ super_size → IsOpen image kept taken word
+
+-- The blocks of the list were free, each stands once, and each gets a store. Other free blocks get none, nor do the
+-- other words of the superblock: so a call can't prepare for a later one, nor leave in the log what nobody asked for.
+pub record TakesBlocks (image : Image) (kept : ℕ → Bool) (taken : List ℕ) (events : List Event) : Type 0 where
+  pub once : AreApart taken
+  pub free : Each (IsFreeBlock image kept) taken
+  pub stored : Each (λ b. StoresTo (InBlock b) events) taken
+  pub only : StoresMay (AnyAt (IsOpen image kept taken)) events
+
+-- a part of a preparation, and the blocks that it takes
+pub record AddsTaking (kept : ℕ → Bool) (taken : List ℕ) (most_barriers most_stores : ℕ) (old new : Memory) : Type 0 where
+  pub part : AddsQuiet Same most_barriers most_stores old new
+  pub takes : TakesBlocks (current_words old) kept taken part.added
+
+-- how many barriers a call makes at most, and how many stores where it needs so many blocks
+abbrev pub most_barriers : ℕ
+most_barriers = 10
+
+abbrev pub most_stores : ℕ → ℕ
+most_stores needed = (block_words + 1) * (needed + 6) + 64
+
+-- the same where nothing is thawed, or behind that
+abbrev pub most_stores_thawed : ℕ → ℕ
+most_stores_thawed needed = block_words * (needed + 6) + 64
+
+-- and how many events it adds at most: these, its barriers and its mark
+abbrev pub room_for : ℕ → ℕ
+room_for needed = most_stores needed + most_barriers + 1
+
+-- the log has room for the change, and no more is asked of it
+abbrev pub HasRoomFor : Memory → (ℕ → Bool) → Change → Type 0
+HasRoomFor memory kept change = room_for (full_need (current_words memory) kept change) ≤ room_in memory
+
+-- A changing call before its mark, where some blocks are kept: a quiet preparation, and then one store alone in its
+-- epoch, at the word of the cover, with so many barriers and stores at most. It takes just so many blocks. The cover is
+-- told of the image before, where the call is asked for, and its word stands in the image after, since a preparation
+-- may put a tree one level lower.
+pub record PerformsWithin (kept : ℕ → Bool) (needed barriers most : ℕ) (old new : Memory) (change : Change)
+    (Effect : Image → Image → Type 0) : Type 0 where
+  pub value : ℕ
+  pub commit : AddsCommit Same (address (current_words new) (cover (current_words old) change)) value
+      barriers most old new
+  pub taken : List ℕ
+  pub takes : TakesBlocks (current_words old) kept taken commit.prepared
+  pub number : length taken ≡ needed
+  pub in_open : IsOpen (current_words old) kept taken (address (current_words new) (cover (current_words old) change))
+  pub well_formed : IsWellFormed (current_words new)
+  pub effect : Effect (current_words old) (current_words new)
+
+-- as many as a call needs and makes at most: the blocks that are thawed first are among them
+abbrev pub Performs : (ℕ → Bool) → Memory → Memory → Change → (Image → Image → Type 0) → Type 0
+Performs kept old new change Effect = PerformsWithin kept (full_need (current_words old) kept change) most_barriers
+    (most_stores (full_need (current_words old) kept change)) old new change Effect
+
+-- the same of a call for which nothing has to be thawed any more
+abbrev pub PerformsThawed : (ℕ → Bool) → Memory → Memory → Change → (Image → Image → Type 0) → Type 0
+PerformsThawed kept old new change Effect = PerformsWithin kept (need (current_words old) change) 8
+    (most_stores_thawed (need (current_words old) change)) old new change Effect
+
+-- whatever it makes of the image
+abbrev pub IsPerformed : (ℕ → Bool) → Memory → Memory → Change → Type 0
+IsPerformed kept old new change = Performs kept old new change (λ image after. Unit {0})
+
+-- the list has just the blocks that are free in the image and to which a store of the log goes, each once
+pub record AreTaken (image : Image) (kept : ℕ → Bool) (events : List Event) (taken : List ℕ) : Type 0 where
+  pub once : AreApart taken
+  pub some : (b : ℕ) → Has taken b → IsFreeBlock image kept b × StoresTo (InBlock b) events
+  pub all : (b : ℕ) → IsFreeBlock image kept b → StoresTo (InBlock b) events → Has taken b
+
+-- What a changing call costs: its last store is at the word of the cover, the blocks that were free and to which it
+-- stores are as many as it needs, and it has few barriers and stores.
+pub record IsShort (old new : Image) (kept : ℕ → Bool) (change : Change) (events : List Event) : Type 0 where
+  pub last : last_stored events ≡ Some (address new (cover old change))
+  pub taken : List ℕ
+  pub are : AreTaken old kept events taken
+  pub number : length taken ≡ full_need old kept change
+  pub few_barriers : barriers events ≤ most_barriers
+  pub few_stores : length (stores events) ≤ most_stores (full_need old kept change)
+  -- and it leaves the blocks that are kept, and all words of the superblock but the two that tell of the inode file
+  pub keeps : (word : ℕ) → block_words ≤ word → kept (word / block_words) ≡ true → IsStoredIn events word → ⊥
+  pub idle : (word : ℕ) → word < block_words → word ≢ super_root → word ≢ super_size → IsStoredIn events word → ⊥

@@ -1,0 +1,40 @@
+-- The image in which another tree is the first reads each tree as the image does.
+use Rattle.std.proofs.Common.{◌≡◌, ◌≢◌, ℕ, zero, suc, ◌+◌, ◌*◌, ◌/◌, ◌%◌, ◌<◌, ◌≤◌, Bool, true, false, ◌==◌, length, set, refl, sym, ◌∙◌, ap, arith, get_or-set_same, get_or-set_other}
+use Rattle.std.proofs.lemmas.List.{length-set}
+use Rattle.bp_limits.specs.Limits.{version_at}
+use Rattle.bp_layout.specs.Formatted.{version_of}
+use Rattle.bp_layout.specs.Words.{Image, word, block_of, slot_word}
+use Rattle.bp_layout.specs.Tree.{word_at}
+use Rattle.bp_layout.specs.Trees.{snapshot_of, tree_image}
+use Rattle.bp_layout.proofs.TreeLaws.{slot_word-same}
+
+pub length-snapshot : (image : Image) → length (snapshot_of image) ≡ length image
+length-snapshot image = length-set (set image 2 (word image 4)) 3 (word image 5) ∙ length-set image 2 (word image 4)
+
+pub snapshot-root : (image : Image) → 4 ≤ length image → word (snapshot_of image) 2 ≡ word image 4
+snapshot-root image some =
+    get_or-set_other (set image 2 (word image 4)) 3 2 (word image 5) 0 (λ e. omega (arith, e)) ∙ get_or-set_same image 2 (word image 4) 0 (omega (arith, some))
+
+pub snapshot-size : (image : Image) → 4 ≤ length image → word (snapshot_of image) 3 ≡ word image 5
+snapshot-size image some =
+    get_or-set_same (set image 2 (word image 4)) 3 (word image 5) 0 (rw (length-set image 2 (word image 4)) (omega (arith, some)))
+
+pub snapshot-word : (image : Image) (place : ℕ) → place ≢ 2 → place ≢ 3 → word (snapshot_of image) place ≡ word image place
+snapshot-word image place not_root not_size =
+    get_or-set_other (set image 2 (word image 4)) 3 place (word image 5) 0 not_size ∙ get_or-set_other image 2 place (word image 4) 0 not_root
+
+-- so it has one version
+pub snapshot-version : (image : Image) → version_of (snapshot_of image) ≡ version_of image
+snapshot-version image = ap version_at (snapshot-word image 0 (λ e. omega (arith, e)) (λ e. omega (arith, e)))
+
+pub snapshot-slot : (image : Image) (block slot : ℕ) → slot_word (snapshot_of image) block slot ≡ slot_word image block slot
+snapshot-slot image zero slot = refl
+snapshot-slot image (suc b) slot = snapshot-word image (512 * suc b + slot) (λ e. omega (arith, e)) (λ e. omega (arith, e))
+
+-- so readers that are handed a root word need not know whose it is
+pub snapshot-word_at : (image : Image) (root depth index : ℕ) → word_at (snapshot_of image) root depth index ≡ word_at image root depth index
+unfolding word_at
+snapshot-word_at image root zero index = refl
+snapshot-word_at image root (suc depth) index =
+    snapshot-slot image (block_of (word_at (snapshot_of image) root depth (index / 512))) (index % 512)
+    ∙ ap (λ p. slot_word image (block_of p) (index % 512)) (snapshot-word_at image root depth (index / 512))

@@ -1,0 +1,98 @@
+-- An upgrade: before its mark the image is what it was, and then one of version 2 that shows the same.
+use Rattle.std.proofs.Common.{◌≡◌, ℕ, ◌/◌, ◌<◌, ◌≤◌, Bool, false, length, refl, sym, ◌∙◌, ap, arith, ne_eqb}
+use Rattle.bp_limits.specs.declared.version.Version.TheVariants.{One, Two}
+use Rattle.bp_limits.specs.Limits.{greatest_height, magic, version_at}
+use Rattle.bp_limits.proofs.Versions.{height_most, version_marked}
+use Rattle.bp_layout.specs.Words.{Image, word, block_count}
+use Rattle.bp_layout.specs.Format.{upgrade_stores, upgraded}
+use Rattle.bp_layout.specs.Formatted.{IsFormatted, version_of}
+use Rattle.bp_layout.specs.Lookup.{Path, find_one, shown}
+use Rattle.bp_layout.specs.Same.{Same}
+use Rattle.bp_layout.specs.WellFormed.{IsWellFormed}
+use Rattle.bp_layout.specs.Whole.{HasNoSecond, IsFileSystem, SameFiles}
+use Rattle.bp_layout.specs.Trees.{has_snapshot}
+use Rattle.bp_layout.proofs.NoSecond.{alone_file_system, first_has_none}
+use Rattle.bp_layout.proofs.BesideTrees.{SameTrees, still_well_formed, still_one, still_shown}
+use Rattle.bp_layout.proofs.LastValue.{AllWithinImage, last_value, length-after_stores, word-after_stores}
+
+-- in version 1 the words that version 2 keeps for a second inode file may be any
+module _ (old new : Image) (wf : IsWellFormed old) (same : SameTrees old new) (marked : word new 0 ≡ word old 0) (counted : word new 1 ≡ word old 1) (first : version_of old ≡ One) where
+  version-stays : version_of new ≡ version_of old
+  version-stays = ap version_at marked
+
+  formatted_first : IsFormatted new
+  formatted_first = record {
+    sized = record {
+      whole = rw same.whole wf.formatted.sized.whole;
+      at_least = rw same.whole wf.formatted.sized.at_least;
+      at_most = rw same.whole wf.formatted.sized.at_most;
+    };
+    marked = marked ∙ wf.formatted.marked ∙ ap magic (sym version-stays);
+    counted = counted ∙ rw same.whole wf.formatted.counted;
+  }
+
+  pub same_first : Same old new
+  same_first = record {
+    old_well_formed = wf;
+    new_well_formed = still_well_formed old new same wf formatted_first (rw version-stays (omega arith));
+    version = version-stays;
+    shows = still_shown old new same;
+    one = still_one old new same;
+  }
+
+  pub same_files_first : SameFiles old new
+  same_files_first = record {
+    first = same_first;
+    second = record {
+      there = first_has_none new (version-stays ∙ first) ∙ sym (first_has_none old first);
+      same = λ there. let none : has_snapshot old ≡ false = first_has_none old first in absurd (cc);
+    };
+  }
+
+module _ (image : Image) (wf : IsWellFormed image) where
+  within : AllWithinImage (length image) upgrade_stores
+  within = let some : 8 ≤ length image / 512 = wf.formatted.sized.at_least in omega (arith, some)
+
+  stored : (place : ℕ) → word (upgraded image) place ≡ last_value upgrade_stores place (word image place)
+  stored place = word-after_stores image upgrade_stores place within
+
+  whole : length (upgraded image) ≡ length image
+  whole = length-after_stores image upgrade_stores
+
+  same : SameTrees image (upgraded image)
+  same = record {
+    whole = whole;
+    root = stored 2;
+    size = stored 3;
+    blocks = λ place high. stored place ∙ rw (ne_eqb place 0 (λ e. omega (arith, e, high)), ne_eqb place 4 (λ e. omega (arith, e, high)), ne_eqb place 5 (λ e. omega (arith, e, high))) refl;
+  }
+
+  -- it is one of version 2
+  pub upgraded_version : version_of (upgraded image) ≡ Two
+  upgraded_version = ap version_at (stored 0) ∙ version_marked Two
+
+  formatted : IsFormatted (upgraded image)
+  formatted = record {
+    sized = record {
+      whole = rw whole wf.formatted.sized.whole;
+      at_least = rw whole wf.formatted.sized.at_least;
+      at_most = rw whole wf.formatted.sized.at_most;
+    };
+    marked = stored 0 ∙ ap magic (sym upgraded_version);
+    counted = stored 1 ∙ rw whole wf.formatted.counted;
+  }
+
+  -- well formed
+  pub upgraded_well_formed : IsWellFormed (upgraded image)
+  upgraded_well_formed = still_well_formed image (upgraded image) same wf formatted
+      (rw upgraded_version (height_most (version_of image)))
+
+  pub upgraded_file_system : IsFileSystem (upgraded image)
+  upgraded_file_system = alone_file_system (upgraded image) upgraded_well_formed (record { root = λ two. stored 4; size = λ two. stored 5 })
+
+  -- and shows what it showed
+  pub upgraded_shown : (path : Path) → shown (upgraded image) path ≡ shown image path
+  upgraded_shown = still_shown image (upgraded image) same
+
+  pub upgraded_one : (p q : Path) → find_one (upgraded image) p q ≡ find_one image p q
+  upgraded_one = still_one image (upgraded image) same

@@ -1,0 +1,80 @@
+-- The pointers of a change that lead to blocks that are kept: those of a snapshot, to which no call stores. Copies are
+-- put in place of these blocks before anything else is done, and what the change then stores to is not kept.
+use Rattle.std.specs.Prelude.{◌≡◌, ℕ, suc, ◌+◌, ◌*◌, ◌/◌, List, [], ◌∷◌, ◌++◌, length, filter, flat_map, Bool, false, ◌&&◌, nat_lt, Option, None, Some, if◌then◌else◌}
+use Rattle.bp_limits.specs.Limits.{entry_words}
+use Rattle.bp_layout.specs.Words.{Image, word, block_of, height_of}
+use Rattle.bp_layout.specs.Tree.{span}
+use Rattle.bp_layout.specs.Nodes.{is_present}
+use Rattle.bp_layout.specs.Inode.{root_of, size_of}
+use Rattle.bp_layout.specs.Directory.{empty_slot}
+use Rattle.bp_layout.specs.WordPaths.{WordPath, address, inode_path, tree_path}
+use Rattle.bp_layout.specs.Need.{Beyond, Change, beyond, cover_of, entry_path_at, need, new_inodes, pointed, prefixes_from, prefixes_of, touched_at}
+use Rattle.bp_layout.specs.Need.Change.{enters, moves}
+use Rattle.bp_layout.specs.Need.Entrant.{taken}
+
+-- ---- targets: the words near which a change stores, at the heights that the trees have
+
+abbrev pub heights_now : Image → ℕ → ℕ
+heights_now image t = height_of (root_of image t)
+
+-- the node is there to which the pointer at a path points
+abbrev pub is_there_now : Image → WordPath → Bool
+is_there_now image path =
+    is_present image (root_of image (pointed (heights_now image) path).0)
+    (size_of image (pointed (heights_now image) path).0) (pointed (heights_now image) path).1
+
+abbrev pub cover_now : Image → Change → WordPath
+cover_now image change = cover_of (is_there_now image) (touched_at (heights_now image) image change)
+
+abbrev pub root_path_now : Image → ℕ → WordPath
+root_path_now image t = tree_path (heights_now image 0) t 0 0
+
+-- the word of the byte at the size, or the root word where the tree is too low for it
+abbrev pub end_path_now : Image → ℕ → WordPath
+end_path_now image t =
+    if nat_lt (size_of image t) (span (heights_now image t))
+    then tree_path (heights_now image 0) t (suc (heights_now image t)) (size_of image t / 8) else root_path_now image t
+
+-- where bytes come behind the size of a tree
+abbrev pub end_targets : Image → Beyond → List WordPath
+end_targets image b = root_path_now image b.tree ∷ end_path_now image b.tree ∷ []
+
+abbrev pub slot_target : Image → ℕ → Option ℕ → List WordPath
+slot_target image i None = []
+slot_target image i (Some slot) = entry_path_at (heights_now image) i slot 0 ∷ []
+
+-- the inode that is taken, and the empty entry to which a name comes from another directory
+abbrev pub entry_targets : Image → Change → List WordPath
+entry_targets image (enters i (taken j)) = inode_path (heights_now image 0) j 0 ∷ []
+entry_targets image (moves i s j) = slot_target image j (empty_slot image j)
+entry_targets image _ = []
+
+abbrev pub targets : Image → Change → List WordPath
+targets image change =
+    cover_now image change ∷ flat_map (end_targets image) (beyond image change ++ new_inodes image change)
+    ++ entry_targets image change
+
+-- ---- thaw
+
+-- as where there is no snapshot
+abbrev pub none_kept : ℕ → Bool
+none_kept b = false
+
+-- a live pointer leads to a block that is kept
+abbrev pub is_kept_at : Image → (ℕ → Bool) → WordPath → Bool
+is_kept_at image kept path = is_there_now image path && kept (block_of (word image (address image path)))
+
+-- those on the ways to some words
+abbrev pub thawed_on : Image → (ℕ → Bool) → List WordPath → List WordPath
+thawed_on image kept paths = filter (is_kept_at image kept) (prefixes_of 0 [] paths)
+
+abbrev pub thawed : Image → (ℕ → Bool) → Change → List WordPath
+thawed image kept change = thawed_on image kept (targets image change)
+
+-- none of the blocks to which the pointers on a way lead is kept, from those with so many slots on
+abbrev pub IsLoose : Image → (ℕ → Bool) → ℕ → WordPath → Type 0
+IsLoose image kept shortest path = filter (is_kept_at image kept) (prefixes_from shortest path) ≡ []
+
+-- how many blocks a change takes in all
+abbrev pub full_need : Image → (ℕ → Bool) → Change → ℕ
+full_need image kept change = length (thawed image kept change) + need image change

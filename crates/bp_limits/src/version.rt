@@ -1,0 +1,85 @@
+//! The versions of the format, and the limits that are not the same in each.
+
+ghost use Rattle.std.specs.Prelude.{◌≡◌, ◌≤◌};
+ghost use Rattle.bp_limits.specs.Numbers.{version_numbered};
+ghost use Rattle.bp_limits.specs.Limits.{greatest_height, greatest_size, greatest_write, magic, max_height, max_size, max_write, version_at};
+
+use crate::{MAX_HEIGHT, MAX_SIZE, MAX_WRITE};
+
+/// A version of the format, which word 0 of an image tells.
+#[derive(Clone, Copy, Debug, PartialEq, Eq)]
+pub enum Version {
+    /// The first one.
+    One,
+    /// With higher trees and longer writes.
+    Two,
+}
+
+impl Version {
+    /// The version with a number, which is 1 or 2.
+    pub fn numbered(number: u8) -> Version
+        requires least { 1 ≤ number }
+        requires most { number ≤ 2 }
+        ensures { result ≡ version_numbered number }
+    {
+        if number == 2 {
+            Version::Two
+        } else {
+            Version::One
+        }
+    }
+
+    /// The version that a word 0 marks, the first one where it is the mark of none.
+    pub fn at(word: u64) -> Version
+        ensures { result ≡ version_at word }
+    {
+        if word == Version::Two.magic() {
+            Version::Two
+        } else {
+            Version::One
+        }
+    }
+
+    /// Word 0 of an image: the bytes `BPFSRS01` or `BPFSRS02`, the lowest first.
+    pub fn magic(self) -> u64
+        ensures { result ≡ magic self }
+    {
+        match self {
+            Version::One => 0x3130_5352_5346_5042,
+            Version::Two => 0x3230_5352_5346_5042,
+        }
+    }
+
+    /// The greatest height of a tree.
+    pub fn greatest_height(self) -> u32
+        ensures height { result ≡ greatest_height self }
+        ensures most { result ≤ max_height }
+    {
+        match self {
+            Version::One => 3,
+            Version::Two => MAX_HEIGHT,
+        }
+    }
+
+    /// The greatest size of a file, a directory and the inode file, in bytes: what a tree of the greatest height covers.
+    pub fn greatest_size(self) -> u64
+        ensures size { result ≡ greatest_size self }
+        ensures most { result ≤ max_size }
+    {
+        match self {
+            Version::One => 549_755_813_888,
+            Version::Two => MAX_SIZE,
+        }
+    }
+
+    /// The most bytes that one call writes.
+    pub fn greatest_write(self) -> usize
+        ensures write { result ≡ greatest_write self }
+        ensures most { result ≤ max_write }
+    {
+        match self {
+            Version::One => 65_536,
+            Version::Two => MAX_WRITE,
+        }
+    }
+}

@@ -1,0 +1,16 @@
+-- The calls that a volume carries out so far.
+use Rattle.std.specs.Prelude.{◌≤◌}
+use Rattle.bp_limits.specs.Limits.{max_read}
+use Rattle.bp_plain.specs.Calls.{Call}
+use Rattle.bp_plain.specs.Calls.Call.{read, snap, unsnap, snap_list, snap_stat, snap_read, batch}
+
+-- no snapshot and no batch, and a read of so many bytes at most
+abbrev pub IsServed : Call → Type 0
+IsServed (read text off len) = len ≤ max_read
+IsServed snap = ⊥
+IsServed unsnap = ⊥
+IsServed (snap_list text) = ⊥
+IsServed (snap_stat text) = ⊥
+IsServed (snap_read text off len) = ⊥
+IsServed (batch pieces) = ⊥
+IsServed call = Unit {0}

@@ -1,0 +1,83 @@
+//! The bytes of files and of answers.
+
+ghost use Rattle.bp_limits.specs.Limits.{greatest_size, max_read};
+ghost use Rattle.bp_plain.specs.Calls.Answer.{bytes};
+ghost use Rattle.bp_plain.specs.Plain as plain;
+ghost use Rattle.std.specs.Prelude.{IfOk, ◌&&◌, ◌+◌, ◌++◌, ◌≡◌, ◌≤◌, drop, length, nat_lt, take};
+
+use crate::replies::Reply;
+use bp_limits::Version;
+use std::alloc::{AllocError, Global};
+
+/// At most so many bytes from an offset on.
+pub(crate) fn part(content: &[u8], off: u64, len: usize) -> &[u8]
+    ensures { result.now ≡ take len (drop off content.now) }
+{
+    if off >= content.len() as u64 {
+        return &[];
+    }
+    let rest = &content[off as usize..];
+    &rest[..rest.len().min(len)]
+}
+
+/// Whether there are bytes, and they end behind the greatest size.
+pub(crate) fn ends_too_late(version: Version, off: u64, new: &[u8]) -> bool
+    ensures { result ≡ (nat_lt 0 (length new.now) && nat_lt (greatest_size version) (off + length new.now)) }
+{
+    !new.is_empty() && u128::from(off) + new.len() as u128 > u128::from(version.greatest_size())
+}
+
+/// The old bytes with the new ones laid over them, and 0 between.
+pub(crate) fn written(
+    alloc: Global,
+    old: &[u8],
+    off: usize,
+    new: &[u8],
+) -> Result<Vec<u8>, AllocError>
+    ensures { IfOk result (λ content. content.items ≡ plain.written old.now off new.now) }
+{
+    let mut content = resized(alloc, old, off)?;
+    content.extend_from_slice(new)?;
+    content.extend_from_slice(behind(old, off, new.len()))?;
+    Ok(content)
+}
+
+/// The bytes behind so many from an offset on.
+fn behind(content: &[u8], off: usize, len: usize) -> &[u8]
+    ensures { result.now ≡ drop (off + len) content.now }
+{
+    if off >= content.len() {
+        return &[];
+    }
+    let rest = &content[off..];
+    if len >= rest.len() {
+        return &[];
+    }
+    &rest[len..]
+}
+
+/// So many of the bytes, and 0 behind them.
+pub(crate) fn resized(alloc: Global, old: &[u8], size: usize) -> Result<Vec<u8>, AllocError>
+    ensures { IfOk result (λ content. content.items ≡ plain.resized old.now size) }
+{
+    let mut content = Vec::new(alloc);
+    content.extend_from_slice(old)?;
+    content.resize(size, 0)?;
+    Ok(content)
+}
+
+/// Answers these bytes.
+pub(crate) fn answer_bytes(reply: &mut Reply, content: &[u8])
+    requires { length content.now ≤ max_read }
+    ensures { reply.new.answer ≡ bytes content.now }
+{
+    copy_to(content, reply.buffer());
+    reply.set_bytes(content.len());
+}
+
+fn copy_to(content: &[u8], into: &mut [u8])
+    requires { length content.now ≤ length into.old }
+    ensures { into.new ≡ content.now ++ drop (length content.now) into.old }
+{
+    into[..content.len()].copy_from_slice(content);
+}

@@ -1,0 +1,115 @@
+//! A row in one version of the format.
+
+use crate::comparing::compare;
+use crate::cutting::cut_all_over;
+use crate::line::{Device, InputLine};
+use crate::playing::{formatted, play};
+use crate::row::{Failing, Row};
+use crate::showing::{show, show_short};
+use bp_limits::Version;
+use std::alloc::{AllocError, Global};
+
+/// The row that is being read, in one version, and the image of that version that is kept for later ones.
+#[derive(Drop)]
+pub struct Side {
+    alloc: Global,
+    row: Row,
+    kept: Option<Vec<u8>>,
+}
+
+fn copy_of(alloc: Global, file: &Option<Vec<u8>>) -> Result<Option<Vec<u8>>, AllocError> {
+    match file {
+        Some(bytes) => Ok(Some(Vec::from_slice(alloc, bytes)?)),
+        None => Ok(None),
+    }
+}
+
+/// Tells a line that is none of a row.
+pub fn refuse(text: &str, report: &mut String) -> Result<(), AllocError> {
+    writeln!(report, "bad row: {text}")
+}
+
+impl Side {
+    /// No row yet, and no image.
+    pub fn new(alloc: Global, version: Version) -> Result<Side, AllocError> {
+        Ok(Side {
+            alloc,
+            row: Row::new(alloc, version)?,
+            kept: None,
+        })
+    }
+
+    /// Begins a row.
+    pub fn begin(&mut self) -> Result<(), AllocError> {
+        self.row = Row::new(self.alloc, self.row.version)?;
+        Ok(())
+    }
+
+    /// Does what a line of the row says, and writes what came of it.
+    pub fn take(
+        &mut self,
+        text: &str,
+        line: InputLine<'_>,
+        report: &mut String,
+    ) -> Result<(), AllocError> {
+        match line {
+            InputLine::Keep => {
+                self.kept = copy_of(self.alloc, &self.row.file)?;
+                Ok(())
+            }
+            InputLine::Kept => {
+                self.row.file = copy_of(self.alloc, &self.kept)?;
+                Ok(())
+            }
+            InputLine::Go => self.go(report),
+            InputLine::Plain(blocks) => self.plain(text, blocks, report),
+            InputLine::Cuts(blocks) => self.cut(text, blocks, report),
+            InputLine::Sweep(device, count) => self.sweep(device, count, report),
+            _ => {
+                if self.row.set(self.alloc, line)? {
+                    Ok(())
+                } else {
+                    refuse(text, report)
+                }
+            }
+        }
+    }
+
+    fn go(&mut self, report: &mut String) -> Result<(), AllocError> {
+        let ran = play(self.alloc, &self.row)?;
+        show(report, self.row.file.as_deref(), &ran)?;
+        self.row.go_on(self.alloc, ran.file)
+    }
+
+    fn plain(&mut self, text: &str, blocks: &str, report: &mut String) -> Result<(), AllocError> {
+        let version = self.row.version;
+        self.row.file = formatted(self.alloc, blocks, version)?;
+        if self.row.file.is_none() {
+            return refuse(text, report);
+        }
+        let ran = play(self.alloc, &self.row)?;
+        let told = str::from_utf8(&ran.told).unwrap_or("");
+        compare(self.alloc, version, self.row.script.as_str(), told, report)?;
+        self.row.go_on(self.alloc, ran.file)
+    }
+
+    fn cut(&mut self, text: &str, blocks: &str, report: &mut String) -> Result<(), AllocError> {
+        let Some(image) = formatted(self.alloc, blocks, self.row.version)? else {
+            return refuse(text, report);
+        };
+        cut_all_over(self.alloc, &self.row, &image, report)
+    }
+
+    fn sweep(&mut self, device: Device, count: u64, report: &mut String) -> Result<(), AllocError> {
+        let name = device.name();
+        for call in 0..count {
+            self.row.failing = Failing::none(self.alloc);
+            self.row.failing.add(device, call)?;
+            let ran = play(self.alloc, &self.row)?;
+            write!(report, "  {name} {call}: ")?;
+            show_short(report, self.row.file.as_deref(), &ran)?;
+        }
+        self.row.failing = Failing::none(self.alloc);
+        Ok(())
+    }
+}

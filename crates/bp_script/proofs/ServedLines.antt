@@ -1,0 +1,99 @@
+-- A volume carries out each call that a line asks for.
+use Rattle.std.proofs.Common.{◌≡◌, ℕ, List, [], ◌∷◌, Bool, true, false, Option, None, Some, codes, if◌then◌else◌, nat_le, refl}
+use Rattle.std.specs.List.{list_any}
+use Rattle.std.specs.Prelude.{bytes_eq}
+use Rattle.std.proofs.lemmas.Bool.{leb-true}
+use Rattle.bp_limits.specs.Limits.{max_read}
+use Rattle.bp_plain.specs.Calls.{Call}
+use Rattle.bp_plain.specs.Calls.Call.{create, mkdir, unlink, rmdir, list, stat, read, rename, link, links, upgrade}
+use Rattle.bp_plain.specs.Served.{IsServed}
+use Rattle.bp_replay.specs.Wanted.Wanted.{all, nothing}
+use Rattle.bp_script.specs.Commands.{Command, IsServedCommand, bare_command, bytes_spelled, command_by_words, decoded, decoded_call, in_grammar, is_empty_word, long_command, masked_crash, number_spelled, pair_command, path_command, read_command, storm_command, truncate_command, whole_crash, word_command, words_of, write_command}
+use Rattle.bp_script.specs.Commands.Command.{file_call, sync, space, crash, log, bad_syntax}
+
+served_either : (test : Bool) (first second : Command) → IsServedCommand first → IsServedCommand second → IsServedCommand (if test then first else second)
+served_either true first second one other = one
+served_either false first second one other = other
+
+served_read : (path : List ℕ) (off len : Option ℕ) → IsServedCommand (read_command path off len)
+served_read path (Some off) (Some len) = go (nat_le len max_read) refl
+  where
+    go : (few : Bool) → nat_le len max_read ≡ few → IsServedCommand (if few then file_call (read path off len) else bad_syntax)
+    go true e = leb-true len max_read e
+    go false e = tt
+served_read path None len = tt
+served_read path (Some off) None = tt
+
+served_write : (path : List ℕ) (off : Option ℕ) (new : Option (List ℕ)) → IsServedCommand (write_command path off new)
+served_write path (Some off) (Some new) = tt
+served_write path (Some off) None = tt
+served_write path None new = tt
+
+served_truncate : (path : List ℕ) (size : Option ℕ) → IsServedCommand (truncate_command path size)
+served_truncate path (Some size) = tt
+served_truncate path None = tt
+
+served_bare : (verb : List ℕ) → IsServedCommand (bare_command verb)
+served_bare verb =
+    served_either (bytes_eq verb (codes "sync")) sync _ tt
+    (served_either (bytes_eq verb (codes "space")) space _ tt
+    (served_either (bytes_eq verb (codes "log")) log _ tt (served_either (bytes_eq verb (codes "upgrade")) (file_call upgrade) bad_syntax tt tt)))
+
+served_whole : (word : List ℕ) → IsServedCommand (whole_crash word)
+served_whole word = served_either (bytes_eq word (codes "all")) (crash all) _ tt (served_either (bytes_eq word (codes "none")) (crash nothing) bad_syntax tt tt)
+
+served_masked : (moment epoch : Option ℕ) (mask : Option (List ℕ)) → IsServedCommand (masked_crash moment epoch mask)
+served_masked (Some moment) (Some epoch) (Some mask) = tt
+served_masked None epoch mask = tt
+served_masked (Some moment) None mask = tt
+served_masked (Some moment) (Some epoch) None = tt
+
+served_storm : (seed : Option ℕ) → IsServedCommand (storm_command seed)
+served_storm (Some seed) = tt
+served_storm None = tt
+
+served_path : (verb path : List ℕ) → IsServedCommand (path_command verb path)
+served_path verb path =
+    served_either (bytes_eq verb (codes "create")) (file_call (create path)) _ tt
+    (served_either (bytes_eq verb (codes "mkdir")) (file_call (mkdir path)) _ tt
+    (served_either (bytes_eq verb (codes "unlink")) (file_call (unlink path)) _ tt
+    (served_either (bytes_eq verb (codes "rmdir")) (file_call (rmdir path)) _ tt
+    (served_either (bytes_eq verb (codes "list")) (file_call (list path)) _ tt
+    (served_either (bytes_eq verb (codes "stat")) (file_call (stat path)) _ tt (served_either (bytes_eq verb (codes "links")) (file_call (links path)) bad_syntax tt tt))))))
+
+served_word : (verb word : List ℕ) → IsServedCommand (word_command verb word)
+served_word verb word =
+    served_either (bytes_eq verb (codes "crash")) (whole_crash word) _ (served_whole word)
+    (served_either (bytes_eq verb (codes "storm")) (storm_command (number_spelled word)) _ (served_storm (number_spelled word)) (served_path verb word))
+
+served_pair : (verb first second : List ℕ) → IsServedCommand (pair_command verb first second)
+served_pair verb first second =
+    served_either (bytes_eq verb (codes "truncate")) (truncate_command first (number_spelled second)) _ (served_truncate first (number_spelled second))
+    (served_either (bytes_eq verb (codes "rename")) (file_call (rename first second)) _ tt
+    (served_either (bytes_eq verb (codes "link")) (file_call (link first second)) bad_syntax tt tt))
+
+served_long : (verb first second third : List ℕ) → IsServedCommand (long_command verb first second third)
+served_long verb first second third =
+    served_either (bytes_eq verb (codes "read")) (read_command first (number_spelled second) (number_spelled third)) _ (served_read first (number_spelled second) (number_spelled third))
+    (served_either (bytes_eq verb (codes "write")) (write_command first (number_spelled second) (bytes_spelled third)) _ (served_write first (number_spelled second) (bytes_spelled third))
+    (served_either (bytes_eq verb (codes "crash")) (masked_crash (number_spelled first) (number_spelled second) (bytes_spelled third)) bad_syntax (served_masked (number_spelled first) (number_spelled second) (bytes_spelled third)) tt))
+
+served_words : (words : List (List ℕ)) → IsServedCommand (command_by_words words)
+served_words [] = tt
+served_words (verb ∷ []) = served_bare verb
+served_words (verb ∷ word ∷ []) = served_word verb word
+served_words (verb ∷ first ∷ second ∷ []) = served_pair verb first second
+served_words (verb ∷ first ∷ second ∷ third ∷ []) = served_long verb first second third
+served_words (verb ∷ first ∷ second ∷ third ∷ fourth ∷ more) = tt
+
+-- decoded paths make no other call of one
+served_decoded_call : (call : Call) → IsServed call → IsServed (decoded_call call)
+served_decoded_call (read path off len) served = served
+served_decoded_call call served = served
+
+served_decoded : (command : Command) → IsServedCommand command → IsServedCommand (decoded command)
+served_decoded (file_call call) served = served_decoded_call call served
+served_decoded command served = served
+
+pub served_line : (line : List ℕ) → IsServedCommand (in_grammar line)
+served_line line = served_decoded _ (served_either (list_any is_empty_word (words_of line)) bad_syntax (command_by_words (words_of line)) tt (served_words (words_of line)))

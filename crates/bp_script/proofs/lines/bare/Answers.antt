@@ -1,0 +1,8 @@
+use Rattle.std.proofs.Common.{◌≡◌, arith, codes, refl}
+use Rattle.std.proofs.lemmas.Slice.Eq.{text_from_reads}
+use Rattle.bp_script.proofs.lines.bare.Goals as goal
+
+pub returns-in-upgrade : goal.returns-in-upgrade
+returns-in-upgrade c =
+    let same : c.args.verb.now ≡ codes "upgrade" = text_from_reads c.args.verb.now (codes "upgrade") (omega arith) (omega arith) in
+    rw same refl

@@ -1,0 +1,31 @@
+-- The plain tree of an image that was upgraded.
+use Rattle.std.proofs.Common.{◌≡◌, true, false, Option, None, Some, sym, ◌∙◌}
+use Rattle.bp_limits.specs.declared.version.Version.TheVariants.{One, Two}
+use Rattle.bp_layout.specs.Words.{Image}
+use Rattle.bp_layout.specs.Format.{upgraded}
+use Rattle.bp_layout.specs.Formatted.{version_of}
+use Rattle.bp_layout.specs.Trees.{has_snapshot}
+use Rattle.bp_layout.specs.WellFormed.{IsWellFormed}
+use Rattle.bp_layout.proofs.NoSecond.{first_has_none, has_none}
+use Rattle.bp_layout.proofs.Upgrade.{upgraded_file_system, upgraded_one, upgraded_shown, upgraded_version, upgraded_well_formed}
+use Rattle.bp_plain.specs.PlainTree.{FileTree, PathMap}
+use Rattle.bp_plain.specs.Stands.{ShowsSnapshot, Stands}
+
+-- an upgrade of version 1 leaves the tree but for its version
+pub upgrade_stands : (image : Image) → version_of image ≡ One → (tree : FileTree) → Stands image tree → Stands (upgraded image) (record tree { version = Two })
+upgrade_stands image first tree stands = record {
+  version = sym (upgraded_version image wf);
+  now = record {
+    well_formed = upgraded_well_formed image wf;
+    shows = λ path. stands.now.shows path ∙ sym (upgraded_shown image wf path);
+    one = λ p q. stands.now.one p q ∙ sym (upgraded_one image wf p q);
+  };
+  snap = go tree.snap stands.snap;
+}
+  where
+    wf : IsWellFormed image
+    wf = stands.now.well_formed
+
+    go : (snap : Option PathMap) → ShowsSnapshot image snap → ShowsSnapshot (upgraded image) snap
+    go None none = has_none (upgraded image) (upgraded_file_system image wf).no_second
+    go (Some map) shows = let there : has_snapshot image ≡ true = shows.0 in let none : has_snapshot image ≡ false = first_has_none image first in absurd (cc)

@@ -1,0 +1,17 @@
+//! The version of an image.
+
+ghost use Rattle.std.specs.Prelude.{◌≡◌, ◌<◌, length};
+ghost use Rattle.bp_layout.specs.Formatted.{version_of};
+ghost use Rattle.pm_region.specs.Memory.{current_words};
+
+use bp_limits::{SUPER_MAGIC, Version};
+use pm_region::Region;
+
+/// The version that the mark of an image tells.
+pub fn version<R: Region>(region: &R) -> Version
+    requires { 0 < length (current_words (R.memory region.now)) }
+    ensures { result ≡ version_of (current_words (R.memory region.now)) }
+{
+    let _words = region.words();
+    Version::at(region.load(SUPER_MAGIC))
+}

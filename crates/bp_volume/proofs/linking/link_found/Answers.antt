@@ -1,0 +1,42 @@
+use Rattle.std.proofs.Common.{ap}
+use Rattle.std.proofs.lemmas.Result.{MatchResult-weaker, on_err_weaker, on_ok_weaker}
+use Rattle.bp_calls.proofs.EnteredStands.{linked_shares}
+use Rattle.bp_free.specs.declared.parts.Parts.{Parts}
+use Rattle.bp_layout.specs.Need.Change.{enters}
+use Rattle.bp_layout.specs.Need.Entrant.{linked}
+use Rattle.bp_layout.specs.Thaw.{none_kept}
+use Rattle.bp_layout.proofs.NoSecond.{none_frozen}
+use Rattle.bp_volume.proofs.AskingLaws.{at_reached}
+use Rattle.bp_volume.proofs.ChangeLaws.{carried_or_lacks, lacks_space, performs_call}
+use Rattle.bp_volume.proofs.FewBlocks.{few_entered, few_room, performs_room}
+use Rattle.bp_volume.proofs.SharingLaws.{linking_makes, linking_shows}
+use Rattle.bp_volume.proofs.WalkLaws.{reached_at}
+use Rattle.bp_volume.proofs.linking.link_found.Goals as goal
+
+pub link_in-requires-clause-well_formed : goal.link_in-requires-clause-well_formed
+link_in-requires-clause-well_formed g c = c.requires.well_formed.first
+
+pub link_in-requires-clause-reached : goal.link_in-requires-clause-reached
+link_in-requires-clause-reached g c = reached_at _ c.requires.well_formed.first _ c.args.ends.name.dir c.requires.new.new.parent
+
+pub link_in-requires-clause-there : goal.link_in-requires-clause-there
+link_in-requires-clause-there g c = at_reached _ c.requires.well_formed.first c.args.from.now c.args.ends.inode c.requires.at
+
+pub link_in-requires-clause-room : goal.link_in-requires-clause-room
+link_in-requires-clause-room g c = λ enough.
+    few_room (g.R.Region.memory c.args.parts.now.region) (enters c.args.ends.name.dir linked)
+    (few_entered _ c.requires.well_formed.first c.args.ends.name.dir (reached_at _ c.requires.well_formed.first _ c.args.ends.name.dir c.requires.new.new.parent) linked) c.requires.room
+
+pub returns-clause-called : goal.returns-clause-called
+returns-clause-called g c =
+    let makes = linking_makes _ c.args.from.now c.args.to.now c.args.ends.inode c.requires.at c.requires.kind c.args.ends.name.dir c.args.ends.name.name.now c.requires.new in
+    let frozen = none_frozen _ c.requires.well_formed.no_second in
+    carried_or_lacks _ _ _ c.link_in.result c.map_err.result c.map_err.ensures.cases
+    (on_ok_weaker c.link_in.result (λ performs. performs_call none_kept _ _ _ (enters c.args.ends.name.dir linked) _ c.requires.well_formed frozen makes performs
+    (λ links. linking_shows _ c.args.from.now c.args.to.now c.args.ends.inode c.requires.at c.requires.kind c.args.ends.name.dir c.args.ends.name.name.now c.requires.new _
+    (linked_shares _ _ c.requires.well_formed.first c.args.ends.name.dir c.args.ends.name.name.now c.args.ends.inode links))
+    (performs_room _ _ _ _ performs
+    (few_entered _ c.requires.well_formed.first c.args.ends.name.dir (reached_at _ c.requires.well_formed.first _ c.args.ends.name.dir c.requires.new.new.parent) linked) c.requires.room))
+    c.link_in.ensures.performs)
+    (on_err_weaker c.link_in.result (ap (λ (parts : Parts g.row.R.Denot). g.R.Region.memory parts.region)) c.link_in.ensures.same)
+    (MatchResult-weaker c.link_in.result c.link_in.ensures.refused (λ _ nothing. nothing) (lacks_space _ _ (enters c.args.ends.name.dir linked) makes none_kept frozen))

@@ -1,0 +1,94 @@
+//! Names more for files.
+
+ghost use Rattle.std.specs.Prelude.{◌≡◌, ◌≤◌, IfErr, IfOk};
+ghost use Rattle.bp_layout.specs.Directory.{empty_slot};
+ghost use Rattle.bp_layout.specs.Inode.{IsFile};
+ghost use Rattle.bp_layout.specs.WellFormed.{IsWellFormed};
+ghost use Rattle.bp_layout.specs.Whole.{IsFileSystem};
+ghost use Rattle.bp_limits.specs.Limits.{call_room};
+ghost use Rattle.bp_plain.specs.Calls.Call.{link};
+ghost use Rattle.bp_plain.specs.Seen.{refusal_of};
+ghost use Rattle.bp_shapes.specs.Sets.{IsExact};
+ghost use Rattle.bp_volume.specs.Carried.{CarriesOut};
+ghost use Rattle.bp_volume.specs.Seen.{unit_answer};
+ghost use Rattle.bp_volume.specs.Step.{FindsNew, PathFinds};
+ghost use Rattle.bp_volume.specs.Told.{Refuses};
+ghost use Rattle.pm_region.specs.Memory.{current_words, room_in};
+
+use crate::refusing::no_space;
+use crate::walking::{NewName, bad_path, file_at, new_name};
+use bp_calls::link_in;
+use bp_free::Parts;
+use bp_path::parse;
+use bp_plain::FsError;
+use pm_region::Region;
+
+/// The ends of a link: a file, and the new name that it is to have.
+#[derive(Clone, Copy)]
+pub(crate) struct LinkEnds<'a> {
+    /// The file's inode.
+    pub inode: u32,
+    /// The new name.
+    pub name: NewName<'a>,
+}
+
+/// The file that a path text finds, and the new name that another one spells.
+fn link_ends<'a, R: Region>(region: &R, from: &[u8], to: &'a [u8]) -> Result<LinkEnds<'a>, FsError>
+    requires { IsWellFormed (current_words (R.memory region.now)) }
+    ensures found { IfOk result (λ ends. PathFinds (current_words (R.memory region.now)) from.now ends.inode) }
+    ensures kind { IfOk result (λ ends. IsFile (current_words (R.memory region.now)) ends.inode) }
+    ensures new { IfOk result
+        (λ ends. FindsNew (current_words (R.memory region.now)) to.now ends.name.dir ends.name.name.now) }
+    ensures slot { IfOk result
+        (λ ends. ends.name.slot ≡ empty_slot (current_words (R.memory region.now)) ends.name.dir) }
+    ensures refused { IfErr result
+        (λ e. Refuses (current_words (R.memory region.now)) (link from.now to.now) (refusal_of e)) }
+{
+    // Both texts are to be paths before anything is sought.
+    parse(to).map_err(bad_path)?;
+    let file = file_at(region, from)?;
+    let name = new_name(region, to)?;
+    Ok(LinkEnds {
+        inode: file.inumber,
+        name,
+    })
+}
+
+/// Gives a file that a path text finds the new name that another one spells.
+fn link_found<R: Region>(
+    parts: &mut Parts<R>,
+    from: &[u8],
+    to: &[u8],
+    ends: LinkEnds<'_>,
+) -> Result<(), FsError>
+    requires well_formed { IsFileSystem (current_words (R.memory parts.old.region)) }
+    requires exact { IsExact (current_words (R.memory parts.old.region)) parts.old }
+    requires at { PathFinds (current_words (R.memory parts.old.region)) from.now ends.inode }
+    requires kind { IsFile (current_words (R.memory parts.old.region)) ends.inode }
+    requires new { FindsNew (current_words (R.memory parts.old.region)) to.now ends.name.dir ends.name.name.now }
+    requires slot { ends.name.slot ≡ empty_slot (current_words (R.memory parts.old.region)) ends.name.dir }
+    requires room { call_room ≤ room_in (R.memory parts.old.region) }
+    ensures called { CarriesOut (R.memory parts.old.region) (link from.now to.now) (unit_answer result)
+        (R.memory parts.new.region) }
+    ensures exact { IsExact (current_words (R.memory parts.new.region)) parts.new }
+{
+    let name = ends.name;
+    link_in(parts, name.dir, name.slot, name.name, ends.inode).map_err(no_space)
+}
+
+/// What `link` does before its mark.
+pub(crate) fn link_at<R: Region>(
+    parts: &mut Parts<R>,
+    from: &[u8],
+    to: &[u8],
+) -> Result<(), FsError>
+    requires well_formed { IsFileSystem (current_words (R.memory parts.old.region)) }
+    requires exact { IsExact (current_words (R.memory parts.old.region)) parts.old }
+    requires room { call_room ≤ room_in (R.memory parts.old.region) }
+    ensures called { CarriesOut (R.memory parts.old.region) (link from.now to.now) (unit_answer result)
+        (R.memory parts.new.region) }
+    ensures exact { IsExact (current_words (R.memory parts.new.region)) parts.new }
+{
+    let ends = link_ends(&parts.region, from, to)?;
+    link_found(parts, from, to, ends)
+}

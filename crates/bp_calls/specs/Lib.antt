@@ -2,6 +2,7 @@ pub mod Entered
 pub mod Entrant
 pub mod Created
 pub mod OnTrees
+pub mod Mounted
 pub mod Spare
 pub mod Steps
 pub mod Asked

@@ -4,6 +4,7 @@ ghost use Rattle.std.specs.Prelude.{◌≡◌, ◌≢◌, ℕ, ◌+◌, ◌*◌,
 ghost use Rattle.bp_calls.specs.Created.{EntersName};
 ghost use Rattle.bp_calls.specs.Entrant.{entrant_of};
 ghost use Rattle.bp_calls.specs.Growth.{stores_behind_growth};
+ghost use Rattle.bp_calls.specs.Mounted.{IsMounted};
 ghost use Rattle.bp_calls.specs.Space.{HasRoomWhereFree, LacksSpace};
 ghost use Rattle.bp_calls.specs.Steps.{CanEnter, LacksName, name_need};
 ghost use Rattle.bp_free.specs.Set.{IsLeast, members, without};
@@ -104,8 +105,7 @@ pub fn create_in<R: Region>(
     name: &[u8],
     kind: Kind,
 ) -> Result<(), NoSpace>
-    requires well_formed { IsWellFormed (current_words (R.memory parts.old.region)) }
-    requires exact { IsExact (current_words (R.memory parts.old.region)) parts.old }
+    requires mounted { IsMounted (current_words (R.memory parts.old.region)) parts.old }
     requires reached { IsReached (current_words (R.memory parts.old.region)) dir }
     requires directory { IsDirectory (current_words (R.memory parts.old.region)) dir }
     requires name { IsName name.now }
@@ -155,8 +155,7 @@ pub fn create<R: Region>(
     name: &[u8],
     kind: Kind,
 ) -> Result<(), NoSpace>
-    requires well_formed { IsWellFormed (current_words (R.memory parts.old.region)) }
-    requires exact { IsExact (current_words (R.memory parts.old.region)) parts.old }
+    requires mounted { IsMounted (current_words (R.memory parts.old.region)) parts.old }
     requires reached { IsReached (current_words (R.memory parts.old.region)) dir }
     requires directory { IsDirectory (current_words (R.memory parts.old.region)) dir }
     requires name { IsName name.now }

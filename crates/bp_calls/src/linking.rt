@@ -3,6 +3,7 @@
 ghost use Rattle.std.specs.Prelude.{Some, ◌≡◌, ◌≤◌, Option, None, IfErr, OnErr, OnOk};
 ghost use Rattle.bp_calls.specs.Created.{CountsMore, LinksEntry};
 ghost use Rattle.bp_calls.specs.Growth.{stores_behind_growth};
+ghost use Rattle.bp_calls.specs.Mounted.{IsMounted};
 ghost use Rattle.bp_calls.specs.Space.{HasRoomWhereFree, LacksSpace};
 ghost use Rattle.bp_calls.specs.Steps.{CanLink, CanLinkBehind, CanShare, entering_room, name_need};
 ghost use Rattle.bp_free.specs.Set.{Set};
@@ -12,7 +13,6 @@ ghost use Rattle.bp_layout.specs.Need.Change.{enters};
 ghost use Rattle.bp_layout.specs.Need.Entrant.{linked};
 ghost use Rattle.bp_layout.specs.Reached.{IsReached};
 ghost use Rattle.bp_layout.specs.Thaw.{none_kept};
-ghost use Rattle.bp_layout.specs.WellFormed.{IsWellFormed};
 ghost use Rattle.bp_shapes.specs.Sets.{AreExact, IsExact, kept_of};
 ghost use Rattle.bp_commit.specs.Performs.{Performs, PerformsWithin};
 ghost use Rattle.pm_region.specs.Memory.{current_words, room_in};
@@ -97,8 +97,7 @@ pub fn link_in<R: Region>(
     name: &[u8],
     i: u32,
 ) -> Result<(), NoSpace>
-    requires well_formed { IsWellFormed (current_words (R.memory parts.old.region)) }
-    requires exact { IsExact (current_words (R.memory parts.old.region)) parts.old }
+    requires mounted { IsMounted (current_words (R.memory parts.old.region)) parts.old }
     requires reached { IsReached (current_words (R.memory parts.old.region)) dir }
     requires directory { IsDirectory (current_words (R.memory parts.old.region)) dir }
     requires name { IsName name.now }

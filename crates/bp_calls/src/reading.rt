@@ -2,11 +2,11 @@
 
 ghost use Rattle.std.specs.Prelude.{◌≡◌, ◌≤◌, drop, length, take};
 ghost use Rattle.bp_calls.specs.Asked.{bytes_of, stat_of};
+ghost use Rattle.bp_calls.specs.Mounted.{IsMounted};
 ghost use Rattle.bp_layout.specs.Inode.{IsFile};
 ghost use Rattle.bp_layout.specs.Names.{HasNames};
 ghost use Rattle.bp_layout.specs.Reached.{IsReached};
 ghost use Rattle.bp_layout.specs.WellFormed.{IsWellFormed};
-ghost use Rattle.bp_shapes.specs.Sets.{IsExact};
 ghost use Rattle.pm_region.specs.Memory.{current_words};
 
 use bp_dirs::count;
@@ -52,8 +52,7 @@ pub fn stat<R: Region>(region: &R, i: u32) -> Stat
 
 /// How many names an inode has.
 pub fn links<R: Region>(parts: &Parts<R>, i: u32) -> u32
-    requires well_formed { IsWellFormed (current_words (R.memory parts.now.region)) }
-    requires exact { IsExact (current_words (R.memory parts.now.region)) parts.now }
+    requires mounted { IsMounted (current_words (R.memory parts.now.region)) parts.now }
     requires reached { IsReached (current_words (R.memory parts.now.region)) i }
     ensures { HasNames (current_words (R.memory parts.now.region)) i result }
 {

@@ -1,10 +1,10 @@
 //! A name leaves its directory.
 
 ghost use Rattle.std.specs.Prelude.{◌≤◌};
+ghost use Rattle.bp_calls.specs.Mounted.{IsMounted};
 ghost use Rattle.bp_changes.specs.Effects.{CanUnlink, RemovesEntry};
 ghost use Rattle.bp_layout.specs.Directory.{inumber_at};
 ghost use Rattle.bp_layout.specs.Need.Change.{leaves};
-ghost use Rattle.bp_layout.specs.WellFormed.{IsWellFormed};
 ghost use Rattle.bp_shapes.specs.Sets.{IsExact, kept_of};
 ghost use Rattle.bp_commit.specs.Performs.{Performs};
 ghost use Rattle.pm_region.specs.Memory.{current_words, room_in};
@@ -20,8 +20,7 @@ use pm_region::Region;
 /// to the inumber of the entry in `slot`. It needs no block, and room for three events. Where the inode has no other
 /// name nobody reaches it then: its words stay as they were, and its blocks and its number come back.
 pub fn remove<R: Region>(parts: &mut Parts<R>, dir: u32, slot: u64)
-    requires well_formed { IsWellFormed (current_words (R.memory parts.old.region)) }
-    requires exact { IsExact (current_words (R.memory parts.old.region)) parts.old }
+    requires mounted { IsMounted (current_words (R.memory parts.old.region)) parts.old }
     requires can { CanUnlink (current_words (R.memory parts.old.region)) dir slot
         (inumber_at (current_words (R.memory parts.old.region)) dir slot) }
     requires room { 3 ≤ room_in (R.memory parts.old.region) }

@@ -1,13 +1,13 @@
 //! A file gets another size.
 
 ghost use Rattle.std.specs.Prelude.{◌≡◌, ◌≢◌, ◌<◌, ◌≤◌, IfErr, OnErr, OnOk};
+ghost use Rattle.bp_calls.specs.Mounted.{IsMounted};
 ghost use Rattle.bp_calls.specs.Space.{HasRoomWhereFree, LacksSpace};
 ghost use Rattle.bp_calls.specs.CanGrow.{CanGrowFile};
 ghost use Rattle.bp_calls.specs.Resized.{ResizesFile};
 ghost use Rattle.bp_layout.specs.Inode.{IsFile, root_of, size_of};
 ghost use Rattle.bp_layout.specs.Need.Change.{resizes};
 ghost use Rattle.bp_layout.specs.Reached.{IsReached};
-ghost use Rattle.bp_layout.specs.WellFormed.{IsWellFormed};
 ghost use Rattle.bp_layout.specs.Formatted.{version_of};
 ghost use Rattle.bp_limits.specs.Limits.{greatest_size};
 ghost use Rattle.bp_shapes.specs.Sets.{IsExact, kept_of};
@@ -55,8 +55,7 @@ fn grow_file<R: Region>(parts: &mut Parts<R>, i: u32, tree: Tree, size: u64) -> 
 
 /// Gives a file a size below its own: the size is stored, and then the blocks come back that hold no byte below it.
 fn shrink_file<R: Region>(parts: &mut Parts<R>, i: u32, tree: Tree, size: u64)
-    requires well_formed { IsWellFormed (current_words (R.memory parts.old.region)) }
-    requires exact { IsExact (current_words (R.memory parts.old.region)) parts.old }
+    requires mounted { IsMounted (current_words (R.memory parts.old.region)) parts.old }
     requires reached { IsReached (current_words (R.memory parts.old.region)) i }
     requires file { IsFile (current_words (R.memory parts.old.region)) i }
     requires root { tree.root ≡ root_of (current_words (R.memory parts.old.region)) i }
@@ -79,8 +78,7 @@ fn shrink_file<R: Region>(parts: &mut Parts<R>, i: u32, tree: Tree, size: u64)
 ///
 /// `NoSpace` exactly where fewer blocks are free than it needs: a tree that gets higher takes a block for each level.
 pub fn truncate<R: Region>(parts: &mut Parts<R>, i: u32, size: u64) -> Result<(), NoSpace>
-    requires well_formed { IsWellFormed (current_words (R.memory parts.old.region)) }
-    requires exact { IsExact (current_words (R.memory parts.old.region)) parts.old }
+    requires mounted { IsMounted (current_words (R.memory parts.old.region)) parts.old }
     requires reached { IsReached (current_words (R.memory parts.old.region)) i }
     requires file { IsFile (current_words (R.memory parts.old.region)) i }
     requires fits { size ≤ greatest_size (version_of (current_words (R.memory parts.old.region))) }

@@ -1,6 +1,7 @@
 pub mod Step
 pub mod FileCall
 pub mod Volume
+pub mod Ready
 pub mod Told
 pub mod Laid
 pub mod Upgraded

@@ -1,9 +1,9 @@
 //! Calls that change nothing.
 
 ghost use Rattle.std.specs.Prelude.{◌≡◌, ◌≤◌, IfOk, OnErr, drop, length};
+ghost use Rattle.bp_calls.specs.Mounted.{IsMounted};
 ghost use Rattle.bp_plain.specs.Calls.Call.{links, list, read, stat};
 ghost use Rattle.bp_layout.specs.WellFormed.{IsWellFormed};
-ghost use Rattle.bp_shapes.specs.Sets.{IsExact};
 ghost use Rattle.bp_volume.specs.Seen.{links_answer, list_answer_of, read_answer, stat_answer_of};
 ghost use Rattle.bp_volume.specs.Step.{PathFinds};
 ghost use Rattle.bp_volume.specs.Told.{Tells};
@@ -29,8 +29,7 @@ pub(crate) fn stat_at<R: Region>(region: &R, text: &[u8]) -> Result<Stat, FsErro
 
 /// What `links` answers.
 pub(crate) fn links_at<R: Region>(parts: &Parts<R>, text: &[u8]) -> Result<u32, FsError>
-    requires well_formed { IsWellFormed (current_words (R.memory parts.now.region)) }
-    requires exact { IsExact (current_words (R.memory parts.now.region)) parts.now }
+    requires { IsMounted (current_words (R.memory parts.now.region)) parts.now }
     ensures { Tells (current_words (R.memory parts.now.region)) (links text.now) (links_answer result) }
 {
     let file = file_at(&parts.region, text)?;

@@ -1,14 +1,13 @@
 //! New files and directories.
 
-ghost use Rattle.std.specs.Prelude.{◌≡◌, ◌≤◌};
+ghost use Rattle.std.specs.Prelude.{◌≡◌};
 ghost use Rattle.bp_layout.specs.Directory.{empty_slot};
-ghost use Rattle.bp_layout.specs.Whole.{IsFileSystem};
-ghost use Rattle.bp_limits.specs.Limits.{call_room};
 ghost use Rattle.bp_shapes.specs.Sets.{IsExact};
 ghost use Rattle.bp_volume.specs.Carried.{CarriesOut, making};
+ghost use Rattle.bp_volume.specs.Ready.{IsReady};
 ghost use Rattle.bp_volume.specs.Seen.{unit_answer};
 ghost use Rattle.bp_volume.specs.Step.{FindsNew};
-ghost use Rattle.pm_region.specs.Memory.{current_words, room_in};
+ghost use Rattle.pm_region.specs.Memory.{current_words};
 
 use crate::refusing::no_space;
 use crate::walking::{NewName, new_name};
@@ -25,11 +24,9 @@ fn create_new<R: Region>(
     new: NewName<'_>,
     kind: Kind,
 ) -> Result<(), FsError>
-    requires well_formed { IsFileSystem (current_words (R.memory parts.old.region)) }
-    requires exact { IsExact (current_words (R.memory parts.old.region)) parts.old }
+    requires ready { IsReady (R.memory parts.old.region) parts.old }
     requires new { FindsNew (current_words (R.memory parts.old.region)) text.now new.dir new.name.now }
     requires slot { new.slot ≡ empty_slot (current_words (R.memory parts.old.region)) new.dir }
-    requires room { call_room ≤ room_in (R.memory parts.old.region) }
     ensures called { CarriesOut (R.memory parts.old.region) (making kind text.now) (unit_answer result)
         (R.memory parts.new.region) }
     ensures exact { IsExact (current_words (R.memory parts.new.region)) parts.new }
@@ -43,9 +40,7 @@ pub(crate) fn create_at<R: Region>(
     text: &[u8],
     kind: Kind,
 ) -> Result<(), FsError>
-    requires well_formed { IsFileSystem (current_words (R.memory parts.old.region)) }
-    requires exact { IsExact (current_words (R.memory parts.old.region)) parts.old }
-    requires room { call_room ≤ room_in (R.memory parts.old.region) }
+    requires { IsReady (R.memory parts.old.region) parts.old }
     ensures called { CarriesOut (R.memory parts.old.region) (making kind text.now) (unit_answer result)
         (R.memory parts.new.region) }
     ensures exact { IsExact (current_words (R.memory parts.new.region)) parts.new }

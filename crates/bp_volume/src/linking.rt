@@ -1,22 +1,21 @@
 //! Names more for files.
 
-ghost use Rattle.std.specs.Prelude.{◌≡◌, ◌≤◌, IfErr, IfOk};
+ghost use Rattle.std.specs.Prelude.{◌≡◌, IfErr, IfOk};
 ghost use Rattle.bp_layout.specs.Directory.{empty_slot};
 ghost use Rattle.bp_layout.specs.Inode.{IsFile};
 ghost use Rattle.bp_layout.specs.WellFormed.{IsWellFormed};
-ghost use Rattle.bp_layout.specs.Whole.{IsFileSystem};
-ghost use Rattle.bp_limits.specs.Limits.{call_room};
 ghost use Rattle.bp_plain.specs.Calls.Call.{link};
 ghost use Rattle.bp_plain.specs.Seen.{refusal_of};
 ghost use Rattle.bp_shapes.specs.Sets.{IsExact};
 ghost use Rattle.bp_volume.specs.Carried.{CarriesOut};
+ghost use Rattle.bp_volume.specs.Ready.{IsReady};
 ghost use Rattle.bp_volume.specs.Seen.{unit_answer};
 ghost use Rattle.bp_volume.specs.Step.{FindsNew, PathFinds};
 ghost use Rattle.bp_volume.specs.Told.{Refuses};
-ghost use Rattle.pm_region.specs.Memory.{current_words, room_in};
+ghost use Rattle.pm_region.specs.Memory.{current_words};
 
 use crate::refusing::no_space;
-use crate::walking::{NewName, bad_path, file_at, new_name};
+use crate::walking::{NewName, bad_path, file_at, new_on};
 use bp_calls::link_in;
 use bp_free::Parts;
 use bp_path::parse;
@@ -45,9 +44,9 @@ fn link_ends<'a, R: Region>(region: &R, from: &[u8], to: &'a [u8]) -> Result<Lin
         (λ e. Refuses (current_words (R.memory region.now)) (link from.now to.now) (refusal_of e)) }
 {
     // Both texts are to be paths before anything is sought.
-    parse(to).map_err(bad_path)?;
+    let path = parse(to).map_err(bad_path)?;
     let file = file_at(region, from)?;
-    let name = new_name(region, to)?;
+    let name = new_on(region, &path)?;
     Ok(LinkEnds {
         inode: file.inumber,
         name,
@@ -61,13 +60,11 @@ fn link_found<R: Region>(
     to: &[u8],
     ends: LinkEnds<'_>,
 ) -> Result<(), FsError>
-    requires well_formed { IsFileSystem (current_words (R.memory parts.old.region)) }
-    requires exact { IsExact (current_words (R.memory parts.old.region)) parts.old }
+    requires ready { IsReady (R.memory parts.old.region) parts.old }
     requires at { PathFinds (current_words (R.memory parts.old.region)) from.now ends.inode }
     requires kind { IsFile (current_words (R.memory parts.old.region)) ends.inode }
     requires new { FindsNew (current_words (R.memory parts.old.region)) to.now ends.name.dir ends.name.name.now }
     requires slot { ends.name.slot ≡ empty_slot (current_words (R.memory parts.old.region)) ends.name.dir }
-    requires room { call_room ≤ room_in (R.memory parts.old.region) }
     ensures called { CarriesOut (R.memory parts.old.region) (link from.now to.now) (unit_answer result)
         (R.memory parts.new.region) }
     ensures exact { IsExact (current_words (R.memory parts.new.region)) parts.new }
@@ -82,9 +79,7 @@ pub(crate) fn link_at<R: Region>(
     from: &[u8],
     to: &[u8],
 ) -> Result<(), FsError>
-    requires well_formed { IsFileSystem (current_words (R.memory parts.old.region)) }
-    requires exact { IsExact (current_words (R.memory parts.old.region)) parts.old }
-    requires room { call_room ≤ room_in (R.memory parts.old.region) }
+    requires { IsReady (R.memory parts.old.region) parts.old }
     ensures called { CarriesOut (R.memory parts.old.region) (link from.now to.now) (unit_answer result)
         (R.memory parts.new.region) }
     ensures exact { IsExact (current_words (R.memory parts.new.region)) parts.new }

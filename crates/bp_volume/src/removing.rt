@@ -1,19 +1,18 @@
 //! Names that leave their directories.
 
-ghost use Rattle.std.specs.Prelude.{◌≡◌, ◌≤◌, IfErr, IfOk, OnOk};
+ghost use Rattle.std.specs.Prelude.{◌≡◌, IfErr, IfOk, OnOk};
 ghost use Rattle.bp_dirs.specs.Names.{name_count};
 ghost use Rattle.bp_layout.specs.Inode.{IsDirectory, IsFile, root_of, size_of};
 ghost use Rattle.bp_layout.specs.WellFormed.{IsWellFormed};
-ghost use Rattle.bp_layout.specs.Whole.{IsFileSystem};
-ghost use Rattle.bp_limits.specs.Limits.{call_room};
 ghost use Rattle.bp_plain.specs.Calls.Call.{rmdir, unlink};
 ghost use Rattle.bp_plain.specs.Seen.{refusal_of};
 ghost use Rattle.bp_shapes.specs.Sets.{IsExact};
 ghost use Rattle.bp_volume.specs.Carried.{CarriesOut};
+ghost use Rattle.bp_volume.specs.Ready.{IsReady};
 ghost use Rattle.bp_volume.specs.Seen.{unit_answer};
 ghost use Rattle.bp_volume.specs.Step.{FindsEntry};
 ghost use Rattle.bp_volume.specs.Told.{Refuses};
-ghost use Rattle.pm_region.specs.Memory.{current_words, room_in};
+ghost use Rattle.pm_region.specs.Memory.{current_words};
 
 use crate::walking::entry_at;
 use bp_calls::remove;
@@ -88,9 +87,7 @@ fn empty_entry<R: Region>(region: &R, text: &[u8]) -> Result<FoundEntry, FsError
 
 /// What `unlink` does before its mark.
 pub(crate) fn unlink_at<R: Region>(parts: &mut Parts<R>, text: &[u8]) -> Result<(), FsError>
-    requires well_formed { IsFileSystem (current_words (R.memory parts.old.region)) }
-    requires exact { IsExact (current_words (R.memory parts.old.region)) parts.old }
-    requires room { call_room ≤ room_in (R.memory parts.old.region) }
+    requires { IsReady (R.memory parts.old.region) parts.old }
     ensures called { CarriesOut (R.memory parts.old.region) (unlink text.now) (unit_answer result)
         (R.memory parts.new.region) }
     ensures exact { IsExact (current_words (R.memory parts.new.region)) parts.new }
@@ -102,9 +99,7 @@ pub(crate) fn unlink_at<R: Region>(parts: &mut Parts<R>, text: &[u8]) -> Result<
 
 /// What `rmdir` does before its mark.
 pub(crate) fn rmdir_at<R: Region>(parts: &mut Parts<R>, text: &[u8]) -> Result<(), FsError>
-    requires well_formed { IsFileSystem (current_words (R.memory parts.old.region)) }
-    requires exact { IsExact (current_words (R.memory parts.old.region)) parts.old }
-    requires room { call_room ≤ room_in (R.memory parts.old.region) }
+    requires { IsReady (R.memory parts.old.region) parts.old }
     ensures called { CarriesOut (R.memory parts.old.region) (rmdir text.now) (unit_answer result)
         (R.memory parts.new.region) }
     ensures exact { IsExact (current_words (R.memory parts.new.region)) parts.new }

@@ -1,20 +1,19 @@
 //! Names that move.
 
-ghost use Rattle.std.specs.Prelude.{◌≡◌, ◌≢◌, ◌≤◌, IfErr, IfOk, OnOk, Some, [], false, option_map};
+ghost use Rattle.std.specs.Prelude.{◌≡◌, ◌≢◌, IfErr, IfOk, OnOk, Some, [], false, option_map};
 ghost use Rattle.bp_changes.specs.Effects.{CanUnlink};
 ghost use Rattle.bp_layout.specs.Directory.{inumber_at};
 ghost use Rattle.bp_layout.specs.WellFormed.{IsWellFormed};
-ghost use Rattle.bp_layout.specs.Whole.{IsFileSystem};
-ghost use Rattle.bp_limits.specs.Limits.{call_room};
 ghost use Rattle.bp_plain.specs.Calls.Call.{rename};
 ghost use Rattle.bp_plain.specs.Seen.{refusal_of};
 ghost use Rattle.bp_shapes.specs.Sets.{IsExact};
 ghost use Rattle.bp_volume.specs.Carried.{CarriesOut};
+ghost use Rattle.bp_volume.specs.Ready.{IsReady};
 ghost use Rattle.bp_volume.specs.Renaming.{Allows, AreEnds, FindsEnds, IsMoveOf, MayMove, are_same};
 ghost use Rattle.bp_volume.specs.Seen.{unit_answer};
 ghost use Rattle.bp_volume.specs.Step.{IsEntryOn};
 ghost use Rattle.bp_volume.specs.Told.{Refuses, RefusesRename};
-ghost use Rattle.pm_region.specs.Memory.{current_words, room_in};
+ghost use Rattle.pm_region.specs.Memory.{current_words};
 
 use crate::refusing::no_space;
 use crate::walking::{Target, bad_path, entry_on, target_on};
@@ -183,10 +182,8 @@ fn move_name<R: Region>(
     to: &[u8],
     ends: &Ends<'_>,
 ) -> Result<(), FsError>
-    requires well_formed { IsFileSystem (current_words (R.memory parts.old.region)) }
-    requires exact { IsExact (current_words (R.memory parts.old.region)) parts.old }
+    requires ready { IsReady (R.memory parts.old.region) parts.old }
     requires may { MayMove (current_words (R.memory parts.old.region)) from.now to.now ends.now }
-    requires room { call_room ≤ room_in (R.memory parts.old.region) }
     ensures called { CarriesOut (R.memory parts.old.region) (rename from.now to.now) (unit_answer result)
         (R.memory parts.new.region) }
     ensures exact { IsExact (current_words (R.memory parts.new.region)) parts.new }
@@ -203,10 +200,8 @@ fn rename_found<R: Region>(
     to: &[u8],
     ends: &Ends<'_>,
 ) -> Result<(), FsError>
-    requires well_formed { IsFileSystem (current_words (R.memory parts.old.region)) }
-    requires exact { IsExact (current_words (R.memory parts.old.region)) parts.old }
+    requires ready { IsReady (R.memory parts.old.region) parts.old }
     requires found { FindsEnds (current_words (R.memory parts.old.region)) from.now to.now ends.now }
-    requires room { call_room ≤ room_in (R.memory parts.old.region) }
     ensures called { CarriesOut (R.memory parts.old.region) (rename from.now to.now) (unit_answer result)
         (R.memory parts.new.region) }
     ensures exact { IsExact (current_words (R.memory parts.new.region)) parts.new }
@@ -224,9 +219,7 @@ pub(crate) fn rename_at<R: Region>(
     from: &[u8],
     to: &[u8],
 ) -> Result<(), FsError>
-    requires well_formed { IsFileSystem (current_words (R.memory parts.old.region)) }
-    requires exact { IsExact (current_words (R.memory parts.old.region)) parts.old }
-    requires room { call_room ≤ room_in (R.memory parts.old.region) }
+    requires { IsReady (R.memory parts.old.region) parts.old }
     ensures called { CarriesOut (R.memory parts.old.region) (rename from.now to.now) (unit_answer result)
         (R.memory parts.new.region) }
     ensures exact { IsExact (current_words (R.memory parts.new.region)) parts.new }

@@ -216,6 +216,20 @@ pub(crate) fn target_on<'a, R: Region>(region: &R, path: &Path<'a>) -> Result<Ta
     }
 }
 
+/// The directory that is to have a new name at a path, and its name there.
+pub(crate) fn new_on<'a, R: Region>(region: &R, path: &Path<'a>) -> Result<NewName<'a>, FsError>
+    requires { IsWellFormed (current_words (R.memory region.now)) }
+    ensures found { IfOk result (λ new. IsNewOn (current_words (R.memory region.now)) path.now new.dir new.name.now) }
+    ensures slot { IfOk result (λ new. new.slot ≡ empty_slot (current_words (R.memory region.now)) new.dir) }
+    ensures refused { IfErr result (λ e. RefusesNew (current_words (R.memory region.now)) path.now (refusal_of e)) }
+{
+    if path.is_root() {
+        Err(FsError::Exists)
+    } else {
+        last_name(region, path)
+    }
+}
+
 /// The directory that is to have a new name at a path text, and its name there.
 pub(crate) fn new_name<'a, R: Region>(region: &R, text: &'a [u8]) -> Result<NewName<'a>, FsError>
     requires { IsWellFormed (current_words (R.memory region.now)) }
@@ -224,9 +238,5 @@ pub(crate) fn new_name<'a, R: Region>(region: &R, text: &'a [u8]) -> Result<NewN
     ensures refused { IfErr result (λ e. StopsAtNew (current_words (R.memory region.now)) text.now (refusal_of e)) }
 {
     let path = parse(text).map_err(bad_path)?;
-    if path.is_root() {
-        Err(FsError::Exists)
-    } else {
-        last_name(region, &path)
-    }
+    new_on(region, &path)
 }

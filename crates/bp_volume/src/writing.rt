@@ -4,16 +4,16 @@ ghost use Rattle.std.specs.Prelude.{◌≤◌, ℕ, IfErr, IfOk, OnOk, length};
 ghost use Rattle.bp_layout.specs.Inode.{IsFile};
 ghost use Rattle.bp_layout.specs.Formatted.{version_of};
 ghost use Rattle.bp_layout.specs.WellFormed.{IsWellFormed};
-ghost use Rattle.bp_layout.specs.Whole.{IsFileSystem};
-ghost use Rattle.bp_limits.specs.Limits.{call_room, greatest_write};
+ghost use Rattle.bp_limits.specs.Limits.{greatest_write};
 ghost use Rattle.bp_plain.specs.Calls.Call.{write};
 ghost use Rattle.bp_plain.specs.Seen.{refusal_of};
 ghost use Rattle.bp_shapes.specs.Sets.{IsExact};
 ghost use Rattle.bp_volume.specs.Carried.{CarriesOut};
+ghost use Rattle.bp_volume.specs.Ready.{IsReady};
 ghost use Rattle.bp_volume.specs.Seen.{unit_answer};
 ghost use Rattle.bp_volume.specs.Step.{PathFinds};
 ghost use Rattle.bp_volume.specs.Told.{Refuses};
-ghost use Rattle.pm_region.specs.Memory.{current_words, room_in};
+ghost use Rattle.pm_region.specs.Memory.{current_words};
 
 use crate::refusing::no_space;
 use crate::walking::{bad_path, file_on};
@@ -49,12 +49,10 @@ fn write_into<R: Region>(
     off: u64,
     bytes: &[u8],
 ) -> Result<(), FsError>
-    requires well_formed { IsFileSystem (current_words (R.memory parts.old.region)) }
-    requires exact { IsExact (current_words (R.memory parts.old.region)) parts.old }
+    requires ready { IsReady (R.memory parts.old.region) parts.old }
     requires at { PathFinds (current_words (R.memory parts.old.region)) text.now i }
     requires kind { IsFile (current_words (R.memory parts.old.region)) i }
     requires short { length bytes.now ≤ greatest_write (version_of (current_words (R.memory parts.old.region))) }
-    requires room { call_room ≤ room_in (R.memory parts.old.region) }
     ensures called { CarriesOut (R.memory parts.old.region) (write text.now off bytes.now) (unit_answer result)
         (R.memory parts.new.region) }
     ensures exact { IsExact (current_words (R.memory parts.new.region)) parts.new }
@@ -75,9 +73,7 @@ pub(crate) fn write_at<R: Region>(
     off: u64,
     bytes: &[u8],
 ) -> Result<(), FsError>
-    requires well_formed { IsFileSystem (current_words (R.memory parts.old.region)) }
-    requires exact { IsExact (current_words (R.memory parts.old.region)) parts.old }
-    requires room { call_room ≤ room_in (R.memory parts.old.region) }
+    requires { IsReady (R.memory parts.old.region) parts.old }
     ensures called { CarriesOut (R.memory parts.old.region) (write text.now off bytes.now) (unit_answer result)
         (R.memory parts.new.region) }
     ensures exact { IsExact (current_words (R.memory parts.new.region)) parts.new }

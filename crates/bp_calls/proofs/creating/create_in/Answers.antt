@@ -19,8 +19,8 @@ entry_need-entry-requires-clause-slot g c = c.requires.slot
 pub returns-then-free-need-clause-refused : goal.returns-then-free-need-clause-refused
 returns-then-free-need-clause-refused g c =
     let memory = g.R.Region.memory c.args.parts.now.region in
-    let grows = need_growing (current_words memory) c.requires.well_formed c.args.dir c.requires.reached c.requires.directory in
-    none_lacks memory c.args.parts.now.blocks c.args.parts.now.inodes c.args.dir c.requires.exact.sets (no_members (members c.args.parts.now.inodes) (sym c.count.ensures ∙ c.if-count-eq0.true))
+    let grows = need_growing (current_words memory) c.requires.mounted.well_formed c.args.dir c.requires.reached c.requires.directory in
+    none_lacks memory c.args.parts.now.blocks c.args.parts.now.inodes c.args.dir c.requires.mounted.exact.sets (no_members (members c.args.parts.now.inodes) (sym c.count.ensures ∙ c.if-count-eq0.true))
     _ _ (omega (arith, grows, c.entry_need-entry.ensures.need, c.grow_need.ensures.need)) c.count-free.ensures c.if-free-need.true
 
 pub grow_and_enter-requires-clause-slot : goal.grow_and_enter-requires-clause-slot
@@ -29,33 +29,33 @@ grow_and_enter-requires-clause-slot g c = c.requires.slot
 pub grow_and_enter-requires-clause-enough : goal.grow_and_enter-requires-clause-enough
 grow_and_enter-requires-clause-enough g c =
     let memory = g.R.Region.memory c.args.parts.now.region in
-    let grows = need_growing (current_words memory) c.requires.well_formed c.args.dir c.requires.reached c.requires.directory in
+    let grows = need_growing (current_words memory) c.requires.mounted.well_formed c.args.dir c.requires.reached c.requires.directory in
     omega (arith, grows, c.entry_need-entry.ensures.need, c.grow_need.ensures.need, c.count-free.ensures, c.if-free-need.false)
 
 pub grow_and_enter-requires-clause-room : goal.grow_and_enter-requires-clause-room
 grow_and_enter-requires-clause-room g c =
-    none_room (g.R.Region.memory c.args.parts.now.region) c.args.parts.now.blocks c.args.parts.now.inodes c.args.dir c.requires.exact.sets c.requires.room
+    none_room (g.R.Region.memory c.args.parts.now.region) c.args.parts.now.blocks c.args.parts.now.inodes c.args.dir c.requires.mounted.exact.sets c.requires.room
     (no_members (members c.args.parts.now.inodes) (sym c.count.ensures ∙ c.if-count-eq0.true)) (grow_and_enter-requires-clause-enough g c)
 
 pub returns-then-count-eq0-clause-performs : goal.returns-then-count-eq0-clause-performs
 returns-then-count-eq0-clause-performs g c =
     let memory = g.R.Region.memory in
-    none_performs (memory c.args.parts.now.region) c.args.parts.now.blocks c.args.parts.now.inodes c.args.dir c.requires.exact.sets (memory c.grow_and_enter.new.parts.region) (EntersName c.args.dir c.args.name.now c.args.kind)
+    none_performs (memory c.args.parts.now.region) c.args.parts.now.blocks c.args.parts.now.inodes c.args.dir c.requires.mounted.exact.sets (memory c.grow_and_enter.new.parts.region) (EntersName c.args.dir c.args.name.now c.args.kind)
     (no_members (members c.args.parts.now.inodes) (sym c.count.ensures ∙ c.if-count-eq0.true)) c.grow_and_enter.ensures.performs
 
 pub returns-then-free-entry-clause-refused : goal.returns-then-free-entry-clause-refused
 returns-then-free-entry-clause-refused g c =
     let memory = g.R.Region.memory c.args.parts.now.region in
-    some_lacks memory c.args.parts.now.blocks c.args.parts.now.inodes c.args.dir c.requires.exact.sets (some_members (members c.args.parts.now.inodes) (λ e. c.if-count-eq0.false (c.count.ensures ∙ e)))
+    some_lacks memory c.args.parts.now.blocks c.args.parts.now.inodes c.args.dir c.requires.mounted.exact.sets (some_members (members c.args.parts.now.inodes) (λ e. c.if-count-eq0.false (c.count.ensures ∙ e)))
     _ _ (sym c.entry_need-entry.ensures.need) c.count-free.ensures c.if-free-entry.true
 
 pub enter-requires-clause-can : goal.enter-requires-clause-can
 enter-requires-clause-can g c = record {
-  lacks = record { well_formed = c.requires.well_formed; reached = c.requires.reached; directory = c.requires.directory; form = c.requires.name; missing = c.requires.new };
-  exact = c.requires.exact.sets;
+  lacks = record { well_formed = c.requires.mounted.well_formed; reached = c.requires.reached; directory = c.requires.directory; form = c.requires.name; missing = c.requires.new };
+  exact = c.requires.mounted.exact.sets;
   some = some_members (members c.args.parts.now.inodes) (λ e. c.if-count-eq0.false (c.count.ensures ∙ e));
   enough = omega (arith, c.entry_need-entry.ensures.need, c.count-free.ensures, c.if-free-entry.false);
-  room = some_room (g.R.Region.memory c.args.parts.now.region) c.args.parts.now.blocks c.args.parts.now.inodes c.args.dir c.requires.exact.sets c.requires.room
+  room = some_room (g.R.Region.memory c.args.parts.now.region) c.args.parts.now.blocks c.args.parts.now.inodes c.args.dir c.requires.mounted.exact.sets c.requires.room
       (some_members (members c.args.parts.now.inodes) (λ e. c.if-count-eq0.false (c.count.ensures ∙ e))) (omega (arith, c.entry_need-entry.ensures.need, c.count-free.ensures, c.if-free-entry.false));
 }
 
@@ -65,5 +65,5 @@ enter-requires-clause-slot g c = c.requires.slot
 pub returns-clause-performs : goal.returns-clause-performs
 returns-clause-performs g c =
     let memory = g.R.Region.memory in
-    some_performs (memory c.args.parts.now.region) c.args.parts.now.blocks c.args.parts.now.inodes c.args.dir c.requires.exact.sets (memory c.enter.new.parts.region) (EntersName c.args.dir c.args.name.now c.args.kind)
+    some_performs (memory c.args.parts.now.region) c.args.parts.now.blocks c.args.parts.now.inodes c.args.dir c.requires.mounted.exact.sets (memory c.enter.new.parts.region) (EntersName c.args.dir c.args.name.now c.args.kind)
     (some_members (members c.args.parts.now.inodes) (λ e. c.if-count-eq0.false (c.count.ensures ∙ e))) c.enter.ensures.performs

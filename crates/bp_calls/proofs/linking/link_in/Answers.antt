@@ -15,16 +15,16 @@ entry_need-need-requires-clause-slot g c = c.requires.slot
 
 pub returns-then-free-need-clause-refused : goal.returns-then-free-need-clause-refused
 returns-then-free-need-clause-refused g c =
-    link_lacks (g.R.Region.memory c.args.parts.now.region) c.args.parts.now.blocks c.args.parts.now.inodes c.args.dir c.requires.exact.sets _ _ (sym c.entry_need-need.ensures.need) c.count-free.ensures c.if-free-need.true
+    link_lacks (g.R.Region.memory c.args.parts.now.region) c.args.parts.now.blocks c.args.parts.now.inodes c.args.dir c.requires.mounted.exact.sets _ _ (sym c.entry_need-need.ensures.need) c.count-free.ensures c.if-free-need.true
 
 pub share-requires-clause-can : goal.share-requires-clause-can
 share-requires-clause-can g c = record {
   link = record {
-    lacks = record { well_formed = c.requires.well_formed; reached = c.requires.reached; directory = c.requires.directory; form = c.requires.name; missing = c.requires.new };
+    lacks = record { well_formed = c.requires.mounted.well_formed; reached = c.requires.reached; directory = c.requires.directory; form = c.requires.name; missing = c.requires.new };
     there = c.requires.there;
     file = c.requires.file;
   };
-  exact = c.requires.exact.sets;
+  exact = c.requires.mounted.exact.sets;
   enough = omega (arith, c.entry_need-need.ensures.need, c.count-free.ensures, c.if-free-need.false);
   room = link_room (g.R.Region.memory c.args.parts.now.region) c.args.parts.now.blocks c.args.dir c.requires.room (omega (arith, c.entry_need-need.ensures.need, c.count-free.ensures, c.if-free-need.false));
 }

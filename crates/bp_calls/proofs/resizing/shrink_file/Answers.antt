@@ -8,10 +8,10 @@ use Rattle.bp_calls.proofs.resizing.shrink_file.Goals as goal
 use Rattle.bp_calls.proofs.CountLaws.{exact_file}
 
 pub place-size_place-requires-clause-sound : goal.place-size_place-requires-clause-sound
-place-size_place-requires-clause-sound g c = c.requires.well_formed.sound 0 inode_file
+place-size_place-requires-clause-sound g c = c.requires.mounted.well_formed.sound 0 inode_file
 
 pub place-size_place-requires-clause-there : goal.place-size_place-requires-clause-there
-place-size_place-requires-clause-there g c = reached-in_file (current_words (g.R.Region.memory c.args.parts.now.region)) c.requires.well_formed c.args.i c.requires.reached
+place-size_place-requires-clause-there g c = reached-in_file (current_words (g.R.Region.memory c.args.parts.now.region)) c.requires.mounted.well_formed c.args.i c.requires.reached
 
 pub commit_word-requires-clause-in_range : goal.commit_word-requires-clause-in_range
 commit_word-requires-clause-in_range g c = omega (arith, c.place-size_place.ensures.in_range, length-current_words (g.R.Region.memory c.args.parts.now.region))
@@ -20,8 +20,8 @@ pub give_back-requires : goal.give_back-requires
 give_back-requires g c =
     let memory = g.R.Region.memory in
     let shrinks : Shrinks (current_words (memory c.args.parts.now.region)) c.args.parts.now.blocks c.args.parts.now.inodes c.args.i c.args.size c.place-size_place.result = record {
-      well_formed = c.requires.well_formed;
-      exact = c.requires.exact.sets;
+      well_formed = c.requires.mounted.well_formed;
+      exact = c.requires.mounted.exact.sets;
       reached = c.requires.reached;
       is_file = c.requires.file;
       smaller = rw (← c.requires.size) c.requires.smaller;
@@ -35,8 +35,8 @@ pub returns : goal.returns
 returns g c =
     let memory = g.R.Region.memory in
     let shrinks : Shrinks (current_words (memory c.args.parts.now.region)) c.args.parts.now.blocks c.args.parts.now.inodes c.args.i c.args.size c.place-size_place.result = record {
-      well_formed = c.requires.well_formed;
-      exact = c.requires.exact.sets;
+      well_formed = c.requires.mounted.well_formed;
+      exact = c.requires.mounted.exact.sets;
       reached = c.requires.reached;
       is_file = c.requires.file;
       smaller = rw (← c.requires.size) c.requires.smaller;
@@ -44,4 +44,4 @@ returns g c =
     } in
     let done = shrunk (memory c.args.parts.now.region) (memory c.commit_word.new.region) c.args.parts.now.blocks c.give_back.new.blocks c.args.parts.now.inodes c.args.i c.args.size c.place-size_place.result c.args.tree.root c.args.tree.size
     c.requires.root c.requires.size shrinks c.commit_word.ensures c.give_back.ensures in
-    record { performs = done.0; exact = exact_file _ _ c.args.parts.now _ c.requires.exact done.1 refl refl c.args.i c.requires.well_formed done.0.effect.changes }
+    record { performs = done.0; exact = exact_file _ _ c.args.parts.now _ c.requires.mounted.exact done.1 refl refl c.args.i c.requires.mounted.well_formed done.0.effect.changes }

@@ -13,29 +13,29 @@ use Rattle.bp_volume.proofs.FewBlocks.{few_entered, few_room, performs_room}
 use Rattle.bp_volume.proofs.WalkLaws.{reached_at}
 use Rattle.bp_volume.proofs.creating.create_new.Goals as goal
 
-pub create_in-requires-clause-well_formed : goal.create_in-requires-clause-well_formed
-create_in-requires-clause-well_formed g c = c.requires.well_formed.first
+pub create_in-requires-clause-mounted : goal.create_in-requires-clause-mounted
+create_in-requires-clause-mounted g c = record { well_formed = c.requires.ready.well_formed.first; exact = c.requires.ready.exact; }
 
 pub create_in-requires-clause-reached : goal.create_in-requires-clause-reached
-create_in-requires-clause-reached g c = reached_at _ c.requires.well_formed.first _ c.args.new.dir c.requires.new.new.parent
+create_in-requires-clause-reached g c = reached_at _ c.requires.ready.well_formed.first _ c.args.new.dir c.requires.new.new.parent
 
 pub create_in-requires-clause-room : goal.create_in-requires-clause-room
 create_in-requires-clause-room g c = λ free least enough.
     few_room (g.R.Region.memory c.args.parts.now.region) (change_of c.args.new.dir (entrant_of free))
-    (few_entered _ c.requires.well_formed.first c.args.new.dir (reached_at _ c.requires.well_formed.first _ c.args.new.dir c.requires.new.new.parent) (entrant_of free)) c.requires.room
+    (few_entered _ c.requires.ready.well_formed.first c.args.new.dir (reached_at _ c.requires.ready.well_formed.first _ c.args.new.dir c.requires.new.new.parent) (entrant_of free)) c.requires.ready.room
 
 pub returns-clause-called : goal.returns-clause-called
 returns-clause-called g c =
-    let told = tells _ _ _ c.requires.exact.sets in
+    let told = tells _ _ _ c.requires.ready.exact.sets in
     let makes = making_makes _ c.args.text.now c.args.new.dir c.args.new.name.now c.requires.new told.0 told.1 c.args.kind in
-    let frozen = none_frozen _ c.requires.well_formed.no_second in
+    let frozen = none_frozen _ c.requires.ready.well_formed.no_second in
     carried_or_lacks _ _ _ c.create_in.result c.map_err.result c.map_err.ensures.cases
     (on_ok_weaker c.create_in.result (λ performs.
     let done = performs told.0 told.1 in
-    performs_call none_kept _ _ _ (change_of c.args.new.dir (entrant_of told.0)) _ c.requires.well_formed frozen makes done
-    (λ enters. making_shows _ c.args.text.now c.args.new.dir c.args.new.name.now c.requires.new c.args.kind _ (entered_gains _ _ c.requires.well_formed.first c.args.new.dir c.args.new.name.now c.args.kind enters))
+    performs_call none_kept _ _ _ (change_of c.args.new.dir (entrant_of told.0)) _ c.requires.ready.well_formed frozen makes done
+    (λ enters. making_shows _ c.args.text.now c.args.new.dir c.args.new.name.now c.requires.new c.args.kind _ (entered_gains _ _ c.requires.ready.well_formed.first c.args.new.dir c.args.new.name.now c.args.kind enters))
     (performs_room _ _ _ _ done
-    (few_entered _ c.requires.well_formed.first c.args.new.dir (reached_at _ c.requires.well_formed.first _ c.args.new.dir c.requires.new.new.parent) (entrant_of told.0)) c.requires.room))
+    (few_entered _ c.requires.ready.well_formed.first c.args.new.dir (reached_at _ c.requires.ready.well_formed.first _ c.args.new.dir c.requires.new.new.parent) (entrant_of told.0)) c.requires.ready.room))
     c.create_in.ensures.performs)
     (on_err_weaker c.create_in.result (ap (λ (parts : Parts g.row.R.Denot). g.R.Region.memory parts.region)) c.create_in.ensures.same)
     (MatchResult-weaker c.create_in.result c.create_in.ensures.refused (λ _ nothing. nothing)

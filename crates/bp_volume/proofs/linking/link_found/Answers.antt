@@ -13,30 +13,30 @@ use Rattle.bp_volume.proofs.SharingLaws.{linking_makes, linking_shows}
 use Rattle.bp_volume.proofs.WalkLaws.{reached_at}
 use Rattle.bp_volume.proofs.linking.link_found.Goals as goal
 
-pub link_in-requires-clause-well_formed : goal.link_in-requires-clause-well_formed
-link_in-requires-clause-well_formed g c = c.requires.well_formed.first
+pub link_in-requires-clause-mounted : goal.link_in-requires-clause-mounted
+link_in-requires-clause-mounted g c = record { well_formed = c.requires.ready.well_formed.first; exact = c.requires.ready.exact; }
 
 pub link_in-requires-clause-reached : goal.link_in-requires-clause-reached
-link_in-requires-clause-reached g c = reached_at _ c.requires.well_formed.first _ c.args.ends.name.dir c.requires.new.new.parent
+link_in-requires-clause-reached g c = reached_at _ c.requires.ready.well_formed.first _ c.args.ends.name.dir c.requires.new.new.parent
 
 pub link_in-requires-clause-there : goal.link_in-requires-clause-there
-link_in-requires-clause-there g c = at_reached _ c.requires.well_formed.first c.args.from.now c.args.ends.inode c.requires.at
+link_in-requires-clause-there g c = at_reached _ c.requires.ready.well_formed.first c.args.from.now c.args.ends.inode c.requires.at
 
 pub link_in-requires-clause-room : goal.link_in-requires-clause-room
 link_in-requires-clause-room g c = λ enough.
     few_room (g.R.Region.memory c.args.parts.now.region) (enters c.args.ends.name.dir linked)
-    (few_entered _ c.requires.well_formed.first c.args.ends.name.dir (reached_at _ c.requires.well_formed.first _ c.args.ends.name.dir c.requires.new.new.parent) linked) c.requires.room
+    (few_entered _ c.requires.ready.well_formed.first c.args.ends.name.dir (reached_at _ c.requires.ready.well_formed.first _ c.args.ends.name.dir c.requires.new.new.parent) linked) c.requires.ready.room
 
 pub returns-clause-called : goal.returns-clause-called
 returns-clause-called g c =
     let makes = linking_makes _ c.args.from.now c.args.to.now c.args.ends.inode c.requires.at c.requires.kind c.args.ends.name.dir c.args.ends.name.name.now c.requires.new in
-    let frozen = none_frozen _ c.requires.well_formed.no_second in
+    let frozen = none_frozen _ c.requires.ready.well_formed.no_second in
     carried_or_lacks _ _ _ c.link_in.result c.map_err.result c.map_err.ensures.cases
-    (on_ok_weaker c.link_in.result (λ performs. performs_call none_kept _ _ _ (enters c.args.ends.name.dir linked) _ c.requires.well_formed frozen makes performs
+    (on_ok_weaker c.link_in.result (λ performs. performs_call none_kept _ _ _ (enters c.args.ends.name.dir linked) _ c.requires.ready.well_formed frozen makes performs
     (λ links. linking_shows _ c.args.from.now c.args.to.now c.args.ends.inode c.requires.at c.requires.kind c.args.ends.name.dir c.args.ends.name.name.now c.requires.new _
-    (linked_shares _ _ c.requires.well_formed.first c.args.ends.name.dir c.args.ends.name.name.now c.args.ends.inode links))
+    (linked_shares _ _ c.requires.ready.well_formed.first c.args.ends.name.dir c.args.ends.name.name.now c.args.ends.inode links))
     (performs_room _ _ _ _ performs
-    (few_entered _ c.requires.well_formed.first c.args.ends.name.dir (reached_at _ c.requires.well_formed.first _ c.args.ends.name.dir c.requires.new.new.parent) linked) c.requires.room))
+    (few_entered _ c.requires.ready.well_formed.first c.args.ends.name.dir (reached_at _ c.requires.ready.well_formed.first _ c.args.ends.name.dir c.requires.new.new.parent) linked) c.requires.ready.room))
     c.link_in.ensures.performs)
     (on_err_weaker c.link_in.result (ap (λ (parts : Parts g.row.R.Denot). g.R.Region.memory parts.region)) c.link_in.ensures.same)
     (MatchResult-weaker c.link_in.result c.link_in.ensures.refused (λ _ nothing. nothing) (lacks_space _ _ (enters c.args.ends.name.dir linked) makes none_kept frozen))

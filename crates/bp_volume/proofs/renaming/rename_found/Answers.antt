@@ -6,11 +6,11 @@ use Rattle.bp_volume.proofs.StepLaws.{refused_steps}
 use Rattle.bp_volume.proofs.renaming.rename_found.Goals as goal
 
 pub may_move-requires-clause-well_formed : goal.may_move-requires-clause-well_formed
-may_move-requires-clause-well_formed g c = c.requires.well_formed.first
+may_move-requires-clause-well_formed g c = c.requires.ready.well_formed.first
 
 pub returns-then-are_same-clause-called : goal.returns-then-are_same-clause-called
 returns-then-are_same-clause-called g c =
-    unchanged refl (same_stays _ c.args.from.now c.args.to.now c.args.ends.now c.requires.found c.requires.well_formed.first (sym c.are_same.ensures ∙ c.if-are_same.true))
+    unchanged refl (same_stays _ c.args.from.now c.args.to.now c.args.ends.now c.requires.found c.requires.ready.well_formed.first (sym c.are_same.ensures ∙ c.if-are_same.true))
 
 pub returns-in_err-may_move-clause-called : goal.returns-in_err-may_move-clause-called
 returns-in_err-may_move-clause-called g c =

@@ -17,12 +17,12 @@ use Rattle.bp_volume.proofs.FileLaws.{truncate_makes, truncate_nothing, truncate
 use Rattle.bp_volume.proofs.resizing.resize.Goals as goal
 
 pub truncate-requires-clause-reached : goal.truncate-requires-clause-reached
-truncate-requires-clause-reached g c = at_reached _ c.requires.well_formed.first c.args.text.now c.args.file.inumber c.requires.at
+truncate-requires-clause-reached g c = at_reached _ c.requires.ready.well_formed.first c.args.text.now c.args.file.inumber c.requires.at
 
 pub truncate-requires-clause-room : goal.truncate-requires-clause-room
 truncate-requires-clause-room g c = λ enough.
     few_room (g.R.Region.memory c.args.parts.now.region) (resizes c.args.file.inumber c.args.size)
-    (few_resized _ c.requires.well_formed.first c.args.file.inumber (at_reached _ c.requires.well_formed.first c.args.text.now c.args.file.inumber c.requires.at) c.args.size) c.requires.room
+    (few_resized _ c.requires.ready.well_formed.first c.args.file.inumber (at_reached _ c.requires.ready.well_formed.first c.args.text.now c.args.file.inumber c.requires.at) c.args.size) c.requires.ready.room
 
 pub returns-then-size-greatest_size-clause-called : goal.returns-then-size-greatest_size-clause-called
 returns-then-size-greatest_size-clause-called g c =
@@ -44,12 +44,12 @@ returns-clause-called g c =
     let other : c.args.size ≢ size_of (current_words (g.R.Region.memory c.args.parts.now.region)) c.args.file.inumber = omega (arith, c.requires.size) in
     let limit : c.greatest_size.result ≡ greatest_size (version_of (current_words (g.R.Region.memory c.args.parts.now.region))) = c.greatest_size.ensures.size ∙ ap greatest_size c.version.ensures in
     let makes = truncate_makes _ c.args.text.now c.args.file.inumber c.requires.at c.requires.kind c.args.size (omega (arith, limit)) other in
-    let frozen = none_frozen _ c.requires.well_formed.no_second in
+    let frozen = none_frozen _ c.requires.ready.well_formed.no_second in
     carried_or_lacks _ _ _ c.truncate.result c.map_err.result c.map_err.ensures.cases
-    (on_ok_weaker c.truncate.result (λ performs. performs_call none_kept _ _ _ (resizes c.args.file.inumber c.args.size) _ c.requires.well_formed frozen makes performs
-    (λ resizes_file. truncate_shows _ c.args.text.now c.args.file.inumber c.requires.at c.requires.kind c.args.size _ (resized_gets _ _ c.requires.well_formed.first c.args.file.inumber c.args.size resizes_file))
+    (on_ok_weaker c.truncate.result (λ performs. performs_call none_kept _ _ _ (resizes c.args.file.inumber c.args.size) _ c.requires.ready.well_formed frozen makes performs
+    (λ resizes_file. truncate_shows _ c.args.text.now c.args.file.inumber c.requires.at c.requires.kind c.args.size _ (resized_gets _ _ c.requires.ready.well_formed.first c.args.file.inumber c.args.size resizes_file))
     (performs_room _ _ _ _ performs
-    (few_resized _ c.requires.well_formed.first c.args.file.inumber (at_reached _ c.requires.well_formed.first c.args.text.now c.args.file.inumber c.requires.at) c.args.size) c.requires.room))
+    (few_resized _ c.requires.ready.well_formed.first c.args.file.inumber (at_reached _ c.requires.ready.well_formed.first c.args.text.now c.args.file.inumber c.requires.at) c.args.size) c.requires.ready.room))
     c.truncate.ensures.performs)
     (on_err_weaker c.truncate.result (ap (λ (parts : Parts g.row.R.Denot). g.R.Region.memory parts.region)) c.truncate.ensures.same)
     (MatchResult-weaker c.truncate.result c.truncate.ensures.refused (λ _ nothing. nothing) (lacks_space _ _ (resizes c.args.file.inumber c.args.size) makes none_kept frozen))

@@ -31,15 +31,15 @@ write-requires-clause-can g c =
     let some : length c.args.bytes.now ≢ 0 = eqb-false _ _ (sym c.is_empty.ensures ∙ c.if-is_empty.false) in
     let limit : c.greatest_size.result ≡ greatest_size (version_of (current_words (g.R.Region.memory c.args.parts.now.region))) = c.greatest_size.ensures.size ∙ ap greatest_size c.version.ensures in
     record {
-      well_formed = c.requires.well_formed.first;
-      exact = c.requires.exact.sets;
-      reached = at_reached _ c.requires.well_formed.first c.args.text.now c.args.i c.requires.at;
+      well_formed = c.requires.ready.well_formed.first;
+      exact = c.requires.ready.exact.sets;
+      reached = at_reached _ c.requires.ready.well_formed.first c.args.text.now c.args.i c.requires.at;
       file = c.requires.kind;
       some = omega (arith, some);
       short = short_enough _ _ c.requires.short;
       fits = omega (arith, limit, short_of_size _ _ c.requires.short);
       room = λ enough. few_room (g.R.Region.memory c.args.parts.now.region) (writes c.args.i c.args.off (length c.args.bytes.now))
-          (few_writes _ c.requires.well_formed.first c.args.i (at_low _ c.requires.well_formed.first c.args.text.now c.args.i c.requires.at) (at_reached _ c.requires.well_formed.first c.args.text.now c.args.i c.requires.at) c.args.off (length c.args.bytes.now) (short_enough _ _ c.requires.short)) c.requires.room;
+          (few_writes _ c.requires.ready.well_formed.first c.args.i (at_low _ c.requires.ready.well_formed.first c.args.text.now c.args.i c.requires.at) (at_reached _ c.requires.ready.well_formed.first c.args.text.now c.args.i c.requires.at) c.args.off (length c.args.bytes.now) (short_enough _ _ c.requires.short)) c.requires.ready.room;
     }
 
 pub returns-clause-called : goal.returns-clause-called
@@ -47,12 +47,12 @@ returns-clause-called g c =
     let some : length c.args.bytes.now ≢ 0 = eqb-false _ _ (sym c.is_empty.ensures ∙ c.if-is_empty.false) in
     let limit : c.greatest_size.result ≡ greatest_size (version_of (current_words (g.R.Region.memory c.args.parts.now.region))) = c.greatest_size.ensures.size ∙ ap greatest_size c.version.ensures in
     let makes = write_makes _ c.args.text.now c.args.i c.requires.at c.requires.kind c.args.off c.args.bytes.now c.requires.short (omega (arith, some)) (omega (arith, limit, short_of_size _ _ c.requires.short)) in
-    let frozen = none_frozen _ c.requires.well_formed.no_second in
+    let frozen = none_frozen _ c.requires.ready.well_formed.no_second in
     carried_or_lacks _ _ _ c.write.result c.map_err.result c.map_err.ensures.cases
-    (on_ok_weaker c.write.result (λ performs. performs_call none_kept _ _ _ (writes c.args.i c.args.off (length c.args.bytes.now)) _ c.requires.well_formed frozen makes performs
-    (λ writes_file. write_shows _ c.args.text.now c.args.i c.requires.at c.requires.kind c.args.off c.args.bytes.now _ (written_gets _ _ c.requires.well_formed.first c.args.i c.args.off c.args.bytes.now writes_file))
+    (on_ok_weaker c.write.result (λ performs. performs_call none_kept _ _ _ (writes c.args.i c.args.off (length c.args.bytes.now)) _ c.requires.ready.well_formed frozen makes performs
+    (λ writes_file. write_shows _ c.args.text.now c.args.i c.requires.at c.requires.kind c.args.off c.args.bytes.now _ (written_gets _ _ c.requires.ready.well_formed.first c.args.i c.args.off c.args.bytes.now writes_file))
     (performs_room _ _ _ _ performs
-    (few_writes _ c.requires.well_formed.first c.args.i (at_low _ c.requires.well_formed.first c.args.text.now c.args.i c.requires.at) (at_reached _ c.requires.well_formed.first c.args.text.now c.args.i c.requires.at) c.args.off (length c.args.bytes.now) (short_enough _ _ c.requires.short)) c.requires.room))
+    (few_writes _ c.requires.ready.well_formed.first c.args.i (at_low _ c.requires.ready.well_formed.first c.args.text.now c.args.i c.requires.at) (at_reached _ c.requires.ready.well_formed.first c.args.text.now c.args.i c.requires.at) c.args.off (length c.args.bytes.now) (short_enough _ _ c.requires.short)) c.requires.ready.room))
     c.write.ensures.performs)
     (on_err_weaker c.write.result (ap (λ (parts : Parts g.row.R.Denot). g.R.Region.memory parts.region)) c.write.ensures.same)
     (MatchResult-weaker c.write.result c.write.ensures.refused (λ _ nothing. nothing) (lacks_space _ _ (writes c.args.i c.args.off (length c.args.bytes.now)) makes none_kept frozen))

@@ -152,6 +152,10 @@ impl Saver {
 
     /// Writes the blocks that wait.
     fn write_out<R: rt::Files<File = File>>(&mut self, runtime: &R, file: &File) -> io::Result<()> {
+        // A window without blocks stands where the last one ended: a second file needs nothing before that yet.
+        if self.window.is_empty() {
+            return Ok(());
+        }
         if let Way::Beside(second) = &mut self.way {
             let done = second.take(file, &mut self.window);
             self.or_go_in_place(runtime, file, done)?;

@@ -33,6 +33,11 @@ impl Window {
         })
     }
 
+    /// Whether no block waits.
+    pub(crate) fn is_empty(&self) -> bool {
+        self.count == 0
+    }
+
     /// Where its blocks begin in the file, and where they end, in bytes.
     pub(crate) fn place(&self) -> (u64, u64) {
         let end = self.first + self.count as u64;

@@ -7,7 +7,7 @@ use Rattle.std.proofs.lemmas.List.Elements.{filter-append, filter_passes, All-co
 use Rattle.std.proofs.lemmas.List.Kept.{IsStrictlyIncreasing-filter}
 use Rattle.std.proofs.lemmas.List.Sums.{length-filter, count_by-le-length}
 use Rattle.std.proofs.lemmas.List.FromFn.{length-range_with_len, get_or-range_with_len}
-use Rattle.bp_free.specs.Set.{Set, has, members, below, members_above, with, without, empty, IsLeast, TakesNumber, TakesLeast, Fills}
+use Rattle.bp_free.specs.Set.{Set, has, members, below, members_above, with, without, empty, IsLeast, TakesLeast, Fills}
 
 -- ---- ranges
 

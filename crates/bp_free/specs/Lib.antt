@@ -1,3 +1,4 @@
 pub mod Looks
+pub mod Counts
 pub mod Set
 pub mod Words

@@ -1,22 +1,42 @@
 //! How many names each inode has.
 
-ghost use Rattle.std.specs.Prelude.{◌≡◌, ◌<◌, IfOk, length, replicate, slice_index, slice_set};
+ghost use Rattle.std.specs.Prelude.{◌≡◌, ◌<◌, ◌≤◌, IfOk, length, replicate, slice_index, slice_set, vec_capacity};
+ghost use Rattle.bp_free.specs.Counts.{AddsNone};
 
 use std::alloc::{AllocError, Global};
 use std::marker::Model;
 
-/// A number of names for each inode.
+/// A number of names for each inode. The numbers stand at the front of a vector that takes its memory once, up to those of
+/// the last inode that ever had a name: where few inodes are in use, little of that memory is touched.
 #[derive(Drop)]
 pub struct Counts {
     names: Vec<u32>,
+    room: usize,
 }
 
 impl Model for Counts {
     ghost use Rattle.std.specs.Prelude.{ℕ, List};
+    ghost use Rattle.bp_free.specs.Counts.{counts_of, HasRoomForAll};
 
     ghost Value = { List ℕ };
 
-    ghost view = { λ counts. counts.names.items };
+    ghost view = { counts_of };
+
+    ghost invariant = { HasRoomForAll };
+}
+
+/// Puts inodes without a name behind those that are there, up to the wanted number of inodes, and up to twice as many as
+/// there are, so that it is seldom done.
+#[cold]
+#[inline(never)]
+fn grow(names: &mut Vec<u32>, wanted: usize, room: usize)
+    requires wanted { (length names.old.items < wanted) × (wanted ≤ room) }
+    requires room { room ≤ vec_capacity names.old }
+    ensures wanted { (wanted ≤ length names.new.items) × (length names.new.items ≤ room) }
+    ensures none { AddsNone names.old names.new }
+{
+    let inodes = wanted.max(2 * names.len()).min(room);
+    let _ = names.resize(inodes, 0);
 }
 
 impl Counts {
@@ -24,8 +44,9 @@ impl Counts {
     pub fn new(alloc: Global, n: u32) -> Result<Counts, AllocError>
         ensures { IfOk result (λ counts. counts ≡ replicate n 0) }
     {
-        let names = vec![in alloc; 0; n as usize]?;
-        Ok(Counts { names })
+        let room = n as usize;
+        let names = Vec::with_capacity(alloc, room)?;
+        Ok(Counts { names, room })
     }
 
     /// How many names an inode has.
@@ -33,7 +54,10 @@ impl Counts {
         requires { i < length self.now }
         ensures { result ≡ slice_index self.now i }
     {
-        self.names[i as usize]
+        match self.names.get(i as usize) {
+            Some(names) => *names,
+            None => 0,
+        }
     }
 
     /// Gives an inode another number of names.
@@ -41,13 +65,17 @@ impl Counts {
         requires { i < length self.old }
         ensures { self.new ≡ slice_set self.old i names }
     {
-        self.names[i as usize] = names;
+        let i = i as usize;
+        if self.names.len() <= i {
+            grow(&mut self.names, i + 1, self.room);
+        }
+        self.names[i] = names;
     }
 
     /// Takes each inode's names away.
     pub fn clear(&mut self)
         ensures { self.new ≡ replicate (length self.old) 0 }
     {
-        self.names.fill(0);
+        self.names.clear();
     }
 }

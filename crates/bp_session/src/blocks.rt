@@ -1,6 +1,6 @@
 //! The words of a region as the blocks of a file.
 
-ghost use Rattle.std.specs.Prelude.{◌≡◌, ◌≤◌, ◌<◌, ◌^◌, ◌+◌, ◌*◌, drop, length, take};
+ghost use Rattle.std.specs.Prelude.{◌≡◌, ◌≤◌, ◌<◌, ◌^◌, ◌+◌, ◌*◌, length};
 ghost use Rattle.bp_io.specs.Files.{block_bytes};
 ghost use Rattle.bp_limits.specs.Limits.{block_words};
 ghost use Rattle.bp_layout.specs.Bytes.{image_bytes};
@@ -10,19 +10,9 @@ use bp_limits::BLOCK_WORDS;
 use pm_region::Region;
 use pm_words::{read_word, write_word};
 
-/// The words of block `i` as they are now.
-fn load_block<R: Region>(region: &R, i: u32, into: &mut [u64; 512])
-    requires inside { block_words * i + block_words ≤ length (R.memory region.now).base }
-    requires fits { block_words * i + block_words < 2 ^ 32 }
-    ensures { into.new ≡ take block_words (drop (block_words * i) (current_words (R.memory region.now))) }
-{
-    for k in 0..BLOCK_WORDS {
-        into[k as usize] = region.load(BLOCK_WORDS * i + k);
-    }
-}
-
 /// The bytes that spell the words of a block.
-fn encode(words: &[u64; 512], into: &mut [u8; 4096])
+fn encode(words: &[u64], into: &mut [u8; 4096])
+    requires { length words.now ≡ block_words }
     ensures { into.new ≡ image_bytes words.now }
 {
     for k in 0..512usize {
@@ -36,10 +26,7 @@ pub fn read_block<R: Region>(region: &R, i: u32, into: &mut [u8; 4096])
     requires fits { block_words * i + block_words < 2 ^ 32 }
     ensures { into.new ≡ block_bytes (image_bytes (current_words (R.memory region.now))) i }
 {
-    // In two loops, each of which is a copy of a block.
-    let mut words = [0u64; 512];
-    load_block(region, i, &mut words);
-    encode(&words, into);
+    encode(region.load_words(BLOCK_WORDS * i, BLOCK_WORDS), into);
 }
 
 /// The words that the bytes of a block spell.

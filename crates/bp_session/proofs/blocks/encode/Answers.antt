@@ -22,12 +22,12 @@ loop-k-preserved c =
       size = same_len_mid _ _ _ _ c.copy_from_slice.ensures.len ∙ c.loop-k.invariant.size;
       bytes = take-put_mid (8 * k) ((8 * k + 8) - 8 * k) c.loop-k.into bytes (8 * (k + 1)) (omega (arith, long)) (omega (arith, c.loop-k.invariant.size))
           ∙ ap (λ l. take (8 * k) c.loop-k.into ++ l) written ∙ ap (λ l. l ++ word_bytes (get_or words k 0)) c.loop-k.invariant.bytes
-          ∙ sym (one_more words k (omega (arith, c.told-words)));
+          ∙ sym (one_more words k (omega (arith, c.requires)));
     }
 
 pub returns : goal.returns
 returns c =
     let all : c.loop-k.k ≡ 512 = omega arith in
     let bytes : take 4096 c.loop-k.into ≡ c.loop-k.into = rw (← c.loop-k.invariant.size) (take-length c.loop-k.into) in
-    let words : take 512 c.args.words.now ≡ c.args.words.now = rw (← c.told-words) (take-length c.args.words.now) in
+    let words : take 512 c.args.words.now ≡ c.args.words.now = rw (← c.requires) (take-length c.args.words.now) in
     sym bytes ∙ rw all at c.loop-k.invariant.bytes ∙ ap image_bytes words

@@ -1,8 +1,11 @@
 -- Slots of a leaf over which a run is laid, one after the other.
-use Rattle.std.proofs.Common.{◌≡◌, ◌⊎◌, ℕ, List, ◌+◌, ◌<◌, ◌≤◌, length, get_or, set, ◌∙◌, refl, ap, arith, inl, inr, get_or-set_other, get_or-set_same}
+use Rattle.std.proofs.Common.{◌≡◌, ◌⊎◌, ℕ, List, ◌+◌, ◌-◌, ◌*◌, ◌<◌, ◌≤◌, length, map, get_or, set, ◌∙◌, refl, sym, ap, arith, inl, inr, get_or-set_other, get_or-set_same}
+use Rattle.std.specs.List.{range_with_len}
+use Rattle.std.proofs.lemmas.List.FromFn.{get_or-map-range_with_len, length-map-range_with_len}
 use Rattle.std.proofs.lemmas.Bool.{cases_eq, cases_lt}
 use Rattle.bp_cow.specs.declared.touched.Run.{Run}
-use Rattle.bp_cow.specs.Touched.{LaysSlots, run_word}
+use Rattle.bp_cow.specs.Touched.{LaysSlots, run_end, run_word}
+use Rattle.bp_cow.proofs.RunLaws.{run_word-inside}
 
 pub lays_none : (run : Run) (first at : ℕ) (old : List ℕ) → LaysSlots run first at at old old
 lays_none run first at old = record {
@@ -49,3 +52,19 @@ lays_empty run first from to old none = record {
   laid = λ slot low high. absurd (omega (arith, low, high, none));
   rest = λ slot any. refl;
 }
+
+-- what becomes of a word that lies in the run does not depend on what it was
+pub run_word-covered : (run : Run) (k one other : ℕ) → run.off ≤ 8 * k → 8 * k + 8 ≤ run_end run → run_word run k one ≡ run_word run k other
+run_word-covered run k one other low high = sym (run_word-inside run k one bytes low high size item) ∙ run_word-inside run k other bytes low high size item
+  where
+    byte : ℕ → ℕ
+    byte i = get_or run.bytes.now (8 * k - run.off + i) 0
+
+    bytes : List ℕ
+    bytes = map byte (range_with_len 0 8)
+
+    size : length bytes ≡ 8
+    size = length-map-range_with_len byte 0 8
+
+    item : (i : ℕ) → i < 8 → get_or bytes i 0 ≡ byte i
+    item i few = get_or-map-range_with_len byte 0 8 i i 0 few (omega arith)

@@ -179,7 +179,7 @@ decoded_call (truncate path size) = truncate (path_bytes path) size
 decoded_call (rename from to) = rename (path_bytes from) (path_bytes to)
 decoded_call (link from to) = link (path_bytes from) (path_bytes to)
 decoded_call (links path) = links (path_bytes path)
--- an upgrade names no path, and the others have no line
+-- the others have no line
 decoded_call call = call
 
 abbrev pub decoded : Command → Command

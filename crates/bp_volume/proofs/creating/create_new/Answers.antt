@@ -14,7 +14,7 @@ use Rattle.bp_volume.proofs.WalkLaws.{reached_at}
 use Rattle.bp_volume.proofs.creating.create_new.Goals as goal
 
 pub create_in-requires-clause-mounted : goal.create_in-requires-clause-mounted
-create_in-requires-clause-mounted g c = record { well_formed = c.requires.ready.well_formed.first; exact = c.requires.ready.exact; }
+create_in-requires-clause-mounted g c = record { well_formed = c.requires.ready.well_formed.first; exact = c.requires.ready.exact }
 
 pub create_in-requires-clause-reached : goal.create_in-requires-clause-reached
 create_in-requires-clause-reached g c = reached_at _ c.requires.ready.well_formed.first _ c.args.new.dir c.requires.new.new.parent

@@ -19,4 +19,4 @@ returns-in_err-name-clause-refused g c =
     rw (p.1, p.2) (no_name _ c.args.from.now c.args.to.now _ c.in_ok-file.ensures.found c.in_ok-file.ensures.kind _ (λ tree stands. rw (ok_was _ c.parse.result _ c.in_ok-path.ensures.cases c.parse.ensures.ok) (c.in_err-name.ensures.refused tree stands)))
 
 pub returns-clause-new : goal.returns-clause-new
-returns-clause-new g c = record { path = c.in_ok-path.path; parsed = ok_was _ c.parse.result _ c.in_ok-path.ensures.cases c.parse.ensures.ok; new = c.in_ok-name.ensures.found; }
+returns-clause-new g c = record { path = c.in_ok-path.path; parsed = ok_was _ c.parse.result _ c.in_ok-path.ensures.cases c.parse.ensures.ok; new = c.in_ok-name.ensures.found }

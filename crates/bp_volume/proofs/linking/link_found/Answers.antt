@@ -14,7 +14,7 @@ use Rattle.bp_volume.proofs.WalkLaws.{reached_at}
 use Rattle.bp_volume.proofs.linking.link_found.Goals as goal
 
 pub link_in-requires-clause-mounted : goal.link_in-requires-clause-mounted
-link_in-requires-clause-mounted g c = record { well_formed = c.requires.ready.well_formed.first; exact = c.requires.ready.exact; }
+link_in-requires-clause-mounted g c = record { well_formed = c.requires.ready.well_formed.first; exact = c.requires.ready.exact }
 
 pub link_in-requires-clause-reached : goal.link_in-requires-clause-reached
 link_in-requires-clause-reached g c = reached_at _ c.requires.ready.well_formed.first _ c.args.ends.name.dir c.requires.new.new.parent

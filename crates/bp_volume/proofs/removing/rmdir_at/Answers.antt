@@ -15,7 +15,7 @@ pub empty_entry-requires : goal.empty_entry-requires
 empty_entry-requires g c = c.requires.well_formed.first
 
 pub remove-requires-clause-mounted : goal.remove-requires-clause-mounted
-remove-requires-clause-mounted g c = record { well_formed = c.requires.well_formed.first; exact = c.requires.exact; }
+remove-requires-clause-mounted g c = record { well_formed = c.requires.well_formed.first; exact = c.requires.exact }
 
 pub remove-requires-clause-can : goal.remove-requires-clause-can
 remove-requires-clause-can g c = directory_leaves _ c.args.text.now _ _ _ c.in_ok-entry.ensures.found c.in_ok-entry.ensures.empty

@@ -1,5 +1,5 @@
 -- What is told of files, and what the calls on them do.
-use Rattle.std.specs.Prelude.{◌≡◌, ◌⊎◌, ℕ, ◌+◌, ◌*◌, ◌-◌, ◌/◌, List, [], ◌++◌, length, take, drop, replicate, Option, Some, None, ⊤, Bool, true, false, slice_range}
+use Rattle.std.specs.Prelude.{◌≡◌, ◌⊎◌, ℕ, ◌+◌, ◌*◌, ◌-◌, ◌/◌, ◌<◌, List, [], ◌++◌, length, take, drop, replicate, Option, Some, None, ⊤, Bool, true, false, slice_range}
 use Rattle.bp_limits.specs.Limits.{block_size}
 use Rattle.bp_io.specs.declared.access.Access.{Access}
 use Rattle.bp_io.specs.declared.access.Access.TheVariants.{Read, Write, Make}
@@ -19,6 +19,14 @@ with_block i block bytes = take (block_size * i) bytes ++ block ++ drop (block_s
 -- the front of a file of a length, filled up to it with zeros
 abbrev pub resized_file : ℕ → List ℕ → List ℕ
 resized_file n bytes = take n bytes ++ replicate (n - length bytes) 0
+
+-- The file has its old length or the wanted one, and each of its blocks is the old file's, or that one filled up with
+-- zeros, or that of the wanted bytes.
+pub record IsPartlyReplaced (old wanted found : List ℕ) : Type 0 where
+  pub size : (length found ≡ length old) ⊎ (length found ≡ length wanted)
+  pub blocks : (i : ℕ) → block_size * i < length found → (block_bytes found i ≡ block_bytes old i)
+      ⊎ (block_bytes found i ≡ resized_file block_size (block_bytes old i))
+      ⊎ (block_bytes found i ≡ block_bytes wanted i)
 
 -- what is known of a name: nothing, or that no file has it, or the file's bytes
 abbrev pub Known : Type 0
@@ -59,6 +67,14 @@ abbrev pub Becomes : (List ℕ → List ℕ) → Known → Known → Type 0
 Becomes f None new = new ≡ None
 Becomes f (Some None) new = ⊤
 Becomes f (Some (Some bytes)) new = new ≡ Some (Some (f bytes))
+
+-- the bytes of a file that is there, where they are told, are partly the old ones and partly the wanted ones
+abbrev pub BecomesPartly : List ℕ → Known → Known → Type 0
+BecomesPartly wanted None new = new ≡ None
+BecomesPartly wanted (Some None) new = ⊤
+BecomesPartly wanted (Some (Some bytes)) None = ⊥
+BecomesPartly wanted (Some (Some bytes)) (Some None) = ⊥
+BecomesPartly wanted (Some (Some bytes)) (Some (Some found)) = IsPartlyReplaced bytes wanted found
 
 -- P holds of the bytes of a file that is there, where they are told
 abbrev pub TellsFile : Known → (List ℕ → Type 0) → Type 0
@@ -134,6 +150,17 @@ pub record Resizes (n : ℕ) (old new : View) : Type 0 where
 pub record KeepsSize (old new : View) : Type 0 where
   pub bytes : KeepsAttached old new
   pub blocks : new.blocks ≡ old.blocks
+
+-- The attached file changes to so many blocks, of which the first are these, and all behind them zeros.
+pub record Replaces (front : List ℕ) (n : ℕ) (old new : View) : Type 0 where
+  pub bytes : ChangesBytes (λ was. resized_file (block_size * n) front) old new
+  pub blocks : new.blocks ≡ n
+
+-- It changes to them partly.
+pub record ReplacesPartly (front : List ℕ) (n : ℕ) (old new : View) : Type 0 where
+  pub bytes : (name : List ℕ) → old.is_attached name ≡ true
+      → BecomesPartly (resized_file (block_size * n) front) (old.contents name) (new.contents name)
+  pub blocks : (new.blocks ≡ old.blocks) ⊎ (new.blocks ≡ n)
 
 -- These are the bytes of so many blocks of the attached file, from one on, where they are told.
 abbrev pub AreBytesOfBlocks : View → ℕ → ℕ → List ℕ → Type 0

@@ -43,6 +43,10 @@ use std::{io, rt};
 /// a second file, while the file has all of its own room, and is not to grow. Then each block is the
 /// old or the new one when the process is killed between two flushes.
 ///
+/// **A replace takes little time**: a second file has zeros by its length alone, and nothing is copied to
+/// it. Most file systems give such zeros no room on the disk until they are written. In place `front` is
+/// written, and zeros where the file had bytes behind it.
+///
 /// **A fault loses what was written since the last flush**: the file is as it was then, or in place
 /// each of its blocks is the old one or the new one. After it each read, write and flush is a fault
 /// until a file is attached anew. Where there is no room on the disk, and the file cannot be written
@@ -179,6 +183,16 @@ impl<R: rt::Files<File = File> + Drop> files::Files for DiskFiles<R> {
         let file = attached(&self.file);
         let length = BLOCK_SIZE * u64::from(n);
         let done = self.saver.set_len(&self.runtime, file, length);
+        self.faults.or_fault(done)?;
+        self.blocks = u64::from(n);
+        Ok(())
+    }
+
+    fn replace(&mut self, front: &[u8], n: u32) -> Result<(), Failed> {
+        self.is_flushed = false;
+        let file = attached(&self.file);
+        let length = BLOCK_SIZE * u64::from(n);
+        let done = self.saver.replace(&self.runtime, file, front, length);
         self.faults.or_fault(done)?;
         self.blocks = u64::from(n);
         Ok(())

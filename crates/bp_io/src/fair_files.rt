@@ -81,6 +81,12 @@ impl Files for FairFiles {
         Ok(())
     }
 
+    fn replace(&mut self, front: &[u8], n: u32) -> Result<(), Failed> {
+        self.is_flushed = false;
+        self.image.replace(front, n);
+        Ok(())
+    }
+
     fn flush(&mut self) -> Result<(), Failed> {
         self.is_flushed = true;
         Ok(())

@@ -1,7 +1,7 @@
 // Files of blocks.
 ghost use Rattle.std.specs.Prelude.{◌⊎◌, OnErr, ◌≡◌, ◌≤◌, ◌<◌, ◌+◌, ◌*◌, ◌/◌, ◌%◌, List, length, ℕ, IfNone, IfOk, OnOk, IfSome, true, false};
 ghost use Rattle.bp_io.specs.Causes.{HasCause};
-ghost use Rattle.bp_io.specs.Files.{View, StaysAttached, StaysOrIsMade, Becomes, Answers, Attaches, IsAttached, KeepsFiles, KeepsOthers, ChangesBytes, MayChange, Resizes, KeepsSize, AreBytesOfBlocks, Reads, makes, with_block};
+ghost use Rattle.bp_io.specs.Files.{View, StaysAttached, StaysOrIsMade, Becomes, Answers, Attaches, IsAttached, KeepsFiles, KeepsOthers, ChangesBytes, MayChange, Resizes, Replaces, ReplacesPartly, KeepsSize, AreBytesOfBlocks, Reads, makes, with_block};
 
 use crate::{Access, Failed};
 use bp_limits::{BLOCK_SIZE, MAX_BLOCKS};
@@ -84,6 +84,28 @@ pub trait Files {
         ensures resized { OnOk result (Resizes n (view self.old) (view self.new)) }
         ensures failed { OnErr result
             (KeepsSize (view self.old) (view self.new) ⊎ Resizes n (view self.old) (view self.new)) }
+        ensures others { KeepsOthers (view self.old) (view self.new) }
+        ensures attached { (name : List ℕ) → (view self.new).is_attached name ≡ (view self.old).is_attached name }
+        ensures may_write { (view self.new).may_write ≡ (view self.old).may_write }
+        ensures flushed { (view self.new).is_flushed ≡ false }
+        ensures cause { HasCause (view self.old).faults (view self.new).faults result };
+
+    /// Makes the attached file `n` blocks, whatever it held: its first blocks are those of `front`, and all
+    /// behind them are zeros.
+    ///
+    /// # Errors
+    ///
+    /// `Failed` only where the outside failed in this call. The file has its old length then, or
+    /// the new one, and each of its blocks is as before, or as before and filled up with zeros, or
+    /// the new one.
+    fn replace(&mut self, front: &[u8], n: u32) -> Result<(), Failed>
+        requires attached { (name : List ℕ) × ((view self.old).is_attached name ≡ true) }
+        requires may_write { (view self.old).may_write ≡ true }
+        requires whole { length front.now % BLOCK_SIZE ≡ 0 }
+        requires inside { length front.now / BLOCK_SIZE ≤ n }
+        requires fits { n ≤ MAX_BLOCKS }
+        ensures replaced { OnOk result (Replaces front.now n (view self.old) (view self.new)) }
+        ensures failed { OnErr result (ReplacesPartly front.now n (view self.old) (view self.new)) }
         ensures others { KeepsOthers (view self.old) (view self.new) }
         ensures attached { (name : List ℕ) → (view self.new).is_attached name ≡ (view self.old).is_attached name }
         ensures may_write { (view self.new).may_write ≡ (view self.old).may_write }

@@ -68,4 +68,19 @@ impl Image {
             Err(_) => unreachable!(),
         }
     }
+
+    pub(crate) fn replace(&mut self, front: &[u8], n: u32)
+        requires whole { length front.now % block_size ≡ 0 }
+        requires inside { length front.now / block_size ≤ n }
+        requires fits { n ≤ MAX_BLOCKS }
+        ensures bytes { self.new.bytes.items ≡ resized_file (block_size * n) front.now }
+        ensures length { length self.new.bytes.items ≡ block_size * n }
+    {
+        self.bytes.clear();
+        match self.bytes.extend_from_slice(front) {
+            Ok(()) => (),
+            Err(_) => unreachable!(),
+        }
+        self.set_blocks(n);
+    }
 }

@@ -3,7 +3,7 @@ ghost use Rattle.std.specs.Prelude.{◌<◌, ◌+◌, ◌*◌, ◌/◌, ◌%◌,
 ghost use Rattle.std.specs.Option.{option_copied};
 ghost use Rattle.bp_io.specs.Plans.{new_plan, FollowsPlan};
 ghost use Rattle.bp_io.specs.Causes.{HasCause};
-ghost use Rattle.bp_io.specs.Files.{StaysAttached, StaysOrIsMade, Becomes, Answers, Attaches, IsAttached, KeepsFiles, KeepsOthers, ChangesBytes, MayChange, Resizes, KeepsSize, AreBytesOfBlocks, Reads, makes, with_block};
+ghost use Rattle.bp_io.specs.Files.{StaysAttached, StaysOrIsMade, Becomes, Answers, Attaches, IsAttached, KeepsFiles, KeepsOthers, ChangesBytes, MayChange, Resizes, Replaces, ReplacesPartly, KeepsSize, AreBytesOfBlocks, Reads, makes, with_block};
 
 use crate::faults::CallPlan;
 use crate::files::Files;
@@ -170,6 +170,31 @@ impl Files for MemFiles<'_> {
         self.is_flushed = false;
         self.plan.call()?;
         self.image.set_blocks(n);
+        Ok(())
+    }
+
+    fn replace(&mut self, front: &[u8], n: u32) -> Result<(), Failed>
+        requires attached { (name : List ℕ) × ((mem_view self.old).is_attached name ≡ true) }
+        requires may_write { (mem_view self.old).may_write ≡ true }
+        requires whole { length front.now % BLOCK_SIZE ≡ 0 }
+        requires inside { length front.now / BLOCK_SIZE ≤ n }
+        requires fits { n ≤ MAX_BLOCKS }
+        ensures replaced { OnOk result (Replaces front.now n (mem_view self.old) (mem_view self.new)) }
+        ensures failed { OnErr result (ReplacesPartly front.now n (mem_view self.old) (mem_view self.new)) }
+        ensures others { KeepsOthers (mem_view self.old) (mem_view self.new) }
+        ensures attached { (name : List ℕ) →
+            (mem_view self.new).is_attached name ≡ (mem_view self.old).is_attached name }
+        ensures may_write { (mem_view self.new).may_write ≡ (mem_view self.old).may_write }
+        ensures flushed { (mem_view self.new).is_flushed ≡ false }
+        ensures cause { HasCause (mem_view self.old).faults (mem_view self.new).faults result }
+
+        // A call fails exactly where the plan says, and changes no byte then.
+        ensures plan { FollowsPlan (files_plan self.old) (files_plan self.new) result }
+        ensures unchanged { OnErr result (mem_image self.new ≡ mem_image self.old) }
+    {
+        self.is_flushed = false;
+        self.plan.call()?;
+        self.image.replace(front, n);
         Ok(())
     }
 

@@ -3,7 +3,7 @@ ghost use Rattle.std.specs.Prelude.{◌≡◌, is_some};
 
 use crate::Access;
 use crate::opening::lock;
-use crate::second_file::{Names, SecondFile, has_room, lacks_room};
+use crate::second_file::{Names, SecondFile, fill_in_place, has_room, lacks_room};
 use crate::window::Window;
 use bp_limits::BLOCK_SIZE;
 use std::alloc::{AllocError, Global};
@@ -206,6 +206,30 @@ impl Saver {
         }
     }
 
+    fn try_replace<R: rt::Files<File = File>>(
+        &mut self,
+        runtime: &R,
+        file: &File,
+        front: &[u8],
+        length: u64,
+    ) -> io::Result<()> {
+        self.begin(runtime, file, length)?;
+        // The blocks that wait are replaced too.
+        self.window.restart(0);
+        let done = match &mut self.way {
+            Way::Beside(second) => second.replace(front, length),
+            Way::Clean | Way::InPlace | Way::Lost => fill_in_place(file, front, length),
+        };
+        match (done, &self.way, &self.names) {
+            (Err(e), Way::Beside(_), Some(names)) if lacks_room(&e) && has_room(file, length)? => {
+                names.remove_second(runtime);
+                self.way = Way::InPlace;
+                fill_in_place(file, front, length)
+            }
+            (done, _, _) => done,
+        }
+    }
+
     /// Gives a complete second file the name of the first.
     fn take_place<R: rt::Files<File = File>>(
         &mut self,
@@ -258,6 +282,18 @@ impl Saver {
         length: u64,
     ) -> io::Result<()> {
         let done = self.try_set_len(runtime, file, length);
+        self.or_lose(runtime, done)
+    }
+
+    /// Gives the file these bytes, and zeros behind them up to its new length, in bytes.
+    pub(crate) fn replace<R: rt::Files<File = File>>(
+        &mut self,
+        runtime: &R,
+        file: &File,
+        front: &[u8],
+        length: u64,
+    ) -> io::Result<()> {
+        let done = self.try_replace(runtime, file, front, length);
         self.or_lose(runtime, done)
     }
 

@@ -128,6 +128,27 @@ fn copy_bytes(from: &File, to: &File, start: u64, end: u64) -> io::Result<()> {
     Ok(())
 }
 
+/// Writes zeros from the byte `start` up to `end`.
+fn write_zeros(file: &File, start: u64, end: u64) -> io::Result<()> {
+    let piece = [0u8; PIECE];
+    let mut at = start;
+    while at < end {
+        let count = (end - at).min(PIECE as u64);
+        file.write_all_at(&piece[..count as usize], at)?;
+        at += count;
+    }
+    Ok(())
+}
+
+/// Gives a file these bytes in place, and zeros behind them up to its new length. It gives up no room on
+/// the disk that it still needs, and has no third length on the way.
+pub(crate) fn fill_in_place(file: &File, front: &[u8], length: u64) -> io::Result<()> {
+    let had = file.metadata()?.len();
+    file.set_len(length)?;
+    file.write_all_at(front, 0)?;
+    write_zeros(file, front.len() as u64, had.min(length))
+}
+
 /// Makes a file of this name, in place of one that a process left that was killed.
 fn make_second<R: rt::Files<File = File>>(runtime: &R, name: &str) -> io::Result<File> {
     match make_new(runtime, name) {
@@ -218,6 +239,18 @@ impl SecondFile {
         Ok(())
     }
 
+    /// Gives it these bytes, and zeros behind them up to its new length. Nothing of the first file stays.
+    pub(crate) fn replace(&mut self, front: &[u8], length: u64) -> io::Result<()> {
+        // Zeros by the length alone take no time, and on most file systems no room.
+        self.file.set_len(0)?;
+        self.file.set_len(length)?;
+        self.file.write_all_at(front, 0)?;
+        self.filled = front.len() as u64;
+        self.kept = 0;
+        self.length = length;
+        Ok(())
+    }
+
     /// Reads from it. It has to be complete.
     pub(crate) fn read(&self, into: &mut [u8], at: u64) -> io::Result<()> {
         self.file.read_exact_at(into, at)
@@ -225,14 +258,16 @@ impl SecondFile {
 
     /// Whether its bytes can go to the first file without any more room on the disk.
     pub(crate) fn fits_in(&self, first: &File) -> io::Result<bool> {
-        Ok(self.kept == self.length && has_room(first, self.length)?)
+        has_room(first, self.length)
     }
 
-    /// Makes the first file what this one stands for, in place.
+    /// Makes the first file what this one stands for, in place. It gives up no room on the disk that it
+    /// still needs, and has no third length on the way.
     pub(crate) fn write_to(&self, first: &File) -> io::Result<()> {
-        first.set_len(self.kept)?;
+        let had = first.metadata()?.len();
         first.set_len(self.length)?;
-        copy_bytes(&self.file, first, 0, self.filled)
+        copy_bytes(&self.file, first, 0, self.filled)?;
+        write_zeros(first, self.kept.max(self.filled), had.min(self.length))
     }
 
     /// Flushes it, and gives it the name of the first file. It has to be complete.

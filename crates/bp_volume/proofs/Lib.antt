@@ -15,6 +15,7 @@ pub mod FewMoved
 pub mod MovingLaws
 pub mod CarriedLaws
 pub mod LaidLaws
+pub mod FrontLaws
 pub mod LinksLaws
 pub mod BesideExact
 pub mod SafeLaws

@@ -1,8 +1,9 @@
 //! The stores of a format.
 
-ghost use Rattle.std.specs.Prelude.{[], ◌≡◌, ◌≤◌};
+ghost use Rattle.std.specs.Prelude.{[], ◌*◌, ◌≡◌, ◌≤◌, length};
 ghost use Rattle.bp_layout.specs.Formatted.{IsSized};
 ghost use Rattle.bp_layout.specs.Words.{Image, block_count};
+ghost use Rattle.bp_limits.specs.Limits.{block_words};
 ghost use Rattle.bp_volume.specs.Laid.{IsLeftByFormat, format_events};
 ghost use Rattle.pm_epochs.specs.Replay.{IsReplay};
 ghost use Rattle.pm_region.specs.Memory.{Adds, room_in};
@@ -13,18 +14,14 @@ use bp_limits::{
 };
 use pm_region::Region;
 
-/// Makes an empty file system of a version of a region of 8 to 65,536 blocks of 512 words. Its stores are not written back
-/// until the region is drained: up to then a crash may leave the old words, or words without the mark.
-pub fn lay_out<R: Region>(region: &mut R, version: Version)
-    requires sized { IsSized (R.memory region.old).base }
+/// Stores the words of an empty file system of a version and of so many blocks. All of them stand in its first two
+/// blocks, so the region may end behind those: each word of a new file system from there on is 0.
+pub fn lay_front<R: Region>(region: &mut R, version: Version, blocks: u32)
+    requires front { 2 * block_words ≤ length (R.memory region.old).base }
     requires fresh { (R.memory region.old).events ≡ [] }
     requires room { 16 ≤ room_in (R.memory region.old) }
-    ensures stores { Adds (R.memory region.old) (R.memory region.new)
-        (format_events version (block_count (R.memory region.old).base)) }
-    ensures left { (image : Image) → IsReplay (R.memory region.new).base (R.memory region.new).events image
-        → IsLeftByFormat version (R.memory region.old).base image }
+    ensures { Adds (R.memory region.old) (R.memory region.new) (format_events version blocks) }
 {
-    let blocks = region.words() / BLOCK_WORDS;
     // The mark is gone before any other word changes, and comes back once all of them are written back.
     region.store(SUPER_MAGIC, 0);
     region.barrier();
@@ -41,4 +38,19 @@ pub fn lay_out<R: Region>(region: &mut R, version: Version)
     region.barrier();
     region.store(SUPER_MAGIC, version.magic());
     region.barrier();
+}
+
+/// Makes an empty file system of a version of a region of 8 to 65,536 blocks of 512 words. Its stores are not written back
+/// until the region is drained: up to then a crash may leave the old words, or words without the mark.
+pub fn lay_out<R: Region>(region: &mut R, version: Version)
+    requires sized { IsSized (R.memory region.old).base }
+    requires fresh { (R.memory region.old).events ≡ [] }
+    requires room { 16 ≤ room_in (R.memory region.old) }
+    ensures stores { Adds (R.memory region.old) (R.memory region.new)
+        (format_events version (block_count (R.memory region.old).base)) }
+    ensures left { (image : Image) → IsReplay (R.memory region.new).base (R.memory region.new).events image
+        → IsLeftByFormat version (R.memory region.old).base image }
+{
+    let blocks = region.words() / BLOCK_WORDS;
+    lay_front(region, version, blocks);
 }

@@ -20,7 +20,7 @@ mod walking;
 mod writing;
 
 pub use bp_scan::{MountFault, Totals};
-pub use laying::lay_out;
+pub use laying::{lay_front, lay_out};
 pub use sets::Sets;
 pub use space::Space;
 pub use volume::Volume;

@@ -8,5 +8,5 @@ use Rattle.bp_volume.proofs.laying.lay_out.Goals as goal
 pub returns-clause-left : goal.returns-clause-left
 returns-clause-left g c image found =
     let old : Memory = g.R.Region.memory c.args.region.now in
-    let adds : Adds old (g.R.Region.memory c.barrier-3.new.self) (format_events c.args.version (block_count old.base)) = search rules in
+    let adds : Adds old (g.R.Region.memory c.lay_front.new.region) (format_events c.args.version (block_count old.base)) = search rules in
     left_by_format old.base c.args.version (block_count old.base) c.requires.sized.whole c.requires.sized.at_least c.requires.sized.at_most image (rw (adds, c.requires.fresh) at found)

@@ -63,6 +63,32 @@ fn disk_files_change_at_the_flush(rt: HostRuntime) -> Result<(), Fail> {
     Ok(())
 }
 
+#[test]
+fn disk_files_are_replaced(rt: HostRuntime) -> Result<(), Fail> {
+    fs::write(&rt, "front.img", [5u8; 12_288].as_slice())?;
+    let mut files = DiskFiles::new(rt.alloc(), &rt)?;
+    assert_eq!(rt; files.attach("front.img", Access::Write), Ok(Some(12_288)));
+    let block = [6u8; 4096];
+    assert_eq!(rt; files.replace(&block, 8), Ok(()));
+    assert_eq!(rt; files.write_block(5, &block), Ok(()));
+    assert_eq!(rt; fs::read(&rt, "front.img")?.len(), 12_288);
+    assert_eq!(rt; files.flush(), Ok(()));
+    let bytes = fs::read(&rt, "front.img")?;
+    assert_eq!(rt; bytes.len(), 32_768);
+    for (at, want) in [
+        (0, 6),
+        (4095, 6),
+        (4096, 0),
+        (12_287, 0),
+        (20_480, 6),
+        (24_576, 0),
+    ] {
+        assert_eq!(rt; bytes.get(at).copied(), Some(want), "at {at}");
+    }
+    fs::remove_file(&rt, "front.img")?;
+    Ok(())
+}
+
 /// What the block `i` of the long file holds in each of its bytes.
 fn long_byte(i: u8) -> u8 {
     match i {

@@ -1,94 +1,93 @@
--- A file between its old bytes and an image.
-use Rattle.std.proofs.Common.{zero, suc, refl, sym, ◌∙◌, ap, true, true≢false, arith, ◌≡◌, ℕ, ◌+◌, ◌*◌, ◌-◌, ◌<◌, ◌≤◌, List, [], ◌∷◌, ◌++◌, length, take, drop, replicate, inl, inr, length-append, length-take}
-use Rattle.std.specs.Prelude.{Option, Some, None, is_some, Result, Ok, Err, OnOk, OnErr, ◌⊎◌}
+-- The front of a new image, and a file between its old bytes and that image.
+use Rattle.std.proofs.Common.{zero, suc, refl, sym, ◌∙◌, ap, true, arith, ◌≡◌, ℕ, ◌+◌, ◌*◌, ◌-◌, ◌<◌, ◌≤◌, List, [], ◌∷◌, ◌++◌, length, take, replicate, inl, inr}
+use Rattle.std.specs.Prelude.{Option, Some, None, Result, Ok, Err, OnOk, OnErr}
 use Rattle.std.specs.Io.KnownBytes.{Appends}
-use Rattle.std.proofs.Math.Seq.{take-length}
-use Rattle.std.proofs.lemmas.List.{length-replicate}
-use Rattle.pm_region.specs.Memory.{Memory, current_words}
-use Rattle.bp_layout.specs.Format.{format_stores}
+use Rattle.std.proofs.Math.Seq.{take-add, take-length}
+use Rattle.std.proofs.lemmas.List.{length-replicate, replicate-append-replicate, take_all}
+use Rattle.bp_layout.specs.Bytes.{image_bytes}
+use Rattle.bp_layout.specs.Format.{format_stores, formatted}
 use Rattle.bp_layout.specs.Words.{Image}
 use Rattle.bp_layout.proofs.LastValue.{length-after_stores}
 use Rattle.bp_limits.specs.declared.version.Version.{Version}
 use Rattle.bp_io.specs.Causes.{HasCause}
-use Rattle.bp_io.specs.Files.{Known, Stays, StaysOrIsMade, Becomes, Attaches, block_bytes, resized_file}
-use Rattle.bp_session.specs.Files.{HasBytes, HasBlocksOf}
-use Rattle.bp_shell.specs.Formatting.{IsPartlyFormatted, HasPartly, bytes_there, new_image}
+use Rattle.bp_io.specs.Files.{Known, IsPartlyReplaced, Stays, StaysOrIsMade, Becomes, BecomesPartly, Attaches, block_bytes, resized_file}
+use Rattle.bp_session.specs.Files.{HasBytes}
 use Rattle.bp_session.specs.Outside.{Prints}
+use Rattle.bp_session.proofs.BlockLaws.{image_bytes-append, length-image_bytes}
+use Rattle.bp_shell.specs.Formatting.{HasPartly, bytes_there, new_image}
+use Rattle.bp_volume.specs.Laid.{format_events}
+use Rattle.bp_volume.proofs.FrontLaws.{formatted-append, formatted_words}
+use Rattle.pm_region.specs.Memory.{Adds, Memory, current_words}
+use Rattle.pm_region.proofs.MemoryLaws.{length-current_words}
 
 pub prints : {T E : Type 0} (r : Result T E) (text : List ℕ) (t u : Option (List ℕ)) (m n : ℕ) → OnOk r (Appends t u text) → OnErr r ((count : ℕ) × (count < length text) × Appends t u (take count text)) → HasCause m n r → Prints text t u m n
 prints (Ok x) text t u m n ok err cause = record { some = (length text, rw (take-length text) ok); all = λ _. ok }
 prints (Err e) text t u m n ok err cause = record { some = (err.0, err.2); all = λ calm. absurd (calm cause.failed) }
 
--- the words of a format are as many as the zeros over which it is made
-pub length-new_image : (version : Version) (blocks : ℕ) → length (new_image version blocks) ≡ 512 * blocks
-length-new_image version blocks = length-after_stores (replicate (512 * blocks) 0) (format_stores version blocks) ∙ length-replicate (512 * blocks) 0
+-- ---- the front of a new image
 
--- ---- zeros behind bytes
+-- more zeros are some zeros and the others
+zeros_apart : (few many : ℕ) → few ≤ many → replicate {A = ℕ} many 0 ≡ replicate few 0 ++ replicate (many - few) 0
+zeros_apart few many low =
+    let sum : few + (many - few) ≡ many = omega (arith, low) in
+    sym (replicate-append-replicate {A = ℕ} few (many - few) 0 ∙ ap (λ (n : ℕ). replicate n 0) sum)
 
-take-nothing : (n : ℕ) → take {A = ℕ} n [] ≡ []
-take-nothing zero = refl
-take-nothing (suc n) = refl
+-- the bytes of words that are 0
+image_bytes-zeros : (count : ℕ) → image_bytes (replicate count 0) ≡ replicate (8 * count) 0
+unfolding image_bytes
+image_bytes-zeros zero = refl
+image_bytes-zeros (suc count) =
+    let more : 8 * suc count ≡ suc (suc (suc (suc (suc (suc (suc (suc (8 * count)))))))) = omega arith in
+    rw more (ap (λ (l : List ℕ). 0 ∷ 0 ∷ 0 ∷ 0 ∷ 0 ∷ 0 ∷ 0 ∷ 0 ∷ l) (image_bytes-zeros count))
 
-take-zeros : (w m : ℕ) → w ≤ m → take {A = ℕ} w (replicate m 0) ≡ replicate w 0
-take-zeros zero m low = refl
-take-zeros (suc w) zero low = absurd (omega arith)
-take-zeros (suc w) (suc m) low = ap (λ l. 0 ∷ l) (take-zeros w m (omega arith))
+-- the front of a new image, filled up with zeros, is all of it
+front_filled : (version : Version) (width blocks : ℕ) (front : List ℕ) → 1024 ≤ width → width ≤ 512 * blocks →
+    front ≡ image_bytes (formatted (replicate width 0) version blocks) → resized_file (4096 * blocks) front ≡ image_bytes (new_image version blocks)
+front_filled version width blocks front two fits are =
+    let some : length (replicate {A = ℕ} width 0) ≡ width = length-replicate {A = ℕ} width 0 in
+    let size : length (formatted (replicate width 0) version blocks) ≡ width = length-after_stores (replicate width 0) (format_stores version blocks) ∙ some in
+    let long : length front ≡ 8 * width = ap length are ∙ length-image_bytes (formatted (replicate width 0) version blocks) ∙ ap (λ (n : ℕ). 8 * n) size in
+    let missing : 4096 * blocks - length front ≡ 8 * (512 * blocks - width) = omega (arith, long, fits) in
+    let all : take (4096 * blocks) front ≡ front = take_all (4096 * blocks) front (omega (arith, long, fits)) in
+    rw (all, missing) (
+    ap (λ (l : List ℕ). l ++ replicate (8 * (512 * blocks - width)) 0) are
+    ∙ ap (λ (l : List ℕ). image_bytes (formatted (replicate width 0) version blocks) ++ l) (sym (image_bytes-zeros (512 * blocks - width)))
+    ∙ sym (image_bytes-append (formatted (replicate width 0) version blocks) (replicate (512 * blocks - width) 0))
+    ∙ ap image_bytes (sym (formatted-append (replicate width 0) (replicate (512 * blocks - width) 0) version blocks (omega (arith, some, two))))
+    ∙ ap (λ (words : Image). image_bytes (formatted words version blocks)) (sym (zeros_apart width (512 * blocks) fits)))
 
--- a front of bytes with zeros behind them
-front_filled : (xs : List ℕ) (w m : ℕ) → w ≤ m → take w (take m xs ++ replicate (m - length xs) 0) ≡ take w xs ++ replicate (w - length xs) 0
-front_filled [] w m low =
-    let some : m - 0 ≡ m = omega arith in
-    let few : w - 0 ≡ w = omega arith in
-    rw (take-nothing m, take-nothing w, some, few) (take-zeros w m low)
-front_filled (x ∷ xs) zero m low = let none : 0 - suc (length xs) ≡ 0 = omega arith in rw none refl
-front_filled (x ∷ xs) (suc w) zero low = absurd (omega arith)
-front_filled (x ∷ xs) (suc w) (suc m) low =
-    let some : suc m - suc (length xs) ≡ m - length xs = omega arith in
-    let few : suc w - suc (length xs) ≡ w - length xs = omega arith in
-    rw (some, few) (ap (λ l. x ∷ l) (front_filled xs w m (omega arith)))
+-- the words that a format made of zeros, and their bytes
+module _ (old new : Memory) (version : Version) (width blocks : ℕ) (front : List ℕ) (zeros : old.base ≡ replicate width 0) (fresh : old.events ≡ []) (adds : Adds old new (format_events version blocks)) (are : front ≡ image_bytes (current_words new)) where
+  made : current_words new ≡ formatted (replicate width 0) version blocks
+  made = formatted_words version blocks old new fresh adds ∙ ap (λ (words : Image). formatted words version blocks) zeros
 
-middle_filled : (xs : List ℕ) (a w m : ℕ) → a + w ≤ m → take w (drop a (take m xs ++ replicate (m - length xs) 0)) ≡ take w (drop a xs) ++ replicate (w - length (drop a xs)) 0
-middle_filled xs zero w m low = front_filled xs w m (omega (arith, low))
-middle_filled xs (suc a) w zero low = absurd (omega arith)
-middle_filled [] (suc a) w (suc m) low =
-    let some : suc m - 0 ≡ suc (m - 0) = omega arith in
-    rw some (zeros a m (omega arith))
-  where
-    zeros : (a m : ℕ) → a + w ≤ m → take {A = ℕ} w (drop a (replicate (m - 0) 0)) ≡ take w [] ++ replicate (w - 0) 0
-    zeros zero m low =
-        let some : m - 0 ≡ m = omega arith in
-        let few : w - 0 ≡ w = omega arith in
-        rw (some, few, take-nothing w) (take-zeros w m (omega (arith, low)))
-    zeros (suc a) zero low = absurd (omega arith)
-    zeros (suc a) (suc m) low = let some : suc m - 0 ≡ suc (m - 0) = omega arith in rw some (zeros a m (omega arith))
-middle_filled (x ∷ xs) (suc a) w (suc m) low =
-    let some : suc m - suc (length xs) ≡ m - length xs = omega arith in
-    rw some (middle_filled xs a w m (omega arith))
+  pub length-front : length front ≡ 8 * width
+  length-front =
+      ap length (are ∙ ap image_bytes made) ∙ length-image_bytes (formatted (replicate width 0) version blocks)
+      ∙ ap (λ (n : ℕ). 8 * n) (length-after_stores (replicate width 0) (format_stores version blocks) ∙ length-replicate {A = ℕ} width 0)
 
-take-take : (w : ℕ) (xs : List ℕ) → take w (take w xs) ≡ take w xs
-take-take zero xs = refl
-take-take (suc w) [] = refl
-take-take (suc w) (x ∷ xs) = ap (λ l. x ∷ l) (take-take w xs)
+  pub front_made : 1024 ≤ width → width ≤ 512 * blocks → resized_file (4096 * blocks) front ≡ image_bytes (new_image version blocks)
+  front_made two fits = front_filled version width blocks front two fits (are ∙ ap image_bytes made)
 
-block_filled : (xs : List ℕ) (i blocks : ℕ) → i < blocks → block_bytes (resized_file (4096 * blocks) xs) i ≡ resized_file 4096 (block_bytes xs i)
-block_filled xs i blocks low =
+-- one more block of bytes
+pub block_more : (bytes before block : List ℕ) (i : ℕ) → before ≡ take (4096 * i) bytes → block ≡ block_bytes bytes i → before ++ block ≡ take (4096 * (i + 1)) bytes
+block_more bytes before block i are is =
+    let next : 4096 * (i + 1) ≡ 4096 * i + 4096 = omega arith in
     let width : (4096 * i + 4096) - 4096 * i ≡ 4096 = omega arith in
-    let missing : 4096 - length (take 4096 (drop (4096 * i) xs)) ≡ 4096 - length (drop (4096 * i) xs) = omega (arith, length-take 4096 (drop (4096 * i) xs)) in
-    rw (width, take-take 4096 (drop (4096 * i) xs), missing) (middle_filled xs (4096 * i) 4096 (4096 * blocks) (omega arith))
+    rw (are, is, next, width) (sym (take-add (4096 * i) 4096 bytes))
 
-length-resized : (m : ℕ) (xs : List ℕ) → length (resized_file m xs) ≡ m
-length-resized m xs = omega (arith, length-append (take m xs) (replicate (m - length xs) 0), length-take m xs, length-replicate {A = ℕ} (m - length xs) 0)
+-- the bytes of all blocks
+pub all_blocks : (memory : Memory) (bytes : List ℕ) (count : ℕ) → length memory.base ≡ 512 * count → bytes ≡ take (4096 * count) (image_bytes (current_words memory)) → bytes ≡ image_bytes (current_words memory)
+all_blocks memory bytes count whole are =
+    are ∙ take_all (4096 * count) (image_bytes (current_words memory)) (omega (arith, whole, length-current_words memory, length-image_bytes (current_words memory)))
 
 -- ---- what is known of the file
 
-as_before : (old wanted : List ℕ) → IsPartlyFormatted old wanted old
+as_before : (old wanted : List ℕ) → IsPartlyReplaced old wanted old
 as_before old wanted = record { size = inl refl; blocks = λ i low. inl refl }
 
-all_filled : (old wanted : List ℕ) (blocks : ℕ) → length wanted ≡ 4096 * blocks → IsPartlyFormatted old wanted (resized_file (4096 * blocks) old)
-all_filled old wanted blocks size = record {
-  size = inr (length-resized (4096 * blocks) old ∙ sym size);
-  blocks = λ i low. inr (inl (block_filled old i blocks (omega (arith, length-resized (4096 * blocks) old, low))));
-}
+as_wanted : (old wanted : List ℕ) → IsPartlyReplaced old wanted wanted
+as_wanted old wanted = record { size = inr refl; blocks = λ i low. inr (inr refl) }
 
 -- an attach failed
 pub partly_attached : (old now : Known) (wanted : List ℕ) → Becomes (λ bytes. bytes) old now → StaysOrIsMade true old now → HasPartly old wanted now
@@ -99,63 +98,25 @@ partly_attached (Some None) now wanted stays made = elim made [
 ]
 partly_attached (Some (Some bytes)) now wanted stays made = rw stays (as_before bytes wanted)
 
--- a change of the length failed
-pub partly_sized : (old middle now : Known) (n blocks : ℕ) (wanted : List ℕ) → length wanted ≡ 4096 * blocks → Attaches old (Some n) middle → Stays middle now ⊎ Becomes (resized_file (4096 * blocks)) middle now → HasPartly old wanted now
-partly_sized None middle now n blocks wanted size attaches sizes = elim (rw attaches at sizes) [ inl e ↦ e | inr e ↦ e ]
-partly_sized (Some None) middle now n blocks wanted size attaches sizes = elim (rw attaches at sizes) [
-  | inl e ↦ rw e (as_before [] wanted)
-  | inr e ↦ rw e (all_filled [] wanted blocks size)
-]
-partly_sized (Some (Some bytes)) middle now n blocks wanted size attaches sizes = elim (rw attaches at sizes) [
-  | inl e ↦ rw e (as_before bytes wanted)
-  | inr e ↦ rw e (all_filled bytes wanted blocks size)
-]
+-- a file that is there is replaced partly
+between : (old : Option (List ℕ)) (bytes wanted : List ℕ) (now : Known) → bytes_there old ≡ bytes → BecomesPartly wanted (Some (Some bytes)) now → HasPartly (Some old) wanted now
+between old bytes wanted None same partly = absurd partly
+between old bytes wanted (Some None) same partly = absurd partly
+between old bytes wanted (Some (Some found)) same partly = rw same partly
 
--- The file has its new length.
-pub record Sized (old sized : Known) (blocks : ℕ) : Type 0 where
-  pub was : List ℕ
-  pub long : length was ≡ 4096 * blocks
-  pub has : HasBytes sized was
-  pub from : (o : Option (List ℕ)) → old ≡ Some o → was ≡ resized_file (4096 * blocks) (bytes_there o)
-  pub told : is_some sized ≡ is_some old
+pub partly_replaced : (old middle now : Known) (n : ℕ) (wanted : List ℕ) → Attaches old (Some n) middle → BecomesPartly wanted middle now → HasPartly old wanted now
+partly_replaced None middle now n wanted attaches partly = rw attaches at partly
+partly_replaced (Some None) middle now n wanted attaches partly = between None [] wanted now refl (rw attaches at partly)
+partly_replaced (Some (Some bytes)) middle now n wanted attaches partly = between (Some bytes) bytes wanted now refl (rw attaches at partly)
 
-pub is_sized : (old middle sized : Known) (n blocks : ℕ) → Attaches old (Some n) middle → Becomes (resized_file (4096 * blocks)) middle sized → Sized old sized blocks
-is_sized None middle sized n blocks attaches sizes = record {
-  was = replicate (4096 * blocks) 0;
-  long = length-replicate {A = ℕ} (4096 * blocks) 0;
-  has = let now = rw attaches at sizes in rw now tt;
-  from = λ o e. absurd (let never : ◌≡◌ {A = Known} None (Some o) = e in cc);
-  told = let now = rw attaches at sizes in rw now refl;
-}
-is_sized (Some None) middle sized n blocks attaches sizes = record {
-  was = resized_file (4096 * blocks) [];
-  long = length-resized (4096 * blocks) [];
-  has = let now = rw attaches at sizes in rw now refl;
-  from = λ o e. let same : None ≡ o = cc in rw (← same) refl;
-  told = let now = rw attaches at sizes in rw now refl;
-}
-is_sized (Some (Some bytes)) middle sized n blocks attaches sizes = record {
-  was = resized_file (4096 * blocks) bytes;
-  long = length-resized (4096 * blocks) bytes;
-  has = let now = rw attaches at sizes in rw now refl;
-  from = λ o e. let same : Some bytes ≡ o = cc in rw (← same) refl;
-  told = let now = rw attaches at sizes in rw now refl;
-}
+-- it is replaced whole
+pub whole_replaced : (old middle new now : Known) (n : ℕ) (wanted : List ℕ) → Attaches old (Some n) middle → Becomes (λ was. wanted) middle new → Stays new now → HasBytes now wanted
+whole_replaced None middle new now n wanted attaches replaced stays = let none = rw attaches at replaced in let still = rw none at stays in rw still tt
+whole_replaced (Some None) middle new now n wanted attaches replaced stays = let is = rw attaches at replaced in let still = rw is at stays in rw still refl
+whole_replaced (Some (Some bytes)) middle new now n wanted attaches replaced stays = let is = rw attaches at replaced in let still = rw is at stays in rw still refl
 
--- a save failed
-pub partly_mixed : (old now : Known) (was wanted : List ℕ) (blocks : ℕ) → length was ≡ 4096 * blocks → ((o : Option (List ℕ)) → old ≡ Some o → was ≡ resized_file (4096 * blocks) (bytes_there o)) → is_some now ≡ is_some old → HasBlocksOf now was wanted → length wanted ≡ 4096 * blocks → HasPartly old wanted now
-partly_mixed None None was wanted blocks long from told mixed size = refl
-partly_mixed None (Some now) was wanted blocks long from told mixed size = absurd (true≢false told)
-partly_mixed (Some o) None was wanted blocks long from told mixed size = absurd (true≢false (sym told))
-partly_mixed (Some o) (Some None) was wanted blocks long from told mixed size = absurd mixed
-partly_mixed (Some o) (Some (Some found)) was wanted blocks long from told mixed size = record {
-  size = inr (omega (arith, mixed.size, long, size));
-  blocks = λ i low. elim (mixed.blocks i low) [
-    | inl e ↦ inr (inl (e ∙ ap (λ l. block_bytes l i) (from o refl) ∙ block_filled (bytes_there o) i blocks (omega (arith, long, mixed.size))))
-    | inr e ↦ inr (inr e)
-  ];
-}
-
--- the words of a new file system
-pub new_words : (memory : Memory) (image : Image) → memory.base ≡ image → memory.events ≡ [] → current_words memory ≡ image
-new_words memory image base events = rw (events, base) refl
+-- .. and a flush failed
+pub partly_flushed : (old middle new now : Known) (n : ℕ) (wanted : List ℕ) → Attaches old (Some n) middle → Becomes (λ was. wanted) middle new → Stays new now → HasPartly old wanted now
+partly_flushed None middle new now n wanted attaches replaced stays = let none = rw attaches at replaced in rw none at stays
+partly_flushed (Some None) middle new now n wanted attaches replaced stays = let is = rw attaches at replaced in let still = rw is at stays in rw still (as_wanted [] wanted)
+partly_flushed (Some (Some bytes)) middle new now n wanted attaches replaced stays = let is = rw attaches at replaced in let still = rw is at stays in rw still (as_wanted bytes wanted)

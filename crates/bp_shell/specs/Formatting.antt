@@ -1,8 +1,8 @@
 -- What a format makes of a file.
-use Rattle.std.specs.Prelude.{◌≡◌, ◌⊎◌, ℕ, ◌*◌, ◌<◌, List, [], length, replicate, Option, None, Some, true, false}
-use Rattle.bp_limits.specs.Limits.{block_size, block_words}
+use Rattle.std.specs.Prelude.{◌≡◌, ◌⊎◌, ℕ, ◌*◌, List, [], replicate, Option, None, Some, true, false}
+use Rattle.bp_limits.specs.Limits.{block_words}
 use Rattle.bp_limits.specs.declared.version.Version.{Version}
-use Rattle.bp_io.specs.Files.{Known, Stays, StaysAttached, View, block_bytes, resized_file}
+use Rattle.bp_io.specs.Files.{IsPartlyReplaced, Known, Stays, StaysAttached, View}
 use Rattle.bp_layout.specs.Words.{Image}
 use Rattle.bp_layout.specs.Format.{formatted}
 
@@ -10,26 +10,18 @@ use Rattle.bp_layout.specs.Format.{formatted}
 abbrev pub new_image : Version → ℕ → Image
 new_image version blocks = formatted (replicate (block_words * blocks) 0) version blocks
 
--- The file has its old length or the wanted one, and each of its blocks is the old file's, or that one filled up with
--- zeros, or that of the wanted bytes.
-pub record IsPartlyFormatted (old wanted found : List ℕ) : Type 0 where
-  pub size : (length found ≡ length old) ⊎ (length found ≡ length wanted)
-  pub blocks : (i : ℕ) → block_size * i < length found → (block_bytes found i ≡ block_bytes old i)
-      ⊎ (block_bytes found i ≡ resized_file block_size (block_bytes old i))
-      ⊎ (block_bytes found i ≡ block_bytes wanted i)
-
 -- the bytes of a file, none where there is no file
 abbrev pub bytes_there : Option (List ℕ) → List ℕ
 bytes_there None = []
 bytes_there (Some bytes) = bytes
 
--- The same of a file, where it is told: it is so before and after, or neither. One that is missing at first may still
--- be, or was made.
+-- A file, where it is told, is replaced partly: it is told before and after, or neither. One that is missing at first
+-- may still be, or was made.
 abbrev pub HasPartly : Known → List ℕ → Known → Type 0
 HasPartly None wanted now = now ≡ None
 HasPartly (Some was) wanted None = ⊥
 HasPartly (Some was) wanted (Some None) = was ≡ None
-HasPartly (Some was) wanted (Some (Some found)) = IsPartlyFormatted (bytes_there was) wanted found
+HasPartly (Some was) wanted (Some (Some found)) = IsPartlyReplaced (bytes_there was) wanted found
 
 -- ---- the other files
 

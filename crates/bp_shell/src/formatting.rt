@@ -1,74 +1,83 @@
 //! The program `format`.
 
 ghost use Rattle.bp_io.specs.Causes.{HasCause};
+ghost use Rattle.bp_io.specs.Files.{resized_file};
 ghost use Rattle.bp_layout.specs.Bytes.{image_bytes};
-ghost use Rattle.bp_limits.specs.Limits.{block_words, call_room};
+ghost use Rattle.bp_limits.specs.Limits.{block_size, block_words};
 ghost use Rattle.bp_session.specs.Files.{HasBytes};
 ghost use Rattle.bp_shell.specs.Formatting.{HasPartly, OnlyMakes, new_image};
 ghost use Rattle.bp_session.specs.Outside.{outside};
 ghost use Rattle.bp_shell.specs.Running.{FormatOutcome};
 ghost use Rattle.bp_shell.specs.Statuses.{code_of};
 ghost use Rattle.pm_region.specs.Memory.{current_words};
-ghost use Rattle.std.specs.Prelude.{◌*◌, ◌≡◌, ◌≤◌, [], true, ℕ, IfSome, List, OnErr, OnOk, Option, length, replicate};
+ghost use Rattle.std.specs.Prelude.{◌%◌, ◌*◌, ◌/◌, ◌≡◌, ◌≤◌, [], true, ℕ, IfOk, List, OnErr, OnOk, Option, length, replicate};
 
 use crate::printing::print;
 use crate::status::Status;
 use bp_io::{Access, Failed, Files, Sink};
-use bp_limits::{BLOCK_WORDS, CALL_ROOM, MAX_BLOCKS, MIN_BLOCKS, Version};
+use bp_limits::{BLOCK_SIZE, BLOCK_WORDS, MAX_BLOCKS, MIN_BLOCKS, Version};
 use bp_script::Notice;
-use bp_session::saving::save;
-use bp_volume::Volume;
+use bp_session::blocks::read_block;
+use bp_volume::lay_front;
 use pm_region::{ListRegion, Region};
-use std::alloc::Global;
+use std::alloc::{AllocError, Global};
 
-/// A region of so many blocks, whose words are 0; none for want of memory.
-fn empty_region(alloc: Global, blocks: u32) -> Option<ListRegion>
-    requires most { blocks ≤ MAX_BLOCKS }
-    ensures words { IfSome result (λ region. region.base ≡ replicate (block_words * blocks) 0) }
-    ensures drained { IfSome result (λ region. region.events ≡ []) }
-    ensures room { IfSome result (λ region. region.capacity ≡ call_room) }
+/// The blocks of a new file system that are not zeros, the superblock and the first one of inodes.
+const FRONT_BLOCKS: u32 = 2;
+
+/// The events that the log of a format has to hold.
+const FORMAT_ROOM: usize = 16;
+
+/// A region of the first blocks of a file system, whose words are 0.
+fn empty_front(alloc: Global) -> Result<ListRegion, AllocError>
+    ensures words { IfOk result (λ region. region.base ≡ replicate (block_words * FRONT_BLOCKS) 0) }
+    ensures drained { IfOk result (λ region. region.events ≡ []) }
+    ensures room { IfOk result (λ region. region.capacity ≡ FORMAT_ROOM) }
 {
-    let words = match vec![in alloc; 0u64; (BLOCK_WORDS * blocks) as usize] {
-        Ok(words) => words,
-        Err(_) => return None,
-    };
-    match ListRegion::new(alloc, words, CALL_ROOM) {
-        Ok(region) => Some(region),
-        Err(_) => None,
-    }
+    let words = vec![in alloc; 0u64; (BLOCK_WORDS * FRONT_BLOCKS) as usize]?;
+    let region = ListRegion::new(alloc, words, FORMAT_ROOM)?;
+    Ok(region)
 }
 
-/// A new file system of so many blocks and of a version; none for want of memory.
-fn new_volume(alloc: Global, blocks: u32, version: Version) -> Option<Volume<ListRegion>>
-    requires least { MIN_BLOCKS ≤ blocks }
-    requires most { blocks ≤ MAX_BLOCKS }
-    ensures image { IfSome result (λ volume. volume.base ≡ new_image version blocks) }
-    ensures drained { IfSome result (λ volume. volume.events ≡ []) }
+/// The bytes of a region, as its words are now.
+fn encode<R: Region>(alloc: Global, region: &R) -> Result<Vec<u8>, AllocError>
+    requires whole { length (R.memory region.now).base % block_words ≡ 0 }
+    requires most { length (R.memory region.now).base ≤ block_words * MAX_BLOCKS }
+    ensures { IfOk result (λ bytes. bytes.items ≡ image_bytes (current_words (R.memory region.now))) }
 {
-    let region = match empty_region(alloc, blocks) {
-        Some(region) => region,
-        None => return None,
-    };
-    match Volume::format_as(alloc, region, version) {
-        Ok(volume) => Some(volume),
-        Err(_) => None,
+    let mut bytes = Vec::new(alloc);
+    let mut block = [0u8; 4096];
+    let count = region.words() / BLOCK_WORDS;
+    for i in 0..count {
+        read_block(region, i, &mut block);
+        bytes.extend_from_slice(&block)?;
     }
+    Ok(bytes)
 }
 
-/// Makes the file of a name the words of a region.
-fn write_image<R: Region, F: Files>(
-    region: &R,
-    name: &str,
-    blocks: u32,
-    files: &mut F,
-) -> Result<(), Failed>
-    requires size { length (R.memory region.now).base ≡ block_words * blocks }
+/// The first blocks of a new file system of so many blocks and of a version. Behind them it has zeros alone.
+fn new_front(alloc: Global, blocks: u32, version: Version) -> Result<Vec<u8>, AllocError>
+    requires { FRONT_BLOCKS ≤ blocks }
+    ensures size { IfOk result (λ front. length front.items ≡ block_size * FRONT_BLOCKS) }
+    ensures image { IfOk result (λ front. resized_file (block_size * blocks) front.items
+        ≡ image_bytes (new_image version blocks)) }
+{
+    let mut region = empty_front(alloc)?;
+    lay_front(&mut region, version, blocks);
+    let front = encode(alloc, &region)?;
+    Ok(front)
+}
+
+/// Makes the file of a name so many blocks: these bytes, and zeros behind them.
+fn write_image<F: Files>(front: &[u8], name: &str, blocks: u32, files: &mut F) -> Result<(), Failed>
+    requires whole { length front.now % BLOCK_SIZE ≡ 0 }
+    requires inside { length front.now / BLOCK_SIZE ≤ blocks }
     requires most { blocks ≤ MAX_BLOCKS }
     ensures written { OnOk result (HasBytes ((F.view files.new).contents name.now)
-        (image_bytes (current_words (R.memory region.now)))) }
+        (resized_file (block_size * blocks) front.now)) }
     ensures flushed { OnOk result ((F.view files.new).is_flushed ≡ true) }
     ensures partly { OnErr result (HasPartly ((F.view files.old).contents name.now)
-        (image_bytes (current_words (R.memory region.now))) ((F.view files.new).contents name.now)) }
+        (resized_file (block_size * blocks) front.now) ((F.view files.new).contents name.now)) }
     ensures makes { OnlyMakes name.now (F.view files.old) (F.view files.new) }
     ensures cause { HasCause (F.view files.old).faults (F.view files.new).faults result }
 {
@@ -76,8 +85,8 @@ fn write_image<R: Region, F: Files>(
         Some(_) => {}
         None => unreachable!(),
     }
-    files.set_blocks(blocks)?;
-    save(region, files)?;
+    files.replace(front, blocks)?;
+    files.flush()?;
     Ok(())
 }
 
@@ -99,11 +108,11 @@ pub(crate) fn format_file<K: Sink, F: Files>(
         (outside left reads (K.taken out.new) (K.faults out.new) (F.view files.new) name.now) }
     ensures makes { OnlyMakes name.now (F.view files.old) (F.view files.new) }
 {
-    let volume = match new_volume(alloc, blocks, version) {
-        Some(volume) => volume,
-        None => return Status::Memory,
+    let front = match new_front(alloc, blocks, version) {
+        Ok(front) => front,
+        Err(_) => return Status::Memory,
     };
-    match write_image(volume.region(), name, blocks, files) {
+    match write_image(&front, name, blocks, files) {
         Ok(()) => {}
         Err(Failed) => return Status::FilesFailed,
     }

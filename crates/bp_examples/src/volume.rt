@@ -56,13 +56,19 @@ fn a_file_has_two_names(rt: HostRuntime) -> Result<(), Fail> {
 }
 
 #[test]
-fn a_size_of_version_2_wants_that_version(rt: HostRuntime) -> Result<(), Fail> {
+fn an_upgrade_raises_the_greatest_size(rt: HostRuntime) -> Result<(), Fail> {
     let size = Version::One.greatest_size() + 1;
     let mut volume = fresh(rt.alloc())?;
     assert_eq!(rt; volume.create(b"/a"), Ok(()));
     assert_eq!(rt; volume.truncate(b"/a", size), Err(FsError::TooBig));
     volume.upgrade();
     assert_eq!(rt; volume.truncate(b"/a", size), Ok(()));
+    Ok(())
+}
+
+#[test]
+fn a_format_has_the_greatest_size_of_its_version(rt: HostRuntime) -> Result<(), Fail> {
+    let size = Version::One.greatest_size() + 1;
     let region = region_of(rt.alloc(), laid(rt.alloc(), &[])?)?;
     let made = Volume::format_as(rt.alloc(), region, Version::Two);
     let mut volume = made.ok().ok_or("no volume")?;

@@ -251,6 +251,7 @@ module _ (old new : Image) (wf : IsWellFormed old) (i s k r j : ℕ) (can : CanM
     kind = λ u reached. moves.kind u (in_inodes u reached);
     size = λ u reached other. moves.size u (in_inodes u reached);
     directory_size = rw (moves.size k (in_inodes k can.target)) (wf.directory_sizes k can.target can.directory);
+    slots = λ x low. inl (rw (count_stays k can.target) at low);
     emptied = moves.emptied;
     entry = new_entry;
     back = λ u x l reached n. back u x l (entry_of u x l reached n);

@@ -22,3 +22,4 @@ pub mod ChangesOver
 pub mod Carry
 pub mod MoveReach
 pub mod Named
+pub mod EntriesLaws

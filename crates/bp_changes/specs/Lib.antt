@@ -11,3 +11,5 @@ pub mod Harmless
 pub mod Effects
 pub mod Commits
 pub mod Thawed
+-- what each keeps of entries
+pub mod KeepsEntries

@@ -23,3 +23,4 @@ pub mod Carry
 pub mod MoveReach
 pub mod Named
 pub mod EntriesLaws
+pub mod SlotLaws

@@ -44,10 +44,10 @@ module _ (old new : Image) (wf : IsWellFormed old) (i s k r j : ℕ) (can : CanM
       rw (moves.entry u x 1 reached kind low (omega arith) (λ e same. omega (arith, same)) (λ e same. omega (arith, same)))
       (map-same _ _ 0 (entry_word old u x 1) (λ o low high. byte_stays o (omega (arith, high, short))))
 
-  name_of_old : (u x l : ℕ) → IsReached old u → EntryNames old u x l → name_at new u x ≡ name_at old u x
+  pub name_of_old : (u x l : ℕ) → IsReached old u → EntryNames old u x l → name_at new u x ≡ name_at old u x
   name_of_old u x l reached n = name_stays u x reached n.directory n.in_size (wf.names u x l reached n).short
 
-  name_of_target : name_at new k r ≡ name_at old k r
+  pub name_of_target : name_at new k r ≡ name_at old k r
   name_of_target = name_stays k r can.target can.directory can.in_size can.name.short
 
   -- an entry of the new image: the target, or one of the old image but neither source nor target

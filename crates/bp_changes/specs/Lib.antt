@@ -11,5 +11,6 @@ pub mod Harmless
 pub mod Effects
 pub mod Commits
 pub mod Thawed
--- what each keeps of entries
+-- what each keeps of the slots of names, and of entries
+pub mod KeepsSlots
 pub mod KeepsEntries

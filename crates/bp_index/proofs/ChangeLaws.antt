@@ -16,11 +16,11 @@ use Rattle.bp_index.specs.Index.{EntersSlot, IsIndexed, IsIndexOf, KeepsIndexed,
 
 -- an entry that names the inode that it named, by the name that it had
 pub keeps_same : (old : Image) (old_root : ℕ) (new : Image) (new_root slot : ℕ) → inumber_in new new_root slot ≡ inumber_in old old_root slot →
-    (inumber_in new new_root slot ≢ 0 → name_in new new_root slot ≡ name_in old old_root slot) → KeepsName old old_root new new_root slot
+    (inumber_in old old_root slot ≢ 0 → name_in new new_root slot ≡ name_in old old_root slot) → KeepsName old old_root new new_root slot
 keeps_same old old_root new new_root slot inumber name = record {
   live = λ live none. live (inumber ∙ none);
   empty = λ none. sym inumber ∙ none;
-  name = name;
+  name = λ live. name (λ none. live (inumber ∙ none));
 }
 
 -- what an index tells of an entry it tells of one that keeps its name

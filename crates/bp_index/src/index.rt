@@ -86,7 +86,7 @@ impl Index {
     }
 
     /// The index of a directory, by one pass over its entries. None where there is no memory for it, where two names
-    /// have one hash, and where a name is longer than one may be.
+    /// have one hash, where a name is longer than one may be, and where slots are more than 32 bits count.
     pub fn of<R: Region>(alloc: Global, region: &R, tree: Tree) -> Option<Index>
         requires { IsSound (current_words (R.memory region.now)) tree.root tree.size }
         ensures { IfSome result (IsIndexOf (current_words (R.memory region.now)) tree.root tree.size) }

@@ -10,4 +10,3 @@ mod index;
 mod slots;
 
 pub use index::Index;
-pub use slots::SlotNumbers;

@@ -7,7 +7,7 @@ use bp_free::Numbers;
 
 /// What slots are numbers of.
 #[derive(Clone, Copy)]
-pub struct SlotNumbers;
+pub(crate) struct SlotNumbers;
 
 /// Puts a slot in, which may be in already.
 pub(crate) fn put_in(slots: &mut Numbers<SlotNumbers>, slot: u32)

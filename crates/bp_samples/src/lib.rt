@@ -14,6 +14,8 @@ mod command;
 mod free;
 pub mod images;
 #[cfg(test)]
+mod index;
+#[cfg(test)]
 mod io;
 #[cfg(test)]
 mod layout;

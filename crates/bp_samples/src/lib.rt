@@ -12,6 +12,8 @@ mod append;
 mod command;
 #[cfg(test)]
 mod free;
+#[cfg(test)]
+mod hints;
 pub mod images;
 #[cfg(test)]
 mod index;

@@ -1,7 +1,7 @@
 use Rattle.pm_region.specs.Memory.{current_words}
 use Rattle.bp_layout.specs.Reached.IsReached.{inode_file}
 use Rattle.bp_path.proofs.WalkLaws.{there, right_kind}
-use Rattle.bp_path.proofs.steps.walk_parent.Goals as goal
+use Rattle.bp_path.proofs.steps.walk_parent_by.Goals as goal
 
 pub get-requires-clause-sound : goal.get-requires-clause-sound
 get-requires-clause-sound g c = c.requires.well.sound 0 inode_file

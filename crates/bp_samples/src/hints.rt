@@ -1,9 +1,10 @@
 //! Names that are remembered, and walks that are given hints.
 
-ghost use Rattle.std.specs.Prelude.{IfOk};
+ghost use Rattle.std.specs.Prelude.{◌*◌, ◌≡◌, IfOk, vec_len};
 ghost use Rattle.bp_layout.specs.Hints.{AreRight};
 ghost use Rattle.bp_layout.specs.WellFormed.{IsWellFormed};
 ghost use Rattle.bp_layout.specs.Words.{Image};
+ghost use Rattle.bp_limits.specs.Limits.{block_words, min_blocks};
 ghost use Rattle.bp_names.specs.Names.{known_of};
 ghost use Rattle.pm_region.specs.Memory.{current_words};
 
@@ -14,7 +15,7 @@ use bp_names::Names;
 use bp_path::{FoundEntry, WalkFault, parse, walk, walk_parent_with, walk_with};
 use bp_scan::{Pending, scan};
 use pm_region::ListRegion;
-use std::alloc::Global;
+use std::alloc::{AllocError, Global};
 use std::test::Fail;
 
 /// What `/d/f` finds in the image [`DEEP`].
@@ -48,12 +49,20 @@ impl Hints for Counting {
     }
 }
 
+/// The words of a file system of one directory with one file.
+fn deep_words(alloc: Global) -> Result<Vec<u64>, AllocError>
+    ensures { IfOk result (λ words. vec_len words ≡ min_blocks * block_words) }
+{
+    let mut words = laid(alloc, &EMPTY)?;
+    put(&mut words, &DEEP);
+    Ok(words)
+}
+
 /// A file system of one directory with one file.
 fn deep(alloc: Global) -> Result<ListRegion, Fail>
     ensures { IfOk result (λ region. IsWellFormed (current_words region)) }
 {
-    let mut words = laid(alloc, &EMPTY)?;
-    put(&mut words, &DEEP);
+    let words = deep_words(alloc)?;
     let region = ListRegion::new(alloc, words, 0)?;
     let mut blocks = Blocks::new(alloc, 8)?;
     let mut inodes = Inodes::new(alloc, 512)?;

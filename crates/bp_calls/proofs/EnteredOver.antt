@@ -1,5 +1,5 @@
 -- One name more, over what nobody sees.
-use Rattle.std.proofs.Common.{◌≡◌, ◌⊎◌, ℕ, zero, suc, ◌<◌, ◌≤◌, sym, ◌∙◌, ap₂, arith, inl, inr, le_trans, unwrap_or}
+use Rattle.std.proofs.Common.{◌≡◌, ◌⊎◌, ℕ, zero, suc, ◌<◌, ◌≤◌, sym, ◌∙◌, ap₂, subst, arith, inl, inr, le_trans, unwrap_or}
 use Rattle.std.proofs.lemmas.Bool.{cases_lt}
 use Rattle.bp_layout.specs.Words.{Image}
 use Rattle.bp_layout.specs.Fields.{kind_word}
@@ -59,6 +59,7 @@ module _ (old mid new : Image) (wf : IsWellFormed old) (same : SameMeaning old m
     kind = λ u r. gains.kind u (on u r) ∙ same.kind u r;
     file_size = λ u r kind. gains.file_size u (on u r) (same.kind u r ∙ kind) ∙ file_stays u r kind;
     directory_size = λ u r kind. gains.directory_size u (on u r) (same.kind u r ∙ kind);
+    slots = λ u r q kind low. slots u r (alike.count u q kind) (gains.slots u r (on u q) (same.kind u q ∙ kind) low);
     back = λ u r k reached n. back u r k reached (gains.back u r k (on u reached) n);
     stay = λ u r k reached n. gains.stay u r k (on u reached) (names_on old mid same u r k reached n);
     entry = gains.entry;
@@ -70,6 +71,10 @@ module _ (old mid new : Image) (wf : IsWellFormed old) (same : SameMeaning old m
     where
       here : IsReached old i
       here = reached-back old mid wf same i gains.reached
+
+      slots : (u r : ℕ) → entry_count mid u ≡ entry_count old u → (r < entry_count mid u) ⊎ ((u ≡ i) × (r ≡ s)) → (r < entry_count old u) ⊎ ((u ≡ i) × (r ≡ s))
+      slots u r count (inl low) = inl (subst (λ n. r < n) count low)
+      slots u r count (inr at) = inr at
 
       back : (u r k : ℕ) → IsReached old u → IsNewEntry i s j u r k ⊎ EntryNames mid u r k → IsNewEntry i s j u r k ⊎ EntryNames old u r k
       back u r k reached (inl fresh) = inl fresh

@@ -294,6 +294,7 @@ module _ (old : Image) (wf : IsWellFormed old) (n j place : ℕ) (name : Name) (
       kind = λ u r. kind_stays u (in_file u r);
       file_size = λ u r kind. size_stays u (in_file u r) (file_not u kind);
       directory_size = size_cases;
+      slots = λ u r q kind low. slot_cases u r q low;
       back = names_back;
       stay = names_stay;
       entry = record {

@@ -34,7 +34,7 @@ module _ (old new : Image) (x : ℕ) (wf : IsWellFormed old) (same : ChangesFile
       let number : (256 * slot + 16 + o) / 8 ≡ 32 * slot + (2 + o / 8) = omega arith in
       rw number (ap (λ w. byte_of w ((256 * slot + 16 + o) % 8)) (same.entry i slot j (2 + o / 8) reached names (omega (arith, low))))
 
-  name-same : (i slot j : ℕ) → IsReached old i → EntryNames old i slot j → name_at new i slot ≡ name_at old i slot
+  pub name-same : (i slot j : ℕ) → IsReached old i → EntryNames old i slot j → name_at new i slot ≡ name_at old i slot
   name-same i slot j reached names =
       let form : IsName (name_at old i slot) = wf.names i slot j reached names in
       let short : entry_word old i slot 1 ≤ max_name = (rw length-map-range_with_len at form.short) in
@@ -60,7 +60,7 @@ module _ (old new : Image) (x : ℕ) (wf : IsWellFormed old) (same : ChangesFile
   reached-back _ root_directory = root_directory
   reached-back _ (named {i} {j} slot r n) = named slot (reached-back i r) (names-back i slot j (reached-back i r) n)
 
-  names-on : (i s j : ℕ) → IsReached old i → EntryNames old i s j → EntryNames new i s j
+  pub names-on : (i s j : ℕ) → IsReached old i → EntryNames old i s j → EntryNames new i s j
   names-on i s j reached n = record {
     directory = same.kind i reached ∙ n.directory;
     in_size = rw (directory_size i reached n.directory) n.in_size;

@@ -1,6 +1,7 @@
 -- A change of an image that means the same as a first one is one of the first: of the bytes of a file, or of a name that comes to another directory.
-use Rattle.std.proofs.Common.{◌≡◌, ◌⊎◌, ℕ, sym, ◌∙◌, inl, inr}
+use Rattle.std.proofs.Common.{◌≡◌, ◌⊎◌, ℕ, ◌/◌, ◌<◌, sym, ◌∙◌, subst, inl, inr}
 use Rattle.bp_layout.specs.Words.{Image}
+use Rattle.bp_layout.specs.Directory.{entry_count}
 use Rattle.bp_layout.specs.Inode.{size_of}
 use Rattle.bp_layout.specs.Reached.{IsReached}
 use Rattle.bp_layout.specs.WellFormed.{IsWellFormed}
@@ -52,6 +53,7 @@ module _ (old mid new : Image) (wf : IsWellFormed old) (same : SameMeaning old m
     kind = λ u q. carries.kind u (on old mid new same u q) ∙ same.kind u q;
     size = λ u q other. carries.size u (on old mid new same u q) other ∙ sizes u q;
     directory_size = carries.directory_size;
+    slots = λ x low. slots x (carries.slots x low);
     emptied = carries.emptied;
     entry = carries.entry;
     back = λ u x l q n. back u x l q (carries.back u x l (on old mid new same u q) n);
@@ -67,6 +69,10 @@ module _ (old mid new : Image) (wf : IsWellFormed old) (same : SameMeaning old m
 
       target : IsReached old k
       target = reached-back old mid wf same k carries.target
+
+      slots : (x : ℕ) → (x < entry_count mid k) ⊎ (x ≡ r) → (x < entry_count old k) ⊎ (x ≡ r)
+      slots x (inl low) = inl (subst (λ z. x < z / 256) (sizes k target) low)
+      slots x (inr e) = inr e
 
       back : (u x l : ℕ) → IsReached old u → IsNewEntry k r j u x l ⊎ IsOldEntry mid i s u x l → IsNewEntry k r j u x l ⊎ IsOldEntry old i s u x l
       back u x l q (inl e) = inl e

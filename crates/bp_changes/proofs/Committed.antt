@@ -205,6 +205,10 @@ module _ (old new : Image) (changes : Changes) (i s k j : ℕ) (wf : IsWellForme
           rw e more
       go (inr apart) = rw (sizes_stay u also apart) n.in_size
 
+  slots_grow : (x : ℕ) → x < entry_count new k → (x ≡ entry_count old k) ⊎ (x ≡ entry_count old k → ⊥) → (x < entry_count old k) ⊎ (x ≡ entry_count old k)
+  slots_grow x low (inl e) = inr e
+  slots_grow x low (inr other) = inl (omega (arith, low, count_here, other))
+
   pub commit_carries : CarriesEntry old new i s k (entry_count old k) j
   commit_carries = record {
     reached = reached;
@@ -214,6 +218,7 @@ module _ (old new : Image) (changes : Changes) (i s k j : ℕ) (wf : IsWellForme
     kind = kinds_stay;
     size = sizes_stay;
     directory_size = omega (arith, size_here, whole_entries);
+    slots = λ x low. slots_grow x low (cases_eq x (entry_count old k));
     emptied = source_empty;
     entry = new_entry;
     back = entry_cases;

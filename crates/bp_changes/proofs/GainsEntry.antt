@@ -5,7 +5,7 @@ use Rattle.bp_limits.specs.Limits.{block_size, entry_size}
 use Rattle.bp_layout.specs.Words.{Image}
 use Rattle.bp_layout.specs.Tree.{byte}
 use Rattle.bp_layout.specs.Inode.{IsDirectory, IsFile, kind_of, root_of, size_of, inode_count}
-use Rattle.bp_layout.specs.Directory.{EntryNames, IsName, name_at}
+use Rattle.bp_layout.specs.Directory.{EntryNames, IsName, entry_count, name_at}
 use Rattle.bp_layout.specs.Reached.{IsReached}
 use Rattle.bp_layout.specs.WellFormed.{IsWellFormed}
 use Rattle.bp_changes.specs.Effects.{AddsNames, LinksName, IsNewEntry}
@@ -36,6 +36,7 @@ pub record GainsEntry (old new : Image) (i s j : ℕ) : Type 0 where
   pub kind : (u : ℕ) → IsReached old u → kind_of new u ≡ kind_of old u
   pub file_size : (u : ℕ) → IsReached old u → IsFile old u → size_of new u ≡ size_of old u
   pub directory_size : (u : ℕ) → IsReached old u → IsDirectory old u → size_of new u % entry_size ≡ 0
+  pub slots : (u r : ℕ) → IsReached old u → IsDirectory old u → r < entry_count new u → (r < entry_count old u) ⊎ ((u ≡ i) × (r ≡ s))
   pub back : (u r k : ℕ) → IsReached old u → EntryNames new u r k → IsNewEntry i s j u r k ⊎ EntryNames old u r k
   pub stay : (u r k : ℕ) → IsReached old u → EntryNames old u r k → EntryNames new u r k
   pub entry : EntryNames new i s j
@@ -66,6 +67,7 @@ module _ (old new : Image) (i s j : ℕ) where
     kind = adds.kind;
     file_size = adds.file_size;
     directory_size = adds.directory_size;
+    slots = adds.slots;
     back = adds.back;
     stay = adds.stay;
     entry = adds.entry;
@@ -82,6 +84,7 @@ module _ (old new : Image) (i s j : ℕ) where
     kind = links.kind;
     file_size = links.file_size;
     directory_size = links.directory_size;
+    slots = links.slots;
     back = links.back;
     stay = links.stay;
     entry = links.entry;
@@ -106,6 +109,7 @@ module _ (old new : Image) (i s j : ℕ) where
     new_size = takes.new_size;
     file_size = gains.file_size;
     directory_size = gains.directory_size;
+    slots = gains.slots;
     back = gains.back;
     stay = gains.stay;
     entry = gains.entry;
@@ -125,6 +129,7 @@ module _ (old new : Image) (i s j : ℕ) where
     kind = gains.kind;
     file_size = gains.file_size;
     directory_size = gains.directory_size;
+    slots = gains.slots;
     back = gains.back;
     stay = gains.stay;
     entry = gains.entry;

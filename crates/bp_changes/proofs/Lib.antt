@@ -22,3 +22,5 @@ pub mod ChangesOver
 pub mod Carry
 pub mod MoveReach
 pub mod Named
+pub mod EntriesLaws
+pub mod SlotLaws

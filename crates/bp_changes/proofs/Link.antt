@@ -104,6 +104,7 @@ module _ (old new : Image) (wf : IsWellFormed old) (i s j : ℕ) (can : AwaitsIn
     kind = λ u r. kinds_stay u (in_inodes u r);
     file_size = λ u r kind. sizes_stay u (in_inodes u r);
     directory_size = λ u r kind. rw (sizes_stay u (in_inodes u r)) (wf.directory_sizes u r kind);
+    slots = λ u r q kind low. inl (rw (count_stays u (in_inodes u q)) at low);
     back = names_cases;
     stay = names_stay;
     entry = new_names;

@@ -44,10 +44,10 @@ module _ (old new : Image) (wf : IsWellFormed old) (i s k r j : ℕ) (can : CanM
       rw (moves.entry u x 1 reached kind low (omega arith) (λ e same. omega (arith, same)) (λ e same. omega (arith, same)))
       (map-same _ _ 0 (entry_word old u x 1) (λ o low high. byte_stays o (omega (arith, high, short))))
 
-  name_of_old : (u x l : ℕ) → IsReached old u → EntryNames old u x l → name_at new u x ≡ name_at old u x
+  pub name_of_old : (u x l : ℕ) → IsReached old u → EntryNames old u x l → name_at new u x ≡ name_at old u x
   name_of_old u x l reached n = name_stays u x reached n.directory n.in_size (wf.names u x l reached n).short
 
-  name_of_target : name_at new k r ≡ name_at old k r
+  pub name_of_target : name_at new k r ≡ name_at old k r
   name_of_target = name_stays k r can.target can.directory can.in_size can.name.short
 
   -- an entry of the new image: the target, or one of the old image but neither source nor target
@@ -251,6 +251,7 @@ module _ (old new : Image) (wf : IsWellFormed old) (i s k r j : ℕ) (can : CanM
     kind = λ u reached. moves.kind u (in_inodes u reached);
     size = λ u reached other. moves.size u (in_inodes u reached);
     directory_size = rw (moves.size k (in_inodes k can.target)) (wf.directory_sizes k can.target can.directory);
+    slots = λ x low. inl (rw (count_stays k can.target) at low);
     emptied = moves.emptied;
     entry = new_entry;
     back = λ u x l reached n. back u x l (entry_of u x l reached n);

@@ -45,7 +45,7 @@ module _ (old new : Image) (wf : IsWellFormed old) (i s j : ℕ) (spells : Respe
   reached_back _ root_directory = root_directory
   reached_back _ (named {i = u} {j = l} x from n) = named x (reached_back u from) (names_back u x l (reached_back u from) n)
 
-  name_stays : (u x l : ℕ) → IsReached old u → EntryNames old u x l → ((u ≡ i) → (x ≡ s) → ⊥) → name_at new u x ≡ name_at old u x
+  pub name_stays : (u x l : ℕ) → IsReached old u → EntryNames old u x l → ((u ≡ i) → (x ≡ s) → ⊥) → name_at new u x ≡ name_at old u x
   name_stays u x l reached n other =
       let form : IsName (name_at old u x) = wf.names u x l reached n in
       let short : entry_word old u x 1 ≤ max_name = (rw length-map-range_with_len at form.short) in

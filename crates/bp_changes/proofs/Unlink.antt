@@ -31,7 +31,7 @@ module _ (old new : Image) (wf : IsWellFormed old) (i s j : ℕ) (can : CanUnlin
   inumber_stays : (u r : ℕ) → IsReached old u → kind_of old u ≡ 2 → r < entry_count old u → ((i ≡ u) → (s ≡ r) → ⊥) → inumber_at new u r ≡ inumber_at old u r
   inumber_stays u r reached kind low other = removes.entry u r 0 reached kind low (omega arith) (λ e same. other e (omega (arith, same)))
 
-  name_stays : (u r k : ℕ) → IsReached old u → EntryNames old u r k → name_at new u r ≡ name_at old u r
+  pub name_stays : (u r k : ℕ) → IsReached old u → EntryNames old u r k → name_at new u r ≡ name_at old u r
   name_stays u r k reached n =
       let form : IsName (name_at old u r) = wf.names u r k reached n in
       let short : entry_word old u r 1 ≤ max_name = (rw length-map-range_with_len at form.short) in
@@ -62,7 +62,7 @@ module _ (old new : Image) (wf : IsWellFormed old) (i s j : ℕ) (can : CanUnlin
       other : (u ≡ i) → (r ≡ s) → ⊥
       other e f = n.not_empty (sym n.inumber ∙ subst₂ (λ x y. inumber_at new x y ≡ 0) (sym e) (sym f) removes.inumber)
 
-  names_stay : (u r k : ℕ) → IsReached old u → EntryNames old u r k → ((u ≡ i) → (r ≡ s) → ⊥) → EntryNames new u r k
+  pub names_stay : (u r k : ℕ) → IsReached old u → EntryNames old u r k → ((u ≡ i) → (r ≡ s) → ⊥) → EntryNames new u r k
   names_stay u r k reached n other = record {
     directory = removes.kind u (in_inodes u reached) ∙ n.directory;
     in_size = rw (count_stays u reached) n.in_size;

@@ -67,6 +67,8 @@ pub record AddsNames (old new : Image) (i s j : ℕ) : Type 0 where
   pub new_size : size_of new j ≡ 0
   pub file_size : (u : ℕ) → IsReached old u → IsFile old u → size_of new u ≡ size_of old u
   pub directory_size : (u : ℕ) → IsReached old u → IsDirectory old u → size_of new u % entry_size ≡ 0
+  pub slots : (u r : ℕ) → IsReached old u → IsDirectory old u → r < entry_count new u →
+      (r < entry_count old u) ⊎ ((u ≡ i) × (r ≡ s))
   pub back : (u r k : ℕ) → IsReached old u → EntryNames new u r k → IsNewEntry i s j u r k ⊎ EntryNames old u r k
   pub stay : (u r k : ℕ) → IsReached old u → EntryNames old u r k → EntryNames new u r k
   pub entry : EntryNames new i s j
@@ -87,6 +89,8 @@ pub record LinksName (old new : Image) (i s j : ℕ) : Type 0 where
   pub kind : (u : ℕ) → IsReached old u → kind_of new u ≡ kind_of old u
   pub file_size : (u : ℕ) → IsReached old u → IsFile old u → size_of new u ≡ size_of old u
   pub directory_size : (u : ℕ) → IsReached old u → IsDirectory old u → size_of new u % entry_size ≡ 0
+  pub slots : (u r : ℕ) → IsReached old u → IsDirectory old u → r < entry_count new u →
+      (r < entry_count old u) ⊎ ((u ≡ i) × (r ≡ s))
   pub back : (u r k : ℕ) → IsReached old u → EntryNames new u r k → IsNewEntry i s j u r k ⊎ EntryNames old u r k
   pub stay : (u r k : ℕ) → IsReached old u → EntryNames old u r k → EntryNames new u r k
   pub entry : EntryNames new i s j
@@ -187,6 +191,7 @@ pub record CarriesEntry (old new : Image) (i s k r j : ℕ) : Type 0 where
   pub kind : (u : ℕ) → IsReached old u → kind_of new u ≡ kind_of old u
   pub size : (u : ℕ) → IsReached old u → u ≢ k → size_of new u ≡ size_of old u
   pub directory_size : size_of new k % entry_size ≡ 0
+  pub slots : (x : ℕ) → x < entry_count new k → (x < entry_count old k) ⊎ (x ≡ r)
   pub emptied : inumber_at new i s ≡ 0
   pub entry : EntryNames new k r j
   pub back : (u x l : ℕ) → IsReached old u → EntryNames new u x l → IsNewEntry k r j u x l ⊎ IsOldEntry old i s u x l

@@ -11,3 +11,6 @@ pub mod Harmless
 pub mod Effects
 pub mod Commits
 pub mod Thawed
+-- what each keeps of the slots of names, and of entries
+pub mod KeepsSlots
+pub mod KeepsEntries

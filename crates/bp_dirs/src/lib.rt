@@ -7,6 +7,7 @@
 mod directory;
 mod entry_view;
 mod entry_words;
+mod finder;
 mod leaf;
 mod name_words;
 mod spot;
@@ -16,5 +17,6 @@ pub use directory::{
     count, entry, entry_place, find, find_entry, find_or_free, free_slot, inumber, is_empty,
 };
 pub use entry_view::EntryView;
+pub use finder::{Finder, Hinted, Scan};
 pub use spot::{Found, Spot};
 pub use writing::put_name;

@@ -16,9 +16,20 @@ block_bytes bytes i = blocks_of bytes i 1
 abbrev pub with_block : ℕ → List ℕ → List ℕ → List ℕ
 with_block i block bytes = take (block_size * i) bytes ++ block ++ drop (block_size * i + block_size) bytes
 
+-- a file with other blocks from one on
+abbrev pub with_blocks : ℕ → List ℕ → List ℕ → List ℕ
+with_blocks first blocks bytes =
+    take (block_size * first) bytes ++ blocks ++ drop (block_size * first + length blocks) bytes
+
 -- the front of a file of a length, filled up to it with zeros
 abbrev pub resized_file : ℕ → List ℕ → List ℕ
 resized_file n bytes = take n bytes ++ replicate (n - length bytes) 0
+
+-- each block of a file is that of one list of bytes or that of the other
+pub record IsMixed (found first second : List ℕ) : Type 0 where
+  pub size : length found ≡ length first
+  pub blocks : (i : ℕ) → block_size * i < length found → (block_bytes found i ≡ block_bytes first i)
+      ⊎ (block_bytes found i ≡ block_bytes second i)
 
 -- The file has its old length or the wanted one, and each of its blocks is the old file's, or that one filled up with
 -- zeros, or that of the wanted bytes.
@@ -75,6 +86,14 @@ BecomesPartly wanted (Some None) new = ⊤
 BecomesPartly wanted (Some (Some bytes)) None = ⊥
 BecomesPartly wanted (Some (Some bytes)) (Some None) = ⊥
 BecomesPartly wanted (Some (Some bytes)) (Some (Some found)) = IsPartlyReplaced bytes wanted found
+
+-- each block of a file that is there, where its bytes are told, changes so or stays
+abbrev pub BecomesMixed : (List ℕ → List ℕ) → Known → Known → Type 0
+BecomesMixed f None new = new ≡ None
+BecomesMixed f (Some None) new = ⊤
+BecomesMixed f (Some (Some bytes)) None = ⊥
+BecomesMixed f (Some (Some bytes)) (Some None) = ⊥
+BecomesMixed f (Some (Some bytes)) (Some (Some found)) = IsMixed found bytes (f bytes)
 
 -- P holds of the bytes of a file that is there, where they are told
 abbrev pub TellsFile : Known → (List ℕ → Type 0) → Type 0
@@ -140,6 +159,11 @@ KeepsAttached old new = (name : List ℕ) → old.is_attached name ≡ true → 
 abbrev pub MayChange : (List ℕ → List ℕ) → View → View → Type 0
 MayChange f old new = (name : List ℕ) → old.is_attached name ≡ true
     → Stays (old.contents name) (new.contents name) ⊎ Becomes f (old.contents name) (new.contents name)
+
+-- Each block of the attached file changes so, or stays.
+abbrev pub MayChangeBlocks : (List ℕ → List ℕ) → View → View → Type 0
+MayChangeBlocks f old new = (name : List ℕ) → old.is_attached name ≡ true
+    → BecomesMixed f (old.contents name) (new.contents name)
 
 -- The attached file changes to so many blocks.
 pub record Resizes (n : ℕ) (old new : View) : Type 0 where

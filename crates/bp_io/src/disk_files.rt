@@ -52,9 +52,10 @@ use std::{io, rt};
 /// until a file is attached anew. Where there is no room on the disk, and the file cannot be written
 /// in place as above, that is such a fault.
 ///
-/// Blocks that are written one behind another wait in memory, at most 64 of them (256 KiB), and go to
-/// the disk together before any block is read or another one is written, and before the file is
-/// flushed, resized or left for another one. So the fault of a write may come in such a later call.
+/// Blocks that are written one by one, one behind another, wait in memory, at most 64 of them (256 KiB),
+/// and go to the disk together before any block is read or another one is written, and before the file
+/// is flushed, resized or left for another one. So the fault of a write may come in such a later call.
+/// Blocks that are written in one call go to the disk at once, behind those that wait.
 /// What was written is flushed before another file is attached; without that and without a flush it
 /// does not come to the file, but in place, where a part may.
 #[derive(Drop)]
@@ -175,6 +176,14 @@ impl<R: rt::Files<File = File> + Drop> files::Files for DiskFiles<R> {
         self.is_flushed = false;
         let file = attached(&self.file);
         let done = self.saver.write_block(&self.runtime, file, i, from);
+        self.faults.or_fault(done)
+    }
+
+    fn write_blocks(&mut self, first: u32, from: &[u8]) -> Result<(), Failed> {
+        self.is_flushed = false;
+        let file = attached(&self.file);
+        let at = BLOCK_SIZE * u64::from(first);
+        let done = self.saver.write_blocks(&self.runtime, file, from, at);
         self.faults.or_fault(done)
     }
 

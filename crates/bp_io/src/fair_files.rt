@@ -75,6 +75,12 @@ impl Files for FairFiles {
         Ok(())
     }
 
+    fn write_blocks(&mut self, first: u32, from: &[u8]) -> Result<(), Failed> {
+        self.is_flushed = false;
+        self.image.write_blocks(first, from);
+        Ok(())
+    }
+
     fn set_blocks(&mut self, n: u32) -> Result<(), Failed> {
         self.is_flushed = false;
         self.image.set_blocks(n);

@@ -1,7 +1,7 @@
 // Files of blocks.
 ghost use Rattle.std.specs.Prelude.{◌⊎◌, OnErr, ◌≡◌, ◌≤◌, ◌<◌, ◌+◌, ◌*◌, ◌/◌, ◌%◌, List, length, ℕ, IfNone, IfOk, OnOk, IfSome, true, false};
 ghost use Rattle.bp_io.specs.Causes.{HasCause};
-ghost use Rattle.bp_io.specs.Files.{View, StaysAttached, StaysOrIsMade, Becomes, Answers, Attaches, IsAttached, KeepsFiles, KeepsOthers, ChangesBytes, MayChange, Resizes, Replaces, ReplacesPartly, KeepsSize, AreBytesOfBlocks, Reads, makes, with_block};
+ghost use Rattle.bp_io.specs.Files.{View, StaysAttached, StaysOrIsMade, Becomes, Answers, Attaches, IsAttached, KeepsFiles, KeepsOthers, ChangesBytes, MayChange, MayChangeBlocks, Resizes, Replaces, ReplacesPartly, KeepsSize, AreBytesOfBlocks, Reads, makes, with_block, with_blocks};
 
 use crate::{Access, Failed};
 use bp_limits::{BLOCK_SIZE, MAX_BLOCKS};
@@ -66,6 +66,25 @@ pub trait Files {
         requires may_write { (view self.old).may_write ≡ true }
         ensures written { OnOk result (ChangesBytes (with_block i from.now) (view self.old) (view self.new)) }
         ensures failed { OnErr result (MayChange (with_block i from.now) (view self.old) (view self.new)) }
+        ensures others { KeepsOthers (view self.old) (view self.new) }
+        ensures attached { StaysAttached (view self.old) (view self.new) }
+        ensures flushed { (view self.new).is_flushed ≡ false }
+        ensures cause { HasCause (view self.old).faults (view self.new).faults result };
+
+    /// Writes as many blocks of the attached file as `from` has, from the block `first` on, counted from 0.
+    /// All other bytes stay.
+    ///
+    /// # Errors
+    ///
+    /// `Failed` only where the outside failed in this call. Each of these blocks is as before then, or the
+    /// one that was to be written.
+    fn write_blocks(&mut self, first: u32, from: &[u8]) -> Result<(), Failed>
+        requires attached { (name : List ℕ) × ((view self.old).is_attached name ≡ true) }
+        requires may_write { (view self.old).may_write ≡ true }
+        requires whole { length from.now % BLOCK_SIZE ≡ 0 }
+        requires inside { first + length from.now / BLOCK_SIZE ≤ (view self.old).blocks }
+        ensures written { OnOk result (ChangesBytes (with_blocks first from.now) (view self.old) (view self.new)) }
+        ensures failed { OnErr result (MayChangeBlocks (with_blocks first from.now) (view self.old) (view self.new)) }
         ensures others { KeepsOthers (view self.old) (view self.new) }
         ensures attached { StaysAttached (view self.old) (view self.new) }
         ensures flushed { (view self.new).is_flushed ≡ false }

@@ -1,7 +1,7 @@
 // The bytes of a file in memory.
 ghost use Rattle.std.specs.Prelude.{◌≡◌, ◌≤◌, ◌<◌, ◌+◌, ◌*◌, ◌/◌, ◌%◌, vec_capacity, length, IfOk};
 ghost use Rattle.bp_limits.specs.Limits.{block_size, max_blocks};
-ghost use Rattle.bp_io.specs.Files.{blocks_of, with_block, resized_file};
+ghost use Rattle.bp_io.specs.Files.{blocks_of, with_block, with_blocks, resized_file};
 
 use bp_limits::{BLOCK_SIZE, MAX_BLOCKS};
 use std::alloc::{AllocError, Global};
@@ -56,6 +56,16 @@ impl Image {
     {
         let at = BLOCK * i as usize;
         self.bytes[at..at + BLOCK].copy_from_slice(from);
+    }
+
+    pub(crate) fn write_blocks(&mut self, first: u32, from: &[u8])
+        requires whole { length from.now % block_size ≡ 0 }
+        requires inside { first + length from.now / block_size ≤ length self.old.bytes.items / block_size }
+        ensures blocks { self.new.bytes.items ≡ with_blocks first from.now self.old.bytes.items }
+        ensures length { length self.new.bytes.items ≡ length self.old.bytes.items }
+    {
+        let at = BLOCK * first as usize;
+        self.bytes[at..at + from.len()].copy_from_slice(from);
     }
 
     pub(crate) fn set_blocks(&mut self, n: u32)

@@ -3,7 +3,7 @@ ghost use Rattle.std.specs.Prelude.{◌<◌, ◌+◌, ◌*◌, ◌/◌, ◌%◌,
 ghost use Rattle.std.specs.Option.{option_copied};
 ghost use Rattle.bp_io.specs.Plans.{new_plan, FollowsPlan};
 ghost use Rattle.bp_io.specs.Causes.{HasCause};
-ghost use Rattle.bp_io.specs.Files.{StaysAttached, StaysOrIsMade, Becomes, Answers, Attaches, IsAttached, KeepsFiles, KeepsOthers, ChangesBytes, MayChange, Resizes, Replaces, ReplacesPartly, KeepsSize, AreBytesOfBlocks, Reads, makes, with_block};
+ghost use Rattle.bp_io.specs.Files.{StaysAttached, StaysOrIsMade, Becomes, Answers, Attaches, IsAttached, KeepsFiles, KeepsOthers, ChangesBytes, MayChange, MayChangeBlocks, Resizes, Replaces, ReplacesPartly, KeepsSize, AreBytesOfBlocks, Reads, makes, with_block, with_blocks};
 
 use crate::faults::CallPlan;
 use crate::files::Files;
@@ -146,6 +146,30 @@ impl Files for MemFiles<'_> {
         self.is_flushed = false;
         self.plan.call()?;
         self.image.write_block(i, from);
+        Ok(())
+    }
+
+    fn write_blocks(&mut self, first: u32, from: &[u8]) -> Result<(), Failed>
+        requires attached { (name : List ℕ) × ((mem_view self.old).is_attached name ≡ true) }
+        requires may_write { (mem_view self.old).may_write ≡ true }
+        requires whole { length from.now % BLOCK_SIZE ≡ 0 }
+        requires inside { first + length from.now / BLOCK_SIZE ≤ (mem_view self.old).blocks }
+        ensures written { OnOk result
+            (ChangesBytes (with_blocks first from.now) (mem_view self.old) (mem_view self.new)) }
+        ensures failed { OnErr result
+            (MayChangeBlocks (with_blocks first from.now) (mem_view self.old) (mem_view self.new)) }
+        ensures others { KeepsOthers (mem_view self.old) (mem_view self.new) }
+        ensures attached { StaysAttached (mem_view self.old) (mem_view self.new) }
+        ensures flushed { (mem_view self.new).is_flushed ≡ false }
+        ensures cause { HasCause (mem_view self.old).faults (mem_view self.new).faults result }
+
+        // A call fails exactly where the plan says, and changes no byte then.
+        ensures plan { FollowsPlan (files_plan self.old) (files_plan self.new) result }
+        ensures unchanged { OnErr result (mem_image self.new ≡ mem_image self.old) }
+    {
+        self.is_flushed = false;
+        self.plan.call()?;
+        self.image.write_blocks(first, from);
         Ok(())
     }
 

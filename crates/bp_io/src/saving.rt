@@ -1,5 +1,5 @@
 // How what is written comes to a file on the disk.
-ghost use Rattle.std.specs.Prelude.{◌≡◌, is_some};
+ghost use Rattle.std.specs.Prelude.{◌≡◌, ◌<◌, ◌+◌, ◌^◌, is_some, length};
 
 use crate::Access;
 use crate::opening::lock;
@@ -192,6 +192,40 @@ impl Saver {
         Ok(())
     }
 
+    /// Writes a run of bytes that does not wait.
+    fn write_run<R: rt::Files<File = File>>(
+        &mut self,
+        runtime: &R,
+        file: &File,
+        from: &[u8],
+        at: u64,
+    ) -> io::Result<()>
+        requires { at + length from.now < 2 ^ 64 }
+    {
+        if let Way::Beside(second) = &mut self.way {
+            let done = second.write(file, from, at);
+            self.or_go_in_place(runtime, file, done)?;
+        }
+        match self.way {
+            Way::InPlace => file.write_all_at(from, at),
+            Way::Clean | Way::Beside(_) | Way::Lost => Ok(()),
+        }
+    }
+
+    fn try_write_blocks<R: rt::Files<File = File>>(
+        &mut self,
+        runtime: &R,
+        file: &File,
+        from: &[u8],
+        at: u64,
+    ) -> io::Result<()>
+        requires { at + length from.now < 2 ^ 64 }
+    {
+        self.begin(runtime, file, at + from.len() as u64)?;
+        self.write_out(runtime, file)?;
+        self.write_run(runtime, file, from, at)
+    }
+
     fn try_set_len<R: rt::Files<File = File>>(
         &mut self,
         runtime: &R,
@@ -271,6 +305,20 @@ impl Saver {
         from: &[u8; 4096],
     ) -> io::Result<()> {
         let done = self.try_write_block(runtime, file, i, from);
+        self.or_lose(runtime, done)
+    }
+
+    /// Writes these blocks from a byte on, behind those that wait.
+    pub(crate) fn write_blocks<R: rt::Files<File = File>>(
+        &mut self,
+        runtime: &R,
+        file: &File,
+        from: &[u8],
+        at: u64,
+    ) -> io::Result<()>
+        requires { at + length from.now < 2 ^ 64 }
+    {
+        let done = self.try_write_blocks(runtime, file, from, at);
         self.or_lose(runtime, done)
     }
 

@@ -1,5 +1,5 @@
 // A second file, which takes the place of the first once it is whole.
-ghost use Rattle.std.specs.Prelude.{◌≤◌, ◌^◌};
+ghost use Rattle.std.specs.Prelude.{◌<◌, ◌≤◌, ◌+◌, ◌^◌, length};
 
 use crate::Access;
 use crate::opening::{in_use, leads_to, lock};
@@ -216,12 +216,20 @@ impl SecondFile {
         Ok(())
     }
 
+    /// Gives it these bytes from a byte on, and the bytes of the first file before them.
+    pub(crate) fn write(&mut self, first: &File, from: &[u8], at: u64) -> io::Result<()>
+        requires { at + length from.now < 2 ^ 64 }
+    {
+        self.fill(first, at)?;
+        self.file.write_all_at(from, at)?;
+        self.filled = self.filled.max(at + from.len() as u64);
+        Ok(())
+    }
+
     /// Gives it the blocks that wait, and the bytes of the first file before them.
     pub(crate) fn take(&mut self, first: &File, window: &mut Window) -> io::Result<()> {
-        let (start, end) = window.place();
-        self.fill(first, start)?;
-        window.write_out(&self.file)?;
-        self.filled = self.filled.max(end);
+        self.write(first, window.bytes(), window.start())?;
+        window.clear();
         Ok(())
     }
 

@@ -1,5 +1,5 @@
 // Blocks of a file on the disk that wait to be written.
-ghost use Rattle.std.specs.Prelude.{◌≡◌, ◌<◌, ◌≤◌, ◌^◌, true, vec_len};
+ghost use Rattle.std.specs.Prelude.{◌≡◌, ◌<◌, ◌≤◌, ◌^◌, true, length, vec_len};
 
 use bp_limits::BLOCK_SIZE;
 use std::alloc::{AllocError, Global};
@@ -38,17 +38,29 @@ impl Window {
         self.count == 0
     }
 
-    /// Where its blocks begin in the file, and where they end, in bytes.
-    pub(crate) fn place(&self) -> (u64, u64) {
-        let end = self.first + self.count as u64;
-        (BLOCK_SIZE * self.first, BLOCK_SIZE * end)
+    /// Where its blocks begin in the file, in bytes.
+    pub(crate) fn start(&self) -> u64
+        ensures { result < 2 ^ 44 }
+    {
+        BLOCK_SIZE * self.first
+    }
+
+    /// The bytes of its blocks.
+    pub(crate) fn bytes(&self) -> &[u8]
+        ensures { length result.now ≤ 262144 }
+    {
+        &self.bytes[..BLOCK * self.count]
+    }
+
+    /// Forgets its blocks.
+    pub(crate) fn clear(&mut self) {
+        self.count = 0;
     }
 
     /// Writes its blocks, and then forgets them. Where that fails they still wait.
     pub(crate) fn write_out(&mut self, file: &File) -> io::Result<()> {
-        let (at, _) = self.place();
-        file.write_all_at(&self.bytes[..BLOCK * self.count], at)?;
-        self.count = 0;
+        file.write_all_at(self.bytes(), self.start())?;
+        self.clear();
         Ok(())
     }
 

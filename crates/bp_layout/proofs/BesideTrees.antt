@@ -21,6 +21,14 @@ pub record SameTrees (old new : Image) : Type 0 where
   pub size : word new 3 ≡ word old 3
   pub blocks : (place : ℕ) → 512 ≤ place → word new place ≡ word old place
 
+pub same_back : (old new : Image) → SameTrees old new → SameTrees new old
+same_back old new same = record {
+  whole = sym same.whole;
+  root = sym same.root;
+  size = sym same.size;
+  blocks = λ place high. sym (same.blocks place high);
+}
+
 module _ (old new : Image) (same : SameTrees old new) where
   slots_same : (b s : ℕ) → slot_word new b s ≡ slot_word old b s
   slots_same zero s = refl
@@ -34,15 +42,15 @@ module _ (old new : Image) (same : SameTrees old new) where
   inode_word-same : (i f : ℕ) → inode_word new i f ≡ inode_word old i f
   inode_word-same i f = ap (λ r. content_word new r (8 * i + f)) same.root ∙ words_same (word old 2) (suc (height_of (word old 2))) (8 * i + f)
 
-  kind-same : (t : ℕ) → kind_of new t ≡ kind_of old t
+  pub kind-same : (t : ℕ) → kind_of new t ≡ kind_of old t
   kind-same zero = refl
   kind-same (suc i) = inode_word-same (suc i) 0
 
-  root-same : (t : ℕ) → root_of new t ≡ root_of old t
+  pub root-same : (t : ℕ) → root_of new t ≡ root_of old t
   root-same zero = same.root
   root-same (suc i) = inode_word-same (suc i) 1
 
-  size-same : (t : ℕ) → size_of new t ≡ size_of old t
+  pub size-same : (t : ℕ) → size_of new t ≡ size_of old t
   size-same zero = same.size
   size-same (suc i) = inode_word-same (suc i) 2
 
@@ -55,7 +63,7 @@ module _ (old new : Image) (same : SameTrees old new) where
   name-same : (i s : ℕ) → name_at new i s ≡ name_at old i s
   name-same i s = rw (content_word-same i (32 * s + 1)) (map-same _ _ 0 _ (λ o low high. byte-same i (256 * s + 16 + o)))
 
-  names_back : (i s j : ℕ) → EntryNames new i s j → EntryNames old i s j
+  pub names_back : (i s j : ℕ) → EntryNames new i s j → EntryNames old i s j
   names_back i s j n = record {
     directory = sym (kind-same i) ∙ n.directory;
     in_size = subst (λ z. s < z / 256) (size-same i) n.in_size;
@@ -63,7 +71,7 @@ module _ (old new : Image) (same : SameTrees old new) where
     not_empty = n.not_empty;
   }
 
-  reached_back : (t : ℕ) → IsReached new t → IsReached old t
+  pub reached_back : (t : ℕ) → IsReached new t → IsReached old t
   reached_back _ inode_file = inode_file
   reached_back _ root_directory = root_directory
   reached_back _ (named {i} {j} s r n) = named s (reached_back i r) (names_back i s j n)
@@ -74,7 +82,7 @@ module _ (old new : Image) (same : SameTrees old new) where
   to_new : (P : ℕ → ℕ → Type 0) (t : ℕ) → P (root_of old t) (size_of old t) → P (root_of new t) (size_of new t)
   to_new P t h = subst₂ P (sym (root-same t)) (sym (size-same t)) h
 
-  block_back : (t b : ℕ) → HasBlock new (root_of new t) (size_of new t) b → HasBlock old (root_of old t) (size_of old t) b
+  pub block_back : (t b : ℕ) → HasBlock new (root_of new t) (size_of new t) b → HasBlock old (root_of old t) (size_of old t) b
   block_back t b has = has_block-kept old new (root_of old t) (size_of old t) (keeps t) b (subst₂ (λ r z. HasBlock new r z b) (root-same t) (size-same t) has)
 
   -- it is one in the version that its mark tells, if that has room for the trees

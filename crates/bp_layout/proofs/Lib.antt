@@ -27,3 +27,4 @@ pub mod Pieces
 pub mod ListedLaws
 pub mod TreeImages
 pub mod ThawLaws
+pub mod HintLaws

@@ -53,7 +53,7 @@ named_from a b not_empty also = go (a == 0) refl
     go true at = absurd (not_empty (eqb-true _ _ at))
     go false at = rw at also
 
-is_named-true : (image : Image) (i slot j : ℕ) (name : Name) → EntryNames image i slot j → name_at image i slot ≡ name → is_named image i name slot ≡ true
+pub is_named-true : (image : Image) (i slot j : ℕ) (name : Name) → EntryNames image i slot j → name_at image i slot ≡ name → is_named image i name slot ≡ true
 is_named-true image i slot j name names spelled =
     named_from _ _ (λ none. names.not_empty (sym names.inumber ∙ none)) ((bytes_eq-Decides (name_at image i slot) name).1 spelled)
 

@@ -34,3 +34,5 @@ pub mod Thaw
 pub mod Names
 pub mod Whole
 pub mod Members
+-- what is known of the slots of names
+pub mod Hints

@@ -20,7 +20,7 @@ pub enum Check {
     InodeFileSize,
     /// An entry names an inode that the inode file doesn't have.
     Inumber,
-    /// An entry names the root directory, or an inode that another entry names.
+    /// An entry names the root directory, or a directory that another entry names too. A file may have several names.
     InodeTwice,
     /// An inode is neither a file nor a directory, or inode 1 is no directory.
     Kind,

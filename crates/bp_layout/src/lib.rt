@@ -4,6 +4,7 @@
 mod check;
 mod entry;
 mod fields;
+mod hints;
 pub mod image_laws;
 pub mod laws;
 mod listing;
@@ -11,4 +12,5 @@ mod listing;
 pub use check::Check;
 pub use entry::{Entry, name_word};
 pub use fields::{BadPointer, Inode, Kind, Name, RootWord, Stat, Super, pointer, pointer_word};
+pub use hints::{Hints, NoHints};
 pub use listing::Listing;

@@ -4,6 +4,7 @@ ghost use Rattle.std.specs.Prelude.{◌≡◌, ◌≢◌, ◌++◌, ◌∷◌, �
 ghost use Rattle.std.specs.List.{list_all};
 ghost use Rattle.bp_layout.specs.Inode.{IsDirectory};
 ghost use Rattle.bp_layout.specs.Directory.{inumber_at, slot_named};
+ghost use Rattle.bp_layout.specs.Hints.{AreRight};
 ghost use Rattle.bp_limits.specs.Limits.{max_name, root_inumber};
 ghost use Rattle.bp_layout.specs.Lookup.{lookup};
 ghost use Rattle.bp_layout.specs.PathText.{is_name};
@@ -16,9 +17,9 @@ ghost use Rattle.bp_path.specs.FoundEntries.{IsEntryOf, fault_of, walked_of, dir
 
 use crate::names::{split_first, split_last};
 use crate::path::Path;
-use bp_dirs::find_entry;
+use bp_dirs::{Finder, Hinted, Scan};
 use bp_inodes::get;
-use bp_layout::Kind;
+use bp_layout::{Hints, Kind};
 use bp_limits::ROOT_INUMBER;
 use bp_tree::Tree;
 use pm_region::Region;
@@ -48,11 +49,17 @@ pub enum WalkFault {
 /// # Errors
 ///
 /// `NotDir` where the name is sought in a file, `NotFound` where the directory lacks it.
-pub fn step<R: Region>(region: &R, dir: u32, name: &[u8]) -> Result<FoundEntry, WalkFault>
+fn step<R: Region, F: Finder>(
+    region: &R,
+    dir: u32,
+    name: &[u8],
+    finder: &mut F,
+) -> Result<FoundEntry, WalkFault>
     requires well { IsWellFormed (current_words (R.memory region.now)) }
     requires reached { IsReached (current_words (R.memory region.now)) dir }
     requires some { 1 ≤ dir }
     requires short { length name.now ≤ max_name }
+    requires right { F.right finder.old (current_words (R.memory region.now)) }
     ensures kind { IfOk result (λ entry. IsDirectory (current_words (R.memory region.now)) dir) }
     ensures dir { IfOk result (λ entry. entry.dir ≡ dir) }
     ensures slot { let words = current_words (R.memory region.now) in
@@ -61,12 +68,14 @@ pub fn step<R: Region>(region: &R, dir: u32, name: &[u8]) -> Result<FoundEntry, 
         IfOk result (λ entry. inumber_at words dir entry.slot ≡ entry.inumber) }
     ensures fault { let words = current_words (R.memory region.now) in
         IfErr result (λ fault. (rest : List (List ℕ)) → walk_from words dir (name.now ∷ rest) ≡ fault_of fault) }
+    ensures right { F.right finder.new (current_words (R.memory region.now)) }
+    ensures references { F.same_references finder.old finder.new }
 {
     let inode = get(region, dir);
     let tree = Tree::of(&inode);
     match inode.kind {
         Kind::File => Err(WalkFault::NotDir),
-        Kind::Dir => match find_entry(region, tree, name) {
+        Kind::Dir => match finder.find(region, dir, tree, name) {
             None => Err(WalkFault::NotFound),
             Some(found) => Ok(FoundEntry {
                 inumber: found.inumber as u32,
@@ -78,9 +87,14 @@ pub fn step<R: Region>(region: &R, dir: u32, name: &[u8]) -> Result<FoundEntry, 
 }
 
 /// The inode to which names lead that stand with a `/` between them.
-fn walk_names<R: Region>(region: &R, text: &[u8]) -> Result<FoundEntry, WalkFault>
+fn walk_names<R: Region, F: Finder>(
+    region: &R,
+    text: &[u8],
+    finder: &mut F,
+) -> Result<FoundEntry, WalkFault>
     requires well { IsWellFormed (current_words (R.memory region.now)) }
     requires names { list_all is_name (path_parts text.now) ≡ true }
+    requires right { F.right finder.old (current_words (R.memory region.now)) }
     ensures walked { let words = current_words (R.memory region.now) in
         walked_of result ≡ walk_from words root_inumber (path_parts text.now) }
     ensures lookup { let words = current_words (R.memory region.now) in
@@ -88,6 +102,8 @@ fn walk_names<R: Region>(region: &R, text: &[u8]) -> Result<FoundEntry, WalkFaul
     ensures entry { IfOk result (λ entry. IsEntryOf (current_words (R.memory region.now)) (path_parts text.now) entry) }
     ensures reached { IfOk result (λ entry. IsReached (current_words (R.memory region.now)) entry.inumber) }
     ensures some { IfOk result (λ entry. 1 ≤ entry.inumber) }
+    ensures right { F.right finder.new (current_words (R.memory region.now)) }
+    ensures references { F.same_references finder.old finder.new }
 {
     let mut entry = FoundEntry {
         inumber: ROOT_INUMBER,
@@ -97,7 +113,7 @@ fn walk_names<R: Region>(region: &R, text: &[u8]) -> Result<FoundEntry, WalkFaul
     let mut rest = text;
     while !rest.is_empty() {
         let (name, behind) = split_first(rest);
-        entry = step(region, entry.inumber, name)?;
+        entry = step(region, entry.inumber, name, finder)?;
         rest = behind;
     }
     Ok(entry)
@@ -117,7 +133,55 @@ pub fn walk<R: Region>(region: &R, path: &Path<'_>) -> Result<FoundEntry, WalkFa
     ensures reached { IfOk result (λ entry. IsReached (current_words (R.memory region.now)) entry.inumber) }
     ensures some { IfOk result (λ entry. 1 ≤ entry.inumber) }
 {
-    walk_names(region, path.text())
+    walk_by(region, path, &mut Scan)
+}
+
+/// What [`walk`] tells, by what finds the names in the directories.
+///
+/// # Errors
+///
+/// Those of [`walk`].
+pub fn walk_by<R: Region, F: Finder>(
+    region: &R,
+    path: &Path<'_>,
+    finder: &mut F,
+) -> Result<FoundEntry, WalkFault>
+    requires well { IsWellFormed (current_words (R.memory region.now)) }
+    requires right { F.right finder.old (current_words (R.memory region.now)) }
+    ensures walked { walked_of result ≡ walk_from (current_words (R.memory region.now)) root_inumber path.now }
+    ensures lookup { let words = current_words (R.memory region.now) in
+        IfOk result (λ entry. lookup words path.now ≡ Some entry.inumber) }
+    ensures entry { IfOk result (λ entry. IsEntryOf (current_words (R.memory region.now)) path.now entry) }
+    ensures reached { IfOk result (λ entry. IsReached (current_words (R.memory region.now)) entry.inumber) }
+    ensures some { IfOk result (λ entry. 1 ≤ entry.inumber) }
+    ensures right { F.right finder.new (current_words (R.memory region.now)) }
+    ensures references { F.same_references finder.old finder.new }
+{
+    walk_names(region, path.text(), finder)
+}
+
+/// What [`walk`] tells. No directory is scanned for a name whose slot is known, and the slots of the others are learned.
+///
+/// # Errors
+///
+/// Those of [`walk`].
+pub fn walk_with<R: Region, H: Hints>(
+    region: &R,
+    path: &Path<'_>,
+    hints: &mut H,
+) -> Result<FoundEntry, WalkFault>
+    requires well { IsWellFormed (current_words (R.memory region.now)) }
+    requires right { AreRight (current_words (R.memory region.now)) (H.known hints.old) }
+    ensures walked { walked_of result ≡ walk_from (current_words (R.memory region.now)) root_inumber path.now }
+    ensures lookup { let words = current_words (R.memory region.now) in
+        IfOk result (λ entry. lookup words path.now ≡ Some entry.inumber) }
+    ensures entry { IfOk result (λ entry. IsEntryOf (current_words (R.memory region.now)) path.now entry) }
+    ensures reached { IfOk result (λ entry. IsReached (current_words (R.memory region.now)) entry.inumber) }
+    ensures some { IfOk result (λ entry. 1 ≤ entry.inumber) }
+    ensures right { AreRight (current_words (R.memory region.now)) (H.known hints.new) }
+{
+    let mut finder = Hinted { hints };
+    walk_by(region, path, &mut finder)
 }
 
 /// The directory in which the last name of a path is to be sought.
@@ -138,10 +202,67 @@ pub fn walk_parent<R: Region>(region: &R, path: &Path<'_>) -> Result<u32, WalkFa
     ensures reached { IfOk result (λ dir. IsReached (current_words (R.memory region.now)) dir) }
     ensures some { IfOk result (λ dir. 1 ≤ dir) }
 {
+    walk_parent_by(region, path, &mut Scan)
+}
+
+/// What [`walk_parent`] tells, by what finds the names in the directories.
+///
+/// # Errors
+///
+/// Those of [`walk_parent`].
+pub fn walk_parent_by<R: Region, F: Finder>(
+    region: &R,
+    path: &Path<'_>,
+    finder: &mut F,
+) -> Result<u32, WalkFault>
+    requires well { IsWellFormed (current_words (R.memory region.now)) }
+    requires below { path.now ≢ [] }
+    requires right { F.right finder.old (current_words (R.memory region.now)) }
+    ensures walked { let words = current_words (R.memory region.now) in
+        (parent : List (List ℕ)) (name : List ℕ) → path.now ≡ parent ++ name ∷ []
+        → dir_of result ≡ in_directory words (walk_from words root_inumber parent) }
+    ensures lookup { let words = current_words (R.memory region.now) in
+        (parent : List (List ℕ)) (name : List ℕ) → path.now ≡ parent ++ name ∷ []
+        → IfOk result (λ dir. lookup words parent ≡ Some dir) }
+    ensures kind { IfOk result (λ dir. IsDirectory (current_words (R.memory region.now)) dir) }
+    ensures reached { IfOk result (λ dir. IsReached (current_words (R.memory region.now)) dir) }
+    ensures some { IfOk result (λ dir. 1 ≤ dir) }
+    ensures right { F.right finder.new (current_words (R.memory region.now)) }
+    ensures references { F.same_references finder.old finder.new }
+{
     let (parent, _) = split_last(path.text());
-    let dir = walk_names(region, parent)?.inumber;
+    let dir = walk_names(region, parent, finder)?.inumber;
     match get(region, dir).kind {
         Kind::File => Err(WalkFault::NotDir),
         Kind::Dir => Ok(dir),
     }
+}
+
+/// What [`walk_parent`] tells. No directory is scanned for a name whose slot is known, and the slots of the others are
+/// learned.
+///
+/// # Errors
+///
+/// Those of [`walk_parent`].
+pub fn walk_parent_with<R: Region, H: Hints>(
+    region: &R,
+    path: &Path<'_>,
+    hints: &mut H,
+) -> Result<u32, WalkFault>
+    requires well { IsWellFormed (current_words (R.memory region.now)) }
+    requires below { path.now ≢ [] }
+    requires right { AreRight (current_words (R.memory region.now)) (H.known hints.old) }
+    ensures walked { let words = current_words (R.memory region.now) in
+        (parent : List (List ℕ)) (name : List ℕ) → path.now ≡ parent ++ name ∷ []
+        → dir_of result ≡ in_directory words (walk_from words root_inumber parent) }
+    ensures lookup { let words = current_words (R.memory region.now) in
+        (parent : List (List ℕ)) (name : List ℕ) → path.now ≡ parent ++ name ∷ []
+        → IfOk result (λ dir. lookup words parent ≡ Some dir) }
+    ensures kind { IfOk result (λ dir. IsDirectory (current_words (R.memory region.now)) dir) }
+    ensures reached { IfOk result (λ dir. IsReached (current_words (R.memory region.now)) dir) }
+    ensures some { IfOk result (λ dir. 1 ≤ dir) }
+    ensures right { AreRight (current_words (R.memory region.now)) (H.known hints.new) }
+{
+    let mut finder = Hinted { hints };
+    walk_parent_by(region, path, &mut finder)
 }

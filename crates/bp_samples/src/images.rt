@@ -49,6 +49,22 @@ pub const TWO_NAMES: [(usize, u64); 8] = [
     (1058, 0x62),
 ];
 
+/// On top of [`EMPTY`]: the directory `/d`, inode 2 with block 3, and in it the empty file `/d/f`, inode 3.
+pub const DEEP: [(usize, u64); 12] = [
+    (521, 0x2000),
+    (522, 256),
+    (528, 2),
+    (529, 0x3000),
+    (530, 256),
+    (536, 1),
+    (1024, 2),
+    (1025, 1),
+    (1026, 0x64),
+    (1536, 3),
+    (1537, 1),
+    (1538, 0x66),
+];
+
 /// A tree of two leaves, blocks 4 and 5, with a null between them. Its root word stands at word 2 and its size at word 3.
 pub const TWO_LEAVES: [(usize, u64); 6] = [
     (2, 0x3001),

@@ -12,7 +12,11 @@ mod append;
 mod command;
 #[cfg(test)]
 mod free;
+#[cfg(test)]
+mod hints;
 pub mod images;
+#[cfg(test)]
+mod index;
 #[cfg(test)]
 mod io;
 #[cfg(test)]

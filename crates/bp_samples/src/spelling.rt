@@ -13,12 +13,12 @@ use pm_region::ListRegion;
 use std::alloc::{AllocError, Global};
 use std::test::Fail;
 
-const TREE: Tree = Tree {
+pub(crate) const TREE: Tree = Tree {
     root: 0x3000,
     size: 512,
 };
 
-fn sample(alloc: Global, first: Start, second: Start) -> Result<ListRegion, AllocError>
+pub(crate) fn sample(alloc: Global, first: Start, second: Start) -> Result<ListRegion, AllocError>
     ensures sound { IfOk result (λ region. IsSound (current_words region) 0x3000 512) }
     ensures full { IfOk result (λ region. IsFull (current_words region) 0x3000 512) }
 {

@@ -1,12 +1,11 @@
 -- The bytes of an image, word by word.
-use Rattle.std.proofs.Common.{zero, suc, refl, sym, ◌∙◌, ap, arith, ◌≡◌, ℕ, ◌+◌, ◌*◌, ◌-◌, ◌<◌, ◌≤◌, List, [], ◌∷◌, ◌++◌, min, length, take, drop, get_or, lit<, get_or-drop, length-drop, length-take}
-use Rattle.std.proofs.lemmas.List.{append_assoc}
-use Rattle.std.proofs.Math.Seq.{take-suc, take-add}
-use Rattle.bp_io.specs.Files.{block_bytes}
+use Rattle.std.proofs.Common.{zero, suc, refl, sym, ◌∙◌, ap, arith, ◌≡◌, ℕ, ◌+◌, ◌*◌, ◌-◌, ◌<◌, List, [], ◌∷◌, ◌++◌, min, length, take, drop, get_or, get_or-drop, length-drop}
+use Rattle.std.proofs.Math.Seq.{take-suc}
+use Rattle.bp_io.specs.Files.{blocks_of}
 use Rattle.bp_layout.specs.Words.{Image}
 use Rattle.bp_layout.specs.Bytes.{image_bytes}
 use Rattle.pm_words.specs.Bytes.{word_bytes, word_of}
-use Rattle.pm_words.proofs.Bytes.{bytes_word_of, word_of_bytes}
+use Rattle.pm_words.proofs.Bytes.{word_of_bytes}
 use Rattle.bp_session.specs.Files.{AreWordsOf64Bits}
 
 pub length-image_bytes : (image : Image) → length (image_bytes image) ≡ 8 * length image
@@ -38,11 +37,11 @@ pub image_bytes-one : (word : ℕ) → image_bytes (word ∷ []) ≡ word_bytes 
 unfolding image_bytes
 image_bytes-one word = refl
 
-pub block-image_bytes : (image : Image) (i : ℕ) → block_bytes (image_bytes image) i ≡ image_bytes (take 512 (drop (512 * i) image))
-block-image_bytes image i =
-    let width : (4096 * i + 4096) - 4096 * i ≡ 8 * 512 = omega arith in
+pub blocks-image_bytes : (image : Image) (i n : ℕ) → blocks_of (image_bytes image) i n ≡ image_bytes (take (512 * n) (drop (512 * i) image))
+blocks-image_bytes image i n =
+    let width : (4096 * i + 4096 * n) - 4096 * i ≡ 8 * (512 * n) = omega arith in
     let place : 4096 * i ≡ 8 * (512 * i) = omega arith in
-    rw (width, place, drop-image_bytes (512 * i) image) (take-image_bytes 512 (drop (512 * i) image))
+    rw (width, place, drop-image_bytes (512 * i) image) (take-image_bytes (512 * n) (drop (512 * i) image))
 
 -- one more word of a list
 pub one_more : (words : Image) (k : ℕ) → k < length words → image_bytes (take (k + 1) words) ≡ image_bytes (take k words) ++ word_bytes (get_or words k 0)
@@ -58,23 +57,6 @@ word_more words read first k word low is before =
     let inside : k < length (drop first words) = omega (arith, length-drop first words) in
     let next : k + 1 ≡ suc k = omega arith in
     rw (next, take-suc (drop first words) k 0 inside, is ∙ sym at) (ap (λ l. l ++ get_or (drop first words) k 0 ∷ []) before)
-
-small_front : (n : ℕ) (bytes : List ℕ) → ((i : ℕ) → get_or bytes i 0 < 256) → (i : ℕ) → get_or (take n bytes) i 0 < 256
-small_front zero bytes small i = lit< tt
-small_front (suc n) [] small i = lit< tt
-small_front (suc n) (b ∷ bytes) small zero = small 0
-small_front (suc n) (b ∷ bytes) small (suc i) = small_front n bytes (λ k. small (suc k)) i
-
-small_rest : (n : ℕ) (bytes : List ℕ) → ((i : ℕ) → get_or bytes i 0 < 256) → (i : ℕ) → get_or (drop n bytes) i 0 < 256
-small_rest n bytes small i = rw (get_or-drop n bytes i 0) (small (n + i))
-
--- one more word that a block spells
-pub decode_more : (before block bytes : List ℕ) (k : ℕ) → 8 * k + 8 ≤ length block → bytes ≡ take 8 (drop (8 * k) block) → ((i : ℕ) → get_or block i 0 < 256)
-    → (before ++ take (8 * k) block) ++ word_bytes (word_of bytes) ≡ before ++ take (8 * (k + 1)) block
-decode_more before block bytes k low are small =
-    let size : length bytes ≡ 8 = ap length are ∙ omega (arith, length-take 8 (drop (8 * k) block), length-drop (8 * k) block) in
-    let next : 8 * (k + 1) ≡ 8 * k + 8 = omega arith in
-    append_assoc before (take (8 * k) block) (word_bytes (word_of bytes)) ∙ ap (λ l. before ++ l) (rw (next, bytes_word_of bytes size (rw are (small_front 8 (drop (8 * k) block) (small_rest (8 * k) block small))), are) (sym (take-add (8 * k) 8 block)))
 
 -- ---- fronts
 

@@ -2,14 +2,15 @@
 use Rattle.std.proofs.Common.{zero, suc, refl, sym, ◌∙◌, ap, arith, ◌≡◌, ℕ, ◌+◌, ◌*◌, ◌-◌, ◌≤◌, List, [], ◌∷◌, ◌++◌, length, take, drop, Bool, true, false, inl, inr}
 use Rattle.std.specs.Prelude.{◌⊎◌, nat_lt, Some, None, is_some}
 use Rattle.std.proofs.lemmas.Bool.{ltb-true, ltb-false}
+use Rattle.std.proofs.lemmas.List.{length-drop, length-take-le}
 use Rattle.std.specs.Prelude.{Result, Ok, Err, OnOk, OnErr}
 use Rattle.bp_layout.specs.Bytes.{image_bytes}
 use Rattle.pm_region.specs.Memory.{Memory, current_words}
 use Rattle.pm_epochs.proofs.CrashLaws.{length-words_after}
-use Rattle.bp_io.specs.Files.{block_bytes, with_block, Known, Becomes, Stays, StaysAttached, View}
+use Rattle.bp_io.specs.Files.{block_bytes, blocks_of, with_blocks, IsMixed, Known, Becomes, BecomesMixed, Stays, StaysAttached, View}
 use Rattle.bp_session.proofs.BlockLaws.{length-image_bytes}
 use Rattle.bp_layout.specs.Words.{Image}
-use Rattle.bp_session.specs.Files.{HasBytes, HasBlocksOf, IsMixed, IsReady, partly_saved}
+use Rattle.bp_session.specs.Files.{HasBytes, HasBlocksOf, IsReady, partly_saved}
 
 -- the bytes on one side of a place, and from one list to the other
 next : (first second : List ℕ) (n m : ℕ) → n ≤ length second → length first ≡ length second →
@@ -54,11 +55,12 @@ all_joined (x ∷ first) (y ∷ second) (suc n) all same = ap (λ l. y ∷ l) (a
 
 -- ---- blocks
 
-pub saved_next : (first second : List ℕ) (i : ℕ) → 4096 * i ≤ length second → length first ≡ length second → with_block i (block_bytes second i) (partly_saved first second i) ≡ partly_saved first second (i + 1)
-saved_next first second i low same =
-    let width : (4096 * i + 4096) - 4096 * i ≡ 4096 = omega arith in
-    let end : 4096 * (i + 1) ≡ 4096 * i + 4096 = omega arith in
-    rw (width, end) (next first second (4096 * i) 4096 low same)
+pub saved_next : (first second : List ℕ) (i n : ℕ) → 4096 * (i + n) ≤ length second → length first ≡ length second → with_blocks i (blocks_of second i n) (partly_saved first second i) ≡ partly_saved first second (i + n)
+saved_next first second i n low same =
+    let width : (4096 * i + 4096 * n) - 4096 * i ≡ 4096 * n = omega arith in
+    let end : 4096 * (i + n) ≡ 4096 * i + 4096 * n = omega arith in
+    let long : length (take (4096 * n) (drop (4096 * i) second)) ≡ 4096 * n = length-take-le (4096 * n) (drop (4096 * i) second) (omega (arith, length-drop (4096 * i) second, low)) in
+    rw (width, end, long) (next first second (4096 * i) (4096 * n) (omega (arith, low)) same)
 
 pub saved_all : (first second : List ℕ) (n : ℕ) → length second ≡ 4096 * n → length first ≡ length second → partly_saved first second n ≡ second
 saved_all first second n all same = all_joined first second (4096 * n) (sym all) same
@@ -73,13 +75,44 @@ saved_mixed first second i low same = record {
     go k true e = inr (before second (drop (4096 * i) first) (4096 * i) (4096 * k) ((4096 * k + 4096) - 4096 * k) (omega (arith, ltb-true k i e)) low)
     go k false e = inl (ap (λ l. take ((4096 * k + 4096) - 4096 * k) l) (behind first second (4096 * i) (4096 * k) (omega (arith, ltb-false k i e)) low same))
 
+-- each block is that of one of two lists, of which each block is that of the first or of the second
+mixed_then : (found a b first second : List ℕ) → IsMixed found a b → IsMixed a first second → IsMixed b first second → IsMixed found first second
+mixed_then found a b first second mixed one other = record {
+  size = mixed.size ∙ one.size;
+  blocks = λ k inside. elim (mixed.blocks k inside) [
+    | inl e ↦ either found a first second k e (one.blocks k (omega (arith, inside, mixed.size)))
+    | inr e ↦ either found b first second k e (other.blocks k (omega (arith, inside, mixed.size, one.size, other.size)))
+  ];
+}
+  where
+    either : (found a first second : List ℕ) (k : ℕ) → block_bytes found k ≡ block_bytes a k → (block_bytes a k ≡ block_bytes first k) ⊎ (block_bytes a k ≡ block_bytes second k)
+        → (block_bytes found k ≡ block_bytes first k) ⊎ (block_bytes found k ≡ block_bytes second k)
+    either found a first second k e (inl is) = inl (e ∙ is)
+    either found a first second k e (inr is) = inr (e ∙ is)
+
 -- ---- what is known of a file
 
-pub becomes_next : (known new : Known) (first second block : List ℕ) (i : ℕ) → 4096 * i ≤ length second → length first ≡ length second → block ≡ block_bytes second i → HasBytes known (partly_saved first second i)
-    → Becomes (with_block i block) known new → HasBytes new (partly_saved first second (i + 1))
-becomes_next None new first second block i low same e has becomes = rw becomes tt
-becomes_next (Some None) new first second block i low same e has becomes = absurd has
-becomes_next (Some (Some found)) new first second block i low same e has becomes = rw becomes (rw (has, e) (saved_next first second i low same))
+-- a run of the second list's blocks is written, over those of the first
+module _ (first second run : List ℕ) (i n : ℕ) (low : 4096 * (i + n) ≤ length second) (same : length first ≡ length second) (is : run ≡ blocks_of second i n) where
+  saved_run : with_blocks i run (partly_saved first second i) ≡ partly_saved first second (i + n)
+  saved_run = ap (λ l. with_blocks i l (partly_saved first second i)) is ∙ saved_next first second i n low same
+
+  pub becomes_next : (known new : Known) → HasBytes known (partly_saved first second i) → Becomes (with_blocks i run) known new → HasBytes new (partly_saved first second (i + n))
+  becomes_next None new has becomes = rw becomes tt
+  becomes_next (Some None) new has becomes = absurd has
+  becomes_next (Some (Some found)) new has becomes = rw becomes (ap (with_blocks i run) has ∙ saved_run)
+
+  -- it is written partly
+  pub mixed_next : (known new : Known) → HasBytes known (partly_saved first second i) → BecomesMixed (with_blocks i run) known new → HasBlocksOf new first second
+  mixed_next None new has becomes = rw becomes tt
+  mixed_next (Some None) new has becomes = absurd has
+  mixed_next (Some (Some found)) None has becomes = absurd becomes
+  mixed_next (Some (Some found)) (Some None) has becomes = absurd becomes
+  mixed_next (Some (Some found)) (Some (Some now)) has becomes =
+      let next : with_blocks i run found ≡ partly_saved first second (i + n) = ap (with_blocks i run) has ∙ saved_run in
+      let before : IsMixed found first second = rw has (saved_mixed first second i (omega (arith, low)) same) in
+      let after : IsMixed (with_blocks i run found) first second = rw next (saved_mixed first second (i + n) low same) in
+      mixed_then now found (with_blocks i run found) first second becomes before after
 
 pub stays_known : (known new : Known) (bytes : List ℕ) → HasBytes known bytes → Stays known new → HasBytes new bytes
 stays_known None new bytes has stays = rw stays tt
@@ -99,6 +132,12 @@ pub becomes_told : (known new : Known) (f : List ℕ → List ℕ) (bytes : List
 becomes_told None new f bytes has becomes = rw becomes refl
 becomes_told (Some None) new f bytes has becomes = absurd has
 becomes_told (Some (Some found)) new f bytes has becomes = rw becomes refl
+
+pub mixed_told : (known new : Known) (f : List ℕ → List ℕ) (bytes : List ℕ) → HasBytes known bytes → BecomesMixed f known new → is_some new ≡ is_some known
+mixed_told None new f bytes has becomes = rw becomes refl
+mixed_told (Some None) new f bytes has becomes = absurd has
+mixed_told (Some (Some found)) None f bytes has becomes = absurd becomes
+mixed_told (Some (Some found)) (Some now) f bytes has becomes = refl
 
 -- all blocks are of the second list
 pub all_mixed : (known : Known) (first second : List ℕ) → length first ≡ length second → HasBytes known second → HasBlocksOf known first second

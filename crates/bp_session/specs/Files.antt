@@ -1,7 +1,7 @@
 -- Which words a file holds.
-use Rattle.std.specs.Prelude.{◌≡◌, ◌⊎◌, ℕ, List, None, Some, ⊤, Bool, true, is_some, length, take, drop, ◌++◌, ◌*◌, ◌<◌, ◌^◌}
+use Rattle.std.specs.Prelude.{◌≡◌, ℕ, List, None, Some, ⊤, Bool, true, is_some, length, take, drop, ◌++◌, ◌*◌, ◌<◌, ◌^◌}
 use Rattle.bp_limits.specs.Limits.{block_size, block_words}
-use Rattle.bp_io.specs.Files.{Known, TellsFile, View, block_bytes}
+use Rattle.bp_io.specs.Files.{IsMixed, Known, TellsFile, View}
 use Rattle.bp_layout.specs.Words.{Image, word}
 use Rattle.bp_layout.specs.Bytes.{image_bytes}
 
@@ -33,11 +33,6 @@ pub record HasImage (known : Known) (image : Image) : Type 0 where
   pub words : AreWordsOf64Bits image
 
 -- where it is told, the file of a name is there and each of its blocks is that of one list of bytes or of the other
-pub record IsMixed (found first second : List ℕ) : Type 0 where
-  pub size : length found ≡ length first
-  pub blocks : (i : ℕ) → block_size * i < length found → (block_bytes found i ≡ block_bytes first i)
-      ⊎ (block_bytes found i ≡ block_bytes second i)
-
 abbrev pub HasBlocksOf : Known → List ℕ → List ℕ → Type 0
 HasBlocksOf None first second = ⊤
 HasBlocksOf (Some None) first second = ⊥

@@ -1,9 +1,8 @@
 -- What is known of the file of a run.
-use Rattle.std.proofs.Common.{zero, suc, refl, sym, ◌∙◌, ap, subst, arith, ◌≡◌, ◌≢◌, ℕ, ◌+◌, ◌*◌, ◌-◌, List, [], ◌∷◌, ◌++◌, length, take, false, true, inl, inr}
+use Rattle.std.proofs.Common.{zero, suc, refl, sym, ◌∙◌, ap, subst, arith, ◌≡◌, ◌≢◌, ℕ, ◌+◌, ◌*◌, ◌/◌, ◌%◌, ◌-◌, List, [], ◌∷◌, ◌++◌, length, take, false, true, inl, inr}
 use Rattle.std.specs.Prelude.{Some, None, ◌⊎◌}
 use Rattle.std.proofs.Math.Seq.{take-add, take-length}
-use Rattle.std.proofs.lemmas.List.{append_assoc}
-use Rattle.bp_io.specs.Files.{Known, Stays, TellsFile, Answers, Reads, View, block_bytes, blocks_of}
+use Rattle.bp_io.specs.Files.{Known, Stays, TellsFile, Answers, Reads, View, blocks_of}
 use Rattle.bp_session.proofs.OthersLaws.{stays_same, stays_stays}
 use Rattle.bp_session.proofs.SavingLaws.{stays_attached, still_attached}
 use Rattle.bp_layout.specs.Bytes.{image_bytes}
@@ -23,6 +22,8 @@ use Rattle.bp_script.specs.declared.notices.Notice.TheVariants.{NotFormatted, Ba
 use Rattle.bp_session.proofs.BlockLaws.{image_bytes-append}
 use Rattle.bp_session.specs.Files.{AreWordsOf64Bits, HasBytes, HasLength, Holds, HoldsFirstBlocks}
 use Rattle.pm_raw.specs.Part.{Part}
+use Rattle.pm_raw.specs.Spelled.{spelled_words}
+use Rattle.pm_raw.proofs.SpelledLaws.{AreSmall, bytes_of_spelled}
 use Rattle.bp_shell.specs.Opening.{FindsImage, HasLoaded, HasSized, RefusesFile}
 use Rattle.bp_shell.specs.Opening.RefusesFile.{by_length, not_formatted, by_count, damaged}
 use Rattle.bp_shell.specs.Stops.{stop_by}
@@ -67,10 +68,12 @@ tells_all (Some (Some bytes)) P all = all bytes
 pub bytes_next : (base words : Image) (bytes : List ℕ) → image_bytes words ≡ bytes → image_bytes (base ++ words) ≡ image_bytes base ++ bytes
 bytes_next base words bytes spelled = image_bytes-append base words ∙ ap (λ l. image_bytes base ++ l) spelled
 
--- one more block of a run
-pub run_next : (before run block : List ℕ) (k : ℕ) → block ≡ block_bytes run k → (before ++ take (4096 * k) run) ++ block ≡ before ++ take (4096 * (k + 1)) run
-run_next before run block k is =
-    append_assoc before (take (4096 * k) run) block ∙ ap (λ l. before ++ l) (ap (λ l. take (4096 * k) run ++ l) is ∙ sym (blocks_next run k 1))
+-- a run of bytes, as the words that it spells
+pub spelled_image : (run : List ℕ) → length run % 8 ≡ 0 → AreSmall run → image_bytes (spelled_words (length run / 8) run) ≡ run
+unfolding image_bytes
+spelled_image run whole small =
+    let all : 8 * (length run / 8) ≡ length run = omega (arith, whole) in
+    bytes_of_spelled (length run / 8) run (omega (arith, all)) small ∙ ap (λ n. take n run) all ∙ take-length run
 
 pub words_append : (first second : Image) → AreWordsOf64Bits first → AreWordsOf64Bits second → AreWordsOf64Bits (first ++ second)
 words_append [] second low high place = high place

@@ -17,7 +17,7 @@ use crate::status::Status;
 use bp_io::{Access, Failed, Files, Sink};
 use bp_limits::{BLOCK_SIZE, BLOCK_WORDS, MAX_BLOCKS, MIN_BLOCKS, Version};
 use bp_script::Notice;
-use bp_session::blocks::read_block;
+use bp_session::blocks::read_blocks;
 use bp_volume::lay_front;
 use pm_region::{ListRegion, Region};
 use std::alloc::{AllocError, Global};
@@ -49,7 +49,7 @@ fn encode<R: Region>(alloc: Global, region: &R) -> Result<Vec<u8>, AllocError>
     let mut block = [0u8; 4096];
     let count = region.words() / BLOCK_WORDS;
     for i in 0..count {
-        read_block(region, i, &mut block);
+        read_blocks(region, i, &mut block);
         bytes.extend_from_slice(&block)?;
     }
     Ok(bytes)

@@ -1,7 +1,7 @@
 //! The file of a program.
 
-ghost use Rattle.std.specs.Prelude.{◌≡◌, ◌<◌, ◌≤◌, ◌+◌, ◌*◌, ◌++◌, [], ◌⊎◌, IfErr, IfOk, OnOk, false, length};
-ghost use Rattle.bp_io.specs.Files.{KeepsFiles, Known, Reads, block_bytes, makes, may_change};
+ghost use Rattle.std.specs.Prelude.{◌≡◌, ◌<◌, ◌≤◌, ◌+◌, ◌*◌, ◌/◌, ◌%◌, ◌++◌, [], ◌⊎◌, IfErr, IfOk, OnOk, false, length};
+ghost use Rattle.bp_io.specs.Files.{KeepsFiles, Known, Reads, makes, may_change};
 ghost use Rattle.bp_layout.specs.Formatted.{IsSized};
 ghost use Rattle.bp_layout.specs.Bytes.{image_bytes};
 ghost use Rattle.bp_layout.specs.Whole.{IsFileSystem};
@@ -18,7 +18,6 @@ use bp_io::{Access, Failed, Files};
 use bp_limits::{BLOCK_SIZE, BLOCK_WORDS, LOG_EVENTS, MAX_BLOCKS, MIN_BLOCKS};
 use bp_scan::{MountFault, image_length};
 use bp_script::Notice;
-use bp_session::blocks::decode;
 use bp_volume::Volume;
 use pm_raw::{Filling, RawRegion};
 use std::alloc::Global;
@@ -29,64 +28,39 @@ const BLOCK: usize = BLOCK_SIZE as usize;
 /// The most blocks that are read in one call.
 const RUN: u32 = 16;
 
-/// Puts a block's words behind those that are there. They are words of 64 bits, as their type says.
-fn push_block(filling: &mut Filling, words: &[u64; 512])
-    requires room { length filling.old.words + block_words ≤ filling.old.size }
-    ensures pushed { filling.new ≡ record filling.old { words = filling.old.words ++ words.now } }
-    ensures words { AreWordsOf64Bits words.now }
-{
-    filling.push_all(words);
-}
-
-/// The block of a run at this place.
-fn block_at(run: &[u8], k: usize) -> &[u8; 4096]
-    requires { block_size * k + block_size ≤ length run.now }
-    ensures { result.now ≡ block_bytes run.now k }
-{
-    let at = BLOCK * k;
-    match run[at..at + BLOCK].first_chunk() {
-        Some(block) => block,
-        None => unreachable!(),
-    }
-}
-
-/// Puts the words that a run of so many blocks spells behind those that are there.
-fn push_run(filling: &mut Filling, run: &[u8], count: usize)
-    requires run { length run.now ≡ block_size * count }
-    requires room { length filling.old.words + block_words * count ≤ filling.old.size }
+/// Puts the words that a run of bytes spells behind those that are there.
+fn push_run(filling: &mut Filling, run: &[u8])
+    requires whole { length run.now % 8 ≡ 0 }
+    requires room { length filling.old.words + length run.now / 8 ≤ filling.old.size }
     requires words { AreWordsOf64Bits filling.old.words }
     ensures bytes { image_bytes filling.new.words ≡ image_bytes filling.old.words ++ run.now }
     ensures words { AreWordsOf64Bits filling.new.words }
-    ensures long { length filling.new.words ≡ length filling.old.words + block_words * count }
+    ensures long { length filling.new.words ≡ length filling.old.words + length run.now / 8 }
     ensures size { filling.new.size ≡ filling.old.size }
 {
-    let mut words = [0u64; 512];
-    for k in 0..count {
-        decode(block_at(run, k), &mut words);
-        push_block(filling, &words);
-    }
+    filling.push_bytes(run);
 }
 
-/// Reads a run of so many blocks of the attached file, behind those whose words are there.
+/// Reads as many blocks of the attached file as `into` has room for, behind those whose words are there.
 fn load_run<F: Files>(
     filling: &mut Filling,
     first: u32,
-    count: u32,
     into: &mut [u8],
     files: &mut F,
 ) -> Result<(), Stop>
-    requires run { length into.old ≡ block_size * count }
-    requires inside { first + count ≤ (F.view files.old).blocks }
+    requires whole { length into.old % block_size ≡ 0 }
+    requires inside { first + length into.old / block_size ≤ (F.view files.old).blocks }
     requires loaded { HasLoaded (F.view files.old) first filling.old }
     ensures kinds { IfErr result (λ e. e ≡ Outside) }
     ensures cause { HasStopCause (F.view files.old).faults (F.view files.new).faults result }
-    ensures loaded { OnOk result (HasLoaded (F.view files.old) (first + count) filling.new) }
+    ensures loaded { OnOk result
+        (HasLoaded (F.view files.old) (first + length into.old / block_size) filling.new) }
     ensures size { filling.new.size ≡ filling.old.size }
     ensures reads { Reads (F.view files.old) (F.view files.new) }
 {
     match files.read_blocks(first, into) {
         Ok(()) => {
-            push_run(filling, into, count as usize);
+            push_run(filling, into);
             Ok(())
         }
         Err(Failed) => Err(Stop::Outside),
@@ -110,7 +84,7 @@ fn load<F: Files>(filling: &mut Filling, count: u32, files: &mut F) -> Result<()
     while first < count {
         let run = RUN.min(count - first);
         let into = &mut bytes[..BLOCK * run as usize];
-        load_run(filling, first, run, into, files)?;
+        load_run(filling, first, into, files)?;
         first += run;
     }
     Ok(())

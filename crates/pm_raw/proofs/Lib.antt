@@ -3,3 +3,4 @@ mod EntryLaws
 mod UndoLaws
 mod EpochLaws
 mod PlaceLaws
+pub mod SpelledLaws

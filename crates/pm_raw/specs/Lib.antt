@@ -4,6 +4,7 @@ pub mod Lends
 pub mod RawArray
 pub mod RawLends
 pub mod Part
+pub mod Spelled
 pub mod Filling
 pub mod Entries
 pub mod Grows

@@ -1,9 +1,11 @@
 //! Arrays of a fixed length over raw memory.
-ghost use Rattle.std.specs.Prelude.{◌≡◌, ◌+◌, ◌^◌, ◌<◌, ◌≤◌, [], ◌++◌, length, replicate, slice_set, IfOk};
+ghost use Rattle.std.specs.Prelude.{◌≡◌, ◌+◌, ◌/◌, ◌^◌, ◌<◌, ◌≤◌, [], ◌++◌, length, replicate, slice_set, IfOk};
 ghost use Rattle.std.specs.Borrow.{sem};
 ghost use Rattle.std.specs.Vec.Ownership.{FitsInBlock};
+ghost use Rattle.pm_raw.specs.Spelled.{spelled_words};
 
 use super::cells::{Base, Cells, Deed};
+use pm_words::read_word;
 use std::alloc::{AllocError, Global};
 use std::marker::Model;
 
@@ -146,16 +148,20 @@ impl Drop for Filling {
     }
 }
 
-/// Puts the items into the first empty places, which are those from this index on.
-fn push_all<T: Copy>(cells: &mut Cells<T>, base: Base<T>, count: usize, items: &[T])
+/// Puts the words that the bytes spell into the first empty places, which are those from this index on.
+fn push_spelled(cells: &mut Cells<u64>, base: Base<u64>, count: usize, bytes: &[u8])
     requires at { base.address ≡ cells.old.at }
     requires count { count ≡ length cells.old.items }
-    requires room { count + length items.now ≤ cells.old.count }
+    requires room { count + length bytes.now / 8 ≤ cells.old.count }
     requires small { cells.old.count < 2 ^ 64 }
-    ensures { cells.new ≡ record cells.old { items = cells.old.items ++ items.now } }
+    ensures { cells.new ≡ record cells.old {
+      items = cells.old.items ++ spelled_words (length bytes.now / 8) bytes.now;
+    } }
 {
-    for i in 0..items.len() {
-        cells.push(base, count + i, items[i]);
+    let mut word = [0u8; 8];
+    for k in 0..bytes.len() / 8 {
+        word.copy_from_slice(&bytes[8 * k..8 * k + 8]);
+        cells.push(base, count + k, read_word(&word));
     }
 }
 
@@ -176,13 +182,16 @@ impl Filling {
         })
     }
 
-    /// Puts these words behind those that are there.
-    pub fn push_all(&mut self, words: &[u64])
-        requires room { length self.old.words + length words.now ≤ self.old.size }
-        ensures { self.new ≡ record self.old { words = self.old.words ++ words.now } }
+    /// Puts the words that these bytes spell behind those that are there: each eight bytes are one word, the lowest
+    /// byte first. Fewer than eight at the end spell none.
+    pub fn push_bytes(&mut self, bytes: &[u8])
+        requires room { length self.old.words + length bytes.now / 8 ≤ self.old.size }
+        ensures { self.new ≡ record self.old {
+          words = self.old.words ++ spelled_words (length bytes.now / 8) bytes.now;
+        } }
     {
-        push_all(&mut self.cells, self.base, self.count, words);
-        self.count += words.len();
+        push_spelled(&mut self.cells, self.base, self.count, bytes);
+        self.count += bytes.len() / 8;
     }
 
     /// The words, once they are all there.

@@ -1,7 +1,7 @@
-use Rattle.std.proofs.Common.{◌≡◌, Some, sym, ◌∙◌, ap, ap₂, arith}
-use Rattle.bp_layout.specs.Inode.{kind_of, root_of, size_of}
+use Rattle.std.proofs.Common.{◌≡◌, Some, sym, ◌∙◌, ap, arith}
+use Rattle.bp_layout.specs.Inode.{kind_of}
 use Rattle.bp_layout.specs.Fields.{kind_word}
-use Rattle.bp_layout.specs.Directory.{inumber_in, inumber_at, slot_named, slot_named_in}
+use Rattle.bp_layout.specs.Directory.{inumber_at, slot_named}
 use Rattle.bp_layout.specs.Reached.IsReached.{inode_file}
 use Rattle.pm_region.specs.Memory.{current_words}
 use Rattle.bp_path.proofs.WalkLaws.{there, low_number, named_reached}
@@ -16,12 +16,8 @@ get-inode-requires-clause-there g c = there (current_words (g.R.Region.memory c.
 pub overflow_cast-result : goal.overflow_cast-result
 overflow_cast-result g c =
     let image = current_words (g.R.Region.memory c.args.region.now) in
-    let root : c.of-tree.result.root ≡ root_of image c.args.dir = c.of-tree.ensures.root ∙ c.get-inode.ensures.root in
-    let size : c.of-tree.result.size ≡ size_of image c.args.dir = c.of-tree.ensures.size ∙ c.get-inode.ensures.size in
-    let at : slot_named image c.args.dir c.args.name.now ≡ Some c.in-Some.found.slot =
-    ap₂ (λ r s. slot_named_in image r s c.args.name.now) (sym root) (sym size) ∙ sym c.in-Some.ensures.slot in
-    let is : inumber_at image c.args.dir c.in-Some.found.slot ≡ c.in-Some.found.inumber =
-    ap (λ r. inumber_in image r c.in-Some.found.slot) (sym root) ∙ sym c.in-Some.ensures.inumber in
+    let at : slot_named image c.args.dir c.args.name.now ≡ Some c.in-Some.found.slot = sym c.in-Some.ensures.slot in
+    let is : inumber_at image c.args.dir c.in-Some.found.slot ≡ c.in-Some.found.inumber = sym c.in-Some.ensures.inumber in
     let kind : kind_of image c.args.dir ≡ 2 = sym c.get-inode.ensures.kind ∙ ap kind_word c.in-Dir.is in
     omega (
       arith,

@@ -9,7 +9,7 @@ use Rattle.pm_words.specs.Bytes.{word_bytes}
 
 pub loop-k-init : goal.loop-k-init
 unfolding image_bytes
-loop-k-init c = record { size = c.told-into; bytes = refl }
+loop-k-init c = record { size = c.requires; bytes = refl }
 
 pub loop-k-preserved : goal.loop-k-preserved
 loop-k-preserved c =
@@ -27,7 +27,7 @@ loop-k-preserved c =
 
 pub returns : goal.returns
 returns c =
-    let all : c.loop-k.k ≡ 512 = omega arith in
-    let bytes : take 4096 c.loop-k.into ≡ c.loop-k.into = rw (← c.loop-k.invariant.size) (take-length c.loop-k.into) in
-    let words : take 512 c.args.words.now ≡ c.args.words.now = rw (← c.requires) (take-length c.args.words.now) in
-    sym bytes ∙ rw all at c.loop-k.invariant.bytes ∙ ap image_bytes words
+    let words = c.args.words.now in
+    let all : c.loop-k.k ≡ length words = omega arith in
+    let bytes : take (8 * length words) c.loop-k.into ≡ c.loop-k.into = rw (← c.loop-k.invariant.size) (take-length c.loop-k.into) in
+    sym bytes ∙ rw all at c.loop-k.invariant.bytes ∙ ap image_bytes (take-length words)

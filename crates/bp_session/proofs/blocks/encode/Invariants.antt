@@ -6,6 +6,6 @@ use Rattle.bp_session.proofs.blocks.encode.Given as goal
 abbrev pub invariant-loop-k : goal.invariant-loop-k
 invariant-loop-k l =
     record {
-      size : length l.into ≡ 4096;
+      size : length l.into ≡ 8 * length l.words;
       bytes : take (8 * l.k) l.into ≡ image_bytes (take l.k l.words);
     }

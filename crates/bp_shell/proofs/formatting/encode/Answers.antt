@@ -5,7 +5,7 @@ use Rattle.bp_shell.proofs.FormattingLaws.{all_blocks, block_more}
 use Rattle.bp_shell.proofs.formatting.encode.Goals as goal
 
 pub loop-i-preserved : goal.loop-i-preserved
-loop-i-preserved g c = c.in_ok-extend_from_slice.ensures.items ∙ block_more (image_bytes (current_words (g.R.Region.memory c.args.region.now))) c.loop-i.bytes.items _ c.loop-i.i c.loop-i.invariant c.read_block.ensures
+loop-i-preserved g c = c.in_ok-extend_from_slice.ensures.items ∙ block_more (image_bytes (current_words (g.R.Region.memory c.args.region.now))) c.loop-i.bytes.items _ c.loop-i.i c.loop-i.invariant c.read_blocks.ensures
 
 pub returns : goal.returns
 returns g c =

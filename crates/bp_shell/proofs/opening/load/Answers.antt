@@ -1,4 +1,4 @@
-use Rattle.std.proofs.Common.{arith, refl, rules, lit<, ap, subst, sym, ◌∙◌, ◌*◌, ℕ, List, length}
+use Rattle.std.proofs.Common.{arith, refl, rules, lit<, ap, subst, sym, ◌∙◌, ◌≡◌, ◌*◌, ◌/◌, ℕ, List, length, length-take, take}
 use Rattle.pm_raw.specs.Part.{Part}
 use Rattle.bp_layout.specs.Bytes.{image_bytes}
 use Rattle.bp_session.specs.Files.{AreWordsOf64Bits}
@@ -26,9 +26,11 @@ load_run-requires-clause-loaded g c = loaded_then _ _ _ _ c.loop-first.invariant
 pub loop-first-preserved : goal.loop-first-preserved
 loop-first-preserved g c =
     let here = c.loop-first.invariant in
+    let run = c.min-run.result in
+    let count : length (take (4096 * run) c.loop-first.bytes) / 4096 ≡ run = omega (arith, length-take (4096 * run) c.loop-first.bytes) in
     record {
       within = omega arith;
-      loaded = loaded_before _ _ _ _ here.reads c.in_ok-load_run.ensures.loaded;
+      loaded = loaded_before _ _ _ _ here.reads (rw count at c.in_ok-load_run.ensures.loaded);
       reads = reads_then _ _ _ here.reads c.load_run.ensures.reads;
       faults = search rules;
     }

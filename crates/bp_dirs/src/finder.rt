@@ -1,0 +1,95 @@
+//! What finds names in the directories of an image.
+
+ghost use Rattle.std.specs.Prelude.{◌≡◌, ◌≤◌, length, IfSome, refl, ⊤};
+ghost use Rattle.std.proofs.Common.{◌∙◌};
+ghost use Rattle.bp_layout.specs.Directory.{inumber_at, slot_named};
+ghost use Rattle.bp_layout.specs.Hints.{AreRight};
+ghost use Rattle.bp_layout.specs.Inode.{IsDirectory, root_of, size_of};
+ghost use Rattle.bp_layout.specs.Reached.{IsReached};
+ghost use Rattle.bp_layout.specs.WellFormed.{IsWellFormed};
+ghost use Rattle.bp_layout.specs.Words.{Image};
+ghost use Rattle.bp_limits.specs.Limits.{max_name};
+ghost use Rattle.pm_region.specs.Memory.{current_words};
+ghost use Rattle.bp_dirs.specs.Spots.{found_slot};
+
+use crate::directory::{find_entry, inumber};
+use crate::spot::Found;
+use bp_layout::Hints;
+use bp_tree::Tree;
+use pm_region::Region;
+
+/// What finds names in the directories of an image.
+pub trait Finder {
+    /// Whether what it knows is right of an image.
+    ghost right: { Self → Image → Type 0 };
+
+    /// Whether two of them hold the same references, so that who lent one of these sees what it has become.
+    ghost same_references: { Self → Self → Type 0 };
+
+    /// What [`find_entry`] tells of a directory, which is told by its inode and has this tree.
+    fn find<R: Region>(&mut self, region: &R, dir: u32, tree: Tree, name: &[u8]) -> Option<Found>
+        requires well { IsWellFormed (current_words (R.memory region.now)) }
+        requires reached { IsReached (current_words (R.memory region.now)) dir }
+        requires directory { IsDirectory (current_words (R.memory region.now)) dir }
+        requires root { tree.root ≡ root_of (current_words (R.memory region.now)) dir }
+        requires size { tree.size ≡ size_of (current_words (R.memory region.now)) dir }
+        requires short { length name.now ≤ max_name }
+        requires right { right self.old (current_words (R.memory region.now)) }
+        ensures slot { found_slot result ≡ slot_named (current_words (R.memory region.now)) dir name.now }
+        ensures inumber { IfSome result
+            (λ found. found.inumber ≡ inumber_at (current_words (R.memory region.now)) dir found.slot) }
+        ensures right { right self.new (current_words (R.memory region.now)) }
+        ensures references { same_references self.old self.new };
+
+    ghost same_references_reflexive: { (x : Self) → same_references x x };
+
+    ghost same_references_transitive: { (x y z : Self) → same_references x y → same_references y z
+        → same_references x z };
+}
+
+/// Knows nothing, and scans the directory.
+#[derive(Clone, Copy, Debug)]
+pub struct Scan;
+
+impl Finder for Scan {
+    ghost right = { λ _ _. ⊤ };
+
+    ghost same_references = { λ _ _. ⊤ };
+
+    fn find<R: Region>(&mut self, region: &R, _dir: u32, tree: Tree, name: &[u8]) -> Option<Found> {
+        find_entry(region, tree, name)
+    }
+
+    ghost same_references_reflexive = { λ _. tt };
+
+    ghost same_references_transitive = { λ _ _ _ _ _. tt };
+}
+
+/// Asks for the slot of a name, and where nobody knows it, scans the directory and has the slot learned.
+#[derive(Drop)]
+pub struct Hinted<'a, H> {
+    /// What is asked, and learns.
+    pub hints: &'a mut H,
+}
+
+impl<'a, H: Hints> Finder for Hinted<'a, H> {
+    ghost right = { λ hinted image. AreRight image (H.known hinted.hints.now) };
+
+    ghost same_references = { λ before after. after.hints.ghost_name ≡ before.hints.ghost_name };
+
+    fn find<R: Region>(&mut self, region: &R, dir: u32, tree: Tree, name: &[u8]) -> Option<Found> {
+        if let Some(slot) = self.hints.hint(dir, name) {
+            return Some(Found {
+                slot,
+                inumber: inumber(region, tree, slot),
+            });
+        }
+        let found = find_entry(region, tree, name)?;
+        self.hints.learn(dir, name, found.slot);
+        Some(found)
+    }
+
+    ghost same_references_reflexive = { λ _. refl };
+
+    ghost same_references_transitive = { λ _ _ _ one two. two ∙ one };
+}

@@ -1,0 +1,4 @@
+pub mod Entries
+pub mod Hashes
+pub mod Index
+pub mod Slots

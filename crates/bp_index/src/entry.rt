@@ -1,0 +1,67 @@
+//! One entry of a directory.
+
+ghost use Rattle.std.specs.Prelude.{◌≡◌, ◌≢◌, ℕ, ◌/◌, ◌<◌, ◌≤◌, length, slice_index, IfSome, IfNone};
+ghost use Rattle.bp_dirs.specs.EntryWords.{HasWords};
+ghost use Rattle.bp_index.specs.Entries.{IsEntryAt, IsNotAt};
+ghost use Rattle.bp_layout.specs.Directory.{inumber_in, is_named_in};
+ghost use Rattle.bp_layout.specs.Tree.{IsSound};
+ghost use Rattle.bp_layout.specs.Words.{Image};
+ghost use Rattle.bp_limits.specs.Limits.{entry_size, max_name};
+ghost use Rattle.pm_region.specs.Memory.{current_words};
+
+use bp_dirs::{EntryView, Found, entry};
+use bp_limits::{ENTRY_SIZE, MAX_NAME};
+use bp_tree::Tree;
+use pm_region::Region;
+
+/// The entry in a slot, None where it is empty.
+pub(crate) fn live_entry<R: Region>(region: &R, tree: Tree, slot: u64) -> Option<EntryView<'_>>
+    requires sound { IsSound (current_words (R.memory region.now)) tree.root tree.size }
+    requires live { slot < tree.size / entry_size }
+    ensures words { IfSome result
+        (λ entry. HasWords (current_words (R.memory region.now)) tree.root slot entry.words.now) }
+    ensures some { IfSome result (λ entry. inumber_in (current_words (R.memory region.now)) tree.root slot ≢ 0) }
+    ensures none { IfNone result (inumber_in (current_words (R.memory region.now)) tree.root slot ≡ 0) }
+{
+    let entry = entry(region, tree, slot)?;
+    if entry.inumber() == 0 {
+        return None;
+    }
+    Some(entry)
+}
+
+/// Whether an entry that names an inode has this name.
+fn has_name(entry: &EntryView<'_>, name: &[u8]) -> bool
+    requires some { slice_index entry.now.words.now 0 ≢ 0 }
+    requires short { length name.now ≤ max_name }
+    ensures { (image : Image) (root slot : ℕ) → HasWords image root slot entry.now.words.now
+        → result ≡ is_named_in image root name.now slot }
+{
+    if entry.name_len() != name.len() as u64 {
+        return false;
+    }
+    let mut buffer = [0; MAX_NAME];
+    entry.read_name(&mut buffer) == name
+}
+
+/// The entry in a slot, None where it is not one below the size that names an inode by this name.
+pub(crate) fn find_at<R: Region>(region: &R, tree: Tree, slot: u64, name: &[u8]) -> Option<Found>
+    requires sound { IsSound (current_words (R.memory region.now)) tree.root tree.size }
+    requires short { length name.now ≤ max_name }
+    ensures some { IfSome result
+        (IsEntryAt (current_words (R.memory region.now)) tree.root tree.size name.now slot) }
+    ensures none { IfNone result
+        (IsNotAt (current_words (R.memory region.now)) tree.root tree.size name.now slot) }
+{
+    if slot >= tree.size / ENTRY_SIZE {
+        return None;
+    }
+    let entry = live_entry(region, tree, slot)?;
+    if !has_name(&entry, name) {
+        return None;
+    }
+    Some(Found {
+        slot,
+        inumber: entry.inumber(),
+    })
+}

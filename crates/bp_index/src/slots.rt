@@ -1,0 +1,30 @@
+//! Sets of slots.
+
+ghost use Rattle.std.specs.Prelude.{◌<◌, true, false, length};
+ghost use Rattle.bp_index.specs.Slots.{SetsSlot};
+
+use bp_free::Numbers;
+
+/// What slots are numbers of.
+#[derive(Clone, Copy)]
+pub(crate) struct SlotNumbers;
+
+/// Puts a slot in, which may be in already.
+pub(crate) fn put_in(slots: &mut Numbers<SlotNumbers>, slot: u32)
+    requires { slot < length slots.old }
+    ensures { SetsSlot slots.old slots.new slot true }
+{
+    if !slots.is_free(slot) {
+        slots.give(slot);
+    }
+}
+
+/// Takes a slot out, which need not be in.
+pub(crate) fn take_out(slots: &mut Numbers<SlotNumbers>, slot: u32)
+    requires { slot < length slots.old }
+    ensures { SetsSlot slots.old slots.new slot false }
+{
+    if slots.is_free(slot) {
+        slots.claim(slot);
+    }
+}

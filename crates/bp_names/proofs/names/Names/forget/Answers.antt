@@ -1,0 +1,20 @@
+use Rattle.std.proofs.Common.{sym, ap}
+use Rattle.bp_names.specs.Names.{remembered, known_of}
+use Rattle.bp_names.proofs.Pairs.{long-forgot, short-forgot}
+use Rattle.bp_names.proofs.Maps.{forgot-known, long-known}
+use Rattle.bp_names.proofs.names.Names.forget.Goals as goal
+
+pub returns-then-name-gt-MAX_NAME-clause-forgot : goal.returns-then-name-gt-MAX_NAME-clause-forgot
+returns-then-name-gt-MAX_NAME-clause-forgot c =
+    rw (← c.self.view_is) (ap (λ es. remembered es c.self.inside.cache.cap) (sym (long-forgot (c.args.dir, c.args.name.now) c.self.inside.cache.entries c.self.invariant c.if-name-gt-MAX_NAME.true)))
+
+pub returns-then-name-gt-MAX_NAME-clause-known : goal.returns-then-name-gt-MAX_NAME-clause-known
+returns-then-name-gt-MAX_NAME-clause-known c =
+    long-known (c.args.dir, c.args.name.now) c.self.inside.cache.entries c.self.invariant c.if-name-gt-MAX_NAME.true (known_of c.args.self.now) (ap known_of (sym c.self.view_is))
+
+pub invariant_of-self : goal.invariant_of-self
+invariant_of-self c = rw (c.pop-slot.ensures.entries, c.set.ensures) (short-forgot (c.args.dir, c.args.name.now) c.self.inside.cache.entries c.self.invariant)
+
+pub returns-clause-known : goal.returns-clause-known
+returns-clause-known c =
+    rw (← c.self.view_is, c.pop-slot.ensures.entries, c.set.ensures) (forgot-known (c.args.dir, c.args.name.now) c.self.inside.cache.entries c.len-known.ensures.valid.0)

@@ -1,0 +1,145 @@
+//! Names that are remembered, and walks that are given hints.
+
+ghost use Rattle.std.specs.Prelude.{◌*◌, ◌≡◌, IfOk, vec_len};
+ghost use Rattle.bp_layout.specs.Hints.{AreRight};
+ghost use Rattle.bp_layout.specs.WellFormed.{IsWellFormed};
+ghost use Rattle.bp_layout.specs.Words.{Image};
+ghost use Rattle.bp_limits.specs.Limits.{block_words, min_blocks};
+ghost use Rattle.bp_names.specs.Names.{known_of};
+ghost use Rattle.pm_region.specs.Memory.{current_words};
+
+use crate::images::{DEEP, EMPTY, laid, put};
+use bp_free::{Blocks, Counts, Inodes};
+use bp_layout::{Hints, NoHints};
+use bp_names::Names;
+use bp_path::{FoundEntry, WalkFault, parse, walk, walk_parent_with, walk_with};
+use bp_scan::{Pending, scan};
+use pm_region::ListRegion;
+use std::alloc::{AllocError, Global};
+use std::test::Fail;
+
+/// What `/d/f` finds in the image [`DEEP`].
+const FILE: FoundEntry = FoundEntry {
+    inumber: 3,
+    dir: 2,
+    slot: 0,
+};
+
+/// Counts what it is asked, and what it is to learn.
+#[derive(Drop)]
+struct Counting {
+    names: Names,
+    asked: u32,
+    learned: u32,
+}
+
+impl Hints for Counting {
+    ghost use Rattle.bp_names.specs.Names.{known_of};
+
+    ghost known = { λ hints. known_of hints.names };
+
+    fn hint(&mut self, dir: u32, name: &[u8]) -> Option<u64> {
+        self.asked = self.asked.saturating_add(1);
+        self.names.hint(dir, name)
+    }
+
+    fn learn(&mut self, dir: u32, name: &[u8], slot: u64) -> bool {
+        self.learned = self.learned.saturating_add(1);
+        self.names.learn(dir, name, slot)
+    }
+}
+
+/// The words of a file system of one directory with one file.
+fn deep_words(alloc: Global) -> Result<Vec<u64>, AllocError>
+    ensures { IfOk result (λ words. vec_len words ≡ min_blocks * block_words) }
+{
+    let mut words = laid(alloc, &EMPTY)?;
+    put(&mut words, &DEEP);
+    Ok(words)
+}
+
+/// A file system of one directory with one file.
+fn deep(alloc: Global) -> Result<ListRegion, Fail>
+    ensures { IfOk result (λ region. IsWellFormed (current_words region)) }
+{
+    let words = deep_words(alloc)?;
+    let region = ListRegion::new(alloc, words, 0)?;
+    let mut blocks = Blocks::new(alloc, 8)?;
+    let mut inodes = Inodes::new(alloc, 512)?;
+    let mut pending = Pending::new(alloc, 512)?;
+    let mut counts = Counts::new(alloc, 512)?;
+    scan(&region, &mut blocks, &mut inodes, &mut pending, &mut counts)?;
+    Ok(region)
+}
+
+/// Hints that know nothing yet.
+fn nothing_known(alloc: Global) -> Result<Counting, Fail>
+    ensures { IfOk result (λ hints. (image : Image) → AreRight image (known_of hints.names)) }
+{
+    let names = Names::new(alloc, 4)?;
+    Ok(Counting {
+        names,
+        asked: 0,
+        learned: 0,
+    })
+}
+
+#[test]
+fn a_second_walk_asks_two_hints_and_learns_nothing(rt: HostRuntime) -> Result<(), Fail> {
+    let region = deep(rt.alloc())?;
+    let mut hints = nothing_known(rt.alloc())?;
+    let path = parse(b"/d/f")?;
+    assert_eq!(rt; walk_with(&region, &path, &mut hints), Ok(FILE));
+    assert_eq!(rt; (hints.asked, hints.learned), (2, 2));
+    assert_eq!(rt; walk_with(&region, &path, &mut hints), Ok(FILE));
+    assert_eq!(rt; (hints.asked, hints.learned), (4, 2));
+    assert_eq!(rt; walk_parent_with(&region, &path, &mut hints), Ok(2));
+    assert_eq!(rt; (hints.asked, hints.learned), (5, 2));
+    Ok(())
+}
+
+/// a name that is missing, and a name below a file, of which nobody is asked
+#[test]
+fn what_is_not_found_is_not_learned(rt: HostRuntime) -> Result<(), Fail> {
+    let region = deep(rt.alloc())?;
+    let mut hints = nothing_known(rt.alloc())?;
+    let path = parse(b"/d/x")?;
+    assert_eq!(rt;
+        walk_with(&region, &path, &mut hints),
+        Err(WalkFault::NotFound)
+    );
+    assert_eq!(rt; (hints.asked, hints.learned), (2, 1));
+    let path = parse(b"/d/f/x")?;
+    assert_eq!(rt;
+        walk_with(&region, &path, &mut hints),
+        Err(WalkFault::NotDir)
+    );
+    assert_eq!(rt; (hints.asked, hints.learned), (4, 2));
+    Ok(())
+}
+
+#[test]
+fn who_knows_nothing_is_led_by_the_directories(rt: HostRuntime) -> Result<(), Fail> {
+    let region = deep(rt.alloc())?;
+    let path = parse(b"/d/f")?;
+    assert_eq!(rt; walk(&region, &path), Ok(FILE));
+    assert_eq!(rt; walk_with(&region, &path, &mut NoHints), Ok(FILE));
+    Ok(())
+}
+
+#[test]
+fn the_oldest_name_goes(rt: HostRuntime) -> Result<(), Fail> {
+    let mut names = Names::new(rt.alloc(), 2)?;
+    assert!(rt; names.learn(1, b"a", 0));
+    assert!(rt; names.learn(1, b"b", 1));
+    assert!(rt; names.learn(1, b"c", 2));
+    assert_eq!(rt; names.hint(1, b"a"), None);
+    assert_eq!(rt; names.hint(1, b"b"), Some(1));
+    assert_eq!(rt; names.hint(1, b"c"), Some(2));
+    assert_eq!(rt; names.hint(2, b"c"), None);
+    names.forget(1, b"b");
+    assert_eq!(rt; names.hint(1, b"b"), None);
+    names.forget_all();
+    assert_eq!(rt; names.hint(1, b"c"), None);
+    Ok(())
+}

@@ -1,0 +1,24 @@
+use Rattle.std.proofs.Common.{arith, ap, sym, ◌∙◌, ◌≡◌, ◌*◌, ◌+◌, ◌/◌, ◌-◌, take, drop, length}
+use Rattle.std.proofs.lemmas.List.{length-drop, length-take-le}
+use Rattle.bp_layout.specs.Bytes.{image_bytes}
+use Rattle.pm_region.specs.Memory.{current_words}
+use Rattle.bp_session.proofs.BlockLaws.{blocks-image_bytes}
+use Rattle.bp_session.proofs.SavingLaws.{size-current}
+use Rattle.bp_session.proofs.blocks.read_blocks.Goals as goal
+
+pub encode-requires : goal.encode-requires
+encode-requires g c =
+    let memory = g.R.Region.memory c.args.region.now in
+    let rest = drop (512 * c.args.first) (current_words memory) in
+    let count = length c.args.into.now / 8 in
+    let width : (512 * c.args.first + count) - 512 * c.args.first ≡ count = omega arith in
+    let long = ap length (c.load_words.ensures ∙ ap (λ n. take n rest) width)
+    ∙ length-take-le count rest (omega (arith, length-drop (512 * c.args.first) (current_words memory), size-current memory, c.requires.inside)) in
+    omega (arith, long, c.requires.whole)
+
+pub returns : goal.returns
+returns g c =
+    let words = current_words (g.R.Region.memory c.args.region.now) in
+    let count = length c.args.into.now / 8 in
+    let width : (512 * c.args.first + count) - 512 * c.args.first ≡ 512 * (length c.args.into.now / 4096) = omega (arith, c.requires.whole) in
+    c.encode.ensures ∙ ap image_bytes (c.load_words.ensures ∙ ap (λ n. take n (drop (512 * c.args.first) words)) width) ∙ sym (blocks-image_bytes words c.args.first (length c.args.into.now / 4096))

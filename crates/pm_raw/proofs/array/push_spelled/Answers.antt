@@ -1,0 +1,31 @@
+use Rattle.std.proofs.Common.{arith, ap, sym, ◌∙◌, ◌≡◌, ℕ, ◌+◌, ◌-◌, ◌*◌, List, [], ◌∷◌, ◌++◌, length, take, drop, length-append}
+use Rattle.std.proofs.lemmas.List.{append_assoc}
+use Rattle.pm_words.specs.Bytes.{word_of}
+use Rattle.pm_raw.specs.Spelled.{spelled_words}
+use Rattle.pm_raw.specs.declared.cells.Cells.{Cells}
+use Rattle.pm_raw.proofs.SpelledLaws.{length-spelled_words, spelled_more}
+use Rattle.pm_raw.proofs.array.push_spelled.Goals as goal
+
+pub push-requires : goal.push-requires
+push-requires c =
+    let loop = c.loop-k.invariant.cells in
+    let front = c.args.cells.now.items in
+    let words = spelled_words c.loop-k.k c.args.bytes.now in (
+      c.requires.at ∙ sym (ap (λ (cells : Cells ℕ). cells.at) loop),
+      omega (arith, ap (λ (cells : Cells ℕ). length cells.items) loop, length-append front words, length-spelled_words c.loop-k.k c.args.bytes.now, c.requires.count),
+      omega (arith, ap (λ (cells : Cells ℕ). cells.count) loop, c.requires.room, c.loop-k-test.true),
+    )
+
+pub loop-k-preserved : goal.loop-k-preserved
+loop-k-preserved c =
+    let k = c.loop-k.k in
+    let bytes = c.args.bytes.now in
+    let front = c.args.cells.now.items in
+    let width : (8 * k + 8) - 8 * k ≡ 8 = omega arith in
+    let word : c.read_word.result ≡ word_of (take 8 (drop (8 * k) bytes)) =
+    c.read_word.ensures ∙ ap word_of (c.copy_from_slice.ensures.after ∙ ap (λ n. take n (drop (8 * k) bytes)) width) in
+    let items = ap (λ w. (front ++ spelled_words k bytes) ++ w ∷ []) word ∙ append_assoc front (spelled_words k bytes) (word_of (take 8 (drop (8 * k) bytes)) ∷ []) ∙ ap (λ l. front ++ l) (sym (spelled_more k bytes)) in
+    record {
+      cells = c.push.ensures ∙ ap (λ (cells : Cells ℕ). record cells { items = cells.items ++ c.read_word.result ∷ [] }) c.loop-k.invariant.cells
+          ∙ ap (λ (items : List ℕ). record c.args.cells.now { items = items }) items;
+    }

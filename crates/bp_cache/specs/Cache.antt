@@ -1,0 +1,32 @@
+-- When what a volume remembers of its directories is right.
+use Rattle.std.specs.Prelude.{ℕ, ◌×◌, ⊤, List, Contains}
+use Rattle.bp_cache.specs.declared.cache.DirectoryCache.{DirectoryCache}
+use Rattle.bp_cache.specs.declared.held.Held.{Held}
+use Rattle.bp_cache.specs.declared.held.Held.TheVariants.{Searched, Indexed, Unindexed}
+use Rattle.bp_index.specs.Index.{IsIndexOf}
+use Rattle.bp_index.specs.declared.index.Index.{Index}
+use Rattle.bp_layout.specs.Hints.{AreRight}
+use Rattle.bp_layout.specs.Inode.{IsDirectory, root_of, size_of}
+use Rattle.bp_layout.specs.Reached.{IsReached}
+use Rattle.bp_layout.specs.Words.{Image}
+use Rattle.bp_names.specs.Names.{known_of}
+
+-- where inode i is a directory that is reached, the index is that of its entries; it may be gone
+abbrev pub IsIndexIn : Image → ℕ → Index → Type 0
+IsIndexIn image i index = IsReached image i → IsDirectory image i →
+    IsIndexOf image (root_of image i) (size_of image i) index
+
+-- what is held of directory i is right
+abbrev pub IsHeldOf : Image → ℕ → Held → Type 0
+IsHeldOf image i (Searched times) = ⊤
+IsHeldOf image i (Indexed index) = IsIndexIn image i index
+IsHeldOf image i Unindexed = ⊤
+
+-- so is what is held of each of these directories
+abbrev pub AreHeldOf : Image → List (ℕ × Held) → Type 0
+AreHeldOf image directories = (i : ℕ) (held : Held) → Contains directories (i, held) → IsHeldOf image i held
+
+-- The names that are known have their slots, and what is held of directories is right.
+pub record IsCacheOf (image : Image) (cache : DirectoryCache) : Type 0 where
+  pub names : AreRight image (known_of cache.names)
+  pub directories : AreHeldOf image cache.directories.entries

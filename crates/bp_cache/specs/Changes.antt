@@ -1,0 +1,66 @@
+-- What changes of an image do to names in directories, as a cache of them has to know.
+use Rattle.std.specs.Prelude.{◌≡◌, ◌≢◌, ℕ, ◌×◌, ◌<◌}
+use Rattle.bp_cache.specs.declared.name_at.NameAt.{NameAt}
+use Rattle.bp_changes.specs.KeepsEntries.{NoSlot, OneSlot, TwoSlots}
+use Rattle.bp_changes.specs.KeepsSlots.{KeepsSlots, KeepsOther, KeepsOthers}
+use Rattle.bp_index.specs.Entries.{HasName, KeepsName}
+use Rattle.bp_layout.specs.Directory.{entry_count, inumber_at}
+use Rattle.bp_layout.specs.Hints.{NameIn}
+use Rattle.bp_layout.specs.Inode.{IsDirectory, root_of}
+use Rattle.bp_layout.specs.Reached.{IsReached}
+use Rattle.bp_layout.specs.Words.{Image}
+
+-- ---- entries
+
+-- The first image had this slot of directory i, which it reached, and the entry there has the name that it had, or is
+-- empty as it was.
+pub record WasNamed (old new : Image) (i slot : ℕ) : Type 0 where
+  pub reached : IsReached old i
+  pub directory : IsDirectory old i
+  pub in_size : slot < entry_count old i
+  pub keeps : KeepsName old (root_of old i) new (root_of new i) slot
+
+-- each entry of a directory that the second image reaches is such a one, but those that are touched
+abbrev pub KeepsNamed : Image → Image → (ℕ → ℕ → Type 0) → Type 0
+KeepsNamed old new IsTouched = (i slot : ℕ) → IsReached new i → IsDirectory new i → slot < entry_count new i →
+    (IsTouched i slot → ⊥) → WasNamed old new i slot
+
+-- the directory is reached, and its entry in the slot has the name
+pub record StandsAt (image : Image) (at : NameAt) : Type 0 where
+  pub reached : IsReached image at.dir
+  pub directory : IsDirectory image at.dir
+  pub in_size : at.slot < entry_count image at.dir
+  pub named : HasName image (root_of image at.dir) at.slot at.name.now
+
+-- the name in its directory
+abbrev pub name_in : NameAt → NameIn
+name_in at = (at.dir, at.name.now)
+
+-- ---- changes
+
+-- no name comes, goes or gets another slot
+pub record KeepsAllNames (old new : Image) : Type 0 where
+  pub entries : KeepsNamed old new NoSlot
+  pub slots : KeepsSlots old new
+
+-- the name comes to its slot
+pub record NameEnters (old new : Image) (at : NameAt) : Type 0 where
+  pub entries : KeepsNamed old new (OneSlot at.dir at.slot)
+  pub stands : StandsAt new at
+  pub slots : KeepsSlots old new
+
+-- the name leaves its slot, which is empty then
+pub record NameLeaves (old new : Image) (at : NameAt) : Type 0 where
+  pub entries : KeepsNamed old new (OneSlot at.dir at.slot)
+  pub stood : StandsAt old at
+  pub empty : inumber_at new at.dir at.slot ≡ 0
+  pub slots : KeepsOther old new (name_in at)
+
+-- The name leaves its slot, and another comes to its own: in another directory, or as the new name of the same entry.
+pub record NameMoves (old new : Image) (from to : NameAt) : Type 0 where
+  pub entries : KeepsNamed old new (TwoSlots from.dir from.slot to.dir to.slot)
+  pub stood : StandsAt old from
+  pub stands : StandsAt new to
+  pub here : from.dir ≡ to.dir → from.slot ≡ to.slot
+  pub empty : from.dir ≢ to.dir → inumber_at new from.dir from.slot ≡ 0
+  pub slots : KeepsOthers old new (name_in from) (name_in to)

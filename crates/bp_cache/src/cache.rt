@@ -1,0 +1,203 @@
+//! The cache of a volume's directories.
+
+ghost use Rattle.std.specs.Prelude.{◌≡◌, ◌≤◌, length, IfOk, IfSome, ⊤};
+ghost use Rattle.bp_cache.specs.Cache.{IsCacheOf};
+ghost use Rattle.bp_cache.specs.Changes.{NameEnters, NameLeaves, NameMoves};
+ghost use Rattle.bp_dirs.specs.Spots.{FreeIs, named_slot};
+ghost use Rattle.bp_layout.specs.Directory.{empty_slot, slot_named};
+ghost use Rattle.bp_layout.specs.Inode.{IsDirectory, root_of, size_of};
+ghost use Rattle.bp_layout.specs.Reached.{IsReached};
+ghost use Rattle.bp_layout.specs.WellFormed.{IsWellFormed};
+ghost use Rattle.bp_layout.specs.Words.{Image};
+ghost use Rattle.bp_limits.specs.Limits.{max_name};
+ghost use Rattle.pm_region.specs.Memory.{current_words};
+
+use crate::held::Held;
+use crate::name_at::NameAt;
+use bp_dirs::{Finder, Found, Spot, find_entry, find_or_free, inumber};
+use bp_index::Index;
+use bp_layout::Hints;
+use bp_limits::{BLOCK_ENTRIES, BLOCK_SIZE, ENTRY_SIZE};
+use bp_names::Names;
+use bp_tree::Tree;
+use lru::LruCache;
+use pm_region::Region;
+use std::alloc::{AllocError, Global};
+use std::num::NonZeroUsize;
+
+/// How many names are known at most.
+const KNOWN_NAMES: usize = 256;
+
+/// Of how many large directories something is held at most.
+const HELD_DIRECTORIES: usize = 256;
+
+/// The size in bytes that a directory of 64 entries has. One of no more entries is small: it gets no index.
+const SMALL_SIZE: u64 = 64 * ENTRY_SIZE;
+
+/// How often a large directory is searched before an index is made of it, which takes about as long as so many searches.
+const SEARCHES: u32 = 32;
+
+/// Where the names stand that were found last, and the indexes of large directories that are searched often.
+///
+/// It is right of an image or not (`IsCacheOf`): each change of the names in directories is told to it, by [`enter`], [`leave`]
+/// or [`rename`], and it is right of the image after the change then. Where it finds no memory it remembers less.
+///
+/// [`enter`]: DirectoryCache::enter
+/// [`leave`]: DirectoryCache::leave
+/// [`rename`]: DirectoryCache::rename
+#[derive(Drop)]
+pub struct DirectoryCache {
+    // where names stand in small directories
+    names: Names,
+    // what is held of large ones, by their inodes
+    directories: LruCache<u32, Held>,
+    alloc: Global,
+}
+
+impl DirectoryCache {
+    /// Remembers nothing yet.
+    ///
+    /// # Errors
+    ///
+    /// `AllocError` where there is no memory for it.
+    pub fn new(alloc: Global) -> Result<DirectoryCache, AllocError>
+        ensures { IfOk result (λ cache. (image : Image) → IsCacheOf image cache) }
+    {
+        let room = NonZeroUsize::new(HELD_DIRECTORIES).unwrap();
+        Ok(DirectoryCache {
+            names: Names::new(alloc, KNOWN_NAMES)?,
+            directories: LruCache::sparse(alloc, room)?,
+            alloc,
+        })
+    }
+
+    /// What [`Finder::find`] tells of a small directory. What a search finds in its first block is not learned, since a
+    /// search reads that block first.
+    fn find_small<R: Region>(
+        &mut self,
+        region: &R,
+        dir: u32,
+        tree: Tree,
+        name: &[u8],
+    ) -> Option<Found> {
+        if tree.size <= BLOCK_SIZE {
+            return find_entry(region, tree, name);
+        }
+        if let Some(slot) = self.names.hint(dir, name) {
+            return Some(Found {
+                slot,
+                inumber: inumber(region, tree, slot),
+            });
+        }
+        let found = find_entry(region, tree, name)?;
+        if found.slot >= BLOCK_ENTRIES {
+            self.names.learn(dir, name, found.slot);
+        }
+        Some(found)
+    }
+
+    /// Counts a search of a large directory that has no index, and makes one of it where it was searched often.
+    fn count_search<R: Region>(&mut self, region: &R, dir: u32, tree: Tree) {
+        let held = match self.directories.get(&dir) {
+            None => Held::Searched(1),
+            Some(Held::Searched(times)) if *times < SEARCHES => Held::Searched(*times + 1),
+            Some(Held::Searched(_)) => match Index::of(self.alloc, region, tree) {
+                Some(index) => Held::Indexed(index),
+                None => Held::Unindexed,
+            },
+            Some(_) => return,
+        };
+        let _ = self.directories.put(dir, held);
+    }
+
+    /// What [`bp_dirs::find_or_free`] tells of a directory, which is told by its inode and has this tree.
+    pub fn find_or_free<R: Region>(&mut self, region: &R, dir: u32, tree: Tree, name: &[u8]) -> Spot
+        requires well { IsWellFormed (current_words (R.memory region.now)) }
+        requires reached { IsReached (current_words (R.memory region.now)) dir }
+        requires directory { IsDirectory (current_words (R.memory region.now)) dir }
+        requires root { tree.root ≡ root_of (current_words (R.memory region.now)) dir }
+        requires size { tree.size ≡ size_of (current_words (R.memory region.now)) dir }
+        requires short { length name.now ≤ max_name }
+        requires right { IsCacheOf (current_words (R.memory region.now)) self.old }
+        ensures named { named_slot result ≡ slot_named (current_words (R.memory region.now)) dir name.now }
+        ensures free { FreeIs result (empty_slot (current_words (R.memory region.now)) dir) }
+        ensures right { IsCacheOf (current_words (R.memory region.now)) self.new }
+    {
+        if tree.size > SMALL_SIZE {
+            if let Some(Held::Indexed(index)) = self.directories.get_mut(&dir) {
+                return index.find_or_free(region, tree, name);
+            }
+            self.count_search(region, dir, tree);
+        }
+        find_or_free(region, tree, name)
+    }
+
+    /// A name comes to its slot.
+    pub fn enter(&mut self, at: NameAt<'_>)
+        ensures { (old new : Image) → IsCacheOf old self.old → NameEnters old new at → IsCacheOf new self.new }
+    {
+        let is_right = match self.directories.peek_mut(&at.dir) {
+            Some(Held::Indexed(index)) => index.enter(at.name, at.slot),
+            _ => true,
+        };
+        if !is_right {
+            self.drop_directory(at.dir);
+        }
+    }
+
+    /// A name leaves its slot.
+    pub fn leave(&mut self, at: NameAt<'_>)
+        ensures { (old new : Image) → IsCacheOf old self.old → NameLeaves old new at → IsCacheOf new self.new }
+    {
+        self.names.forget(at.dir, at.name);
+        if let Some(Held::Indexed(index)) = self.directories.peek_mut(&at.dir) {
+            index.leave(at.name, at.slot);
+        }
+    }
+
+    /// A name leaves its slot, and another comes to its own.
+    pub fn rename(&mut self, from: NameAt<'_>, to: NameAt<'_>)
+        ensures { (old new : Image) → IsCacheOf old self.old → NameMoves old new from to → IsCacheOf new self.new }
+    {
+        self.leave(from);
+        self.names.forget(to.dir, to.name);
+        self.enter(to);
+    }
+
+    /// Forgets what is held of a directory, which may be gone.
+    pub fn drop_directory(&mut self, dir: u32)
+        ensures { (image : Image) → IsCacheOf image self.old → IsCacheOf image self.new }
+    {
+        let _held = self.directories.pop(&dir);
+    }
+
+    /// Forgets all.
+    pub fn clear(&mut self)
+        ensures { (image : Image) → IsCacheOf image self.new }
+    {
+        self.names.forget_all();
+        self.directories.clear();
+    }
+}
+
+impl Finder for DirectoryCache {
+    ghost right = { λ cache image. IsCacheOf image cache };
+
+    ghost same_references = { λ _ _. ⊤ };
+
+    /// Where a name stands in a directory: by what is known, by the directory's index, or by a scan.
+    fn find<R: Region>(&mut self, region: &R, dir: u32, tree: Tree, name: &[u8]) -> Option<Found> {
+        if tree.size <= SMALL_SIZE {
+            return self.find_small(region, dir, tree, name);
+        }
+        if let Some(Held::Indexed(index)) = self.directories.get_mut(&dir) {
+            return index.find_entry(region, tree, name);
+        }
+        self.count_search(region, dir, tree);
+        find_entry(region, tree, name)
+    }
+
+    ghost same_references_reflexive = { λ _. tt };
+
+    ghost same_references_transitive = { λ _ _ _ _ _. tt };
+}

@@ -56,6 +56,13 @@ pub record NameLeaves (old new : Image) (at : NameAt) : Type 0 where
   pub empty : inumber_at new at.dir at.slot ≡ 0
   pub slots : KeepsOther old new (name_in at)
 
+-- The name leaves its slot, which is empty then, and the other stays in its own, where another inode has it now.
+pub record NameReplaces (old new : Image) (from to : NameAt) : Type 0 where
+  pub entries : KeepsNamed old new (OneSlot from.dir from.slot)
+  pub stood : StandsAt old from
+  pub empty : inumber_at new from.dir from.slot ≡ 0
+  pub slots : KeepsOthers old new (name_in from) (name_in to)
+
 -- The name leaves its slot, and another comes to its own: in another directory, or as the new name of the same entry.
 pub record NameMoves (old new : Image) (from to : NameAt) : Type 0 where
   pub entries : KeepsNamed old new (TwoSlots from.dir from.slot to.dir to.slot)

@@ -2,7 +2,7 @@
 
 ghost use Rattle.std.specs.Prelude.{◌≡◌, ◌≤◌, length, IfOk, IfSome, ⊤};
 ghost use Rattle.bp_cache.specs.Cache.{IsCacheOf};
-ghost use Rattle.bp_cache.specs.Changes.{NameEnters, NameLeaves, NameMoves};
+ghost use Rattle.bp_cache.specs.Changes.{NameEnters, NameLeaves, NameMoves, NameReplaces};
 ghost use Rattle.bp_dirs.specs.Spots.{FreeIs, named_slot};
 ghost use Rattle.bp_layout.specs.Directory.{empty_slot, slot_named};
 ghost use Rattle.bp_layout.specs.Inode.{IsDirectory, root_of, size_of};
@@ -150,18 +150,37 @@ impl DirectoryCache {
         ensures { (old new : Image) → IsCacheOf old self.old → NameLeaves old new at → IsCacheOf new self.new }
     {
         self.names.forget(at.dir, at.name);
+        self.leave_index(at);
+    }
+
+    /// Tells the index of a directory, if there is one, that a name leaves its slot.
+    fn leave_index(&mut self, at: NameAt<'_>) {
         if let Some(Held::Indexed(index)) = self.directories.peek_mut(&at.dir) {
             index.leave(at.name, at.slot);
         }
+    }
+
+    /// Forgets two names.
+    fn forget_both(&mut self, one: NameAt<'_>, other: NameAt<'_>) {
+        self.names.forget(one.dir, one.name);
+        self.names.forget(other.dir, other.name);
     }
 
     /// A name leaves its slot, and another comes to its own.
     pub fn rename(&mut self, from: NameAt<'_>, to: NameAt<'_>)
         ensures { (old new : Image) → IsCacheOf old self.old → NameMoves old new from to → IsCacheOf new self.new }
     {
-        self.leave(from);
-        self.names.forget(to.dir, to.name);
+        self.leave_index(from);
+        self.forget_both(from, to);
         self.enter(to);
+    }
+
+    /// A name leaves its slot for one that is there: the inode that had that one has it no more.
+    pub fn replace(&mut self, from: NameAt<'_>, to: NameAt<'_>)
+        ensures { (old new : Image) → IsCacheOf old self.old → NameReplaces old new from to → IsCacheOf new self.new }
+    {
+        self.leave_index(from);
+        self.forget_both(from, to);
     }
 
     /// Forgets what is held of a directory, which may be gone.

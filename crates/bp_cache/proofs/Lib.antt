@@ -1,0 +1,4 @@
+pub mod Lists
+pub mod IndexLaws
+pub mod HeldLaws
+pub mod NameLaws

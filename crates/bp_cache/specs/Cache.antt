@@ -1,5 +1,5 @@
 -- When what a volume remembers of its directories is right.
-use Rattle.std.specs.Prelude.{ℕ, ◌×◌, ⊤, List, Contains}
+use Rattle.std.specs.Prelude.{ℕ, ⊤, List, Contains}
 use Rattle.bp_cache.specs.declared.cache.DirectoryCache.{DirectoryCache}
 use Rattle.bp_cache.specs.declared.held.Held.{Held}
 use Rattle.bp_cache.specs.declared.held.Held.TheVariants.{Searched, Indexed, Unindexed}

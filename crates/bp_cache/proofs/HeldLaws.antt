@@ -13,16 +13,9 @@ use Rattle.bp_cache.specs.declared.held.Held.TheVariants.{Searched, Indexed, Uni
 use Rattle.bp_cache.specs.declared.name_at.NameAt.{NameAt}
 use Rattle.bp_cache.specs.Cache.{AreHeldOf, IsHeldOf, IsIndexIn}
 use Rattle.bp_cache.specs.Changes.{KeepsNamed, NameEnters, NameLeaves, NameMoves, NameReplaces, StandsAt, WasNamed}
-use Rattle.bp_cache.specs.Held.{Becomes, ChangesOne}
+use Rattle.bp_cache.specs.Held.{Becomes, ChangesOne, Enters, Leaves}
 use Rattle.bp_cache.proofs.IndexLaws.{KeepsBut, index_kept, index_entered, index_left, index_respelled}
 use Rattle.bp_cache.proofs.Lists.{Directories}
-
--- what the calls tell what is held
-abbrev pub Enters : NameAt → Held → Held → Type 0
-Enters at = Becomes (λ before after. EntersSlot before after at.name.now at.slot)
-
-abbrev pub Leaves : NameAt → Held → Held → Type 0
-Leaves at = Becomes (λ before after. LeavesSlot before after at.name.now at.slot)
 
 -- ---- what is held of one directory
 

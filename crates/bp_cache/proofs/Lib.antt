@@ -2,3 +2,4 @@ pub mod Lists
 pub mod IndexLaws
 pub mod HeldLaws
 pub mod NameLaws
+pub mod CacheLaws

@@ -38,55 +38,58 @@ module _ (image : Image) where
       rw (eqb-true dir there.0 there.2) (right there.0 held there.1)
 
   pub held_set : (dir : ℕ) (es : Directories) (value : Held) → AreHeldOf image es → IsHeldOf image dir value → AreHeldOf image (set_value (nat_eq dir) es value)
-  held_set dir [] value right is i held has = right i held has
-  held_set dir (e ∷ es) value right is i held = go (nat_eq dir e.0) refl
+  held_set dir [] value right is i held = λ has. right i held has
+  held_set dir (e ∷ es) value right is i held =
+      let rest : AreHeldOf image es = λ j other has. right j other (Contains-tail e es (j, other) has) in
+      go (rest i held) (held_set dir es value rest is i held) (nat_eq dir e.0) refl
     where
-      rest : AreHeldOf image es
-      rest j other has = right j other (Contains-tail e es (j, other) has)
-
-      go : (b : Bool) → nat_eq dir e.0 ≡ b → Contains (set_value (nat_eq dir) (e ∷ es) value) (i, held) → IsHeldOf image i held
-      go true at has = elim (Contains-cons (e.0, value) es (i, held) (rw at at has)) [
+      go : (Contains es (i, held) → IsHeldOf image i held) → (Contains (set_value (nat_eq dir) es value) (i, held) → IsHeldOf image i held) →
+          (b : Bool) → nat_eq dir e.0 ≡ b → Contains (set_value (nat_eq dir) (e ∷ es) value) (i, held) → IsHeldOf image i held
+      go behind on true at has = elim (Contains-cons (e.0, value) es (i, held) (rw at at has)) [
         | inl same ↦
             let key : dir ≡ i = eqb-true dir e.0 at ∙ ap (λ p. p.0) same in
             let here : value ≡ held = ap (λ p. p.1) same in
             subst (λ h. IsHeldOf image i h) here (subst (λ j. IsHeldOf image j value) key is)
-        | inr later ↦ rest i held later
+        | inr later ↦ behind later
       ]
-      go false at has = elim (Contains-cons e (set_value (nat_eq dir) es value) (i, held) (rw at at has)) [
+      go behind on false at has = elim (Contains-cons e (set_value (nat_eq dir) es value) (i, held) (rw at at has)) [
         | inl same ↦ right i held (subst (Contains (e ∷ es)) same (Contains-head e es))
-        | inr later ↦ held_set dir es value rest is i held later
+        | inr later ↦ on later
       ]
 
 -- ---- what one directory becomes
 
+-- what was held of directory i, where this is held now
+abbrev Was : ℕ → (Held → Held → Type 0) → Directories → ℕ → Held → Type 0
+Was dir Step es i held = (before : Held) × Contains es (i, before) × (i ≢ dir → held ≡ before) × (i ≡ dir → Step before held)
+
+not_held : {dir : ℕ} (es : Directories) → lookup (nat_eq dir) es ≡ None → (i : ℕ) (held : Held) → Contains es (i, held) → i ≡ dir → ⊥
+not_held [] none i held has same = Contains-nil (i, held) has
+not_held {dir} (e ∷ es) none i held has same = go (λ less. not_held es less i held) (nat_eq dir e.0) refl
+  where
+    go : (lookup (nat_eq dir) es ≡ None → Contains es (i, held) → i ≡ dir → ⊥) → (b : Bool) → nat_eq dir e.0 ≡ b → ⊥
+    go on true at = let never : ◌≡◌ {A = Option Held} (Some e.1) None = rw at at none in cc
+    go on false at = elim (Contains-cons e es (i, held) has) [
+      | inl here ↦ both_ways (nat_eq dir e.0) at (eq-eqb _ _ (sym same ∙ ap (λ p. p.0) (sym here)))
+      | inr later ↦ on (rw at at none) later same
+    ]
+
 module _ (dir : ℕ) (Step : Held → Held → Type 0) where
   -- where nothing is held of the directory
   pub none_changes : (es : Directories) → lookup (nat_eq dir) es ≡ None → ChangesOne dir Step es es
-  none_changes es none i held has = (held, has, λ _. refl, λ same. absurd (apart es none i held has same))
-    where
-      apart : (es : Directories) → lookup (nat_eq dir) es ≡ None → (i : ℕ) (held : Held) → Contains es (i, held) → i ≡ dir → ⊥
-      apart [] none i held has same = Contains-nil (i, held) has
-      apart (e ∷ es) none i held has same = go (nat_eq dir e.0) refl
-        where
-          go : (b : Bool) → nat_eq dir e.0 ≡ b → ⊥
-          go true at = let never : ◌≡◌ {A = Option Held} (Some e.1) None = rw at at none in cc
-          go false at = elim (Contains-cons e es (i, held) has) [
-            | inl here ↦ both_ways (nat_eq dir e.0) at (eq-eqb _ _ (sym same ∙ ap (λ p. p.0) (sym here)))
-            | inr later ↦ apart es (rw at at none) i held later same
-          ]
+  none_changes es none i held has = (held, has, λ _. refl, λ same. absurd (not_held es none i held has same))
 
   -- where another value is put in its place
   pub set_changes : (es : Directories) (was value : Held) → IsDistinct nat_eq (keys_of es) → lookup (nat_eq dir) es ≡ Some was → Step was value →
       ChangesOne dir Step es (set_value (nat_eq dir) es value)
   unfolding IsDistinct
-  set_changes [] was value distinct some step i held has = let never : ◌≡◌ {A = Option Held} None (Some was) = some in absurd (cc)
-  set_changes (e ∷ es) was value distinct some step i held = go (nat_eq dir e.0) refl
+  set_changes [] was value distinct some step i held = λ has. let never : ◌≡◌ {A = Option Held} None (Some was) = some in absurd (cc)
+  set_changes (e ∷ es) was value distinct some step i held =
+      go (λ found has. set_changes es was value distinct.1 found step i held has) (nat_eq dir e.0) refl
     where
-      Was : Type 0
-      Was = (before : Held) × Contains (e ∷ es) (i, before) × (i ≢ dir → held ≡ before) × (i ≡ dir → Step before held)
-
-      go : (b : Bool) → nat_eq dir e.0 ≡ b → Contains (set_value (nat_eq dir) (e ∷ es) value) (i, held) → Was
-      go true at has = elim (Contains-cons (e.0, value) es (i, held) (rw at at has)) [
+      go : (lookup (nat_eq dir) es ≡ Some was → Contains (set_value (nat_eq dir) es value) (i, held) → Was dir Step es i held) →
+          (b : Bool) → nat_eq dir e.0 ≡ b → Contains (set_value (nat_eq dir) (e ∷ es) value) (i, held) → Was dir Step (e ∷ es) i held
+      go on true at has = elim (Contains-cons (e.0, value) es (i, held) (rw at at has)) [
         | inl same ↦
             let key : e.0 ≡ i = ap (λ p. p.0) same in
             let here : value ≡ held = ap (λ p. p.1) same in
@@ -105,7 +108,7 @@ module _ (dir : ℕ) (Step : Held → Held → Type 0) where
               (eq-eqb _ _ (sym (eqb-true dir e.0 at) ∙ sym same))),
         )
       ]
-      go false at has = elim (Contains-cons e (set_value (nat_eq dir) es value) (i, held) (rw at at has)) [
+      go on false at has = elim (Contains-cons e (set_value (nat_eq dir) es value) (i, held) (rw at at has)) [
         | inl same ↦ (
           held,
           subst (Contains (e ∷ es)) same (Contains-head e es),
@@ -113,6 +116,6 @@ module _ (dir : ℕ) (Step : Held → Held → Type 0) where
           λ here. absurd (both_ways (nat_eq dir e.0) at (eq-eqb _ _ (sym here ∙ ap (λ p. p.0) (sym same)))),
         )
         | inr later ↦
-            let was_there = set_changes es was value distinct.1 (rw at at some) step i held later in
+            let was_there = on (rw at at some) later in
             (was_there.0, Contains-tail e es (i, was_there.0) was_there.1, was_there.2, was_there.3)
       ]

@@ -1,11 +1,10 @@
 //! The cache of a volume's directories.
 
 ghost use Rattle.std.specs.Prelude.{◌≡◌, ◌≤◌, length, IfOk, IfSome, ⊤};
-ghost use Rattle.bp_cache.specs.Cache.{IsCacheOf};
+ghost use Rattle.bp_cache.specs.Cache.{HasTree, IsCacheOf};
 ghost use Rattle.bp_cache.specs.Changes.{NameEnters, NameLeaves, NameMoves, NameReplaces, name_in};
-ghost use Rattle.bp_cache.specs.Held.{Becomes, ChangesOne, ForgetsBoth};
+ghost use Rattle.bp_cache.specs.Held.{ChangesOne, Enters, ForgetsBoth, Leaves};
 ghost use Rattle.bp_dirs.specs.Spots.{FreeIs, found_slot, named_slot};
-ghost use Rattle.bp_index.specs.Index.{EntersSlot, LeavesSlot};
 ghost use Rattle.bp_layout.specs.Directory.{empty_slot, inumber_at, slot_named};
 ghost use Rattle.bp_layout.specs.Inode.{IsDirectory, root_of, size_of};
 ghost use Rattle.bp_layout.specs.Reached.{IsReached};
@@ -79,11 +78,7 @@ impl DirectoryCache {
         tree: Tree,
         name: &[u8],
     ) -> Option<Found>
-        requires well { IsWellFormed (current_words (R.memory region.now)) }
-        requires reached { IsReached (current_words (R.memory region.now)) dir }
-        requires directory { IsDirectory (current_words (R.memory region.now)) dir }
-        requires root { tree.root ≡ root_of (current_words (R.memory region.now)) dir }
-        requires size { tree.size ≡ size_of (current_words (R.memory region.now)) dir }
+        requires tree { HasTree (current_words (R.memory region.now)) dir tree }
         requires short { length name.now ≤ max_name }
         requires right { IsCacheOf (current_words (R.memory region.now)) self.old }
         ensures slot { found_slot result ≡ slot_named (current_words (R.memory region.now)) dir name.now }
@@ -109,10 +104,7 @@ impl DirectoryCache {
 
     /// Counts a search of a large directory that has no index, and makes one of it where it was searched often.
     fn count_search<R: Region>(&mut self, region: &R, dir: u32, tree: Tree)
-        requires well { IsWellFormed (current_words (R.memory region.now)) }
-        requires reached { IsReached (current_words (R.memory region.now)) dir }
-        requires root { tree.root ≡ root_of (current_words (R.memory region.now)) dir }
-        requires size { tree.size ≡ size_of (current_words (R.memory region.now)) dir }
+        requires tree { HasTree (current_words (R.memory region.now)) dir tree }
         requires right { IsCacheOf (current_words (R.memory region.now)) self.old }
         ensures right { IsCacheOf (current_words (R.memory region.now)) self.new }
     {
@@ -129,6 +121,25 @@ impl DirectoryCache {
         let _ = self.directories.put(dir, held);
     }
 
+    /// What [`DirectoryCache::find_or_free`] tells of a directory that has an index, None of any other.
+    fn find_or_free_by_index<R: Region>(
+        &mut self,
+        region: &R,
+        dir: u32,
+        tree: Tree,
+        name: &[u8],
+    ) -> Option<Spot>
+        requires tree { HasTree (current_words (R.memory region.now)) dir tree }
+        requires short { length name.now ≤ max_name }
+        requires right { IsCacheOf (current_words (R.memory region.now)) self.old }
+        ensures named { IfSome result (λ spot. named_slot spot ≡ slot_named (current_words (R.memory region.now)) dir name.now) }
+        ensures free { IfSome result (λ spot. FreeIs spot (empty_slot (current_words (R.memory region.now)) dir)) }
+        ensures right { IsCacheOf (current_words (R.memory region.now)) self.new }
+    {
+        let held = self.directories.get_mut(&dir)?;
+        held.find_or_free(region, tree, name)
+    }
+
     /// What [`bp_dirs::find_or_free`] tells of a directory, which is told by its inode and has this tree.
     pub fn find_or_free<R: Region>(&mut self, region: &R, dir: u32, tree: Tree, name: &[u8]) -> Spot
         requires well { IsWellFormed (current_words (R.memory region.now)) }
@@ -143,8 +154,8 @@ impl DirectoryCache {
         ensures right { IsCacheOf (current_words (R.memory region.now)) self.new }
     {
         if tree.size > SMALL_SIZE {
-            if let Some(Held::Indexed(index)) = self.directories.get_mut(&dir) {
-                return index.find_or_free(region, tree, name);
+            if let Some(spot) = self.find_or_free_by_index(region, dir, tree, name) {
+                return spot;
             }
             self.count_search(region, dir, tree);
         }
@@ -154,8 +165,7 @@ impl DirectoryCache {
     /// What is held of a directory is told that a name comes to its slot.
     fn enter_held(&mut self, at: NameAt<'_>)
         ensures names { self.new.names ≡ self.old.names }
-        ensures held { ChangesOne at.entry.dir (Becomes (λ before after. EntersSlot before after at.entry.name.now at.entry.slot))
-            self.old.directories.entries self.new.directories.entries }
+        ensures held { ChangesOne at.entry.dir (Enters at.entry) self.old.directories.entries self.new.directories.entries }
     {
         let _held = self.directories.len();
         if let Some(held) = self.directories.peek_mut(&at.dir) {
@@ -166,8 +176,7 @@ impl DirectoryCache {
     /// What is held of a directory is told that a name leaves its slot.
     fn leave_held(&mut self, at: NameAt<'_>)
         ensures names { self.new.names ≡ self.old.names }
-        ensures held { ChangesOne at.entry.dir (Becomes (λ before after. LeavesSlot before after at.entry.name.now at.entry.slot))
-            self.old.directories.entries self.new.directories.entries }
+        ensures held { ChangesOne at.entry.dir (Leaves at.entry) self.old.directories.entries self.new.directories.entries }
     {
         let _held = self.directories.len();
         if let Some(held) = self.directories.peek_mut(&at.dir) {

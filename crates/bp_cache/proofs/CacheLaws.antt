@@ -1,10 +1,10 @@
 -- When a cache is right of an image.
-use Rattle.std.proofs.Common.{◌≡◌, ℕ, Bool, [], nat_eq, Option, Some, None, sym, ◌∙◌, ap}
+use Rattle.std.proofs.Common.{◌≡◌, ℕ, Bool, [], nat_eq, Option, Some, None, sym, ◌∙◌}
 use Rattle.std.specs.Prelude.{Result, Ok, Err, OnOk, OnErr}
 use Rattle.lru.specs.LruCache.{LruCache, lru_cache, promoted, put_entries}
 use Rattle.lru.proofs.Splits.{Contains-nil}
 use Rattle.bp_layout.specs.Words.{Image}
-use Rattle.bp_names.specs.Names.{known_of, remembered}
+use Rattle.bp_names.specs.Names.{remembered}
 use Rattle.bp_names.proofs.Maps.{known-slot}
 use Rattle.bp_index.specs.Index.{IsIndexOf}
 use Rattle.bp_tree.specs.declared.tree.Tree.{Tree}

@@ -3,12 +3,12 @@ use Rattle.std.proofs.Common.{◌≡◌, ◌≢◌, ◌⊎◌, ℕ, ◌<◌, nat
 use Rattle.std.specs.HashMap.{get}
 use Rattle.std.proofs.lemmas.Bool.{cases_eq}
 use Rattle.bp_layout.specs.Words.{Image}
-use Rattle.bp_layout.specs.Directory.{Name, entry_count, inumber_at}
+use Rattle.bp_layout.specs.Directory.{entry_count, inumber_at}
 use Rattle.bp_layout.specs.Inode.{IsDirectory, root_of}
 use Rattle.bp_layout.specs.Reached.{IsReached}
 use Rattle.bp_index.specs.declared.index.Index.{Index}
 use Rattle.bp_index.specs.Hashes.{hash_of}
-use Rattle.bp_index.specs.Index.{EntersSlot, IsIndexed, IsIndexOf, LeavesSlot}
+use Rattle.bp_index.specs.Index.{EntersSlot, IsIndexed, LeavesSlot}
 use Rattle.bp_index.proofs.ChangeLaws.{indexed_kept, indexed_entered, indexed_left, others_entered, others_left}
 use Rattle.bp_cache.specs.declared.name_at.NameAt.{NameAt}
 use Rattle.bp_cache.specs.Cache.{IsIndexIn}

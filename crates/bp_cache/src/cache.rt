@@ -37,12 +37,13 @@ const SMALL_SIZE: u64 = 64 * ENTRY_SIZE;
 
 /// Where the names stand that were found last, and the indexes of large directories that are searched often.
 ///
-/// It is right of an image or not (`IsCacheOf`): each change of the names in directories is told to it, by [`enter`], [`leave`]
-/// or [`rename`], and it is right of the image after the change then. Where it finds no memory it remembers less.
+/// It is right of an image or not (`IsCacheOf`): each change of the names in directories is told to it, by [`enter`], [`leave`],
+/// [`rename`] or [`replace`], and it is right of the image after the change then. Where it finds no memory it remembers less.
 ///
 /// [`enter`]: DirectoryCache::enter
 /// [`leave`]: DirectoryCache::leave
 /// [`rename`]: DirectoryCache::rename
+/// [`replace`]: DirectoryCache::replace
 #[derive(Drop)]
 pub struct DirectoryCache {
     // where names stand in small directories
@@ -102,7 +103,7 @@ impl DirectoryCache {
         Some(found)
     }
 
-    /// Counts a search of a large directory that has no index, and makes one of it where it was searched often.
+    /// Counts a search of a large directory, and makes an index of it where it was searched often.
     fn count_search<R: Region>(&mut self, region: &R, dir: u32, tree: Tree)
         requires tree { HasTree (current_words (R.memory region.now)) dir tree }
         requires right { IsCacheOf (current_words (R.memory region.now)) self.old }
@@ -121,25 +122,6 @@ impl DirectoryCache {
         let _ = self.directories.put(dir, held);
     }
 
-    /// What [`DirectoryCache::find_or_free`] tells of a directory that has an index, None of any other.
-    fn find_or_free_by_index<R: Region>(
-        &mut self,
-        region: &R,
-        dir: u32,
-        tree: Tree,
-        name: &[u8],
-    ) -> Option<Spot>
-        requires tree { HasTree (current_words (R.memory region.now)) dir tree }
-        requires short { length name.now ≤ max_name }
-        requires right { IsCacheOf (current_words (R.memory region.now)) self.old }
-        ensures named { IfSome result (λ spot. named_slot spot ≡ slot_named (current_words (R.memory region.now)) dir name.now) }
-        ensures free { IfSome result (λ spot. FreeIs spot (empty_slot (current_words (R.memory region.now)) dir)) }
-        ensures right { IsCacheOf (current_words (R.memory region.now)) self.new }
-    {
-        let held = self.directories.get_mut(&dir)?;
-        held.find_or_free(region, tree, name)
-    }
-
     /// What [`bp_dirs::find_or_free`] tells of a directory, which is told by its inode and has this tree.
     pub fn find_or_free<R: Region>(&mut self, region: &R, dir: u32, tree: Tree, name: &[u8]) -> Spot
         requires well { IsWellFormed (current_words (R.memory region.now)) }
@@ -153,13 +135,14 @@ impl DirectoryCache {
         ensures free { FreeIs result (empty_slot (current_words (R.memory region.now)) dir) }
         ensures right { IsCacheOf (current_words (R.memory region.now)) self.new }
     {
-        if tree.size > SMALL_SIZE {
-            if let Some(spot) = self.find_or_free_by_index(region, dir, tree, name) {
-                return spot;
-            }
-            self.count_search(region, dir, tree);
+        if tree.size <= SMALL_SIZE {
+            return find_or_free(region, tree, name);
         }
-        find_or_free(region, tree, name)
+        self.count_search(region, dir, tree);
+        match self.directories.peek_mut(&dir) {
+            Some(held) => held.find_or_free(region, tree, name),
+            None => find_or_free(region, tree, name),
+        }
     }
 
     /// What is held of a directory is told that a name comes to its slot.
@@ -167,6 +150,7 @@ impl DirectoryCache {
         ensures names { self.new.names ≡ self.old.names }
         ensures held { ChangesOne at.entry.dir (Enters at.entry) self.old.directories.entries self.new.directories.entries }
     {
+        // its clauses tell that no directory is held twice
         let _held = self.directories.len();
         if let Some(held) = self.directories.peek_mut(&at.dir) {
             held.enter(at.name, at.slot);
@@ -178,6 +162,7 @@ impl DirectoryCache {
         ensures names { self.new.names ≡ self.old.names }
         ensures held { ChangesOne at.entry.dir (Leaves at.entry) self.old.directories.entries self.new.directories.entries }
     {
+        // its clauses tell that no directory is held twice
         let _held = self.directories.len();
         if let Some(held) = self.directories.peek_mut(&at.dir) {
             held.leave(at.name, at.slot);
@@ -251,11 +236,11 @@ impl Finder for DirectoryCache {
         if tree.size <= SMALL_SIZE {
             return self.find_small(region, dir, tree, name);
         }
-        if let Some(Held::Indexed(index)) = self.directories.get(&dir) {
-            return index.find_entry(region, tree, name);
-        }
         self.count_search(region, dir, tree);
-        find_entry(region, tree, name)
+        match self.directories.peek(&dir) {
+            Some(held) => held.find(region, tree, name),
+            None => find_entry(region, tree, name),
+        }
     }
 
     ghost same_references_reflexive = { λ _. tt };

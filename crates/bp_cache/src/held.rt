@@ -2,14 +2,14 @@
 
 ghost use Rattle.std.specs.Prelude.{◌≡◌, ◌≤◌, length, IfSome};
 ghost use Rattle.bp_cache.specs.Held.{Becomes, IndexIs};
-ghost use Rattle.bp_dirs.specs.Spots.{FreeIs, named_slot};
+ghost use Rattle.bp_dirs.specs.Spots.{FreeIs, found_slot, named_slot};
 ghost use Rattle.bp_index.specs.Index.{EntersSlot, IsIndexOf, LeavesSlot};
-ghost use Rattle.bp_layout.specs.Directory.{empty_slot_in, slot_named_in};
+ghost use Rattle.bp_layout.specs.Directory.{empty_slot_in, inumber_in, slot_named_in};
 ghost use Rattle.bp_layout.specs.Tree.{IsSound};
 ghost use Rattle.bp_limits.specs.Limits.{max_name};
 ghost use Rattle.pm_region.specs.Memory.{current_words};
 
-use bp_dirs::Spot;
+use bp_dirs::{Found, Spot, find_entry, find_or_free};
 use bp_index::Index;
 use bp_tree::Tree;
 use pm_region::Region;
@@ -41,20 +41,35 @@ impl Held {
         }
     }
 
-    /// What [`bp_dirs::find_or_free`] tells, by the index; None where there is none.
-    pub fn find_or_free<R: Region>(&mut self, region: &R, tree: Tree, name: &[u8]) -> Option<Spot>
+    /// What [`find_entry`] tells of the directory that has this tree, by its index if there is one.
+    pub fn find<R: Region>(&self, region: &R, tree: Tree, name: &[u8]) -> Option<Found>
+        requires sound { IsSound (current_words (R.memory region.now)) tree.root tree.size }
+        requires short { length name.now ≤ max_name }
+        requires right { IndexIs (IsIndexOf (current_words (R.memory region.now)) tree.root tree.size) self.now }
+        ensures slot { found_slot result ≡
+            slot_named_in (current_words (R.memory region.now)) tree.root tree.size name.now }
+        ensures inumber { IfSome result
+            (λ found. found.inumber ≡ inumber_in (current_words (R.memory region.now)) tree.root found.slot) }
+    {
+        match self {
+            Held::Indexed(index) => index.find_entry(region, tree, name),
+            _ => find_entry(region, tree, name),
+        }
+    }
+
+    /// What [`find_or_free`] tells, by the index if there is one.
+    pub fn find_or_free<R: Region>(&mut self, region: &R, tree: Tree, name: &[u8]) -> Spot
         requires sound { IsSound (current_words (R.memory region.now)) tree.root tree.size }
         requires short { length name.now ≤ max_name }
         requires right { IndexIs (IsIndexOf (current_words (R.memory region.now)) tree.root tree.size) self.old }
-        ensures named { IfSome result
-            (λ spot. named_slot spot ≡ slot_named_in (current_words (R.memory region.now)) tree.root tree.size name.now) }
-        ensures free { IfSome result
-            (λ spot. FreeIs spot (empty_slot_in (current_words (R.memory region.now)) tree.root tree.size)) }
+        ensures named { named_slot result ≡
+            slot_named_in (current_words (R.memory region.now)) tree.root tree.size name.now }
+        ensures free { FreeIs result (empty_slot_in (current_words (R.memory region.now)) tree.root tree.size) }
         ensures right { IndexIs (IsIndexOf (current_words (R.memory region.now)) tree.root tree.size) self.new }
     {
         match self {
-            Held::Indexed(index) => Some(index.find_or_free(region, tree, name)),
-            _ => None,
+            Held::Indexed(index) => index.find_or_free(region, tree, name),
+            _ => find_or_free(region, tree, name),
         }
     }
 

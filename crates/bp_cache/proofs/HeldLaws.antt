@@ -1,5 +1,5 @@
 -- What is held of directories is right after a change of names that was told to it.
-use Rattle.std.proofs.Common.{◌≡◌, ◌≢◌, ◌⊎◌, ℕ, ◌<◌, Contains, inl, inr, sym, ◌∙◌, subst}
+use Rattle.std.proofs.Common.{◌≡◌, ◌≢◌, ◌⊎◌, ℕ, ◌<◌, inl, inr, sym, ◌∙◌, subst}
 use Rattle.std.proofs.lemmas.Bool.{cases_eq}
 use Rattle.bp_layout.specs.Words.{Image}
 use Rattle.bp_layout.specs.Directory.{entry_count, inumber_at}
@@ -15,7 +15,7 @@ use Rattle.bp_cache.specs.Cache.{AreHeldOf, IsHeldOf, IsIndexIn}
 use Rattle.bp_cache.specs.Changes.{KeepsNamed, NameEnters, NameLeaves, NameMoves, NameReplaces, StandsAt, WasNamed}
 use Rattle.bp_cache.specs.Held.{Becomes, ChangesOne, Enters, Leaves}
 use Rattle.bp_cache.proofs.IndexLaws.{KeepsBut, index_kept, index_entered, index_left, index_respelled}
-use Rattle.bp_cache.proofs.Lists.{Directories}
+use Rattle.bp_cache.proofs.Lists.{Directories, Was}
 
 -- ---- what is held of one directory
 
@@ -63,7 +63,7 @@ module _ (old new : Image) (before after : Directories) (right : AreHeldOf old b
   pub held_enters : (at : NameAt) → ChangesOne at.dir (Enters at) before after → NameEnters old new at → AreHeldOf new after
   held_enters at changes enters i held has = go (changes i held has) (cases_eq i at.dir)
     where
-      go : (was : Held) × Contains before (i, was) × (i ≢ at.dir → held ≡ was) × (i ≡ at.dir → Enters at was held) → (i ≡ at.dir) ⊎ (i ≢ at.dir) → IsHeldOf new i held
+      go : Was at.dir (Enters at) before i held → (i ≡ at.dir) ⊎ (i ≢ at.dir) → IsHeldOf new i held
       go (was, there, same, step) (inr apart) =
           held_kept old new i held (beside at.dir at.slot i enters.entries apart) (subst (IsHeldOf old i) (sym (same apart)) (right i was there))
       go (was, there, same, step) (inl here) =
@@ -76,7 +76,7 @@ module _ (old new : Image) (before after : Directories) (right : AreHeldOf old b
       inumber_at new at.dir at.slot ≡ 0 → AreHeldOf new after
   left at changes keeps stood none i held has = go (changes i held has) (cases_eq i at.dir)
     where
-      go : (was : Held) × Contains before (i, was) × (i ≢ at.dir → held ≡ was) × (i ≡ at.dir → Leaves at was held) → (i ≡ at.dir) ⊎ (i ≢ at.dir) → IsHeldOf new i held
+      go : Was at.dir (Leaves at) before i held → (i ≡ at.dir) ⊎ (i ≢ at.dir) → IsHeldOf new i held
       go (was, there, same, step) (inr apart) =
           held_kept old new i held (beside at.dir at.slot i keeps apart) (subst (IsHeldOf old i) (sym (same apart)) (right i was there))
       go (was, there, same, step) (inl here) =
@@ -127,12 +127,10 @@ module _ (old new : Image) (before after : Directories) (right : AreHeldOf old b
           untouched (inl here) = one here.0
           untouched (inr there) = two there.0
 
-      go : (mid : Held) × Contains between (i, mid) × (i ≢ to.dir → held ≡ mid) × (i ≡ to.dir → Enters to mid held) →
-          (i ≡ from.dir) ⊎ (i ≢ from.dir) → (i ≡ to.dir) ⊎ (i ≢ to.dir) → IsHeldOf new i held
+      go : Was to.dir (Enters to) between i held → (i ≡ from.dir) ⊎ (i ≢ from.dir) → (i ≡ to.dir) ⊎ (i ≢ to.dir) → IsHeldOf new i held
       go (mid, there, same, step) in_from in_to = on (leaves i mid there) in_from in_to
         where
-          on : (was : Held) × Contains before (i, was) × (i ≢ from.dir → mid ≡ was) × (i ≡ from.dir → Leaves from was mid) →
-              (i ≡ from.dir) ⊎ (i ≢ from.dir) → (i ≡ to.dir) ⊎ (i ≢ to.dir) → IsHeldOf new i held
+          on : Was from.dir (Leaves from) before i mid → (i ≡ from.dir) ⊎ (i ≢ from.dir) → (i ≡ to.dir) ⊎ (i ≢ to.dir) → IsHeldOf new i held
           on (was, first, kept, left_it) (inr one) (inr two) =
               held_kept old new i held (neither one two) (subst (IsHeldOf old i) (sym (same two ∙ kept one)) (right i was first))
           on (was, first, kept, left_it) (inl here) (inr two) =
@@ -157,4 +155,5 @@ module _ (old new : Image) (before after : Directories) (right : AreHeldOf old b
               (λ x z told index.
               index_respelled old new from x told.0 moves.stood told.1 (subst (λ d. IsIndexIn old d x) (sym one_dir) index) to z one_dir (moves.here one_dir)
               (both one_dir) moves.stands told.2) was held
-              (becomes_twice (λ x y. LeavesSlot x y from.name.now from.slot) (λ x y. EntersSlot x y to.name.now to.slot) was mid held (left_it here) (step there_too)) is)
+              (becomes_twice (λ x y. LeavesSlot x y from.name.now from.slot) (λ x y. EntersSlot x y to.name.now to.slot) was mid held (left_it here)
+              (step there_too)) is)

@@ -37,9 +37,11 @@ module _ (old new : Image) where
       where
         go : (slot : ℕ) → slot < entry_count new at.dir → (slot ≡ at.slot) ⊎ (slot ≢ at.slot) → IsIndexed new (root_of new at.dir) slot after
         go slot live (inl here) =
-            subst (λ s. IsIndexed new (root_of new at.dir) s after) (sym here) (indexed_entered new (root_of new at.dir) before after at.name.now at.slot enters stands.named)
+            subst (λ s. IsIndexed new (root_of new at.dir) s after) (sym here)
+            (indexed_entered new (root_of new at.dir) before after at.name.now at.slot enters stands.named)
         go slot live (inr apart) =
-            others_entered new (root_of new at.dir) before after at.name.now at.slot enters slot apart (indexed_still at.dir slot before right (keeps slot reached directory live apart))
+            others_entered new (root_of new at.dir) before after at.name.now at.slot enters slot apart
+            (indexed_still at.dir slot before right (keeps slot reached directory live apart))
 
     module _ (stood : StandsAt old at) (leaves : LeavesSlot before after at.name.now at.slot) (right : IsIndexIn old at.dir before) where
       -- what the index told of the entry
@@ -72,7 +74,8 @@ module _ (old new : Image) where
         where
           go : (slot : ℕ) → slot < entry_count new to.dir → (slot ≡ to.slot) ⊎ (slot ≢ to.slot) → IsIndexed new (root_of new to.dir) slot last
           go slot live (inl here) =
-              subst (λ s. IsIndexed new (root_of new to.dir) s last) (sym here) (indexed_entered new (root_of new to.dir) after last to.name.now to.slot enters stands.named)
+              subst (λ s. IsIndexed new (root_of new to.dir) s last) (sym here)
+              (indexed_entered new (root_of new to.dir) after last to.name.now to.slot enters stands.named)
           go slot live (inr apart) =
               others_entered new (root_of new to.dir) after last to.name.now to.slot enters slot apart
               (subst (λ d. IsIndexed new (root_of new d) slot after) same_dir

@@ -1,5 +1,6 @@
 -- Lists of what is held of directories.
-use Rattle.std.proofs.Common.{◌≡◌, ◌≢◌, ◌⊎◌, ℕ, Bool, true, false, nat_eq, List, [], ◌∷◌, Contains, Option, Some, None, refl, sym, ◌∙◌, ap, subst, inl, inr, eqb-true, eq-eqb}
+use Rattle.std.proofs.Common.{◌≡◌, ◌≢◌, ◌⊎◌, ℕ, Bool, true, false, nat_eq, List, [], ◌∷◌, Contains, Option, Some, None}
+use Rattle.std.proofs.Common.{refl, sym, ◌∙◌, ap, subst, inl, inr, eqb-true, eq-eqb}
 use Rattle.std.specs.List.{IsDistinct}
 use Rattle.std.specs.Map.{keys_of, lookup, remove_entry, set_value}
 use Rattle.std.proofs.lemmas.Bool.{both_ways}
@@ -27,7 +28,8 @@ module _ (image : Image) where
       AreHeldOf image (put_entries nat_eq cache dir value)
   held_put cache dir value right is i held has = go (Contains-put_entries nat_eq cache dir value (i, held) has)
     where
-      go : Contains cache.entries (i, held) ⊎ ((held ≡ value) × ((i ≡ dir) ⊎ ((w : Held) × Contains cache.entries (i, w) × (nat_eq dir i ≡ true)))) → IsHeldOf image i held
+      go : Contains cache.entries (i, held) ⊎ ((held ≡ value) × ((i ≡ dir) ⊎ ((w : Held) × Contains cache.entries (i, w) × (nat_eq dir i ≡ true)))) →
+          IsHeldOf image i held
       go (inl was) = right i held was
       go (inr (same, inl here)) = rw (same, here) is
       go (inr (same, inr there)) = rw (same, sym (eqb-true dir i there.2)) is
@@ -60,7 +62,7 @@ module _ (image : Image) where
 -- ---- what one directory becomes
 
 -- what was held of directory i, where this is held now
-abbrev Was : ℕ → (Held → Held → Type 0) → Directories → ℕ → Held → Type 0
+abbrev pub Was : ℕ → (Held → Held → Type 0) → Directories → ℕ → Held → Type 0
 Was dir Step es i held = (before : Held) × Contains es (i, before) × (i ≢ dir → held ≡ before) × (i ≡ dir → Step before held)
 
 not_held : {dir : ℕ} (es : Directories) → lookup (nat_eq dir) es ≡ None → (i : ℕ) (held : Held) → Contains es (i, held) → i ≡ dir → ⊥
@@ -73,6 +75,11 @@ not_held {dir} (e ∷ es) none i held has same = go (λ less. not_held es less i
       | inl here ↦ both_ways (nat_eq dir e.0) at (eq-eqb _ _ (sym same ∙ ap (λ p. p.0) (sym here)))
       | inr later ↦ on (rw at at none) later same
     ]
+
+-- no key comes twice
+differs : (e : ℕ × Held) (es : Directories) → IsDistinct nat_eq (keys_of (e ∷ es)) → (i : ℕ) (held : Held) → Contains es (i, held) → nat_eq e.0 i ≡ false
+unfolding IsDistinct
+differs e es distinct i held = all_at (λ x. nat_eq e.0 x.0 ≡ false) es (i, held) (all_unmap (λ x. x.0) (λ y. nat_eq e.0 y ≡ false) es distinct.0)
 
 module _ (dir : ℕ) (Step : Held → Held → Type 0) where
   -- where nothing is held of the directory
@@ -104,7 +111,7 @@ module _ (dir : ℕ) (Step : Held → Held → Type 0) where
           held,
           Contains-tail e es (i, held) later,
           λ _. refl,
-          λ same. absurd (both_ways (nat_eq e.0 i) (all_at (λ x. nat_eq e.0 x.0 ≡ false) es (i, held) (all_unmap (λ x. x.0) (λ y. nat_eq e.0 y ≡ false) es distinct.0) later)
+          λ same. absurd (both_ways (nat_eq e.0 i) (differs e es distinct i held later)
               (eq-eqb _ _ (sym (eqb-true dir e.0 at) ∙ sym same))),
         )
       ]

@@ -1,5 +1,5 @@
 -- The names that are known are right after a change of names that was told to them.
-use Rattle.std.proofs.Common.{◌≡◌, ◌≢◌, ℕ, Option, Some, None, refl, sym, ◌∙◌, ap}
+use Rattle.std.proofs.Common.{◌≡◌, ◌≢◌, ℕ, Option, Some, None, sym, ◌∙◌, ap}
 use Rattle.std.specs.FinMap.{get}
 use Rattle.bp_layout.specs.Words.{Image}
 use Rattle.bp_layout.specs.Hints.{NameIn, Known, AreRight}
@@ -21,16 +21,5 @@ module _ (old new : Image) (before : Known) (right : AreRight old before) where
 
   pub both_forgotten : (after : Known) (one other : NameIn) → ForgetsBoth before after one other → KeepsOthers old new one other → AreRight new after
   both_forgotten after one other forgets keeps name slot is =
-      keeps name slot (apart_from after name one slot is forgets.first) (apart_from after name other slot is forgets.second) (right name slot (forgets.others name slot is))
-
--- one name is forgotten behind another
-pub forgets_both : (before between after : Known) (one other : NameIn) → Forgets before between one → Forgets between after other → ForgetsBoth before after one other
-forgets_both before between after one other first second = record {
-  first = still (get after one) refl;
-  second = second.gone;
-  others = λ name slot is. first.others name slot (second.others name slot is);
-}
-  where
-    still : (led : Option ℕ) → get after one ≡ led → get after one ≡ None
-    still None is = is
-    still (Some slot) is = let clash : ◌≡◌ {A = Option ℕ} None (Some slot) = sym first.gone ∙ second.others one slot is in absurd (cc)
+      keeps name slot (apart_from after name one slot is forgets.first) (apart_from after name other slot is forgets.second)
+      (right name slot (forgets.others name slot is))

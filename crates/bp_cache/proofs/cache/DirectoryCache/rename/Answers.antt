@@ -9,5 +9,6 @@ returns c old new right moves = record {
       rw (c.enter_held.ensures.names, c.leave_held.ensures.names)
       (both_forgotten old new _ right.names _ (name_in c.args.from) (name_in c.args.to) c.forget_both.ensures.names moves.slots);
   directories =
-      held_moves old new _ _ (rw c.forget_both.ensures.directories right.directories) c.args.from c.args.to _ c.leave_held.ensures.held c.enter_held.ensures.held moves;
+      held_moves old new _ _ (rw c.forget_both.ensures.directories right.directories) c.args.from c.args.to _ c.leave_held.ensures.held
+      c.enter_held.ensures.held moves;
 }

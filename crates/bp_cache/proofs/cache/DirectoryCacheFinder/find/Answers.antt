@@ -10,4 +10,5 @@ find-requires-clause-right g c =
     of_tree image c.args.dir c.args.tree
     (record { well = c.requires.well; reached = c.requires.reached; directory = c.requires.directory; root = c.requires.root; size = c.requires.size })
     c.in-Some.held.now
-    (held_found image c.args.dir c.count_search.new.self.directories.entries c.in-Some.held.now c.count_search.ensures.right.directories (sym c.in-Some.ensures))
+    (held_found image c.args.dir c.count_search.new.self.directories.entries c.in-Some.held.now c.count_search.ensures.right.directories
+    (sym c.in-Some.ensures))

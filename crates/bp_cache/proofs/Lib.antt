@@ -1,0 +1,5 @@
+pub mod Lists
+pub mod IndexLaws
+pub mod HeldLaws
+pub mod NameLaws
+pub mod CacheLaws

@@ -3,3 +3,4 @@ pub mod IndexLaws
 pub mod HeldLaws
 pub mod NameLaws
 pub mod CacheLaws
+pub mod EffectLaws

@@ -70,8 +70,8 @@ impl DirectoryCache {
         })
     }
 
-    /// What [`Finder::find`] tells of a small directory. What a search finds in its first block is not learned, since a
-    /// search reads that block first.
+    /// What [`Finder::find`] tells of a directory of few blocks. What a search finds in the first of them is not learned,
+    /// since a search reads that one first.
     fn find_small<R: Region>(
         &mut self,
         region: &R,
@@ -87,20 +87,44 @@ impl DirectoryCache {
             (λ found. found.inumber ≡ inumber_at (current_words (R.memory region.now)) dir found.slot) }
         ensures right { IsCacheOf (current_words (R.memory region.now)) self.new }
     {
-        if tree.size <= BLOCK_SIZE {
-            return find_entry(region, tree, name);
-        }
         if let Some(slot) = self.names.hint(dir, name) {
             return Some(Found {
                 slot,
                 inumber: inumber(region, tree, slot),
             });
         }
-        let found = find_entry(region, tree, name)?;
+        let found = search(region, tree, name)?;
         if found.slot >= BLOCK_ENTRIES {
             self.names.learn(dir, name, found.slot);
         }
         Some(found)
+    }
+
+    /// What [`Finder::find`] tells of a directory of more than one block.
+    #[inline(never)]
+    fn find_in_blocks<R: Region>(
+        &mut self,
+        region: &R,
+        dir: u32,
+        tree: Tree,
+        name: &[u8],
+    ) -> Option<Found>
+        requires tree { HasTree (current_words (R.memory region.now)) dir tree }
+        requires short { length name.now ≤ max_name }
+        requires right { IsCacheOf (current_words (R.memory region.now)) self.old }
+        ensures slot { found_slot result ≡ slot_named (current_words (R.memory region.now)) dir name.now }
+        ensures inumber { IfSome result
+            (λ found. found.inumber ≡ inumber_at (current_words (R.memory region.now)) dir found.slot) }
+        ensures right { IsCacheOf (current_words (R.memory region.now)) self.new }
+    {
+        if tree.size <= SMALL_SIZE {
+            return self.find_small(region, dir, tree, name);
+        }
+        self.count_search(region, dir, tree);
+        match self.directories.peek(&dir) {
+            Some(held) => held.find(region, tree, name),
+            None => search(region, tree, name),
+        }
     }
 
     /// Counts a search of a large directory, and makes an index of it where it was searched often.
@@ -233,14 +257,10 @@ impl Finder for DirectoryCache {
 
     /// Where a name stands in a directory: by what is known, by the directory's index, or by a scan.
     fn find<R: Region>(&mut self, region: &R, dir: u32, tree: Tree, name: &[u8]) -> Option<Found> {
-        if tree.size <= SMALL_SIZE {
-            return self.find_small(region, dir, tree, name);
+        if tree.size <= BLOCK_SIZE {
+            return find_entry(region, tree, name);
         }
-        self.count_search(region, dir, tree);
-        match self.directories.peek(&dir) {
-            Some(held) => held.find(region, tree, name),
-            None => find_entry(region, tree, name),
-        }
+        self.find_in_blocks(region, dir, tree, name)
     }
 
     ghost same_references_reflexive = { λ _. tt };

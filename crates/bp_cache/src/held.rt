@@ -9,7 +9,8 @@ ghost use Rattle.bp_layout.specs.Tree.{IsSound};
 ghost use Rattle.bp_limits.specs.Limits.{max_name};
 ghost use Rattle.pm_region.specs.Memory.{current_words};
 
-use bp_dirs::{Found, Spot, find_entry, find_or_free};
+use crate::searching::search;
+use bp_dirs::{Found, Spot, find_or_free};
 use bp_index::Index;
 use bp_tree::Tree;
 use pm_region::Region;
@@ -41,7 +42,7 @@ impl Held {
         }
     }
 
-    /// What [`find_entry`] tells of the directory that has this tree, by its index if there is one.
+    /// What [`bp_dirs::find_entry`] tells of the directory that has this tree, by its index if there is one.
     pub fn find<R: Region>(&self, region: &R, tree: Tree, name: &[u8]) -> Option<Found>
         requires sound { IsSound (current_words (R.memory region.now)) tree.root tree.size }
         requires short { length name.now ≤ max_name }
@@ -53,7 +54,7 @@ impl Held {
     {
         match self {
             Held::Indexed(index) => index.find_entry(region, tree, name),
-            _ => find_entry(region, tree, name),
+            _ => search(region, tree, name),
         }
     }
 

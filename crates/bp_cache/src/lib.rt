@@ -7,6 +7,7 @@
 mod cache;
 mod held;
 mod name_at;
+mod searching;
 
 pub use cache::DirectoryCache;
 pub use name_at::NameAt;

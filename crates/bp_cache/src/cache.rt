@@ -16,6 +16,7 @@ ghost use Rattle.pm_region.specs.Memory.{current_words};
 
 use crate::held::{Held, SEARCHES};
 use crate::name_at::NameAt;
+use crate::searching::search;
 use bp_dirs::{Finder, Found, Spot, find_entry, find_or_free, inumber};
 use bp_layout::Hints;
 use bp_limits::{BLOCK_ENTRIES, BLOCK_SIZE, ENTRY_SIZE};

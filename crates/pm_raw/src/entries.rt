@@ -9,6 +9,10 @@ use super::log::Log;
 use std::alloc::{AllocError, Global};
 use std::marker::Model;
 
+/// How many places behind the wanted ones are filled when the log reaches its last filled place: few enough that what was
+/// filled is still in the processor's nearest caches when it is written, and that a log touches little more than it needs.
+const FILLED_AHEAD: usize = 1024;
+
 /// The events of a log: the word and the value of each, and the value that it replaced. They stand at the fronts of three
 /// vectors that take their memory once. Places are filled as the log grows, so a short log touches little of that memory, and
 /// stay filled when it begins anew.
@@ -33,7 +37,7 @@ impl Model for Entries {
     ghost invariant = { HasPlaces };
 }
 
-/// Fills places up to the wanted ones, and up to twice as many as are filled, so that it is seldom done.
+/// Fills places up to the wanted ones, and some behind them, so that it is seldom done.
 #[cold]
 #[inline(never)]
 fn grow(
@@ -52,7 +56,7 @@ fn grow(
     ensures values { Grows values.old values.new × (length values.new.items ≡ length words.new.items) }
     ensures replaced { Grows replaced.old replaced.new × (length replaced.new.items ≡ length words.new.items) }
 {
-    let places = wanted.max(2 * words.len()).min(room);
+    let places = wanted + FILLED_AHEAD.min(room - wanted);
     let _ = words.resize(places, 0);
     let _ = values.resize(places, 0);
     let _ = replaced.resize(places, 0);

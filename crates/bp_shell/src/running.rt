@@ -69,6 +69,7 @@ fn run_over<R: Region, S: Source, K: Sink, F: Files>(
     files: &mut F,
 ) -> Status
     requires { CanServe volume.old (F.view files.old) }
+    // From whichever file it was mounted.
     ensures outcome { (before : View) (name : List ℕ) (image : Image) →
         IsMounted name image before (F.view files.old) volume.old → RunOutcome (code_of result)
         (outside (S.left src.old) (S.faults src.old) (K.taken out.old) (K.faults out.old) before name)

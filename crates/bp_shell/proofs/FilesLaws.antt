@@ -2,8 +2,7 @@
 use Rattle.std.proofs.Common.{sym, ◌∙◌, ◌≡◌, ℕ, List, true, inl, inr}
 use Rattle.bp_io.specs.Files.{KeepsFiles, KeepsOthers, StaysAttached, View}
 use Rattle.bp_io.specs.declared.access.Access.TheVariants.{Write}
-use Rattle.bp_session.proofs.OthersLaws.{others_then, stays_stays}
-use Rattle.bp_session.proofs.SavingLaws.{stays_attached}
+use Rattle.bp_session.proofs.OthersLaws.{stays_stays}
 use Rattle.bp_shell.specs.Opening.{AttachesAs}
 use Rattle.bp_shell.specs.Running.{OnlyWrites}
 
@@ -20,9 +19,3 @@ module _ (name : List ℕ) (old opened new : View) (kept : KeepsFiles old opened
     may_write = stays.may_write ∙ may_write;
     others = λ other is. stays_stays (old.contents other) (opened.contents other) (new.contents other) (kept other) (others other (sym (stays.attached other) ∙ is));
   })
-
--- .. and saved
-pub only_saved : (name : List ℕ) (old opened served new : View) → KeepsFiles old opened → opened.is_attached name ≡ true → opened.may_write ≡ true
-    → StaysAttached opened served → KeepsOthers opened served → StaysAttached served new → KeepsOthers served new → OnlyWrites name old new
-only_saved name old opened served new kept attached may_write stays others still kept_others =
-    only_written name old opened new kept attached may_write (stays_attached _ _ _ stays still) (others_then opened served new stays others kept_others)

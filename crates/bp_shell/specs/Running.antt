@@ -18,7 +18,7 @@ use Rattle.bp_script.specs.declared.notices.Notice.TheVariants.{Formatted}
 use Rattle.bp_script.specs.Sayings.{notice_text}
 use Rattle.bp_session.specs.Acting.{state}
 use Rattle.bp_session.specs.Lines.{commands_from}
-use Rattle.bp_session.specs.Files.{AreWordsOf64Bits, HasBytes, HasBlocksOf}
+use Rattle.bp_session.specs.Files.{AreWordsOf64Bits, HasBytes, HasBlocksOf, Holds}
 use Rattle.bp_session.specs.Serving.{BreaksOff, SyncFails, OfLines, Serves, StopsAtSave, Told}
 use Rattle.bp_session.specs.PlainSession.{FollowsTree}
 use Rattle.bp_session.specs.Session.{State}
@@ -39,6 +39,15 @@ Saves after image = HasBytes after.file (image_bytes image)
 
 abbrev pub SavesPartly : Outside → Image → Image → Type 0
 SavesPartly after first second = HasBlocksOf after.file (image_bytes first) (image_bytes second)
+
+-- The file of this name held this image, a file system, and was mounted: no fault came, and no file changed.
+pub record IsMounted (name : List ℕ) (image : Image) (before now : View) (memory : Memory) : Type 0 where
+  pub found : HoldsFileSystem (before.contents name) image
+  pub starts : memory ≡ (start image).memory
+  pub holds : Holds now name image
+  pub flushed : now.is_flushed ≡ before.is_flushed
+  pub calm : now.faults ≡ before.faults
+  pub kept : KeepsFiles before now
 
 -- A run began: FILE holds a file system, which stands for a tree, and this input was read.
 pub record BeginsRun (before after : Outside) : Type 0 where

@@ -1,8 +1,10 @@
 //! The program `play`.
 
+ghost use Rattle.bp_io.specs.Files.{Known};
+ghost use Rattle.bp_layout.specs.Words.{Image};
 ghost use Rattle.bp_limits.specs.Limits.{log_events, max_turns};
 ghost use Rattle.bp_session.specs.Outside.{outside};
-ghost use Rattle.bp_shell.specs.Opening.{OnlyReads};
+ghost use Rattle.bp_shell.specs.Opening.{HoldsFileSystem, OnlyReads, start};
 ghost use Rattle.bp_shell.specs.Playing.{EndsPlay, PlayOutcome, PlaysFile, crashes_text, play_text, spaced, tree_text, turns_text};
 ghost use Rattle.bp_shell.specs.Statuses.{code_of};
 ghost use Rattle.bp_shell.specs.Stops.{HasStopCause, IsReason};
@@ -97,6 +99,31 @@ fn text_of(alloc: Global, count: u32, played: &Played) -> Result<String, AllocEr
     Ok(text)
 }
 
+/// Plays over a volume, and gives the five lines that tell of it.
+fn tell_play<R: Region>(
+    alloc: Global,
+    volume: &mut Volume<R>,
+    seed: u64,
+    count: u32,
+) -> Result<String, Stop>
+    requires few { count ≤ max_turns }
+    requires roomy { volume.old.capacity ≤ log_events }
+    // Of whichever file it was mounted.
+    ensures plays { (known : Known) (image : Image) → HoldsFileSystem known image → volume.old ≡ (start image).memory →
+        IfOk result (λ text. PlaysFile known seed count text.bytes.items) }
+    ensures reason { (known : Known) → IfErr result (IsReason known) }
+    ensures cause { (faults : ℕ) → HasStopCause faults faults result }
+{
+    let played = match play_over(alloc, volume, seed, count) {
+        Ok(played) => played,
+        Err(_) => return Err(Stop::Memory),
+    };
+    match text_of(alloc, count, &played) {
+        Ok(text) => Ok(text),
+        Err(_) => Err(Stop::Memory),
+    }
+}
+
 /// Plays over the file of a name, in memory alone, and tells what came of it.
 fn perform<F: Files>(
     alloc: Global,
@@ -113,14 +140,7 @@ fn perform<F: Files>(
     ensures flushed { (F.view files.new).is_flushed ≡ (F.view files.old).is_flushed }
 {
     let mut volume = open_to_read(alloc, name, files)?;
-    let played = match play_over(alloc, &mut volume, seed, count) {
-        Ok(played) => played,
-        Err(_) => return Err(Stop::Memory),
-    };
-    match text_of(alloc, count, &played) {
-        Ok(text) => Ok(text),
-        Err(_) => Err(Stop::Memory),
-    }
+    tell_play(alloc, &mut volume, seed, count)
 }
 
 /// Plays so many turns over the file of a name, which is read alone: what they change is kept in memory, and forgotten.

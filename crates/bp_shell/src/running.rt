@@ -2,12 +2,15 @@
 
 ghost use Rattle.bp_command.specs.Commands.{IsTaken};
 ghost use Rattle.bp_command.specs.Programs.{Asks, HasNumbersInRange, Program as Asked, Requests, program_of};
+ghost use Rattle.bp_io.specs.Files.{KeepsOthers, StaysAttached, View};
+ghost use Rattle.bp_layout.specs.Words.{Image};
 ghost use Rattle.bp_script.specs.Sayings.{notice_text};
 ghost use Rattle.bp_script.specs.declared.notices.Notice.TheVariants.{Usage};
 ghost use Rattle.bp_session.specs.Outside.{Prints, outside};
-ghost use Rattle.bp_shell.specs.Running.{LeavesFiles, OnlyWrites, RunsProgram, ProgramOutcome, RunOutcome, file_name};
+ghost use Rattle.bp_session.specs.Serving.{CanServe};
+ghost use Rattle.bp_shell.specs.Running.{IsMounted, LeavesFiles, OnlyWrites, RunsProgram, ProgramOutcome, RunOutcome, file_name};
 ghost use Rattle.bp_shell.specs.Statuses.{code_of};
-ghost use Rattle.std.specs.Prelude.{◌≡◌, ◌⊎◌, map};
+ghost use Rattle.std.specs.Prelude.{◌≡◌, ◌⊎◌, ℕ, List, map};
 
 use crate::checking::check_file;
 use crate::formatting::format_file;
@@ -21,7 +24,65 @@ use bp_io::{Failed, Files, Sink, Source};
 use bp_script::Notice;
 use bp_session::saving::save_unless_saved;
 use bp_session::{Work, serve_gathered};
+use bp_volume::Volume;
+use pm_region::Region;
 use std::alloc::Global;
+
+/// Serves the script of a source over a volume whose file was just read, and saves what the volume then holds.
+fn serve_and_save<R: Region, S: Source, K: Sink, F: Files>(
+    alloc: Global,
+    volume: &mut Volume<R>,
+    work: &mut Work,
+    src: &mut S,
+    out: &mut K,
+    files: &mut F,
+) -> Status
+    requires { CanServe volume.old (F.view files.old) }
+    // From whichever file it was mounted.
+    ensures outcome { (before : View) (name : List ℕ) (image : Image) →
+        IsMounted name image before (F.view files.old) volume.old → RunOutcome (code_of result)
+        (outside (S.left src.old) (S.faults src.old) (K.taken out.old) (K.faults out.old) before name)
+        (outside (S.left src.new) (S.faults src.new) (K.taken out.new) (K.faults out.new) (F.view files.new) name) }
+    ensures unread { (code_of result ≡ 1) ⊎ (code_of result ≡ 7) ⊎ (code_of result ≡ 8) → src.new ≡ src.old }
+    ensures attached { StaysAttached (F.view files.old) (F.view files.new) }
+    ensures others { KeepsOthers (F.view files.old) (F.view files.new) }
+{
+    let mut is_saved = true;
+    let served = serve_gathered(alloc, volume, work, &mut is_saved, src, out, files);
+    match Status::of_serving(served) {
+        Status::Done => {}
+        broken => return broken,
+    }
+    volume.sync();
+    match save_unless_saved(volume.region(), is_saved, files) {
+        Ok(()) => Status::Done,
+        Err(Failed) => Status::FilesFailed,
+    }
+}
+
+/// Takes the memory of a run, and serves the script of a source over a volume whose file was just read.
+fn run_over<R: Region, S: Source, K: Sink, F: Files>(
+    alloc: Global,
+    volume: &mut Volume<R>,
+    src: &mut S,
+    out: &mut K,
+    files: &mut F,
+) -> Status
+    requires { CanServe volume.old (F.view files.old) }
+    // From whichever file it was mounted.
+    ensures outcome { (before : View) (name : List ℕ) (image : Image) →
+        IsMounted name image before (F.view files.old) volume.old → RunOutcome (code_of result)
+        (outside (S.left src.old) (S.faults src.old) (K.taken out.old) (K.faults out.old) before name)
+        (outside (S.left src.new) (S.faults src.new) (K.taken out.new) (K.faults out.new) (F.view files.new) name) }
+    ensures unread { (code_of result ≡ 1) ⊎ (code_of result ≡ 7) ⊎ (code_of result ≡ 8) → src.new ≡ src.old }
+    ensures attached { StaysAttached (F.view files.old) (F.view files.new) }
+    ensures others { KeepsOthers (F.view files.old) (F.view files.new) }
+{
+    match Work::new(alloc) {
+        Ok(mut work) => serve_and_save(alloc, volume, &mut work, src, out, files),
+        Err(_) => Status::Memory,
+    }
+}
 
 /// Serves the script of a source over the file of a name.
 fn run_file<S: Source, K: Sink, F: Files>(
@@ -37,33 +98,9 @@ fn run_file<S: Source, K: Sink, F: Files>(
     ensures unread { (code_of result ≡ 1) ⊎ (code_of result ≡ 7) ⊎ (code_of result ≡ 8) → src.new ≡ src.old }
     ensures files { OnlyWrites name.now (F.view files.old) (F.view files.new) }
 {
-    let mut volume = match open(alloc, name, files) {
-        Ok(volume) => volume,
-        Err(stop) => return tell_stop(stop, out),
-    };
-    let mut work = match Work::new(alloc) {
-        Ok(work) => work,
-        Err(_) => return Status::Memory,
-    };
-    // It was just read.
-    let mut is_saved = true;
-    let served = serve_gathered(
-        alloc,
-        &mut volume,
-        &mut work,
-        &mut is_saved,
-        src,
-        out,
-        files,
-    );
-    match Status::of_serving(served) {
-        Status::Done => {}
-        broken => return broken,
-    }
-    volume.sync();
-    match save_unless_saved(volume.region(), is_saved, files) {
-        Ok(()) => Status::Done,
-        Err(Failed) => Status::FilesFailed,
+    match open(alloc, name, files) {
+        Ok(mut volume) => run_over(alloc, &mut volume, src, out, files),
+        Err(stop) => tell_stop(stop, out),
     }
 }
 

@@ -10,6 +10,9 @@ use bp_limits::BLOCK_WORDS;
 use pm_region::Region;
 use pm_words::write_word;
 
+/// The most blocks that a load or a save hands over in one call. More would save no time.
+pub const RUN_BLOCKS: u32 = 16;
+
 /// The bytes that spell the words.
 fn encode(words: &[u64], into: &mut [u8])
     requires { length into.old ≡ 8 * length words.now }

@@ -8,16 +8,13 @@ ghost use Rattle.bp_layout.specs.Bytes.{image_bytes};
 ghost use Rattle.bp_session.specs.Files.{HasBlocksOf, Holds, HoldsAs, HoldsBytes, HoldsPartly, IsReady, StaysTold};
 ghost use Rattle.pm_region.specs.Memory.{current_words};
 
-use crate::blocks::read_blocks;
+use crate::blocks::{RUN_BLOCKS, read_blocks};
 use bp_io::{Failed, Files};
 use bp_limits::{BLOCK_SIZE, BLOCK_WORDS};
 use pm_region::Region;
 
 /// The bytes of a block, as a length.
 const BLOCK: usize = BLOCK_SIZE as usize;
-
-/// The most blocks that are written in one call.
-const RUN: u32 = 16;
 
 /// Writes each block of the words to the attached file, in order.
 fn write_blocks<R: Region, F: Files>(region: &R, files: &mut F) -> Result<(), Failed>
@@ -32,10 +29,10 @@ fn write_blocks<R: Region, F: Files>(region: &R, files: &mut F) -> Result<(), Fa
     ensures cause { HasCause (F.view files.old).faults (F.view files.new).faults result }
 {
     let count = region.words() / BLOCK_WORDS;
-    let mut bytes = [0u8; BLOCK * RUN as usize];
+    let mut bytes = [0u8; BLOCK * RUN_BLOCKS as usize];
     let mut first = 0;
     while first < count {
-        let run = RUN.min(count - first);
+        let run = RUN_BLOCKS.min(count - first);
         let from = &mut bytes[..BLOCK * run as usize];
         read_blocks(region, first, from);
         files.write_blocks(first, from)?;

@@ -2,7 +2,7 @@
 use Rattle.std.proofs.Common.{zero, suc, refl, sym, ◌∙◌, ap, true, arith, ◌≡◌, ℕ, ◌+◌, ◌*◌, ◌-◌, ◌<◌, ◌≤◌, List, [], ◌∷◌, ◌++◌, length, take, replicate, inl, inr}
 use Rattle.std.specs.Prelude.{Option, Some, None, Result, Ok, Err, OnOk, OnErr}
 use Rattle.std.specs.Io.KnownBytes.{Appends}
-use Rattle.std.proofs.Math.Seq.{take-add, take-length}
+use Rattle.std.proofs.Math.Seq.{take-length}
 use Rattle.std.proofs.lemmas.List.{length-replicate, replicate-append-replicate, take_all}
 use Rattle.bp_layout.specs.Bytes.{image_bytes}
 use Rattle.bp_layout.specs.Format.{format_stores, formatted}
@@ -10,7 +10,7 @@ use Rattle.bp_layout.specs.Words.{Image}
 use Rattle.bp_layout.proofs.LastValue.{length-after_stores}
 use Rattle.bp_limits.specs.declared.version.Version.{Version}
 use Rattle.bp_io.specs.Causes.{HasCause}
-use Rattle.bp_io.specs.Files.{Known, IsPartlyReplaced, Stays, StaysOrIsMade, Becomes, BecomesPartly, Attaches, block_bytes, resized_file}
+use Rattle.bp_io.specs.Files.{Known, IsPartlyReplaced, Stays, StaysOrIsMade, Becomes, BecomesPartly, Attaches, resized_file}
 use Rattle.bp_session.specs.Files.{HasBytes}
 use Rattle.bp_session.specs.Outside.{Prints}
 use Rattle.bp_session.proofs.BlockLaws.{image_bytes-append, length-image_bytes}
@@ -68,13 +68,6 @@ module _ (old new : Memory) (version : Version) (width blocks : ℕ) (front : Li
 
   pub front_made : 1024 ≤ width → width ≤ 512 * blocks → resized_file (4096 * blocks) front ≡ image_bytes (new_image version blocks)
   front_made two fits = front_filled version width blocks front two fits (are ∙ ap image_bytes made)
-
--- one more block of bytes
-pub block_more : (bytes before block : List ℕ) (i : ℕ) → before ≡ take (4096 * i) bytes → block ≡ block_bytes bytes i → before ++ block ≡ take (4096 * (i + 1)) bytes
-block_more bytes before block i are is =
-    let next : 4096 * (i + 1) ≡ 4096 * i + 4096 = omega arith in
-    let width : (4096 * i + 4096) - 4096 * i ≡ 4096 = omega arith in
-    rw (are, is, next, width) (sym (take-add (4096 * i) 4096 bytes))
 
 -- the bytes of all blocks
 pub all_blocks : (memory : Memory) (bytes : List ℕ) (count : ℕ) → length memory.base ≡ 512 * count → bytes ≡ take (4096 * count) (image_bytes (current_words memory)) → bytes ≡ image_bytes (current_words memory)

@@ -45,13 +45,8 @@ fn encode<R: Region>(alloc: Global, region: &R) -> Result<Vec<u8>, AllocError>
     requires most { length (R.memory region.now).base ≤ block_words * MAX_BLOCKS }
     ensures { IfOk result (λ bytes. bytes.items ≡ image_bytes (current_words (R.memory region.now))) }
 {
-    let mut bytes = Vec::new(alloc);
-    let mut block = [0u8; 4096];
-    let count = region.words() / BLOCK_WORDS;
-    for i in 0..count {
-        read_blocks(region, i, &mut block);
-        bytes.extend_from_slice(&block)?;
-    }
+    let mut bytes = vec![in alloc; 0u8; 8 * region.words() as usize]?;
+    read_blocks(region, 0, &mut bytes);
     Ok(bytes)
 }
 

@@ -18,15 +18,13 @@ use bp_io::{Access, Failed, Files};
 use bp_limits::{BLOCK_SIZE, BLOCK_WORDS, LOG_EVENTS, MAX_BLOCKS, MIN_BLOCKS};
 use bp_scan::{MountFault, image_length};
 use bp_script::Notice;
+use bp_session::blocks::RUN_BLOCKS;
 use bp_volume::Volume;
 use pm_raw::{Filling, RawRegion};
 use std::alloc::Global;
 
 /// The bytes of a block, as a length.
 const BLOCK: usize = BLOCK_SIZE as usize;
-
-/// The most blocks that are read in one call.
-const RUN: u32 = 16;
 
 /// Puts the words that a run of bytes spells behind those that are there.
 fn push_run(filling: &mut Filling, run: &[u8])
@@ -79,10 +77,10 @@ fn load<F: Files>(filling: &mut Filling, count: u32, files: &mut F) -> Result<()
     ensures size { filling.new.size ≡ block_words * count }
     ensures reads { Reads (F.view files.old) (F.view files.new) }
 {
-    let mut bytes = [0u8; BLOCK * RUN as usize];
+    let mut bytes = [0u8; BLOCK * RUN_BLOCKS as usize];
     let mut first = 0;
     while first < count {
-        let run = RUN.min(count - first);
+        let run = RUN_BLOCKS.min(count - first);
         let into = &mut bytes[..BLOCK * run as usize];
         load_run(filling, first, into, files)?;
         first += run;

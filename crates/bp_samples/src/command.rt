@@ -4,69 +4,65 @@ use bp_command::{Program, WordsFault, mistake_line, read_words};
 use bp_limits::Version;
 use std::alloc::Global;
 
+/// Words, and the program that they ask for.
+const TAKEN: [(&[&str], Program<'static>); 9] = [
+    (&["bpfs", "run", "f"], Program::Run { name: "f" }),
+    (&["bpfs", "check", "f"], Program::Check { name: "f" }),
+    (&["bpfs", "run", "--", "-f"], Program::Run { name: "-f" }),
+    (
+        &["bpfs", "format", "f", "--blocks", "8"],
+        Program::Format {
+            name: "f",
+            blocks: 8,
+            version: Version::One,
+        },
+    ),
+    (
+        &["bpfs", "format", "--blocks=65536", "f"],
+        Program::Format {
+            name: "f",
+            blocks: 65_536,
+            version: Version::One,
+        },
+    ),
+    (
+        &["", "format", "f", "--blocks", "+08"],
+        Program::Format {
+            name: "f",
+            blocks: 8,
+            version: Version::One,
+        },
+    ),
+    (
+        &["bpfs", "format", "f", "--blocks", "8", "--version", "1"],
+        Program::Format {
+            name: "f",
+            blocks: 8,
+            version: Version::One,
+        },
+    ),
+    (
+        &["bpfs", "format", "f", "--blocks", "8", "--version", "2"],
+        Program::Format {
+            name: "f",
+            blocks: 8,
+            version: Version::Two,
+        },
+    ),
+    (
+        &["bpfs", "format", "--version=2", "f", "--blocks=9"],
+        Program::Format {
+            name: "f",
+            blocks: 9,
+            version: Version::Two,
+        },
+    ),
+];
+
 #[test]
 fn takes_words(rt: HostRuntime) {
-    let rows = [
-        (["bpfs", "run", "f"].as_slice(), Program::Run { name: "f" }),
-        (
-            ["bpfs", "check", "f"].as_slice(),
-            Program::Check { name: "f" },
-        ),
-        (
-            ["bpfs", "run", "--", "-f"].as_slice(),
-            Program::Run { name: "-f" },
-        ),
-        (
-            ["bpfs", "format", "f", "--blocks", "8"].as_slice(),
-            Program::Format {
-                name: "f",
-                blocks: 8,
-                version: Version::One,
-            },
-        ),
-        (
-            ["bpfs", "format", "--blocks=65536", "f"].as_slice(),
-            Program::Format {
-                name: "f",
-                blocks: 65_536,
-                version: Version::One,
-            },
-        ),
-        (
-            ["", "format", "f", "--blocks", "+08"].as_slice(),
-            Program::Format {
-                name: "f",
-                blocks: 8,
-                version: Version::One,
-            },
-        ),
-        (
-            ["bpfs", "format", "f", "--blocks", "8", "--version", "1"].as_slice(),
-            Program::Format {
-                name: "f",
-                blocks: 8,
-                version: Version::One,
-            },
-        ),
-        (
-            ["bpfs", "format", "f", "--blocks", "8", "--version", "2"].as_slice(),
-            Program::Format {
-                name: "f",
-                blocks: 8,
-                version: Version::Two,
-            },
-        ),
-        (
-            ["bpfs", "format", "--version=2", "f", "--blocks=9"].as_slice(),
-            Program::Format {
-                name: "f",
-                blocks: 9,
-                version: Version::Two,
-            },
-        ),
-    ];
-    for (words, program) in rows {
-        assert_eq!(rt; read_words(rt.alloc(), words).ok(), Some(program));
+    for (words, program) in &TAKEN {
+        assert_eq!(rt; read_words(rt.alloc(), *words).ok(), Some(*program));
     }
 }
 
@@ -78,57 +74,53 @@ fn told(alloc: Global, words: &[&str]) -> Option<String> {
     }
 }
 
+/// Words that are refused, and the line that tells why.
+const REFUSED: [(&[&str], &str); 12] = [
+    (
+        &["bpfs"],
+        "'bpfs' requires a subcommand but one was not provided [subcommands: format, run, check, play, help]",
+    ),
+    (&["bpfs", "walk", "f"], "unrecognized subcommand 'walk'"),
+    (
+        &["bpfs", "run"],
+        "the following required arguments were not provided: <FILE>",
+    ),
+    (&["bpfs", "run", "f", "g"], "unexpected argument 'g' found"),
+    (
+        &["bpfs", "check", ""],
+        "a value is required for '<FILE>' but none was supplied",
+    ),
+    (
+        &["bpfs", "format"],
+        "the following required arguments were not provided: --blocks <blocks> <FILE>",
+    ),
+    (
+        &["bpfs", "format", "f", "--blocks", "7"],
+        "invalid value '7' for '--blocks <blocks>': 7 is not in 8..=65536",
+    ),
+    (
+        &["bpfs", "format", "f", "--blocks", "65537"],
+        "invalid value '65537' for '--blocks <blocks>': 65537 is not in 8..=65536",
+    ),
+    (
+        &["bpfs", "format", "f", "--blocks", "eight"],
+        "invalid value 'eight' for '--blocks <blocks>': invalid digit found in string",
+    ),
+    (
+        &["bpfs", "format", "f", "--blocks", "8", "--version", "3"],
+        "invalid value '3' for '--version <version>': 3 is not in 1..=2",
+    ),
+    (
+        &["bpfs", "run", "f", "--version", "2"],
+        "unexpected argument '--version' found",
+    ),
+    (&["bpfs", "a\nb"], "unrecognized subcommand 'a b'"),
+];
+
 #[test]
 fn refuses_words(rt: HostRuntime) {
-    let rows = [
-        (
-            ["bpfs"].as_slice(),
-            "'bpfs' requires a subcommand but one was not provided [subcommands: format, run, check, play, help]",
-        ),
-        (
-            ["bpfs", "walk", "f"].as_slice(),
-            "unrecognized subcommand 'walk'",
-        ),
-        (
-            ["bpfs", "run"].as_slice(),
-            "the following required arguments were not provided: <FILE>",
-        ),
-        (
-            ["bpfs", "run", "f", "g"].as_slice(),
-            "unexpected argument 'g' found",
-        ),
-        (
-            ["bpfs", "check", ""].as_slice(),
-            "a value is required for '<FILE>' but none was supplied",
-        ),
-        (
-            ["bpfs", "format"].as_slice(),
-            "the following required arguments were not provided: --blocks <blocks> <FILE>",
-        ),
-        (
-            ["bpfs", "format", "f", "--blocks", "7"].as_slice(),
-            "invalid value '7' for '--blocks <blocks>': 7 is not in 8..=65536",
-        ),
-        (
-            ["bpfs", "format", "f", "--blocks", "65537"].as_slice(),
-            "invalid value '65537' for '--blocks <blocks>': 65537 is not in 8..=65536",
-        ),
-        (
-            ["bpfs", "format", "f", "--blocks", "eight"].as_slice(),
-            "invalid value 'eight' for '--blocks <blocks>': invalid digit found in string",
-        ),
-        (
-            ["bpfs", "format", "f", "--blocks", "8", "--version", "3"].as_slice(),
-            "invalid value '3' for '--version <version>': 3 is not in 1..=2",
-        ),
-        (
-            ["bpfs", "run", "f", "--version", "2"].as_slice(),
-            "unexpected argument '--version' found",
-        ),
-        (["bpfs", "a\nb"].as_slice(), "unrecognized subcommand 'a b'"),
-    ];
-    for (words, line) in rows {
-        assert_eq!(rt; told(rt.alloc(), words).as_deref(), Some(line));
+    for (words, line) in &REFUSED {
+        assert_eq!(rt; told(rt.alloc(), *words).as_deref(), Some(*line));
     }
 }
 

@@ -16,6 +16,7 @@ use bp_path::{FoundEntry, WalkFault, parse, walk, walk_parent_with, walk_with};
 use bp_scan::{Pending, scan};
 use pm_region::ListRegion;
 use std::alloc::{AllocError, Global};
+use std::process::Abort;
 use std::test::Fail;
 
 /// What `/d/f` finds in the image [`DEEP`].
@@ -127,19 +128,38 @@ fn who_knows_nothing_is_led_by_the_directories(rt: HostRuntime) -> Result<(), Fa
     Ok(())
 }
 
+/// What is remembered of names, each of a directory: its slot.
+fn remembers(rt: &impl Abort, names: &mut Names, wanted: &[(u32, &[u8], Option<u64>)]) {
+    for (dir, name, slot) in wanted {
+        assert_eq!(rt; names.hint(*dir, *name), *slot, "{dir}");
+    }
+}
+
 #[test]
 fn the_oldest_name_goes(rt: HostRuntime) -> Result<(), Fail> {
     let mut names = Names::new(rt.alloc(), 2)?;
-    assert!(rt; names.learn(1, b"a", 0));
-    assert!(rt; names.learn(1, b"b", 1));
-    assert!(rt; names.learn(1, b"c", 2));
-    assert_eq!(rt; names.hint(1, b"a"), None);
-    assert_eq!(rt; names.hint(1, b"b"), Some(1));
-    assert_eq!(rt; names.hint(1, b"c"), Some(2));
-    assert_eq!(rt; names.hint(2, b"c"), None);
+    for (name, slot) in [(b"a", 0), (b"b", 1), (b"c", 2)] {
+        assert!(rt; names.learn(1, name, slot));
+    }
+    let wanted: [(u32, &[u8], Option<u64>); 4] = [
+        (1, b"a", None),
+        (1, b"b", Some(1)),
+        (1, b"c", Some(2)),
+        (2, b"c", None),
+    ];
+    remembers(&rt, &mut names, &wanted);
+    Ok(())
+}
+
+#[test]
+fn names_are_forgotten(rt: HostRuntime) -> Result<(), Fail> {
+    let mut names = Names::new(rt.alloc(), 2)?;
+    for (name, slot) in [(b"b", 1), (b"c", 2)] {
+        assert!(rt; names.learn(1, name, slot));
+    }
     names.forget(1, b"b");
-    assert_eq!(rt; names.hint(1, b"b"), None);
+    remembers(&rt, &mut names, &[(1, b"b", None), (1, b"c", Some(2))]);
     names.forget_all();
-    assert_eq!(rt; names.hint(1, b"c"), None);
+    remembers(&rt, &mut names, &[(1, b"c", None)]);
     Ok(())
 }

@@ -8,8 +8,16 @@ use bp_io::{
 };
 use std::alloc::{AllocError, Global};
 use std::io::{ErrorKind, Read, Write};
+use std::process::Abort;
 use std::test::Fail;
 use std::{fs, io};
+
+/// The bytes at these places of a file.
+fn has_bytes(rt: &impl Abort, bytes: &[u8], wanted: &[(usize, u8)]) {
+    for (at, want) in wanted {
+        assert_eq!(rt; bytes.get(*at), Some(want), "at {at}");
+    }
+}
 
 #[test]
 fn disk_files_keep_blocks(rt: HostRuntime) -> Result<(), Fail> {
@@ -22,25 +30,58 @@ fn disk_files_keep_blocks(rt: HostRuntime) -> Result<(), Fail> {
     assert_eq!(rt; files.flush(), Ok(()));
     let bytes = fs::read(&rt, "disk.img")?;
     assert_eq!(rt; bytes.len(), 32_768);
-    for (at, want) in [(12_287, 0), (12_288, 77), (16_383, 77), (16_384, 0)] {
-        assert_eq!(rt; bytes.get(at).copied(), Some(want), "at {at}");
-    }
+    let wanted = [(12_287, 0), (12_288, 77), (16_383, 77), (16_384, 0)];
+    has_bytes(&rt, &bytes, &wanted);
+    fs::remove_file(&rt, "disk.img")?;
+    Ok(())
+}
+
+#[test]
+fn disk_files_are_locked(rt: HostRuntime) -> Result<(), Fail> {
+    let mut files = DiskFiles::new(rt.alloc(), &rt)?;
+    assert_eq!(rt; files.attach("locked.img", Access::Make), Ok(Some(0)));
     let mut again = DiskFiles::new(rt.alloc(), &rt)?;
     for access in [Access::Read, Access::Write, Access::Make] {
-        assert_eq!(rt; again.attach("disk.img", access), Err(Failed));
+        assert_eq!(rt; again.attach("locked.img", access), Err(Failed));
     }
     drop(files);
-    assert_eq!(rt; again.attach("disk.img", Access::Write), Ok(Some(32_768)));
+    assert_eq!(rt; again.attach("locked.img", Access::Write), Ok(Some(0)));
+    fs::remove_file(&rt, "locked.img")?;
+    Ok(())
+}
+
+#[test]
+fn disk_files_are_read(rt: HostRuntime) -> Result<(), Fail> {
+    fs::write(&rt, "read.img", [5u8; 8192].as_slice())?;
+    let mut files = DiskFiles::new(rt.alloc(), &rt)?;
+    assert_eq!(rt; files.attach("read.img", Access::Write), Ok(Some(8192)));
     let mut read = [1u8; 4096];
-    assert_eq!(rt; again.read_blocks(3, &mut read), Ok(()));
-    assert!(rt; read == block);
-    assert_eq!(rt; again.read_blocks(4, &mut read), Ok(()));
-    assert!(rt; read == [0u8; 4096]);
-    assert_eq!(rt; again.attach("disk.img", Access::Write), Ok(Some(32_768)));
-    assert_eq!(rt; again.set_blocks(2), Ok(()));
-    assert_eq!(rt; again.flush(), Ok(()));
-    assert_eq!(rt; fs::read(&rt, "disk.img")?.len(), 8192);
-    fs::remove_file(&rt, "disk.img")?;
+    assert_eq!(rt; files.read_blocks(1, &mut read), Ok(()));
+    assert!(rt; read == [5u8; 4096]);
+    fs::remove_file(&rt, "read.img")?;
+    Ok(())
+}
+
+/// Attaches a file twice, and cuts it. The answer is whether it had 8 blocks both times.
+fn cut_short<F: Files>(files: &mut F) -> Result<bool, Failed> {
+    if files.attach("cut.img", Access::Write)? != Some(32_768) {
+        return Ok(false);
+    }
+    if files.attach("cut.img", Access::Write)? != Some(32_768) {
+        return Ok(false);
+    }
+    files.set_blocks(2)?;
+    files.flush()?;
+    Ok(true)
+}
+
+#[test]
+fn disk_files_are_cut(rt: HostRuntime) -> Result<(), Fail> {
+    fs::write(&rt, "cut.img", [5u8; 32_768].as_slice())?;
+    let mut files = DiskFiles::new(rt.alloc(), &rt)?;
+    assert_eq!(rt; cut_short(&mut files), Ok(true));
+    assert_eq!(rt; fs::read(&rt, "cut.img")?.len(), 8192);
+    fs::remove_file(&rt, "cut.img")?;
     Ok(())
 }
 
@@ -56,9 +97,7 @@ fn disk_files_change_at_the_flush(rt: HostRuntime) -> Result<(), Fail> {
     // It is flushed before it is left.
     assert_eq!(rt; files.attach("whole.img", Access::Read), Ok(Some(12_288)));
     let bytes = fs::read(&rt, "whole.img")?;
-    for (at, want) in [(4095, 5), (4096, 6), (8191, 6), (8192, 0)] {
-        assert_eq!(rt; bytes.get(at).copied(), Some(want), "at {at}");
-    }
+    has_bytes(&rt, &bytes, &[(4095, 5), (4096, 6), (8191, 6), (8192, 0)]);
     fs::remove_file(&rt, "whole.img")?;
     Ok(())
 }
@@ -75,16 +114,9 @@ fn disk_files_are_replaced(rt: HostRuntime) -> Result<(), Fail> {
     assert_eq!(rt; files.flush(), Ok(()));
     let bytes = fs::read(&rt, "front.img")?;
     assert_eq!(rt; bytes.len(), 32_768);
-    for (at, want) in [
-        (0, 6),
-        (4095, 6),
-        (4096, 0),
-        (12_287, 0),
-        (20_480, 6),
-        (24_576, 0),
-    ] {
-        assert_eq!(rt; bytes.get(at).copied(), Some(want), "at {at}");
-    }
+    let front = [(0, 6), (4095, 6), (4096, 0), (12_287, 0)];
+    has_bytes(&rt, &bytes, &front);
+    has_bytes(&rt, &bytes, &[(20_480, 6), (24_576, 0)]);
     fs::remove_file(&rt, "front.img")?;
     Ok(())
 }
@@ -137,26 +169,51 @@ fn reads_long<F: Files>(alloc: Global, files: &mut F) -> Result<bool, AllocError
     Ok(is_long(&read))
 }
 
+/// Writes blocks of the long file over those of the row: one far behind it, one that is then read, and two more. The answer
+/// is whether that one was read as it was written.
+fn write_over<F: Files>(files: &mut F) -> Result<bool, Failed>
+    requires blocks { (F.view files.old).blocks ≡ 201 }
+    requires may_write { (F.view files.old).may_write ≡ true }
+    ensures may_write { (F.view files.new).may_write ≡ true }
+    ensures attached { (name : List ℕ) → (F.view files.new).is_attached name ≡ (F.view files.old).is_attached name }
+{
+    files.write_block(200, &[200; 4096])?;
+    files.write_block(0, &[77; 4096])?;
+    let mut read = [1u8; 4096];
+    files.read_blocks(0, &mut read)?;
+    files.write_block(2, &[78; 4096])?;
+    files.write_block(4, &[79; 4096])?;
+    Ok(read == [77; 4096])
+}
+
+/// Makes the long file. The answer is whether it was not there, and whether a block was read as it was written.
+fn make_long<F: Files>(files: &mut F) -> Result<bool, Failed> {
+    if files.attach("long.img", Access::Make)? != Some(0) {
+        return Ok(false);
+    }
+    files.set_blocks(201)?;
+    write_row(files)?;
+    let is_read = write_over(files)?;
+    files.flush()?;
+    Ok(is_read)
+}
+
+/// Whether the long file is there.
+fn keeps_long<F: Files>(alloc: Global, files: &mut F) -> Result<bool, AllocError> {
+    if files.attach("long.img", Access::Read) != Ok(Some(823_296)) {
+        return Ok(false);
+    }
+    reads_long(alloc, files)
+}
+
 #[test]
 fn disk_files_keep_many_blocks(rt: HostRuntime) -> Result<(), Fail> {
     let mut files = DiskFiles::new(rt.alloc(), &rt)?;
-    assert_eq!(rt; files.attach("long.img", Access::Make), Ok(Some(0)));
-    assert_eq!(rt; files.set_blocks(201), Ok(()));
-    assert_eq!(rt; write_row(&mut files), Ok(()));
-    assert_eq!(rt; files.write_block(200, &[200; 4096]), Ok(()));
-    assert_eq!(rt; files.write_block(0, &[77; 4096]), Ok(()));
-    let mut read = [1u8; 4096];
-    assert_eq!(rt; files.read_blocks(0, &mut read), Ok(()));
-    assert!(rt; read == [77; 4096]);
-    assert_eq!(rt; files.write_block(2, &[78; 4096]), Ok(()));
-    assert_eq!(rt; files.write_block(4, &[79; 4096]), Ok(()));
-    assert_eq!(rt; files.flush(), Ok(()));
-    let bytes = fs::read(&rt, "long.img")?;
+    assert_eq!(rt; make_long(&mut files), Ok(true));
     drop(files);
+    assert!(rt; is_long(&fs::read(&rt, "long.img")?));
     let mut again = DiskFiles::new(rt.alloc(), &rt)?;
-    assert_eq!(rt; again.attach("long.img", Access::Read), Ok(Some(823_296)));
-    assert!(rt; is_long(&bytes));
-    assert!(rt; reads_long(rt.alloc(), &mut again)?);
+    assert!(rt; keeps_long(rt.alloc(), &mut again)?);
     fs::remove_file(&rt, "long.img")?;
     Ok(())
 }
@@ -249,35 +306,54 @@ fn std_source_reads_a_file(rt: HostRuntime) -> Result<(), Fail> {
     fs::write(&rt, "in", "hello")?;
     let mut source = StdSource::new(fs::open(&rt, "in")?);
     let mut into = [0u8; 3];
-    assert_eq!(rt; source.read(&mut into), Ok(3));
-    assert!(rt; into == *b"hel");
-    assert_eq!(rt; source.read(&mut into), Ok(2));
-    assert!(rt; into == *b"lol");
-    assert_eq!(rt; source.read(&mut into), Ok(0));
+    for (count, bytes) in [(3, *b"hel"), (2, *b"lol"), (0, *b"lol")] {
+        assert_eq!(rt; source.read(&mut into), Ok(count));
+        assert!(rt; into == bytes);
+    }
     fs::remove_file(&rt, "in")?;
-    let mut folder = StdSource::new(fs::open(&rt, ".")?);
-    assert_eq!(rt; folder.read(&mut into), Err(Failed));
-    let mut interrupted = StdSource::new(Interrupted { signals: 3 });
-    assert_eq!(rt; interrupted.read(&mut into), Ok(1));
-    assert!(rt; into == [7, b'o', b'l']);
     Ok(())
+}
+
+#[test]
+fn std_source_fails_at_a_folder(rt: HostRuntime) -> Result<(), Fail> {
+    let mut folder = StdSource::new(fs::open(&rt, ".")?);
+    assert_eq!(rt; folder.read(&mut [0u8; 3]), Err(Failed));
+    Ok(())
+}
+
+#[test]
+fn std_source_reads_behind_signals(rt: HostRuntime) {
+    let mut interrupted = StdSource::new(Interrupted { signals: 3 });
+    let mut into = [0u8; 3];
+    assert_eq!(rt; interrupted.read(&mut into), Ok(1));
+    assert!(rt; into == [7, 0, 0]);
 }
 
 #[test]
 fn std_sink_writes_a_file(rt: HostRuntime) -> Result<(), Fail> {
     let mut sink = StdSink::new(fs::create(&rt, "replies")?);
-    assert_eq!(rt; sink.write(b"ok\n"), Ok(3));
-    assert_eq!(rt; sink.write(b""), Ok(0));
+    assert_eq!(rt; [sink.write(b"ok\n"), sink.write(b"")], [Ok(3), Ok(0)]);
     assert_eq!(rt; fs::read(&rt, "replies")?.as_slice(), b"ok\n".as_slice());
     fs::remove_file(&rt, "replies")?;
+    Ok(())
+}
+
+#[test]
+fn std_sink_fails_at_a_full_disk(rt: HostRuntime) -> Result<(), Fail> {
     let mut full = StdSink::new(fs::create(&rt, "/dev/full")?);
     assert_eq!(rt; full.write(b"ok\n"), Err(Failed));
+    Ok(())
+}
+
+#[test]
+fn std_sink_writes_behind_signals(rt: HostRuntime) {
     let mut interrupted = StdSink::new(Interrupted { signals: 3 });
     assert_eq!(rt; interrupted.write(b"ok\n"), Ok(1));
     let mut stuck = StdSink::new(Stuck);
-    assert_eq!(rt; stuck.write(b""), Ok(0));
-    assert_eq!(rt; stuck.write(b"ok\n"), Err(Failed));
-    Ok(())
+    assert_eq!(rt;
+        [stuck.write(b""), stuck.write(b"ok\n")],
+        [Ok(0), Err(Failed)]
+    );
 }
 
 #[test]
@@ -318,7 +394,7 @@ fn memory_sinks_take_pieces(rt: HostRuntime) -> Result<(), Fail> {
 }
 
 #[test]
-fn memory_files_keep_blocks(rt: HostRuntime) -> Result<(), Fail> {
+fn memory_files_grow(rt: HostRuntime) -> Result<(), Fail> {
     let mut fair = FairFiles::new(rt.alloc(), &[5; 5000])?;
     assert_eq!(rt; fair.attach("disk.img", Access::Write), Ok(Some(5000)));
     assert_eq!(rt; fair.set_blocks(2), Ok(()));
@@ -327,10 +403,17 @@ fn memory_files_keep_blocks(rt: HostRuntime) -> Result<(), Fail> {
     assert_eq!(rt; fair.read_blocks(1, &mut read), Ok(()));
     assert!(rt; read.starts_with(&[5; 904]));
     assert!(rt; read.ends_with(&[0; 3192]));
+    Ok(())
+}
+
+#[test]
+fn memory_files_keep_blocks(rt: HostRuntime) -> Result<(), Fail> {
+    let mut fair = FairFiles::new(rt.alloc(), &[5; 8192])?;
     assert_eq!(rt; fair.attach("disk.img", Access::Write), Ok(Some(8192)));
-    assert_eq!(rt; fair.write_block(0, &read), Ok(()));
+    let block = [6u8; 4096];
+    assert_eq!(rt; fair.write_block(0, &block), Ok(()));
     assert_eq!(rt; fair.flush(), Ok(()));
-    assert!(rt; fair.image().starts_with(&read));
+    assert!(rt; fair.image().starts_with(&block));
     assert_eq!(rt; fair.image().len(), 8192);
     Ok(())
 }

@@ -1,82 +1,155 @@
 //! The plain tree: each call once, and the numbers and words of refusals.
 
+ghost use Rattle.bp_plain.specs.Seen.{CanAsk};
+
 use bp_limits::Version;
 use bp_plain::{Answer, Call, FsError, Plain, Reply};
+use std::alloc::{AllocError, Global};
 use std::test::Fail;
+
+/// Refusals, their numbers and their words.
+const REFUSALS: [(FsError, u8, &str); 16] = [
+    (FsError::BadPath, 1, "badpath"),
+    (FsError::NotFound, 2, "notfound"),
+    (FsError::NotDir, 3, "notdir"),
+    (FsError::IsDir, 4, "isdir"),
+    (FsError::Exists, 5, "exists"),
+    (FsError::NotEmpty, 6, "notempty"),
+    (FsError::IntoSelf, 7, "intoself"),
+    (FsError::IsRoot, 8, "isroot"),
+    (FsError::TooLong, 9, "toolong"),
+    (FsError::TooBig, 10, "toobig"),
+    (FsError::NoSpace { need: 3, free: 2 }, 11, "nospace"),
+    (FsError::Memory, 12, "memory"),
+    (FsError::NoSnap, 13, "nosnap"),
+    (FsError::HasSnap, 14, "hassnap"),
+    (FsError::OldVersion, 15, "oldversion"),
+    (FsError::PastEnd, 16, "pastend"),
+];
 
 #[test]
 fn refusals(rt: HostRuntime) {
-    let full = FsError::NoSpace { need: 3, free: 2 };
-    let rows = [
-        (FsError::BadPath, 1, "badpath"),
-        (FsError::NotFound, 2, "notfound"),
-        (FsError::NotDir, 3, "notdir"),
-        (FsError::IsDir, 4, "isdir"),
-        (FsError::Exists, 5, "exists"),
-        (FsError::NotEmpty, 6, "notempty"),
-        (FsError::IntoSelf, 7, "intoself"),
-        (FsError::IsRoot, 8, "isroot"),
-        (FsError::TooLong, 9, "toolong"),
-        (FsError::TooBig, 10, "toobig"),
-        (full, 11, "nospace"),
-        (FsError::Memory, 12, "memory"),
-        (FsError::NoSnap, 13, "nosnap"),
-        (FsError::HasSnap, 14, "hassnap"),
-        (FsError::OldVersion, 15, "oldversion"),
-        (FsError::PastEnd, 16, "pastend"),
-    ];
-    for (error, number, word) in rows {
-        assert_eq!(rt; error.number(), number);
-        assert_eq!(rt; error.word(), word);
+    for (error, number, word) in &REFUSALS {
+        assert_eq!(rt; error.number(), *number);
+        assert_eq!(rt; error.word(), *word);
+    }
+}
+
+fn is_done(reply: &Reply) -> bool {
+    matches!(reply.answer(), Answer::Done)
+}
+
+/// Whether an answer is of these bytes.
+fn tells(reply: &Reply, bytes: &[u8]) -> bool {
+    match reply.answer() {
+        Answer::Bytes(told) => told == bytes,
+        _ => false,
     }
 }
 
 #[test]
-fn answers(rt: HostRuntime) -> Result<(), Fail> {
+fn numbers_are_answered(rt: HostRuntime) -> Result<(), Fail> {
     let mut reply = Reply::new(rt.alloc())?;
-    assert!(rt; matches!(reply.answer(), Answer::Done));
+    assert!(rt; is_done(&reply));
     reply.set_file(7);
     assert!(rt; matches!(reply.answer(), Answer::FileOf(7)));
     reply.set_dir(2);
     assert!(rt; matches!(reply.answer(), Answer::DirOf(2)));
     reply.set_links(3);
     assert!(rt; matches!(reply.answer(), Answer::LinksOf(3)));
+    Ok(())
+}
+
+#[test]
+fn bytes_are_answered(rt: HostRuntime) -> Result<(), Fail> {
+    let mut reply = Reply::new(rt.alloc())?;
     reply.buffer()[..3].copy_from_slice(b"abc");
     reply.set_bytes(3);
-    assert!(rt; matches!(reply.answer(), Answer::Bytes(b"abc")));
+    assert!(rt; tells(&reply, b"abc"));
     reply.buffer()[0] = b'x';
-    assert!(rt; matches!(reply.answer(), Answer::Done));
+    assert!(rt; is_done(&reply));
     reply.set_bytes(2);
-    assert!(rt; matches!(reply.answer(), Answer::Bytes(b"xb")));
+    assert!(rt; tells(&reply, b"xb"));
     reply.set_bytes(0);
-    assert!(rt; matches!(reply.answer(), Answer::Bytes(b"")));
+    assert!(rt; tells(&reply, b""));
+    Ok(())
+}
+
+#[test]
+fn other_answers(rt: HostRuntime) -> Result<(), Fail> {
+    let mut reply = Reply::new(rt.alloc())?;
     reply.set_refused(FsError::Exists);
     assert!(rt; matches!(reply.answer(), Answer::Refused(FsError::Exists)));
     reply.set_names(bp_layout::Listing::of(rt.alloc(), &[])?);
     assert!(rt; matches!(reply.answer(), Answer::Names(_)));
     reply.set_done();
-    assert!(rt; matches!(reply.answer(), Answer::Done));
+    assert!(rt; is_done(&reply));
     Ok(())
+}
+
+/// A plain tree, and the answer of its last call.
+#[derive(Drop)]
+struct Asked {
+    alloc: Global,
+    tree: Plain,
+    reply: Reply,
+}
+
+impl Asked {
+    fn new(alloc: Global) -> Result<Asked, AllocError> {
+        let tree = Plain::of(alloc, Version::One)?;
+        let reply = Reply::new(alloc)?;
+        Ok(Asked { alloc, tree, reply })
+    }
+
+    fn ask(&mut self, call: &Call<'_>) -> Result<Answer<'_>, AllocError>
+        requires { CanAsk call.now }
+    {
+        self.tree.apply(self.alloc, call, &mut self.reply)?;
+        Ok(self.reply.answer())
+    }
+
+    /// Whether a call is done, with nothing to tell.
+    fn does(&mut self, call: &Call<'_>) -> Result<bool, AllocError>
+        requires { CanAsk call.now }
+    {
+        Ok(matches!(self.ask(call)?, Answer::Done))
+    }
+
+    /// Whether these are the bytes of a file.
+    fn has(&mut self, path: &[u8], bytes: &[u8]) -> Result<bool, AllocError> {
+        let call = Call::Read {
+            path,
+            off: 0,
+            len: 9,
+        };
+        self.ask(&call)?;
+        Ok(tells(&self.reply, bytes))
+    }
+
+    /// Whether a file has so many names.
+    fn has_names(&mut self, path: &[u8], names: u32) -> Result<bool, AllocError> {
+        match self.ask(&Call::Links(path))? {
+            Answer::LinksOf(count) => Ok(count == names),
+            _ => Ok(false),
+        }
+    }
 }
 
 #[test]
 fn a_plain_tree_tells_names(rt: HostRuntime) -> Result<(), Fail> {
-    let alloc = rt.alloc();
-    let mut tree = Plain::of(alloc, Version::One)?;
-    let mut reply = Reply::new(alloc)?;
-    tree.apply(alloc, &Call::Create(b"/a"), &mut reply)?;
-    tree.apply(alloc, &Call::Create(b"/a/x"), &mut reply)?;
-    assert!(rt; matches!(reply.answer(), Answer::Refused(FsError::NotDir)));
-    tree.apply(alloc, &Call::List(b"/"), &mut reply)?;
-    assert!(rt; matches!(reply.answer(), Answer::Names(listing) if listing.len() == 1));
+    let mut asked = Asked::new(rt.alloc())?;
+    assert!(rt; asked.does(&Call::Create(b"/a"))?);
+    let answer = asked.ask(&Call::Create(b"/a/x"))?;
+    assert!(rt; matches!(answer, Answer::Refused(FsError::NotDir)));
+    let answer = asked.ask(&Call::List(b"/"))?;
+    assert!(rt; matches!(answer, Answer::Names(listing) if listing.len() == 1));
     Ok(())
 }
 
 #[test]
 fn a_plain_tree_keeps_bytes(rt: HostRuntime) -> Result<(), Fail> {
-    let alloc = rt.alloc();
-    let mut tree = Plain::of(alloc, Version::One)?;
-    let mut reply = Reply::new(alloc)?;
+    let mut asked = Asked::new(rt.alloc())?;
     let calls = [
         Call::Create(b"/a"),
         Call::Mkdir(b"/d"),
@@ -98,24 +171,15 @@ fn a_plain_tree_keeps_bytes(rt: HostRuntime) -> Result<(), Fail> {
         },
     ];
     for call in calls {
-        tree.apply(alloc, &call, &mut reply)?;
-        assert!(rt; matches!(reply.answer(), Answer::Done));
+        assert!(rt; asked.does(&call)?);
     }
-    let call = Call::Read {
-        path: b"/b",
-        off: 0,
-        len: 9,
-    };
-    tree.apply(alloc, &call, &mut reply)?;
-    assert!(rt; matches!(reply.answer(), Answer::Bytes(b"\0\0h")));
+    assert!(rt; asked.has(b"/b", b"\0\0h")?);
     Ok(())
 }
 
 #[test]
 fn a_plain_tree_counts_names(rt: HostRuntime) -> Result<(), Fail> {
-    let alloc = rt.alloc();
-    let mut tree = Plain::of(alloc, Version::One)?;
-    let mut reply = Reply::new(alloc)?;
+    let mut asked = Asked::new(rt.alloc())?;
     let calls = [
         Call::Create(b"/a"),
         Call::Link {
@@ -130,20 +194,11 @@ fn a_plain_tree_counts_names(rt: HostRuntime) -> Result<(), Fail> {
         },
     ];
     for call in calls {
-        tree.apply(alloc, &call, &mut reply)?;
-        assert!(rt; matches!(reply.answer(), Answer::Done));
+        assert!(rt; asked.does(&call)?);
     }
-    let call = Call::Read {
-        path: b"/b",
-        off: 0,
-        len: 9,
-    };
-    tree.apply(alloc, &call, &mut reply)?;
-    assert!(rt; matches!(reply.answer(), Answer::Bytes(b"hi")));
-    tree.apply(alloc, &Call::Links(b"/b"), &mut reply)?;
-    assert!(rt; matches!(reply.answer(), Answer::LinksOf(2)));
-    tree.apply(alloc, &Call::Unlink(b"/a"), &mut reply)?;
-    tree.apply(alloc, &Call::Links(b"/b"), &mut reply)?;
-    assert!(rt; matches!(reply.answer(), Answer::LinksOf(1)));
+    assert!(rt; asked.has(b"/b", b"hi")?);
+    assert!(rt; asked.has_names(b"/b", 2)?);
+    assert!(rt; asked.does(&Call::Unlink(b"/a"))?);
+    assert!(rt; asked.has_names(b"/b", 1)?);
     Ok(())
 }

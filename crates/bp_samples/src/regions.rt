@@ -17,18 +17,45 @@ const TWO_EPOCHS: [Event; 5] = [
     Event::Store { word: 2, value: 4 },
 ];
 
-/// A choice of what a crash keeps of the two epochs, by its moment, its epoch and its mask, and what is left then of words
-/// of 0: `None` where the choice is not right.
-type Crash = (usize, usize, &'static [bool], Option<[u64; 3]>);
+/// A call of two stores.
+const ONE_CALL: [Event; 3] = [
+    Event::Store { word: 0, value: 1 },
+    Event::Store { word: 1, value: 2 },
+    Event::Mark,
+];
 
-const CRASHES: [Crash; 7] = [
-    (5, 0, &[false, false, true], Some([3, 0, 0])),
-    (5, 0, &[false, true, false], Some([0, 2, 0])),
-    (5, 1, &[], Some([3, 2, 0])),
-    (5, 1, &[true], Some([3, 2, 4])),
-    (2, 1, &[], None),
-    (5, 1, &[true, true], None),
-    (6, 0, &[], None),
+/// A log, a choice of what a crash keeps of it, by its moment, its epoch and its mask, and what is left then of words of 0,
+/// with how many calls were made: `None` where the choice is not right. No call is kept.
+type Crash = (
+    &'static [Event],
+    usize,
+    usize,
+    &'static [bool],
+    Option<([u64; 3], usize)>,
+);
+
+/// In the last row a store that is lost stands before one that is kept: then the call of both is not kept.
+const CRASHES: [Crash; 8] = [
+    (
+        &TWO_EPOCHS,
+        5,
+        0,
+        &[false, false, true],
+        Some(([3, 0, 0], 0)),
+    ),
+    (
+        &TWO_EPOCHS,
+        5,
+        0,
+        &[false, true, false],
+        Some(([0, 2, 0], 0)),
+    ),
+    (&TWO_EPOCHS, 5, 1, &[], Some(([3, 2, 0], 0))),
+    (&TWO_EPOCHS, 5, 1, &[true], Some(([3, 2, 4], 0))),
+    (&TWO_EPOCHS, 2, 1, &[], None),
+    (&TWO_EPOCHS, 5, 1, &[true, true], None),
+    (&TWO_EPOCHS, 6, 0, &[], None),
+    (&ONE_CALL, 2, 0, &[false, true], Some(([0, 2, 0], 1))),
 ];
 
 fn chosen(alloc: Global, moment: usize, epoch: usize, mask: &[bool]) -> Result<Choice, AllocError> {
@@ -42,18 +69,21 @@ fn chosen(alloc: Global, moment: usize, epoch: usize, mask: &[bool]) -> Result<C
     Ok(choice)
 }
 
+/// What a crash leaves of three words of 0.
+fn replayed(events: &[Event], choice: &Choice) -> Result<[u64; 3], BadChoice> {
+    let first = replay_word(0, events, choice, 0)?;
+    let second = replay_word(0, events, choice, 1)?;
+    let third = replay_word(0, events, choice, 2)?;
+    Ok([first, second, third])
+}
+
 #[test]
-fn replays_of_two_epochs(rt: HostRuntime) -> Result<(), Fail> {
-    for (moment, epoch, mask, left) in &CRASHES {
+fn logs_are_replayed(rt: HostRuntime) -> Result<(), Fail> {
+    for (events, moment, epoch, mask, left) in &CRASHES {
         let choice = chosen(rt.alloc(), *moment, *epoch, *mask)?;
         match left {
-            Some(words) => {
-                for word in 0..3u32 {
-                    let value = replay_word(0, &TWO_EPOCHS, &choice, word).ok();
-                    assert_eq!(rt; value, Some(words[word as usize]), "{epoch} {word}");
-                }
-            }
-            None => assert_eq!(rt; check_choice(&TWO_EPOCHS, &choice), Err(BadChoice)),
+            Some((words, _)) => assert_eq!(rt; replayed(*events, &choice), Ok(*words)),
+            None => assert_eq!(rt; check_choice(*events, &choice), Err(BadChoice)),
         }
     }
     Ok(())
@@ -79,127 +109,158 @@ fn list(alloc: Global, words: u32, capacity: usize) -> Result<ListRegion, AllocE
     ListRegion::new(alloc, vec![in alloc; 0u64; words as usize]?, capacity)
 }
 
-/// Does these events to a region, up to the first for which it has no word or no room.
-fn follow<R: Region>(region: &mut R, events: &[Event]) {
-    for event in events {
-        if region.room() == 0 {
-            return;
-        }
-        match *event {
-            Event::Store { word, value } => {
-                if word >= region.words() {
-                    return;
-                }
+/// Does an event to a region that has its word, and room.
+fn follow_one<R: Region>(region: &mut R, event: Event) {
+    if region.room() == 0 {
+        return;
+    }
+    match event {
+        Event::Store { word, value } => {
+            if word < region.words() {
                 region.store(word, value);
             }
-            Event::Barrier => region.barrier(),
-            Event::Mark => region.mark(),
+        }
+        Event::Barrier => region.barrier(),
+        Event::Mark => region.mark(),
+    }
+}
+
+/// Does these events to a region, those for which it has a word and room.
+fn follow<R: Region>(region: &mut R, events: &[Event]) {
+    for event in events {
+        follow_one(region, *event);
+    }
+}
+
+/// Whether a region's log has these events.
+fn has_log<R: Region>(region: &R, log: &[Event]) -> bool {
+    let count = region.event_count();
+    for i in 0..count {
+        if log.get(i) != Some(&region.event(i)) {
+            return false;
         }
     }
+    log.len() == count
 }
 
-/// A store and a barrier fill the log of two places, and a drain brings the store to the words at the last drain.
-fn stores_reach_the_base_at_a_drain<R: Region, A: Abort>(rt: &A, region: &mut R) {
-    assert!(rt; region.words() == 4);
-    assert!(rt; region.room() == 2);
-    for word in 0..4u32 {
-        assert_eq!(rt; region.load(word), 0);
-        assert_eq!(rt; region.base_word(word), 0);
+/// Whether these are a region's words, as the processor sees them and at the last drain.
+fn stands_at<R: Region>(region: &R, now: &[u64], base: &[u64]) -> bool {
+    let words = region.words();
+    for word in 0..words {
+        if now.get(word as usize) != Some(&region.load(word)) {
+            return false;
+        }
+        if base.get(word as usize) != Some(&region.base_word(word)) {
+            return false;
+        }
     }
-    region.store(1, 5);
-    assert!(rt; region.room() == 1);
-    region.barrier();
-    assert_eq!(rt; region.room(), 0);
-    assert!(rt; region.event_count() == 2);
-    assert_eq!(rt; region.event(1), Event::Barrier);
-    assert_eq!(rt; region.load(1), 5);
-    assert_eq!(rt; region.base_word(1), 0);
-    region.drain();
-    assert_eq!(rt; region.room(), 2);
-    assert!(rt; region.words() == 4);
-    assert_eq!(rt; region.base_word(1), 5);
-    region.adopt_words(2, &[8, 9]);
-    assert!(rt; region.words() == 4);
-    assert_eq!(rt; region.load(1), 5);
-    assert_eq!(rt; region.load(2), 8);
-    assert_eq!(rt; region.base_word(3), 9);
-    region.adopt_word(3, 7);
-    assert!(rt; region.words() == 4);
-    assert_eq!(rt; region.load(3), 7);
+    now.len() == words as usize
 }
 
-/// Of three words of 0, with room for the two epochs.
-fn crash_leaves<R: Region, A: Abort>(
-    rt: &A,
-    region: &mut R,
-    choice: &Choice,
-    left: Option<[u64; 3]>,
-) {
-    follow(region, &TWO_EPOCHS);
-    assert_eq!(rt; region.event_count(), 5);
+/// What is done to a region.
+#[derive(Clone, Copy)]
+enum Step {
+    Log(Event),
+    Drain,
+    AdoptWords(u32, [u64; 2]),
+    AdoptWord(u32, u64),
+}
+
+/// A step, what the log of two places has then, and the words, as the processor sees them and at the last drain.
+type Stepped = (Step, &'static [Event], [u64; 4], [u64; 4]);
+
+const FIVE: Event = Event::Store { word: 1, value: 5 };
+
+/// A store and a barrier fill the log, and a drain brings the store to the words at the last drain.
+const STEPS: [Stepped; 6] = [
+    (Step::Drain, &[], [0; 4], [0; 4]),
+    (Step::Log(FIVE), &[FIVE], [0, 5, 0, 0], [0; 4]),
+    (
+        Step::Log(Event::Barrier),
+        &[FIVE, Event::Barrier],
+        [0, 5, 0, 0],
+        [0; 4],
+    ),
+    (Step::Drain, &[], [0, 5, 0, 0], [0, 5, 0, 0]),
+    (Step::AdoptWords(2, [8, 9]), &[], [0, 5, 8, 9], [0, 5, 8, 9]),
+    (Step::AdoptWord(3, 7), &[], [0, 5, 8, 7], [0, 5, 8, 7]),
+];
+
+/// Adopts where the region has these words. A drain of an empty log, as it is there, does nothing.
+fn adopt<R: Region>(region: &mut R, first: u32, values: &[u64]) {
+    region.drain();
+    let words = region.words() as usize;
+    if first as usize <= words && values.len() <= words - first as usize {
+        region.adopt_words(first, values);
+    }
+}
+
+fn adopt_one<R: Region>(region: &mut R, word: u32, value: u64) {
+    region.drain();
+    if word < region.words() {
+        region.adopt_word(word, value);
+    }
+}
+
+fn take_step<R: Region>(region: &mut R, step: Step) {
+    match step {
+        Step::Log(event) => follow_one(region, event),
+        Step::Drain => region.drain(),
+        Step::AdoptWords(first, values) => adopt(region, first, &values),
+        Step::AdoptWord(word, value) => adopt_one(region, word, value),
+    }
+}
+
+fn takes_steps<R: Region, A: Abort>(rt: &A, region: &mut R) {
+    for (step, log, now, base) in &STEPS {
+        take_step(region, *step);
+        assert!(rt; has_log(region, *log));
+        assert_eq!(rt; Some(region.room()), 2usize.checked_sub(log.len()));
+        assert!(rt; stands_at(region, now, base));
+    }
+}
+
+/// Of three words of 0, with room for the log.
+fn crash_leaves<R: Region, A: Abort>(rt: &A, region: &mut R, crash: &Crash, choice: &Choice) {
+    let (events, _, _, _, left) = crash;
+    follow(region, *events);
+    assert_eq!(rt; region.event_count(), events.len());
     let answer = region.crash_to(choice);
     match left {
-        Some(words) => {
-            assert_eq!(rt; answer, Ok(Kept { c: 0, n: 0 }));
+        Some((words, calls)) => {
+            assert_eq!(rt; answer, Ok(Kept { c: 0, n: *calls }));
             assert_eq!(rt; region.event_count(), 0);
-            assert!(rt; region.words() == 3);
-            for word in 0..3u32 {
-                assert_eq!(rt; region.load(word), words[word as usize]);
-                assert_eq!(rt; region.base_word(word), words[word as usize]);
-            }
+            assert!(rt; stands_at(region, words, words));
         }
         None => {
             assert_eq!(rt; answer, Err(BadChoice));
-            assert_eq!(rt; region.event_count(), 5);
+            assert_eq!(rt; region.event_count(), events.len());
         }
     }
-}
-
-/// A store that a crash loses, before one that it keeps: then the call of both is not kept.
-fn crash_keeps_what_was_written_back<R: Region, A: Abort>(rt: &A, region: &mut R, choice: &Choice) {
-    let events = [
-        Event::Store { word: 0, value: 1 },
-        Event::Store { word: 1, value: 2 },
-        Event::Mark,
-    ];
-    follow(region, &events);
-    assert_eq!(rt; region.crash_to(choice).ok(), Some(Kept { c: 0, n: 1 }));
-    assert_eq!(rt; region.event_count(), 0);
-    assert!(rt; region.words() == 4);
-    assert_eq!(rt; region.load(0), 0);
-    assert_eq!(rt; region.load(1), 2);
 }
 
 #[test]
 fn a_raw_region_crashes(rt: HostRuntime) -> Result<(), Fail> {
-    for (moment, epoch, mask, left) in &CRASHES {
-        let choice = chosen(rt.alloc(), *moment, *epoch, *mask)?;
-        crash_leaves(&rt, &mut RawRegion::new(rt.alloc(), 3, 8)?, &choice, *left);
+    for crash in &CRASHES {
+        let choice = chosen(rt.alloc(), crash.1, crash.2, crash.3)?;
+        crash_leaves(&rt, &mut RawRegion::new(rt.alloc(), 3, 8)?, crash, &choice);
     }
     Ok(())
 }
 
 #[test]
 fn a_list_region_crashes(rt: HostRuntime) -> Result<(), Fail> {
-    for (moment, epoch, mask, left) in &CRASHES {
-        let choice = chosen(rt.alloc(), *moment, *epoch, *mask)?;
-        crash_leaves(&rt, &mut list(rt.alloc(), 3, 8)?, &choice, *left);
+    for crash in &CRASHES {
+        let choice = chosen(rt.alloc(), crash.1, crash.2, crash.3)?;
+        crash_leaves(&rt, &mut list(rt.alloc(), 3, 8)?, crash, &choice);
     }
     Ok(())
 }
 
 #[test]
-fn both_regions_keep_what_was_written_back(rt: HostRuntime) -> Result<(), Fail> {
-    let choice = chosen(rt.alloc(), 2, 0, &[false, true])?;
-    crash_keeps_what_was_written_back(&rt, &mut RawRegion::new(rt.alloc(), 4, 8)?, &choice);
-    crash_keeps_what_was_written_back(&rt, &mut list(rt.alloc(), 4, 8)?, &choice);
-    Ok(())
-}
-
-#[test]
 fn both_regions_drain(rt: HostRuntime) -> Result<(), Fail> {
-    stores_reach_the_base_at_a_drain(&rt, &mut RawRegion::new(rt.alloc(), 4, 2)?);
-    stores_reach_the_base_at_a_drain(&rt, &mut list(rt.alloc(), 4, 2)?);
+    takes_steps(&rt, &mut RawRegion::new(rt.alloc(), 4, 2)?);
+    takes_steps(&rt, &mut list(rt.alloc(), 4, 2)?);
     Ok(())
 }
 

@@ -15,153 +15,165 @@ fn asks(rt: &impl Abort, decoded: &mut Decoded, bytes: &[u8], want: Result<Line<
     assert_eq!(rt; decoded.line(bytes), want, "{bytes:?}");
 }
 
+/// Lines, and the calls that they are.
+const CALLS: [(&[u8], Call<'static>); 22] = [
+    (b"create /a", Call::Create(b"/a")),
+    (b"mkdir /a", Call::Mkdir(b"/a")),
+    (b"unlink /a%20", Call::Unlink(b"/a ")),
+    (b"rmdir /a%2F", Call::Rmdir(b"/a\0")),
+    (b"list /", Call::List(b"/")),
+    (b"stat /a/b", Call::Stat(b"/a/b")),
+    (b"create a", Call::Create(b"a")),
+    (b"create /a%2Fb", Call::Create(b"/a\0b")),
+    (b"create /a%2fb%20c", Call::Create(b"/a\0b c")),
+    (b"stat %", Call::Stat(b"%")),
+    (b"stat /%4/%zz", Call::Stat(b"/%4/%zz")),
+    (b"stat /%%41", Call::Stat(b"/%A")),
+    (b"stat /%2/F", Call::Stat(b"/%2/F")),
+    (b"list //a\r", Call::List(b"//a\r")),
+    (
+        b"write /a 7 00fF",
+        Call::Write {
+            path: b"/a",
+            off: 7,
+            bytes: b"\x00\xff",
+        },
+    ),
+    (
+        b"write a%2Fb 18446744073709551615 -",
+        Call::Write {
+            path: b"a\0b",
+            off: u64::MAX,
+            bytes: b"",
+        },
+    ),
+    (
+        b"truncate /%20 00000000000000000010",
+        Call::Truncate {
+            path: b"/ ",
+            size: 10,
+        },
+    ),
+    (
+        b"rename /a%20b c%2F",
+        Call::Rename {
+            from: b"/a b",
+            to: b"c\0",
+        },
+    ),
+    (
+        b"link /a%20b c%2F",
+        Call::Link {
+            from: b"/a b",
+            to: b"c\0",
+        },
+    ),
+    (b"links /%61", Call::Links(b"/a")),
+    (b"links upgrade", Call::Links(b"upgrade")),
+    (b"upgrade", Call::Upgrade),
+];
+
 #[test]
 fn lines_of_the_table(rt: HostRuntime) -> Result<(), Fail> {
     let mut decoded = Decoded::new(rt.alloc(), 64)?;
-    let calls: [(&[u8], Call<'static>); 22] = [
-        (b"create /a", Call::Create(b"/a")),
-        (b"mkdir /a", Call::Mkdir(b"/a")),
-        (b"unlink /a%20", Call::Unlink(b"/a ")),
-        (b"rmdir /a%2F", Call::Rmdir(b"/a\0")),
-        (b"list /", Call::List(b"/")),
-        (b"stat /a/b", Call::Stat(b"/a/b")),
-        (b"create a", Call::Create(b"a")),
-        (b"create /a%2Fb", Call::Create(b"/a\0b")),
-        (b"create /a%2fb%20c", Call::Create(b"/a\0b c")),
-        (b"stat %", Call::Stat(b"%")),
-        (b"stat /%4/%zz", Call::Stat(b"/%4/%zz")),
-        (b"stat /%%41", Call::Stat(b"/%A")),
-        (b"stat /%2/F", Call::Stat(b"/%2/F")),
-        (b"list //a\r", Call::List(b"//a\r")),
-        (
-            b"write /a 7 00fF",
-            Call::Write {
-                path: b"/a",
-                off: 7,
-                bytes: b"\x00\xff",
-            },
-        ),
-        (
-            b"write a%2Fb 18446744073709551615 -",
-            Call::Write {
-                path: b"a\0b",
-                off: u64::MAX,
-                bytes: b"",
-            },
-        ),
-        (
-            b"truncate /%20 00000000000000000010",
-            Call::Truncate {
-                path: b"/ ",
-                size: 10,
-            },
-        ),
-        (
-            b"rename /a%20b c%2F",
-            Call::Rename {
-                from: b"/a b",
-                to: b"c\0",
-            },
-        ),
-        (
-            b"link /a%20b c%2F",
-            Call::Link {
-                from: b"/a b",
-                to: b"c\0",
-            },
-        ),
-        (b"links /%61", Call::Links(b"/a")),
-        (b"links upgrade", Call::Links(b"upgrade")),
-        (b"upgrade", Call::Upgrade),
-    ];
-    for (bytes, call) in calls {
-        asks(&rt, &mut decoded, bytes, Ok(Line::Call(call)));
+    for (bytes, call) in &CALLS {
+        asks(&rt, &mut decoded, *bytes, Ok(Line::Call(*call)));
     }
     asks(&rt, &mut decoded, b"sync", Ok(Line::Sync));
     asks(&rt, &mut decoded, b"space", Ok(Line::Space));
     Ok(())
 }
 
+/// Lines that are reads, each with its path, its offset and its length.
+const READS: [(&[u8], &[u8], u64, usize); 5] = [
+    (b"read /a 0 65536", b"/a", 0, 65_536),
+    (b"read a%2Fb%20c 1 2", b"a\0b c", 1, 2),
+    (b"read / 18446744073709551615 0", b"/", u64::MAX, 0),
+    (b"read x 00000000000000000010 007", b"x", 10, 7),
+    (b"read read 9 00000000000000000009", b"read", 9, 9),
+];
+
+/// Lines that are no reads.
+const NO_READS: [&[u8]; 17] = [
+    b"read /a 0 65537",
+    b"read /a 18446744073709551616 0",
+    b"read /a 99999999999999999999 0",
+    b"read /a 000000000000000000000 0",
+    b"read /a +1 0",
+    b"read /a -1 0",
+    b"read /a 0 0x1",
+    b"read /a 0 1_0",
+    b"read /a 0 1\r",
+    b"read /a \xd9\xa1 0",
+    b"read /a 1 ",
+    b"read /a  1",
+    b"read  0 0",
+    b"read /a 0",
+    b"read /a",
+    b"read /a 0 0 0",
+    b"list /a 0 0",
+];
+
 #[test]
 fn lines_of_reads(rt: HostRuntime) -> Result<(), Fail> {
     let mut decoded = Decoded::new(rt.alloc(), 64)?;
-    let reads: [(&[u8], &[u8], u64, usize); 5] = [
-        (b"read /a 0 65536", b"/a", 0, 65_536),
-        (b"read a%2Fb%20c 1 2", b"a\0b c", 1, 2),
-        (b"read / 18446744073709551615 0", b"/", u64::MAX, 0),
-        (b"read x 00000000000000000010 007", b"x", 10, 7),
-        (b"read read 9 00000000000000000009", b"read", 9, 9),
-    ];
-    for (bytes, path, off, len) in reads {
-        let want = Call::Read { path, off, len };
-        asks(&rt, &mut decoded, bytes, Ok(Line::Call(want)));
+    for (bytes, path, off, len) in &READS {
+        let want = Call::Read {
+            path: *path,
+            off: *off,
+            len: *len,
+        };
+        asks(&rt, &mut decoded, *bytes, Ok(Line::Call(want)));
     }
-    let lines: [&[u8]; 17] = [
-        b"read /a 0 65537",
-        b"read /a 18446744073709551616 0",
-        b"read /a 99999999999999999999 0",
-        b"read /a 000000000000000000000 0",
-        b"read /a +1 0",
-        b"read /a -1 0",
-        b"read /a 0 0x1",
-        b"read /a 0 1_0",
-        b"read /a 0 1\r",
-        b"read /a \xd9\xa1 0",
-        b"read /a 1 ",
-        b"read /a  1",
-        b"read  0 0",
-        b"read /a 0",
-        b"read /a",
-        b"read /a 0 0 0",
-        b"list /a 0 0",
-    ];
-    for bytes in lines {
-        asks(&rt, &mut decoded, bytes, Err(Syntax));
+    for bytes in &NO_READS {
+        asks(&rt, &mut decoded, *bytes, Err(Syntax));
     }
     Ok(())
 }
 
+/// Lines that are none of a script.
+const NO_LINES: [&[u8]; 34] = [
+    b"write /a 0 0",
+    b"write /a 0 0g",
+    b"write /a 0 --",
+    b"write /a -1 00",
+    b"write /a 0",
+    b"rename /a",
+    b"rename /a /b /c",
+    b"link /a",
+    b"link /a /b /c",
+    b"link  /a",
+    b"links",
+    b"links /a /b",
+    b"upgrade ",
+    b"upgrade 2",
+    b"upgrades",
+    b"truncate /a",
+    b"truncate /a -",
+    b"truncate /a 18446744073709551616",
+    b"",
+    b" ",
+    b"sync ",
+    b" sync",
+    b"sync\r",
+    b"sync /a",
+    b"SYNC",
+    b"space /",
+    b"space ",
+    b"create",
+    b"create ",
+    b"create  /a",
+    b"create /a ",
+    b"create /a /b",
+    b"creat /a",
+    b"remove /a",
+];
+
 #[test]
 fn lines_outside_the_table(rt: HostRuntime) -> Result<(), Fail> {
     let mut decoded = Decoded::new(rt.alloc(), 64)?;
-    let lines: [&[u8]; 34] = [
-        b"write /a 0 0",
-        b"write /a 0 0g",
-        b"write /a 0 --",
-        b"write /a -1 00",
-        b"write /a 0",
-        b"rename /a",
-        b"rename /a /b /c",
-        b"link /a",
-        b"link /a /b /c",
-        b"link  /a",
-        b"links",
-        b"links /a /b",
-        b"upgrade ",
-        b"upgrade 2",
-        b"upgrades",
-        b"truncate /a",
-        b"truncate /a -",
-        b"truncate /a 18446744073709551616",
-        b"",
-        b" ",
-        b"sync ",
-        b" sync",
-        b"sync\r",
-        b"sync /a",
-        b"SYNC",
-        b"space /",
-        b"space ",
-        b"create",
-        b"create ",
-        b"create  /a",
-        b"create /a ",
-        b"create /a /b",
-        b"creat /a",
-        b"remove /a",
-    ];
-    for bytes in lines {
-        asks(&rt, &mut decoded, bytes, Err(Syntax));
+    for bytes in &NO_LINES {
+        asks(&rt, &mut decoded, *bytes, Err(Syntax));
     }
     Ok(())
 }
@@ -269,54 +281,56 @@ fn name_texts(rt: HostRuntime) -> Result<(), Fail> {
     Ok(())
 }
 
+/// Notices, and their texts.
+const NOTICES: [(Notice, &[u8]); 8] = [
+    (Notice::Formatted { blocks: 8, free: 6 }, b"formatted 8 6\n"),
+    (Notice::NotFormatted, b"err 30 notformatted\n"),
+    (
+        Notice::BadSize {
+            found: 32_767,
+            wanted: u64::MAX,
+        },
+        b"err 31 badsize 32767 18446744073709551615\n",
+    ),
+    (
+        Notice::Damaged {
+            check: 13,
+            place: 8_388_607,
+        },
+        b"err 32 damaged 13 8388607\n",
+    ),
+    (
+        Notice::Clean {
+            files: 3,
+            dirs: 2,
+            bytes: 549_755_813_888,
+            live: 9,
+            free: 16_374,
+        },
+        b"clean 3 2 549755813888 9 16374\n",
+    ),
+    (
+        Notice::Clean {
+            files: u64::MAX,
+            dirs: u64::MAX,
+            bytes: u128::MAX,
+            live: u32::MAX,
+            free: u32::MAX,
+        },
+        b"clean 18446744073709551615 18446744073709551615 340282366920938463463374607431768211455 4294967295 4294967295\n",
+    ),
+    (Notice::NoFile, b"err 34 nofile\n"),
+    (
+        Notice::Usage,
+        b"usage: bpfs format FILE --blocks N [--version V] / run FILE / check FILE / play FILE --seed S --count C\n",
+    ),
+];
+
 #[test]
 fn notices(rt: HostRuntime) {
     let mut into = [0u8; MAX_NOTICE];
-    let rows: [(Notice, &[u8]); 8] = [
-        (Notice::Formatted { blocks: 8, free: 6 }, b"formatted 8 6\n"),
-        (Notice::NotFormatted, b"err 30 notformatted\n"),
-        (
-            Notice::BadSize {
-                found: 32_767,
-                wanted: u64::MAX,
-            },
-            b"err 31 badsize 32767 18446744073709551615\n",
-        ),
-        (
-            Notice::Damaged {
-                check: 13,
-                place: 8_388_607,
-            },
-            b"err 32 damaged 13 8388607\n",
-        ),
-        (
-            Notice::Clean {
-                files: 3,
-                dirs: 2,
-                bytes: 549_755_813_888,
-                live: 9,
-                free: 16_374,
-            },
-            b"clean 3 2 549755813888 9 16374\n",
-        ),
-        (
-            Notice::Clean {
-                files: u64::MAX,
-                dirs: u64::MAX,
-                bytes: u128::MAX,
-                live: u32::MAX,
-                free: u32::MAX,
-            },
-            b"clean 18446744073709551615 18446744073709551615 340282366920938463463374607431768211455 4294967295 4294967295\n",
-        ),
-        (Notice::NoFile, b"err 34 nofile\n"),
-        (
-            Notice::Usage,
-            b"usage: bpfs format FILE --blocks N [--version V] / run FILE / check FILE / play FILE --seed S --count C\n",
-        ),
-    ];
-    for (notice, want) in rows {
-        let end = announce(&notice, &mut into);
-        assert_eq!(rt; &into[..end], want);
+    for (notice, want) in &NOTICES {
+        let end = announce(notice, &mut into);
+        assert_eq!(rt; &into[..end], *want);
     }
 }

@@ -40,9 +40,9 @@ pub(crate) struct NewName<'a> {
 
 impl<'a> NewName<'a> {
     /// The name in the slot that it gets.
-    pub fn at(self, slot: u64) -> NameAt<'a>
-        ensures dir { result.dir ≡ self.dir }
-        ensures name { result.name.now ≡ self.name.now }
+    pub fn at(&self, slot: u64) -> NameAt<'a>
+        ensures dir { result.dir ≡ self.now.dir }
+        ensures name { result.name.now ≡ self.now.name.now }
         ensures slot { result.slot ≡ slot }
     {
         NameAt {
@@ -64,6 +64,34 @@ pub(crate) struct Target<'a> {
     pub there: Option<FoundEntry>,
     /// Where nothing has it, the least slot of the directory whose entry is empty, None where no entry is.
     pub empty: Option<u64>,
+}
+
+/// An entry, and the name by which it was found.
+#[derive(Clone, Copy)]
+pub(crate) struct NamedEntry<'a> {
+    /// The number of the inode that it names.
+    pub inumber: u32,
+    /// The directory's inode.
+    pub dir: u32,
+    /// The name.
+    pub name: &'a [u8],
+    /// The slot.
+    pub slot: u64,
+}
+
+impl<'a> NamedEntry<'a> {
+    /// The name in its slot.
+    pub fn at(&self) -> NameAt<'a>
+        ensures dir { result.dir ≡ self.now.dir }
+        ensures name { result.name.now ≡ self.now.name.now }
+        ensures slot { result.slot ≡ self.now.slot }
+    {
+        NameAt {
+            dir: self.dir,
+            name: self.name,
+            slot: self.slot,
+        }
+    }
 }
 
 /// A file that a path finds.
@@ -168,34 +196,44 @@ pub(crate) fn file_at<R: Region>(
 }
 
 /// The entry at a path below the root directory.
-pub(crate) fn entry_on<R: Region>(
+pub(crate) fn entry_on<'a, R: Region>(
     region: &R,
     cache: &mut DirectoryCache,
-    path: &Path<'_>,
-) -> Result<FoundEntry, FsError>
+    path: &Path<'a>,
+) -> Result<NamedEntry<'a>, FsError>
     requires well_formed { IsWellFormed (current_words (R.memory region.now)) }
     requires below { path.now ≢ [] }
     requires right { IsCacheOf (current_words (R.memory region.now)) cache.old }
     ensures found { IfOk result
         (λ entry. IsEntryOn (current_words (R.memory region.now)) path.now entry.dir entry.slot entry.inumber) }
+    ensures named { IfOk result
+        (λ entry. slot_named (current_words (R.memory region.now)) entry.dir entry.name.now ≡ Some entry.slot) }
     ensures refused { IfErr result
         (λ e. (root : Refusal) → RefusesEntry (current_words (R.memory region.now)) path.now root (refusal_of e)) }
     ensures right { IsCacheOf (current_words (R.memory region.now)) cache.new }
 {
-    walk_by(region, path, cache).map_err(refused)
+    let entry = walk_by(region, path, cache).map_err(refused)?;
+    Ok(NamedEntry {
+        inumber: entry.inumber,
+        dir: entry.dir,
+        name: path.last(),
+        slot: entry.slot,
+    })
 }
 
 /// The entry by which a path text finds what stands there. The root directory has none: there it is the error `root`.
-pub(crate) fn entry_at<R: Region>(
+pub(crate) fn entry_at<'a, R: Region>(
     region: &R,
     cache: &mut DirectoryCache,
-    text: &[u8],
+    text: &'a [u8],
     root: FsError,
-) -> Result<FoundEntry, FsError>
+) -> Result<NamedEntry<'a>, FsError>
     requires well_formed { IsWellFormed (current_words (R.memory region.now)) }
     requires right { IsCacheOf (current_words (R.memory region.now)) cache.old }
     ensures found { IfOk result
         (λ entry. FindsEntry (current_words (R.memory region.now)) text.now entry.dir entry.slot entry.inumber) }
+    ensures named { IfOk result
+        (λ entry. slot_named (current_words (R.memory region.now)) entry.dir entry.name.now ≡ Some entry.slot) }
     ensures refused { IfErr result
         (λ e. StopsAtEntry (current_words (R.memory region.now)) text.now (refusal_of root) (refusal_of e)) }
     ensures right { IsCacheOf (current_words (R.memory region.now)) cache.new }

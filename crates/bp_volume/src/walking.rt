@@ -40,9 +40,9 @@ pub(crate) struct NewName<'a> {
 
 impl<'a> NewName<'a> {
     /// The name in the slot that it gets.
-    pub fn at(self, slot: u64) -> NameAt<'a>
-        ensures dir { result.dir ≡ self.dir }
-        ensures name { result.name.now ≡ self.name.now }
+    pub fn at(&self, slot: u64) -> NameAt<'a>
+        ensures dir { result.dir ≡ self.now.dir }
+        ensures name { result.name.now ≡ self.now.name.now }
         ensures slot { result.slot ≡ slot }
     {
         NameAt {

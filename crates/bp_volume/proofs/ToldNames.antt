@@ -5,7 +5,7 @@ use Rattle.bp_cache.specs.Cache.{IsCacheOf}
 use Rattle.bp_cache.specs.Changes.{NameLeaves}
 use Rattle.bp_cache.specs.declared.cache.DirectoryCache.{DirectoryCache}
 use Rattle.bp_cache.specs.declared.name_at.NameAt.{NameAt}
-use Rattle.bp_cache.proofs.EffectLaws.{IsAt, carries_move, moves_replace, removes_leave, respells_move}
+use Rattle.bp_cache.proofs.EffectLaws.{IsNameAt, carries_move, moves_replace, removes_leave, respells_move}
 use Rattle.bp_changes.specs.Effects.{CanUnlink, RemovesEntry}
 use Rattle.bp_layout.specs.Directory.{Name, inumber_at, name_at, slot_named}
 use Rattle.bp_layout.specs.Inode.{IsDirectory}
@@ -36,7 +36,7 @@ slot_spelled image i s name reached directory named =
     was.spelled
 
 found_at : (image : Image) (entry : NamedEntry) (at : NameAt) → IsNameOf entry at → IsReached image entry.dir → IsDirectory image entry.dir → slot_named image entry.dir entry.name.now ≡ Some entry.slot →
-    IsAt image entry.dir entry.slot at
+    IsNameAt image entry.dir entry.slot at
 found_at image entry at is reached directory named = record {
   dir = is.dir;
   slot = is.slot;
@@ -60,10 +60,10 @@ module _ (old new : Image) (ends : Ends) (named : slot_named old ends.source.dir
   directory : IsDirectory old ends.source.dir
   directory = subst (λ d. IsDirectory old d) is.from_dir can.entry.directory
 
-  stood : IsAt old move.from_dir move.from_slot from
+  stood : IsNameAt old move.from_dir move.from_slot from
   stood =
-      subst (λ d. IsAt old d move.from_slot from) (sym is.from_dir)
-      (subst (λ s. IsAt old ends.source.dir s from) (sym is.from_slot) (found_at old ends.source from source reached directory named))
+      subst (λ d. IsNameAt old d move.from_slot from) (sym is.from_dir)
+      (subst (λ s. IsNameAt old ends.source.dir s from) (sym is.from_slot) (found_at old ends.source from source reached directory named))
 
   dir : to.dir ≡ move.to_dir
   dir = target.dir ∙ sym is.to_dir

@@ -1,20 +1,14 @@
 -- What a call does to the names that a cache of directories knows.
-use Rattle.std.proofs.Common.{◌≡◌, ℕ, refl, sym, ◌∙◌, ap, subst, true≢false}
-use Rattle.std.specs.Prelude.{Result, Ok, Err, MatchResult, OnErr, OnOk, is_err, unwrap_or}
-use Rattle.bp_cache.specs.Cache.{IsCacheOf}
+use Rattle.std.proofs.Common.{◌≡◌, ℕ, refl, sym, ◌∙◌, ap}
+use Rattle.std.specs.Prelude.{Result, Ok, Err, MatchResult, OnErr, OnOk, unwrap_or}
 use Rattle.bp_cache.specs.Changes.{KeepsAllNames, NameEnters}
-use Rattle.bp_cache.specs.declared.cache.DirectoryCache.{DirectoryCache}
 use Rattle.bp_cache.specs.declared.name_at.NameAt.{NameAt}
-use Rattle.bp_cache.proofs.EffectLaws.{adds_enter, cache_kept, file_keeps_all, links_enter}
+use Rattle.bp_cache.proofs.EffectLaws.{adds_enter, file_keeps_all, links_enter}
 use Rattle.bp_calls.specs.Created.{EntersName, LinksEntry}
-use Rattle.bp_calls.specs.Resized.{ResizesFile}
-use Rattle.bp_calls.specs.WritesFile.{WritesFile}
 use Rattle.bp_changes.specs.Effects.{ChangesFile}
-use Rattle.bp_commit.specs.Performs.{Performs}
 use Rattle.bp_free.specs.declared.parts.NoSpace.{NoSpace}
 use Rattle.bp_plain.specs.declared.errors.FsError.{FsError}
 use Rattle.bp_layout.specs.Directory.{Name, empty_slot, entry_count}
-use Rattle.bp_layout.specs.Need.{Change}
 use Rattle.bp_layout.specs.WellFormed.{IsWellFormed}
 use Rattle.bp_layout.specs.Words.{Image}
 use Rattle.bp_layout.specs.declared.fields.Kind.{Kind}
@@ -57,14 +51,7 @@ pub file_kept : (old new : Memory) (inner : Result (Unit {0}) NoSpace) → IsWel
 file_kept old new (Ok x) wf i changes same = file_keeps_all (current_words old) (current_words new) wf i changes
 file_kept old new (Err lacks) wf i changes same = rw same (all_kept (current_words old))
 
--- ---- results of calls on inodes, with their refusals told as those of calls with paths
-
--- it was carried out
+-- a call on inodes whose result, with its refusal told as that of a call with a path, is `Ok`
 pub on_ok_was : {P : Type 0} (inner : Result (Unit {0}) NoSpace) (v : Unit {0}) → MatchResult inner (λ x. ◌≡◌ {A = Result (Unit {0}) FsError} (Ok v) (Ok x)) (λ _. ⊥) → OnOk inner P → P
 on_ok_was (Ok x) v maps holds = holds
 on_ok_was (Err lacks) v maps holds = absurd maps
-
--- it was refused
-pub on_err_was : {P : Type 0} (Q : NoSpace → Type 0) (inner : Result (Unit {0}) NoSpace) (error : FsError) → MatchResult inner (λ x. ◌≡◌ {A = Result (Unit {0}) FsError} (Err error) (Ok x)) Q → OnErr inner P → P
-on_err_was Q (Ok x) error maps holds = absurd (true≢false (ap is_err maps))
-on_err_was Q (Err lacks) error maps holds = holds

@@ -30,3 +30,4 @@ pub mod HalfFormat
 pub mod CrashedLaws
 pub mod WholeLaws
 pub mod SharingLaws
+pub mod ToldNames

@@ -83,12 +83,6 @@ entry_found image path entry below is_entry found =
     let both = is_entry.below (parent_of path) (last_of path) (by_parent path below) in
     record { below = below; parent = both.0; slot = both.1; inode = found }
 
-pub walk_found : (image : Image) (path : Path) (inner : Result FoundEntry WalkFault) (outer : Result FoundEntry FsError) → path ≢ [] → IfOk inner (IsEntryOf image path) → IfOk inner (λ entry. lookup image path ≡ Some entry.inumber) →
-    MatchResult inner (λ x. outer ≡ Ok x) (λ fault. IsErrAnd outer (λ error. refusal_of_walk (fault_of fault) ≡ Some (refusal_of error))) → IfOk outer (λ entry. IsEntryOn image path entry.dir entry.slot entry.inumber)
-walk_found image path (Ok entry) outer below is_entry found maps = subst (λ r. IfOk r (λ other. IsEntryOn image path other.dir other.slot other.inumber)) (sym maps) (entry_found image path entry below is_entry found)
-walk_found image path (Err fault) (Ok y) below is_entry found maps = absurd maps
-walk_found image path (Err fault) (Err error) below is_entry found maps = tt
-
 pub entry_ends : (image : Image) (path : Path) (root why : Refusal) → path ≢ [] → RefusesWalk image path why → RefusesEntry image path root why
 entry_ends image path root why below ends tree stands =
     ap (λ b. first (when b root ∷ walk tree.now.nodes path ∷ [])) (not_root path below) ∙ first_one (walk tree.now.nodes path) ∙ ends tree stands

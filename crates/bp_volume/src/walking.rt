@@ -66,6 +66,21 @@ pub(crate) struct Target<'a> {
     pub empty: Option<u64>,
 }
 
+impl<'a> Target<'a> {
+    /// The name in a slot.
+    pub fn at(&self, slot: u64) -> NameAt<'a>
+        ensures dir { result.dir ≡ self.now.dir }
+        ensures name { result.name.now ≡ self.now.name.now }
+        ensures slot { result.slot ≡ slot }
+    {
+        NameAt {
+            dir: self.dir,
+            name: self.name,
+            slot,
+        }
+    }
+}
+
 /// An entry, and the name by which it was found.
 #[derive(Clone, Copy)]
 pub(crate) struct NamedEntry<'a> {

@@ -1,4 +1,4 @@
-use Rattle.std.proofs.Common.{◌∙◌, ◌*◌, ap, refl, rules, subst}
+use Rattle.std.proofs.Common.{◌∙◌, ◌*◌, ap, refl, subst}
 use Rattle.pm_epochs.specs.Replay.{after_calls}
 use Rattle.pm_region.specs.Memory.{Memory, current_words}
 use Rattle.bp_layout.specs.Whole.{SameFiles}
@@ -27,7 +27,7 @@ pub invariant_of-self-2 : goal.invariant_of-self-2
 invariant_of-self-2 g c = record {
   volume = crashed_volume _ _ _ c.self.invariant.volume _ (c.in_ok-kept.ensures.right.0 refl) (g.R.Region.memory c.rescan.new.parts.region) (ap g.R.Region.memory c.rescan.ensures.region ∙ c.in_ok-kept.ensures.left) _ _
       c.rescan.ensures.exact c.rescan.ensures.pending;
-  right = search rules;
+  right = c.clear.ensures _;
 }
 
 pub returns-clause-shows : goal.returns-clause-shows

@@ -2,11 +2,15 @@
 """Times two programs with the words of `bpfs` on the same scripts and images, and prints a table of their ratios.
 
     bench.py OURS OTHER [--repeat N] [--scale S] [CASE ..]
+    bench.py OURS OTHER --growth [--repeat N]
 
 Images and scripts are made anew, by OURS, in a folder of /dev/shm (BENCH_DIR names another one). Both programs run on a copy
 of the image, in turn, N times (5). A line has the medians of the processor times (user and system, the loading and saving of
 the image included), their ratio, and the most memory of each. Replies and statuses have to be the same, but after storms,
 whose cut follows from the stores that a program makes.
+
+With --growth it times how n names are made in one directory and removed again, n from 1,000 to 64,000, without the loading and
+saving of the image, and prints by which power of n the time grows.
 """
 import argparse
 import hashlib
@@ -169,6 +173,33 @@ def rest(bench):
     bench.case("run-files", image)
 
 
+COUNTS = [1000 << k for k in range(7)]
+
+
+def growing(bench):
+    """One case without a line, and one for each number of names."""
+    image = bench.image("growth", 16384, ["mkdir /d"])
+    bench.case("none", image)
+    for count in COUNTS:
+        paths = [f"/d/file-{i:06d}" for i in range(count)]
+        bench.case(f"make-remove-{count}", image, [f"{call} {path}" for call in ("create", "unlink") for path in paths])
+
+
+def tell_growth(bench, programs, folder, repeat):
+    """Prints the time that each number of names takes, and the power of n by which it grows from the number before and in all."""
+    print("| Names | " + " | ".join(f"{name}, ms | power" for name in ("ours", "other")) + " |\n|---|" + "---|---|" * 2)
+    taken = {}
+    for case in bench.cases:
+        ran = [[once(program, case, folder) for program in programs] for _ in range(repeat)]
+        taken[case[0]] = [min(it[which][0] for it in ran) for which in (0, 1)]
+    times = [[taken[f"make-remove-{count}"][which] - taken["none"][which] for which in (0, 1)] for count in COUNTS]
+    power = lambda later, first, doublings: f"{math.log2(max(later, 1e-4) / max(first, 1e-4)) / doublings:.2f}"
+    for at, count in enumerate(COUNTS):
+        cells = [f"{1000 * times[at][it]:.0f} | {power(times[at][it], times[at - 1][it], 1) if at else ''}" for it in (0, 1)]
+        print(f"| {count} | {cells[0]} | {cells[1]} |")
+    print("\nIn all the power is " + ", the other's ".join(power(times[-1][it], times[0][it], len(COUNTS) - 1) for it in (0, 1)) + ".")
+
+
 # Starts a program with its streams, and tells its processor time, its memory and its status. It is a process of its own, since a program
 # that is started counts the memory of the one that starts it.
 START = """
@@ -202,12 +233,16 @@ def main():
     asked.add_argument("other")
     asked.add_argument("--repeat", type=int, default=5)
     asked.add_argument("--scale", type=float, default=1.0)
+    asked.add_argument("--growth", action="store_true")
     asked.add_argument("cases", nargs="*")
     asked = asked.parse_args()
     folder = tempfile.mkdtemp(prefix="bpfs-bench-", dir=os.environ.get("BENCH_DIR", "/dev/shm"))
     ratios, wrong = [], []
     try:
         bench = Bench(os.path.abspath(asked.ours), folder, asked.scale)
+        if asked.growth:
+            growing(bench)
+            return tell_growth(bench, [bench.ours, os.path.abspath(asked.other)], folder, asked.repeat)
         for make in (writes, names, cuts, rest):
             make(bench)
         print("| Case | ours, ms | other, ms | ratio | ours, MiB | other, MiB |\n|---|---|---|---|---|---|")

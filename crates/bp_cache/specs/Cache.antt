@@ -1,5 +1,5 @@
 -- When what a volume remembers of its directories is right.
-use Rattle.std.specs.Prelude.{ℕ, ◌×◌, ⊤, List, Contains}
+use Rattle.std.specs.Prelude.{◌≡◌, ℕ, ⊤, List, Contains}
 use Rattle.bp_cache.specs.declared.cache.DirectoryCache.{DirectoryCache}
 use Rattle.bp_cache.specs.declared.held.Held.{Held}
 use Rattle.bp_cache.specs.declared.held.Held.TheVariants.{Searched, Indexed, Unindexed}
@@ -8,8 +8,10 @@ use Rattle.bp_index.specs.declared.index.Index.{Index}
 use Rattle.bp_layout.specs.Hints.{AreRight}
 use Rattle.bp_layout.specs.Inode.{IsDirectory, root_of, size_of}
 use Rattle.bp_layout.specs.Reached.{IsReached}
+use Rattle.bp_layout.specs.WellFormed.{IsWellFormed}
 use Rattle.bp_layout.specs.Words.{Image}
 use Rattle.bp_names.specs.Names.{known_of}
+use Rattle.bp_tree.specs.declared.tree.Tree.{Tree}
 
 -- where inode i is a directory that is reached, the index is that of its entries; it may be gone
 abbrev pub IsIndexIn : Image → ℕ → Index → Type 0
@@ -30,3 +32,11 @@ AreHeldOf image directories = (i : ℕ) (held : Held) → Contains directories (
 pub record IsCacheOf (image : Image) (cache : DirectoryCache) : Type 0 where
   pub names : AreRight image (known_of cache.names)
   pub directories : AreHeldOf image cache.directories.entries
+
+-- the tree is that of a directory that a well-formed image reaches
+pub record HasTree (image : Image) (i : ℕ) (tree : Tree) : Type 0 where
+  pub well : IsWellFormed image
+  pub reached : IsReached image i
+  pub directory : IsDirectory image i
+  pub root : tree.root ≡ root_of image i
+  pub size : tree.size ≡ size_of image i

@@ -1,5 +1,5 @@
 -- What changes of an image do to names in directories, as a cache of them has to know.
-use Rattle.std.specs.Prelude.{◌≡◌, ◌≢◌, ℕ, ◌×◌, ◌<◌}
+use Rattle.std.specs.Prelude.{◌≡◌, ◌≢◌, ℕ, ◌<◌}
 use Rattle.bp_cache.specs.declared.name_at.NameAt.{NameAt}
 use Rattle.bp_changes.specs.KeepsEntries.{NoSlot, OneSlot, TwoSlots}
 use Rattle.bp_changes.specs.KeepsSlots.{KeepsSlots, KeepsOther, KeepsOthers}

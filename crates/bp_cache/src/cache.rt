@@ -1,21 +1,22 @@
 //! The cache of a volume's directories.
 
 ghost use Rattle.std.specs.Prelude.{◌≡◌, ◌≤◌, length, IfOk, IfSome, ⊤};
-ghost use Rattle.bp_cache.specs.Cache.{IsCacheOf};
-ghost use Rattle.bp_cache.specs.Changes.{NameEnters, NameLeaves, NameMoves, NameReplaces};
-ghost use Rattle.bp_dirs.specs.Spots.{FreeIs, named_slot};
-ghost use Rattle.bp_layout.specs.Directory.{empty_slot, slot_named};
+ghost use Rattle.bp_cache.specs.Cache.{HasTree, IsCacheOf};
+ghost use Rattle.bp_cache.specs.Changes.{NameEnters, NameLeaves, NameMoves, NameReplaces, name_in};
+ghost use Rattle.bp_cache.specs.Held.{ChangesOne, Enters, ForgetsBoth, Leaves};
+ghost use Rattle.bp_dirs.specs.Spots.{FreeIs, found_slot, named_slot};
+ghost use Rattle.bp_layout.specs.Directory.{empty_slot, inumber_at, slot_named};
 ghost use Rattle.bp_layout.specs.Inode.{IsDirectory, root_of, size_of};
 ghost use Rattle.bp_layout.specs.Reached.{IsReached};
 ghost use Rattle.bp_layout.specs.WellFormed.{IsWellFormed};
 ghost use Rattle.bp_layout.specs.Words.{Image};
 ghost use Rattle.bp_limits.specs.Limits.{max_name};
+ghost use Rattle.bp_names.specs.Names.{known_of};
 ghost use Rattle.pm_region.specs.Memory.{current_words};
 
-use crate::held::Held;
+use crate::held::{Held, SEARCHES};
 use crate::name_at::NameAt;
 use bp_dirs::{Finder, Found, Spot, find_entry, find_or_free, inumber};
-use bp_index::Index;
 use bp_layout::Hints;
 use bp_limits::{BLOCK_ENTRIES, BLOCK_SIZE, ENTRY_SIZE};
 use bp_names::Names;
@@ -34,17 +35,15 @@ const HELD_DIRECTORIES: usize = 256;
 /// The size in bytes that a directory of 64 entries has. One of no more entries is small: it gets no index.
 const SMALL_SIZE: u64 = 64 * ENTRY_SIZE;
 
-/// How often a large directory is searched before an index is made of it, which takes about as long as so many searches.
-const SEARCHES: u32 = 32;
-
 /// Where the names stand that were found last, and the indexes of large directories that are searched often.
 ///
-/// It is right of an image or not (`IsCacheOf`): each change of the names in directories is told to it, by [`enter`], [`leave`]
-/// or [`rename`], and it is right of the image after the change then. Where it finds no memory it remembers less.
+/// It is right of an image or not (`IsCacheOf`): each change of the names in directories is told to it, by [`enter`], [`leave`],
+/// [`rename`] or [`replace`], and it is right of the image after the change then. Where it finds no memory it remembers less.
 ///
 /// [`enter`]: DirectoryCache::enter
 /// [`leave`]: DirectoryCache::leave
 /// [`rename`]: DirectoryCache::rename
+/// [`replace`]: DirectoryCache::replace
 #[derive(Drop)]
 pub struct DirectoryCache {
     // where names stand in small directories
@@ -79,7 +78,15 @@ impl DirectoryCache {
         dir: u32,
         tree: Tree,
         name: &[u8],
-    ) -> Option<Found> {
+    ) -> Option<Found>
+        requires tree { HasTree (current_words (R.memory region.now)) dir tree }
+        requires short { length name.now ≤ max_name }
+        requires right { IsCacheOf (current_words (R.memory region.now)) self.old }
+        ensures slot { found_slot result ≡ slot_named (current_words (R.memory region.now)) dir name.now }
+        ensures inumber { IfSome result
+            (λ found. found.inumber ≡ inumber_at (current_words (R.memory region.now)) dir found.slot) }
+        ensures right { IsCacheOf (current_words (R.memory region.now)) self.new }
+    {
         if tree.size <= BLOCK_SIZE {
             return find_entry(region, tree, name);
         }
@@ -96,16 +103,21 @@ impl DirectoryCache {
         Some(found)
     }
 
-    /// Counts a search of a large directory that has no index, and makes one of it where it was searched often.
-    fn count_search<R: Region>(&mut self, region: &R, dir: u32, tree: Tree) {
-        let held = match self.directories.get(&dir) {
-            None => Held::Searched(1),
-            Some(Held::Searched(times)) if *times < SEARCHES => Held::Searched(*times + 1),
-            Some(Held::Searched(_)) => match Index::of(self.alloc, region, tree) {
-                Some(index) => Held::Indexed(index),
-                None => Held::Unindexed,
-            },
+    /// Counts a search of a large directory, and makes an index of it where it was searched often.
+    fn count_search<R: Region>(&mut self, region: &R, dir: u32, tree: Tree)
+        requires tree { HasTree (current_words (R.memory region.now)) dir tree }
+        requires right { IsCacheOf (current_words (R.memory region.now)) self.old }
+        ensures right { IsCacheOf (current_words (R.memory region.now)) self.new }
+    {
+        let times = match self.directories.get(&dir) {
+            None => 0,
+            Some(Held::Searched(times)) => *times,
             Some(_) => return,
+        };
+        let held = if times < SEARCHES {
+            Held::Searched(times + 1)
+        } else {
+            Held::of(self.alloc, region, tree)
         };
         let _ = self.directories.put(dir, held);
     }
@@ -123,64 +135,79 @@ impl DirectoryCache {
         ensures free { FreeIs result (empty_slot (current_words (R.memory region.now)) dir) }
         ensures right { IsCacheOf (current_words (R.memory region.now)) self.new }
     {
-        if tree.size > SMALL_SIZE {
-            if let Some(Held::Indexed(index)) = self.directories.get_mut(&dir) {
-                return index.find_or_free(region, tree, name);
-            }
-            self.count_search(region, dir, tree);
+        if tree.size <= SMALL_SIZE {
+            return find_or_free(region, tree, name);
         }
-        find_or_free(region, tree, name)
+        self.count_search(region, dir, tree);
+        match self.directories.peek_mut(&dir) {
+            Some(held) => held.find_or_free(region, tree, name),
+            None => find_or_free(region, tree, name),
+        }
+    }
+
+    /// What is held of a directory is told that a name comes to its slot.
+    fn enter_held(&mut self, at: NameAt<'_>)
+        ensures names { self.new.names ≡ self.old.names }
+        ensures held { ChangesOne at.entry.dir (Enters at.entry) self.old.directories.entries self.new.directories.entries }
+    {
+        // its clauses tell that no directory is held twice
+        let _held = self.directories.len();
+        if let Some(held) = self.directories.peek_mut(&at.dir) {
+            held.enter(at.name, at.slot);
+        }
+    }
+
+    /// What is held of a directory is told that a name leaves its slot.
+    fn leave_held(&mut self, at: NameAt<'_>)
+        ensures names { self.new.names ≡ self.old.names }
+        ensures held { ChangesOne at.entry.dir (Leaves at.entry) self.old.directories.entries self.new.directories.entries }
+    {
+        // its clauses tell that no directory is held twice
+        let _held = self.directories.len();
+        if let Some(held) = self.directories.peek_mut(&at.dir) {
+            held.leave(at.name, at.slot);
+        }
     }
 
     /// A name comes to its slot.
     pub fn enter(&mut self, at: NameAt<'_>)
-        ensures { (old new : Image) → IsCacheOf old self.old → NameEnters old new at → IsCacheOf new self.new }
+        ensures { (old new : Image) → IsCacheOf old self.old → NameEnters old new at.entry → IsCacheOf new self.new }
     {
-        let is_right = match self.directories.peek_mut(&at.dir) {
-            Some(Held::Indexed(index)) => index.enter(at.name, at.slot),
-            _ => true,
-        };
-        if !is_right {
-            self.drop_directory(at.dir);
-        }
+        self.enter_held(at);
     }
 
     /// A name leaves its slot.
     pub fn leave(&mut self, at: NameAt<'_>)
-        ensures { (old new : Image) → IsCacheOf old self.old → NameLeaves old new at → IsCacheOf new self.new }
+        ensures { (old new : Image) → IsCacheOf old self.old → NameLeaves old new at.entry → IsCacheOf new self.new }
     {
         self.names.forget(at.dir, at.name);
-        self.leave_index(at);
-    }
-
-    /// Tells the index of a directory, if there is one, that a name leaves its slot.
-    fn leave_index(&mut self, at: NameAt<'_>) {
-        if let Some(Held::Indexed(index)) = self.directories.peek_mut(&at.dir) {
-            index.leave(at.name, at.slot);
-        }
+        self.leave_held(at);
     }
 
     /// Forgets two names.
-    fn forget_both(&mut self, one: NameAt<'_>, other: NameAt<'_>) {
+    fn forget_both(&mut self, one: NameAt<'_>, other: NameAt<'_>)
+        ensures directories { self.new.directories ≡ self.old.directories }
+        ensures names { ForgetsBoth (known_of self.old.names) (known_of self.new.names) (name_in one.entry) (name_in other.entry) }
+    {
         self.names.forget(one.dir, one.name);
         self.names.forget(other.dir, other.name);
     }
 
     /// A name leaves its slot, and another comes to its own.
     pub fn rename(&mut self, from: NameAt<'_>, to: NameAt<'_>)
-        ensures { (old new : Image) → IsCacheOf old self.old → NameMoves old new from to → IsCacheOf new self.new }
+        ensures { (old new : Image) → IsCacheOf old self.old → NameMoves old new from.entry to.entry → IsCacheOf new self.new }
     {
-        self.leave_index(from);
         self.forget_both(from, to);
-        self.enter(to);
+        self.leave_held(from);
+        self.enter_held(to);
     }
 
     /// A name leaves its slot for one that is there: the inode that had that one has it no more.
     pub fn replace(&mut self, from: NameAt<'_>, to: NameAt<'_>)
-        ensures { (old new : Image) → IsCacheOf old self.old → NameReplaces old new from to → IsCacheOf new self.new }
+        ensures { (old new : Image) → IsCacheOf old self.old → NameReplaces old new from.entry to.entry → IsCacheOf new self.new }
     {
-        self.leave_index(from);
         self.forget_both(from, to);
+        self.leave_held(from);
     }
 
     /// Forgets what is held of a directory, which may be gone.
@@ -209,11 +236,11 @@ impl Finder for DirectoryCache {
         if tree.size <= SMALL_SIZE {
             return self.find_small(region, dir, tree, name);
         }
-        if let Some(Held::Indexed(index)) = self.directories.get_mut(&dir) {
-            return index.find_entry(region, tree, name);
-        }
         self.count_search(region, dir, tree);
-        find_entry(region, tree, name)
+        match self.directories.peek(&dir) {
+            Some(held) => held.find(region, tree, name),
+            None => find_entry(region, tree, name),
+        }
     }
 
     ghost same_references_reflexive = { λ _. tt };

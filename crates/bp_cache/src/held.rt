@@ -1,6 +1,22 @@
 //! What is held of a large directory.
 
+ghost use Rattle.std.specs.Prelude.{◌≡◌, ◌≤◌, length, IfSome};
+ghost use Rattle.bp_cache.specs.Held.{Becomes, IndexIs};
+ghost use Rattle.bp_dirs.specs.Spots.{FreeIs, found_slot, named_slot};
+ghost use Rattle.bp_index.specs.Index.{EntersSlot, IsIndexOf, LeavesSlot};
+ghost use Rattle.bp_layout.specs.Directory.{empty_slot_in, inumber_in, slot_named_in};
+ghost use Rattle.bp_layout.specs.Tree.{IsSound};
+ghost use Rattle.bp_limits.specs.Limits.{max_name};
+ghost use Rattle.pm_region.specs.Memory.{current_words};
+
+use bp_dirs::{Found, Spot, find_entry, find_or_free};
 use bp_index::Index;
+use bp_tree::Tree;
+use pm_region::Region;
+use std::alloc::Global;
+
+/// How often a large directory is searched before an index is made of it, which takes about as long as so many searches.
+pub(crate) const SEARCHES: u32 = 32;
 
 /// What is held of a large directory.
 #[derive(Drop)]
@@ -11,4 +27,70 @@ pub(crate) enum Held {
     Indexed(Index),
     /// No index could be made of it.
     Unindexed,
+}
+
+impl Held {
+    /// An index of the directory that has this tree, if one can be made.
+    pub fn of<R: Region>(alloc: Global, region: &R, tree: Tree) -> Held
+        requires { IsSound (current_words (R.memory region.now)) tree.root tree.size }
+        ensures { IndexIs (IsIndexOf (current_words (R.memory region.now)) tree.root tree.size) result }
+    {
+        match Index::of(alloc, region, tree) {
+            Some(index) => Held::Indexed(index),
+            None => Held::Unindexed,
+        }
+    }
+
+    /// What [`find_entry`] tells of the directory that has this tree, by its index if there is one.
+    pub fn find<R: Region>(&self, region: &R, tree: Tree, name: &[u8]) -> Option<Found>
+        requires sound { IsSound (current_words (R.memory region.now)) tree.root tree.size }
+        requires short { length name.now ≤ max_name }
+        requires right { IndexIs (IsIndexOf (current_words (R.memory region.now)) tree.root tree.size) self.now }
+        ensures slot { found_slot result ≡
+            slot_named_in (current_words (R.memory region.now)) tree.root tree.size name.now }
+        ensures inumber { IfSome result
+            (λ found. found.inumber ≡ inumber_in (current_words (R.memory region.now)) tree.root found.slot) }
+    {
+        match self {
+            Held::Indexed(index) => index.find_entry(region, tree, name),
+            _ => find_entry(region, tree, name),
+        }
+    }
+
+    /// What [`find_or_free`] tells, by the index if there is one.
+    pub fn find_or_free<R: Region>(&mut self, region: &R, tree: Tree, name: &[u8]) -> Spot
+        requires sound { IsSound (current_words (R.memory region.now)) tree.root tree.size }
+        requires short { length name.now ≤ max_name }
+        requires right { IndexIs (IsIndexOf (current_words (R.memory region.now)) tree.root tree.size) self.old }
+        ensures named { named_slot result ≡
+            slot_named_in (current_words (R.memory region.now)) tree.root tree.size name.now }
+        ensures free { FreeIs result (empty_slot_in (current_words (R.memory region.now)) tree.root tree.size) }
+        ensures right { IndexIs (IsIndexOf (current_words (R.memory region.now)) tree.root tree.size) self.new }
+    {
+        match self {
+            Held::Indexed(index) => index.find_or_free(region, tree, name),
+            _ => find_or_free(region, tree, name),
+        }
+    }
+
+    /// A name comes to its slot. An index that can't tell it goes, and the next search makes another, if one can be made.
+    pub fn enter(&mut self, name: &[u8], slot: u64)
+        ensures { Becomes (λ before after. EntersSlot before after name.now slot) self.old self.new }
+    {
+        let Held::Indexed(index) = self else {
+            return;
+        };
+        if !index.enter(name, slot) {
+            *self = Held::Searched(SEARCHES);
+        }
+    }
+
+    /// A name leaves its slot.
+    pub fn leave(&mut self, name: &[u8], slot: u64)
+        ensures { Becomes (λ before after. LeavesSlot before after name.now slot) self.old self.new }
+    {
+        if let Held::Indexed(index) = self {
+            index.leave(name, slot);
+        }
+    }
 }

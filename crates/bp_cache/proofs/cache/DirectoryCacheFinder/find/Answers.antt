@@ -1,0 +1,14 @@
+use Rattle.std.proofs.Common.{sym}
+use Rattle.pm_region.specs.Memory.{current_words}
+use Rattle.bp_cache.proofs.CacheLaws.{of_tree}
+use Rattle.bp_cache.proofs.Lists.{held_found}
+use Rattle.bp_cache.proofs.cache.DirectoryCacheFinder.find.Goals as goal
+
+pub find-requires-clause-right : goal.find-requires-clause-right
+find-requires-clause-right g c =
+    let image = current_words (g.R.Region.memory c.args.region.now) in
+    of_tree image c.args.dir c.args.tree
+    (record { well = c.requires.well; reached = c.requires.reached; directory = c.requires.directory; root = c.requires.root; size = c.requires.size })
+    c.in-Some.held.now
+    (held_found image c.args.dir c.count_search.new.self.directories.entries c.in-Some.held.now c.count_search.ensures.right.directories
+    (sym c.in-Some.ensures))
